@@ -16,7 +16,8 @@ use Rattle.regent_tree.specs.StaticTypes.{StaticType, field_type, field_place, f
 use Rattle.regent_tree.specs.Scopes.{bound_to, with_name, past}
 use Rattle.regent_tree.specs.Typing.{stepped_type, arithmetic_type, params_at, var_type, scope_after, scope_after_block, scope_after_arms, taken_from, width_of_type}
 use Rattle.regent_tree.specs.Running.{State, Here, Run, Result, gives, given, ◌>>=◌, and_then, state, change, fault, if_true, pay, touch, touch_at}
-use Rattle.regent_tree.specs.Evaluation.{value, values, stepped, named_value, type_named, typed, converted, Aim, hits, misses, aimed, space_in, args_in, called}
+use Rattle.regent_tree.specs.Accesses.{converted, Aim, hits, misses, aimed, space_in, args_in}
+use Rattle.regent_tree.specs.Evaluation.{value, values, stepped, named_value, type_named, typed, called}
 use Rattle.regent_tree.specs.Starting.{start_value}
 use Rattle.regent_tree.specs.Printing.{printed}
 

@@ -11,6 +11,8 @@ pub mod StaticTypes
 pub mod Scopes
 pub mod Typing
 pub mod Running
+pub mod Accesses
+pub mod Operators
 pub mod Evaluation
 pub mod Starting
 pub mod Printing

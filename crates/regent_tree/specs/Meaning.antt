@@ -10,7 +10,7 @@ use Rattle.regent_tree.specs.StaticTypes.{StaticType, pointer_type, started, tas
 use Rattle.regent_tree.specs.Scopes.{Scope, scope_of}
 use Rattle.regent_tree.specs.Typing.{result_type, param_types, width_of_type}
 use Rattle.regent_tree.specs.Running.{Result, gives, fails, Called, came_back, broke, Calls}
-use Rattle.regent_tree.specs.Evaluation.{regions_reached}
+use Rattle.regent_tree.specs.Accesses.{regions_reached}
 use Rattle.regent_tree.specs.Starting.{zero_of}
 use Rattle.regent_tree.specs.Execution.{Going, goes_on, returned, exec_block}
 

@@ -15,7 +15,8 @@ use Rattle.regent_tree.specs.StaticTypes.{StaticType, integer_type, index_type, 
 use Rattle.regent_tree.specs.Scopes.{Scope}
 use Rattle.regent_tree.specs.Typing.{reaches_of}
 use Rattle.regent_tree.specs.Running.{Here, Run, given, ◌>>=◌, state, change, fault, if_true, touch}
-use Rattle.regent_tree.specs.Evaluation.{value, named_value, typed, converted, regions_reached}
+use Rattle.regent_tree.specs.Accesses.{converted, regions_reached}
+use Rattle.regent_tree.specs.Evaluation.{value, named_value, typed}
 
 -- the value of a variable of a type without a start value: 0, false or null
 abbrev pub zero_of : Scope → List Value → StaticType → Value
