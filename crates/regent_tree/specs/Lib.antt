@@ -19,3 +19,4 @@ pub mod Printing
 pub mod Execution
 pub mod Meaning
 pub mod Cover
+pub mod Laws

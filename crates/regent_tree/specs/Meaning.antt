@@ -9,7 +9,7 @@ use Rattle.regent_tree.specs.Store.{Store}
 use Rattle.regent_tree.specs.StaticTypes.{StaticType, pointer_type, started, task_named}
 use Rattle.regent_tree.specs.Scopes.{Scope, scope_of}
 use Rattle.regent_tree.specs.Typing.{result_type, param_types, width_of_type}
-use Rattle.regent_tree.specs.Running.{Result, gives, fails, Called, came_back, broke, Calls}
+use Rattle.regent_tree.specs.Running.{State, Here, Result, gives, fails, Called, came_back, broke, Calls}
 use Rattle.regent_tree.specs.Accesses.{regions_reached}
 use Rattle.regent_tree.specs.Starting.{zero_of}
 use Rattle.regent_tree.specs.Execution.{Going, goes_on, returned, exec_block}
@@ -29,21 +29,30 @@ abbrev pub value_at_end : Scope → StaticType → Going → Value
 value_at_end s t (returned v) = v
 value_at_end s t goes_on = zero_of s [] t
 
--- the body of a task on a store, with the run's turns as its own
-abbrev pub run_task : Tree → ℕ → Calls → TaskTree → List Value → Store → Result Going
-run_task tree turns calls t vs store = exec_block (record {
+-- where a task's body stands
+abbrev pub body_of : Tree → Calls → TaskTree → Here
+body_of tree calls t = record {
   tree = tree;
   calls = calls;
   scope = scope_of tree t;
   result = result_type tree t.result;
   line = 0;
-}) t.body (record {
+}
+
+-- the state in which it begins: its parameters have these values, and it has all the run's turns
+abbrev pub opening : Tree → ℕ → TaskTree → List Value → Store → State
+opening tree turns t vs store = record {
   names = entered (scope_of tree t) vs (param_types tree t) vs;
   store = store;
   turns = turns;
   text = [];
   touches = [];
-})
+}
+
+-- a task's body on a store
+abbrev pub run_task : Tree → ℕ → Calls → TaskTree → List Value → Store → Result Going
+run_task tree turns calls t vs store =
+    exec_block (body_of tree calls t) t.body (opening tree turns t vs store)
 
 -- a task's end: the roots that it made are the last ones, and are dropped
 abbrev pub ended : ℕ → Scope → StaticType → Result Going → Called

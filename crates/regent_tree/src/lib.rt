@@ -7,6 +7,7 @@
 
 mod expression;
 mod facts;
+pub mod invariants;
 mod outcome;
 mod program;
 mod statement;

@@ -1,0 +1,5 @@
+pub mod Steps
+pub mod Expressions
+pub mod Statements
+pub mod Roots
+pub mod Laws
