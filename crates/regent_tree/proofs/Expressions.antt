@@ -24,20 +24,28 @@ module _ {Good : Store → Store → Type 0} {R : State → State → Type 0} (l
         (λ v. in_turn law (standing h v) _ (standing_kept law h v) (λ u. given_kept law _))
     value_kept h g (call_expr task args) =
         let types = params_at h.tree h.scope (task_named h.tree task) args in
-        in_turn law (values h types args) _ (values_kept h g types args) (λ vs. called_kept law h g task vs)
+        in_turn law (values h types args) _ (values_kept h g types args)
+        (λ vs. called_kept law h g task vs)
     value_kept h g (access_expr n steps) = in_turn law (named_value h n) _ (named_kept law h n)
         (λ v. stepped_kept h g (type_named h n) v steps)
     value_kept h g (convert_expr t e) = in_turn law (value h e) _ (value_kept h g e)
         (λ v. in_turn law (standing h v) _ (standing_kept law h v) (λ u. given_kept law _))
-    value_kept h g (is_null_expr e) = in_turn law (value h e) _ (value_kept h g e) (λ v. given_kept law _)
-    value_kept h g (null_expr t) = in_turn law (regions_written h t) _ (written_kept law h t) (λ rs. given_kept law (a_pointer null_target rs))
+    value_kept h g (is_null_expr e) =
+        in_turn law (value h e) _ (value_kept h g e) (λ v. given_kept law _)
+    value_kept h g (null_expr t) =
+        in_turn law (regions_written h t) _ (written_kept law h t)
+        (λ rs. given_kept law (a_pointer null_target rs))
     value_kept h g (cast_expr t e) = in_turn law (value h e) _ (value_kept h g e)
-        (λ v. in_turn law (regions_written h t) _ (written_kept law h t) (λ rs. given_kept law (cast_to rs v)))
-    value_kept h g (space_expr k e) = in_turn law (value h e) _ (value_kept h g e) (λ v. size_kept law h (number_of v))
+        (λ v. in_turn law (regions_written h t) _ (written_kept law h t)
+        (λ rs. given_kept law (cast_to rs v)))
+    value_kept h g (space_expr k e) =
+        in_turn law (value h e) _ (value_kept h g e) (λ v. size_kept law h (number_of v))
 
-    pub linked_kept : (h : Here) → CallsAre Good h.calls → (t : StaticType) (v : Value) (ls : Links) → Kept R (linked h t v ls)
+    pub linked_kept : (h : Here) → CallsAre Good h.calls →
+        (t : StaticType) (v : Value) (ls : Links) → Kept R (linked h t v ls)
     linked_kept h g t v no_link = given_kept law v
-    linked_kept h g t v (a_link Or e rest) = choice_kept law (truth_of v) _ _ (linked_kept h g truth_type v rest)
+    linked_kept h g t v (a_link Or e rest) =
+        choice_kept law (truth_of v) _ _ (linked_kept h g truth_type v rest)
         (in_turn law (value h e) _ (value_kept h g e) (λ u. linked_kept h g truth_type u rest))
     linked_kept h g t v (a_link And e rest) = choice_kept law (truth_of v) _ _
         (in_turn law (value h e) _ (value_kept h g e) (λ u. linked_kept h g truth_type u rest))
@@ -57,17 +65,23 @@ module _ {Good : Store → Store → Type 0} {R : State → State → Type 0} (l
         in_turn law (combined h (Compute o) x y) _ (combined_kept law h (Compute o) x y) (λ z.
         linked_kept h g (operated (Compute o) t (typed h e)) z rest))))
 
-    pub values_kept : (h : Here) → CallsAre Good h.calls → (types : List StaticType) (es : Expressions) → Kept R (values h types es)
+    pub values_kept : (h : Here) → CallsAre Good h.calls →
+        (types : List StaticType) (es : Expressions) → Kept R (values h types es)
     values_kept h g types no_expr = given_kept law _
     values_kept h g types (an_expr e es) = in_turn law (value h e) _ (value_kept h g e) (λ v.
-        in_turn law (converted h (typed h e) (first_type types) _ v) _ (converted_kept law h (typed h e) (first_type types) _ v) (λ u.
-        in_turn law (values h (other_types types) es) _ (values_kept h g (other_types types) es) (λ us. given_kept law _)))
+        in_turn law (converted h (typed h e) (first_type types) _ v) _
+        (converted_kept law h (typed h e) (first_type types) _ v) (λ u.
+        in_turn law (values h (other_types types) es) _ (values_kept h g (other_types types) es)
+        (λ us. given_kept law _)))
 
-    pub stepped_kept : (h : Here) → CallsAre Good h.calls → (t : StaticType) (v : Value) (ss : Steps) → Kept R (stepped h t v ss)
+    pub stepped_kept : (h : Here) → CallsAre Good h.calls →
+        (t : StaticType) (v : Value) (ss : Steps) → Kept R (stepped h t v ss)
     stepped_kept h g t v no_step = given_kept law v
-    stepped_kept h g t v (field_step f rest) = in_turn law (take_field h t f v) _ (take_field_kept law h t f v)
+    stepped_kept h g t v (field_step f rest) =
+        in_turn law (take_field h t f v) _ (take_field_kept law h t f v)
         (λ u. stepped_kept h g (type_of_field h.tree t f) u rest)
     stepped_kept h g t v (at_step e rest) = in_turn law (value h e) _ (value_kept h g e) (λ w.
         in_turn law (standing h w) _ (standing_kept law h w) (λ z.
-        in_turn law (take_element h (number_of z) v) _ (take_element_kept law h (number_of z) v) (λ u.
+        in_turn law (take_element h (number_of z) v) _ (take_element_kept law h (number_of z) v)
+        (λ u.
         stepped_kept h g (type_of_element h.scope t e) u rest)))

@@ -27,14 +27,16 @@ pub record RunLaw (Good : Store → Store → Type 0) (R : State → State → T
   pub law : Law Good R
   pub named : (s : State) (names : List Value) → R s (record s { names = names })
   pub made : (s : State) (r : RootImage) → R s (record s { store = s.store ++ r ∷ [] })
-  pub written : (s : State) (root field point : ℕ) (z : ℤ) → R s (record s { store = write_at s.store root field point z })
+  pub written : (s : State) (root field point : ℕ) (z : ℤ) →
+      R s (record s { store = write_at s.store root field point z })
 
 module _ {Good : Store → Store → Type 0} {R : State → State → Type 0} (rules : RunLaw Good R) where
   pub going_kept : (rest : Run Going) (g : Going) → Kept R rest → Kept R (going_on rest g)
   going_kept rest goes_on h = h
   going_kept rest (returned v) h = given_kept rules.law (returned v)
 
-  pub leaving_kept : (n : ℕ) (s : State) (r : Result Going) → Leaves R s r → Leaves R s (leaving n r)
+  pub leaving_kept : (n : ℕ) (s : State) (r : Result Going) → Leaves R s r →
+      Leaves R s (leaving n r)
   leaving_kept n s (gives g t) h = rules.law.through s t _ h (rules.named t (take n t.names))
   leaving_kept n s (fails f t) h = h
 
@@ -48,25 +50,30 @@ module _ {Good : Store → Store → Type 0} {R : State → State → Type 0} (r
   round_kept h v body k = in_turn rules.law (pay h) _ (pay_kept rules.law h)
       (λ u. scoped_kept _ (in_turn rules.law (bind v) _ (bind_kept v) (λ g. k)))
 
-  pub rounds_kept : (h : Here) (vs : List Value) (body : Run Going) → Kept R body → Kept R (rounds h vs body)
+  pub rounds_kept : (h : Here) (vs : List Value) (body : Run Going) → Kept R body →
+      Kept R (rounds h vs body)
   rounds_kept h [] body k = given_kept rules.law goes_on
   rounds_kept h (v ∷ vs) body k = in_turn rules.law (round h v body) _ (round_kept h v body k)
       (λ g. going_kept _ g (rounds_kept h vs body k))
 
-  pub counting_kept : (h : Here) (n : ℕ) (w : Width) (i : ℤ) (body : Run Going) → Kept R body → Kept R (counting h n w i body)
+  pub counting_kept : (h : Here) (n : ℕ) (w : Width) (i : ℤ) (body : Run Going) → Kept R body →
+      Kept R (counting h n w i body)
   counting_kept h zero w i body k = given_kept rules.law goes_on
   counting_kept h (suc n) w i body k = in_turn rules.law _ _ (round_kept h _ body k)
       (λ g. going_kept _ g (counting_kept h n w (i +ℤ pos 1) body k))
 
-  pub turn_kept : (h : Here) (v : Value) (body again : Run Going) → Kept R body → Kept R again → Kept R (turn h v body again)
+  pub turn_kept : (h : Here) (v : Value) (body again : Run Going) → Kept R body → Kept R again →
+      Kept R (turn h v body again)
   turn_kept h v body again k l = choice_kept rules.law (truth_of v) _ _
       (in_turn rules.law (pay h) _ (pay_kept rules.law h)
       (λ u. in_turn rules.law body _ k (λ g. going_kept again g l)))
       (given_kept rules.law goes_on)
 
-  pub turning_kept : (h : Here) (n : ℕ) (test : Run Value) (body : Run Going) → Kept R test → Kept R body → Kept R (turning h n test body)
+  pub turning_kept : (h : Here) (n : ℕ) (test : Run Value) (body : Run Going) → Kept R test →
+      Kept R body → Kept R (turning h n test body)
   turning_kept h zero test body t k = in_turn rules.law test _ t
-      (λ v. choice_kept rules.law (truth_of v) _ _ (fault_kept rules.law h _) (given_kept rules.law goes_on))
+      (λ v. choice_kept rules.law (truth_of v) _ _ (fault_kept rules.law h _)
+      (given_kept rules.law goes_on))
   turning_kept h (suc n) test body t k = in_turn rules.law test _ t
       (λ v. turn_kept h v body _ k (turning_kept h n test body t k))
 
@@ -81,120 +88,163 @@ module _ {Good : Store → Store → Type 0} {R : State → State → Type 0} (r
   read_all_kept h r f = record { all = λ s. rules.law.touched s _ }
 
   pub colours_kept : (h : Here) (v : Value) → Kept R (colours h v)
-  colours_kept h v = choice_kept rules.law (nat_le (size_of v) 65536) _ _ (given_kept rules.law _) (fault_kept rules.law h _)
+  colours_kept h v = choice_kept rules.law (nat_le (size_of v) 65536) _ _ (given_kept rules.law _)
+      (fault_kept rules.law h _)
 
   pub root_kept : (h : Here) (u : SpaceUse) (n : ℕ) → Kept R (make_root h u n)
   root_kept h u n = record { all = λ s. rules.made s _ }
 
-  pub started_kept : (h : Here) → CallsAre Good h.calls → (t : Option TypeTerm) (wanted : StaticType) (start : Start) → Kept R (started_by h t wanted start)
-  started_kept h g t wanted (region_start e u) = in_turn rules.law (value h e) _ (value_kept rules.law h g e)
+  pub started_kept : (h : Here) → CallsAre Good h.calls →
+      (t : Option TypeTerm) (wanted : StaticType) (start : Start) → Kept R
+      (started_by h t wanted start)
+  started_kept h g t wanted (region_start e u) =
+      in_turn rules.law (value h e) _ (value_kept rules.law h g e)
       (λ v. root_kept h u (size_of v))
-  started_kept h g t wanted (equal_start r e) = in_turn rules.law (value h e) _ (value_kept rules.law h g e)
-      (λ v. in_turn rules.law (colours h v) _ (colours_kept h v) (λ n. record { all = λ s. rules.law.same s }))
-  started_kept h g t wanted (by_field_start r f e) = in_turn rules.law (value h e) _ (value_kept rules.law h g e)
-      (λ v. in_turn rules.law (colours h v) _ (colours_kept h v) (λ n. record { all = λ s. rules.law.touched s _ }))
+  started_kept h g t wanted (equal_start r e) =
+      in_turn rules.law (value h e) _ (value_kept rules.law h g e)
+      (λ v. in_turn rules.law (colours h v) _ (colours_kept h v)
+      (λ n. record { all = λ s. rules.law.same s }))
+  started_kept h g t wanted (by_field_start r f e) =
+      in_turn rules.law (value h e) _ (value_kept rules.law h g e)
+      (λ v. in_turn rules.law (colours h v) _ (colours_kept h v)
+      (λ n. record { all = λ s. rules.law.touched s _ }))
   started_kept h g t wanted (image_start parent p r f) = record { all = λ s. rules.law.touched s _ }
-  started_kept h g t wanted (preimage_start parent p r f) = record { all = λ s. rules.law.touched s _ }
+  started_kept h g t wanted (preimage_start parent p r f) =
+      record { all = λ s. rules.law.touched s _ }
   started_kept h g t wanted (both_start p q) = record { all = λ s. rules.law.same s }
   started_kept h g t wanted (either_start p q) = record { all = λ s. rules.law.same s }
   started_kept h g None wanted (plain_start e) = value_kept rules.law h g e
-  started_kept h g (Some t) wanted (plain_start e) = in_turn rules.law (value h e) _ (value_kept rules.law h g e)
+  started_kept h g (Some t) wanted (plain_start e) =
+      in_turn rules.law (value h e) _ (value_kept rules.law h g e)
       (λ v. record { all = λ s. (converted_kept rules.law h (typed h e) wanted _ v).all s })
 
-  pub start_kept : (h : Here) → CallsAre Good h.calls → (t : Option TypeTerm) (wanted : StaticType) (start : Option Start) → Kept R (start_value h t wanted start)
+  pub start_kept : (h : Here) → CallsAre Good h.calls →
+      (t : Option TypeTerm) (wanted : StaticType) (start : Option Start) → Kept R
+      (start_value h t wanted start)
   start_kept h g t wanted None = record { all = λ s. rules.law.same s }
   start_kept h g t wanted (Some start) = started_kept h g t wanted start
 
   -- writes
-  pub write_all_kept : (root field : ℕ) (xs : List ℕ) (z : ℤ) (s : State) → R s (record s { store = write_all s.store root field xs z })
+  pub write_all_kept : (root field : ℕ) (xs : List ℕ) (z : ℤ) (s : State) →
+      R s (record s { store = write_all s.store root field xs z })
   write_all_kept root field [] z s = rules.law.same s
-  write_all_kept root field (x ∷ xs) z s = rules.law.through s (record s { store = write_at s.store root field x z }) _
+  write_all_kept root field (x ∷ xs) z s =
+      rules.law.through s (record s { store = write_at s.store root field x z }) _
       (rules.written s root field x z)
       (write_all_kept root field xs z (record s { store = write_at s.store root field x z }))
 
-  pub write_field_kept : (h : Here) (t : StaticType) (f : Name) (how : How) (v : Value) (a : Aim) → Kept R (write_field h t f how v a)
+  pub write_field_kept : (h : Here) (t : StaticType) (f : Name) (how : How) (v : Value) (a : Aim) →
+      Kept R (write_field h t f how v a)
   write_field_kept h t f how v (misses k) = record { all = λ s. rules.law.same s }
   write_field_kept h t f how v (hits root n) = record {
     all = λ s. rules.law.through s _ _ (rules.law.touched s _) (rules.written _ _ _ _ _);
   }
 
-  pub write_name_kept : (h : Here) (n : Name) (how : How) (v : Value) → Kept R (write_name h n how v)
+  pub write_name_kept : (h : Here) (n : Name) (how : How) (v : Value) →
+      Kept R (write_name h n how v)
   write_name_kept h n how v = record { all = λ s. rules.named s _ }
 
-  pub write_to_kept : (h : Here) → CallsAre Good h.calls → (n : Name) (ss : Steps) (how : How) (v : Value) → Kept R (write_to h n ss how v)
+  pub write_to_kept : (h : Here) → CallsAre Good h.calls →
+      (n : Name) (ss : Steps) (how : How) (v : Value) → Kept R (write_to h n ss how v)
   write_to_kept h g n no_step how v = write_name_kept h n how v
-  write_to_kept h g n (field_step f rest) how v = in_turn rules.law (named_value h n) _ (named_kept rules.law h n) (λ u.
+  write_to_kept h g n (field_step f rest) how v =
+      in_turn rules.law (named_value h n) _ (named_kept rules.law h n) (λ u.
       in_turn rules.law (stepped h (type_named h n) u (before_last (field_step f rest))) _
       (stepped_kept rules.law h g (type_named h n) u (before_last (field_step f rest)))
       (λ p. write_field_kept h
       (stepped_type h.tree h.scope (type_named h n) (before_last (field_step f rest)))
       (last_field (field_step f rest)) how v (aimed p)))
-  write_to_kept h g n (at_step e rest) how v = in_turn rules.law (named_value h n) _ (named_kept rules.law h n) (λ u.
+  write_to_kept h g n (at_step e rest) how v =
+      in_turn rules.law (named_value h n) _ (named_kept rules.law h n) (λ u.
       in_turn rules.law (stepped h (type_named h n) u (before_last (at_step e rest))) _
       (stepped_kept rules.law h g (type_named h n) u (before_last (at_step e rest)))
       (λ p. write_field_kept h
       (stepped_type h.tree h.scope (type_named h n) (before_last (at_step e rest)))
       (last_field (at_step e rest)) how v (aimed p)))
 
-  pub right_side_kept : (h : Here) → CallsAre Good h.calls → (n : Name) (ss : Steps) (how : How) (e : Expression) → Kept R (right_side h n ss how e)
+  pub right_side_kept : (h : Here) → CallsAre Good h.calls →
+      (n : Name) (ss : Steps) (how : How) (e : Expression) → Kept R (right_side h n ss how e)
   right_side_kept h g n ss how.Set e = in_turn rules.law (value h e) _ (value_kept rules.law h g e)
       (λ v. converted_kept rules.law h (typed h e) (typed h (access_expr n ss)) [] v)
   right_side_kept h g n ss (how.Reduce o) e = value_kept rules.law h g e
 
-  pub fill_kept : (h : Here) (from : StaticType) (v : Value) (t : StaticType) (r : Region) (fs : List Name) → Kept R (fill_fields h from v t r fs)
+  pub fill_kept : (h : Here) (from : StaticType) (v : Value) (t : StaticType) (r : Region)
+      (fs : List Name) →
+      Kept R (fill_fields h from v t r fs)
   fill_kept h from v t r [] = given_kept rules.law goes_on
   fill_kept h from v t r (f ∷ fs) =
       let place = field_place h.tree (space_in t) f in
       in_turn rules.law (converted h from (field_type h.tree (space_in t) (args_in t) f) [] v) _
       (converted_kept rules.law h from (field_type h.tree (space_in t) (args_in t) f) [] v) (λ u.
-      in_turn rules.law (touch (touch_all r.root place Write r.points)) _ (touch_kept rules.law _) (λ a.
-      in_turn rules.law (change (λ s. record s { store = write_all s.store r.root place r.points (kept u) })) _
+      in_turn rules.law (touch (touch_all r.root place Write r.points)) _ (touch_kept rules.law _)
+      (λ a.
+      in_turn rules.law (change
+      (λ s. record s { store = write_all s.store r.root place r.points (kept u) })) _
       (record { all = λ s. write_all_kept r.root place r.points (kept u) s }) (λ b.
       fill_kept h from v t r fs)))
 
   mutual
     pub exec_kept : (h : Here) → CallsAre Good h.calls → (form : Form) → Kept R (exec h form)
-    exec_kept h g (var_form n t start) = in_turn rules.law _ _ (start_kept h g t (var_type h.tree h.scope t start) start) (λ v. bind_kept v)
-    exec_kept h g (if_form arms other) = arms_kept h g arms _ (else_kept (after_arms h arms) g other)
+    exec_kept h g (var_form n t start) =
+        in_turn rules.law _ _ (start_kept h g t (var_type h.tree h.scope t start) start)
+        (λ v. bind_kept v)
+    exec_kept h g (if_form arms other) =
+        arms_kept h g arms _ (else_kept (after_arms h arms) g other)
     exec_kept h g (while_form test body) = record {
-      all = λ s. (turning_kept h s.turns _ _ (value_kept rules.law h g test) (scoped_kept _ (block_kept h g body))).all s;
+      all = λ s. (turning_kept h s.turns _ _ (value_kept rules.law h g test)
+          (scoped_kept _ (block_kept h g body))).all s;
     }
-    exec_kept h g (for_in_form demanded n domain body) = in_turn rules.law (value h domain) _ (value_kept rules.law h g domain)
-        (λ v. rounds_kept h (items_of v) _ (block_kept (looping h n (taken_from (typed h domain))) g body))
+    exec_kept h g (for_in_form demanded n domain body) =
+        in_turn rules.law (value h domain) _ (value_kept rules.law h g domain)
+        (λ v. rounds_kept h (items_of v) _
+        (block_kept (looping h n (taken_from (typed h domain))) g body))
     exec_kept h g (for_to_form demanded n from to body) =
         let t = arithmetic_type (typed h from) (typed h to) in
         in_turn rules.law (value h from) _ (value_kept rules.law h g from) (λ a.
         in_turn rules.law (value h to) _ (value_kept rules.law h g to) (λ b.
-        counting_kept h (distance (number_of a) (number_of b)) (width_of_type t) (number_of a) _ (block_kept (looping h n t) g body)))
+        counting_kept h (distance (number_of a) (number_of b)) (width_of_type t) (number_of a) _
+        (block_kept (looping h n t) g body)))
     exec_kept h g (do_form body) = scoped_kept _ (block_kept h g body)
-    exec_kept h g (fill_form r fields e) = in_turn rules.law (value h e) _ (value_kept rules.law h g e) (λ v.
+    exec_kept h g (fill_form r fields e) =
+        in_turn rules.law (value h e) _ (value_kept rules.law h g e) (λ v.
         in_turn rules.law (named_value h r) _ (named_kept rules.law h r) (λ w.
         fill_kept h (typed h e) v (type_named h r) (region_of w) fields))
     exec_kept h g (assert_form e) = in_turn rules.law (value h e) _ (value_kept rules.law h g e)
-        (λ v. choice_kept rules.law (truth_of v) _ _ (given_kept rules.law goes_on) (fault_kept rules.law h _))
-    exec_kept h g (print_form alias format args) = in_turn rules.law (values h [] args) _ (values_kept rules.law h g [] args)
+        (λ v. choice_kept rules.law (truth_of v) _ _ (given_kept rules.law goes_on)
+        (fault_kept rules.law h _))
+    exec_kept h g (print_form alias format args) =
+        in_turn rules.law (values h [] args) _ (values_kept rules.law h g [] args)
         (λ vs. record { all = λ s. rules.law.printed s _ })
     exec_kept h g (call_form task args) =
         let types = params_at h.tree h.scope (task_named h.tree task) args in
         in_turn rules.law (values h types args) _ (values_kept rules.law h g types args) (λ vs.
-        in_turn rules.law (called h task vs) _ (called_kept rules.law h g task vs) (λ v. given_kept rules.law goes_on))
-    exec_kept h g (assign_form n steps how e) = in_turn rules.law (right_side h n steps how e) _ (right_side_kept h g n steps how e)
+        in_turn rules.law (called h task vs) _ (called_kept rules.law h g task vs)
+        (λ v. given_kept rules.law goes_on))
+    exec_kept h g (assign_form n steps how e) =
+        in_turn rules.law (right_side h n steps how e) _ (right_side_kept h g n steps how e)
         (λ v. write_to_kept h g n steps how v)
     exec_kept h g (return_form None) = given_kept rules.law _
-    exec_kept h g (return_form (Some e)) = in_turn rules.law (value h e) _ (value_kept rules.law h g e) (λ v.
-        in_turn rules.law (converted h (typed h e) h.result [] v) _ (converted_kept rules.law h (typed h e) h.result [] v) (λ u.
+    exec_kept h g (return_form (Some e)) =
+        in_turn rules.law (value h e) _ (value_kept rules.law h g e) (λ v.
+        in_turn rules.law (converted h (typed h e) h.result [] v) _
+        (converted_kept rules.law h (typed h e) h.result [] v) (λ u.
         given_kept rules.law (returned u)))
 
-    pub arms_kept : (h : Here) → CallsAre Good h.calls → (arms : Arms) (other : Run Going) → Kept R other → Kept R (exec_arms h arms other)
+    pub arms_kept : (h : Here) → CallsAre Good h.calls → (arms : Arms) (other : Run Going) →
+        Kept R other → Kept R (exec_arms h arms other)
     arms_kept h g no_arm other k = k
-    arms_kept h g (an_arm test body rest) other k = in_turn rules.law (value h test) _ (value_kept rules.law h g test)
-        (λ v. choice_kept rules.law (truth_of v) _ _ (scoped_kept _ (block_kept h g body)) (arms_kept (after_arm h body) g rest other k))
+    arms_kept h g (an_arm test body rest) other k =
+        in_turn rules.law (value h test) _ (value_kept rules.law h g test)
+        (λ v. choice_kept rules.law (truth_of v) _ _ (scoped_kept _ (block_kept h g body))
+        (arms_kept (after_arm h body) g rest other k))
 
-    pub else_kept : (h : Here) → CallsAre Good h.calls → (other : Otherwise) → Kept R (exec_else h other)
+    pub else_kept : (h : Here) → CallsAre Good h.calls → (other : Otherwise) →
+        Kept R (exec_else h other)
     else_kept h g no_else = given_kept rules.law goes_on
     else_kept h g (else_block body) = scoped_kept _ (block_kept h g body)
 
     pub block_kept : (h : Here) → CallsAre Good h.calls → (b : Block) → Kept R (exec_block h b)
     block_kept h g no_statement = given_kept rules.law goes_on
-    block_kept h g (then_statement (a_statement line form) rest) = in_turn rules.law _ _ (exec_kept (on_line h line) g form)
+    block_kept h g (then_statement (a_statement line form) rest) =
+        in_turn rules.law _ _ (exec_kept (on_line h line) g form)
         (λ x. going_kept _ x (block_kept (after_statement h form) g rest))

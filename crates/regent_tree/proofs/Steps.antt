@@ -36,12 +36,14 @@ module _ {Good : Store → Store → Type 0} {R : State → State → Type 0} (l
   before s t (gives a u) e h = law.through s t u e h
   before s t (fails f u) e h = law.through s t u e h
 
-  pub then : {A B : Type 0} (s : State) (r : Result A) (k : A → Run B) → Leaves R s r → ((a : A) → Kept R (k a)) → Leaves R s (and_then r k)
+  pub then : {A B : Type 0} (s : State) (r : Result A) (k : A → Run B) → Leaves R s r →
+      ((a : A) → Kept R (k a)) → Leaves R s (and_then r k)
   then s (gives a t) k e h = before s t (k a t) e ((h a).all t)
   then s (fails f t) k e h = e
 
   -- one step and then the next
-  pub in_turn : {A B : Type 0} (m : Run A) (k : A → Run B) → Kept R m → ((a : A) → Kept R (k a)) → Kept R (m >>= k)
+  pub in_turn : {A B : Type 0} (m : Run A) (k : A → Run B) → Kept R m → ((a : A) → Kept R (k a)) →
+      Kept R (m >>= k)
   in_turn m k h g = record { all = λ s. then s (m s) k (h.all s) g }
 
   pub given_kept : {A : Type 0} (a : A) → Kept R (given a)
@@ -53,7 +55,8 @@ module _ {Good : Store → Store → Type 0} {R : State → State → Type 0} (l
   pub fault_kept : {A : Type 0} (h : Here) (k : FaultKind) → Kept R (fault {A = A} h k)
   fault_kept h k = record { all = λ s. law.same s }
 
-  pub choice_kept : {A : Type 0} (b : Bool) (this that : Run A) → Kept R this → Kept R that → Kept R (if_true b this that)
+  pub choice_kept : {A : Type 0} (b : Bool) (this that : Run A) → Kept R this → Kept R that →
+      Kept R (if_true b this that)
   choice_kept true this that h g = h
   choice_kept false this that h g = g
 
@@ -67,7 +70,8 @@ module _ {Good : Store → Store → Type 0} {R : State → State → Type 0} (l
   pub touch_kept : (more : List Touch) → Kept R (touch more)
   touch_kept more = record { all = λ s. law.touched s more }
 
-  pub touch_at_kept : (root field point : ℕ) (access : Mode) → Kept R (touch_at root field point access)
+  pub touch_at_kept : (root field point : ℕ) (access : Mode) →
+      Kept R (touch_at root field point access)
   touch_at_kept root field point access = record { all = λ s. law.touched s _ }
 
   pub named_kept : (h : Here) (n : Name) → Kept R (named_value h n)
@@ -86,8 +90,10 @@ module _ {Good : Store → Store → Type 0} {R : State → State → Type 0} (l
   standing_kept h (a_region r) = given_kept _
   standing_kept h (a_partition p) = given_kept _
 
-  pub converted_kept : (h : Here) (from to : StaticType) (regions : List Region) (v : Value) → Kept R (converted h from to regions v)
-  converted_kept h from (index_type k) regions v = in_turn (standing h v) _ (standing_kept h v) (λ u. given_kept _)
+  pub converted_kept : (h : Here) (from to : StaticType) (regions : List Region) (v : Value) →
+      Kept R (converted h from to regions v)
+  converted_kept h from (index_type k) regions v =
+      in_turn (standing h v) _ (standing_kept h v) (λ u. given_kept _)
   converted_kept h from (integer_type w) regions v = given_kept _
   converted_kept h from (pointer_type k sp args reaches) regions v = given_kept _
   converted_kept h from truth_type regions v = given_kept _
@@ -103,7 +109,8 @@ module _ {Good : Store → Store → Type 0} {R : State → State → Type 0} (l
   read_kept h t f (misses k) = record { all = λ s. law.same s }
   read_kept h t f (hits root n) = record { all = λ s. law.touched s _ }
 
-  pub take_field_kept : (h : Here) (t : StaticType) (f : Name) (v : Value) → Kept R (take_field h t f v)
+  pub take_field_kept : (h : Here) (t : StaticType) (f : Name) (v : Value) →
+      Kept R (take_field h t f v)
   take_field_kept h t f (a_partition p) = given_kept _
   take_field_kept h t f (a_pointer u regions) = read_kept h t f (aimed (a_pointer u regions))
   take_field_kept h t f (a_number w z) = read_kept h t f (aimed (a_number w z))
@@ -113,7 +120,8 @@ module _ {Good : Store → Store → Type 0} {R : State → State → Type 0} (l
   take_field_kept h t f (a_region r) = read_kept h t f (aimed (a_region r))
 
   pub take_child_kept : (h : Here) (p : Partition) (z : ℤ) → Kept R (take_child h p z)
-  take_child_kept h p (pos c) = choice_kept (nat_lt c (length p.sets)) _ _ (given_kept _) (fault_kept h _)
+  take_child_kept h p (pos c) =
+      choice_kept (nat_lt c (length p.sets)) _ _ (given_kept _) (fault_kept h _)
   take_child_kept h p (negsuc c) = fault_kept h _
 
   pub take_point_kept : (h : Here) (r : Region) (z : ℤ) → Kept R (take_point h r z)
@@ -158,10 +166,12 @@ module _ {Good : Store → Store → Type 0} {R : State → State → Type 0} (l
 
   pub answer_kept : (c : Called) (s : State) → Answers Good s.store c → Leaves R s (answered c s)
   answer_kept (came_back v store text) s g =
-      law.through s (record s { text = s.text ++ text }) _ (law.printed s text) (law.answered _ store g)
+      law.through s (record s { text = s.text ++ text }) _ (law.printed s text)
+      (law.answered _ store g)
   answer_kept (broke f text) s g = law.printed s text
 
-  pub called_kept : (h : Here) → CallsAre Good h.calls → (task : Name) (vs : List Value) → Kept R (called h task vs)
+  pub called_kept : (h : Here) → CallsAre Good h.calls → (task : Name) (vs : List Value) →
+      Kept R (called h task vs)
   called_kept h g task vs = in_turn (pay h) _ (pay_kept h) (λ u. record {
     all = λ s. answer_kept (h.calls h.line task vs s.store) s (g h.line task vs s.store);
   })

@@ -100,7 +100,7 @@ with_statement known s = cond (is_stated s known) known (known ++ s ∷ [])
 abbrev pub each_with_each : List Source → List Term → List Below
 each_with_each ss ts = flat_map (λ s. map (λ t. (s, t)) ts) ss
 
--- closed statements with one more, and all that follows: what lies under it lies within what is over
+-- closed statements with one more, and all that follows: what is under it lies within what is over
 abbrev pub joined : List Below → Source → Term → List Below
 joined known s t =
     fold with_statement known (each_with_each (s ∷ under known s) (t ∷ over known t))

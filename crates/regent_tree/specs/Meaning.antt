@@ -78,9 +78,10 @@ abbrev pub inputs_of : List StaticType → List ℤ → List Value
 inputs_of (t ∷ ts) (z ∷ zs) = a_number (width_of_type t) z ∷ inputs_of ts zs
 inputs_of _ _ = []
 
--- The meaning of a program: the started task runs at depth 1 on the empty store. Calls nest to depth
--- 64, so 63 more below the started task.
+-- The meaning of a program: the started task runs at depth 1 on the empty store. No run is deeper
+-- than 64, so 63 calls may nest below it.
 abbrev pub meaning : Tree → List ℤ → ℕ → Outcome
 meaning tree inputs turns =
     let t = task_named tree (started tree) in
-    outcome (run_task tree turns (calls_at tree turns 63) t (inputs_of (param_types tree t) inputs) [])
+    outcome (run_task tree turns (calls_at tree turns 63) t
+    (inputs_of (param_types tree t) inputs) [])

@@ -1,5 +1,5 @@
--- Partition operations (Dependent Partitioning, OOPSLA 2016): each is a list of point lists, one for
--- each colour, made by filtering a parent's list. The numbers of a field of a region are a list
+-- Partition operations (Dependent Partitioning, OOPSLA 2016): each is a list of point lists, one
+-- for each colour, made by filtering a parent's list. The numbers of a field of a region are a list
 -- beside the region's points, one for each.
 use Rattle.std.specs.Prelude.{ℕ, suc, ℤ, pos, negsuc, List, [], ◌∷◌, map, filter, length, take, drop, Bool, true, false, not, cond, ◌||◌, ◌==◌, nat_lt, ◌*◌, ◌/◌, ◌-◌, ◌%◌, ◌^◌, Option, Some, None}
 use Rattle.std.specs.List.{list_any}
@@ -52,7 +52,8 @@ equal_sets r n = map (equal_part r n) (points n)
 
 -- by field: colour c has the points of the region whose field is c
 abbrev pub by_field_sets : List ℕ → List ℤ → ℕ → List (List ℕ)
-by_field_sets r zs n = map (λ c. points_where (λ z. is_point c (point_named false z)) r zs) (points n)
+by_field_sets r zs n =
+    map (λ c. points_where (λ z. is_point c (point_named false z)) r zs) (points n)
 
 -- image: colour c has the points of the parent that the field names at some point of the set c
 abbrev pub image_sets : List ℕ → List (List ℕ) → List ℕ → List ℤ → Bool → List (List ℕ)

@@ -11,8 +11,8 @@ abbrev pub other_numbers : List ℤ → List ℤ
 other_numbers [] = []
 other_numbers (z ∷ zs) = zs
 
--- A byte prints itself, but `%` (37): `%%` prints `%`, and `%d`, `%ld` and `%lld` (`l` is 108) print
--- the next number.
+-- A byte prints itself, but `%` (37): `%%` prints `%`, and `%d`, `%ld` and `%lld` (`l` is 108)
+-- print the next number.
 abbrev mutual
   pub printed : List ℕ → List ℤ → List ℕ
   printed [] zs = []

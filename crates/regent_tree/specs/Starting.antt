@@ -56,8 +56,8 @@ abbrev pub keeps_pointers : FieldKind → Bool
 keeps_pointers Pointer = true
 keeps_pointers _ = false
 
--- the numbers of a field of a region, and whether they are pointers; a partition operation reads the
--- field at each point of the region that it names
+-- the numbers of a field of a region, and whether they are pointers; a partition operation reads
+-- the field at each point of the region that it names
 pub record Column : Type 0 where
   pub numbers : List ℤ
   pub pointers : Bool
@@ -86,8 +86,8 @@ start_plain h (Some t) wanted e = do
   s ← state
   converted h (typed h e) wanted (regions_reached h.scope s.names (reaches_of wanted)) v
 
--- the start value of a variable of a type; the field of an `image` or `preimage` is that of a region
--- which the partition, or the new partition's parent, lies in
+-- the start value of a variable of a type; an `image` or `preimage` reads the field of a region in
+-- which the old partition, or the new one's parent, lies
 abbrev pub started_by : Here → Option TypeTerm → StaticType → Start → Run Value
 started_by h t wanted (region_start e u) = do
   v ← value h e

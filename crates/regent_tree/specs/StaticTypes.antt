@@ -23,8 +23,9 @@ use Rattle.regent_tree.specs.Syntax.{Name, Tree, ItemForm, space_item, task_item
 abbrev pub Reach : Type 0
 Reach = Option Term
 
--- A static type. A field space is named by its place among the program's, a partition and its parent
--- by the numbers of their bindings. A pointer type has its field space's arguments and its own list.
+-- A static type. A field space is named by its place among the program's, a partition and its
+-- parent by the numbers of their bindings. A pointer type has its field space's arguments and its
+-- own list of regions; a region type has the term that the region is.
 pub data StaticType : Type 0 where
   integer_type : Width → StaticType
   truth_type : StaticType

@@ -201,7 +201,7 @@ var_type tree s (Some t) start = type_said tree (in_scope s) s.next t
 var_type tree s None (Some start) = start_type tree s s.next start
 var_type tree s None None = no_type
 
--- what a variable's start value tells: `var s = p[k]` lies in p[k], and `var r = region(..)` is made
+-- what a start value tells: `var s = p[k]` lies within p[k], and `var r = region(..)` was made
 abbrev pub known_of_child_term : ℕ → Term → List Known
 known_of_child_term own (term.Child p c) = Within (term.Name own) (term.Child p c) ∷ []
 known_of_child_term own (term.Name r) = []
@@ -228,7 +228,8 @@ abbrev mutual
   scope_after tree s (var_form n t start) =
       let type = var_type tree s t start in
       knowing (with_name s n type false) (known_of_start tree s s.next start ++ known_of_type type)
-  scope_after tree s (if_form arms other) = scope_after_else tree (scope_after_arms tree s arms) other
+  scope_after tree s (if_form arms other) =
+      scope_after_else tree (scope_after_arms tree s arms) other
   scope_after tree s (while_form test body) = past s (scope_after_block tree s body)
   scope_after tree s (for_in_form demanded n domain body) = past s
       (scope_after_block tree (with_name s n (taken_from (type_of tree s domain)) true) body)

@@ -18,8 +18,8 @@ pub record Partition : Type 0 where
   pub disjoint : Bool
   pub sets : List (List ℕ)
 
--- where a pointer goes: nowhere, or to the point with a number through a position of its type's list
--- of regions; position 0 is that of a pointer whose type's list was once `wild`
+-- where a pointer goes: nowhere, or to the point with a number through a position of its type's
+-- list of regions; position 0 is that of a pointer that was converted to a type with `wild`
 pub data Target : Type 0 where
   null_target : Target
   point_target : ℕ → ℕ → Target
