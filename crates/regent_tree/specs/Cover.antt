@@ -12,7 +12,7 @@ use Rattle.regent_tree.specs.declared.program.Grant.TheVariants as grant
 use Rattle.regent_tree.specs.declared.program.Place.{Place}
 use Rattle.regent_tree.specs.declared.types.Param.{Param}
 use Rattle.regent_tree.specs.Syntax.{Name, Tree, TaskTree}
-use Rattle.regent_tree.specs.Partitions.{has}
+use Rattle.regent_tree.specs.Sets.{has}
 use Rattle.regent_tree.specs.Values.{Value, a_truth, Region, region_of}
 use Rattle.regent_tree.specs.Store.{Store, no_root, Touch}
 use Rattle.regent_tree.specs.StaticTypes.{place_in, field_place}

@@ -2,6 +2,7 @@ pub mod Syntax
 pub mod Plain
 pub mod PlainProgram
 pub mod Facts
+pub mod Sets
 pub mod Partitions
 pub mod Widths
 pub mod Numbers

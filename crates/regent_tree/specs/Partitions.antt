@@ -1,13 +1,10 @@
 -- Partition operations (Dependent Partitioning, OOPSLA 2016): each is a list of point lists, one
 -- for each colour, made by filtering a parent's list. The numbers of a field of a region are a list
 -- beside the region's points, one for each.
-use Rattle.std.specs.Prelude.{ℕ, suc, ℤ, pos, negsuc, List, [], ◌∷◌, map, filter, length, take, drop, Bool, true, false, not, cond, ◌||◌, ◌==◌, nat_lt, ◌*◌, ◌/◌, ◌-◌, ◌%◌, ◌^◌, Option, Some, None}
+use Rattle.std.specs.Prelude.{ℕ, suc, ℤ, pos, negsuc, List, [], ◌∷◌, map, filter, length, take, drop, Bool, true, false, cond, ◌||◌, ◌==◌, ◌*◌, ◌/◌, ◌-◌, ◌%◌, ◌^◌, Option, Some, None}
 use Rattle.std.specs.List.{list_any}
 use Rattle.plain_values.specs.Points.{points}
-
--- whether a list of points has a point
-abbrev pub has : List ℕ → ℕ → Bool
-has xs x = list_any (λ y. x == y) xs
+use Rattle.regent_tree.specs.Sets.{has, union_of, meet_of, minus_of}
 
 -- the point that a field's number names: where the field keeps pointers, the point number without
 -- the position; null and other numbers below 0 name none
@@ -73,32 +70,15 @@ each_with operation [] qs = []
 each_with operation (p ∷ ps) [] = operation p [] ∷ each_with operation ps []
 each_with operation (p ∷ ps) (q ∷ qs) = operation p q ∷ each_with operation ps qs
 
--- the points of one list that stand in another, and those that don't
-abbrev pub common : List ℕ → List ℕ → List ℕ
-common p q = filter (has q) p
-
-abbrev pub without : List ℕ → List ℕ → List ℕ
-without p q = filter (λ x. not (has q x)) p
-
--- a rising list with one more point, and with those of another
-abbrev pub with_point : ℕ → List ℕ → List ℕ
-with_point x [] = x ∷ []
-with_point x (y ∷ ys) =
-    cond (nat_lt x y) (x ∷ y ∷ ys) (cond (x == y) (y ∷ ys) (y ∷ with_point x ys))
-
-abbrev pub united : List ℕ → List ℕ → List ℕ
-united [] q = q
-united (x ∷ p) q = with_point x (united p q)
-
 -- `p & q`, `p - q` and `p | q`
 abbrev pub both_sets : List (List ℕ) → List (List ℕ) → List (List ℕ)
-both_sets = each_with common
+both_sets = each_with meet_of
 
 abbrev pub minus_sets : List (List ℕ) → List (List ℕ) → List (List ℕ)
-minus_sets = each_with without
+minus_sets = each_with minus_of
 
 abbrev pub either_sets : List (List ℕ) → List (List ℕ) → List (List ℕ)
-either_sets = each_with united
+either_sets = each_with union_of
 
 -- ---- whether no two colours share a point, as each operation says; of `p - q` it is that of p
 
