@@ -1,0 +1,9 @@
+pub mod Bytes
+pub mod Words
+pub mod Numbers
+pub mod Strings
+pub mod Trivia
+pub mod Tokens
+pub mod Faults
+pub mod Texts
+pub mod Told

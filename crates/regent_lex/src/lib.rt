@@ -1,0 +1,13 @@
+//! The tokens of a Regent text.
+//!
+//! `tokens` reads a text of bytes into its list of tokens, or tells the first byte at which the text
+//! is no list of tokens. What a token is, and what a fault is, stands in `specs/`: the table in
+//! `Tokens`, the faults in `Faults`, whole texts in `Texts`.
+#![tactic(auto)]
+
+mod fault;
+mod lexeme;
+mod token;
+
+pub use fault::{LexFault, LexKind};
+pub use token::{Token, TokenKind};
