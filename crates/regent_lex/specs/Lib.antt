@@ -7,3 +7,6 @@ pub mod Tokens
 pub mod Faults
 pub mod Texts
 pub mod Told
+pub mod Search
+pub mod Scan
+pub mod Begins

@@ -5,9 +5,16 @@
 //! `Tokens`, the faults in `Faults`, whole texts in `Texts`.
 #![tactic(auto)]
 
+mod bytes;
 mod fault;
 mod lexeme;
+mod numbers;
+mod scan;
+mod search;
+mod strings;
 mod token;
+mod trivia;
+mod words;
 
 pub use fault::{LexFault, LexKind};
 pub use token::{Token, TokenKind};

@@ -1,0 +1,5 @@
+pub mod Values
+pub mod Runs
+pub mod Contents
+pub mod Blocks
+pub mod Sound
