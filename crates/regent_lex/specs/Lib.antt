@@ -6,6 +6,7 @@ pub mod Trivia
 pub mod Tokens
 pub mod Faults
 pub mod Texts
+pub mod Places
 pub mod Told
 pub mod Search
 pub mod Scan

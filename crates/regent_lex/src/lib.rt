@@ -7,6 +7,7 @@
 
 mod bytes;
 mod fault;
+mod lex;
 mod lexeme;
 mod numbers;
 mod scan;
@@ -17,4 +18,5 @@ mod trivia;
 mod words;
 
 pub use fault::{LexFault, LexKind};
+pub use lex::tokens;
 pub use token::{Token, TokenKind};
