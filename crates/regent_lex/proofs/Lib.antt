@@ -1,4 +1,4 @@
-pub mod Values
+pub mod Digits
 pub mod Runs
 pub mod Contents
 pub mod Blocks
@@ -6,3 +6,4 @@ pub mod Sound
 pub mod Complete
 pub mod Reading
 pub mod Placed
+pub mod Spelt

@@ -7,6 +7,7 @@ pub mod Tokens
 pub mod Faults
 pub mod Texts
 pub mod Places
+pub mod Values
 pub mod Told
 pub mod Search
 pub mod Scan

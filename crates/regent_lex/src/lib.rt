@@ -15,8 +15,10 @@ mod search;
 mod strings;
 mod token;
 mod trivia;
+mod values;
 mod words;
 
 pub use fault::{LexFault, LexKind};
 pub use lex::tokens;
 pub use token::{Token, TokenKind};
+pub use values::{has_suffix, number_value, quoted_bytes};

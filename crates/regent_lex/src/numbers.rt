@@ -12,7 +12,7 @@ use crate::lexeme::Lexeme;
 use crate::token::TokenKind;
 
 /// The number that digits spell, where it is below 2^63.
-fn value(digits: &[u8]) -> Option<u64>
+pub fn value(digits: &[u8]) -> Option<u64>
     requires { AllPass is_digit digits.now }
     ensures { MatchOption result (2 ^ 63 ≤ value_of digits.now) (λ n. (n ≡ value_of digits.now) × (n < 2 ^ 63)) }
 {

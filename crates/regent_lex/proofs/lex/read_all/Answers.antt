@@ -23,8 +23,8 @@ loop-lexeme-preserved-in-Trivia c =
       within = omega (arith, begins.1, left, length-drop c.loop-lexeme.place c.args.text.now);
       lines = omega (arith, c.line_feeds-line.ensures.within);
       so_far = rw c.line_feeds-line.ensures.same
-      (trivia_so_far c.loop-lexeme.tokens.items c.args.text.now c.tail-rest.result.now c.loop-lexeme.place c.loop-lexeme.line
-      c.in-Trivia.n c.tail-rest.ensures begins c.loop-lexeme.invariant.so_far);
+          (trivia_so_far c.loop-lexeme.tokens.items c.args.text.now c.tail-rest.result.now c.loop-lexeme.place c.loop-lexeme.line
+          c.in-Trivia.n c.tail-rest.ensures begins c.loop-lexeme.invariant.so_far);
     }
 
 pub loop-lexeme-preserved : goal.loop-lexeme-preserved
@@ -35,6 +35,6 @@ loop-lexeme-preserved c =
       within = omega (arith, begins.1, left, length-drop c.loop-lexeme.place c.args.text.now);
       lines = omega (arith, c.line_feeds-line-in-Token.ensures.within);
       so_far = rw (c.line_feeds-line-in-Token.ensures.same, c.in_ok-push-in-Token.ensures.items)
-      (token_so_far c.loop-lexeme.tokens.items c.args.text.now c.tail-rest.result.now c.loop-lexeme.place c.loop-lexeme.line
-      c.in-Token.n c.in-Token.kind c.tail-rest.ensures begins c.loop-lexeme.invariant.so_far);
+          (token_so_far c.loop-lexeme.tokens.items c.args.text.now c.tail-rest.result.now c.loop-lexeme.place c.loop-lexeme.line
+          c.in-Token.n c.in-Token.kind c.tail-rest.ensures begins c.loop-lexeme.invariant.so_far);
     }

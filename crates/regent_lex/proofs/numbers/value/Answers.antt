@@ -1,5 +1,5 @@
 use Rattle.std.proofs.Common.{◌≡◌}
-use Rattle.regent_lex.proofs.Values.{too_large}
+use Rattle.regent_lex.proofs.Digits.{too_large}
 use Rattle.regent_lex.proofs.numbers.value.Goals as goal
 
 pub returns-then-n : goal.returns-then-n
