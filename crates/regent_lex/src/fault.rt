@@ -7,7 +7,7 @@ use thiserror::Error;
 #[derive(Clone, Copy, Debug, PartialEq, Eq, Error)]
 pub enum LexKind {
     /// A byte that may not stand where it stands.
-    #[error("a byte that begins no token or may not stand there")]
+    #[error("a byte that may not stand there")]
     BadByte,
     /// A string without its closing quote on the line, or a block comment without its `]]`.
     #[error("a string or a comment without an end")]

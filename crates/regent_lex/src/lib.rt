@@ -20,5 +20,8 @@ mod words;
 
 pub use fault::{LexFault, LexKind};
 pub use lex::tokens;
-pub use token::{Token, TokenKind};
+pub use token::{Token, TokenKind, spelling};
 pub use values::{has_suffix, number_value, quoted_bytes};
+
+#[cfg(test)]
+mod tests;

@@ -1,5 +1,8 @@
 //! Tokens.
 
+ghost use Rattle.std.specs.Prelude.{◌≡◌};
+ghost use Rattle.regent_lex.specs.Places.{IsWithin, spelling};
+
 /// What a token is.
 #[derive(Clone, Copy, Debug, PartialEq, Eq)]
 pub enum TokenKind {
@@ -23,4 +26,12 @@ pub struct Token {
     pub end: u32,
     /// The line of the first byte; lines are counted from 1.
     pub line: u32,
+}
+
+/// The bytes of a token.
+pub fn spelling(text: &[u8], token: Token) -> &[u8]
+    requires { IsWithin text.now token }
+    ensures { result.now ≡ spelling text.now token }
+{
+    &text[token.start as usize..token.end as usize]
 }
