@@ -1,15 +1,17 @@
 -- What the spelling of a token says of its bytes.
 use Rattle.std.proofs.Common.{◌≡◌, ℕ, suc, ◌+◌, ◌≤◌, ◌<◌, ◌^◌, Bool, true, false, List, [], ◌∷◌, ◌++◌}
 use Rattle.std.proofs.Common.{length, take, drop, refl, sym, ap, ◌∙◌, arith, inl, inr, ◌⊎◌}
-use Rattle.std.specs.Prelude.{codes}
+use Rattle.std.specs.Prelude.{codes, All, slice_index_or}
 use Rattle.std.specs.List.{prefix_len, AllPass}
 use Rattle.std.proofs.lemmas.List.{take_at, length-append}
 use Rattle.std.proofs.lemmas.List.Sums.{AllPass-from_list_all}
+use Rattle.regent_lex.specs.declared.token.Token.{Token}
+use Rattle.regent_lex.specs.declared.token.TokenKind.{TokenKind}
 use Rattle.regent_lex.specs.declared.token.TokenKind.TheVariants.{Number, Quoted}
 use Rattle.regent_lex.specs.Bytes.{is_digit, next_is, next_are}
 use Rattle.regent_lex.specs.Numbers.{value_of, IsNumeral}
 use Rattle.regent_lex.specs.Tokens.{IsToken, number, quoted}
-use Rattle.regent_lex.specs.Places.{Spells}
+use Rattle.regent_lex.specs.Places.{Spells, spelling}
 use Rattle.regent_lex.specs.Values.{number_value}
 use Rattle.regent_lex.proofs.Runs.{run_all, run_is}
 
@@ -35,3 +37,12 @@ quoted_long spelling is = quoted_on spelling is.0 is.1
 -- the digits at the front are digits
 pub front_digits : (spelling : List ℕ) → AllPass is_digit (take (prefix_len is_digit spelling) spelling)
 front_digits spelling = AllPass-from_list_all is_digit _ (run_all is_digit spelling)
+
+-- the bytes of a token whose kind is known spell that kind
+pub spells_at : (text bytes : List ℕ) (ts us : List Token) (i : ℕ) (d : Token) (kind : TokenKind) →
+    ts ≡ us → All (λ t. Spells t.kind (spelling text t)) us → i < length ts →
+    bytes ≡ spelling text (slice_index_or ts i d) → (slice_index_or ts i d).kind ≡ kind →
+    Spells kind bytes
+spells_at text bytes ts us i d kind same all lt spelt is =
+    let here : All (λ t. Spells t.kind (spelling text t)) ts = rw same all in
+    rw (spelt, ← is) (here i d lt)

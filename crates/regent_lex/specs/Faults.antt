@@ -5,14 +5,15 @@ use Rattle.std.specs.List.{list_all}
 use Rattle.regent_lex.specs.declared.fault.LexKind.{LexKind}
 use Rattle.regent_lex.specs.declared.fault.LexKind.TheVariants.{BadByte, Unclosed}
 use Rattle.regent_lex.specs.declared.fault.LexKind.TheVariants.{NumberTooLarge, NameTooLong}
-use Rattle.regent_lex.specs.Bytes.{is_blank, is_digit, is_letter, is_sign, takes_equals, next_is}
+use Rattle.regent_lex.specs.Bytes.{quote_mark, backslash, is_blank, is_digit, is_letter}
+use Rattle.regent_lex.specs.Bytes.{is_sign, takes_equals, next_is, next_is_equals}
 use Rattle.regent_lex.specs.Words.{is_reserved, IsIdentifier}
 use Rattle.regent_lex.specs.Numbers.{value_of, IsNumeral, is_fraction}
 use Rattle.regent_lex.specs.Strings.{is_escape, IsContent, IsClosed}
 use Rattle.regent_lex.specs.Trivia.{has_brackets}
 
--- A fault of the kind is told at the first byte of the second list, or at the text's end where it
--- is empty; the first list stands before it, from where the last token or comment ended.
+-- A fault of the kind is told at the first byte of the second list. The first list stands before
+-- it, from where the last token, blank or comment ended.
 pub data IsFault : LexKind → List ℕ → List ℕ → Type 0 where
   long_name : {name after : List ℕ} →
       IsIdentifier name after → is_reserved name ≡ false → 64 < length name →
@@ -28,16 +29,16 @@ pub data IsFault : LexKind → List ℕ → List ℕ → Type 0 where
       IsFault BadByte (digits ++ suffix) after
   open_comment : {bytes : List ℕ} → has_brackets bytes ≡ false →
       IsFault Unclosed [] (codes "--[[" ++ bytes)
-  open_string : {bytes : List ℕ} → (IsClosed bytes → ⊥) → IsFault Unclosed [] (34 ∷ bytes)
+  open_string : {bytes : List ℕ} → (IsClosed bytes → ⊥) → IsFault Unclosed [] (quote_mark ∷ bytes)
   -- in a string that is closed: the first byte that may not stand there
   control_byte : {b : ℕ} {bytes after : List ℕ} →
       IsContent bytes → b < 32 → IsClosed (bytes ++ b ∷ after) →
-      IsFault BadByte (34 ∷ bytes) (b ∷ after)
+      IsFault BadByte (quote_mark ∷ bytes) (b ∷ after)
   unknown_escape : {c : ℕ} {bytes after : List ℕ} →
-      IsContent bytes → is_escape c ≡ false → IsClosed (bytes ++ 92 ∷ c ∷ after) →
-      IsFault BadByte (34 ∷ bytes ++ 92 ∷ []) (c ∷ after)
+      IsContent bytes → is_escape c ≡ false → IsClosed (bytes ++ backslash ∷ c ∷ after) →
+      IsFault BadByte (quote_mark ∷ bytes ++ backslash ∷ []) (c ∷ after)
   -- a byte that begins neither a token nor a comment and is no blank
   begins_nothing : {b : ℕ} {after : List ℕ} →
-      is_blank b ≡ false → is_letter b ≡ false → is_digit b ≡ false → b ≢ 34 →
-      is_sign b ≡ false → (takes_equals b && next_is (λ c. c == 61) after) ≡ false →
+      is_blank b ≡ false → is_letter b ≡ false → is_digit b ≡ false → b ≢ quote_mark →
+      is_sign b ≡ false → (takes_equals b && next_is_equals after) ≡ false →
       IsFault BadByte [] (b ∷ after)

@@ -2,7 +2,7 @@
 use Rattle.std.specs.Prelude.{◌≡◌, ℕ, ◌+◌, ◌*◌, ◌-◌, Bool, true, false, List, [], ◌∷◌, ◌⊎◌}
 use Rattle.std.specs.Prelude.{◌==◌, ◌&&◌, codes}
 use Rattle.std.specs.List.{list_all}
-use Rattle.regent_lex.specs.Bytes.{is_digit, next_is, next_are}
+use Rattle.regent_lex.specs.Bytes.{dot, letter_l, is_digit, next_is, next_are}
 
 -- the number that digits spell, after digits that spell n
 abbrev pub value_on : ℕ → List ℕ → ℕ
@@ -17,10 +17,10 @@ value_of digits = value_on 0 digits
 pub record IsNumeral (digits suffix after : List ℕ) : Type 0 where
   pub first : next_is is_digit digits ≡ true
   pub all : list_all is_digit digits ≡ true
-  pub ends : ((suffix ≡ []) × (next_is is_digit after ≡ false) × (next_are 76 76 after ≡ false))
+  pub ends : ((suffix ≡ []) × (next_is is_digit after ≡ false) × (next_are letter_l letter_l after ≡ false))
       ⊎ (suffix ≡ codes "LL")
 
 -- a dot and a digit
 abbrev pub is_fraction : List ℕ → Bool
 is_fraction [] = false
-is_fraction (b ∷ bs) = (b == 46) && next_is is_digit bs
+is_fraction (b ∷ bs) = (b == dot) && next_is is_digit bs

@@ -10,7 +10,8 @@ use Rattle.regent_lex.specs.declared.fault.LexKind.TheVariants.{BadByte, Unclose
 use Rattle.regent_lex.specs.declared.fault.LexKind.TheVariants.{NumberTooLarge, NameTooLong}
 use Rattle.regent_lex.specs.declared.search.Wanted.TheVariants.{ClosingQuote, BadContent, Brackets}
 use Rattle.regent_lex.specs.Bytes.{is_blank, is_digit, is_letter, is_word_byte, in_line}
-use Rattle.regent_lex.specs.Bytes.{is_sign, takes_equals, next_is, next_are}
+use Rattle.regent_lex.specs.Bytes.{is_sign, takes_equals, next_is, next_is_equals, next_are}
+use Rattle.regent_lex.specs.Bytes.{dash, letter_l, quote_mark, opening_bracket}
 use Rattle.regent_lex.specs.Words.{is_reserved}
 use Rattle.regent_lex.specs.Numbers.{value_of, is_fraction}
 use Rattle.regent_lex.specs.Search.{search}
@@ -33,7 +34,7 @@ number_before n after =
 -- the lexeme of a number of n digits, by whether LL comes after them
 abbrev pub number_of_digits : ℕ → List ℕ → Lexeme
 number_of_digits n text =
-    if next_are 76 76 (drop n text) then number_before (n + 2) (drop (n + 2) text)
+    if next_are letter_l letter_l (drop n text) then number_before (n + 2) (drop (n + 2) text)
     else number_before n (drop n text)
 
 unfoldable pub number_at : List ℕ → Lexeme
@@ -60,12 +61,12 @@ block_with (Some n) = Trivia (n + 5)
 -- behind --
 unfoldable pub comment_at : List ℕ → Lexeme
 comment_at bytes =
-    if next_are 91 91 bytes then block_with (search Brackets false (drop 2 bytes))
+    if next_are opening_bracket opening_bracket bytes then block_with (search Brackets false (drop 2 bytes))
     else Trivia (prefix_len in_line bytes + 2)
 
 unfoldable pub sign_at : ℕ → List ℕ → Lexeme
 sign_at b after =
-    if takes_equals b && next_is (λ c. c == 61) after then Token Sign 2
+    if takes_equals b && next_is_equals after then Token Sign 2
     else if is_sign b then Token Sign 1
     else Fault BadByte 0
 
@@ -74,8 +75,8 @@ lexeme_at b after =
     if is_blank b then Trivia 1
     else if is_letter b then identifier_at (b ∷ after)
     else if is_digit b then number_at (b ∷ after)
-    else if b == 34 then string_at after
-    else if next_are 45 45 (b ∷ after) then comment_at (drop 1 after)
+    else if b == quote_mark then string_at after
+    else if next_are dash dash (b ∷ after) then comment_at (drop 1 after)
     else sign_at b after
 
 abbrev pub first_lexeme : List ℕ → Option Lexeme

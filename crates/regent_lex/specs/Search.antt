@@ -5,17 +5,18 @@ use Rattle.regent_lex.specs.declared.search.Wanted.{Wanted}
 use Rattle.regent_lex.specs.declared.search.Wanted.TheVariants.{ClosingQuote, BadContent, Brackets}
 use Rattle.regent_lex.specs.declared.search.Step.{Step}
 use Rattle.regent_lex.specs.declared.search.Step.TheVariants.{On, Found, Missing}
+use Rattle.regent_lex.specs.Bytes.{line_feed, quote_mark, backslash, closing_bracket}
 use Rattle.regent_lex.specs.Strings.{is_escape}
 
 -- What a byte means to the search. The state of the first two is that a backslash takes this byte
 -- along, that of the third that the byte before it is a bracket.
 abbrev pub next_step : Wanted → Bool → ℕ → Step
 next_step ClosingQuote taken b =
-    if b == 10 then Missing else if taken then On false else if b == 34 then Found else On (b == 92)
+    if b == line_feed then Missing else if taken then On false else if b == quote_mark then Found else On (b == backslash)
 next_step BadContent taken b =
     if taken then (if is_escape b then On false else Found)
-    else if b == 34 then Missing else if nat_lt b 32 then Found else On (b == 92)
-next_step Brackets behind b = if behind && (b == 93) then Found else On (b == 93)
+    else if b == quote_mark then Missing else if nat_lt b 32 then Found else On (b == backslash)
+next_step Brackets behind b = if behind && (b == closing_bracket) then Found else On (b == closing_bracket)
 
 -- n places further on
 abbrev pub further : ℕ → Option ℕ → Option ℕ

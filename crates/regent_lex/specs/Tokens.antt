@@ -3,7 +3,8 @@ use Rattle.std.specs.Prelude.{◌≡◌, ℕ, ◌^◌, ◌<◌, ◌≤◌, Bool,
 use Rattle.std.specs.Prelude.{length, ◌==◌, ◌&&◌}
 use Rattle.regent_lex.specs.declared.token.TokenKind.{TokenKind}
 use Rattle.regent_lex.specs.declared.token.TokenKind.TheVariants.{Name, Word, Number, Quoted, Sign}
-use Rattle.regent_lex.specs.Bytes.{is_letter, is_sign, takes_equals, next_is, next_are}
+use Rattle.regent_lex.specs.Bytes.{dash, quote_mark, equals_sign}
+use Rattle.regent_lex.specs.Bytes.{is_letter, is_sign, takes_equals, next_is, next_is_equals, next_are}
 use Rattle.regent_lex.specs.Words.{is_reserved, IsIdentifier}
 use Rattle.regent_lex.specs.Numbers.{value_of, IsNumeral, is_fraction}
 use Rattle.regent_lex.specs.Strings.{IsContent}
@@ -21,9 +22,9 @@ pub data IsToken : TokenKind → List ℕ → List ℕ → Type 0 where
       IsNumeral digits suffix after → value_of digits < 2 ^ 63 →
       next_is is_letter after ≡ false → is_fraction after ≡ false →
       IsToken Number (digits ++ suffix) after
-  quoted : {bytes after : List ℕ} → IsContent bytes → IsToken Quoted (34 ∷ bytes ++ 34 ∷ []) after
+  quoted : {bytes after : List ℕ} → IsContent bytes → IsToken Quoted (quote_mark ∷ bytes ++ quote_mark ∷ []) after
   -- one byte, which doesn't begin a comment or a sign of two bytes
-  sign : {b : ℕ} {after : List ℕ} → is_sign b ≡ true → next_are 45 45 (b ∷ after) ≡ false →
-      (takes_equals b && next_is (λ c. c == 61) after) ≡ false → IsToken Sign (b ∷ []) after
+  sign : {b : ℕ} {after : List ℕ} → is_sign b ≡ true → next_are dash dash (b ∷ after) ≡ false →
+      (takes_equals b && next_is_equals after) ≡ false → IsToken Sign (b ∷ []) after
   two_byte_sign : {b : ℕ} {after : List ℕ} → takes_equals b ≡ true →
-      IsToken Sign (b ∷ 61 ∷ []) after
+      IsToken Sign (b ∷ equals_sign ∷ []) after

@@ -1,9 +1,10 @@
 //! Classes of bytes, and what stands at the front of a text.
 
-ghost use Rattle.std.specs.Prelude.{◌==◌, ◌≡◌, ◌≤◌, length};
+ghost use Rattle.std.specs.Prelude.{length, ◌≡◌, ◌≤◌};
 ghost use Rattle.std.specs.List.{prefix_len};
 ghost use Rattle.regent_lex.specs.Bytes.{in_line, is_blank, is_digit, is_letter, is_word_byte};
-ghost use Rattle.regent_lex.specs.Bytes.{is_sign, next_are, next_is, takes_equals};
+ghost use Rattle.regent_lex.specs.Bytes.{is_sign, next_are, next_is, next_is_equals, takes_equals};
+ghost use Rattle.regent_lex.specs.Bytes.{dash, letter_l, opening_bracket};
 ghost use Rattle.regent_lex.specs.Numbers.{is_fraction};
 
 pub fn is_blank(byte: u8) -> bool
@@ -94,7 +95,7 @@ pub fn begins_with_letter(text: &[u8]) -> bool
 }
 
 pub fn begins_with_equals(text: &[u8]) -> bool
-    ensures { result ≡ next_is (λ c. c == 61) text.now }
+    ensures { result ≡ next_is_equals text.now }
 {
     match text {
         [] => false,
@@ -114,7 +115,7 @@ pub fn begins_with_fraction(text: &[u8]) -> bool
 
 /// Whether the text begins with `--`.
 pub fn begins_with_dashes(text: &[u8]) -> bool
-    ensures { result ≡ next_are 45 45 text.now }
+    ensures { result ≡ next_are dash dash text.now }
 {
     match text {
         [first, second, ..] => *first == b'-' && *second == b'-',
@@ -124,7 +125,7 @@ pub fn begins_with_dashes(text: &[u8]) -> bool
 
 /// Whether the text begins with `[[`.
 pub fn begins_with_brackets(text: &[u8]) -> bool
-    ensures { result ≡ next_are 91 91 text.now }
+    ensures { result ≡ next_are opening_bracket opening_bracket text.now }
 {
     match text {
         [first, second, ..] => *first == b'[' && *second == b'[',
@@ -134,7 +135,7 @@ pub fn begins_with_brackets(text: &[u8]) -> bool
 
 /// Whether the text begins with `LL`.
 pub fn begins_with_suffix(text: &[u8]) -> bool
-    ensures { result ≡ next_are 76 76 text.now }
+    ensures { result ≡ next_are letter_l letter_l text.now }
 {
     match text {
         [first, second, ..] => *first == b'L' && *second == b'L',
