@@ -1,6 +1,6 @@
 -- Numbers that digits spell.
-use Rattle.std.proofs.Common.{◌≡◌, ℕ, suc, ◌+◌, ◌*◌, ◌-◌, ◌^◌, ◌≤◌, ◌<◌, List, [], ◌∷◌}
-use Rattle.std.proofs.Common.{arith, length, drop, drop-cons, get_or}
+use Rattle.std.proofs.Common.{◌≡◌, ℕ, suc, ◌+◌, ◌*◌, ◌-◌, ◌^◌, ◌≤◌, ◌<◌, List, [], ◌∷◌, arith}
+use Rattle.std.proofs.Common.{length, drop, drop-cons, get_or}
 use Rattle.regent_lex.specs.Numbers.{value_on, value_of}
 
 -- more digits spell no smaller number

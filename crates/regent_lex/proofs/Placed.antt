@@ -1,6 +1,7 @@
 -- Each token stands in the text where it says, on the line and of the kind that it says.
-use Rattle.std.proofs.Common.{◌≡◌, ℕ, suc, true, Bool, cond, ◌+◌, ◌-◌, ◌≤◌, ◌<◌, List, [], ◌∷◌, ◌++◌, length, take, drop}
-use Rattle.std.proofs.Common.{Result, Ok, Err, refl, sym, ap, subst, ◌∙◌, arith, drop-drop}
+use Rattle.std.proofs.Common.{◌≡◌, ℕ, suc, true, Bool, cond, ◌+◌, ◌-◌, ◌≤◌, ◌<◌, List, [], ◌∷◌}
+use Rattle.std.proofs.Common.{◌++◌, length, take, drop, Result, Ok, Err, refl, sym, ap, subst, ◌∙◌}
+use Rattle.std.proofs.Common.{arith, drop-drop}
 use Rattle.std.specs.Prelude.{All, IfOk, ◌==◌}
 use Rattle.std.proofs.lemmas.List.{take_at, drop_at, length-append, length-drop}
 use Rattle.std.proofs.lemmas.List.Elements.{All-nil, All-cons}
@@ -32,7 +33,8 @@ record StandsAt (text here : List ℕ) (place line : ℕ) : Type 0 where
   within : place ≤ length text
   lines : line ≡ 1 + feeds (take place text)
 
-one_more : (text : List ℕ) (t : Token) (out : Lexed) → IsPlaced text t → ArePlaced text out → ArePlaced text (with_token t out)
+one_more : (text : List ℕ) (t : Token) (out : Lexed) → IsPlaced text t → ArePlaced text out →
+    ArePlaced text (with_token t out)
 one_more text t (Ok ts) is all = All-cons (IsPlaced text) t ts is all
 one_more text t (Err fault) is all = tt
 
@@ -45,7 +47,8 @@ token_some : (kind : TokenKind) (bytes after : List ℕ) → IsToken kind bytes 
 token_some kind bytes after (name is r len) = some_bytes _ bytes is.first
 token_some kind bytes after (word is r) = some_bytes _ bytes is.first
 token_some kind bytes after (number {digits} {suffix} is small l f) =
-    let some : 0 < length digits = some_bytes _ digits is.first in omega (arith, length-append digits suffix)
+    let some : 0 < length digits = some_bytes _ digits is.first in
+    omega (arith, length-append digits suffix)
 token_some kind bytes after (quoted is) = omega arith
 token_some kind bytes after (sign h no_comment lone) = omega arith
 token_some kind bytes after (two_byte_sign h) = omega arith
@@ -56,41 +59,62 @@ feeds_append xs ys = sum_by-append (λ b. cond (b == 10) 1 0) xs ys
 moves : (text bytes after : List ℕ) (place line : ℕ) → StandsAt text (bytes ++ after) place line →
     StandsAt text after (place + length bytes) (line + feeds bytes)
 moves text bytes after place line at_place =
-    let front : take (length bytes) (drop place text) ≡ bytes = rw (← at_place.rest) (take_at bytes after (length bytes) refl) in
-    let behind : drop (length bytes) (drop place text) ≡ after = rw (← at_place.rest) (drop_at bytes after (length bytes) refl) in
+    let front : take (length bytes) (drop place text) ≡ bytes =
+    rw (← at_place.rest) (take_at bytes after (length bytes) refl) in
+    let behind : drop (length bytes) (drop place text) ≡ after =
+    rw (← at_place.rest) (drop_at bytes after (length bytes) refl) in
     record {
       rest = sym behind ∙ drop-drop (length bytes) place text;
-      within = omega (arith, ap length at_place.rest, length-append bytes after, length-drop place text);
-      lines = rw (at_place.lines, take-add place (length bytes) text, front, feeds_append (take place text) bytes) (omega arith);
+      within =
+          omega (arith, ap length at_place.rest, length-append bytes after, length-drop place text);
+      lines =
+          rw (
+            at_place.lines,
+            take-add place (length bytes) text,
+            front,
+            feeds_append (take place text) bytes,
+          ) (omega arith);
     }
 
-placed : (text here : List ℕ) (place line : ℕ) (out : Lexed) → Lexes here place line out → StandsAt text here place line → ArePlaced text out
+placed : (text here : List ℕ) (place line : ℕ) (out : Lexed) → Lexes here place line out →
+    StandsAt text here place line → ArePlaced text out
 placed text here place line out ends at_place = All-nil (IsPlaced text)
 placed text here place line out (skips {bytes} {after} is d) at_place =
-    placed text after (place + length bytes) (line + feeds bytes) out d (moves text bytes after place line at_place)
+    placed text after (place + length bytes) (line + feeds bytes) out d
+    (moves text bytes after place line at_place)
 placed text here place line all (takes {kind} {bytes} {after} {out = out} is d) at_place =
     let next = moves text bytes after place line at_place in
     let some = token_some kind bytes after is in
-    let spelt : take (place + length bytes - place) (drop place text) ≡ bytes = rw (← at_place.rest) (take_at bytes after (place + length bytes - place) (omega arith)) in
-    one_more text (record { kind = kind; start = place; end = place + length bytes; line = line }) out
-    (record { within = (omega arith, next.within); line = at_place.lines; kind = (after, rw spelt is) })
+    let spelt : take (place + length bytes - place) (drop place text) ≡ bytes =
+    rw (← at_place.rest) (take_at bytes after (place + length bytes - place) (omega arith)) in
+    one_more text
+    (record { kind = kind; start = place; end = place + length bytes; line = line }) out
+    (record {
+      within = (omega arith, next.within);
+      line = at_place.lines;
+      kind = (after, rw spelt is);
+    })
     (placed text after (place + length bytes) (line + feeds bytes) out d next)
 placed text here place line out (fails is) at_place = tt
 
 all_placed : (text : List ℕ) (out : Lexed) → Lexes text 0 1 out → ArePlaced text out
-all_placed text out d = placed text text 0 1 out d (record { rest = refl; within = omega arith; lines = refl })
+all_placed text out d =
+    placed text text 0 1 out d (record { rest = refl; within = omega arith; lines = refl })
 
-pub all_within : (text : List ℕ) (r : Result (Vec Token) LexFault) → Told (λ out. Lexes text 0 1 out) r →
+pub all_within : (text : List ℕ) (r : Result (Vec Token) LexFault) →
+    Told (λ out. Lexes text 0 1 out) r →
     IfOk r (λ ts. All (IsWithin text) ts.items)
 all_within text (Ok v) d = let all = all_placed text (Ok v.items) d in λ k t lt. (all k t lt).within
 all_within text (Err fault) d = tt
 
-pub all_on_line : (text : List ℕ) (r : Result (Vec Token) LexFault) → Told (λ out. Lexes text 0 1 out) r →
+pub all_on_line : (text : List ℕ) (r : Result (Vec Token) LexFault) →
+    Told (λ out. Lexes text 0 1 out) r →
     IfOk r (λ ts. All (IsOnLine text) ts.items)
 all_on_line text (Ok v) d = let all = all_placed text (Ok v.items) d in λ k t lt. (all k t lt).line
 all_on_line text (Err fault) d = tt
 
-pub all_spelt : (text : List ℕ) (r : Result (Vec Token) LexFault) → Told (λ out. Lexes text 0 1 out) r →
+pub all_spelt : (text : List ℕ) (r : Result (Vec Token) LexFault) →
+    Told (λ out. Lexes text 0 1 out) r →
     IfOk r (λ ts. All (λ t. Spells t.kind (spelling text t)) ts.items)
 all_spelt text (Ok v) d = let all = all_placed text (Ok v.items) d in λ k t lt. (all k t lt).kind
 all_spelt text (Err fault) d = tt

@@ -31,15 +31,24 @@ After (Some (lexeme.Trivia n)) text place line out =
 After (Some (lexeme.Token kind n)) text place line out =
     (later : Lexed) × Lexes (drop n text) (place + n) (line + feeds (take n text)) later
     × (out ≡ with_token (record { kind = kind; start = place; end = place + n; line = line }) later)
-After (Some (lexeme.Fault kind n)) text place line out = out ≡ Err (kind, line + feeds (take n text))
+After (Some (lexeme.Fault kind n)) text place line out =
+    out ≡ Err (kind, line + feeds (take n text))
 
 after_first : {text : List ℕ} {place line : ℕ} {out : Lexed} → Lexes text place line out →
     After (first_lexeme text) text place line out
 after_first ends = refl
 after_first (skips {bytes} {after} is d) =
-    rw (trivia_found bytes after is, take_at bytes after (length bytes) refl, drop_at bytes after (length bytes) refl) d
+    rw (
+      trivia_found bytes after is,
+      take_at bytes after (length bytes) refl,
+      drop_at bytes after (length bytes) refl,
+    ) d
 after_first (takes {kind} {bytes} {after} {out = out} is d) =
-    rw (token_found kind bytes after is, take_at bytes after (length bytes) refl, drop_at bytes after (length bytes) refl) (out, d, refl)
+    rw (
+      token_found kind bytes after is,
+      take_at bytes after (length bytes) refl,
+      drop_at bytes after (length bytes) refl,
+    ) (out, d, refl)
 after_first (fails {kind} {bytes} {after} is) =
     rw (fault_found kind bytes after is, take_at bytes after (length bytes) refl) refl
 
@@ -47,16 +56,29 @@ pub one_outcome : {text : List ℕ} {place line : ℕ} {a b : Lexed} →
     Lexes text place line a → Lexes text place line b → a ≡ b
 one_outcome ends e = sym (after_first e)
 one_outcome (skips {bytes} {after} is d) e =
-    let h = rw (trivia_found bytes after is, take_at bytes after (length bytes) refl, drop_at bytes after (length bytes) refl) at (after_first e) in
+    let h =
+    rw (
+      trivia_found bytes after is,
+      take_at bytes after (length bytes) refl,
+      drop_at bytes after (length bytes) refl,
+    ) at (after_first e) in
     one_outcome d h
 one_outcome (takes {kind} {bytes} {after} is d) e =
-    let h = rw (token_found kind bytes after is, take_at bytes after (length bytes) refl, drop_at bytes after (length bytes) refl) at (after_first e) in
+    let h =
+    rw (
+      token_found kind bytes after is,
+      take_at bytes after (length bytes) refl,
+      drop_at bytes after (length bytes) refl,
+    ) at (after_first e) in
     ap (with_token _) (one_outcome d h.1) ∙ sym h.2
 one_outcome (fails {kind} {bytes} {after} is) e =
-    let h = rw (fault_found kind bytes after is, take_at bytes after (length bytes) refl) at (after_first e) in
+    let h =
+    rw (fault_found kind bytes after is, take_at bytes after (length bytes) refl) at (after_first e)
+    in
     sym h
 
-pub told_only : (text : List ℕ) (r : Result (Vec Token) LexFault) (out : Lexed) → Lexes text 0 1 out →
+pub told_only : (text : List ℕ) (r : Result (Vec Token) LexFault) (out : Lexed) →
+    Lexes text 0 1 out →
     Told (λ t. Lexes text 0 1 t) r → Told (λ t. t ≡ out) r
 told_only text (Ok v) out d h = one_outcome h d
 told_only text (Err (At kind line)) out d h = one_outcome h d
@@ -87,16 +109,19 @@ behind : (text : List ℕ) (place line n : ℕ) (out : Lexed) → n ≤ length (
     Lexes (drop (place + n) text) (place + n) (line + feeds (take n (drop place text))) out →
     Lexes (drop n (drop place text)) (place + length (take n (drop place text)))
     (line + feeds (take n (drop place text))) out
-behind text place line n out le d = rw (length-take-le n (drop place text) le, drop-drop n place text) d
+behind text place line n out le d =
+    rw (length-take-le n (drop place text) le, drop-drop n place text) d
 
-trivia_on : (ts : List Token) (text : List ℕ) (place line n : ℕ) → Begins (lexeme.Trivia n) (drop place text) →
+trivia_on : (ts : List Token) (text : List ℕ) (place line n : ℕ) →
+    Begins (lexeme.Trivia n) (drop place text) →
     SoFar ts text place line → SoFar ts text (place + n) (line + feeds (take n (drop place text)))
 trivia_on ts text place line n is so_far = λ out d.
     so_far out
     (subst (λ (rest : List ℕ). Lexes rest place line out) (take-append-drop n (drop place text))
     (skips is.2 (behind text place line n out is.1 d)))
 
-pub trivia_so_far : (ts : List Token) (text here : List ℕ) (place line n : ℕ) → here ≡ drop place text →
+pub trivia_so_far : (ts : List Token) (text here : List ℕ) (place line n : ℕ) →
+    here ≡ drop place text →
     Begins (lexeme.Trivia n) here → SoFar ts text place line →
     SoFar ts text (place + n) (line + feeds (take n here))
 trivia_so_far ts text here place line n is begins so_far =
@@ -104,21 +129,30 @@ trivia_so_far ts text here place line n is begins so_far =
 
 token_on : (ts : List Token) (text : List ℕ) (place line n : ℕ) (kind : TokenKind) →
     Begins (lexeme.Token kind n) (drop place text) → SoFar ts text place line →
-    SoFar (ts ++ record { kind = kind; start = place; end = place + n; line = line } ∷ []) text (place + n)
+    SoFar (ts ++ record { kind = kind; start = place; end = place + n; line = line } ∷ []) text
+    (place + n)
     (line + feeds (take n (drop place text)))
 token_on ts text place line n kind is so_far = λ out d.
     let here : List ℕ = drop place text in
     let t : Token = record { kind = kind; start = place; end = place + n; line = line } in
-    let whole : Lexes here place line (with_token (record { kind = kind; start = place; end = place + length (take n here); line = line }) out) =
-    subst (λ (rest : List ℕ). Lexes rest place line (with_token (record { kind = kind; start = place; end = place + length (take n here); line = line }) out)) (take-append-drop n here)
+    let whole : Lexes here place line
+    (with_token
+    (record { kind = kind; start = place; end = place + length (take n here); line = line }) out) =
+    subst (λ (rest : List ℕ). Lexes rest place line
+    (with_token
+    (record { kind = kind; start = place; end = place + length (take n here); line = line }) out))
+    (take-append-drop n here)
     (takes is.2 (behind text place line n out is.1 d)) in
     let told : Lexes here place line (with_token t out) =
-    subst (λ (m : ℕ). Lexes here place line (with_token (record { kind = kind; start = place; end = place + m; line = line }) out)) (length-take-le n here is.1) whole in
+    subst (λ (m : ℕ). Lexes here place line
+    (with_token (record { kind = kind; start = place; end = place + m; line = line }) out))
+    (length-take-le n here is.1) whole in
     subst (λ (o : Lexed). Lexes text 0 1 o) (regroup ts t out) (so_far _ told)
 
 pub token_so_far : (ts : List Token) (text here : List ℕ) (place line n : ℕ) (kind : TokenKind) →
     here ≡ drop place text → Begins (lexeme.Token kind n) here → SoFar ts text place line →
-    SoFar (ts ++ record { kind = kind; start = place; end = place + n; line = line } ∷ []) text (place + n)
+    SoFar (ts ++ record { kind = kind; start = place; end = place + n; line = line } ∷ []) text
+    (place + n)
     (line + feeds (take n here))
 token_so_far ts text here place line n kind is begins so_far =
     rw is (token_on ts text place line n kind (rw is at begins) so_far)
@@ -128,10 +162,12 @@ pub fault_told : (ts : List Token) (text here : List ℕ) (place line n : ℕ) (
     Lexes text 0 1 (Err (kind, line + feeds (take n here)))
 fault_told ts text here place line n kind is begins so_far =
     so_far (Err (kind, line + feeds (take n here)))
-    (subst (λ (rest : List ℕ). Lexes rest place line (Err (kind, line + feeds (take n here)))) (take-append-drop n here ∙ is) (fails begins.1))
+    (subst (λ (rest : List ℕ). Lexes rest place line (Err (kind, line + feeds (take n here))))
+    (take-append-drop n here ∙ is) (fails begins.1))
 
 pub end_told : (ts : List Token) (text here : List ℕ) (place line : ℕ) → here ≡ drop place text →
     here ≡ [] → SoFar ts text place line → Lexes text 0 1 (Ok ts)
 end_told ts text here place line is empty so_far =
     let nothing : drop place text ≡ [] = sym is ∙ empty in
-    subst (λ (us : List Token). Lexes text 0 1 (Ok us)) (append-nil ts) (so_far (Ok []) (rw nothing ends))
+    subst (λ (us : List Token). Lexes text 0 1 (Ok us)) (append-nil ts)
+    (so_far (Ok []) (rw nothing ends))

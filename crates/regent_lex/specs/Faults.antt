@@ -15,9 +15,11 @@ use Rattle.regent_lex.specs.Trivia.{has_brackets}
 -- A fault of the kind is told at the first byte of the second list. The first list stands before
 -- it, from where the last token, blank or comment ended.
 pub data IsFault : LexKind → List ℕ → List ℕ → Type 0 where
+  -- a name of more than 64 bytes, told at its first byte
   long_name : {name after : List ℕ} →
       IsIdentifier name after → is_reserved name ≡ false → 64 < length name →
       IsFault NameTooLong [] (name ++ after)
+  -- digits that spell 2 ^ 63 or more, told at the first of them
   large_number : (digits after : List ℕ) →
       next_is is_digit digits ≡ true → list_all is_digit digits ≡ true →
       next_is is_digit after ≡ false → 2 ^ 63 ≤ value_of digits →
@@ -27,6 +29,7 @@ pub data IsFault : LexKind → List ℕ → List ℕ → Type 0 where
       IsNumeral digits suffix after → value_of digits < 2 ^ 63 →
       (next_is is_letter after || is_fraction after) ≡ true →
       IsFault BadByte (digits ++ suffix) after
+  -- a block comment or a string that isn't closed, told at its first byte
   open_comment : {bytes : List ℕ} → has_brackets bytes ≡ false →
       IsFault Unclosed [] (codes "--[[" ++ bytes)
   open_string : {bytes : List ℕ} → (IsClosed bytes → ⊥) → IsFault Unclosed [] (quote_mark ∷ bytes)

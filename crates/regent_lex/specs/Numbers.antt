@@ -13,12 +13,16 @@ value_on n (d ∷ ds) = value_on (n * 10 + (d - 48)) ds
 abbrev pub value_of : List ℕ → ℕ
 value_of digits = value_on 0 digits
 
+-- there is no suffix, and neither a digit nor LL comes next
+abbrev pub HasNoSuffix : List ℕ → List ℕ → Type 0
+HasNoSuffix suffix after =
+    (suffix ≡ []) × (next_is is_digit after ≡ false) × (next_are letter_l letter_l after ≡ false)
+
 -- The digits are all that stand there, and the suffix behind them is LL where LL stands there.
 pub record IsNumeral (digits suffix after : List ℕ) : Type 0 where
   pub first : next_is is_digit digits ≡ true
   pub all : list_all is_digit digits ≡ true
-  pub ends : ((suffix ≡ []) × (next_is is_digit after ≡ false) × (next_are letter_l letter_l after ≡ false))
-      ⊎ (suffix ≡ codes "LL")
+  pub ends : HasNoSuffix suffix after ⊎ (suffix ≡ codes "LL")
 
 -- a dot and a digit
 abbrev pub is_fraction : List ℕ → Bool

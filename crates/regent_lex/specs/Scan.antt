@@ -61,7 +61,8 @@ block_with (Some n) = Trivia (n + 5)
 -- behind --
 unfoldable pub comment_at : List ℕ → Lexeme
 comment_at bytes =
-    if next_are opening_bracket opening_bracket bytes then block_with (search Brackets false (drop 2 bytes))
+    if next_are opening_bracket opening_bracket bytes then
+    block_with (search Brackets false (drop 2 bytes))
     else Trivia (prefix_len in_line bytes + 2)
 
 unfoldable pub sign_at : ℕ → List ℕ → Lexeme

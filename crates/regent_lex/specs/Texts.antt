@@ -26,6 +26,7 @@ pub data Lexes : List ℕ → ℕ → ℕ → Lexed → Type 0 where
   takes : {kind : TokenKind} {bytes after : List ℕ} {place line : ℕ} {out : Lexed} →
       IsToken kind bytes after → Lexes after (place + length bytes) (line + feeds bytes) out →
       Lexes (bytes ++ after) place line
-      (with_token (record { kind = kind; start = place; end = place + length bytes; line = line }) out)
+      (with_token
+      (record { kind = kind; start = place; end = place + length bytes; line = line }) out)
   fails : {kind : LexKind} {bytes after : List ℕ} {place line : ℕ} → IsFault kind bytes after →
       Lexes (bytes ++ after) place line (Err (kind, line + feeds bytes))

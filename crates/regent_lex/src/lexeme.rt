@@ -5,7 +5,7 @@ use crate::token::TokenKind;
 
 /// What stands at the front of a text, and how many bytes it takes; a fault is told at the byte
 /// behind so many.
-#[derive(Clone, Copy, Debug, PartialEq, Eq)]
+#[derive(Clone, Copy)]
 pub enum Lexeme {
     /// A blank or a comment.
     Trivia(usize),

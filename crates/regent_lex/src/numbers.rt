@@ -14,7 +14,8 @@ use crate::token::TokenKind;
 /// The number that digits spell, where it is below 2^63.
 pub fn value(digits: &[u8]) -> Option<u64>
     requires { AllPass is_digit digits.now }
-    ensures { MatchOption result (2 ^ 63 ≤ value_of digits.now) (λ n. (n ≡ value_of digits.now) × (n < 2 ^ 63)) }
+    ensures { MatchOption result (2 ^ 63 ≤ value_of digits.now)
+        (λ n. (n ≡ value_of digits.now) × (n < 2 ^ 63)) }
 {
     let mut n: u64 = 0;
     for digit in digits {

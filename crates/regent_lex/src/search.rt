@@ -5,7 +5,7 @@ ghost use Rattle.regent_lex.specs.Search.{next_step, search};
 ghost use Rattle.regent_lex.specs.Strings.{is_escape};
 
 /// What is looked for.
-#[derive(Clone, Copy, Debug, PartialEq, Eq)]
+#[derive(Clone, Copy)]
 pub enum Wanted {
     /// The closing quote of a string, before a line feed.
     ClosingQuote,
@@ -16,8 +16,8 @@ pub enum Wanted {
 }
 
 /// What a byte means to a search.
-#[derive(Clone, Copy, Debug, PartialEq, Eq)]
-pub enum Step {
+#[derive(Clone, Copy)]
+enum Step {
     /// The search goes on in this state.
     On(bool),
     Found,
