@@ -28,7 +28,7 @@ impl FaultCount {
     }
 
     /// Counts a fault, and gives the answer to it.
-    pub(crate) fn count(&mut self) -> Failed
+    pub(crate) fn raise(&mut self) -> Failed
         ensures raised { self.new ≡ one_more self.old }
         ensures later { self.old ≤ self.new }
     {

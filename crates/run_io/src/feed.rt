@@ -2,7 +2,7 @@
 
 ghost use Rattle.std.specs.Prelude.{◌≡◌, ◌<◌, ◌++◌, [], ◌∷◌, length, min, take, drop, string_bytes};
 ghost use Rattle.run_io.specs.Faults.{one_more};
-ghost use Rattle.run_io.specs.Sources.{next_left, after_next, with_name};
+ghost use Rattle.run_io.specs.Source.{next_left, after_next, with_name};
 
 use crate::names::Names;
 use std::marker::Model;
@@ -25,17 +25,18 @@ impl Model for Feed {
     ghost Value = { Told };
 
     ghost view = { λ s. record {
-        left = drop s.at s.bytes.items;
-        later = if s.begun then [] else s.bytes.items ∷ [];
-        begins = s.begins;
-        names = names_of s.names
+      left = drop s.at s.bytes.items;
+      later = if s.begun then [] else s.bytes.items ∷ [];
+      begins = s.begins;
+      names = names_of s.names;
     } };
 
     // Where it has not begun, nothing is left; where it has, a begin was counted.
-    ghost invariant = { λ s.
-        (s.at ≤ vec_len s.bytes)
-        × (s.begun ≡ false → s.at ≡ vec_len s.bytes)
-        × (s.begun ≡ true → 0 < s.begins) };
+    ghost invariant = { λ s. record {
+      within : s.at ≤ vec_len s.bytes;
+      not_begun : s.begun ≡ false → s.at ≡ vec_len s.bytes;
+      begun : s.begun ≡ true → 0 < s.begins;
+    } };
 }
 
 impl Feed {
@@ -56,7 +57,7 @@ impl Feed {
     }
 
     /// Counts a begin with its name.
-    pub(crate) fn count(&mut self, name: String)
+    pub(crate) fn count_begin(&mut self, name: String)
         ensures begins { self.new.begins ≡ one_more self.old.begins }
         ensures names { self.new.names ≡ with_name (string_bytes name) self.old.names }
         ensures left { self.new.left ≡ self.old.left }

@@ -21,7 +21,7 @@ pub struct MemorySink {
 
 impl Model for MemorySink {
     ghost use Rattle.std.specs.Prelude.{◌≤◌, vec_len, vec_capacity};
-    ghost use Rattle.run_io.specs.Told.{PlannedSink};
+    ghost use Rattle.run_io.specs.MemorySink.{PlannedSink};
 
     ghost Value = { PlannedSink };
 
@@ -65,7 +65,8 @@ impl MemorySink {
 impl Sink for MemorySink {
     ghost use Rattle.std.specs.Prelude.{◌≡◌, ◌<◌, ◌↔◌, ◌⊎◌, ◌++◌, Some, IsErr, OnErr, IfOk, length, take};
     ghost use Rattle.run_io.specs.Faults.{HasCause};
-    ghost use Rattle.run_io.specs.Told.{IsNextListed, CountsCall, taken_count, sure_count};
+    ghost use Rattle.run_io.specs.Plan.{IsNextListed, CountsCall};
+    ghost use Rattle.run_io.specs.MemorySink.{taken_count, sure_count};
 
     ghost faults = { λ s. s.plan.faults };
 

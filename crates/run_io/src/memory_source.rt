@@ -19,7 +19,7 @@ pub struct MemorySource {
 
 impl Model for MemorySource {
     ghost use Rattle.std.specs.Prelude.{◌≡◌, []};
-    ghost use Rattle.run_io.specs.Told.{PlannedSource};
+    ghost use Rattle.run_io.specs.MemorySource.{PlannedSource};
 
     ghost Value = { PlannedSource };
 
@@ -49,7 +49,8 @@ impl MemorySource {
 impl Source for MemorySource {
     ghost use Rattle.std.specs.Prelude.{◌≡◌, ◌<◌, ◌↔◌, ◌++◌, [], Some, IsErr, OnOk, OnErr, IfOk, length, min, take, drop, string_bytes};
     ghost use Rattle.run_io.specs.Faults.{HasCause};
-    ghost use Rattle.run_io.specs.Told.{IsNextListed, CountsCall, counted, begun};
+    ghost use Rattle.run_io.specs.Plan.{IsNextListed, CountsCall};
+    ghost use Rattle.run_io.specs.Told.{counted, begun};
 
     ghost faults = { λ s. s.plan.faults };
 
@@ -68,7 +69,7 @@ impl Source for MemorySource {
         ensures ok { OnOk result (self.new.told ≡ begun (string_bytes name) self.old.told) }
         ensures err { OnErr result (self.new.told ≡ counted (string_bytes name) self.old.told) }
     {
-        self.feed.count(name);
+        self.feed.count_begin(name);
         self.plan.call()?;
         self.feed.open();
         Ok(())

@@ -11,7 +11,7 @@ pub(crate) enum Names {
 }
 
 impl Names {
-    ghost use Rattle.run_io.specs.Sources.{with_name};
+    ghost use Rattle.run_io.specs.Source.{with_name};
     ghost use Rattle.run_io.specs.Names.{names_of};
 
     /// Keeps the name if it is one of the first two.

@@ -16,7 +16,7 @@ pub(crate) struct FaultPlan {
 }
 
 impl Model for FaultPlan {
-    ghost use Rattle.run_io.specs.Told.{Plan};
+    ghost use Rattle.run_io.specs.Plan.{Plan};
 
     ghost Value = { Plan };
 
@@ -24,7 +24,7 @@ impl Model for FaultPlan {
 }
 
 impl FaultPlan {
-    ghost use Rattle.run_io.specs.Told.{IsNextListed, CountsCall};
+    ghost use Rattle.run_io.specs.Plan.{IsNextListed, CountsCall};
 
     pub(crate) fn new(fails: Vec<u32>) -> Self
         ensures faults { result.faults ≡ 0 }
@@ -47,7 +47,7 @@ impl FaultPlan {
         let number = self.calls.saturating_add(1);
         self.calls = number;
         if is_listed(&self.fails, number) {
-            return Err(self.faults.count());
+            return Err(self.faults.raise());
         }
         Ok(())
     }
@@ -59,7 +59,7 @@ impl FaultPlan {
         ensures calls { self.new.calls ≡ self.old.calls }
         ensures fails { self.new.fails ≡ self.old.fails }
     {
-        self.faults.count()
+        self.faults.raise()
     }
 }
 

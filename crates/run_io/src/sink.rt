@@ -2,7 +2,7 @@
 
 ghost use Rattle.std.specs.Prelude.{◌≡◌, ◌≤◌, ◌<◌, ◌+◌, ℕ, List, Option, OnErr, OnOk, IfOk, IsOk, length, take};
 ghost use Rattle.run_io.specs.Faults.{HasCause};
-ghost use Rattle.run_io.specs.Sinks.{Adds, AddsPrefix};
+ghost use Rattle.run_io.specs.Sink.{Adds, AddsPrefix};
 
 use crate::failed::Failed;
 

@@ -2,7 +2,7 @@
 
 ghost use Rattle.std.specs.Prelude.{◌≡◌, ◌≤◌, ◌<◌, ◌↔◌, ℕ, List, [], Option, Some, OnErr, OnOk, IfOk, IfSome, length, take, drop, option_map, string_bytes};
 ghost use Rattle.run_io.specs.Faults.{HasCause, one_more};
-ghost use Rattle.run_io.specs.Sources.{Moves, next_left, after_next, with_name};
+ghost use Rattle.run_io.specs.Source.{Moves, next_left, after_next, with_name};
 
 use crate::failed::Failed;
 

@@ -49,7 +49,7 @@ impl Source for SureSource {
     ghost names = { λ s. Some s.names };
 
     fn begin(&mut self, name: String) -> Result<(), Failed> {
-        self.feed.count(name);
+        self.feed.count_begin(name);
         self.feed.open();
         Ok(())
     }

@@ -2,7 +2,7 @@
 use Rattle.std.proofs.Common.{◌≡◌, ◌+◌, ◌-◌, ◌++◌, ℕ, List, length, take, drop, arith, ◌∙◌}
 use Rattle.std.proofs.Math.Seq.{take-add}
 use Rattle.std.proofs.lemmas.Grind.{common_steps}
-use Rattle.run_io.specs.Sinks.{Adds-then}
+use Rattle.run_io.specs.Sink.{Adds-then}
 use Rattle.run_io.proofs.sink.put_all.Goals as goal
 
 -- the first i + n elements: the first i, and then n of the rest

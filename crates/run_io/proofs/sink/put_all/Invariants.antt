@@ -1,6 +1,6 @@
 -- proofs/sink/put_all/Invariants.antt
 use Rattle.std.proofs.Common.{length, ◌-◌, ◌≡◌, ◌≤◌, ◌+◌, take}
-use Rattle.run_io.specs.Sinks.{Adds}
+use Rattle.run_io.specs.Sink.{Adds}
 use Rattle.run_io.proofs.sink.put_all.Given as goal
 
 -- what comes before `at` was added, with no fault
