@@ -13,6 +13,8 @@ mod sink;
 mod source;
 mod std_sink;
 mod sure_source;
+#[cfg(test)]
+mod tests;
 
 pub use failed::Failed;
 pub use file_source::FileSource;
