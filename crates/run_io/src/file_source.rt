@@ -1,6 +1,6 @@
 //! A source over a file of the system.
 
-ghost use Rattle.std.specs.Prelude.{◌≡◌, false};
+ghost use Rattle.std.specs.Prelude.{◌≡◌, None};
 
 use crate::failed::Failed;
 use crate::fault_count::FaultCount;
@@ -21,19 +21,18 @@ pub struct FileSource<'a, R: Files> {
 }
 
 impl<'a, R: Files> Model for FileSource<'a, R> {
-    ghost use Rattle.std.specs.Prelude.{is_some};
-    ghost use Rattle.run_io.specs.FileSource.{FileState};
+    ghost use Rattle.run_io.specs.FileSource.{OpenedFile};
 
-    ghost Value = { FileState };
+    ghost Value = { OpenedFile R.File };
 
-    ghost view = { λ s. record { faults = s.faults; opened = is_some s.file } };
+    ghost view = { λ s. record { faults = s.faults; file = s.file } };
 }
 
 impl<'a, R: Files> FileSource<'a, R> {
     /// A source without a file.
     pub fn new(rt: &'a R) -> Self
         ensures faults { result.faults ≡ 0 }
-        ensures opened { result.opened ≡ false }
+        ensures file { result.file ≡ None }
     {
         FileSource {
             rt,
@@ -44,7 +43,8 @@ impl<'a, R: Files> FileSource<'a, R> {
 }
 
 impl<R: Files> Source for FileSource<'_, R> {
-    ghost use Rattle.std.specs.Prelude.{◌≡◌, ◌≤◌, ◌<◌, true, false, None, Ok, OnErr, OnOk, IfOk, length};
+    ghost use Rattle.std.specs.Prelude.{◌≡◌, ◌≤◌, ◌<◌, None, Ok, IfNone, IfSome, IsSome, is_some, OnErr, OnOk, IfOk, length};
+    ghost use Rattle.std.specs.Io.KnownBytes.{ReadConsumes};
     ghost use Rattle.run_io.specs.Faults.{HasCause, one_more};
 
     ghost faults = { λ s. s.faults };
@@ -62,8 +62,8 @@ impl<R: Files> Source for FileSource<'_, R> {
         ensures cause { HasCause self.old.faults self.new.faults result }
         ensures raised { OnErr result (self.new.faults ≡ one_more self.old.faults) }
         ensures steady { OnOk result (self.new.faults ≡ self.old.faults) }
-        ensures opens { OnOk result (self.new.opened ≡ true) }
-        ensures err { OnErr result (self.new.opened ≡ self.old.opened) }
+        ensures opened { OnOk result (IsSome self.new.file) }
+        ensures err { OnErr result (self.new.file ≡ self.old.file) }
     {
         match fs::open(self.rt, name.as_str()) {
             Ok(file) => {
@@ -80,8 +80,10 @@ impl<R: Files> Source for FileSource<'_, R> {
         ensures raised { OnErr result (self.new.faults ≡ one_more self.old.faults) }
         ensures steady { OnOk result (self.new.faults ≡ self.old.faults) }
         ensures bound { IfOk result (λ n. n ≤ length buf.new) }
-        ensures before_begin { self.old.opened ≡ false → result ≡ Ok 0 }
-        ensures opened { self.new.opened ≡ self.old.opened }
+        ensures before_begin { IfNone self.old.file (result ≡ Ok 0) }
+        ensures file { is_some self.new.file ≡ is_some self.old.file }
+        ensures read { IfSome self.old.file (λ old. IfSome self.new.file (λ new.
+            ReadConsumes (R.File.remaining old) (R.File.remaining new) result buf.new)) }
     {
         let Some(file) = &mut self.file else {
             return Ok(0);
