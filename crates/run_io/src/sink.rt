@@ -33,6 +33,7 @@ pub trait Sink {
 }
 
 /// Writes all bytes, in as many writes as the sink needs, and stops at the first fault.
+#[tactic(auto, using(crate::proofs::SinkLemmas::adds_next))]
 pub fn put_all<K: Sink>(sink: &mut K, bytes: &[u8]) -> Result<(), Failed>
     ensures cause { HasCause (K.faults sink.old) (K.faults sink.new) result }
     ensures steady { OnOk result (K.faults sink.new ≡ K.faults sink.old) }
