@@ -23,7 +23,8 @@ abbrev mutual
 
   pub links_of : {m : _} → Row_of-Link m → Links
   links_of end_of-Link = no_link
-  links_of (more_of-Link operator operand rest) = a_link operator (expression_of operand) (links_of rest)
+  links_of (more_of-Link operator operand rest) =
+      a_link operator (expression_of operand) (links_of rest)
 
   pub expressions_of : {m : _} → Row_of-Expr m → Expressions
   expressions_of end_of-Expr = no_expr

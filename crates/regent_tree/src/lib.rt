@@ -6,12 +6,15 @@
 #![tactic(auto)]
 
 mod expression;
+mod facts;
+pub mod invariants;
 mod outcome;
 mod program;
 mod statement;
 mod types;
 
 pub use expression::{Arithmetic, Comparison, Expr, Link, Operator, Sign, Step};
+pub use facts::{Colour, Known, Term};
 pub use lane_kernels::{FieldKind, Mode, Op, Width};
 pub use outcome::{Ending, Fault, FaultKind, Outcome, RootImage};
 pub use plain_values::{Sequence, Shared};
