@@ -39,6 +39,7 @@ mark_only m (symbol.Name n) h = absurd cc
 mark_only m (symbol.Number v w) h = absurd cc
 mark_only m (symbol.Text n) h = absurd cc
 mark_only m (symbol.Word n) h = absurd cc
+mark_only m symbol.Unknown h = absurd cc
 
 pub mark_tests : (m : Mark) → Tests (symbol.Mark m) (same_mark m)
 mark_tests m = record { only = mark_only m; passes = true_same mark_contract.the_type m m refl }
@@ -49,6 +50,7 @@ word_only w (symbol.Name n) h = absurd cc
 word_only w (symbol.Number v k) h = absurd cc
 word_only w (symbol.Text n) h = absurd cc
 word_only w (symbol.Mark n) h = absurd cc
+word_only w symbol.Unknown h = absurd cc
 
 pub word_tests : (w : Word) → Tests (symbol.Word w) (same_word w)
 word_tests w = record { only = word_only w; passes = true_same word_contract.the_type w w refl }
@@ -59,6 +61,7 @@ name_only n (symbol.Number v w) h = absurd cc
 name_only n (symbol.Text k) h = absurd cc
 name_only n (symbol.Word k) h = absurd cc
 name_only n (symbol.Mark k) h = absurd cc
+name_only n symbol.Unknown h = absurd cc
 
 pub name_tests : (n : List ℕ) → Tests (symbol.Name n) (same_name n)
 name_tests n = record { only = name_only n; passes = (bytes_eq-Decides n n).1 refl }
@@ -101,6 +104,7 @@ named_on t ts (symbol.Number v w) h = holds_stuck
 named_on t ts (symbol.Text n) h = holds_stuck
 named_on t ts (symbol.Word n) h = holds_stuck
 named_on t ts (symbol.Mark n) h = holds_stuck
+named_on t ts symbol.Unknown h = holds_stuck
 
 pub named_sound : (ts : List Lexeme) → Holds (λ name rest. IsNamed ts name rest) (a_named ts)
 unfolding a_named
@@ -117,6 +121,7 @@ quoted_on t ts (symbol.Name n) h = holds_stuck
 quoted_on t ts (symbol.Number v w) h = holds_stuck
 quoted_on t ts (symbol.Word n) h = holds_stuck
 quoted_on t ts (symbol.Mark n) h = holds_stuck
+quoted_on t ts symbol.Unknown h = holds_stuck
 
 pub quoted_sound : (ts : List Lexeme) → Holds (λ bytes rest. IsQuoted ts bytes rest) (a_quoted ts)
 unfolding a_quoted

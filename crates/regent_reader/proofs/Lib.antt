@@ -4,3 +4,5 @@ pub mod SumLaws
 pub mod StatementLaws
 pub mod ProgramLaws
 pub mod NodeLaws
+pub mod LexemeLaws
+pub mod SpellingLaws

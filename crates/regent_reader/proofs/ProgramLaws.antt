@@ -148,7 +148,7 @@ start_complete (a_start {t = t} h p) = rw (passes_at _ t.symbol (same_word word.
 -- ---- programs
 
 -- what is left is nothing, and the lexemes make this tree
-abbrev Makes : List Lexeme → Tree → List Lexeme → Type 0
+abbrev pub Makes : List Lexeme → Tree → List Lexeme → Type 0
 Makes ts tree rest = IsProgram ts tree
 
 end_holds : (ts : List Lexeme) (tree : Tree) (rest : List Lexeme) → (rest ≡ [] → IsProgram ts tree) → Holds (Makes ts) (at_end tree rest)

@@ -1,3 +1,5 @@
+pub mod Lexemes
+pub mod Spelling
 pub mod Symbols
 pub mod Grammar
 pub mod Nodes

@@ -89,7 +89,8 @@ pub enum Mark {
 }
 
 /// What a token spells: a name's bytes, a number with the width of its type, the bytes that a string
-/// stands for, or a word or sign of the language.
+/// stands for, or a word or sign of the language. `Unknown` is a word or sign that isn't in the tables;
+/// no text has one.
 #[derive(Debug, PartialEq, Eq, Drop)]
 pub enum Symbol {
     Name(Name),
@@ -97,6 +98,7 @@ pub enum Symbol {
     Text(Sequence<u8>),
     Word(Word),
     Mark(Mark),
+    Unknown,
 }
 
 /// A token with what it spells, and its line.
