@@ -9,7 +9,7 @@ use Rattle.regent_tree.specs.declared.program.Item.{Item}
 use Rattle.regent_tree.specs.declared.program.ItemKind.{ItemKind}
 use Rattle.regent_tree.specs.declared.program.ItemKind.TheVariants as kind
 use Rattle.regent_tree.specs.declared.program.Program.{Program}
-use Rattle.regent_tree.specs.Syntax.{a_statement, Form, var_form, if_form, while_form, for_in_form, for_to_form, do_form, fill_form, assert_form, print_form, call_form, assign_form, return_form, Block, no_statement, then_statement, Arms, no_arm, an_arm, Otherwise, no_else, else_block, TaskTree, ItemForm, import_item, alias_item, space_item, task_item, start_item, Tree}
+use Rattle.regent_tree.specs.Syntax.{a_statement, Form, var_form, if_form, while_form, for_in_form, for_to_form, do_form, fill_form, assert_form, print_form, call_form, assign_form, return_form, Block, no_statement, then_statement, Arms, no_arm, an_arm, Otherwise, no_else, else_block, TaskTree, ItemForm, import_item, alias_item, space_item, task_item, start_item, ItemTree, Tree}
 use Rattle.regent_tree.specs.Plain.{expression_of, expressions_in, steps_in, start_of}
 
 abbrev mutual
@@ -65,5 +65,8 @@ item_of (kind.Space space) = space_item space
 item_of (kind.Task task) = task_item (task_of task)
 item_of (kind.Start name) = start_item name
 
+abbrev pub item_tree_of : Item → ItemTree
+item_tree_of i = record { line = i.line; form = item_of i.what }
+
 abbrev pub tree_of : Program → Tree
-tree_of p = map (λ (i : Item). record { line = i.line; form = item_of i.what }) p.items.items
+tree_of p = map item_tree_of p.items.items

@@ -97,3 +97,30 @@ pub enum Expr {
         size: Box<Expr>,
     },
 }
+
+impl Expr {
+    ghost use Rattle.std.specs.Prelude.{◌≡◌};
+    ghost use Rattle.regent_tree.specs.Plain.{expression_of, links_in, expressions_in, steps_in};
+    ghost use Rattle.regent_tree.specs.Syntax.{access_expr, call_expr, chain_expr};
+
+    /// A chain of a first member and further ones.
+    pub fn chain(first: Box<Expr>, rest: Vec<Link>) -> Expr
+        ensures { expression_of result ≡ chain_expr (expression_of first.value) (links_in rest.items) }
+    {
+        Expr::Chain { first, rest }
+    }
+
+    /// A call of a task.
+    pub fn call(task: Name, args: Vec<Expr>) -> Expr
+        ensures { expression_of result ≡ call_expr task (expressions_in args.items) }
+    {
+        Expr::Call { task, args }
+    }
+
+    /// A name with steps behind it.
+    pub fn access(name: Name, steps: Vec<Step>) -> Expr
+        ensures { expression_of result ≡ access_expr name (steps_in steps.items) }
+    {
+        Expr::Access { name, steps }
+    }
+}

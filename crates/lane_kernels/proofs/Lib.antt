@@ -1,0 +1,3 @@
+pub mod Operators
+mod Products
+pub mod Wraps

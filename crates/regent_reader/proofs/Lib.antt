@@ -1,0 +1,8 @@
+pub mod Holds
+pub mod Repeated
+pub mod SumLaws
+pub mod StatementLaws
+pub mod ProgramLaws
+pub mod NodeLaws
+pub mod LexemeLaws
+pub mod SpellingLaws

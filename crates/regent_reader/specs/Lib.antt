@@ -1,0 +1,6 @@
+pub mod Lexemes
+pub mod Spelling
+pub mod Symbols
+pub mod Grammar
+pub mod Nodes
+pub mod Reading

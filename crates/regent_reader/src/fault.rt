@@ -1,0 +1,45 @@
+//! Why a text is no program.
+
+use regent_lex::LexKind;
+use std::alloc::{AllocError, AllocFailed};
+use thiserror::Error;
+
+/// Why a text is no program. The causes are tested in this order.
+#[derive(Debug, Drop, Error)]
+pub enum ReadFault {
+    /// The text has more than 1,048,576 bytes.
+    #[error("the text is too long")]
+    TooLong,
+    /// The text has no tokens.
+    #[error("line {line}: {kind}")]
+    Lex { kind: LexKind, line: u32 },
+    /// The tokens are no program. The line is that of the first token at which no production goes on,
+    /// or of the text's end.
+    #[error("line {line}: no program goes on here")]
+    NoProgram { line: u32 },
+    #[error(transparent)]
+    Memory(AllocError),
+}
+
+impl From<AllocError> for ReadFault {
+    ghost use Rattle.std.specs.Prelude.{◌≡◌};
+    ghost use Rattle.regent_reader.specs.declared.fault.ReadFault.TheVariants.{Memory};
+
+    ghost from_gives = { λ error fault. fault ≡ Memory error };
+
+    fn from(error: AllocError) -> ReadFault {
+        ReadFault::Memory(error)
+    }
+}
+
+impl<T: Drop> From<AllocFailed<T>> for ReadFault {
+    ghost use Rattle.std.specs.Prelude.{◌≡◌, alloc_error};
+    ghost use Rattle.regent_reader.specs.declared.fault.ReadFault.TheVariants.{Memory};
+
+    ghost from_gives = { λ _ fault. fault ≡ Memory alloc_error };
+
+    fn from(failed: AllocFailed<T>) -> ReadFault {
+        ReadFault::Memory(AllocError::from(failed))
+    }
+}
+
