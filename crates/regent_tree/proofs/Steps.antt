@@ -11,7 +11,7 @@ use Rattle.regent_tree.specs.Syntax.{Name}
 use Rattle.regent_tree.specs.Sets.{has}
 use Rattle.regent_tree.specs.Values.{Value, a_number, a_truth, an_index, a_pointer, a_space, a_region, a_partition, Target, null_target, point_target, Region, Partition}
 use Rattle.regent_tree.specs.Store.{Store, Touch}
-use Rattle.regent_tree.specs.StaticTypes.{StaticType, integer_type, truth_type, index_type, pointer_type, ispace_type, region_type, partition_type, no_type}
+use Rattle.regent_tree.specs.StaticTypes.{StaticType, integer_type, truth_type, index_type, pointer_type, ispace_type, region_type, partition_type, no_type, unknown_type}
 use Rattle.regent_tree.specs.Running.{State, Here, Run, Result, gives, fails, Called, came_back, broke, given, and_then, ◌>>=◌, state, fault, if_true, pay_from, pay, touch, touch_at}
 use Rattle.regent_tree.specs.Accesses.{standing, standing_target, converted, regions_written, Aim, hits, misses, aimed, read_field, take_field, take_child, take_point, take_element}
 use Rattle.regent_tree.specs.Operators.{operand, unless_divided, arithmetic, combined, space_of_size}
@@ -101,6 +101,7 @@ module _ {Good : Store → Store → Type 0} {R : State → State → Type 0} (l
   converted_kept h from (region_type k sp args r) regions v = given_kept _
   converted_kept h from (partition_type d r p) regions v = given_kept _
   converted_kept h from no_type regions v = given_kept _
+  converted_kept h from unknown_type regions v = given_kept _
 
   pub written_kept : (h : Here) (t : PointerTerm) → Kept R (regions_written h t)
   written_kept h t = record { all = λ s. law.same s }

@@ -3,8 +3,7 @@ use Rattle.std.specs.Prelude.{ℕ, List, length, get_or, Bool, true, false, ◌&
 use Rattle.std.specs.List.{list_any}
 use Rattle.lane_kernels.specs.declared.numbers.Mode.{Mode}
 use Rattle.lane_kernels.specs.declared.numbers.Mode.TheVariants as mode
-use Rattle.lane_kernels.specs.declared.numbers.Op.{Op}
-use Rattle.lane_kernels.specs.declared.numbers.Op.TheVariants.{Sum, Product, Least, Greatest}
+use Rattle.lane_kernels.specs.Modes.{same_op}
 use Rattle.regent_tree.specs.declared.program.Clause.{Clause}
 use Rattle.regent_tree.specs.declared.program.Clause.TheVariants as clause
 use Rattle.regent_tree.specs.declared.program.Grant.{Grant}
@@ -16,13 +15,6 @@ use Rattle.regent_tree.specs.Sets.{has}
 use Rattle.regent_tree.specs.Values.{Value, a_truth, Region, region_of}
 use Rattle.regent_tree.specs.Store.{Store, no_root, Touch}
 use Rattle.regent_tree.specs.StaticTypes.{place_in, field_place}
-
-abbrev pub same_op : Op → Op → Bool
-same_op Sum Sum = true
-same_op Product Product = true
-same_op Least Least = true
-same_op Greatest Greatest = true
-same_op _ _ = false
 
 -- whether a privilege is for this access
 abbrev pub is_for : Mode → Grant → Bool

@@ -8,7 +8,7 @@ use Rattle.regent_tree.specs.declared.outcome.FaultKind.TheVariants.{AssertFaile
 use Rattle.regent_tree.specs.declared.statement.How.{How}
 use Rattle.regent_tree.specs.declared.statement.How.TheVariants as how
 use Rattle.regent_tree.specs.Syntax.{Name, Expression, access_expr, Steps, no_step, field_step, at_step, a_statement, Form, var_form, if_form, while_form, for_in_form, for_to_form, do_form, fill_form, assert_form, print_form, call_form, assign_form, return_form, Block, no_statement, then_statement, Arms, no_arm, an_arm, Otherwise, no_else, else_block}
-use Rattle.regent_tree.specs.Widths.{wrapped, applied}
+use Rattle.lane_kernels.specs.Numbers.{wrapped, applied}
 use Rattle.regent_tree.specs.Numbers.{distance}
 use Rattle.regent_tree.specs.Values.{Value, a_number, a_truth, an_index, a_pointer, a_space, a_region, point_target, Region, truth_of, number_of, region_of, regions_of, width_of, kept, meant}
 use Rattle.regent_tree.specs.Store.{read_at, write_at, write_all, touch_all}

@@ -4,7 +4,6 @@ pub mod PlainProgram
 pub mod Facts
 pub mod Sets
 pub mod Partitions
-pub mod Widths
 pub mod Numbers
 pub mod Values
 pub mod Store

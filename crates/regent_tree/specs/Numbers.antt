@@ -7,7 +7,7 @@ use Rattle.regent_tree.specs.declared.expression.Arithmetic.{Arithmetic}
 use Rattle.regent_tree.specs.declared.expression.Arithmetic.TheVariants.{Add, Subtract, Multiply, Divide, Remainder}
 use Rattle.regent_tree.specs.declared.expression.Comparison.{Comparison}
 use Rattle.regent_tree.specs.declared.expression.Comparison.TheVariants.{Equal, NotEqual, Less, AtMost, Greater, AtLeast}
-use Rattle.regent_tree.specs.Widths.{wrapped}
+use Rattle.lane_kernels.specs.Numbers.{wrapped}
 
 -- the wider of two widths
 abbrev pub wider : Width → Width → Width

@@ -13,7 +13,7 @@ use Rattle.regent_tree.specs.declared.outcome.FaultKind.TheVariants.{DivideByZer
 use Rattle.regent_tree.specs.declared.types.NumberTerm.{NumberTerm}
 use Rattle.regent_tree.specs.declared.types.NumberTerm.TheVariants as number
 use Rattle.regent_tree.specs.Partitions.{minus_sets, minus_flag}
-use Rattle.regent_tree.specs.Widths.{wrapped}
+use Rattle.lane_kernels.specs.Numbers.{wrapped}
 use Rattle.regent_tree.specs.Numbers.{wider, computed, compared}
 use Rattle.regent_tree.specs.Values.{Value, a_number, a_truth, an_index, a_pointer, a_space, a_partition, Target, null_target, point_target, Region, Partition, truth_of, number_of, partition_of, target_of, same_target, first_holding, kept}
 use Rattle.regent_tree.specs.Running.{Here, Run, given, fault, if_true}

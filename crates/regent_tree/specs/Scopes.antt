@@ -9,7 +9,7 @@ use Rattle.regent_tree.specs.declared.program.Clause.{Clause}
 use Rattle.regent_tree.specs.declared.program.Clause.TheVariants as clause
 use Rattle.regent_tree.specs.declared.types.Param.{Param}
 use Rattle.regent_tree.specs.Syntax.{Name, Tree, TaskTree}
-use Rattle.regent_tree.specs.StaticTypes.{StaticType, partition_type, no_type, Looking, among_params, place_in, type_said}
+use Rattle.regent_tree.specs.StaticTypes.{StaticType, partition_type, unknown_type, Looking, among_params, place_in, type_said}
 
 -- A name that is bound. Its number is that of the binding, which is never used again within the
 -- task; its place is where its value stands among those of the names in scope.
@@ -27,7 +27,7 @@ pub record Scope : Type 0 where
   pub next : ℕ
 
 abbrev pub unbound : Bound
-unbound = record { name = []; number = 0; place = 0; type = no_type; loop = false }
+unbound = record { name = []; number = 0; place = 0; type = unknown_type; loop = false }
 
 -- what a name is bound to
 abbrev pub bound_to : List Bound → Name → Bound

@@ -25,7 +25,8 @@ Reach = Option Term
 
 -- A static type. A field space is named by its place among the program's, a partition and its
 -- parent by the numbers of their bindings. A pointer type has its field space's arguments and its
--- own list of regions; a region type has the term that the region is.
+-- own list of regions; a region type has the term that the region is. A call of a task without a
+-- result has no type; what a breach of the rules leaves without one has an unknown type.
 pub data StaticType : Type 0 where
   integer_type : Width → StaticType
   truth_type : StaticType
@@ -35,6 +36,7 @@ pub data StaticType : Type 0 where
   region_type : Kind → ℕ → List Reach → Term → StaticType
   partition_type : Bool → ℕ → ℕ → StaticType
   no_type : StaticType
+  unknown_type : StaticType
 
 -- ---- parts of a program
 

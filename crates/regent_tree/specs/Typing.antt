@@ -19,7 +19,7 @@ use Rattle.regent_tree.specs.Syntax.{Name, Expression, number_expr, truth_expr, 
 use Rattle.regent_tree.specs.Numbers.{wider}
 use Rattle.regent_tree.specs.Facts.{is_subregion}
 use Rattle.regent_tree.specs.Partitions.{equal_flag, by_field_flag, image_flag, preimage_flag, both_flag, either_flag}
-use Rattle.regent_tree.specs.StaticTypes.{StaticType, integer_type, truth_type, index_type, pointer_type, ispace_type, region_type, partition_type, no_type, Reach, looked_up, number_type, written_pointer, type_said, field_type, place_of_space, task_named}
+use Rattle.regent_tree.specs.StaticTypes.{StaticType, integer_type, truth_type, index_type, pointer_type, ispace_type, region_type, partition_type, no_type, unknown_type, Reach, looked_up, number_type, written_pointer, type_said, field_type, place_of_space, task_named}
 use Rattle.regent_tree.specs.Scopes.{Bound, Scope, bound_to, bound_as, with_name, knowing, past, in_scope, known_of_type, scope_of}
 
 -- ---- operators
@@ -74,20 +74,20 @@ colour_of s _ = Unknown
 -- the type of a child: a region as its partition's parent is
 abbrev pub child_type : StaticType → Term → StaticType
 child_type (region_type k s args r) t = region_type k s args t
-child_type _ t = no_type
+child_type _ t = unknown_type
 
 -- the type of `x.f` by the type of x: of a pointer its field's, of a partition its colours'
 abbrev pub type_of_field : Tree → StaticType → Name → StaticType
 type_of_field tree (pointer_type k s args regions) f = field_type tree s args f
 type_of_field tree (partition_type d r p) f = ispace_type Int1d
-type_of_field tree _ f = no_type
+type_of_field tree _ f = unknown_type
 
 -- the type of `x[e]` by the type of x: of a region a pointer into it, of a partition a child
 abbrev pub type_of_element : Scope → StaticType → Expression → StaticType
 type_of_element s (region_type k sp args r) e = pointer_type k sp args (Some r ∷ [])
 type_of_element s (partition_type d r p) e =
     child_type (bound_as s.names r).type (term.Child p (colour_of s e))
-type_of_element s _ e = no_type
+type_of_element s _ e = unknown_type
 
 -- the type after the steps of an access
 abbrev pub stepped_type : Tree → Scope → StaticType → Steps → StaticType
@@ -199,7 +199,7 @@ start_type tree s own (plain_start e) = owned own (type_of tree s e)
 abbrev pub var_type : Tree → Scope → Option TypeTerm → Option Start → StaticType
 var_type tree s (Some t) start = type_said tree (in_scope s) s.next t
 var_type tree s None (Some start) = start_type tree s s.next start
-var_type tree s None None = no_type
+var_type tree s None None = unknown_type
 
 -- what a start value tells: `var s = p[k]` lies within p[k], and `var r = region(..)` was made
 abbrev pub known_of_child_term : ℕ → Term → List Known
@@ -219,7 +219,7 @@ known_of_start tree s own _ = []
 abbrev pub taken_from : StaticType → StaticType
 taken_from (region_type k s args r) = pointer_type k s args (Some r ∷ [])
 taken_from (ispace_type k) = index_type k
-taken_from _ = no_type
+taken_from _ = unknown_type
 
 -- ---- the scope after a statement, and after blocks
 
@@ -262,7 +262,7 @@ reach_of _ = None
 -- a region that a parameter's type names, read with the types of a call's arguments
 abbrev pub put : List StaticType → Reach → Reach
 put types None = None
-put types (Some t) = reach_of (get_or types (binding_of_param t) no_type)
+put types (Some t) = reach_of (get_or types (binding_of_param t) unknown_type)
   where
     binding_of_param : Term → ℕ
     binding_of_param (term.Name i) = i
