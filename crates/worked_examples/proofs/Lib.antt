@@ -1,6 +1,8 @@
 pub mod Numbers
 pub mod Reductions
 pub mod Partitions
+pub mod Images
+pub mod Statements
 pub mod Calls
 pub mod Pointers
 pub mod Limits

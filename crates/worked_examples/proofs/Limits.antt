@@ -1,7 +1,7 @@
 use Rattle.std.specs.Prelude.{refl}
 use Rattle.std.specs.Int.{int_wrap}
 use Rattle.std.specs.Fmt.{digits}
-use Rattle.worked_examples.specs.Limits.{turns_enough_means, turns_spent_means, calls_too_deep_means, greatest_space_means, space_too_large_means}
+use Rattle.worked_examples.specs.Limits.{turns_enough_means, turns_spent_means, arguments_first_means, calls_too_deep_means, greatest_space_means, space_too_large_means}
 
 pub turns_enough_holds : turns_enough_means
 unfolding int_wrap digits
@@ -10,6 +10,10 @@ turns_enough_holds = refl
 pub turns_spent_holds : turns_spent_means
 unfolding int_wrap digits
 turns_spent_holds = refl
+
+pub arguments_first_holds : arguments_first_means
+unfolding int_wrap digits
+arguments_first_holds = refl
 
 pub calls_too_deep_holds : calls_too_deep_means
 unfolding int_wrap digits

@@ -1,7 +1,10 @@
 pub mod Words
+pub mod Regions
 pub mod Numbers
 pub mod Reductions
 pub mod Partitions
+pub mod Images
+pub mod Statements
 pub mod Calls
 pub mod Pointers
 pub mod Limits

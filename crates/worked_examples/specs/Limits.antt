@@ -1,9 +1,10 @@
 -- Turns, depth and sizes.
 use Rattle.std.specs.Prelude.{◌≡◌, [], ◌∷◌}
 use Rattle.regent_tree.specs.declared.outcome.FaultKind.TheVariants.{Turns, Depth, BadSize}
+use Rattle.regent_tree.specs.declared.types.NumberTerm.TheVariants.{Int64}
 use Rattle.regent_tree.specs.Syntax.{Tree}
 use Rattle.regent_tree.specs.Meaning.{meaning}
-use Rattle.worked_examples.specs.Words.{int, space, line, var, print, call, count, item, task, prints, faults}
+use Rattle.worked_examples.specs.Words.{int, space, call_of, number, param, line, var, print, call, give, count, item, task, task_giving, prints, faults}
 
 -- As many turns as a loop takes:
 --     task main()
@@ -28,6 +29,29 @@ turns_spent_program =
 abbrev pub turns_spent_means : Type 0
 turns_spent_means =
     meaning turns_spent_program [] 4 ≡ faults "" Turns 2
+
+-- A call whose argument takes the last turn:
+--     task u() : int64
+--       regentlib.c.printf("u")
+--       return 1
+--     end
+--     task t(k : int64)
+--       regentlib.c.printf("t")
+--     end
+--     task main()
+--       t(u())
+--     end
+abbrev pub arguments_first_program : Tree
+arguments_first_program =
+    item 1
+    (task_giving (number Int64) "u" [] [] (line 2 (print "u" []) ∷ line 3 (give (int 1)) ∷ []))
+    ∷ item 5 (task "t" (param 5 "k" (number Int64) ∷ []) [] (line 6 (print "t" []) ∷ []))
+    ∷ item 8 (task "main" [] [] (line 9 (call "t" (call_of "u" [] ∷ [])) ∷ []))
+    ∷ []
+
+abbrev pub arguments_first_means : Type 0
+arguments_first_means =
+    meaning arguments_first_program [] 1 ≡ faults "u" Turns 9
 
 -- A task that calls itself without an end:
 --     task d()

@@ -69,6 +69,51 @@ abbrev pub outside_region_means : Type 0
 outside_region_means =
     meaning outside_region_program [] 1000000 ≡ faults "6" OutOfRegion 8
 
+-- The least position at which a region of a list holds a pointer:
+--     fspace f { x : int64 }
+--     fspace g(a : region(ispace(int1d), f), b : region(ispace(int1d), f)) {
+--       to : int1d(f, a, b)
+--     }
+--     task main()
+--       var r = region(ispace(int1d, 3), f)
+--       var p = partition(equal, r, ispace(int1d, 2))
+--       var s = p[1]
+--       var v = region(ispace(int1d, 2), g(s, r))
+--       var w = region(ispace(int1d, 1), g(r, s))
+--       v[0].to = s[2]
+--       v[1].to = r[0]
+--       w[0].to = s[2]
+--     end
+abbrev pub positions_program : Tree
+positions_program =
+    item 1 (field_space "f" [] (param 1 "x" (number Int64) ∷ []))
+    ∷ item 2
+    (field_space "g"
+    (param 2 "a" (region (space_of "f" [])) ∷ param 2 "b" (region (space_of "f" [])) ∷ [])
+    (param 3 "to" (points_into (pointer (space_of "f" []) (ref "a" ∷ ref "b" ∷ []))) ∷ []))
+    ∷ item 5
+    (task "main" [] []
+    (line 6 (var_from "r" (new_region (space (int 3)) (space_of "f" [])))
+    ∷ line 7 (var_from "p" (equal "r" (space (int 2))))
+    ∷ line 8 (var "s" (access "p" (at (int 1) ∷ [])))
+    ∷ line 9
+    (var_from "v" (new_region (space (int 2)) (space_of "g" (ref "s" ∷ ref "r" ∷ []))))
+    ∷ line 10
+    (var_from "w" (new_region (space (int 1)) (space_of "g" (ref "r" ∷ ref "s" ∷ []))))
+    ∷ line 11 (set "v" (at (int 0) ∷ dot "to" ∷ []) (access "s" (at (int 2) ∷ [])))
+    ∷ line 12 (set "v" (at (int 1) ∷ dot "to" ∷ []) (access "r" (at (int 0) ∷ [])))
+    ∷ line 13 (set "w" (at (int 0) ∷ dot "to" ∷ []) (access "s" (at (int 2) ∷ [])))
+    ∷ []))
+    ∷ []
+
+abbrev pub positions_means : Type 0
+positions_means =
+    meaning positions_program [] 1000000 ≡ prints ""
+    (root 0 3 (naturals (0 ∷ 0 ∷ 0 ∷ []) ∷ [])
+    ∷ root 1 2 (naturals (4294967298 ∷ 8589934592 ∷ []) ∷ [])
+    ∷ root 1 1 (naturals (4294967298 ∷ []) ∷ [])
+    ∷ [])
+
 -- Wires between nodes, with pointers, privileges and a constraint:
 --     local c = regentlib.c
 --     fspace node { c : int64, q : int64 }

@@ -1,11 +1,13 @@
 -- Shorthand for the trees of the examples and for what is said of them.
-use Rattle.std.specs.Prelude.{ℕ, ℤ, pos, neg_ℤ, List, [], ◌∷◌, map, false, Some, None, codes}
+use Rattle.std.specs.Prelude.{ℕ, ℤ, pos, neg_ℤ, List, [], ◌∷◌, map, Bool, false, Some, None, codes}
 use Prim.Native.String.{String}
 use Rattle.lane_kernels.specs.declared.numbers.Op.{Op}
 use Rattle.lane_kernels.specs.declared.numbers.Width.TheVariants.{W32, W64}
 use Rattle.regent_tree.specs.declared.expression.Arithmetic.{Arithmetic}
-use Rattle.regent_tree.specs.declared.expression.Operator.TheVariants.{Compute}
-use Rattle.regent_tree.specs.declared.expression.Sign.TheVariants.{Minus}
+use Rattle.regent_tree.specs.declared.expression.Comparison.{Comparison}
+use Rattle.regent_tree.specs.declared.expression.Operator.{Operator}
+use Rattle.regent_tree.specs.declared.expression.Operator.TheVariants.{Compare, Compute}
+use Rattle.regent_tree.specs.declared.expression.Sign.TheVariants.{Minus, Not}
 use Rattle.regent_tree.specs.declared.outcome.Ending.TheVariants.{Finished, Faulted}
 use Rattle.regent_tree.specs.declared.outcome.FaultKind.{FaultKind}
 use Rattle.regent_tree.specs.declared.outcome.Outcome.{Outcome}
@@ -24,7 +26,7 @@ use Rattle.regent_tree.specs.declared.types.Ref.TheVariants.{Named}
 use Rattle.regent_tree.specs.declared.types.SpaceUse.{SpaceUse}
 use Rattle.regent_tree.specs.declared.types.TypeTerm.{TypeTerm}
 use Rattle.regent_tree.specs.declared.types.TypeTerm.TheVariants as typed
-use Rattle.regent_tree.specs.Syntax.{Name, Expression, number_expr, chain_expr, prefix_expr, access_expr, space_expr, no_link, a_link, Expressions, no_expr, an_expr, Steps, no_step, field_step, at_step, Start, region_start, equal_start, by_field_start, image_start, preimage_start, either_start, plain_start, Statement, a_statement, Form, var_form, if_form, for_in_form, for_to_form, print_form, call_form, assign_form, Block, no_statement, then_statement, no_arm, an_arm, no_else, ItemForm, alias_item, space_item, task_item, start_item, ItemTree}
+use Rattle.regent_tree.specs.Syntax.{Name, Expression, number_expr, chain_expr, prefix_expr, call_expr, access_expr, space_expr, no_link, a_link, Expressions, no_expr, an_expr, Steps, no_step, field_step, at_step, Start, region_start, equal_start, by_field_start, image_start, preimage_start, both_start, either_start, plain_start, Statement, a_statement, Form, var_form, if_form, while_form, for_in_form, for_to_form, do_form, fill_form, print_form, call_form, assign_form, return_form, Block, no_statement, then_statement, Arms, no_arm, an_arm, no_else, else_block, ItemForm, alias_item, space_item, task_item, start_item, ItemTree}
 
 -- ---- expressions
 
@@ -54,6 +56,15 @@ access x ss = access_expr (codes x) (steps ss)
 abbrev pub calc : Expression → Arithmetic → Expression → Expression
 calc a o b = chain_expr a (a_link (Compute o) b no_link)
 
+abbrev pub compare : Expression → Comparison → Expression → Expression
+compare a c b = chain_expr a (a_link (Compare c) b no_link)
+
+abbrev pub connect : Expression → Operator → Expression → Expression
+connect a o b = chain_expr a (a_link o b no_link)
+
+abbrev pub negation : Expression → Expression
+negation e = prefix_expr (Not ∷ []) e
+
 abbrev pub minus : Expression → Expression
 minus e = prefix_expr (Minus ∷ []) e
 
@@ -63,6 +74,9 @@ space e = space_expr Int1d e
 abbrev pub args : List Expression → Expressions
 args [] = no_expr
 args (e ∷ es) = an_expr e (args es)
+
+abbrev pub call_of : String → List Expression → Expression
+call_of t es = call_expr (codes t) (args es)
 
 -- ---- types and clauses
 
@@ -83,6 +97,9 @@ pointer u rs = record { kind = Int1d; space = u; regions = rs }
 
 abbrev pub points_into : PointerTerm → TypeTerm
 points_into t = typed.Pointer t
+
+abbrev pub partition : Bool → String → TypeTerm
+partition disjoint r = typed.Partition disjoint (codes r) None
 
 abbrev pub param : ℕ → String → TypeTerm → Param
 param line x t = record { line = line; name = codes x; term = t }
@@ -136,6 +153,9 @@ image s p r f = image_start (codes s) (codes p) (codes r) (codes f)
 abbrev pub preimage : String → String → String → String → Start
 preimage s p r f = preimage_start (codes s) (codes p) (codes r) (codes f)
 
+abbrev pub both : String → String → Start
+both p q = both_start (codes p) (codes q)
+
 abbrev pub either : String → String → Start
 either p q = either_start (codes p) (codes q)
 
@@ -157,6 +177,29 @@ call t es = call_form (codes t) (args es)
 
 abbrev pub when : Expression → List Statement → Form
 when e ss = if_form (an_arm e (block ss) no_arm) no_else
+
+-- an arm of an `if`, before the arms behind it; and an `if` with an `else`
+abbrev pub arm : Expression → List Statement → Arms → Arms
+arm e ss rest = an_arm e (block ss) rest
+
+abbrev pub arms : List (Arms → Arms) → Arms
+arms [] = no_arm
+arms (a ∷ rest) = a (arms rest)
+
+abbrev pub choose : List (Arms → Arms) → List Statement → Form
+choose cases ss = if_form (arms cases) (else_block (block ss))
+
+abbrev pub repeat : Expression → List Statement → Form
+repeat e ss = while_form e (block ss)
+
+abbrev pub scope : List Statement → Form
+scope ss = do_form (block ss)
+
+abbrev pub fill : String → List String → Expression → Form
+fill r fs e = fill_form (codes r) (names fs) e
+
+abbrev pub give : Expression → Form
+give e = return_form (Some e)
 
 abbrev pub each : String → Expression → List Statement → Form
 each x e ss = for_in_form false (codes x) e (block ss)
@@ -183,6 +226,16 @@ task x ps cs ss = task_item (record {
   name = codes x;
   params = ps;
   result = None;
+  clauses = cs;
+  body = block ss;
+})
+
+abbrev pub task_giving :
+    TypeTerm → String → List Param → List Clause → List Statement → ItemForm
+task_giving t x ps cs ss = task_item (record {
+  name = codes x;
+  params = ps;
+  result = Some t;
   clauses = cs;
   body = block ss;
 })

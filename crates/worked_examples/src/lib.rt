@@ -6,10 +6,13 @@
 
 ghost use Rattle.worked_examples.specs.Numbers.{assignment_means, narrow_product_means, empty_task_means, signed_division_means, input_printed_means};
 ghost use Rattle.worked_examples.specs.Reductions.{reducing_calls_means, wrapping_reduction_means, least_lowered_means, least_kept_means, narrow_least_means};
-ghost use Rattle.worked_examples.specs.Partitions.{equal_sizes_means, sizes_by_field_means, preimage_of_colour_0_means, preimage_of_colour_1_means, neighbours_means, bad_colour_means};
+ghost use Rattle.worked_examples.specs.Partitions.{equal_sizes_means, sizes_by_field_means, set_operations_means, bad_colour_means};
+ghost use Rattle.worked_examples.specs.Images.{preimage_of_colour_0_means, preimage_of_colour_1_means, neighbours_means};
+ghost use Rattle.worked_examples.specs.Statements.{hidden_names_means, choices_means, early_stop_means, early_return_means, filled_means, false_assert_means};
 ghost use Rattle.worked_examples.specs.Calls.{writes_by_parts_means, overlapping_arguments_means, call_between_means, fault_in_loop_means, first_fault_means};
-ghost use Rattle.worked_examples.specs.Pointers.{null_pointer_means, outside_region_means, circuit_means};
-ghost use Rattle.worked_examples.specs.Limits.{turns_enough_means, turns_spent_means, calls_too_deep_means, greatest_space_means, space_too_large_means};
+ghost use Rattle.worked_examples.specs.Pointers.{null_pointer_means, outside_region_means, positions_means, circuit_means};
+ghost use Rattle.worked_examples.specs.Limits.{turns_enough_means, turns_spent_means, arguments_first_means, calls_too_deep_means, greatest_space_means, space_too_large_means};
+ghost use Rattle.worked_examples.specs.Regions.{siblings_means, told_late_means, unknown_child_means, cycle_means, apart_above_means, made_later_means};
 
 /// An assignment, and a number printed.
 #[tactic(auto, using(crate::proofs::Numbers::assignment_holds))]
@@ -83,28 +86,70 @@ pub fn sizes_by_field()
     ensures { sizes_by_field_means }
 {}
 
-/// A preimage of an equal partition with empty colours.
-#[tactic(auto, using(crate::proofs::Partitions::preimage_of_colour_0_holds))]
-pub fn preimage_of_colour_0()
-    ensures { preimage_of_colour_0_means }
-{}
-
-/// A preimage of an equal partition with empty colours.
-#[tactic(auto, using(crate::proofs::Partitions::preimage_of_colour_1_holds))]
-pub fn preimage_of_colour_1()
-    ensures { preimage_of_colour_1_means }
-{}
-
-/// An image of a field, and what a task reads through it.
-#[tactic(auto, using(crate::proofs::Partitions::neighbours_holds))]
-pub fn neighbours()
-    ensures { neighbours_means }
+/// The colours of a meet, a difference and a join.
+#[tactic(auto, using(crate::proofs::Partitions::set_operations_holds))]
+pub fn set_operations()
+    ensures { set_operations_means }
 {}
 
 /// A number that is no colour.
 #[tactic(auto, using(crate::proofs::Partitions::bad_colour_holds))]
 pub fn bad_colour()
     ensures { bad_colour_means }
+{}
+
+/// A preimage of an equal partition with empty colours.
+#[tactic(auto, using(crate::proofs::Images::preimage_of_colour_0_holds))]
+pub fn preimage_of_colour_0()
+    ensures { preimage_of_colour_0_means }
+{}
+
+/// A preimage of an equal partition with empty colours.
+#[tactic(auto, using(crate::proofs::Images::preimage_of_colour_1_holds))]
+pub fn preimage_of_colour_1()
+    ensures { preimage_of_colour_1_means }
+{}
+
+/// An image of a field, and what a task reads through it.
+#[tactic(auto, using(crate::proofs::Images::neighbours_holds))]
+pub fn neighbours()
+    ensures { neighbours_means }
+{}
+
+/// A name that hides an earlier one, in a block and after it.
+#[tactic(auto, using(crate::proofs::Statements::hidden_names_holds))]
+pub fn hidden_names()
+    ensures { hidden_names_means }
+{}
+
+/// A loop with a test, and a choice of three.
+#[tactic(auto, using(crate::proofs::Statements::choices_holds))]
+pub fn choices()
+    ensures { choices_means }
+{}
+
+/// A test that stops before a null pointer is used.
+#[tactic(auto, using(crate::proofs::Statements::early_stop_holds))]
+pub fn early_stop()
+    ensures { early_stop_means }
+{}
+
+/// A task that returns out of a loop.
+#[tactic(auto, using(crate::proofs::Statements::early_return_holds))]
+pub fn early_return()
+    ensures { early_return_means }
+{}
+
+/// A fill that wraps at the width of each field.
+#[tactic(auto, using(crate::proofs::Statements::filled_holds))]
+pub fn filled()
+    ensures { filled_means }
+{}
+
+/// An assert of what is false.
+#[tactic(auto, using(crate::proofs::Statements::false_assert_holds))]
+pub fn false_assert()
+    ensures { false_assert_means }
 {}
 
 /// Two calls that write the two halves of a region.
@@ -149,6 +194,12 @@ pub fn outside_region()
     ensures { outside_region_means }
 {}
 
+/// The least position at which a region of a list holds a pointer.
+#[tactic(auto, using(crate::proofs::Pointers::positions_holds))]
+pub fn positions()
+    ensures { positions_means }
+{}
+
 /// Wires between nodes, with pointers, privileges and a constraint.
 #[tactic(auto, using(crate::proofs::Pointers::circuit_holds))]
 pub fn circuit()
@@ -167,6 +218,12 @@ pub fn turns_spent()
     ensures { turns_spent_means }
 {}
 
+/// A call whose argument takes the last turn.
+#[tactic(auto, using(crate::proofs::Limits::arguments_first_holds))]
+pub fn arguments_first()
+    ensures { arguments_first_means }
+{}
+
 /// A task that calls itself without an end.
 #[tactic(auto, using(crate::proofs::Limits::calls_too_deep_holds))]
 pub fn calls_too_deep()
@@ -183,4 +240,34 @@ pub fn greatest_space()
 #[tactic(auto, using(crate::proofs::Limits::space_too_large_holds))]
 pub fn space_too_large()
     ensures { space_too_large_means }
+{}
+
+/// Children of a disjoint partition with different constants share no point.
+pub fn siblings()
+    ensures { siblings_means }
+{}
+
+/// A partition that is told of after a child was met, and one with two parents.
+pub fn told_late()
+    ensures { told_late_means }
+{}
+
+/// A child of an unknown colour is no answer.
+pub fn unknown_child()
+    ensures { unknown_child_means }
+{}
+
+/// Regions that lie within one another.
+pub fn cycle()
+    ensures { cycle_means }
+{}
+
+/// Regions below two that share no point.
+pub fn apart_above()
+    ensures { apart_above_means }
+{}
+
+/// A region that was made when another was bound.
+pub fn made_later()
+    ensures { made_later_means }
 {}
