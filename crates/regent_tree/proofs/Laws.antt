@@ -11,7 +11,7 @@ use Rattle.regent_tree.specs.Store.{Store}
 use Rattle.regent_tree.specs.Running.{State, Result, gives, fails, Called, came_back, broke, Calls}
 use Rattle.regent_tree.specs.Execution.{Going}
 use Rattle.regent_tree.specs.Meaning.{calls_at, ended, body_of, opening}
-use Rattle.regent_tree.specs.Laws.{Leaves, Answers, CallsAre, FewerTurns, TurnsNeverRise, Extends, MoreText, TextOnlyGrows, SameNames, ExpressionsKeepNames, shape_of, shapes, MoreRoots, SameRoots, RootsStay, CallsDropRoots}
+use Rattle.regent_tree.specs.Laws.{Leaves, Answers, CallsAre, FewerTurns, TurnsNeverRise, Extends, MoreText, TextOnlyGrows, MoreTouches, TouchesOnlyGrow, SameNames, ExpressionsKeepNames, shape_of, shapes, MoreRoots, SameRoots, RootsStay, CallsDropRoots}
 use Rattle.regent_tree.proofs.Steps.{Law}
 use Rattle.regent_tree.proofs.Expressions.{value_kept}
 use Rattle.regent_tree.proofs.Statements.{RunLaw, block_kept}
@@ -76,6 +76,26 @@ text_law = record {
 
 pub text_only_grows : TextOnlyGrows
 text_only_grows h b s = (block_kept text_law h (any_calls h.calls) b).all s
+
+-- ---- touches
+
+pub touches_law : RunLaw Anything MoreTouches
+touches_law = record {
+  law = record {
+    same = λ s. extends_equal s.touches s.touches refl;
+    through = λ s t u p q. extends_twice s.touches t.touches u.touches p q;
+    paid = λ s n e. extends_equal s.touches s.touches refl;
+    touched = λ s more. (more, refl);
+    printed = λ s more. extends_equal s.touches s.touches refl;
+    answered = λ s store g. extends_equal s.touches s.touches refl;
+  };
+  named = λ s names. extends_equal s.touches s.touches refl;
+  made = λ s r. extends_equal s.touches s.touches refl;
+  written = λ s root field point z. extends_equal s.touches s.touches refl;
+}
+
+pub touches_only_grow : TouchesOnlyGrow
+touches_only_grow h b s = (block_kept touches_law h (any_calls h.calls) b).all s
 
 -- ---- names
 

@@ -84,8 +84,9 @@ module _ {Good : Store → Store → Type 0} {R : State → State → Type 0} (r
   pub partition_kept : (h : Here) (n : Name) → Kept R (partition_named h n)
   partition_kept h n = record { all = λ s. rules.law.same s }
 
-  pub read_all_kept : (h : Here) (r : Region) (f : Name) → Kept R (read_all h r f)
-  read_all_kept h r f = record { all = λ s. rules.law.touched s _ }
+  pub read_all_kept : (h : Here) (t : StaticType) (r : Region) (f : Name) →
+      Kept R (read_all h t r f)
+  read_all_kept h t r f = record { all = λ s. rules.law.touched s _ }
 
   pub colours_kept : (h : Here) (v : Value) → Kept R (colours h v)
   colours_kept h v = choice_kept rules.law (nat_le (size_of v) 65536) _ _ (given_kept rules.law _)

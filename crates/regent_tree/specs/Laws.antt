@@ -41,6 +41,13 @@ MoreText s t = Extends s.text t.text
 abbrev pub TextOnlyGrows : Type 0
 TextOnlyGrows = (h : Here) (b : Block) (s : State) → Leaves MoreText s (exec_block h b s)
 
+-- the touches only grow
+abbrev pub MoreTouches : State → State → Type 0
+MoreTouches s t = Extends s.touches t.touches
+
+abbrev pub TouchesOnlyGrow : Type 0
+TouchesOnlyGrow = (h : Here) (b : Block) (s : State) → Leaves MoreTouches s (exec_block h b s)
+
 -- an expression leaves the values of the names as they are
 abbrev pub SameNames : State → State → Type 0
 SameNames s t = t.names ≡ s.names

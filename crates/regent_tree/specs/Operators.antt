@@ -101,7 +101,8 @@ abbrev pub space_of_size : Here → ℤ → Run Value
 space_of_size h (pos n) = if_true (nat_le n 4194304) (given (a_space n)) (fault h BadSize)
 space_of_size h (negsuc n) = fault h BadSize
 
--- the number that `dynamic_cast` looks for, of a pointer its point number; null stays null
+-- `dynamic_cast` of a pointer, which looks for its point number alone, and of any value; null stays
+-- null
 abbrev pub cast_target : List Region → Target → Target
 cast_target regions null_target = null_target
 cast_target regions (point_target n i) = first_holding 0 regions (pos n)

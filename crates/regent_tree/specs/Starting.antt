@@ -1,5 +1,5 @@
 -- Start values of variables: new regions, partitions, and expressions.
-use Rattle.std.specs.Prelude.{ℕ, ℤ, pos, List, [], ◌∷◌, ◌++◌, map, length, get_or, Bool, true, false, Option, Some, None, nat_le}
+use Rattle.std.specs.Prelude.{ℕ, ℤ, pos, List, [], ◌∷◌, ◌++◌, map, length, Bool, true, false, Option, Some, None, nat_le}
 use Rattle.lane_kernels.specs.declared.numbers.FieldKind.{FieldKind}
 use Rattle.lane_kernels.specs.declared.numbers.FieldKind.TheVariants.{Pointer}
 use Rattle.lane_kernels.specs.declared.numbers.Mode.TheVariants.{Read}
@@ -10,13 +10,13 @@ use Rattle.regent_tree.specs.declared.types.TypeTerm.{TypeTerm}
 use Rattle.regent_tree.specs.Syntax.{Name, Expression, Start, region_start, equal_start, by_field_start, image_start, preimage_start, both_start, either_start, plain_start}
 use Rattle.regent_tree.specs.Partitions.{equal_sets, by_field_sets, image_sets, preimage_sets, both_sets, either_sets, equal_flag, by_field_flag, image_flag, preimage_flag, both_flag, either_flag}
 use Rattle.regent_tree.specs.Values.{Value, a_number, a_truth, an_index, a_pointer, a_region, a_partition, null_target, Region, Partition, size_of, region_of, partition_of}
-use Rattle.regent_tree.specs.Store.{no_root, new_root, read_at, touch_all}
+use Rattle.regent_tree.specs.Store.{new_root, read_at, touch_all}
 use Rattle.regent_tree.specs.StaticTypes.{StaticType, integer_type, index_type, pointer_type, field_place, field_kind, field_kinds, place_of_space}
 use Rattle.regent_tree.specs.Scopes.{Scope}
 use Rattle.regent_tree.specs.Typing.{reaches_of}
 use Rattle.regent_tree.specs.Running.{Here, Run, given, ◌>>=◌, state, change, fault, if_true, touch}
-use Rattle.regent_tree.specs.Accesses.{converted, regions_reached}
-use Rattle.regent_tree.specs.Evaluation.{value, named_value, typed}
+use Rattle.regent_tree.specs.Accesses.{converted, regions_reached, space_in}
+use Rattle.regent_tree.specs.Evaluation.{value, named_value, type_named, typed}
 
 -- the value of a variable of a type without a start value: 0, false or null
 abbrev pub zero_of : Scope → List Value → StaticType → Value
@@ -56,21 +56,20 @@ abbrev pub keeps_pointers : FieldKind → Bool
 keeps_pointers Pointer = true
 keeps_pointers _ = false
 
--- the numbers of a field of a region, and whether they are pointers; a partition operation reads
--- the field at each point of the region that it names
+-- the numbers of a field of a region of a type, and whether they are pointers; a partition
+-- operation reads the field at each point of the region that it names
 pub record Column : Type 0 where
   pub numbers : List ℤ
   pub pointers : Bool
 
-abbrev pub read_all : Here → Region → Name → Run Column
-read_all h r f = do
+abbrev pub read_all : Here → StaticType → Region → Name → Run Column
+read_all h t r f = do
   s ← state
-  let space = (get_or s.store r.root no_root).space
-  let place = field_place h.tree space f
+  let place = field_place h.tree (space_in t) f
   _ ← touch (touch_all r.root place Read r.points)
   given (record {
     numbers = map (read_at s.store r.root place) r.points;
-    pointers = keeps_pointers (field_kind h.tree space place);
+    pointers = keeps_pointers (field_kind h.tree (space_in t) place);
   })
 
 -- a partition of a root
@@ -101,20 +100,20 @@ started_by h t wanted (by_field_start r f e) = do
   v ← value h e
   n ← colours h v
   a ← region_named h r
-  c ← read_all h a f
+  c ← read_all h (type_named h r) a f
   given (partitioned a.root by_field_flag (by_field_sets a.points c.numbers n))
 started_by h t wanted (image_start parent p r f) = do
   a ← region_named h parent
   q ← partition_named h p
   b ← region_named h r
-  c ← read_all h b f
+  c ← read_all h (type_named h r) b f
   given (partitioned a.root image_flag
       (image_sets a.points q.sets b.points c.numbers c.pointers))
 started_by h t wanted (preimage_start parent p r f) = do
   a ← region_named h parent
   q ← partition_named h p
   b ← region_named h r
-  c ← read_all h b f
+  c ← read_all h (type_named h r) b f
   given (partitioned a.root (preimage_flag q.disjoint)
       (preimage_sets a.points q.sets b.points c.numbers c.pointers))
 started_by h t wanted (both_start p q) = do

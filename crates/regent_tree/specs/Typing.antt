@@ -19,7 +19,7 @@ use Rattle.regent_tree.specs.Syntax.{Name, Expression, number_expr, truth_expr, 
 use Rattle.regent_tree.specs.Numbers.{wider}
 use Rattle.regent_tree.specs.Facts.{is_subregion}
 use Rattle.regent_tree.specs.Partitions.{equal_flag, by_field_flag, image_flag, preimage_flag, both_flag, either_flag}
-use Rattle.regent_tree.specs.StaticTypes.{StaticType, integer_type, truth_type, index_type, pointer_type, ispace_type, region_type, partition_type, no_type, unknown_type, Reach, looked_up, number_type, written_pointer, type_said, field_type, place_of_space, task_named}
+use Rattle.regent_tree.specs.StaticTypes.{StaticType, integer_type, truth_type, index_type, pointer_type, ispace_type, region_type, partition_type, no_type, unknown_type, Reach, looked_up, number_type, written_pointer, type_said, field_type, place_of_space, task_named, binding_of_term}
 use Rattle.regent_tree.specs.Scopes.{Bound, Scope, bound_to, bound_as, with_name, knowing, past, in_scope, known_of_type, scope_of}
 
 -- ---- operators
@@ -262,11 +262,7 @@ reach_of _ = None
 -- a region that a parameter's type names, read with the types of a call's arguments
 abbrev pub put : List StaticType → Reach → Reach
 put types None = None
-put types (Some t) = reach_of (get_or types (binding_of_param t) unknown_type)
-  where
-    binding_of_param : Term → ℕ
-    binding_of_param (term.Name i) = i
-    binding_of_param (term.Child p c) = 0
+put types (Some t) = reach_of (get_or types (binding_of_term t) unknown_type)
 
 -- a parameter's type, read with the types of a call's arguments
 abbrev pub put_in : List StaticType → StaticType → StaticType

@@ -1,6 +1,6 @@
 //! Laws of what programs mean. Each function does nothing; its contract is a law.
 
-ghost use Rattle.regent_tree.specs.Laws.{TurnsNeverRise, TextOnlyGrows, ExpressionsKeepNames, RootsStay, CallsDropRoots};
+ghost use Rattle.regent_tree.specs.Laws.{TurnsNeverRise, TextOnlyGrows, TouchesOnlyGrow, ExpressionsKeepNames, RootsStay, CallsDropRoots};
 
 /// A block never raises the turns that are left.
 #[tactic(auto, using(crate::proofs::Laws::turns_never_rise))]
@@ -12,6 +12,12 @@ pub fn turns_never_rise()
 #[tactic(auto, using(crate::proofs::Laws::text_only_grows))]
 pub fn text_only_grows()
     ensures { TextOnlyGrows }
+{}
+
+/// A block only adds to the touches of its task instance.
+#[tactic(auto, using(crate::proofs::Laws::touches_only_grow))]
+pub fn touches_only_grow()
+    ensures { TouchesOnlyGrow }
 {}
 
 /// An expression leaves the values of the names as they are.

@@ -1,5 +1,6 @@
 pub mod Words
 pub mod Regions
+pub mod Touches
 pub mod Numbers
 pub mod Reductions
 pub mod Partitions

@@ -11,8 +11,8 @@ use Rattle.regent_tree.specs.Facts.{is_subregion, are_disjoint}
 abbrev pub child : Colour → Term
 child c = Child 1 c
 
--- Children of a disjoint partition: p[0] and p[1] share no point; of p[0] with itself, with p[i] and
--- with an unknown child nothing is known, and nothing of the children of an aliased partition.
+-- Children of a disjoint partition: p[0] and p[1] share no point; of p[0] with itself, with p[i]
+-- and with an unknown child nothing is known, and nothing of an aliased partition's children.
 abbrev pub siblings_means : Type 0
 siblings_means =
     are_disjoint (PartOf 1 0 true ∷ []) (child (Constant (pos 0))) (child (Constant (pos 1)))
@@ -25,15 +25,16 @@ siblings_means =
 -- Region 2 lies in p[0] before p is told of; p has the parents 0 and 5.
 abbrev pub told_late_means : Type 0
 told_late_means =
-    let facts = Within (Name 2) (child (Constant (pos 0))) ∷ PartOf 1 0 true ∷ PartOf 1 5 true ∷ [] in
+    let facts = Within (Name 2) (child (Constant (pos 0)))
+    ∷ PartOf 1 0 true ∷ PartOf 1 5 true ∷ [] in
     is_subregion facts (Name 2) (Name 0)
     ∷ is_subregion facts (Name 2) (Name 5)
     ∷ is_subregion facts (child (Loop 7)) (Name 5)
     ∷ is_subregion facts (Name 0) (Name 5)
     ∷ [] ≡ true ∷ true ∷ true ∷ false ∷ []
 
--- Region 2 began as p[e]: it lies within p's parent, and p[e] does, but it isn't known to lie within
--- p[e] again, and p[e] isn't the same as itself.
+-- Region 2 began as p[e]: it lies within p's parent, and p[e] does, but it isn't known to lie
+-- within p[e] again, and p[e] isn't the same as itself.
 abbrev pub unknown_child_means : Type 0
 unknown_child_means =
     let facts = PartOf 1 0 true ∷ Within (Name 2) (child Unknown) ∷ [] in
@@ -57,7 +58,8 @@ cycle_means =
 -- 3 <= 1, 4 <= 2 and 1 * 2: so 3 * 4 in both orders, but 3 isn't apart from 1.
 abbrev pub apart_above_means : Type 0
 apart_above_means =
-    let facts = Within (Name 3) (Name 1) ∷ Apart (Name 1) (Name 2) ∷ Within (Name 4) (Name 2) ∷ [] in
+    let facts = Within (Name 3) (Name 1)
+    ∷ Apart (Name 1) (Name 2) ∷ Within (Name 4) (Name 2) ∷ [] in
     are_disjoint facts (Name 3) (Name 4)
     ∷ are_disjoint facts (Name 4) (Name 3)
     ∷ are_disjoint facts (Name 3) (Name 1)

@@ -13,6 +13,7 @@ ghost use Rattle.worked_examples.specs.Calls.{writes_by_parts_means, overlapping
 ghost use Rattle.worked_examples.specs.Pointers.{null_pointer_means, outside_region_means, positions_means, circuit_means};
 ghost use Rattle.worked_examples.specs.Limits.{turns_enough_means, turns_spent_means, arguments_first_means, calls_too_deep_means, greatest_space_means, space_too_large_means};
 ghost use Rattle.worked_examples.specs.Regions.{siblings_means, told_late_means, unknown_child_means, cycle_means, apart_above_means, made_later_means};
+ghost use Rattle.worked_examples.specs.Touches.{declared_access_means, own_root_means};
 
 /// An assignment, and a number printed.
 #[tactic(auto, using(crate::proofs::Numbers::assignment_holds))]
@@ -270,4 +271,14 @@ pub fn apart_above()
 /// A region that was made when another was bound.
 pub fn made_later()
     ensures { made_later_means }
+{}
+
+/// Touches under several privileges.
+pub fn declared_access()
+    ensures { declared_access_means }
+{}
+
+/// A touch of a root that the task made.
+pub fn own_root()
+    ensures { own_root_means }
 {}
