@@ -11,7 +11,7 @@ abbrev pub AddsPrefix : Option (List ℕ) → List ℕ → Option (List ℕ) →
 AddsPrefix before bytes now = (count : ℕ) × (count < length bytes) × Adds before (take count bytes) now
 
 -- bytes that are added after others are added with them
-pub Adds-then : (before between now : Option (List ℕ)) (first second : List ℕ) → Adds before first between → Adds between second now → Adds before (first ++ second) now
-Adds-then None between now first second one two = two ∙ ap (option_map (λ held. held ++ second)) one
-Adds-then (Some held) between now first second one two =
+pub adds_both : (before between now : Option (List ℕ)) (first second : List ℕ) → Adds before first between → Adds between second now → Adds before (first ++ second) now
+adds_both None between now first second one two = two ∙ ap (option_map (λ held. held ++ second)) one
+adds_both (Some held) between now first second one two =
     two ∙ ap (option_map (λ rest. rest ++ second)) one ∙ ap Some (append_assoc held first second)

@@ -21,7 +21,7 @@ abbrev pub Moves : Option (List ℕ) → List ℕ → Option (List ℕ) → Type
 Moves before moved now = before ≡ option_map (λ left. moved ++ left) now
 
 -- a move and then another move both
-pub Moves-then : (before between now : Option (List ℕ)) (first second : List ℕ) → Moves before first between → Moves between second now → Moves before (first ++ second) now
-Moves-then before between None first second one two = one ∙ ap (option_map (λ left. first ++ left)) two
-Moves-then before between (Some left) first second one two =
+pub moves_both : (before between now : Option (List ℕ)) (first second : List ℕ) → Moves before first between → Moves between second now → Moves before (first ++ second) now
+moves_both before between None first second one two = one ∙ ap (option_map (λ left. first ++ left)) two
+moves_both before between (Some left) first second one two =
     one ∙ ap (option_map (λ rest. first ++ rest)) two ∙ ap Some (sym (append_assoc first second left))
