@@ -9,9 +9,9 @@ pub adds_both : (before between now : Option (List ℕ)) (first second both : Li
 adds_both None between now first second both one two same = two ∙ ap (option_map (λ held. held ++ second)) one
 adds_both (Some held) between now first second both one two same =
     two
-      ∙ ap (option_map (λ rest. rest ++ second)) one
-      ∙ ap Some (append_assoc held first second)
-      ∙ ap (λ added. Some (held ++ added)) (sym same)
+    ∙ ap (option_map (λ rest. rest ++ second)) one
+    ∙ ap Some (append_assoc held first second)
+    ∙ ap (λ added. Some (held ++ added)) (sym same)
 
 -- the first i + n elements: the first i, and then n of the rest
 first_two_parts : (xs : List ℕ) (i n : ℕ) → take (i + n) xs ≡ take i xs ++ take n (take (length xs - i) (drop i xs))

@@ -7,9 +7,9 @@ pub moves_both : (before between now : Option (List ℕ)) (first second both : L
 moves_both before between None first second both one two same = one ∙ ap (option_map (λ left. first ++ left)) two
 moves_both before between (Some left) first second both one two same =
     one
-      ∙ ap (option_map (λ rest. first ++ rest)) two
-      ∙ ap Some (sym (append_assoc first second left))
-      ∙ ap (λ moved. Some (moved ++ left)) (sym same)
+    ∙ ap (option_map (λ rest. first ++ rest)) two
+    ∙ ap Some (sym (append_assoc first second left))
+    ∙ ap (λ moved. Some (moved ++ left)) (sym same)
 
 -- where nothing is left, all was moved
 pub all_moved : (before now : Option (List ℕ)) (moved : List ℕ) → Moves before moved now → IfSome now (λ left. left ≡ []) → IfSome before (λ bytes. bytes ≡ moved)
