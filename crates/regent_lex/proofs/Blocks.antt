@@ -1,12 +1,12 @@
 -- Block comments: the search for the first ]].
-use Rattle.std.proofs.Common.{◌≡◌, ℕ, zero, suc, ◌+◌, ◌<◌, ◌≤◌, Bool, true, false, cond, List, []}
-use Rattle.std.proofs.Common.{◌∷◌, ◌++◌, length, Option, Some, None, refl, sym, ap, ◌∙◌, arith}
-use Rattle.std.specs.Prelude.{◌==◌, ◌&&◌, ◌||◌, codes}
+use Rattle.std.proofs.Common.{◌≡◌, ℕ, ◌+◌, Bool, true, false, List, []}
+use Rattle.std.proofs.Common.{◌∷◌, ◌++◌, length, Option, Some, None, refl, ap, ◌∙◌, arith}
+use Rattle.std.specs.Prelude.{◌==◌, ◌&&◌, codes}
 use Rattle.std.proofs.lemmas.Bool.{eqb-true, or_parts, and_parts}
 use Rattle.regent_lex.specs.declared.search.Wanted.TheVariants.{Brackets}
-use Rattle.regent_lex.specs.Bytes.{next_is, next_are}
+use Rattle.regent_lex.specs.Bytes.{next_are}
 use Rattle.regent_lex.specs.Trivia.{has_brackets}
-use Rattle.regent_lex.specs.Search.{next_step, further, after_step, search}
+use Rattle.regent_lex.specs.Search.{further, search}
 
 -- what may stand behind --[[
 pub data Block : List ℕ → Type 0 where
@@ -53,7 +53,8 @@ abbrev has_behind : Bool → List ℕ → Bool
 has_behind true bytes = has_brackets (93 ∷ bytes)
 has_behind false bytes = has_brackets bytes
 
--- where no ]] stands in bytes with a bracket before them or without, none stands in those behind the first
+-- where no ]] stands in bytes, with a bracket before them or without, none stands in those behind
+-- the first
 goes_on : (b : ℕ) (bytes : List ℕ) (behind is_bracket : Bool) → (b == 93) ≡ is_bracket →
     has_behind behind (b ∷ bytes) ≡ false →
     ((behind && is_bracket) ≡ false) × (has_behind is_bracket bytes ≡ false)

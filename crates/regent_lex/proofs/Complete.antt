@@ -1,27 +1,25 @@
 -- What stands at the front of a text by the tables, the scanner finds.
-use Rattle.std.proofs.Common.{◌≡◌, ◌≢◌, ℕ, zero, suc, ◌+◌, ◌≤◌, ◌<◌, ◌^◌, Bool, true, false, cond}
-use Rattle.std.proofs.Common.{List, [], ◌∷◌, ◌++◌, length, take, drop, Option, Some, None, refl}
-use Rattle.std.proofs.Common.{sym, ap, subst, ◌∙◌, arith, inl, inr, ◌⊎◌, append_assoc}
+use Rattle.std.proofs.Common.{◌≡◌, ◌≢◌, ℕ, ◌+◌, ◌≤◌, ◌<◌, ◌^◌, Bool, true, false}
+use Rattle.std.proofs.Common.{List, [], ◌∷◌, ◌++◌, length, Option, Some, None, refl}
+use Rattle.std.proofs.Common.{ap, ◌∙◌, arith, inl, inr, ◌⊎◌, append_assoc}
 use Rattle.std.proofs.Math.Seq.{drop-append-add}
-use Rattle.std.specs.List.{prefix_len, list_all, list_any}
+use Rattle.std.specs.List.{list_all, list_any}
 use Rattle.std.specs.Prelude.{◌&&◌, ◌||◌, ◌==◌, nat_lt, codes}
-use Rattle.std.proofs.lemmas.List.{take-append-drop, take_at, drop_at, length-append, append-nil}
+use Rattle.std.proofs.lemmas.List.{take_at, drop_at, length-append, append-nil}
 use Rattle.std.proofs.lemmas.Bool.{eqb-true, lt-ltb, le-ltb, ne_eqb, false_from_ne_true, and_parts}
 use Rattle.std.proofs.lemmas.Bool.{or_parts}
 use Rattle.std.proofs.lemmas.Bool.Decides.{nat_tests}
-use Rattle.regent_lex.specs.declared.lexeme.Lexeme.{Lexeme}
 use Rattle.regent_lex.specs.declared.lexeme.Lexeme.TheVariants.{Trivia, Token, Fault}
 use Rattle.regent_lex.specs.declared.token.TokenKind.{TokenKind}
-use Rattle.regent_lex.specs.declared.token.TokenKind.TheVariants.{Name, Word, Number, Quoted, Sign}
+use Rattle.regent_lex.specs.declared.token.TokenKind.TheVariants.{Quoted, Sign}
 use Rattle.regent_lex.specs.declared.fault.LexKind.{LexKind}
 use Rattle.regent_lex.specs.declared.fault.LexKind.TheVariants.{BadByte, Unclosed, NumberTooLarge}
-use Rattle.regent_lex.specs.declared.fault.LexKind.TheVariants.{NameTooLong}
 use Rattle.regent_lex.specs.declared.search.Wanted.TheVariants.{ClosingQuote, BadContent, Brackets}
 use Rattle.regent_lex.specs.Bytes.{is_blank, is_digit, is_letter, is_word_byte, in_line, is_sign}
 use Rattle.regent_lex.specs.Bytes.{takes_equals, next_is, next_are}
-use Rattle.regent_lex.specs.Words.{is_reserved, IsIdentifier}
-use Rattle.regent_lex.specs.Numbers.{value_of, IsNumeral, HasNoSuffix, is_fraction}
-use Rattle.regent_lex.specs.Strings.{is_escape, IsContent, IsClosed}
+use Rattle.regent_lex.specs.Words.{IsIdentifier}
+use Rattle.regent_lex.specs.Numbers.{value_of, IsNumeral, HasNoSuffix}
+use Rattle.regent_lex.specs.Strings.{IsContent, IsClosed}
 use Rattle.regent_lex.specs.Trivia.{has_brackets, IsTrivia, blank, line_comment, block_comment}
 use Rattle.regent_lex.specs.Tokens.{IsToken, name, word, number, quoted, sign, two_byte_sign}
 use Rattle.regent_lex.specs.Faults.{IsFault, long_name, large_number, behind_number, open_comment}

@@ -1,6 +1,6 @@
 -- Strings: the search for the closing quote and for a bad byte, at each form of what may stand
 -- behind an opening quote.
-use Rattle.std.proofs.Common.{◌≡◌, ◌≢◌, ℕ, zero, suc, ◌+◌, ◌<◌, ◌≤◌, Bool, true, false, cond, List}
+use Rattle.std.proofs.Common.{◌≡◌, ◌≢◌, ℕ, ◌+◌, ◌<◌, ◌≤◌, Bool, true, false, List}
 use Rattle.std.proofs.Common.{[], ◌∷◌, ◌++◌, length, Option, Some, None, refl, sym, ap, ◌∙◌, arith}
 use Rattle.std.specs.Prelude.{◌==◌, nat_lt}
 use Rattle.std.proofs.lemmas.Bool.{eqb-true, eqb-false, ltb-true, ltb-false, ne_eqb, le-ltb, lt-ltb}
@@ -8,7 +8,7 @@ use Rattle.std.proofs.lemmas.Bool.{false_from_ne_true}
 use Rattle.regent_lex.specs.declared.search.Wanted.TheVariants.{ClosingQuote, BadContent}
 use Rattle.regent_lex.specs.Strings.{is_escape, IsContent, no_bytes, escape, itself, IsClosed}
 use Rattle.regent_lex.specs.Strings.{quote, pair, single}
-use Rattle.regent_lex.specs.Search.{next_step, further, after_step, search}
+use Rattle.regent_lex.specs.Search.{further, search}
 
 pub further_further : (m n : ℕ) (o : Option ℕ) → further m (further n o) ≡ further (m + n) o
 further_further m n None = refl

@@ -1,6 +1,6 @@
 -- Each token stands in the text where it says, on the line and of the kind that it says.
-use Rattle.std.proofs.Common.{◌≡◌, ℕ, suc, true, Bool, cond, ◌+◌, ◌-◌, ◌≤◌, ◌<◌, List, [], ◌∷◌}
-use Rattle.std.proofs.Common.{◌++◌, length, take, drop, Result, Ok, Err, refl, sym, ap, subst, ◌∙◌}
+use Rattle.std.proofs.Common.{◌≡◌, ℕ, true, Bool, cond, ◌+◌, ◌-◌, ◌≤◌, ◌<◌, List, [], ◌∷◌}
+use Rattle.std.proofs.Common.{◌++◌, length, take, drop, Result, Ok, Err, refl, sym, ap, ◌∙◌}
 use Rattle.std.proofs.Common.{arith, drop-drop}
 use Rattle.std.specs.Prelude.{All, IfOk, ◌==◌}
 use Rattle.std.proofs.lemmas.List.{take_at, drop_at, length-append, length-drop}
@@ -11,7 +11,6 @@ use Rattle.std.specs.Global.{Vec}
 use Rattle.regent_lex.specs.declared.token.Token.{Token}
 use Rattle.regent_lex.specs.declared.token.TokenKind.{TokenKind}
 use Rattle.regent_lex.specs.declared.fault.LexFault.{LexFault}
-use Rattle.regent_lex.specs.declared.fault.LexFault.TheVariants.{At, Memory}
 use Rattle.regent_lex.specs.Bytes.{feeds, next_is}
 use Rattle.regent_lex.specs.Tokens.{IsToken, name, word, number, quoted, sign, two_byte_sign}
 use Rattle.regent_lex.specs.Places.{spelling, Spells, IsWithin, IsOnLine}

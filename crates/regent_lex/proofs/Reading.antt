@@ -1,6 +1,6 @@
 -- A text is read lexeme after lexeme, and in one way.
-use Rattle.std.proofs.Common.{◌≡◌, ℕ, suc, ◌+◌, ◌≤◌, ◌<◌, List, [], ◌∷◌, ◌++◌, length, take, drop}
-use Rattle.std.proofs.Common.{Option, Some, None, Result, Ok, Err, refl, sym, ap, subst, ◌∙◌, arith}
+use Rattle.std.proofs.Common.{◌≡◌, ℕ, ◌+◌, ◌≤◌, List, [], ◌∷◌, ◌++◌, length, take, drop}
+use Rattle.std.proofs.Common.{Option, Some, None, Result, Ok, Err, refl, sym, ap, subst, ◌∙◌}
 use Rattle.std.proofs.Common.{append_assoc, drop-drop}
 use Rattle.std.proofs.lemmas.List.{take-append-drop, take_at, drop_at, append-nil, length-take-le}
 use Rattle.std.specs.Global.{Vec}
@@ -12,9 +12,6 @@ use Rattle.regent_lex.specs.declared.fault.LexKind.{LexKind}
 use Rattle.regent_lex.specs.declared.fault.LexFault.{LexFault}
 use Rattle.regent_lex.specs.declared.fault.LexFault.TheVariants.{At, Memory}
 use Rattle.regent_lex.specs.Bytes.{feeds}
-use Rattle.regent_lex.specs.Trivia.{IsTrivia}
-use Rattle.regent_lex.specs.Tokens.{IsToken}
-use Rattle.regent_lex.specs.Faults.{IsFault}
 use Rattle.regent_lex.specs.Begins.{Begins}
 use Rattle.regent_lex.specs.Scan.{first_lexeme}
 use Rattle.regent_lex.specs.Texts.{Lexed, with_token, Lexes, ends, skips, takes, fails}

@@ -1,31 +1,30 @@
 -- What the scanner finds at the front of a text stands there by the tables.
 use Rattle.std.proofs.Common.{◌≡◌, ◌≢◌, ℕ, zero, suc, ◌+◌, ◌≤◌, ◌<◌, ◌^◌, Bool, true, false, cond}
 use Rattle.std.proofs.Common.{List, [], ◌∷◌, ◌++◌, length, take, drop, Option, Some, None, refl}
-use Rattle.std.proofs.Common.{sym, ap, subst, ◌∙◌, arith, inl, inr, ◌⊎◌, append_assoc}
-use Rattle.std.specs.List.{prefix_len, list_all, list_any}
-use Rattle.std.specs.Prelude.{◌&&◌, ◌||◌, ◌==◌, nat_lt, codes, IfSome, IfNone}
+use Rattle.std.proofs.Common.{sym, ap, subst, ◌∙◌, arith, inl, inr, append_assoc}
+use Rattle.std.specs.List.{prefix_len, list_all}
+use Rattle.std.specs.Prelude.{◌&&◌, ◌||◌, ◌==◌, nat_lt, codes, IfSome}
 use Rattle.std.proofs.lemmas.List.{take-append-drop, take_at, drop_at, length-append, append-nil}
-use Rattle.std.proofs.lemmas.List.Sums.{prefix_len-le-length}
 use Rattle.std.proofs.lemmas.List.Folds.{length-prefix_len}
 use Rattle.std.proofs.lemmas.Bool.{ltb-true, ltb-false, eqb-true, eqb-false, and_parts}
 use Rattle.regent_lex.specs.declared.lexeme.Lexeme.{Lexeme}
 use Rattle.regent_lex.specs.declared.lexeme.Lexeme.TheVariants.{Trivia, Token, Fault}
 use Rattle.regent_lex.specs.declared.token.TokenKind.TheVariants.{Name, Word, Number, Quoted, Sign}
-use Rattle.regent_lex.specs.declared.fault.LexKind.TheVariants.{BadByte, Unclosed, NumberTooLarge}
+use Rattle.regent_lex.specs.declared.fault.LexKind.TheVariants.{BadByte, NumberTooLarge}
 use Rattle.regent_lex.specs.declared.fault.LexKind.TheVariants.{NameTooLong}
 use Rattle.regent_lex.specs.declared.search.Wanted.TheVariants.{ClosingQuote, BadContent, Brackets}
 use Rattle.regent_lex.specs.Bytes.{is_blank, is_digit, is_letter, is_word_byte, in_line, is_sign}
 use Rattle.regent_lex.specs.Bytes.{takes_equals, next_is, next_are}
 use Rattle.regent_lex.specs.Words.{is_reserved, IsIdentifier}
-use Rattle.regent_lex.specs.Numbers.{value_of, IsNumeral, HasNoSuffix, is_fraction}
-use Rattle.regent_lex.specs.Strings.{is_escape, IsContent, IsClosed}
-use Rattle.regent_lex.specs.Trivia.{has_brackets, IsTrivia, blank, line_comment, block_comment}
+use Rattle.regent_lex.specs.Numbers.{value_of, IsNumeral, is_fraction}
+use Rattle.regent_lex.specs.Strings.{IsClosed}
+use Rattle.regent_lex.specs.Trivia.{IsTrivia, blank, line_comment, block_comment}
 use Rattle.regent_lex.specs.Tokens.{IsToken, name, word, number, quoted, sign, two_byte_sign}
 use Rattle.regent_lex.specs.Faults.{IsFault, long_name, large_number, behind_number, open_comment}
 use Rattle.regent_lex.specs.Faults.{open_string, control_byte, unknown_escape, begins_nothing}
 use Rattle.regent_lex.specs.Begins.{Begins}
 use Rattle.regent_lex.specs.Search.{search}
-use Rattle.regent_lex.specs.Scan.{word_or_name, identifier_at, number_before, number_of_digits}
+use Rattle.regent_lex.specs.Scan.{identifier_at, number_before, number_of_digits}
 use Rattle.regent_lex.specs.Scan.{number_at, string_with, string_at, block_with, comment_at}
 use Rattle.regent_lex.specs.Scan.{sign_at, lexeme_at, first_lexeme}
 use Rattle.regent_lex.proofs.Runs.{run_all, run_ends, run_begins}

@@ -1,7 +1,8 @@
 -- Blanks and comments, which part tokens.
 use Rattle.std.specs.Prelude.{◌≡◌, ℕ, Bool, true, false, List, [], ◌∷◌, ◌++◌, ◌||◌, codes}
 use Rattle.std.specs.List.{list_all}
-use Rattle.regent_lex.specs.Bytes.{opening_bracket, closing_bracket, is_blank, in_line, next_is, next_are}
+use Rattle.regent_lex.specs.Bytes.{opening_bracket, closing_bracket, is_blank, in_line}
+use Rattle.regent_lex.specs.Bytes.{next_is, next_are}
 
 -- ]] stands among the bytes
 abbrev pub has_brackets : List ℕ → Bool
