@@ -29,6 +29,7 @@ pub run_ends : (p : ℕ → Bool) (xs : List ℕ) → next_is p (drop (prefix_le
 run_ends p [] = refl
 run_ends p (x ∷ xs) = run_ends_on p x xs (p x) refl (run_ends p xs)
 
+-- a run that doesn't begin is empty
 run_stops : (p : ℕ → Bool) (after : List ℕ) → next_is p after ≡ false → prefix_len p after ≡ 0
 run_stops p [] h = refl
 run_stops p (x ∷ xs) h = rw h refl

@@ -15,6 +15,7 @@ use Rattle.regent_lex.specs.Places.{Spells, spelling}
 use Rattle.regent_lex.specs.Values.{number_value}
 use Rattle.regent_lex.proofs.Runs.{run_all, run_is}
 
+-- a suffix doesn't begin with a digit
 suffix_no_digit : (suffix after : List ℕ) →
     HasNoSuffix suffix after ⊎ (suffix ≡ codes "LL") → next_is is_digit suffix ≡ false
 suffix_no_digit suffix after (inl p) = rw p.0 refl

@@ -33,10 +33,11 @@ pub data IsFault : LexKind → List ℕ → List ℕ → Type 0 where
   open_comment : {bytes : List ℕ} → has_brackets bytes ≡ false →
       IsFault Unclosed [] (codes "--[[" ++ bytes)
   open_string : {bytes : List ℕ} → (IsClosed bytes → ⊥) → IsFault Unclosed [] (quote_mark ∷ bytes)
-  -- in a string that is closed: the first byte that may not stand there
+  -- in a string that is closed, the first byte that may not stand there: one below 32
   control_byte : {b : ℕ} {bytes after : List ℕ} →
       IsContent bytes → b < 32 → IsClosed (bytes ++ b ∷ after) →
       IsFault BadByte (quote_mark ∷ bytes) (b ∷ after)
+  -- or one behind a backslash that is no escape
   unknown_escape : {c : ℕ} {bytes after : List ℕ} →
       IsContent bytes → is_escape c ≡ false → IsClosed (bytes ++ backslash ∷ c ∷ after) →
       IsFault BadByte (quote_mark ∷ bytes ++ backslash ∷ []) (c ∷ after)
