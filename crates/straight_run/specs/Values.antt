@@ -1,5 +1,5 @@
 -- The evaluator's numbers as values of the meaning.
-use Rattle.std.specs.Prelude.{ℤ, Option, Some, None, if◌then◌else◌}
+use Rattle.std.specs.Prelude.{Option, Some, None}
 use Rattle.lane_kernels.specs.declared.numbers.Width.{Width}
 use Rattle.lane_kernels.specs.declared.numbers.Width.TheVariants.{W32, W64}
 use Rattle.regent_tree.specs.declared.expression.Arithmetic.{Arithmetic}
@@ -7,10 +7,10 @@ use Rattle.regent_tree.specs.declared.expression.Arithmetic.TheVariants as arith
 use Rattle.regent_tree.specs.declared.expression.Operator.{Operator}
 use Rattle.regent_tree.specs.declared.expression.Operator.TheVariants.{Compute}
 use Rattle.regent_tree.specs.Values.{Value, a_number}
-use Rattle.regent_run.specs.declared.numbers.Number.{Number}
-use Rattle.regent_run.specs.declared.numbers.Number.TheVariants.{Narrow, Wide}
-use Rattle.regent_run.specs.declared.numbers.Wrapping.{Wrapping}
-use Rattle.regent_run.specs.declared.numbers.Wrapping.TheVariants.{Add, Subtract, Multiply}
+use Rattle.straight_run.specs.declared.numbers.Number.{Number}
+use Rattle.straight_run.specs.declared.numbers.Number.TheVariants.{Narrow, Wide}
+use Rattle.straight_run.specs.declared.numbers.Wrapping.{Wrapping}
+use Rattle.straight_run.specs.declared.numbers.Wrapping.TheVariants.{Add, Subtract, Multiply}
 
 abbrev pub width_in : Number → Width
 width_in (Narrow z) = W32

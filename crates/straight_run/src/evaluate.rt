@@ -3,8 +3,8 @@
 ghost use Rattle.std.specs.Prelude.{◌≡◌, IfSome, is_some, length};
 ghost use Rattle.regent_tree.specs.Plain.{expression_of, steps_in};
 ghost use Rattle.regent_tree.specs.Syntax.{access_expr, no_step};
-ghost use Rattle.regent_run.specs.FirstForm.{has_name, is_bare, is_sum};
-ghost use Rattle.regent_run.specs.Variables.{Means, names_of};
+ghost use Rattle.straight_run.specs.FirstForm.{has_name, is_bare, is_sum};
+ghost use Rattle.straight_run.specs.Variables.{Means, names_of};
 
 use crate::machine::{Variable, newest};
 use crate::numbers::{Number, apply, literal, widened, wrapping_operator};

@@ -1,6 +1,6 @@
 -- What the first form asks of a tree beyond its grammar: each name that is used is bound by an
 -- earlier `var`, and each `printf` has a text that its arguments fit.
-use Rattle.std.specs.Prelude.{ℤ, pos, negsuc, int_le, ℕ, suc, ◌==◌, ◌&&◌, ◌||◌, Bool, true, false, List, [], ◌∷◌, Option, Some, None, bytes_eq, if◌then◌else◌}
+use Rattle.std.specs.Prelude.{ℤ, pos, negsuc, int_le, ℕ, suc, ◌==◌, ◌&&◌, Bool, true, false, List, [], ◌∷◌, Option, Some, None, bytes_eq, if◌then◌else◌}
 use Rattle.std.specs.List.{list_any}
 use Rattle.lane_kernels.specs.declared.numbers.Width.{Width}
 use Rattle.lane_kernels.specs.declared.numbers.Width.TheVariants.{W32, W64}

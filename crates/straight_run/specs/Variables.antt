@@ -1,18 +1,17 @@
 -- The evaluator's variables as names of the meaning, and what expressions and statements give.
-use Rattle.std.specs.Prelude.{ℕ, ◌≡◌, ◌+◌, List, [], ◌∷◌, ◌++◌, map, Option, Some, None, cond, bytes_eq, false}
+use Rattle.std.specs.Prelude.{ℕ, ◌≡◌, ◌+◌, List, [], ◌∷◌, map, Option, Some, cond, bytes_eq, false}
 use Rattle.regent_tree.specs.Syntax.{Name, Expression, Links, Expressions, Form, Block}
 use Rattle.regent_tree.specs.Values.{Value}
-use Rattle.regent_tree.specs.StaticTypes.{StaticType, integer_type}
+use Rattle.regent_tree.specs.StaticTypes.{integer_type}
 use Rattle.regent_tree.specs.Scopes.{Scope, with_name}
 use Rattle.regent_tree.specs.Typing.{linked_type}
 use Rattle.regent_tree.specs.Running.{Here, State, gives}
 use Rattle.regent_tree.specs.Evaluation.{value, values, linked, typed}
 use Rattle.regent_tree.specs.Execution.{exec, exec_block, after_statement, goes_on}
-use Rattle.regent_run.specs.declared.numbers.Number.{Number}
-use Rattle.regent_run.specs.declared.numbers.Number.TheVariants.{Wide}
-use Rattle.regent_run.specs.declared.machine.Variable.{Variable}
-use Rattle.regent_run.specs.declared.machine.Machine.{Machine}
-use Rattle.regent_run.specs.Values.{value_of, width_in}
+use Rattle.straight_run.specs.declared.numbers.Number.{Number}
+use Rattle.straight_run.specs.declared.machine.Variable.{Variable}
+use Rattle.straight_run.specs.declared.machine.Machine.{Machine}
+use Rattle.straight_run.specs.Values.{value_of, width_in}
 
 -- the place of the newest variable of a name, from a place on
 abbrev pub newest : Option ℕ → ℕ → List Variable → Name → Option ℕ

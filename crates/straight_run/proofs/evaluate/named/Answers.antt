@@ -1,6 +1,6 @@
-use Rattle.std.proofs.Common.{◌≡◌, ◌∙◌, [], ap, sym, refl, None, rules}
-use Rattle.regent_run.proofs.VariableLaws.{newest_bound, name_means}
-use Rattle.regent_run.proofs.evaluate.named.Goals as goal
+use Rattle.std.proofs.Common.{[], sym, refl, None, rules}
+use Rattle.straight_run.proofs.VariableLaws.{newest_bound, name_means}
+use Rattle.straight_run.proofs.evaluate.named.Goals as goal
 
 pub returns-in_err-place-clause-sum : goal.returns-in_err-place-clause-sum
 returns-in_err-place-clause-sum c =
@@ -10,8 +10,8 @@ returns-in_err-place-clause-sum c =
 pub returns-clause-means : goal.returns-clause-means
 returns-clause-means c =
     rw (← c.index-variables-place.is) (name_means c.args.variables.now c.args.name.now
-      c.in_ok-place.place c.index-variables-place.result (sym c.in_ok-place.ensures.same)
-      c.index-variables-place.is)
+    c.in_ok-place.place c.index-variables-place.result (sym c.in_ok-place.ensures.same)
+    c.index-variables-place.is)
 
 pub returns-clause-sum : goal.returns-clause-sum
 returns-clause-sum c =

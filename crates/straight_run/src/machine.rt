@@ -1,7 +1,7 @@
 //! The state of a straight-line program: its variables, and what it has printed.
 
 ghost use Rattle.std.specs.Prelude.{◌≡◌, ◌<◌, None, IfSome, length};
-ghost use Rattle.regent_run.specs.Variables.{newest};
+ghost use Rattle.straight_run.specs.Variables.{newest};
 
 use crate::numbers::Number;
 use regent_tree::Name;

@@ -4,10 +4,10 @@ ghost use Rattle.std.specs.Prelude.{◌≡◌, ◌↔◌, Some, IfSome, IsTrue, 
 ghost use Rattle.lane_kernels.specs.declared.numbers.Width.TheVariants.{W32, W64};
 ghost use Rattle.regent_tree.specs.Numbers.{computed, wider};
 ghost use Rattle.regent_tree.specs.Values.{a_number, number_of};
-ghost use Rattle.regent_run.specs.FirstForm.{is_number};
+ghost use Rattle.straight_run.specs.FirstForm.{is_number};
 ghost use Rattle.regent_tree.specs.Running.{Here, State, gives};
 ghost use Rattle.regent_tree.specs.Operators.{arithmetic};
-ghost use Rattle.regent_run.specs.Values.{arithmetic_of, wrapping_of, value_of, width_in};
+ghost use Rattle.straight_run.specs.Values.{arithmetic_of, wrapping_of, value_of, width_in};
 
 use regent_tree::{Arithmetic, Operator, Width};
 
