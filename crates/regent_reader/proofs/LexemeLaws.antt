@@ -19,8 +19,8 @@ option_or_assoc None p q = refl
 option_or_assoc (Some x) p q = refl
 
 pub word_rows : (bytes : List ℕ) →
-  option_or (option_or (option_or (looked_up words_to_equal bytes) (looked_up words_to_int64 bytes)) (looked_up words_to_reads bytes)) (looked_up words_to_writes bytes)
-  ≡ looked_up word_table bytes
+    option_or (option_or (option_or (looked_up words_to_equal bytes) (looked_up words_to_int64 bytes)) (looked_up words_to_reads bytes)) (looked_up words_to_writes bytes)
+    ≡ looked_up word_table bytes
 word_rows bytes =
     option_or_assoc (option_or (looked_up words_to_equal bytes) (looked_up words_to_int64 bytes)) (looked_up words_to_reads bytes) (looked_up words_to_writes bytes)
     ∙ ap (λ o. option_or (option_or (looked_up words_to_equal bytes) (looked_up words_to_int64 bytes)) o) (sym (looked_up-append words_to_reads words_to_writes bytes))

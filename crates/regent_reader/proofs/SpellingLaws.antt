@@ -1,5 +1,5 @@
 -- A text has one tree at most.
-use Rattle.std.proofs.Common.{◌≡◌, ℕ, ◌<◌, ◌≤◌, List, [], Result, Ok, Err, IfOk, IfErr, length, refl, sym, ap, subst, ◌∙◌, arith}
+use Rattle.std.proofs.Common.{◌≡◌, ℕ, List, [], Result, Ok, Err, IfOk, IfErr, refl, sym, ap, subst, ◌∙◌, arith}
 use Rattle.regent_lex.specs.declared.token.Token.{Token}
 use Rattle.regent_lex.specs.declared.fault.LexKind.{LexKind}
 use Rattle.regent_lex.specs.Texts.{Lexed, Lexes}
@@ -12,9 +12,8 @@ use Rattle.regent_reader.specs.declared.fault.ReadFault.TheVariants.{TooLong, Le
 use Rattle.regent_reader.specs.declared.symbol.Lexeme.{Lexeme}
 use Rattle.regent_reader.specs.Lexemes.{lexemes}
 use Rattle.regent_reader.specs.Grammar.{IsProgram}
-use Rattle.regent_reader.specs.Reading.{Read, stuck, read, program}
+use Rattle.regent_reader.specs.Reading.{stuck, read, program}
 use Rattle.regent_reader.specs.Spelling.{Spells, HasNoProgram, Refuses, IsMemory, LexemesOf, IsUnread}
-use Rattle.regent_reader.proofs.Holds.{Holds}
 use Rattle.regent_reader.proofs.ProgramLaws.{Makes, program_sound, program_complete, holds_of}
 
 -- what is read of lexemes is their program, and where reading is stuck they are none
@@ -50,6 +49,12 @@ spelt_program text ls tree of spelt =
     let same : spelt.tokens ≡ of.tokens = one_list text spelt.tokens of.tokens spelt.lexed of.lexed in
     let here : lexemes text spelt.tokens ≡ ls = ap (lexemes text) same ∙ sym of.same in
     subst (λ (ms : List Lexeme). IsProgram ms tree) here spelt.program
+
+-- a text spells one tree
+pub one_tree : (text : List ℕ) (a b : Tree) → Spells text a → Spells text b → a ≡ b
+one_tree text a b p q =
+    one_program (lexemes text p.tokens) a b p.program
+    (spelt_program text (lexemes text p.tokens) b (record { tokens = p.tokens; lexed = p.lexed; same = refl }) q)
 
 -- a text that spells a tree is refused for want of memory alone
 pub spelt_refused : (text : List ℕ) (tree : Tree) → Spells text tree → (fault : ReadFault) → Refuses text fault → IsMemory fault

@@ -1,5 +1,5 @@
 -- What tokens stand for: the tables of words and signs, and the lexemes of a text.
-use Rattle.std.specs.Prelude.{ℕ, pos, ◌||◌, Bool, true, false, List, [], ◌∷◌, ◌++◌, Option, Some, None, cond, bytes_eq, codes, map, nat_le, if◌then◌else◌}
+use Rattle.std.specs.Prelude.{ℕ, pos, Bool, List, [], ◌∷◌, ◌++◌, Option, Some, None, cond, bytes_eq, codes, map, nat_le, if◌then◌else◌}
 use Rattle.lane_kernels.specs.declared.numbers.Width.{Width}
 use Rattle.lane_kernels.specs.declared.numbers.Width.TheVariants.{W32, W64}
 use Rattle.regent_lex.specs.declared.token.Token.{Token}

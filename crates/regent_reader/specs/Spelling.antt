@@ -1,5 +1,5 @@
 -- Texts of the first form, and why a text isn't one.
-use Rattle.std.specs.Prelude.{◌≡◌, ℕ, ◌<◌, ◌≤◌, List, Result, Ok, Err, length}
+use Rattle.std.specs.Prelude.{◌≡◌, ℕ, ◌<◌, ◌≤◌, List, Ok, Err, length}
 use Rattle.regent_lex.specs.declared.token.Token.{Token}
 use Rattle.regent_lex.specs.Texts.{Lexes}
 use Rattle.regent_tree.specs.Syntax.{Tree}

@@ -42,4 +42,3 @@ impl<T: Drop> From<AllocFailed<T>> for ReadFault {
         ReadFault::Memory(AllocError::from(failed))
     }
 }
-

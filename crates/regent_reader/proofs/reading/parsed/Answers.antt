@@ -7,9 +7,9 @@ returns-in-Ok-clause-ok c =
     read_is_program c.args.lexemes.now (tree_of c.in-Ok.program) c.in-Ok.ensures
 
 pub returns-in-Err-At-clause-err : goal.returns-in-Err-At-clause-err
-returns-in-Err-At-clause-err c = 
+returns-in-Err-At-clause-err c =
     stuck_is_none c.args.lexemes.now (rw c.in-Err-At.field-0-is at c.in-Err-At.ensures)
 
 pub returns-in-Err-AtEnd-clause-err : goal.returns-in-Err-AtEnd-clause-err
-returns-in-Err-AtEnd-clause-err c = 
+returns-in-Err-AtEnd-clause-err c =
     stuck_is_none c.args.lexemes.now (rw c.in-Err-AtEnd.field-0-is at c.in-Err-AtEnd.ensures)
