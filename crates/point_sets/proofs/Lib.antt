@@ -1,0 +1,6 @@
+mod Combining
+pub mod LawProofs
+pub mod Rising
+mod RunLists
+mod RunPush
+mod RunSearch

@@ -1,0 +1,18 @@
+use Rattle.std.proofs.Common.{◌≡◌, Some, None, slice_get, ℕ, List, sym, ap, ◌∙◌, arith}
+use Rattle.point_sets.proofs.RunSearch.{end_fits, far_enough, element_found, no_element}
+use Rattle.point_sets.proofs.point_set.PointSet.at.Goals as goal
+
+pub returns-then-run_place-runs : goal.returns-then-run_place-runs
+returns-then-run_place-runs c =
+    sym (ap (λ (xs : List ℕ). slice_get xs c.args.place) (sym c.as_runs-runs.ensures.points) ∙ no_element c.as_runs-runs.result.now _ c.args.place c.as_runs-runs.ensures.runs c.first_run_with_more-run_place.ensures (omega arith))
+
+pub overflow_add-result : goal.overflow_add-result
+overflow_add-result c = end_fits c.as_runs-runs.result.now _ _ c.as_runs-runs.ensures.runs (omega arith)
+
+pub overflow_sub-result-2 : goal.overflow_sub-result-2
+overflow_sub-result-2 c =
+    far_enough c.as_runs-runs.result.now _ _ c.as_runs-runs.ensures.runs (omega arith) c.args.place c.first_run_with_more-run_place.ensures
+
+pub returns : goal.returns
+returns c =
+    sym (ap (λ (xs : List ℕ). slice_get xs c.args.place) (sym c.as_runs-runs.ensures.points) ∙ element_found c.as_runs-runs.result.now _ _ c.as_runs-runs.ensures.runs (omega arith) c.args.place c.first_run_with_more-run_place.ensures)

@@ -1,0 +1,6 @@
+use Rattle.point_sets.proofs.Rising.{within_is}
+use Rattle.point_sets.proofs.point_set.PointSet.within.Goals as goal
+
+pub returns : goal.returns
+returns c =
+    within_is c.any_kept.result c.args.self.now c.args.o.now c.any_kept.ensures.some c.any_kept.ensures.none
