@@ -1,10 +1,10 @@
 -- A sweep over two sets: what is made of them so far.
-use Rattle.std.proofs.Common.{◌≡◌, ℕ, ◌+◌, ◌-◌, ◌<◌, ◌≤◌, Bool, true, false, not, ◌&&◌, ◌||◌, ltb, leb, List, [], ◌++◌, get_or, All, refl, sym, ap, ◌∙◌, subst, arith, ⊎_elim, cond}
-use Rattle.std.proofs.lemmas.Bool.{cases_Bool, cases_lt, and_left, and_right, and_parts, lt-ltb, le-ltb, ltb-true, false≢true}
+use Rattle.std.proofs.Common.{◌≡◌, ℕ, ◌+◌, ◌-◌, ◌<◌, ◌≤◌, Bool, true, false, not, ◌&&◌, ◌||◌, ltb, leb, List, [], ◌++◌, get_or, All, refl, sym, ap, ◌∙◌, arith, ⊎_elim}
+use Rattle.std.proofs.lemmas.Bool.{cases_Bool, cases_lt, and_left, and_right, and_parts, lt-ltb, le-ltb, ltb-true}
 use Rattle.std.proofs.lemmas.Bool.Decides.{nat_tests}
 use Rattle.std.proofs.lemmas.List.Elements.{All-contains, Contains-get_or}
 use Rattle.std.specs.List.Sorted.{IsStrictlyIncreasing}
-use Rattle.plain_values.specs.Points.{has, counted_from, IsPoints, union_of, meet_of, minus_of}
+use Rattle.plain_values.specs.Points.{has, counted_from, IsPoints}
 use Rattle.point_sets.specs.Operations.{kept, combined_of}
 use Rattle.point_sets.specs.Sweeps.{Sweeping, AllOrNone}
 use Rattle.point_sets.specs.declared.TheConstants.{POINT_LIMIT}

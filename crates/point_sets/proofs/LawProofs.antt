@@ -1,11 +1,8 @@
 -- The laws of sets of points.
-use Rattle.std.proofs.Common.{◌≡◌, ◌↔◌, ℕ, Bool, true, false, not, ◌&&◌, ◌||◌, List, IsTrue, sym, ap, ◌∙◌, ⊎_elim, inl, inr, ◌⊎◌}
+use Rattle.std.proofs.Common.{not, sym, ◌∙◌, ⊎_elim, inl, inr}
 use Rattle.std.proofs.lemmas.Bool.{and_parts, and_from, or_cases, or_left, or_right, not_from_false, not-true, both_ways, false_from_ne_true}
 use Rattle.std.proofs.lemmas.Bool.Decides.{same_from_decides}
-use Rattle.std.specs.Bool.{Decides}
-use Rattle.std.specs.List.{Contains}
-use Rattle.std.specs.List.Sorted.{IsStrictlyIncreasing}
-use Rattle.plain_values.specs.Points.{has, union_of, meet_of, minus_of, meets, within}
+use Rattle.plain_values.specs.Points.{has, union_of, meet_of, minus_of}
 use Rattle.point_sets.specs.Laws.{MembersDecide, HasTells, UnionIsEither, MeetIsBoth, MinusIsRest, MeetsIsShared, WithinIsEach}
 use Rattle.point_sets.proofs.Rising.{has_decides, members_decide, Contains-from_has, has-from_Contains, has-union_of, rising-union_of, has-meet_of, has-minus_of, rising-filter, meets_at, meets_where, within_each, within_from_each}
 

@@ -1,5 +1,6 @@
 mod Combining
 pub mod LawProofs
+mod Places
 pub mod Rising
 mod RunLists
 mod RunPush

@@ -1,6 +1,6 @@
 -- Members of rising lists.
-use Rattle.std.proofs.Common.{◌≡◌, ◌≢◌, ℕ, zero, suc, ◌+◌, ◌-◌, ◌<◌, ◌≤◌, Bool, true, false, not, ◌&&◌, ◌||◌, ◌⊎◌, cond, eqb, ltb, leb, List, [], ◌∷◌, ◌++◌, length, get_or, take, All, filter, refl, sym, ap, ◌∙◌, Some, None, subst, arith, rules, ⊎_elim, inl, inr}
-use Rattle.std.proofs.lemmas.Bool.{cases_Bool, cases_eq, cases_order, cases_cond, false≢true, or_cases, or_parts, eqb-true, eq-eqb, ne_eqb, cond_both, ltb-true, ltb-false, eqb-false, or_left, or_right, and_parts, and_from, cond-true, cond-false, both_ways, not-true, not-false}
+use Rattle.std.proofs.Common.{◌≡◌, ◌≢◌, ℕ, zero, suc, ◌+◌, ◌<◌, ◌≤◌, Bool, true, false, not, ◌&&◌, ◌||◌, ◌⊎◌, cond, eqb, ltb, leb, List, [], ◌∷◌, ◌++◌, length, get_or, take, All, filter, refl, sym, ap, ◌∙◌, Some, None, subst, arith, ⊎_elim, inl, inr}
+use Rattle.std.proofs.lemmas.Bool.{cases_Bool, cases_eq, cases_order, false≢true, or_cases, or_parts, eqb-true, eq-eqb, ne_eqb, cond_both, ltb-true, ltb-false, eqb-false, or_left, or_right, and_parts, and_from, cond-true, cond-false, both_ways, not-true, not-false}
 use Rattle.std.proofs.lemmas.Bool.Decides.{nat_tests}
 use Rattle.std.proofs.lemmas.List.Kept.{IsStrictlyIncreasing-filter, AllPairs-from_increasing}
 use Rattle.std.proofs.lemmas.List.{length-take-le, get_or_default, get_or-take}

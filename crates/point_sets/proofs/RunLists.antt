@@ -1,17 +1,16 @@
 -- Lists of runs: their points, and the points round a place in them.
-use Rattle.std.proofs.Common.{◌≡◌, ◌≢◌, ℕ, zero, suc, ◌+◌, ◌-◌, ◌<◌, ◌≤◌, Bool, true, false, ◌&&◌, ◌||◌, eqb, ltb, leb, List, [], ◌∷◌, ◌++◌, length, get_or, take, drop, All, refl, sym, ap, ◌∙◌, subst, arith, rules, ⊎_elim, inl, inr, ◌⊎◌, append_assoc, length-append}
-use Rattle.std.proofs.lemmas.Bool.{cases_Bool, false≢true, or_cases, or_from, or_left, or_right}
+use Rattle.std.proofs.Common.{◌≡◌, ℕ, zero, suc, ◌+◌, ◌<◌, ◌≤◌, true, false, ◌&&◌, ◌||◌, leb, List, [], ◌∷◌, ◌++◌, length, get_or, take, drop, All, refl, sym, ap, ◌∙◌, subst, arith, ⊎_elim, append_assoc, length-append}
+use Rattle.std.proofs.lemmas.Bool.{cases_Bool, false≢true, or_cases}
 use Rattle.std.proofs.lemmas.Bool.Decides.{nat_tests}
 use Rattle.std.proofs.lemmas.List.{drop_more, take_all, get_or-append-add, get_or_append_left}
-use Rattle.std.proofs.Math.Seq.{take-suc}
-use Rattle.std.proofs.lemmas.List.{take-append-drop, append-nil}
+use Rattle.std.proofs.lemmas.List.{take-append-drop}
 use Rattle.std.proofs.lemmas.List.Elements.{All-head, All-tail, All-nil, All-cons, Contains-get_or}
 use Rattle.std.specs.List.Sorted.{IsStrictlyIncreasing}
 use Rattle.plain_values.specs.Points.{has, counted_from, IsPoints}
-use Rattle.point_sets.specs.Runs.{size_of, points_in, IsRun, AreRunsFrom, AreRuns, IsFirstTo, IsFirstWithMore}
+use Rattle.point_sets.specs.Runs.{size_of, points_in, IsRun, AreRunsFrom, AreRuns, IsFirstTo}
 use Rattle.point_sets.specs.declared.runs.Run.{Run}
 use Rattle.point_sets.specs.declared.TheConstants.{POINT_LIMIT}
-use Rattle.point_sets.proofs.Rising.{Each, has-append, has-counted_from, rising-append, rising-counted_from, Contains-from_has, has-from_Contains, length-counted_from, get_or-counted_from, absent_below}
+use Rattle.point_sets.proofs.Rising.{Each, has-append, has-counted_from, rising-append, rising-counted_from, has-from_Contains, length-counted_from, get_or-counted_from, absent_below}
 
 -- where the next run may begin, and how many points there are, after runs
 abbrev pub low_after : ℕ → List Run → ℕ

@@ -1,14 +1,14 @@
 -- What one more run at the end of a list of runs makes of it.
-use Rattle.std.proofs.Common.{◌≡◌, ◌≢◌, ℕ, zero, suc, ◌+◌, ◌-◌, ◌<◌, ◌≤◌, List, [], ◌∷◌, ◌++◌, length, get_or, set, take, drop, All, refl, sym, ap, ◌∙◌, subst, arith, rules, Fits, w32, ⊎_elim, append_assoc, length-append, suc}
+use Rattle.std.proofs.Common.{◌≡◌, ◌≢◌, ℕ, suc, ◌+◌, ◌-◌, ◌<◌, ◌≤◌, List, [], ◌∷◌, ◌++◌, length, get_or, set, take, drop, All, refl, sym, ap, ◌∙◌, subst, arith, rules, Fits, w32, ⊎_elim, append_assoc, suc}
 use Rattle.std.proofs.lemmas.Bool.{cases_lt}
 use Rattle.std.proofs.lemmas.List.{append-nil, drop_all, get_or_default, set_split, nil_from_length}
 use Rattle.plain_values.specs.Points.{counted_from}
-use Rattle.point_sets.specs.Runs.{size_of, points_in, IsRun, AreRunsFrom, AreRuns, IsJoined}
+use Rattle.point_sets.specs.Runs.{size_of, points_in, IsRun, AreRuns, IsJoined}
 use Rattle.point_sets.specs.declared.runs.Run.{Run}
 use Rattle.point_sets.specs.declared.TheConstants.{POINT_LIMIT}
-use Rattle.point_sets.proofs.Rising.{counted_from-+, length-counted_from}
+use Rattle.point_sets.proofs.Rising.{counted_from-+}
 use Rattle.point_sets.proofs.RunSearch.{total_last}
-use Rattle.point_sets.proofs.RunLists.{low_after, count_after, points_in-append, runs_join, run_at, earlier_runs, points_round, element_at, total_at, length-points_in, round, total_bound}
+use Rattle.point_sets.proofs.RunLists.{low_after, count_after, points_in-append, runs_join, run_at, earlier_runs, points_round, element_at, length-points_in, round, total_bound}
 
 -- a run that goes on up to an end, from a point just behind it
 abbrev pub grown_to : Run → ℕ → ℕ → Run

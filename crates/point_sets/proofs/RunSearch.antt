@@ -1,16 +1,15 @@
 -- What a search in a list of runs finds.
-use Rattle.std.proofs.Common.{Fits, w32, slice_get, length-append, ◌≡◌, ◌≢◌, ℕ, zero, suc, ◌+◌, ◌-◌, ◌<◌, ◌≤◌, Bool, true, false, ◌&&◌, ◌||◌, eqb, ltb, leb, List, [], ◌∷◌, ◌++◌, length, get_or, take, drop, All, Some, None, refl, sym, ap, ◌∙◌, subst, arith, rules, ⊎_elim, inl, inr, ◌⊎◌, get_or-take, add-one}
+use Rattle.std.proofs.Common.{Fits, w32, slice_get, length-append, ◌≡◌, ℕ, suc, ◌+◌, ◌-◌, ◌<◌, ◌≤◌, true, false, eqb, ltb, leb, List, [], ◌++◌, length, get_or, take, drop, All, Some, None, sym, ap, ◌∙◌, subst, arith, rules, ⊎_elim, get_or-take, add-one}
 use Rattle.std.proofs.lemmas.Bool.{ltb-true, ltb-false, leb-true, leb-false, cases_Bool}
-use Rattle.std.proofs.lemmas.Bool.Decides.{nat_tests}
 use Rattle.std.proofs.lemmas.List.{take_all, get_or_default, length-take-le, drop_all}
 use Rattle.std.proofs.lemmas.Option.{slice_get-get_or, slice_get_past}
 use Rattle.std.proofs.lemmas.List.Elements.{All-more, All-weaker}
 use Rattle.std.proofs.lemmas.List.Sorted.{IsNonDecreasingBy-from_all_adjacent, IsPartitionedBy-ltb, IsPartitionedBy-leb}
 use Rattle.std.proofs.lemmas.Iterator.Adapters.{position_from-zero}
-use Rattle.std.specs.List.{AllAdjacentBelow, AllWithin, position, position_from}
+use Rattle.std.specs.List.{AllWithin, position, position_from}
 use Rattle.std.specs.List.Sorted.{IsNonDecreasingBy, IsPartitionedBy, IsPartitionPoint}
 use Rattle.plain_values.specs.Points.{has, counted_from}
-use Rattle.point_sets.specs.Runs.{size_of, points_in, IsRun, AreRunsFrom, AreRuns, IsFirstTo, IsFirstWithMore}
+use Rattle.point_sets.specs.Runs.{size_of, points_in, AreRuns, IsFirstTo, IsFirstWithMore}
 use Rattle.point_sets.specs.Sweeps.{AllOrNone, IsNear}
 use Rattle.point_sets.specs.declared.runs.Run.{Run}
 use Rattle.point_sets.specs.declared.TheConstants.{POINT_LIMIT}

@@ -1,7 +1,6 @@
 -- A sweep over the points of two sets.
 use Rattle.std.specs.Prelude.{◌≡◌, ℕ, ◌+◌, ◌<◌, ◌≤◌, Bool, List, length, slice_index_or}
 use Rattle.plain_values.specs.Points.{has}
-use Rattle.point_sets.specs.Runs.{points_in}
 use Rattle.point_sets.specs.declared.runs.Run.{Run}
 
 -- the points of both sets, and how far the sweep has come

@@ -1,8 +1,8 @@
 //! Sets of points.
 
-ghost use Rattle.std.specs.Prelude.{◌≡◌, ◌++◌, ◌-◌, ◌<◌, ◌≤◌, ℕ, [], All, Bool, IfOk, IsTrue, OnOk, false, length, not, position, slice_get, ◌==◌};
-ghost use Rattle.std.specs.List.Sorted.{IsStrictlyIncreasing};
+ghost use Rattle.std.specs.Prelude.{◌≡◌, ◌↔◌, ◌++◌, ◌-◌, ◌<◌, ◌≤◌, ◌==◌, ℕ, [], All, Contains, IfOk, IfSome, IsTrue, OnOk, false, length, position, slice_get};
 ghost use Rattle.plain_values.specs.Points.{IsPoints, counted_from, has, meet_of, meets, minus_of, union_of, within};
+ghost use Rattle.point_sets.specs.Laws.{HasTells, MeetIsBoth, MeetsIsShared, MembersDecide, MinusIsRest, UnionIsEither, WithinIsEach};
 ghost use Rattle.point_sets.specs.Operations.{combined_of, kept};
 
 use crate::POINT_LIMIT;
@@ -34,7 +34,8 @@ impl PointSet {
 
     /// The set of no points.
     pub fn empty(alloc: Global) -> Result<PointSet, AllocError>
-        ensures { IfOk result (λ r. r ≡ []) }
+        ensures value { IfOk result (λ r. r ≡ []) }
+        ensures points { IfOk result (IsPoints POINT_LIMIT) }
     {
         Ok(PointSet {
             runs: Vec::new(alloc),
@@ -44,7 +45,8 @@ impl PointSet {
     /// The points from `a` to below `b`: none where `b` is at most `a`.
     pub fn range(alloc: Global, a: u32, b: u32) -> Result<PointSet, AllocError>
         requires { b ≤ POINT_LIMIT }
-        ensures { IfOk result (λ r. r ≡ counted_from a (b - a)) }
+        ensures value { IfOk result (λ r. r ≡ counted_from a (b - a)) }
+        ensures points { IfOk result (IsPoints POINT_LIMIT) }
     {
         let mut out = PointSet::empty(alloc)?;
         if a < b {
@@ -56,7 +58,7 @@ impl PointSet {
     /// The set of the points of a rising list.
     pub fn from_sorted(alloc: Global, points: &[u32]) -> Result<PointSet, AllocError>
         requires { IsPoints POINT_LIMIT points.now }
-        ensures { IfOk result (λ r. r ≡ points.now) }
+        ensures value { IfOk result (λ r. r ≡ points.now) }
     {
         let mut out = PointSet::empty(alloc)?;
         for point in points {
@@ -67,28 +69,35 @@ impl PointSet {
 
     /// The points of either set.
     pub fn union(&self, o: &PointSet) -> Result<PointSet, AllocError>
-        ensures { IfOk result (λ r. r ≡ union_of self.now o.now) }
+        ensures value { IfOk result (λ r. r ≡ union_of self.now o.now) }
+        ensures points { IfOk result (IsPoints POINT_LIMIT) }
+        ensures either { UnionIsEither }
     {
         self.combined(o, Operation::Union)
     }
 
     /// The points of both sets.
     pub fn meet(&self, o: &PointSet) -> Result<PointSet, AllocError>
-        ensures { IfOk result (λ r. r ≡ meet_of self.now o.now) }
+        ensures value { IfOk result (λ r. r ≡ meet_of self.now o.now) }
+        ensures points { IfOk result (IsPoints POINT_LIMIT) }
+        ensures both { MeetIsBoth }
     {
         self.combined(o, Operation::Meet)
     }
 
     /// The points of this set that the other lacks.
     pub fn minus(&self, o: &PointSet) -> Result<PointSet, AllocError>
-        ensures { IfOk result (λ r. r ≡ minus_of self.now o.now) }
+        ensures value { IfOk result (λ r. r ≡ minus_of self.now o.now) }
+        ensures points { IfOk result (IsPoints POINT_LIMIT) }
+        ensures rest { MinusIsRest }
     {
         self.combined(o, Operation::Minus)
     }
 
     /// The same set once more.
     pub fn copy(&self) -> Result<PointSet, AllocError>
-        ensures { IfOk result (λ r. r ≡ self.now) }
+        ensures value { IfOk result (λ r. r ≡ self.now) }
+        ensures points { IfOk result (IsPoints POINT_LIMIT) }
     {
         let runs = Vec::from_slice(*self.runs.allocator(), self.runs.as_slice())?;
         Ok(PointSet { runs })
@@ -96,21 +105,25 @@ impl PointSet {
 
     /// Whether the two sets share a point.
     pub fn meets(&self, o: &PointSet) -> bool
-        ensures { result ≡ meets self.now o.now }
+        ensures value { result ≡ meets self.now o.now }
+        ensures shared { MeetsIsShared }
     {
         self.any_kept(o, Operation::Meet)
     }
 
     /// Whether the other set holds every point of this one.
     pub fn within(&self, o: &PointSet) -> bool
-        ensures { result ≡ within self.now o.now }
+        ensures value { result ≡ within self.now o.now }
+        ensures each { WithinIsEach }
     {
         !self.any_kept(o, Operation::Minus)
     }
 
     /// Whether the set holds a point.
     pub fn has(&self, point: u32) -> bool
-        ensures { result ≡ has self.now point }
+        ensures value { result ≡ has self.now point }
+        ensures tells { HasTells }
+        ensures decided { MembersDecide }
     {
         let runs = self.as_runs();
         let place = first_run_to(runs, point);
@@ -129,7 +142,8 @@ impl PointSet {
 
     /// The point at a place of the rising list.
     pub fn at(&self, place: u32) -> Option<u32>
-        ensures { result ≡ slice_get self.now place }
+        ensures value { result ≡ slice_get self.now place }
+        ensures none { (result ≡ None) ↔ (length self.now ≤ place) }
     {
         let runs = self.as_runs();
         let run_place = first_run_with_more(runs, place);
@@ -142,7 +156,9 @@ impl PointSet {
 
     /// The place of a point in the rising list.
     pub fn place_of(&self, point: u32) -> Option<u32>
-        ensures { result ≡ position (λ x. x == point) self.now }
+        ensures value { result ≡ position (λ x. x == point) self.now }
+        ensures found { IfSome result (λ place. slice_get self.now place ≡ Some point) }
+        ensures none { (result ≡ None) ↔ ¬ Contains self.now point }
     {
         let runs = self.as_runs();
         let run_place = first_run_to(runs, point);
@@ -166,7 +182,8 @@ impl PointSet {
 
     /// What an operation makes of two sets.
     fn combined(&self, o: &PointSet, operation: Operation) -> Result<PointSet, AllocError>
-        ensures { IfOk result (λ r. r ≡ combined_of operation self.now o.now) }
+        ensures value { IfOk result (λ r. r ≡ combined_of operation self.now o.now) }
+        ensures points { IfOk result (IsPoints POINT_LIMIT) }
     {
         let mut out = PointSet::empty(*self.runs.allocator())?;
         let mut sweep = Sweep::new(self.as_runs(), o.as_runs());
@@ -216,3 +233,6 @@ impl PointSet {
         Ok(())
     }
 }
+
+#[cfg(test)]
+mod tests;

@@ -1,6 +1,5 @@
-use Rattle.std.proofs.Common.{ℕ, ◌<◌, ◌≤◌, length, get_or, arith}
+use Rattle.std.proofs.Common.{arith}
 use Rattle.point_sets.specs.declared.runs.Run.{Run}
-use Rattle.point_sets.proofs.RunLists.{run_at}
 use Rattle.point_sets.proofs.RunSearch.{even_past_runs, even_before_run, even_in_run, near_first, first_below, end_below, end_fits}
 use Rattle.point_sets.proofs.runs.stretch_at.Goals as goal
 

@@ -20,7 +20,7 @@ loop-piece-preserved-in-Continue-branch-2 c =
     } in
     so_far_kept c.args.operation c.args.self.now c.args.o.now c.loop-piece.sweep c.loop-piece.out c.loop-piece.invariant c.next.new.self piece.first piece.end piece.in_left piece.in_right part (sym c.keeps.ensures ∙ c.if-keeps.true) c.push_run.new.self c.in_ok-push_run.ensures.ok c.push_run.ensures.points
 
-pub returns : goal.returns
-returns c =
+pub returns-clause-value : goal.returns-clause-value
+returns-clause-value c =
     let stop = c.in_default.ensures.none in
     so_far_all c.args.operation c.args.self.now c.args.o.now c.loop-piece.sweep c.loop-piece.out c.loop-piece.invariant stop c.as_runs.ensures.set c.as_runs-2.ensures.set

@@ -1,4 +1,4 @@
-use Rattle.std.proofs.Common.{◌<◌, ℕ, List, All, get_or, sym, subst}
+use Rattle.std.proofs.Common.{◌<◌, All, get_or, sym, subst}
 use Rattle.point_sets.proofs.Rising.{take_below}
 use Rattle.point_sets.proofs.point_set.PointSet.from_sorted.Goals as goal
 

@@ -1,10 +1,9 @@
-use Rattle.std.proofs.Common.{◌≡◌, ℕ, ◌+◌, ◌-◌, ◌<◌, List, [], ◌∷◌, ◌++◌, length, All, subst, sym, ap, ◌∙◌, arith}
-use Rattle.plain_values.specs.Points.{IsPoints, counted_from}
-use Rattle.point_sets.specs.Runs.{IsJoined, points_in}
+use Rattle.std.proofs.Common.{ℕ, ◌-◌, ◌<◌, List, ◌++◌, length, All, subst, sym, ap, ◌∙◌, arith}
+use Rattle.plain_values.specs.Points.{counted_from}
+use Rattle.point_sets.specs.Runs.{IsJoined}
 use Rattle.point_sets.specs.declared.runs.Run.{Run}
-use Rattle.point_sets.specs.declared.TheConstants.{POINT_LIMIT}
 use Rattle.point_sets.proofs.RunLists.{points_of_runs}
-use Rattle.point_sets.proofs.RunPush.{IsMore, added_fits, added_is_more, added_to, grown_fits, grown_is_more, grown_to}
+use Rattle.point_sets.proofs.RunPush.{IsMore, added_fits, added_is_more, grown_fits, grown_is_more}
 use Rattle.point_sets.proofs.point_set.PointSet.push_run.Goals as goal
 
 pub overflow_add-run : goal.overflow_add-run
