@@ -1,5 +1,5 @@
 -- Points of an index space, and sets of them as rising lists.
-use Rattle.std.specs.Prelude.{ℕ, zero, suc, ◌<◌, nat_lt, ◌==◌, Bool, false, not, ◌||◌, if◌then◌else◌, List, [], ◌∷◌, All, filter}
+use Rattle.std.specs.Prelude.{ℕ, zero, suc, ◌<◌, nat_lt, ◌==◌, Bool, not, if◌then◌else◌, List, [], ◌∷◌, All, filter}
 use Rattle.std.specs.List.{list_any, list_all}
 use Rattle.std.specs.List.Sorted.{IsStrictlyIncreasing}
 
@@ -19,8 +19,7 @@ pub record IsPoints (bound : ℕ) (xs : List ℕ) : Type 0 where
 
 -- whether a list holds a number
 abbrev pub has : List ℕ → ℕ → Bool
-has [] x = false
-has (y ∷ ys) x = (x == y) || has ys x
+has xs x = list_any (λ y. x == y) xs
 
 -- a rising list with one more number, in its place, unless it is there
 abbrev pub put : ℕ → List ℕ → List ℕ

@@ -1,0 +1,9 @@
+pub mod Digits
+pub mod Runs
+pub mod Contents
+pub mod Blocks
+pub mod Sound
+pub mod Complete
+pub mod Reading
+pub mod Placed
+pub mod Spelt

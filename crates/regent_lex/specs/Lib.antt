@@ -1,0 +1,14 @@
+pub mod Bytes
+pub mod Words
+pub mod Numbers
+pub mod Strings
+pub mod Trivia
+pub mod Tokens
+pub mod Faults
+pub mod Texts
+pub mod Places
+pub mod Values
+pub mod Told
+pub mod Search
+pub mod Scan
+pub mod Begins

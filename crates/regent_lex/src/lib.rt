@@ -1,0 +1,29 @@
+//! The tokens of a Regent text.
+//!
+//! `tokens` reads a text of bytes into its list of tokens, or tells its first fault and the line of
+//! that. The language's lexical rules stand in `specs/`: the table of tokens in `Tokens`, blanks and
+//! comments in `Trivia`, the faults in `Faults`, whole texts in `Texts`. The scanner finds one lexeme
+//! after the other (`Scan`); that it finds what the rules say, and that a text has one outcome at
+//! most, is proved in `proofs/`.
+#![tactic(auto)]
+
+mod bytes;
+mod fault;
+mod lex;
+mod lexeme;
+mod numbers;
+mod scan;
+mod search;
+mod strings;
+mod token;
+mod trivia;
+mod values;
+mod words;
+
+pub use fault::{LexFault, LexKind};
+pub use lex::tokens;
+pub use token::{Token, TokenKind, spelling};
+pub use values::{has_suffix, number_value, quoted_bytes};
+
+#[cfg(test)]
+mod tests;

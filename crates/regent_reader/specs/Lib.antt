@@ -1,0 +1,4 @@
+pub mod Symbols
+pub mod Grammar
+pub mod Nodes
+pub mod Reading

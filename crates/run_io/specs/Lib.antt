@@ -1,0 +1,10 @@
+pub mod Faults
+pub mod Source
+pub mod Sink
+pub mod Told
+pub mod Plan
+pub mod Names
+pub mod MemorySource
+pub mod MemorySink
+pub mod FileSource
+pub mod StdSink

@@ -1,0 +1,7 @@
+-- What a `StdSink` is seen as.
+use Rattle.std.specs.Prelude.{ℕ}
+
+-- its count of faults, and its writer
+pub record FlushedWriter (W : Type 0) : Type 0 where
+  pub faults : ℕ
+  pub writer : W

@@ -1,0 +1,26 @@
+//! Sources of bytes and sinks for bytes, which count their faults.
+#![tactic(auto)]
+
+mod failed;
+mod fault_count;
+mod feed;
+mod file_source;
+mod memory_sink;
+mod memory_source;
+mod names;
+mod plan;
+mod sink;
+mod source;
+mod std_sink;
+mod sure_source;
+#[cfg(test)]
+mod tests;
+
+pub use failed::Failed;
+pub use file_source::FileSource;
+pub use memory_sink::MemorySink;
+pub use memory_source::MemorySource;
+pub use sink::{Sink, put_all};
+pub use source::Source;
+pub use std_sink::StdSink;
+pub use sure_source::SureSource;

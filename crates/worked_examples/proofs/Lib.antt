@@ -1,0 +1,6 @@
+pub mod Numbers
+pub mod Reductions
+pub mod Partitions
+pub mod Calls
+pub mod Pointers
+pub mod Limits

@@ -1,0 +1,16 @@
+use Rattle.std.specs.Prelude.{refl}
+use Rattle.std.specs.Int.{int_wrap}
+use Rattle.std.specs.Fmt.{digits}
+use Rattle.worked_examples.specs.Pointers.{null_pointer_means, outside_region_means, circuit_means}
+
+pub null_pointer_holds : null_pointer_means
+unfolding int_wrap digits
+null_pointer_holds = refl
+
+pub outside_region_holds : outside_region_means
+unfolding int_wrap digits
+outside_region_holds = refl
+
+pub circuit_holds : circuit_means
+unfolding int_wrap digits
+circuit_holds = refl

@@ -1,0 +1,7 @@
+pub mod Words
+pub mod Numbers
+pub mod Reductions
+pub mod Partitions
+pub mod Calls
+pub mod Pointers
+pub mod Limits

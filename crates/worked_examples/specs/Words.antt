@@ -1,0 +1,209 @@
+-- Shorthand for the trees of the examples and for what is said of them.
+use Rattle.std.specs.Prelude.{ℕ, ℤ, pos, neg_ℤ, List, [], ◌∷◌, map, false, Some, None, codes}
+use Prim.Native.String.{String}
+use Rattle.lane_kernels.specs.declared.numbers.Op.{Op}
+use Rattle.lane_kernels.specs.declared.numbers.Width.TheVariants.{W32, W64}
+use Rattle.regent_tree.specs.declared.expression.Arithmetic.{Arithmetic}
+use Rattle.regent_tree.specs.declared.expression.Operator.TheVariants.{Compute}
+use Rattle.regent_tree.specs.declared.expression.Sign.TheVariants.{Minus}
+use Rattle.regent_tree.specs.declared.outcome.Ending.TheVariants.{Finished, Faulted}
+use Rattle.regent_tree.specs.declared.outcome.FaultKind.{FaultKind}
+use Rattle.regent_tree.specs.declared.outcome.Outcome.{Outcome}
+use Rattle.regent_tree.specs.declared.outcome.RootImage.{RootImage}
+use Rattle.regent_tree.specs.declared.program.Clause.{Clause}
+use Rattle.regent_tree.specs.declared.program.Clause.TheVariants as clause
+use Rattle.regent_tree.specs.declared.program.Grant.{Grant}
+use Rattle.regent_tree.specs.declared.program.Place.{Place}
+use Rattle.regent_tree.specs.declared.statement.How.TheVariants as how
+use Rattle.regent_tree.specs.declared.types.Kind.TheVariants.{Int1d}
+use Rattle.regent_tree.specs.declared.types.NumberTerm.{NumberTerm}
+use Rattle.regent_tree.specs.declared.types.Param.{Param}
+use Rattle.regent_tree.specs.declared.types.PointerTerm.{PointerTerm}
+use Rattle.regent_tree.specs.declared.types.Ref.{Ref}
+use Rattle.regent_tree.specs.declared.types.Ref.TheVariants.{Named}
+use Rattle.regent_tree.specs.declared.types.SpaceUse.{SpaceUse}
+use Rattle.regent_tree.specs.declared.types.TypeTerm.{TypeTerm}
+use Rattle.regent_tree.specs.declared.types.TypeTerm.TheVariants as typed
+use Rattle.regent_tree.specs.Syntax.{Name, Expression, number_expr, chain_expr, prefix_expr, access_expr, space_expr, no_link, a_link, Expressions, no_expr, an_expr, Steps, no_step, field_step, at_step, Start, region_start, equal_start, by_field_start, image_start, preimage_start, either_start, plain_start, Statement, a_statement, Form, var_form, if_form, for_in_form, for_to_form, print_form, call_form, assign_form, Block, no_statement, then_statement, no_arm, an_arm, no_else, ItemForm, alias_item, space_item, task_item, start_item, ItemTree}
+
+-- ---- expressions
+
+abbrev pub int : ℕ → Expression
+int n = number_expr (pos n) W32
+
+abbrev pub int64 : ℕ → Expression
+int64 n = number_expr (pos n) W64
+
+-- a step of an access, before the steps behind it
+abbrev pub dot : String → Steps → Steps
+dot f rest = field_step (codes f) rest
+
+abbrev pub at : Expression → Steps → Steps
+at e rest = at_step e rest
+
+abbrev pub steps : List (Steps → Steps) → Steps
+steps [] = no_step
+steps (s ∷ ss) = s (steps ss)
+
+abbrev pub get : String → Expression
+get x = access_expr (codes x) no_step
+
+abbrev pub access : String → List (Steps → Steps) → Expression
+access x ss = access_expr (codes x) (steps ss)
+
+abbrev pub calc : Expression → Arithmetic → Expression → Expression
+calc a o b = chain_expr a (a_link (Compute o) b no_link)
+
+abbrev pub minus : Expression → Expression
+minus e = prefix_expr (Minus ∷ []) e
+
+abbrev pub space : Expression → Expression
+space e = space_expr Int1d e
+
+abbrev pub args : List Expression → Expressions
+args [] = no_expr
+args (e ∷ es) = an_expr e (args es)
+
+-- ---- types and clauses
+
+abbrev pub number : NumberTerm → TypeTerm
+number t = typed.Number t
+
+abbrev pub ref : String → Ref
+ref r = Named (codes r)
+
+abbrev pub space_of : String → List Ref → SpaceUse
+space_of fs rs = record { name = codes fs; args = rs }
+
+abbrev pub region : SpaceUse → TypeTerm
+region u = typed.Region Int1d u
+
+abbrev pub pointer : SpaceUse → List Ref → PointerTerm
+pointer u rs = record { kind = Int1d; space = u; regions = rs }
+
+abbrev pub points_into : PointerTerm → TypeTerm
+points_into t = typed.Pointer t
+
+abbrev pub param : ℕ → String → TypeTerm → Param
+param line x t = record { line = line; name = codes x; term = t }
+
+abbrev pub names : List String → List Name
+names [] = []
+names (x ∷ xs) = codes x ∷ names xs
+
+abbrev pub whole : String → Place
+whole r = record { region = codes r; fields = None }
+
+abbrev pub fields : String → List String → Place
+fields r fs = record { region = codes r; fields = Some (names fs) }
+
+abbrev pub grants : List Grant → List Place → Clause
+grants gs ps = clause.Grants gs ps
+
+abbrev pub apart : String → String → Clause
+apart a b = clause.Apart (codes a) (codes b)
+
+-- ---- statements
+
+abbrev pub line : ℕ → Form → Statement
+line n form = a_statement n form
+
+abbrev pub block : List Statement → Block
+block [] = no_statement
+block (s ∷ ss) = then_statement s (block ss)
+
+abbrev pub var : String → Expression → Form
+var x e = var_form (codes x) None (Some (plain_start e))
+
+abbrev pub var_as : String → TypeTerm → Expression → Form
+var_as x t e = var_form (codes x) (Some t) (Some (plain_start e))
+
+abbrev pub var_from : String → Start → Form
+var_from x s = var_form (codes x) None (Some s)
+
+abbrev pub new_region : Expression → SpaceUse → Start
+new_region e u = region_start e u
+
+abbrev pub equal : String → Expression → Start
+equal r e = equal_start (codes r) e
+
+abbrev pub by_field : String → String → Expression → Start
+by_field r f e = by_field_start (codes r) (codes f) e
+
+abbrev pub image : String → String → String → String → Start
+image s p r f = image_start (codes s) (codes p) (codes r) (codes f)
+
+abbrev pub preimage : String → String → String → String → Start
+preimage s p r f = preimage_start (codes s) (codes p) (codes r) (codes f)
+
+abbrev pub either : String → String → Start
+either p q = either_start (codes p) (codes q)
+
+abbrev pub set : String → List (Steps → Steps) → Expression → Form
+set x ss e = assign_form (codes x) (steps ss) how.Set e
+
+abbrev pub reduce : String → List (Steps → Steps) → Op → Expression → Form
+reduce x ss o e = assign_form (codes x) (steps ss) (how.Reduce o) e
+
+abbrev pub print : String → List Expression → Form
+print text es = print_form None (codes text) (args es)
+
+-- through an alias
+abbrev pub print_by : String → String → List Expression → Form
+print_by c text es = print_form (Some (codes c)) (codes text) (args es)
+
+abbrev pub call : String → List Expression → Form
+call t es = call_form (codes t) (args es)
+
+abbrev pub when : Expression → List Statement → Form
+when e ss = if_form (an_arm e (block ss) no_arm) no_else
+
+abbrev pub each : String → Expression → List Statement → Form
+each x e ss = for_in_form false (codes x) e (block ss)
+
+abbrev pub count : String → Expression → Expression → List Statement → Form
+count x a b ss = for_to_form false (codes x) a b (block ss)
+
+-- ---- items
+
+abbrev pub item : ℕ → ItemForm → ItemTree
+item n form = record { line = n; form = form }
+
+abbrev pub alias : String → ItemForm
+alias x = alias_item (codes x)
+
+abbrev pub start : String → ItemForm
+start t = start_item (codes t)
+
+abbrev pub field_space : String → List Param → List Param → ItemForm
+field_space x ps fs = space_item (record { name = codes x; params = ps; fields = fs })
+
+abbrev pub task : String → List Param → List Clause → List Statement → ItemForm
+task x ps cs ss = task_item (record {
+  name = codes x;
+  params = ps;
+  result = None;
+  clauses = cs;
+  body = block ss;
+})
+
+-- ---- outcomes
+
+-- a run that finishes with this text and these roots of the started task
+abbrev pub prints : String → List RootImage → Outcome
+prints text roots = record { text = codes text; ending = Finished roots }
+
+-- a run that faults on a line, with this text before it
+abbrev pub faults : String → FaultKind → ℕ → Outcome
+faults text kind line =
+    record { text = codes text; ending = Faulted (record { kind = kind; line = line }) }
+
+-- a root of the field space at a place, with so many points and these numbers of its fields
+abbrev pub root : ℕ → ℕ → List (List ℤ) → RootImage
+root space count fields = record { space = space; count = count; fields = fields }
+
+abbrev pub naturals : List ℕ → List ℤ
+naturals ns = map pos ns
+
+abbrev pub below_zero : ℕ → ℤ
+below_zero n = neg_ℤ (pos n)

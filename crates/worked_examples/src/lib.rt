@@ -1,0 +1,186 @@
+//! Worked examples: what some programs mean, each proved by computing.
+//!
+//! Each function has an empty body; its contract says what its program prints, and what its regions
+//! hold at the end or with which fault it ends.
+#![tactic(auto)]
+
+ghost use Rattle.worked_examples.specs.Numbers.{assignment_means, narrow_product_means, empty_task_means, signed_division_means, input_printed_means};
+ghost use Rattle.worked_examples.specs.Reductions.{reducing_calls_means, wrapping_reduction_means, least_lowered_means, least_kept_means, narrow_least_means};
+ghost use Rattle.worked_examples.specs.Partitions.{equal_sizes_means, sizes_by_field_means, preimage_of_colour_0_means, preimage_of_colour_1_means, neighbours_means, bad_colour_means};
+ghost use Rattle.worked_examples.specs.Calls.{writes_by_parts_means, overlapping_arguments_means, call_between_means, fault_in_loop_means, first_fault_means};
+ghost use Rattle.worked_examples.specs.Pointers.{null_pointer_means, outside_region_means, circuit_means};
+ghost use Rattle.worked_examples.specs.Limits.{turns_enough_means, turns_spent_means, calls_too_deep_means, greatest_space_means, space_too_large_means};
+
+/// An assignment, and a number printed.
+#[tactic(auto, using(crate::proofs::Numbers::assignment_holds))]
+pub fn assignment()
+    ensures { assignment_means }
+{}
+
+/// A product of two numbers of 32 bits wraps before it is widened.
+#[tactic(auto, using(crate::proofs::Numbers::narrow_product_holds))]
+pub fn narrow_product()
+    ensures { narrow_product_means }
+{}
+
+/// A task with no statement.
+#[tactic(auto, using(crate::proofs::Numbers::empty_task_holds))]
+pub fn empty_task()
+    ensures { empty_task_means }
+{}
+
+/// The least number divided by -1, and quotients towards zero.
+#[tactic(auto, using(crate::proofs::Numbers::signed_division_holds))]
+pub fn signed_division()
+    ensures { signed_division_means }
+{}
+
+/// A number that is given to the program.
+#[tactic(auto, using(crate::proofs::Numbers::input_printed_holds))]
+pub fn input_printed()
+    ensures { input_printed_means }
+{}
+
+/// Calls that each reduce by a sum.
+#[tactic(auto, using(crate::proofs::Reductions::reducing_calls_holds))]
+pub fn reducing_calls()
+    ensures { reducing_calls_means }
+{}
+
+/// A sum that wraps at 64 bits.
+#[tactic(auto, using(crate::proofs::Reductions::wrapping_reduction_holds))]
+pub fn wrapping_reduction()
+    ensures { wrapping_reduction_means }
+{}
+
+/// A least that is lowered twice.
+#[tactic(auto, using(crate::proofs::Reductions::least_lowered_holds))]
+pub fn least_lowered()
+    ensures { least_lowered_means }
+{}
+
+/// A least that is kept.
+#[tactic(auto, using(crate::proofs::Reductions::least_kept_holds))]
+pub fn least_kept()
+    ensures { least_kept_means }
+{}
+
+/// The right side of a reduction wraps at the width of the field.
+#[tactic(auto, using(crate::proofs::Reductions::narrow_least_holds))]
+pub fn narrow_least()
+    ensures { narrow_least_means }
+{}
+
+/// The sizes of an equal partition of ten points in four colours.
+#[tactic(auto, using(crate::proofs::Partitions::equal_sizes_holds))]
+pub fn equal_sizes()
+    ensures { equal_sizes_means }
+{}
+
+/// The sizes of a partition by a field.
+#[tactic(auto, using(crate::proofs::Partitions::sizes_by_field_holds))]
+pub fn sizes_by_field()
+    ensures { sizes_by_field_means }
+{}
+
+/// A preimage of an equal partition with empty colours.
+#[tactic(auto, using(crate::proofs::Partitions::preimage_of_colour_0_holds))]
+pub fn preimage_of_colour_0()
+    ensures { preimage_of_colour_0_means }
+{}
+
+/// A preimage of an equal partition with empty colours.
+#[tactic(auto, using(crate::proofs::Partitions::preimage_of_colour_1_holds))]
+pub fn preimage_of_colour_1()
+    ensures { preimage_of_colour_1_means }
+{}
+
+/// An image of a field, and what a task reads through it.
+#[tactic(auto, using(crate::proofs::Partitions::neighbours_holds))]
+pub fn neighbours()
+    ensures { neighbours_means }
+{}
+
+/// A number that is no colour.
+#[tactic(auto, using(crate::proofs::Partitions::bad_colour_holds))]
+pub fn bad_colour()
+    ensures { bad_colour_means }
+{}
+
+/// Two calls that write the two halves of a region.
+#[tactic(auto, using(crate::proofs::Calls::writes_by_parts_holds))]
+pub fn writes_by_parts()
+    ensures { writes_by_parts_means }
+{}
+
+/// A task that reads through one argument what it reduced through another.
+#[tactic(auto, using(crate::proofs::Calls::overlapping_arguments_holds))]
+pub fn overlapping_arguments()
+    ensures { overlapping_arguments_means }
+{}
+
+/// A call between two uses of a region by its caller.
+#[tactic(auto, using(crate::proofs::Calls::call_between_holds))]
+pub fn call_between()
+    ensures { call_between_means }
+{}
+
+/// A fault at one colour, behind the calls before it.
+#[tactic(auto, using(crate::proofs::Calls::fault_in_loop_holds))]
+pub fn fault_in_loop()
+    ensures { fault_in_loop_means }
+{}
+
+/// The first fault in the order of the text decides.
+#[tactic(auto, using(crate::proofs::Calls::first_fault_holds))]
+pub fn first_fault()
+    ensures { first_fault_means }
+{}
+
+/// A cast that finds its point, and one that gives null.
+#[tactic(auto, using(crate::proofs::Pointers::null_pointer_holds))]
+pub fn null_pointer()
+    ensures { null_pointer_means }
+{}
+
+/// A point that a region lacks.
+#[tactic(auto, using(crate::proofs::Pointers::outside_region_holds))]
+pub fn outside_region()
+    ensures { outside_region_means }
+{}
+
+/// Wires between nodes, with pointers, privileges and a constraint.
+#[tactic(auto, using(crate::proofs::Pointers::circuit_holds))]
+pub fn circuit()
+    ensures { circuit_means }
+{}
+
+/// As many turns as a loop takes.
+#[tactic(auto, using(crate::proofs::Limits::turns_enough_holds))]
+pub fn turns_enough()
+    ensures { turns_enough_means }
+{}
+
+/// One turn less than a loop takes.
+#[tactic(auto, using(crate::proofs::Limits::turns_spent_holds))]
+pub fn turns_spent()
+    ensures { turns_spent_means }
+{}
+
+/// A task that calls itself without an end.
+#[tactic(auto, using(crate::proofs::Limits::calls_too_deep_holds))]
+pub fn calls_too_deep()
+    ensures { calls_too_deep_means }
+{}
+
+/// The greatest size of an index space.
+#[tactic(auto, using(crate::proofs::Limits::greatest_space_holds))]
+pub fn greatest_space()
+    ensures { greatest_space_means }
+{}
+
+/// A size above the greatest.
+#[tactic(auto, using(crate::proofs::Limits::space_too_large_holds))]
+pub fn space_too_large()
+    ensures { space_too_large_means }
+{}
