@@ -22,15 +22,15 @@ abbrev pub has : List ℕ → ℕ → Bool
 has xs x = list_any (λ y. x == y) xs
 
 -- a rising list with one more number, in its place, unless it is there
-abbrev pub put : ℕ → List ℕ → List ℕ
-put x [] = x ∷ []
-put x (y ∷ ys) =
-    if nat_lt x y then (x ∷ y ∷ ys) else (if x == y then (y ∷ ys) else (y ∷ put x ys))
+abbrev pub with_point : ℕ → List ℕ → List ℕ
+with_point x [] = x ∷ []
+with_point x (y ∷ ys) =
+    if nat_lt x y then (x ∷ y ∷ ys) else (if x == y then (y ∷ ys) else (y ∷ with_point x ys))
 
 -- the points of either set
 abbrev pub union_of : List ℕ → List ℕ → List ℕ
 union_of [] ys = ys
-union_of (x ∷ xs) ys = put x (union_of xs ys)
+union_of (x ∷ xs) ys = with_point x (union_of xs ys)
 
 -- the points of both sets
 abbrev pub meet_of : List ℕ → List ℕ → List ℕ

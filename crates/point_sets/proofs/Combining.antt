@@ -1,6 +1,6 @@
 -- A sweep over two sets: what is made of them so far.
-use Rattle.std.proofs.Common.{◌≡◌, ℕ, ◌+◌, ◌-◌, ◌<◌, ◌≤◌, Bool, true, false, not, ◌&&◌, ◌||◌, ltb, leb, List, [], ◌++◌, get_or, All, refl, sym, ap, ◌∙◌, arith, ⊎_elim}
-use Rattle.std.proofs.lemmas.Bool.{cases_Bool, cases_lt, and_left, and_right, and_parts, lt-ltb, le-ltb, ltb-true}
+use Rattle.std.proofs.Common.{◌≡◌, ℕ, ◌+◌, ◌-◌, ◌<◌, ◌≤◌, Bool, true, false, not, ◌&&◌, ◌||◌, ltb, leb, List, ◌++◌, get_or, All, refl, sym, ap, ◌∙◌, arith, ⊎_elim}
+use Rattle.std.proofs.lemmas.Bool.{cases_Bool, cases_lt, and_right, and_parts, lt-ltb, ltb-true}
 use Rattle.std.proofs.lemmas.Bool.Decides.{nat_tests}
 use Rattle.std.proofs.lemmas.List.Elements.{All-contains, Contains-get_or}
 use Rattle.std.specs.List.Sorted.{IsStrictlyIncreasing}
@@ -65,18 +65,7 @@ rising-combined_of Minus xs ys p q = rising-filter (λ x. not (has ys x)) xs p
 joined_tests : (before all after : Bool) (z old new first end : ℕ) → first ≡ old → end ≡ new → first < end → before ≡ (ltb z old && all) → after ≡ (before || (leb first z && ltb z (first + (end - first)))) → (first ≤ z → z < end → all ≡ true) → after ≡ (ltb z new && all)
 joined_tests before all after z old new first end starts ends ahead m here inside = grind (arith, nat_tests)
 
-skipped_tests : (before all : Bool) (z old new first end : ℕ) → first ≡ old → end ≡ new → first < end → before ≡ (ltb z old && all) → (first ≤ z → z < end → all ≡ false) → before ≡ (ltb z new && all)
-skipped_tests before all z old new first end starts ends ahead m inside = grind (arith, nat_tests)
-
 module _ (operation : Operation) (xs ys : List ℕ) where
-  pub so_far_none : (sweep : Sweeping) → sweep.left ≡ xs → sweep.right ≡ ys → sweep.point ≡ 0 → IsSoFar operation xs ys sweep []
-  so_far_none sweep l r e = record {
-    left = l;
-    right = r;
-    points = record { rising = λ k m. absurd (omega arith); below = λ k d m. absurd (omega arith) };
-    members = λ z. sym (and_left (ltb z sweep.point) (kept operation (has xs z) (has ys z)) (le-ltb z sweep.point (omega arith)));
-  }
-
   module _ (old : Sweeping) (out : List ℕ) (s : IsSoFar operation xs ys old out) where
     pub all_before : (first : ℕ) → first ≡ old.point → All (λ x. x < first) out
     all_before first e k d l =
@@ -99,26 +88,12 @@ module _ (operation : Operation) (xs ys : List ℕ) where
           let ahead = p.ahead in
           joined_tests (has out z) (kept operation (has xs z) (has ys z)) (has more z) z old.point new.point first end starts ends ahead m here inside
 
-      left_out_members : kept operation in_left in_right ≡ false → (z : ℕ) → has out z ≡ (ltb z new.point && kept operation (has xs z) (has ys z))
-      left_out_members k z =
-          let m = s.members z in
-          let inside : first ≤ z → z < end → kept operation (has xs z) (has ys z) ≡ false = λ low high. kept_in_piece z low high ∙ k in
-          skipped_tests (has out z) (kept operation (has xs z) (has ys z)) z old.point new.point first end p.starts p.ends p.ahead m inside
-
       pub so_far_kept : kept operation in_left in_right ≡ true → (more : List ℕ) → more ≡ out ++ counted_from first (end - first) → IsPoints POINT_LIMIT more → IsSoFar operation xs ys new more
       so_far_kept k more e points = record {
         left = p.left ∙ s.left;
         right = p.right ∙ s.right;
         points = points;
         members = λ z. kept_members k more e z;
-      }
-
-      pub so_far_left_out : kept operation in_left in_right ≡ false → IsSoFar operation xs ys new out
-      so_far_left_out k = record {
-        left = p.left ∙ s.left;
-        right = p.right ∙ s.right;
-        points = s.points;
-        members = λ z. left_out_members k z;
       }
 
   pub so_far_all : (sweep : Sweeping) (out : List ℕ) → IsSoFar operation xs ys sweep out → sweep.point ≡ POINT_LIMIT → IsPoints POINT_LIMIT xs → IsPoints POINT_LIMIT ys → out ≡ combined_of operation xs ys
@@ -129,26 +104,7 @@ module _ (operation : Operation) (xs ys : List ℕ) where
       same z =
           ⊎_elim (λ l. ap (λ b. b && kept operation (has xs z) (has ys z)) (lt-ltb z sweep.point (omega arith))) (λ g. let k = kept_past operation xs ys p q z g in ap (λ b. ltb z sweep.point && b) k ∙ and_right (ltb z sweep.point) false refl ∙ sym k) (cases_lt z POINT_LIMIT)
 
-  -- ---- whether anything is kept
-
-  pub none_at_start : (sweep : Sweeping) → sweep.left ≡ xs → sweep.right ≡ ys → sweep.point ≡ 0 → IsNoneSoFar operation xs ys sweep
-  none_at_start sweep l r e = record { left = l; right = r; none = λ z m. absurd (omega arith) }
-
-  module _ (old new : Sweeping) (first end : ℕ) (in_left in_right : Bool) (s : IsNoneSoFar operation xs ys old) (p : IsPiece old new first end in_left in_right) where
-    even_in_piece : (z : ℕ) → first ≤ z → z < end → kept operation (has xs z) (has ys z) ≡ kept operation in_left in_right
-    even_in_piece z low high =
-        ap (λ b. kept operation b (has ys z)) (ap (λ l. has l z) (sym s.left) ∙ p.even_left z low high) ∙ ap (kept operation in_left) (ap (λ l. has l z) (sym s.right) ∙ p.even_right z low high)
-
-    pub none_more : kept operation in_left in_right ≡ false → IsNoneSoFar operation xs ys new
-    none_more k = record {
-      left = p.left ∙ s.left;
-      right = p.right ∙ s.right;
-      none = λ z l. ⊎_elim (λ low. s.none z (omega (arith, p.starts))) (λ high. even_in_piece z high (omega (arith, p.ends)) ∙ k) (cases_lt z first);
-    }
-
-    pub some_found : kept operation in_left in_right ≡ true → (z : ℕ) × (kept operation (has xs z) (has ys z) ≡ true)
-    some_found k = (first, even_in_piece first (omega arith) p.ahead ∙ k)
-
+  -- once the sweep is at the end, nothing is kept at any point
   pub none_at_all : (sweep : Sweeping) → IsNoneSoFar operation xs ys sweep → sweep.point ≡ POINT_LIMIT → IsPoints POINT_LIMIT xs → IsPoints POINT_LIMIT ys → (z : ℕ) → kept operation (has xs z) (has ys z) ≡ false
   none_at_all sweep s e p q z =
       ⊎_elim (λ l. s.none z (omega arith)) (λ g. kept_past operation xs ys p q z g) (cases_lt z POINT_LIMIT)

@@ -15,7 +15,7 @@ pub none_at : (xs : List ℕ) (place : ℕ) (r : Option ℕ) → r ≡ slice_get
 none_at xs place r e =
     (λ n. ⊎_elim (λ l. absurd (some_not_none r (get_or xs place 0) (e ∙ slice_get-get_or xs place 0 l) n)) (λ l. l) (cases_lt place (length xs)), λ l. e ∙ slice_get_past xs place l)
 
-position_is : (xs : List ℕ) (x : ℕ) → position (λ y. eqb y x) xs ≡ position_from (λ y. eqb y x) 0 xs
+pub position_is : (xs : List ℕ) (x : ℕ) → position (λ y. eqb y x) xs ≡ position_from (λ y. eqb y x) 0 xs
 position_is xs x = position_from-zero (λ y. eqb y x) xs
 
 member_has_place : (x i : ℕ) (xs : List ℕ) → has xs x ≡ true → (k : ℕ) × (position_from (λ y. eqb y x) i xs ≡ Some k)

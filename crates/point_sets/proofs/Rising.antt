@@ -7,7 +7,7 @@ use Rattle.std.proofs.lemmas.List.{length-take-le, get_or_default, get_or-take}
 use Rattle.std.specs.Bool.{Decides}
 use Rattle.std.specs.List.{Contains, position_from}
 use Rattle.std.specs.List.Sorted.{IsStrictlyIncreasing}
-use Rattle.plain_values.specs.Points.{has, put, union_of, meet_of, minus_of, meets, within, counted_from}
+use Rattle.plain_values.specs.Points.{has, with_point, union_of, meet_of, minus_of, meets, within, counted_from}
 
 -- Each member of a list satisfies a fact.
 abbrev pub Each : (ℕ → Type 0) → List ℕ → Type 0
@@ -81,30 +81,30 @@ members_decide (x ∷ xs) (y ∷ ys) up up' same =
 
 -- ---- a union
 
-has-put : (x : ℕ) (ys : List ℕ) (z : ℕ) → has (put x ys) z ≡ (eqb z x || has ys z)
-has-put x [] z = refl
-has-put x (y ∷ ys) z = let h = has-put x ys z in grind (arith, nat_tests)
+has-with_point : (x : ℕ) (ys : List ℕ) (z : ℕ) → has (with_point x ys) z ≡ (eqb z x || has ys z)
+has-with_point x [] z = refl
+has-with_point x (y ∷ ys) z = let h = has-with_point x ys z in grind (arith, nat_tests)
 
-put_below : (x y : ℕ) (ys : List ℕ) → x < y → IsStrictlyIncreasing (y ∷ ys) → Each (λ z. x < z) (y ∷ ys)
-put_below x y ys l up z m =
+with_point_below : (x y : ℕ) (ys : List ℕ) → x < y → IsStrictlyIncreasing (y ∷ ys) → Each (λ z. x < z) (y ∷ ys)
+with_point_below x y ys l up z m =
     ⊎_elim (λ e. omega arith) (λ h. let over : y < z = rising_head y ys up z h in omega arith) (has-cons_cases z y ys m)
 
-put_above : (x y : ℕ) (ys : List ℕ) → y ≤ x → x ≢ y → IsStrictlyIncreasing (y ∷ ys) → Each (λ z. y < z) (put x ys)
-put_above x y ys l ne up z m =
-    ⊎_elim (λ e. let same : z ≡ x = eqb-true z x e in omega arith) (rising_head y ys up z) (or_cases (eqb z x) (has ys z) (sym (has-put x ys z) ∙ m))
+with_point_above : (x y : ℕ) (ys : List ℕ) → y ≤ x → x ≢ y → IsStrictlyIncreasing (y ∷ ys) → Each (λ z. y < z) (with_point x ys)
+with_point_above x y ys l ne up z m =
+    ⊎_elim (λ e. let same : z ≡ x = eqb-true z x e in omega arith) (rising_head y ys up z) (or_cases (eqb z x) (has ys z) (sym (has-with_point x ys z) ∙ m))
 
-rising-put : (x : ℕ) (ys : List ℕ) → IsStrictlyIncreasing ys → IsStrictlyIncreasing (put x ys)
-rising-put x [] up = rising_cons x [] (λ z e. absurd (false≢true e)) up
-rising-put x (y ∷ ys) up =
-    cond_both (ltb x y) (x ∷ y ∷ ys) (cond (eqb x y) (y ∷ ys) (y ∷ put x ys)) IsStrictlyIncreasing (λ e. rising_cons x (y ∷ ys) (put_below x y ys (ltb-true x y e) up) up) (λ e. cond_both (eqb x y) (y ∷ ys) (y ∷ put x ys) IsStrictlyIncreasing (λ _. up) (λ ne. rising_cons y (put x ys) (put_above x y ys (ltb-false x y e) (eqb-false x y ne) up) (rising-put x ys (rising_tail y ys up))))
+rising-with_point : (x : ℕ) (ys : List ℕ) → IsStrictlyIncreasing ys → IsStrictlyIncreasing (with_point x ys)
+rising-with_point x [] up = rising_cons x [] (λ z e. absurd (false≢true e)) up
+rising-with_point x (y ∷ ys) up =
+    cond_both (ltb x y) (x ∷ y ∷ ys) (cond (eqb x y) (y ∷ ys) (y ∷ with_point x ys)) IsStrictlyIncreasing (λ e. rising_cons x (y ∷ ys) (with_point_below x y ys (ltb-true x y e) up) up) (λ e. cond_both (eqb x y) (y ∷ ys) (y ∷ with_point x ys) IsStrictlyIncreasing (λ _. up) (λ ne. rising_cons y (with_point x ys) (with_point_above x y ys (ltb-false x y e) (eqb-false x y ne) up) (rising-with_point x ys (rising_tail y ys up))))
 
 pub has-union_of : (xs ys : List ℕ) (z : ℕ) → has (union_of xs ys) z ≡ (has xs z || has ys z)
 has-union_of [] ys z = refl
-has-union_of (x ∷ xs) ys z = let h = has-union_of xs ys z in let g = has-put x (union_of xs ys) z in grind (arith, nat_tests)
+has-union_of (x ∷ xs) ys z = let h = has-union_of xs ys z in let g = has-with_point x (union_of xs ys) z in grind (arith, nat_tests)
 
 pub rising-union_of : (xs ys : List ℕ) → IsStrictlyIncreasing ys → IsStrictlyIncreasing (union_of xs ys)
 rising-union_of [] ys up = up
-rising-union_of (x ∷ xs) ys up = rising-put x (union_of xs ys) (rising-union_of xs ys up)
+rising-union_of (x ∷ xs) ys up = rising-with_point x (union_of xs ys) (rising-union_of xs ys up)
 
 -- ---- a part of a list that passes a test
 

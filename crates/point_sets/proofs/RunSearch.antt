@@ -5,14 +5,14 @@ use Rattle.std.proofs.lemmas.List.{take_all, get_or_default, length-take-le, dro
 use Rattle.std.proofs.lemmas.Option.{slice_get-get_or, slice_get_past}
 use Rattle.std.proofs.lemmas.List.Elements.{All-more, All-weaker}
 use Rattle.std.proofs.lemmas.List.Sorted.{IsNonDecreasingBy-from_all_adjacent, IsPartitionedBy-ltb, IsPartitionedBy-leb}
-use Rattle.std.proofs.lemmas.Iterator.Adapters.{position_from-zero}
-use Rattle.std.specs.List.{AllWithin, position, position_from}
+use Rattle.std.specs.List.{AllWithin, position}
 use Rattle.std.specs.List.Sorted.{IsNonDecreasingBy, IsPartitionedBy, IsPartitionPoint}
 use Rattle.plain_values.specs.Points.{has, counted_from}
 use Rattle.point_sets.specs.Runs.{size_of, points_in, AreRuns, IsFirstTo, IsFirstWithMore}
 use Rattle.point_sets.specs.Sweeps.{AllOrNone, IsNear}
 use Rattle.point_sets.specs.declared.runs.Run.{Run}
 use Rattle.point_sets.specs.declared.TheConstants.{POINT_LIMIT}
+use Rattle.point_sets.proofs.Places.{position_is}
 use Rattle.point_sets.proofs.RunLists.{gap_after, run_at, none_before_run, all_in_run, none_past_runs, few_points, element_at, total_at, total_bound, points_round, earlier_runs, rising-points_in}
 use Rattle.point_sets.proofs.Rising.{length-counted_from, position_absent, position_at}
 
@@ -136,9 +136,6 @@ no_element rs place many h f l =
     slice_get_past (points_in rs) many (few_points many rs h (subst (All (λ (r : Run). r.total ≤ many)) (take_all place rs l) f.passed))
 
 -- ---- the place of a point
-
-position_is : (xs : List ℕ) (x : ℕ) → position (λ y. eqb y x) xs ≡ position_from (λ y. eqb y x) 0 xs
-position_is xs x = position_from-zero (λ y. eqb y x) xs
 
 module _ (rs : List Run) (place point : ℕ) (d : Run) (h : AreRuns rs) (f : IsFirstTo rs place point) where
   pub no_place_past : length rs ≤ place → position (λ y. eqb y point) (points_in rs) ≡ None

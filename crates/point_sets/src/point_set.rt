@@ -187,7 +187,7 @@ impl PointSet {
     {
         let mut out = PointSet::empty(*self.runs.allocator())?;
         let mut sweep = Sweep::new(self.as_runs(), o.as_runs());
-        while let Some(piece) = sweep.next() {
+        while let Some(piece) = sweep.next_piece() {
             if operation.keeps(piece.in_left, piece.in_right) {
                 out.push_run(piece.first, piece.end)?;
             }
@@ -201,7 +201,7 @@ impl PointSet {
         ensures none { result ≡ false → (z : ℕ) → kept operation (has self.now z) (has o.now z) ≡ false }
     {
         let mut sweep = Sweep::new(self.as_runs(), o.as_runs());
-        while let Some(piece) = sweep.next() {
+        while let Some(piece) = sweep.next_piece() {
             if operation.keeps(piece.in_left, piece.in_right) {
                 return true;
             }

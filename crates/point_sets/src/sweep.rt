@@ -66,7 +66,7 @@ impl<'a> Sweep<'a> {
     }
 
     /// The piece that begins where the sweep stands; the sweep goes to its end.
-    pub fn next(&mut self) -> Option<Piece>
+    pub fn next_piece(&mut self) -> Option<Piece>
         ensures left { self.new.left ≡ self.old.left }
         ensures right { self.new.right ≡ self.old.right }
         ensures none { IfNone result (self.old.point ≡ POINT_LIMIT) }

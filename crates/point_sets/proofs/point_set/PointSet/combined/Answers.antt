@@ -9,16 +9,16 @@ push_run-requires-clause-above c =
 pub loop-piece-preserved-in-Continue-branch-2 : goal.loop-piece-preserved-in-Continue-branch-2
 loop-piece-preserved-in-Continue-branch-2 c =
     let piece = c.in-Some.piece in
-    let part : IsPiece c.loop-piece.sweep c.next.new.self piece.first piece.end piece.in_left piece.in_right = record {
-      left = c.next.ensures.left;
-      right = c.next.ensures.right;
+    let part : IsPiece c.loop-piece.sweep c.next_piece.new.self piece.first piece.end piece.in_left piece.in_right = record {
+      left = c.next_piece.ensures.left;
+      right = c.next_piece.ensures.right;
       starts = c.in-Some.ensures.first;
       ends = c.in-Some.ensures.end;
       ahead = c.in-Some.ensures.ahead;
       even_left = c.in-Some.ensures.in_left;
       even_right = c.in-Some.ensures.in_right;
     } in
-    so_far_kept c.args.operation c.args.self.now c.args.o.now c.loop-piece.sweep c.loop-piece.out c.loop-piece.invariant c.next.new.self piece.first piece.end piece.in_left piece.in_right part (sym c.keeps.ensures ∙ c.if-keeps.true) c.push_run.new.self c.in_ok-push_run.ensures.ok c.push_run.ensures.points
+    so_far_kept c.args.operation c.args.self.now c.args.o.now c.loop-piece.sweep c.loop-piece.out c.loop-piece.invariant c.next_piece.new.self piece.first piece.end piece.in_left piece.in_right part (sym c.keeps.ensures ∙ c.if-keeps.true) c.push_run.new.self c.in_ok-push_run.ensures.ok c.push_run.ensures.points
 
 pub returns-clause-value : goal.returns-clause-value
 returns-clause-value c =
