@@ -1,5 +1,6 @@
 -- Points of an index space, and sets of them as rising lists.
-use Rattle.std.specs.Prelude.{ℕ, zero, suc, ◌<◌, nat_lt, ◌==◌, Bool, not, if◌then◌else◌, List, [], ◌∷◌, All, filter}
+use Rattle.std.specs.Prelude.{ℕ, zero, suc, ◌<◌, nat_lt, ◌==◌, Bool, not, if◌then◌else◌}
+use Rattle.std.specs.Prelude.{List, [], ◌∷◌, All, filter}
 use Rattle.std.specs.List.{list_any, list_all}
 use Rattle.std.specs.List.Sorted.{IsStrictlyIncreasing}
 
@@ -25,7 +26,8 @@ has xs x = list_any (λ y. x == y) xs
 abbrev pub with_point : ℕ → List ℕ → List ℕ
 with_point x [] = x ∷ []
 with_point x (y ∷ ys) =
-    if nat_lt x y then (x ∷ y ∷ ys) else (if x == y then (y ∷ ys) else (y ∷ with_point x ys))
+    if nat_lt x y then (x ∷ y ∷ ys)
+    else (if x == y then (y ∷ ys) else (y ∷ with_point x ys))
 
 -- the points of either set
 abbrev pub union_of : List ℕ → List ℕ → List ℕ

@@ -7,8 +7,8 @@ use Rattle.point_sets.specs.Laws.{MembersDecide, HasTells, UnionIsEither, MeetIs
 use Rattle.point_sets.proofs.Rising.{has_decides, members_decide, Contains-from_has, has-from_Contains, has-union_of, rising-union_of, has-meet_of, has-minus_of, rising-filter, meets_at, meets_where, within_each, within_from_each}
 
 pub decided : MembersDecide
-decided xs ys up up' same =
-    members_decide xs ys up up' (λ x. same_from_decides (has xs x) (has ys x) (has_decides xs x) (λ h. (same x).1 (Contains-from_has ys x h), λ m. has-from_Contains ys x ((same x).0 m)))
+decided xs ys up set =
+    members_decide xs ys up set.0 (λ x. same_from_decides (has xs x) (has ys x) (has_decides xs x) (λ h. (set.1 x).0 (Contains-from_has ys x h), λ m. has-from_Contains ys x ((set.1 x).1 m)))
 
 pub tells : HasTells
 tells xs x = has_decides xs x

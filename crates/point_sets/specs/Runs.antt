@@ -1,5 +1,6 @@
 -- Lists of runs, and the points that they hold.
-use Rattle.std.specs.Prelude.{◌≡◌, ℕ, ◌+◌, ◌-◌, ◌<◌, ◌≤◌, List, [], ◌∷◌, ◌++◌, length, take, slice_index_or, All}
+use Rattle.std.specs.Prelude.{◌≡◌, ℕ, ◌+◌, ◌-◌, ◌<◌, ◌≤◌, length, take, slice_index_or}
+use Rattle.std.specs.Prelude.{List, [], ◌∷◌, ◌++◌, All}
 use Rattle.plain_values.specs.Points.{counted_from}
 use Rattle.point_sets.specs.declared.runs.Run.{Run}
 use Rattle.point_sets.specs.declared.TheConstants.{POINT_LIMIT}

@@ -15,4 +15,5 @@ AllOrNone xs first end inside = (z : ℕ) → first ≤ z → z < end → has xs
 
 -- a point is at most just behind the run at a place
 abbrev pub IsNear : List Run → ℕ → ℕ → Type 0
-IsNear rs place point = (d : Run) → place < length rs → point ≤ (slice_index_or rs place d).last + 1
+IsNear rs place point =
+    (d : Run) → place < length rs → point ≤ (slice_index_or rs place d).last + 1

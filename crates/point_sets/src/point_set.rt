@@ -1,8 +1,11 @@
 //! Sets of points.
 
-ghost use Rattle.std.specs.Prelude.{◌≡◌, ◌↔◌, ◌++◌, ◌-◌, ◌<◌, ◌≤◌, ◌==◌, ℕ, [], All, Contains, IfOk, IfSome, IsTrue, OnOk, false, length, position, slice_get};
-ghost use Rattle.plain_values.specs.Points.{IsPoints, counted_from, has, meet_of, meets, minus_of, union_of, within};
-ghost use Rattle.point_sets.specs.Laws.{HasTells, MeetIsBoth, MeetsIsShared, MembersDecide, MinusIsRest, UnionIsEither, WithinIsEach};
+ghost use Rattle.std.specs.Prelude.{◌≡◌, ◌↔◌, ◌++◌, ◌-◌, ◌<◌, ◌≤◌, ◌==◌, ℕ, [], All, Contains};
+ghost use Rattle.std.specs.Prelude.{IfOk, IfSome, IsTrue, OnOk, false, length, position, slice_get};
+ghost use Rattle.plain_values.specs.Points.{IsPoints, counted_from, has, meets, within};
+ghost use Rattle.plain_values.specs.Points.{meet_of, minus_of, union_of};
+ghost use Rattle.point_sets.specs.Laws.{HasTells, MembersDecide, MeetsIsShared, WithinIsEach};
+ghost use Rattle.point_sets.specs.Laws.{MeetIsBoth, MinusIsRest, UnionIsEither};
 ghost use Rattle.point_sets.specs.Operations.{combined_of, kept};
 
 use crate::POINT_LIMIT;
@@ -119,7 +122,7 @@ impl PointSet {
         !self.any_kept(o, Operation::Minus)
     }
 
-    /// Whether the set holds a point.
+    /// Whether the set holds a point. Sets that hold the same points are the same list.
     pub fn has(&self, point: u32) -> bool
         ensures value { result ≡ has self.now point }
         ensures tells { HasTells }
@@ -172,6 +175,7 @@ impl PointSet {
         Some(run.total - (run.last + 1 - point))
     }
 
+    /// The runs, with what they are known to be.
     fn as_runs(&self) -> &[Run]
         ensures runs { AreRuns result.now }
         ensures points { points_in result.now ≡ self.now }
@@ -197,8 +201,10 @@ impl PointSet {
 
     /// Whether an operation keeps any point of the two sets.
     fn any_kept(&self, o: &PointSet, operation: Operation) -> bool
-        ensures some { IsTrue result → (z : ℕ) × IsTrue (kept operation (has self.now z) (has o.now z)) }
-        ensures none { result ≡ false → (z : ℕ) → kept operation (has self.now z) (has o.now z) ≡ false }
+        ensures some { IsTrue result
+            → (z : ℕ) × IsTrue (kept operation (has self.now z) (has o.now z)) }
+        ensures none { result ≡ false
+            → (z : ℕ) → kept operation (has self.now z) (has o.now z) ≡ false }
     {
         let mut sweep = Sweep::new(self.as_runs(), o.as_runs());
         while let Some(piece) = sweep.next_piece() {

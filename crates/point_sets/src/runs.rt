@@ -1,6 +1,6 @@
 //! Runs of points, and rising lists of them.
 
-ghost use Rattle.std.specs.Prelude.{◌≡◌, IsTrue, false, ℕ, ◌+◌, ◌<◌, ◌≤◌, length, slice_index_or, take, All};
+ghost use Rattle.std.specs.Prelude.{◌≡◌, ◌+◌, ◌<◌, ◌≤◌, ℕ, All, IsTrue, false, length, take};
 ghost use Rattle.point_sets.specs.Runs.{AreRuns, IsFirstTo, IsFirstWithMore, IsJoined, points_in};
 ghost use Rattle.point_sets.specs.Sweeps.{AllOrNone, IsNear};
 
@@ -78,7 +78,7 @@ pub fn stretch_at(runs: &[Run], place: usize, point: u32) -> Stretch
     }
 }
 
-/// The place of the first run to a point, which the runs before a near place end before.
+/// The place of the first run to a point, where that is a place or the one behind it.
 pub fn place_ahead(runs: &[Run], place: usize, point: u32) -> usize
     requires runs { AreRuns runs.now }
     requires inside { place ≤ length runs.now }
