@@ -10,7 +10,8 @@ IsClosed op w = (a b : ℤ) → FitsWidth w (applied op w a b)
 
 abbrev pub IsAssociative : Op → Width → Type 0
 IsAssociative op w =
-    (a b c : ℤ) → FitsWidth w a → FitsWidth w b → FitsWidth w c → applied op w (applied op w a b) c ≡ applied op w a (applied op w b c)
+    (a b c : ℤ) → FitsWidth w a → FitsWidth w b → FitsWidth w c →
+    applied op w (applied op w a b) c ≡ applied op w a (applied op w b c)
 
 abbrev pub IsCommutative : Op → Width → Type 0
 IsCommutative op w =
@@ -19,4 +20,5 @@ IsCommutative op w =
 -- the operator's identity is a number of the width, and leaves each number of the width as it is
 abbrev pub HasIdentity : Op → Width → Type 0
 HasIdentity op w =
-    FitsWidth w (identity_of op w) × ((a : ℤ) → FitsWidth w a → applied op w (identity_of op w) a ≡ a)
+    FitsWidth w (identity_of op w)
+    × ((a : ℤ) → FitsWidth w a → applied op w (identity_of op w) a ≡ a)

@@ -3,7 +3,8 @@ use Rattle.std.specs.Prelude.{◌-◌, ◌^◌, ℤ, pos, negsuc, ◌+ℤ◌, �
 use Rattle.std.specs.Int.{w32, w64, int_wrap, int_min, int_max}
 use Rattle.std.specs.Int as int
 use Rattle.lane_kernels.specs.declared.numbers.FieldKind.{FieldKind}
-use Rattle.lane_kernels.specs.declared.numbers.FieldKind.TheVariants.{Int32, Int64, Truth, Index, Pointer}
+use Rattle.lane_kernels.specs.declared.numbers.FieldKind.TheVariants.{Int32, Int64, Truth}
+use Rattle.lane_kernels.specs.declared.numbers.FieldKind.TheVariants.{Index, Pointer}
 use Rattle.lane_kernels.specs.declared.numbers.Op.{Op}
 use Rattle.lane_kernels.specs.declared.numbers.Op.TheVariants.{Sum, Product, Least, Greatest}
 use Rattle.lane_kernels.specs.declared.numbers.Width.{Width}

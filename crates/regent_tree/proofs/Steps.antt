@@ -8,7 +8,7 @@ use Rattle.regent_tree.specs.declared.expression.Operator.TheVariants.{Or, And, 
 use Rattle.regent_tree.specs.declared.outcome.FaultKind.{FaultKind}
 use Rattle.regent_tree.specs.declared.types.PointerTerm.{PointerTerm}
 use Rattle.regent_tree.specs.Syntax.{Name}
-use Rattle.regent_tree.specs.Sets.{has}
+use Rattle.plain_values.specs.Points.{has}
 use Rattle.regent_tree.specs.Values.{Value, a_number, a_truth, an_index, a_pointer, a_space, a_region, a_partition, Target, null_target, point_target, Region, Partition}
 use Rattle.regent_tree.specs.Store.{Store, Touch}
 use Rattle.regent_tree.specs.StaticTypes.{StaticType, integer_type, truth_type, index_type, pointer_type, ispace_type, region_type, partition_type, no_type, unknown_type}

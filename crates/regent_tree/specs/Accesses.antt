@@ -8,7 +8,7 @@ use Rattle.regent_tree.specs.declared.outcome.FaultKind.{FaultKind}
 use Rattle.regent_tree.specs.declared.outcome.FaultKind.TheVariants.{OutOfRegion, NullPointer, BadColor}
 use Rattle.regent_tree.specs.declared.types.PointerTerm.{PointerTerm}
 use Rattle.regent_tree.specs.Syntax.{Name}
-use Rattle.regent_tree.specs.Sets.{has}
+use Rattle.plain_values.specs.Points.{has}
 use Rattle.lane_kernels.specs.Numbers.{wrapped}
 use Rattle.regent_tree.specs.Values.{Value, a_number, an_index, a_pointer, a_space, a_region, a_partition, Target, null_target, point_target, Region, Partition, no_region, number_of, region_of, target_of, moved, meant}
 use Rattle.regent_tree.specs.Store.{read_at}

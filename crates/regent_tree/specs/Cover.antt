@@ -10,7 +10,7 @@ use Rattle.regent_tree.specs.declared.program.Grant.{Grant}
 use Rattle.regent_tree.specs.declared.program.Grant.TheVariants as grant
 use Rattle.regent_tree.specs.declared.program.Place.{Place}
 use Rattle.regent_tree.specs.Syntax.{Name, Tree, TaskTree}
-use Rattle.regent_tree.specs.Sets.{has}
+use Rattle.plain_values.specs.Points.{has}
 use Rattle.regent_tree.specs.Values.{Value, a_truth, Region, region_of}
 use Rattle.regent_tree.specs.Store.{Touch}
 use Rattle.regent_tree.specs.StaticTypes.{unknown_type, place_in, field_place}

@@ -2,7 +2,6 @@ pub mod Syntax
 pub mod Plain
 pub mod PlainProgram
 pub mod Facts
-pub mod Sets
 pub mod Partitions
 pub mod Numbers
 pub mod Values

@@ -3,8 +3,7 @@
 -- beside the region's points, one for each.
 use Rattle.std.specs.Prelude.{ℕ, suc, ℤ, pos, negsuc, List, [], ◌∷◌, map, filter, length, take, drop, Bool, true, false, cond, ◌||◌, ◌==◌, ◌*◌, ◌/◌, ◌-◌, ◌%◌, ◌^◌, Option, Some, None}
 use Rattle.std.specs.List.{list_any}
-use Rattle.plain_values.specs.Points.{points}
-use Rattle.regent_tree.specs.Sets.{has, union_of, meet_of, minus_of}
+use Rattle.plain_values.specs.Points.{points, has, union_of, meet_of, minus_of}
 
 -- the point that a field's number names: where the field keeps pointers, the point number without
 -- the position; null and other numbers below 0 name none

@@ -5,7 +5,7 @@ use Rattle.lane_kernels.specs.declared.numbers.Width.{Width}
 use Rattle.lane_kernels.specs.declared.numbers.Width.TheVariants.{W32, W64}
 use Rattle.lane_kernels.specs.declared.numbers.FieldKind.{FieldKind}
 use Rattle.lane_kernels.specs.declared.numbers.FieldKind.TheVariants.{Int32, Int64, Truth, Index, Pointer}
-use Rattle.regent_tree.specs.Sets.{has}
+use Rattle.plain_values.specs.Points.{has}
 
 -- a region: its root's place in the store, and a rising list of that root's points
 pub record Region : Type 0 where

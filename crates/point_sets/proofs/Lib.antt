@@ -1,0 +1,7 @@
+mod Combining
+pub mod LawProofs
+mod Places
+pub mod Rising
+mod RunLists
+mod RunPush
+mod RunSearch

@@ -1,0 +1,4 @@
+pub mod Laws
+pub mod Operations
+pub mod Runs
+pub mod Sweeps

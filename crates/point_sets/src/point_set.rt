@@ -1,0 +1,244 @@
+//! Sets of points.
+
+ghost use Rattle.std.specs.Prelude.{◌≡◌, ◌↔◌, ◌++◌, ◌-◌, ◌<◌, ◌≤◌, ◌==◌, ℕ, [], All, Contains};
+ghost use Rattle.std.specs.Prelude.{IfOk, IfSome, IsTrue, OnOk, false, length, position, slice_get};
+ghost use Rattle.plain_values.specs.Points.{IsPoints, counted_from, has, meets, within};
+ghost use Rattle.plain_values.specs.Points.{meet_of, minus_of, union_of};
+ghost use Rattle.point_sets.specs.Laws.{HasTells, MembersDecide, MeetsIsShared, WithinIsEach};
+ghost use Rattle.point_sets.specs.Laws.{MeetIsBoth, MinusIsRest, UnionIsEither};
+ghost use Rattle.point_sets.specs.Operations.{combined_of, kept};
+
+use crate::POINT_LIMIT;
+use crate::operation::Operation;
+use crate::runs::{Run, ends_before, first_run_to, first_run_with_more};
+use crate::sweep::Sweep;
+use std::alloc::{AllocError, Global};
+use std::marker::Model;
+
+/// A set of points, which contracts see as the rising list of them.
+#[derive(Debug, Drop)]
+pub struct PointSet {
+    runs: Vec<Run>,
+}
+
+impl Model for PointSet {
+    ghost use Rattle.std.specs.Prelude.{List, ℕ};
+    ghost use Rattle.point_sets.specs.Runs.{AreRuns, points_in};
+
+    ghost Value = { List ℕ };
+
+    ghost view = { λ a. points_in a.runs.items };
+
+    ghost invariant = { λ a. AreRuns a.runs.items };
+}
+
+impl PointSet {
+    ghost use Rattle.point_sets.specs.Runs.{AreRuns, points_in};
+
+    /// The set of no points.
+    pub fn empty(alloc: Global) -> Result<PointSet, AllocError>
+        ensures value { IfOk result (λ r. r ≡ []) }
+        ensures points { IfOk result (IsPoints POINT_LIMIT) }
+    {
+        Ok(PointSet {
+            runs: Vec::new(alloc),
+        })
+    }
+
+    /// The points from `a` to below `b`: none where `b` is at most `a`.
+    pub fn range(alloc: Global, a: u32, b: u32) -> Result<PointSet, AllocError>
+        requires { b ≤ POINT_LIMIT }
+        ensures value { IfOk result (λ r. r ≡ counted_from a (b - a)) }
+        ensures points { IfOk result (IsPoints POINT_LIMIT) }
+    {
+        let mut out = PointSet::empty(alloc)?;
+        if a < b {
+            out.push_run(a, b)?;
+        }
+        Ok(out)
+    }
+
+    /// The set of the points of a rising list.
+    pub fn from_sorted(alloc: Global, points: &[u32]) -> Result<PointSet, AllocError>
+        requires { IsPoints POINT_LIMIT points.now }
+        ensures value { IfOk result (λ r. r ≡ points.now) }
+    {
+        let mut out = PointSet::empty(alloc)?;
+        for point in points {
+            out.push_run(*point, *point + 1)?;
+        }
+        Ok(out)
+    }
+
+    /// The points of either set.
+    pub fn union(&self, o: &PointSet) -> Result<PointSet, AllocError>
+        ensures value { IfOk result (λ r. r ≡ union_of self.now o.now) }
+        ensures points { IfOk result (IsPoints POINT_LIMIT) }
+        ensures either { UnionIsEither }
+    {
+        self.combined(o, Operation::Union)
+    }
+
+    /// The points of both sets.
+    pub fn meet(&self, o: &PointSet) -> Result<PointSet, AllocError>
+        ensures value { IfOk result (λ r. r ≡ meet_of self.now o.now) }
+        ensures points { IfOk result (IsPoints POINT_LIMIT) }
+        ensures both { MeetIsBoth }
+    {
+        self.combined(o, Operation::Meet)
+    }
+
+    /// The points of this set that the other lacks.
+    pub fn minus(&self, o: &PointSet) -> Result<PointSet, AllocError>
+        ensures value { IfOk result (λ r. r ≡ minus_of self.now o.now) }
+        ensures points { IfOk result (IsPoints POINT_LIMIT) }
+        ensures rest { MinusIsRest }
+    {
+        self.combined(o, Operation::Minus)
+    }
+
+    /// The same set once more.
+    pub fn copy(&self) -> Result<PointSet, AllocError>
+        ensures value { IfOk result (λ r. r ≡ self.now) }
+        ensures points { IfOk result (IsPoints POINT_LIMIT) }
+    {
+        let runs = Vec::from_slice(*self.runs.allocator(), self.runs.as_slice())?;
+        Ok(PointSet { runs })
+    }
+
+    /// Whether the two sets share a point.
+    pub fn meets(&self, o: &PointSet) -> bool
+        ensures value { result ≡ meets self.now o.now }
+        ensures shared { MeetsIsShared }
+    {
+        self.any_kept(o, Operation::Meet)
+    }
+
+    /// Whether the other set holds every point of this one.
+    pub fn within(&self, o: &PointSet) -> bool
+        ensures value { result ≡ within self.now o.now }
+        ensures each { WithinIsEach }
+    {
+        !self.any_kept(o, Operation::Minus)
+    }
+
+    /// Whether the set holds a point. Sets that hold the same points are the same list.
+    pub fn has(&self, point: u32) -> bool
+        ensures value { result ≡ has self.now point }
+        ensures tells { HasTells }
+        ensures decided { MembersDecide }
+    {
+        let runs = self.as_runs();
+        let place = first_run_to(runs, point);
+        place < runs.len() && runs[place].first <= point
+    }
+
+    /// How many points the set has.
+    pub fn len(&self) -> u32
+        ensures value { result ≡ length self.now }
+        ensures points { IsPoints POINT_LIMIT self.now }
+    {
+        let runs = self.as_runs();
+        let count = runs.len();
+        if count == 0 { 0 } else { runs[count - 1].total }
+    }
+
+    /// The point at a place of the rising list.
+    pub fn at(&self, place: u32) -> Option<u32>
+        ensures value { result ≡ slice_get self.now place }
+        ensures none { (result ≡ None) ↔ (length self.now ≤ place) }
+    {
+        let runs = self.as_runs();
+        let run_place = first_run_with_more(runs, place);
+        if run_place == runs.len() {
+            return None;
+        }
+        let run = runs[run_place];
+        Some(run.last + 1 - (run.total - place))
+    }
+
+    /// The place of a point in the rising list.
+    pub fn place_of(&self, point: u32) -> Option<u32>
+        ensures value { result ≡ position (λ x. x == point) self.now }
+        ensures found { IfSome result (λ place. slice_get self.now place ≡ Some point) }
+        ensures none { (result ≡ None) ↔ ¬ Contains self.now point }
+    {
+        let runs = self.as_runs();
+        let run_place = first_run_to(runs, point);
+        if run_place == runs.len() {
+            return None;
+        }
+        let run = runs[run_place];
+        if point < run.first {
+            return None;
+        }
+        Some(run.total - (run.last + 1 - point))
+    }
+
+    /// The runs, with what they are known to be.
+    fn as_runs(&self) -> &[Run]
+        ensures runs { AreRuns result.now }
+        ensures points { points_in result.now ≡ self.now }
+        ensures set { IsPoints POINT_LIMIT self.now }
+    {
+        self.runs.as_slice()
+    }
+
+    /// What an operation makes of two sets.
+    fn combined(&self, o: &PointSet, operation: Operation) -> Result<PointSet, AllocError>
+        ensures value { IfOk result (λ r. r ≡ combined_of operation self.now o.now) }
+        ensures points { IfOk result (IsPoints POINT_LIMIT) }
+    {
+        let mut out = PointSet::empty(*self.runs.allocator())?;
+        let mut sweep = Sweep::new(self.as_runs(), o.as_runs());
+        while let Some(piece) = sweep.next_piece() {
+            if operation.keeps(piece.in_left, piece.in_right) {
+                out.push_run(piece.first, piece.end)?;
+            }
+        }
+        Ok(out)
+    }
+
+    /// Whether an operation keeps any point of the two sets.
+    fn any_kept(&self, o: &PointSet, operation: Operation) -> bool
+        ensures some { IsTrue result
+            → (z : ℕ) × IsTrue (kept operation (has self.now z) (has o.now z)) }
+        ensures none { result ≡ false
+            → (z : ℕ) → kept operation (has self.now z) (has o.now z) ≡ false }
+    {
+        let mut sweep = Sweep::new(self.as_runs(), o.as_runs());
+        while let Some(piece) = sweep.next_piece() {
+            if operation.keeps(piece.in_left, piece.in_right) {
+                return true;
+            }
+        }
+        false
+    }
+
+    /// Adds the points from the first to below the end, which are above all that are there.
+    fn push_run(&mut self, first: u32, end: u32) -> Result<(), AllocError>
+        requires order { first < end }
+        requires below { end ≤ POINT_LIMIT }
+        requires above { All (λ x. x < first) self.old }
+        ensures ok { OnOk result (self.new ≡ self.old ++ counted_from first (end - first)) }
+        ensures points { IsPoints POINT_LIMIT self.new }
+    {
+        if ends_before(self.runs.as_slice(), first) {
+            let place = self.runs.len() - 1;
+            let run = &mut self.runs[place];
+            run.last = end - 1;
+            run.total += end - first;
+        } else {
+            let total = self.len() + (end - first);
+            self.runs.push(Run {
+                first,
+                last: end - 1,
+                total,
+            })?;
+        }
+        Ok(())
+    }
+}
+
+#[cfg(test)]
+mod tests;

@@ -1,0 +1,136 @@
+//! Small sets against lists by hand, the edges, and sets of two million runs.
+
+ghost use Rattle.std.specs.Prelude.{IfOk};
+ghost use Rattle.plain_values.specs.Points.{IsPoints};
+
+use super::PointSet;
+use crate::POINT_LIMIT;
+use std::alloc::{AllocError, Global};
+
+/// The union of ranges.
+fn made(alloc: Global, ranges: &[(u32, u32)]) -> Result<PointSet, AllocError> {
+    let mut set = PointSet::empty(alloc)?;
+    for (a, b) in ranges {
+        let range = PointSet::range(alloc, *a, (*b).min(POINT_LIMIT))?;
+        set = set.union(&range)?;
+    }
+    Ok(set)
+}
+
+fn listed(alloc: Global, set: &PointSet) -> Result<Vec<u32>, AllocError> {
+    let mut points = Vec::new(alloc);
+    for place in 0..set.len() {
+        if let Some(point) = set.at(place) {
+            points.push(point)?;
+        }
+    }
+    Ok(points)
+}
+
+/// Every second point.
+fn evens(alloc: Global) -> Result<Vec<u32>, AllocError>
+    ensures { IfOk result (λ v. IsPoints POINT_LIMIT v.items) }
+{
+    let mut points = Vec::with_capacity(alloc, 2_097_152)?;
+    for half in 0..POINT_LIMIT / 2 {
+        points.push(2 * half)?;
+    }
+    Ok(points)
+}
+
+#[test]
+fn small_sets(rt: HostRuntime) -> Result<(), AllocError> {
+    let alloc = rt.alloc();
+    let rows: [(&[(u32, u32)], &[(u32, u32)], &[u32], &[u32], &[u32]); 10] = [
+        (&[], &[], &[], &[], &[]),
+        (&[], &[(2, 5)], &[2, 3, 4], &[], &[]),
+        (&[(2, 5)], &[], &[2, 3, 4], &[], &[2, 3, 4]),
+        (&[(1, 2), (4, 5)], &[(2, 5)], &[1, 2, 3, 4], &[4], &[1]),
+        (&[(7, 8)], &[(7, 8)], &[7], &[7], &[]),
+        (&[(7, 8)], &[(8, 9)], &[7, 8], &[], &[7]),
+        (&[(3, 4)], &[(1, 6)], &[1, 2, 3, 4, 5], &[3], &[]),
+        (
+            &[(0, 2), (4, 6), (8, 10)],
+            &[(2, 4), (6, 8)],
+            &[0, 1, 2, 3, 4, 5, 6, 7, 8, 9],
+            &[],
+            &[0, 1, 4, 5, 8, 9],
+        ),
+        (
+            &[(0, 3), (5, 8), (10, 12)],
+            &[(2, 6), (7, 11)],
+            &[0, 1, 2, 3, 4, 5, 6, 7, 8, 9, 10, 11],
+            &[2, 5, 7, 10],
+            &[0, 1, 6, 11],
+        ),
+        (
+            &[(4_194_302, 4_194_304)],
+            &[(4_194_303, 4_194_304)],
+            &[4_194_302, 4_194_303],
+            &[4_194_303],
+            &[4_194_302],
+        ),
+    ];
+    for (left, right, either, both, rest) in rows {
+        let a = made(alloc, left)?;
+        let b = made(alloc, right)?;
+        let union = listed(alloc, &a.union(&b)?)?;
+        let meet = listed(alloc, &a.meet(&b)?)?;
+        let minus = listed(alloc, &a.minus(&b)?)?;
+        assert_eq!(rt; union.as_slice(), either);
+        assert_eq!(rt; meet.as_slice(), both);
+        assert_eq!(rt; minus.as_slice(), rest);
+        assert_eq!(rt; a.meets(&b), !both.is_empty());
+        assert_eq!(rt; a.within(&b), rest.is_empty());
+    }
+    Ok(())
+}
+
+#[test]
+fn edges(rt: HostRuntime) -> Result<(), AllocError> {
+    let alloc = rt.alloc();
+    let all = made(alloc, &[(0, POINT_LIMIT)])?;
+    assert_eq!(rt; all.len(), 4_194_304);
+    assert_eq!(rt; all.at(4_194_303), Some(4_194_303));
+    assert_eq!(rt; all.at(4_194_304), None);
+    assert_eq!(rt; all.place_of(4_194_303), Some(4_194_303));
+    assert_eq!(rt; all.place_of(4_194_304), None);
+    assert_eq!(rt; all.has(4_194_304), false);
+    let none = made(alloc, &[(5, 2)])?;
+    assert_eq!(rt; none.len(), 0);
+    assert_eq!(rt; none.at(0), None);
+    assert_eq!(rt; none.within(&all), true);
+    let pair = PointSet::from_sorted(alloc, &[1, 4])?.copy()?;
+    assert_eq!(rt; pair.len(), 2);
+    assert_eq!(rt;
+        (pair.has(1), pair.has(2), pair.has(4)),
+        (true, false, true)
+    );
+    assert_eq!(rt;
+        (pair.at(0), pair.at(1), pair.at(2)),
+        (Some(1), Some(4), None)
+    );
+    assert_eq!(rt; (pair.place_of(4), pair.place_of(3)), (Some(1), None));
+    Ok(())
+}
+
+#[test]
+fn two_million_runs(rt: HostRuntime) -> Result<(), AllocError> {
+    let alloc = rt.alloc();
+    let even = PointSet::from_sorted(alloc, evens(alloc)?.as_slice())?;
+    let all = made(alloc, &[(0, POINT_LIMIT)])?;
+    let odd = all.minus(&even)?;
+    assert_eq!(rt; (even.len(), odd.len()), (2_097_152, 2_097_152));
+    assert_eq!(rt; even.union(&odd)?.len(), 4_194_304);
+    assert_eq!(rt; all.meet(&odd)?.len(), 2_097_152);
+    assert_eq!(rt;
+        (even.meets(&odd), odd.within(&all), all.within(&odd)),
+        (false, true, false)
+    );
+    for half in 0..POINT_LIMIT / 2 {
+        assert_eq!(rt; even.at(half), Some(2 * half));
+        assert_eq!(rt; even.place_of(2 * half), Some(half));
+        assert_eq!(rt; odd.has(2 * half), false);
+    }
+    Ok(())
+}
