@@ -1,2 +1,3 @@
 pub mod VariableLaws
 pub mod ChainLaws
+pub mod FormatLaws

@@ -1,7 +1,8 @@
 -- The evaluator's variables as names of the meaning, and what expressions and statements give.
 use Rattle.std.specs.Prelude.{ℕ, ◌≡◌, ◌+◌, List, [], ◌∷◌, map, Option, Some, cond, bytes_eq, false}
+use Rattle.lane_kernels.specs.declared.numbers.Width.TheVariants.{W64}
 use Rattle.regent_tree.specs.Syntax.{Name, Expression, Links, Expressions, Form, Block}
-use Rattle.regent_tree.specs.Values.{Value}
+use Rattle.regent_tree.specs.Values.{Value, a_number}
 use Rattle.regent_tree.specs.StaticTypes.{integer_type}
 use Rattle.regent_tree.specs.Scopes.{Scope, with_name}
 use Rattle.regent_tree.specs.Typing.{linked_type}
@@ -29,13 +30,13 @@ names_of vs = names_before [] vs
 -- the scope with these variables
 abbrev pub scope_with : Scope → List Variable → Scope
 scope_with s [] = s
-scope_with s (v ∷ vs) = scope_with (with_name s v.name (integer_type (width_in v.number)) false) vs
+scope_with s (v ∷ vs) = scope_with (with_name s v.name (integer_type W64) false) vs
 
 abbrev pub no_scope : Scope
 no_scope = record { names = []; known = []; next = 0 }
 
 abbrev pub values_of : List Variable → List Value
-values_of vs = map (λ (v : Variable). value_of v.number) vs
+values_of vs = map (λ (v : Variable). a_number W64 v.value) vs
 
 -- a place where these variables are in scope, and a state that has them
 abbrev pub knowing : Here → List Variable → Here

@@ -2,5 +2,6 @@
 #![tactic(auto)]
 
 mod evaluate;
+mod format;
 mod machine;
 mod numbers;
