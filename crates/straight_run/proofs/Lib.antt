@@ -1,3 +1,4 @@
 pub mod VariableLaws
 pub mod ChainLaws
 pub mod FormatLaws
+pub mod StatementLaws

@@ -56,6 +56,12 @@ pub bound_newest : (vs : List Variable) (n : Name) (m : ℕ) → newest None 0 v
     HoldsAt (bound_to (scope_with no_scope vs).names n) vs m
 bound_newest vs n m e = newest_holds vs [] no_scope None 0 n refl refl (λ k e'. absurd cc) m e
 
+-- an element within a list is the same with any default
+pub get_or-any : (vs : List Variable) (m : ℕ) (d e : Variable) → m < length vs → get_or vs m d ≡ get_or vs m e
+get_or-any [] m d e h = absurd (omega arith)
+get_or-any (v ∷ vs) zero d e h = refl
+get_or-any (v ∷ vs) (suc m) d e h = get_or-any vs m d e (omega arith)
+
 -- a name means its newest variable's number
 pub name_means : (vs : List Variable) (n : Name) (m : ℕ) (x : Variable) → newest None 0 vs n ≡ Some m → x ≡ get_or vs m x → Means vs (access_expr n no_step) (Wide x.value)
 name_means vs n m x e is =
@@ -65,12 +71,6 @@ name_means vs n m x e is =
       type = λ _. h.type;
       number = λ _ s. rw (h.place, lists.get_or-map (λ (v : Variable). a_number W64 v.value) vs m no_variable (a_truth false) h.below, same) refl;
     }
-  where
-    get_or-any : (vs : List Variable) (m : ℕ) (d e : Variable) → m < length vs → get_or vs m d ≡ get_or vs m e
-    get_or-any [] m d e h = absurd (omega arith)
-    get_or-any (v ∷ vs) zero d e h = refl
-    get_or-any (v ∷ vs) (suc m) d e h = get_or-any vs m d e (omega arith)
-
 -- there is a newest variable exactly where the name is bound
 found_on : (b : Bool) (i : ℕ) (found : Option ℕ) (old : Bool) → is_some found ≡ old → is_some (cond b (Some i) found) ≡ (b || old)
 found_on true i found old h = refl

@@ -12,6 +12,7 @@ use Rattle.regent_tree.specs.Execution.{exec, exec_block, after_statement, goes_
 use Rattle.straight_run.specs.declared.numbers.Number.{Number}
 use Rattle.straight_run.specs.declared.machine.Variable.{Variable}
 use Rattle.straight_run.specs.declared.machine.Machine.{Machine}
+use Rattle.straight_run.specs.FirstForm.{names_after}
 use Rattle.straight_run.specs.Values.{value_of, width_in}
 
 -- the place of the newest variable of a name, from a place on
@@ -74,6 +75,7 @@ pub record Steps (old : Machine) (form : Form) (new : Machine) : Type 0 where
       after_statement (knowing h old.variables.items) form ≡ knowing h new.variables.items
   pub run : (h : Here) (s : State) →
       exec (knowing h old.variables.items) form (at s old) ≡ gives goes_on (at s new)
+  pub names : names_of new.variables.items ≡ names_after (names_of old.variables.items) form
 
 -- statements in order do
 pub record Executes (old : Machine) (body : Block) (new : Machine) : Type 0 where

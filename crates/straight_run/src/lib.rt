@@ -2,6 +2,7 @@
 #![tactic(auto)]
 
 mod evaluate;
+mod execute;
 mod format;
 mod machine;
 mod numbers;
