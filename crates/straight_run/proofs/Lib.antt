@@ -2,3 +2,4 @@ pub mod VariableLaws
 pub mod ChainLaws
 pub mod FormatLaws
 pub mod StatementLaws
+pub mod ProgramLaws

@@ -24,10 +24,11 @@ use Rattle.straight_run.specs.declared.numbers.Number.TheVariants as numbers
 use Rattle.straight_run.specs.declared.numbers.Number as numbers_type
 use Rattle.straight_run.specs.declared.machine.Variable.{Variable}
 use Rattle.straight_run.specs.declared.machine.Machine.{Machine}
-use Rattle.straight_run.specs.FirstForm.{is_int64, is_set, are_sums, count_of, is_sum}
+use Rattle.straight_run.specs.FirstForm.{is_int64, is_set, are_sums, count_of, is_sum, is_in_order, are_in_order, names_after}
 use Rattle.straight_run.specs.Formats.{numbers_of}
 use Rattle.straight_run.specs.Values.{value_of, width_in}
 use Rattle.straight_run.specs.Variables.{newest, names_before, names_of, scope_with, no_scope, values_of, knowing, having, Means, AllMean, Steps, Executes}
+use Rattle.straight_run.proofs.ChainLaws.{and_true, and_false}
 use Rattle.straight_run.proofs.VariableLaws.{bound_newest, HoldsAt}
 
 -- ---- arguments
@@ -137,3 +138,13 @@ is_int64_only (Some (Partition d r c)) h = absurd cc
 pub is_set_only : (how : How) → is_set how ≡ true → how ≡ Set
 is_set_only Set h = refl
 is_set_only (Reduce o) h = absurd cc
+
+pub order_ends : (names : List Name) (line : ℕ) (form : Form) (rest : Block) → false ≡ is_in_order names form →
+    false ≡ are_in_order names (then_statement (a_statement line form) rest)
+order_ends names line form rest h = sym (and_false (is_in_order names form) (are_in_order (names_after names form) rest) h)
+
+pub order_goes_on : (old mid : Machine) (line : ℕ) (form : Form) (rest : Block) → true ≡ is_in_order (names_of old.variables.items) form → Steps old form mid →
+    are_in_order (names_of mid.variables.items) rest ≡ are_in_order (names_of old.variables.items) (then_statement (a_statement line form) rest)
+order_goes_on old mid line form rest h step =
+    let names = names_of old.variables.items in
+    ap (λ ns. are_in_order ns rest) step.names ∙ sym (and_true (is_in_order names form) (are_in_order (names_after names form) rest) h)

@@ -81,3 +81,10 @@ pub record Steps (old : Machine) (form : Form) (new : Machine) : Type 0 where
 pub record Executes (old : Machine) (body : Block) (new : Machine) : Type 0 where
   pub run : (h : Here) (s : State) →
       exec_block (knowing h old.variables.items) body (at s old) ≡ gives goes_on (at s new)
+
+-- statements that begin with nothing print a text and go on
+pub record Prints (body : Block) (text : List ℕ) : Type 0 where
+  pub variables : List Variable
+  pub run : (h : Here) (s : State) →
+      exec_block (knowing h []) body (record s { names = []; text = [] })
+      ≡ gives goes_on (record s { names = values_of variables; text = text })
