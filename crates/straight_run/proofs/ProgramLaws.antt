@@ -39,4 +39,4 @@ pub program_prints : (tree : Tree) (turns : ℕ) (t : TaskTree) (text : List ℕ
 program_prints tree turns t text main nothing prints =
     ap (λ u. outcome (run_task tree turns (calls_at tree turns 63) u (inputs_of (param_types tree u) []) [])) main
     ∙ task_prints tree (calls_at tree turns 63) turns t text (empty_is t.params (both_left (is_empty t.params) (is_empty t.clauses) nothing))
-        (empty_is t.clauses (both_right (is_empty t.params) (is_empty t.clauses) nothing)) prints
+    (empty_is t.clauses (both_right (is_empty t.params) (is_empty t.clauses) nothing)) prints

@@ -32,10 +32,10 @@ picked : (test : Bool) (new old : Bound) (us : List Variable) (v : Variable) (m 
     cond test (Some (length us)) found ≡ Some m → HoldsAt (cond test new old) (us ++ v ∷ []) m
 picked true new old us v m found place type before e =
     let same : length us ≡ m = ap (λ o. unwrap_or o m) e in
-    record { below = rw length-snoc (omega arith); place = place ∙ same; type = type; }
+    record { below = rw length-snoc (omega arith); place = place ∙ same; type = type }
 picked false new old us v m found place type before e =
     let h : HoldsAt old us m = before m e in
-    record { below = let b = h.below in rw length-snoc (omega arith); place = h.place; type = h.type; }
+    record { below = let b = h.below in rw length-snoc (omega arith); place = h.place; type = h.type }
 
 -- the newest variable of a name is what the name is bound to
 pub newest_holds : (vs us : List Variable) (s : Scope) (found : Option ℕ) (i : ℕ) (n : Name) →
@@ -71,6 +71,7 @@ name_means vs n m x e is =
       type = λ _. h.type;
       number = λ _ s. rw (h.place, lists.get_or-map (λ (v : Variable). a_number W64 v.value) vs m no_variable (a_truth false) h.below, same) refl;
     }
+
 -- there is a newest variable exactly where the name is bound
 found_on : (b : Bool) (i : ℕ) (found : Option ℕ) (old : Bool) → is_some found ≡ old → is_some (cond b (Some i) found) ≡ (b || old)
 found_on true i found old h = refl

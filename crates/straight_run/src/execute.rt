@@ -180,13 +180,7 @@ fn declare_typed(
 }
 
 /// An assignment, where it is by `=` and to a name.
-fn assign_bare(
-    target: &[u8],
-    steps: &[Step],
-    how: How,
-    value: &Expr,
-    machine: &mut Machine,
-) -> bool
+fn assign_bare(target: &[u8], steps: &[Step], how: How, value: &Expr, machine: &mut Machine) -> bool
     ensures order { result ≡ (is_set how && (is_bare (steps_in steps.now)
         && (has_name (names_of machine.old.variables.items) target.now
         && is_sum (names_of machine.old.variables.items) (expression_of value.now)))) }
@@ -251,11 +245,7 @@ fn execute(alloc: Global, what: &What, machine: &mut Machine) -> Result<bool, Al
 }
 
 /// Statements in order, or false at the first that isn't in order.
-pub fn execute_all(
-    alloc: Global,
-    body: &[Stmt],
-    machine: &mut Machine,
-) -> Result<bool, AllocError>
+pub fn execute_all(alloc: Global, body: &[Stmt], machine: &mut Machine) -> Result<bool, AllocError>
     ensures order { IfOk result (λ ok. ok
         ≡ are_in_order (names_of machine.old.variables.items) (block_in body.now)) }
     ensures executes { IfOk result (λ ok.

@@ -92,7 +92,11 @@ pub fn numbers_printed(format: &[u8]) -> Option<usize>
             Reading::Wrong => return None,
         }
     }
-    if spot == Spot::Text { Some(count) } else { None }
+    if spot == Spot::Text {
+        Some(count)
+    } else {
+        None
+    }
 }
 
 /// Whether a text prints so many numbers.

@@ -15,6 +15,8 @@ mod format;
 mod machine;
 mod numbers;
 mod started;
+#[cfg(test)]
+mod tests;
 
 use execute::execute_all;
 use machine::Machine;

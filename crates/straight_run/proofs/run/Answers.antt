@@ -25,9 +25,9 @@ returns-then-takes_nothing-clause-text c =
     let items = c.args.program.now.items.items in
     let t = task_of c.in-Some.task.now in
     let name : c.started.result.now ≡ started (map item_tree_of items) =
-        c.started.ensures ∙ ap (λ (xs : List Item). started (map item_tree_of xs)) c.deref-2.ensures.value in
+    c.started.ensures ∙ ap (λ (xs : List Item). started (map item_tree_of xs)) c.deref-2.ensures.value in
     let main : main_task (tree_of c.args.program.now) ≡ t =
-        subst (λ (xs : List Item). task_named (map item_tree_of xs) (started (map item_tree_of items)) ≡ t) c.deref.ensures.value
-        (subst (λ (n : List ℕ). task_named (map item_tree_of c.deref.result.now) n ≡ t) name c.in-Some.ensures) in
+    subst (λ (xs : List Item). task_named (map item_tree_of xs) (started (map item_tree_of items)) ≡ t) c.deref.ensures.value
+    (subst (λ (n : List ℕ). task_named (map item_tree_of c.deref.result.now) n ≡ t) name c.in-Some.ensures) in
     λ turns. result_prints (tree_of c.args.program.now) turns t c.run_body.result main (sym c.if-takes_nothing.ensures)
     (subst (λ b. IfOk c.run_body.result (λ o. IfSome o (λ text. Prints b text.items))) (ap block_in c.deref-then-takes_nothing.ensures.value) c.run_body.ensures.text)

@@ -11,7 +11,7 @@ pub returns-in-None-clause-sums : goal.returns-in-None-clause-sums
 returns-in-None-clause-sums c =
     let names = names_of c.args.variables.now in
     sym (c.loop-arg.invariant.sums ∙ ap (are_sums names) (args_step c.args.args.now c.loop-arg.arg-index c.arg-item.result (search rules) c.arg-item.is)
-        ∙ and_false (is_sum names (expression_of c.arg-item.result)) (are_sums names (expressions_in (drop (c.loop-arg.arg-index + 1) c.args.args.now))) c.in-None.ensures.sum)
+    ∙ and_false (is_sum names (expression_of c.arg-item.result)) (are_sums names (expressions_in (drop (c.loop-arg.arg-index + 1) c.args.args.now))) c.in-None.ensures.sum)
 
 pub returns-clause-mean : goal.returns-clause-mean
 returns-clause-mean c =

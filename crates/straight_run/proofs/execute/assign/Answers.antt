@@ -25,11 +25,11 @@ pub returns-in-None-clause-order : goal.returns-in-None-clause-order
 returns-in-None-clause-order c =
     let items = c.deref.result.now in
     rw (← c.deref.ensures.value) (sym (and_false (has_name (names_of items) c.args.target.now) (is_sum (names_of items) (expression_of c.args.value.now))
-        (ap is_some c.in-None.ensures.same ∙ newest_bound items [] None 0 c.args.target.now refl)))
+    (ap is_some c.in-None.ensures.same ∙ newest_bound items [] None 0 c.args.target.now refl)))
 
 pub returns-in-Some-evaluate-clause-order : goal.returns-in-Some-evaluate-clause-order
 returns-in-Some-evaluate-clause-order c =
     let items = c.deref.result.now in
     let same : items ≡ c.deref-in-Some.result.now = c.deref.ensures.value ∙ sym c.deref-in-Some.ensures.value in
     rw (← c.deref.ensures.value) (subst (λ (vs : List Variable). true ≡ is_sum (names_of vs) (expression_of c.args.value.now)) (sym same) c.in-Some-evaluate.ensures.sum ∙ sym (and_true (has_name (names_of items) c.args.target.now) (is_sum (names_of items) (expression_of c.args.value.now))
-        (ap is_some c.in-Some.ensures.same ∙ newest_bound items [] None 0 c.args.target.now refl)))
+    (ap is_some c.in-Some.ensures.same ∙ newest_bound items [] None 0 c.args.target.now refl)))
