@@ -1,5 +1,5 @@
 -- Statements: what arguments, new variables, assignments and texts do to a machine.
-use Rattle.std.proofs.Common.{◌≡◌, ℕ, ℤ, zero, suc, ◌+◌, ◌<◌, List, [], ◌∷◌, ◌++◌, length, get_or, drop, refl, ap, ◌∙◌, sym, subst, Bool, true, false, Option, Some, None, map, arith}
+use Rattle.std.proofs.Common.{◌≡◌, ℕ, zero, suc, ◌+◌, ◌<◌, List, [], ◌∷◌, ◌++◌, length, get_or, drop, refl, ap, ◌∙◌, sym, true, false, Option, Some, None, map}
 use Rattle.std.proofs.Math.ListN.{set}
 use Rattle.std.proofs.lemmas.List.{drop_more, map-set, map-append}
 use Rattle.lane_kernels.specs.declared.numbers.Width.TheVariants.{W64}
@@ -14,22 +14,20 @@ use Rattle.regent_tree.specs.Syntax.{Form, Block, no_statement, then_statement, 
 use Rattle.regent_tree.specs.Plain.{expression_of, expressions_in}
 use Rattle.regent_tree.specs.PlainProgram.{form_of, block_in}
 use Rattle.regent_tree.specs.Execution.{on_line}
-use Rattle.regent_tree.specs.Values.{Value, a_number, number_of}
+use Rattle.regent_tree.specs.Values.{a_number, number_of}
 use Rattle.regent_tree.specs.StaticTypes.{integer_type}
 use Rattle.regent_tree.specs.Scopes.{Scope, with_name}
 use Rattle.regent_tree.specs.Widths.{wrapped}
 use Rattle.regent_tree.specs.Printing.{printed}
-use Rattle.regent_tree.specs.Running.{Here, State, gives}
-use Rattle.straight_run.specs.declared.numbers.Number.TheVariants as numbers
 use Rattle.straight_run.specs.declared.numbers.Number as numbers_type
 use Rattle.straight_run.specs.declared.machine.Variable.{Variable}
 use Rattle.straight_run.specs.declared.machine.Machine.{Machine}
-use Rattle.straight_run.specs.FirstForm.{is_int64, is_set, are_sums, count_of, is_sum, is_in_order, are_in_order, names_after}
+use Rattle.straight_run.specs.FirstForm.{is_int64, is_set, is_in_order, are_in_order, names_after}
 use Rattle.straight_run.specs.Formats.{numbers_of}
-use Rattle.straight_run.specs.Values.{value_of, width_in}
-use Rattle.straight_run.specs.Variables.{newest, names_before, names_of, scope_with, no_scope, values_of, knowing, having, Means, AllMean, Steps, Executes}
+use Rattle.straight_run.specs.Values.{value_of}
+use Rattle.straight_run.specs.Variables.{newest, names_before, names_of, scope_with, no_scope, Means, AllMean, Steps, Executes}
 use Rattle.straight_run.proofs.ChainLaws.{and_true, and_false}
-use Rattle.straight_run.proofs.VariableLaws.{bound_newest, HoldsAt}
+use Rattle.straight_run.proofs.VariableLaws.{bound_newest}
 
 -- ---- arguments
 

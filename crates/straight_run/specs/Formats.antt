@@ -1,5 +1,5 @@
 -- The text of a `printf`, a byte after the other.
-use Rattle.std.specs.Prelude.{ℕ, ℤ, Bool, true, false, List, [], ◌∷◌, ◌++◌, ◌+◌, map, Option, Some, None}
+use Rattle.std.specs.Prelude.{ℕ, ℤ, Bool, true, false, List, ◌∷◌, ◌++◌, ◌+◌, map, Option, Some, None}
 use Rattle.regent_tree.specs.Values.{number_of}
 use Rattle.regent_tree.specs.Printing.{first_number, other_numbers, printed}
 use Rattle.regent_tree.specs.Printing as printing

@@ -55,7 +55,8 @@ pub record Means (vs : List Variable) (e : Expression) (n : Number) : Type 0 whe
 -- what follows in a chain, from a number on, gives this number
 pub record LinksMean (vs : List Variable) (total : Number) (ls : Links) (n : Number) : Type 0 where
   pub type : (h : Here) →
-      linked_type h.tree (knowing h vs).scope (integer_type (width_in total)) ls ≡ integer_type (width_in n)
+      linked_type h.tree (knowing h vs).scope (integer_type (width_in total)) ls
+      ≡ integer_type (width_in n)
   pub number : (h : Here) (s : State) →
       linked (knowing h vs) (integer_type (width_in total)) (value_of total) ls (having s vs)
       ≡ gives (value_of n) (having s vs)

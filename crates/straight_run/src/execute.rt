@@ -98,8 +98,8 @@ fn declare(
     ensures order { IfOk result (λ ok.
         ok ≡ is_sum (names_of machine.old.variables.items) (expression_of start.now)) }
     ensures steps { IfOk result (λ ok. IsTrue ok → Steps machine.old
-        (var_form name.now (Some (term.Number Int64)) (Some (plain_start (expression_of start.now))))
-        machine.new) }
+        (var_form name.now (Some (term.Number Int64))
+        (Some (plain_start (expression_of start.now)))) machine.new) }
 {
     match evaluate(start, &machine.variables) {
         None => Ok(false),
@@ -115,8 +115,8 @@ fn declare(
 fn assign(target: &[u8], value: &Expr, machine: &mut Machine) -> bool
     ensures order { result ≡ (has_name (names_of machine.old.variables.items) target.now
         && is_sum (names_of machine.old.variables.items) (expression_of value.now)) }
-    ensures steps { IsTrue result →
-        Steps machine.old (assign_form target.now no_step Set (expression_of value.now)) machine.new }
+    ensures steps { IsTrue result → Steps machine.old
+        (assign_form target.now no_step Set (expression_of value.now)) machine.new }
 {
     match newest(&machine.variables, target) {
         None => false,

@@ -26,8 +26,8 @@ pub enum Reading {
     Wrong,
 }
 
-/// What a byte does for the print: it says whether the next one stands behind `%`, prints a byte, or
-/// prints the next number.
+/// What a byte does for the print: it says whether the next one stands behind `%`, prints a byte,
+/// or prints the next number.
 #[derive(Clone, Copy, Debug, PartialEq, Eq)]
 pub enum Piece {
     Silent(bool),

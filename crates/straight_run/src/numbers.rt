@@ -104,7 +104,8 @@ pub fn taken_at_64(number: Number) -> i64
 pub fn apply(operator: Wrapping, a: Number, b: Number) -> Number
     ensures width { width_in result ≡ wider (width_in a) (width_in b) }
     ensures means { (h : Here) (s : State) →
-        arithmetic h (arithmetic_of operator) (value_of a) (value_of b) s ≡ gives (value_of result) s }
+        arithmetic h (arithmetic_of operator) (value_of a) (value_of b) s
+        ≡ gives (value_of result) s }
 {
     if let Number::Narrow(x) = a {
         if let Number::Narrow(y) = b {

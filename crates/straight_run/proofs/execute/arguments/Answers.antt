@@ -1,4 +1,4 @@
-use Rattle.std.proofs.Common.{◌∙◌, ◌++◌, ◌+◌, [], ap, sym, subst, drop, rules}
+use Rattle.std.proofs.Common.{◌∙◌, ◌+◌, [], ap, sym, subst, drop, rules}
 use Rattle.std.proofs.lemmas.List.{append-nil, drop_all}
 use Rattle.regent_tree.specs.Plain.{expression_of, expressions_in}
 use Rattle.straight_run.specs.FirstForm.{are_sums, is_sum}

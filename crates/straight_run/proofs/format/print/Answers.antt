@@ -1,4 +1,4 @@
-use Rattle.std.proofs.Common.{rules, arith, drop}
+use Rattle.std.proofs.Common.{arith, drop}
 use Rattle.straight_run.specs.Formats.{numbers_of}
 use Rattle.straight_run.proofs.FormatLaws.{goes_silent, goes_byte, goes_number}
 use Rattle.straight_run.proofs.format.print.Goals.{in-Silent, in-Byte+in_ok-push-in-Byte, in-Number+in_ok-print_number-in-Number}
