@@ -79,11 +79,11 @@ bare_is (at_step e rest) h = absurd cc
 
 -- ---- what is in order
 
-and_true : (a b : Bool) → true ≡ a → (a && b) ≡ b
+pub and_true : (a b : Bool) → true ≡ a → (a && b) ≡ b
 and_true true b h = refl
 and_true false b h = absurd cc
 
-and_false : (a b : Bool) → false ≡ a → (a && b) ≡ false
+pub and_false : (a b : Bool) → false ≡ a → (a && b) ≡ false
 and_false true b h = absurd cc
 and_false false b h = refl
 

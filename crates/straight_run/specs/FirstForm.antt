@@ -1,19 +1,27 @@
 -- What the first form asks of a tree beyond its grammar: each name that is used is bound by an
 -- earlier `var`, and each `printf` has a text that its arguments fit.
-use Rattle.std.specs.Prelude.{ℤ, pos, negsuc, int_le, ℕ, suc, ◌==◌, ◌&&◌, Bool, true, false, List, [], ◌∷◌, Option, Some, None, bytes_eq, if◌then◌else◌}
+use Rattle.std.specs.Prelude.{ℤ, pos, negsuc, int_le, ℕ, suc, ◌==◌, ◌&&◌, not, is_some, Bool, true, false, List, [], ◌∷◌, Option, Some, None, bytes_eq, if◌then◌else◌}
 use Rattle.std.specs.List.{list_any}
 use Rattle.lane_kernels.specs.declared.numbers.Width.{Width}
 use Rattle.lane_kernels.specs.declared.numbers.Width.TheVariants.{W32, W64}
 use Rattle.regent_tree.specs.declared.expression.Arithmetic.TheVariants.{Add, Subtract, Multiply}
 use Rattle.regent_tree.specs.declared.expression.Operator.{Operator}
 use Rattle.regent_tree.specs.declared.expression.Operator.TheVariants.{Compute}
-use Rattle.regent_tree.specs.declared.statement.How.TheVariants.{Set}
-use Rattle.regent_tree.specs.Syntax.{Name, Expression, number_expr, chain_expr, access_expr, Links, no_link, a_link, Expressions, no_expr, an_expr, Steps, no_step, field_step, at_step, plain_start, Form, var_form, print_form, assign_form, Block, no_statement, then_statement, a_statement, Tree}
+use Rattle.regent_tree.specs.declared.statement.How.{How}
+use Rattle.regent_tree.specs.declared.statement.How.TheVariants.{Set, Reduce}
+use Rattle.regent_tree.specs.declared.types.NumberTerm.TheVariants.{Int64}
+use Rattle.regent_tree.specs.declared.types.TypeTerm.{TypeTerm}
+use Rattle.regent_tree.specs.declared.types.TypeTerm.TheVariants.{Number}
+use Rattle.regent_tree.specs.Syntax.{Start, TaskTree, Name, Expression, number_expr, chain_expr, access_expr, Links, no_link, a_link, Expressions, no_expr, an_expr, Steps, no_step, field_step, at_step, plain_start, Form, var_form, print_form, assign_form, Block, no_statement, then_statement, a_statement, Tree}
 use Rattle.regent_tree.specs.StaticTypes.{started, task_named}
 
 -- whether a name is among these
 abbrev pub has_name : List Name → Name → Bool
 has_name names n = list_any (λ m. bytes_eq m n) names
+
+abbrev pub is_empty : {A : Type 0} → List A → Bool
+is_empty [] = true
+is_empty (x ∷ xs) = false
 
 -- the operators of sums and products
 abbrev pub wraps : Operator → Bool
@@ -88,13 +96,27 @@ prints format n = is_count (numbers_printed format)
     is_count None = false
     is_count (Some m) = m == n
 
+-- the type that is declared is int64
+abbrev pub is_int64 : Option TypeTerm → Bool
+is_int64 (Some (Number Int64)) = true
+is_int64 _ = false
+
+-- the start value is a sum over these names
+abbrev pub is_plain_sum : List Name → Option Start → Bool
+is_plain_sum names (Some (plain_start e)) = is_sum names e
+is_plain_sum names _ = false
+
+abbrev pub is_set : How → Bool
+is_set Set = true
+is_set (Reduce o) = false
+
 -- the statement is in order where these names are bound
 abbrev pub is_in_order : List Name → Form → Bool
-is_in_order names (var_form n term (Some (plain_start e))) = is_sum names e
-is_in_order names (assign_form n steps Set e) =
-    is_bare steps && (has_name names n && is_sum names e)
-is_in_order names (print_form None format args) =
-    are_sums names args && prints format (count_of args)
+is_in_order names (var_form n term start) = is_int64 term && is_plain_sum names start
+is_in_order names (assign_form n steps how e) =
+    is_set how && (is_bare steps && (has_name names n && is_sum names e))
+is_in_order names (print_form alias format args) =
+    not (is_some alias) && (are_sums names args && prints format (count_of args))
 is_in_order names _ = false
 
 -- the names that are bound after it, the newest first
@@ -108,10 +130,14 @@ are_in_order names no_statement = true
 are_in_order names (then_statement (a_statement line form) rest) =
     is_in_order names form && are_in_order (names_after names form) rest
 
--- the body of the task that is started
-abbrev pub main_body : Tree → Block
-main_body tree = (task_named tree (started tree)).body
+-- the task that is started
+abbrev pub main_task : Tree → TaskTree
+main_task tree = task_named tree (started tree)
 
--- each used name is bound, and each `printf` is in order
+-- the task has no parameters, and hence no clauses
+abbrev pub takes_nothing : TaskTree → Bool
+takes_nothing t = is_empty t.params && is_empty t.clauses
+
+-- the started task takes nothing, each used name is bound, and each statement is in order
 abbrev pub is_closed : Tree → Bool
-is_closed tree = are_in_order [] (main_body tree)
+is_closed tree = takes_nothing (main_task tree) && are_in_order [] (main_task tree).body

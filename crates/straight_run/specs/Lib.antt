@@ -1,3 +1,4 @@
 pub mod FirstForm
+pub mod Formats
 pub mod Values
 pub mod Variables

@@ -1,7 +1,8 @@
 -- The evaluator's variables as names of the meaning, and what expressions and statements give.
 use Rattle.std.specs.Prelude.{ℕ, ◌≡◌, ◌+◌, List, [], ◌∷◌, map, Option, Some, cond, bytes_eq, false}
+use Rattle.lane_kernels.specs.declared.numbers.Width.TheVariants.{W64}
 use Rattle.regent_tree.specs.Syntax.{Name, Expression, Links, Expressions, Form, Block}
-use Rattle.regent_tree.specs.Values.{Value}
+use Rattle.regent_tree.specs.Values.{Value, a_number}
 use Rattle.regent_tree.specs.StaticTypes.{integer_type}
 use Rattle.regent_tree.specs.Scopes.{Scope, with_name}
 use Rattle.regent_tree.specs.Typing.{linked_type}
@@ -11,6 +12,7 @@ use Rattle.regent_tree.specs.Execution.{exec, exec_block, after_statement, goes_
 use Rattle.straight_run.specs.declared.numbers.Number.{Number}
 use Rattle.straight_run.specs.declared.machine.Variable.{Variable}
 use Rattle.straight_run.specs.declared.machine.Machine.{Machine}
+use Rattle.straight_run.specs.FirstForm.{names_after}
 use Rattle.straight_run.specs.Values.{value_of, width_in}
 
 -- the place of the newest variable of a name, from a place on
@@ -29,13 +31,13 @@ names_of vs = names_before [] vs
 -- the scope with these variables
 abbrev pub scope_with : Scope → List Variable → Scope
 scope_with s [] = s
-scope_with s (v ∷ vs) = scope_with (with_name s v.name (integer_type (width_in v.number)) false) vs
+scope_with s (v ∷ vs) = scope_with (with_name s v.name (integer_type W64) false) vs
 
 abbrev pub no_scope : Scope
 no_scope = record { names = []; known = []; next = 0 }
 
 abbrev pub values_of : List Variable → List Value
-values_of vs = map (λ (v : Variable). value_of v.number) vs
+values_of vs = map (λ (v : Variable). a_number W64 v.value) vs
 
 -- a place where these variables are in scope, and a state that has them
 abbrev pub knowing : Here → List Variable → Here
@@ -53,7 +55,8 @@ pub record Means (vs : List Variable) (e : Expression) (n : Number) : Type 0 whe
 -- what follows in a chain, from a number on, gives this number
 pub record LinksMean (vs : List Variable) (total : Number) (ls : Links) (n : Number) : Type 0 where
   pub type : (h : Here) →
-      linked_type h.tree (knowing h vs).scope (integer_type (width_in total)) ls ≡ integer_type (width_in n)
+      linked_type h.tree (knowing h vs).scope (integer_type (width_in total)) ls
+      ≡ integer_type (width_in n)
   pub number : (h : Here) (s : State) →
       linked (knowing h vs) (integer_type (width_in total)) (value_of total) ls (having s vs)
       ≡ gives (value_of n) (having s vs)
@@ -73,8 +76,16 @@ pub record Steps (old : Machine) (form : Form) (new : Machine) : Type 0 where
       after_statement (knowing h old.variables.items) form ≡ knowing h new.variables.items
   pub run : (h : Here) (s : State) →
       exec (knowing h old.variables.items) form (at s old) ≡ gives goes_on (at s new)
+  pub names : names_of new.variables.items ≡ names_after (names_of old.variables.items) form
 
 -- statements in order do
 pub record Executes (old : Machine) (body : Block) (new : Machine) : Type 0 where
   pub run : (h : Here) (s : State) →
       exec_block (knowing h old.variables.items) body (at s old) ≡ gives goes_on (at s new)
+
+-- statements that begin with nothing print a text and go on
+pub record Prints (body : Block) (text : List ℕ) : Type 0 where
+  pub variables : List Variable
+  pub run : (h : Here) (s : State) →
+      exec_block (knowing h []) body (record s { names = []; text = [] })
+      ≡ gives goes_on (record s { names = values_of variables; text = text })

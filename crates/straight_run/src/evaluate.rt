@@ -6,8 +6,8 @@ ghost use Rattle.regent_tree.specs.Syntax.{access_expr, no_step};
 ghost use Rattle.straight_run.specs.FirstForm.{has_name, is_bare, is_sum};
 ghost use Rattle.straight_run.specs.Variables.{Means, names_of};
 
-use crate::machine::{Variable, newest};
-use crate::numbers::{Number, apply, literal, widened, wrapping_operator};
+use crate::machine::{Variable, newest, number_in};
+use crate::numbers::{Number, apply, literal, wrapping_operator};
 use regent_tree::{Expr, Step};
 
 /// Whether no step follows a name.
@@ -27,7 +27,7 @@ fn named(name: &[u8], variables: &[Variable]) -> Option<Number>
     ensures sum { is_some result ≡ has_name (names_of variables.now) name.now }
 {
     let place = newest(variables, name)?;
-    Some(variables[place].number)
+    Some(number_in(&variables[place]))
 }
 
 /// The value of a sum over numbers and variables, or None for any other expression.

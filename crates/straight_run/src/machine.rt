@@ -6,11 +6,18 @@ ghost use Rattle.straight_run.specs.Variables.{newest};
 use crate::numbers::Number;
 use regent_tree::Name;
 
-/// A variable and its number.
+/// A variable of 64 bits.
 #[derive(Drop)]
 pub struct Variable {
     pub name: Name,
-    pub number: Number,
+    pub value: i64,
+}
+
+/// A variable's number.
+pub fn number_in(variable: &Variable) -> Number
+    ensures { result ≡ Number.Wide variable.now.value }
+{
+    Number::Wide(variable.value)
 }
 
 /// The variables in the order of their binding, and the text that was printed.

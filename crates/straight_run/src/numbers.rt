@@ -3,6 +3,7 @@
 ghost use Rattle.std.specs.Prelude.{◌≡◌, ◌↔◌, Some, IfSome, IsTrue, is_some};
 ghost use Rattle.lane_kernels.specs.declared.numbers.Width.TheVariants.{W32, W64};
 ghost use Rattle.regent_tree.specs.Numbers.{computed, wider};
+ghost use Rattle.regent_tree.specs.Widths.{wrapped};
 ghost use Rattle.regent_tree.specs.Values.{a_number, number_of};
 ghost use Rattle.straight_run.specs.FirstForm.{is_number};
 ghost use Rattle.regent_tree.specs.Running.{Here, State, gives};
@@ -88,11 +89,23 @@ pub fn widened(number: Number) -> i64
     }
 }
 
+/// The number in 64 bits, as a variable of type int64 takes it.
+#[tactic(auto, using(std::proofs::lemmas::Int::int_wrap_fits))]
+pub fn taken_at_64(number: Number) -> i64
+    ensures { result ≡ wrapped W64 (number_of (value_of number)) }
+{
+    match number {
+        Number::Narrow(value) => i64::from(value),
+        Number::Wide(value) => value,
+    }
+}
+
 /// The result of an operator at the wider width of its operands.
 pub fn apply(operator: Wrapping, a: Number, b: Number) -> Number
     ensures width { width_in result ≡ wider (width_in a) (width_in b) }
     ensures means { (h : Here) (s : State) →
-        arithmetic h (arithmetic_of operator) (value_of a) (value_of b) s ≡ gives (value_of result) s }
+        arithmetic h (arithmetic_of operator) (value_of a) (value_of b) s
+        ≡ gives (value_of result) s }
 {
     if let Number::Narrow(x) = a {
         if let Number::Narrow(y) = b {

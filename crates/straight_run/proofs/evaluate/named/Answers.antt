@@ -9,7 +9,7 @@ returns-in_err-place-clause-sum c =
 
 pub returns-clause-means : goal.returns-clause-means
 returns-clause-means c =
-    rw (← c.index-variables-place.is) (name_means c.args.variables.now c.args.name.now
+    rw (c.number_in.ensures) (name_means c.args.variables.now c.args.name.now
     c.in_ok-place.place c.index-variables-place.result (sym c.in_ok-place.ensures.same)
     c.index-variables-place.is)
 
