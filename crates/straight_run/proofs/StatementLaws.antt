@@ -17,7 +17,7 @@ use Rattle.regent_tree.specs.Execution.{on_line}
 use Rattle.regent_tree.specs.Values.{a_number, number_of}
 use Rattle.regent_tree.specs.StaticTypes.{integer_type}
 use Rattle.regent_tree.specs.Scopes.{Scope, with_name}
-use Rattle.regent_tree.specs.Widths.{wrapped}
+use Rattle.lane_kernels.specs.Numbers.{wrapped}
 use Rattle.regent_tree.specs.Printing.{printed}
 use Rattle.straight_run.specs.declared.numbers.Number as numbers_type
 use Rattle.straight_run.specs.declared.machine.Variable.{Variable}

@@ -10,7 +10,7 @@ ghost use Rattle.regent_tree.specs.Plain.{expression_of, expressions_in, start_o
 ghost use Rattle.regent_tree.specs.PlainProgram.{block_in, form_of};
 ghost use Rattle.regent_tree.specs.Syntax.{Name, assign_form, no_step, plain_start, print_form, var_form};
 ghost use Rattle.regent_tree.specs.Values.{number_of};
-ghost use Rattle.regent_tree.specs.Widths.{wrapped};
+ghost use Rattle.lane_kernels.specs.Numbers.{wrapped};
 ghost use Rattle.straight_run.specs.FirstForm.{are_in_order, are_sums, count_of, has_name, is_bare, is_in_order, is_int64, is_plain_sum, is_set, is_sum, prints};
 ghost use Rattle.straight_run.specs.Values.{value_of};
 ghost use Rattle.straight_run.specs.Variables.{AllMean, Executes, Steps, names_of};

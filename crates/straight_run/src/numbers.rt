@@ -3,7 +3,7 @@
 ghost use Rattle.std.specs.Prelude.{◌≡◌, ◌↔◌, Some, IfSome, IsTrue, is_some};
 ghost use Rattle.lane_kernels.specs.declared.numbers.Width.TheVariants.{W32, W64};
 ghost use Rattle.regent_tree.specs.Numbers.{computed, wider};
-ghost use Rattle.regent_tree.specs.Widths.{wrapped};
+ghost use Rattle.lane_kernels.specs.Numbers.{wrapped};
 ghost use Rattle.regent_tree.specs.Values.{a_number, number_of};
 ghost use Rattle.straight_run.specs.FirstForm.{is_number};
 ghost use Rattle.regent_tree.specs.Running.{Here, State, gives};
