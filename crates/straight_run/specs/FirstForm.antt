@@ -134,7 +134,7 @@ are_in_order names (then_statement (a_statement line form) rest) =
 abbrev pub main_task : Tree → TaskTree
 main_task tree = task_named tree (started tree)
 
--- the task has no parameters, and hence no clauses
+-- the task has neither parameters nor clauses
 abbrev pub takes_nothing : TaskTree → Bool
 takes_nothing t = is_empty t.params && is_empty t.clauses
 
