@@ -1,0 +1,33 @@
+//! The program `regent`: runs what the words of its command line say.
+#![tactic(auto)]
+
+use regent_run::regent_run;
+use run_io::{FileSource, StdSink};
+use std::env;
+use std::io::{self, ErrorKind};
+use std::process::ExitCode;
+
+/// The status where the words can't be had: 2 where one isn't text, and 7 where memory ran out.
+fn wordless_status(kind: ErrorKind) -> u8 {
+    match kind {
+        ErrorKind::InvalidData => 2,
+        _ => 7,
+    }
+}
+
+fn main(rt: HostRuntime) -> ExitCode {
+    let words: io::Result<Vec<String>> = words_of(&rt);
+    match words {
+        Ok(words) => {
+            let mut source = FileSource::new(&rt);
+            let mut out = StdSink::new(rt.stdout());
+            let mut err = StdSink::new(rt.stderr());
+            ExitCode::from(regent_run(rt.alloc(), &words, &mut source, &mut out, &mut err))
+        }
+        Err(error) => ExitCode::from(wordless_status(error.kind())),
+    }
+}
+
+fn words_of(rt: &HostRuntime) -> io::Result<Vec<String>> {
+    Ok(env::args(rt)?.collect(rt.alloc())?)
+}

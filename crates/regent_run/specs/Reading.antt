@@ -1,0 +1,27 @@
+-- What reading a text takes from its source.
+use Rattle.std.specs.Prelude.{◌≡◌, ◌≤◌, ◌⊎◌, ℕ, List, [], Option, IfSome, length}
+use Rattle.run_io.specs.Faults.{Rose}
+use Rattle.run_io.specs.Source.{Moves}
+use Rattle.regent_run.specs.declared.text.NoText.{NoText}
+use Rattle.regent_run.specs.declared.text.NoText.TheVariants as no_text
+use Rattle.regent_run.specs.declared.verdict.Verdict.{Verdict}
+use Rattle.regent_run.specs.declared.verdict.Verdict.TheVariants.{NoProgram, Finished}
+
+-- a failed read has its cause in the source
+abbrev pub IsCause : ℕ → ℕ → NoText → Type 0
+IsCause before now no_text.Failed = Rose before now
+IsCause before now no_text.Memory = Unit {0}
+
+-- Of what the begin leaves at most so many bytes were taken; a begin that fails takes nothing of what
+-- was left before.
+abbrev pub TakesAtMost : ℕ → Option (List ℕ) → Option (List ℕ) → Option (List ℕ) → Type 0
+TakesAtMost most begun before now =
+    (now ≡ before) ⊎ ((moved : List ℕ) × (length moved ≤ most) × Moves begun moved now)
+
+-- Where a program or none was found, all that the begin leaves was read, or the text is too long.
+abbrev pub ReadsToEnd : Option (List ℕ) → Option (List ℕ) → Verdict → Type 0
+ReadsToEnd begun now (NoProgram message) =
+    IfSome begun (λ text. length text ≤ 1048576 → IfSome now (λ left. left ≡ []))
+ReadsToEnd begun now (Finished text) =
+    IfSome begun (λ text. length text ≤ 1048576 → IfSome now (λ left. left ≡ []))
+ReadsToEnd begun now _ = Unit {0}

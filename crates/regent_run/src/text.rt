@@ -1,0 +1,72 @@
+//! The text that a source has under a name.
+
+ghost use Rattle.std.specs.Prelude.{◌≡◌, ◌≤◌, [], IfOk, IfErr, IfSome, length, string_bytes};
+ghost use Rattle.std.specs.Option.{option_map};
+ghost use Rattle.run_io.specs.Faults.{one_more};
+ghost use Rattle.run_io.specs.Source.{Moves, next_left, with_name};
+ghost use Rattle.regent_run.specs.Reading.{IsCause, TakesAtMost};
+
+use run_io::{Failed, Source};
+use std::alloc::{AllocError, Global};
+
+/// The most bytes that are read: one more than a text may have.
+const MOST_BYTES: usize = 1_048_577;
+
+/// Why a text can't be had.
+#[derive(Debug, Drop)]
+pub enum NoText {
+    Failed,
+    Memory,
+}
+
+impl From<Failed> for NoText {
+    ghost use Rattle.std.specs.Prelude.{◌≡◌};
+    ghost use Rattle.regent_run.specs.declared.text.NoText.TheVariants as no_text;
+
+    ghost from_gives = { λ _ e. e ≡ no_text.Failed };
+
+    fn from(_failed: Failed) -> NoText {
+        NoText::Failed
+    }
+}
+
+impl From<AllocError> for NoText {
+    ghost use Rattle.std.specs.Prelude.{◌≡◌};
+    ghost use Rattle.regent_run.specs.declared.text.NoText.TheVariants as no_text;
+
+    ghost from_gives = { λ _ e. e ≡ no_text.Memory };
+
+    fn from(_error: AllocError) -> NoText {
+        NoText::Memory
+    }
+}
+
+/// Begins the source by the name, and reads what that leaves, up to 1,048,577 bytes.
+#[tactic(auto, using(run_io::proofs::SourceLemmas::moves_both))]
+pub fn read_text<S: Source>(alloc: Global, source: &mut S, name: String) -> Result<Vec<u8>, NoText>
+    ensures text { IfOk result (λ text.
+        Moves (option_map next_left (S.later source.old)) text.items (S.left source.new)) }
+    ensures bound { IfOk result (λ text. length text.items ≤ 1048577) }
+    // A text that isn't too long is read to its end.
+    ensures whole { IfOk result (λ text. length text.items ≤ 1048576 →
+        IfSome (S.left source.new) (λ left. left ≡ [])) }
+    ensures takes { IfErr result (λ _. TakesAtMost 1048577 (option_map next_left (S.later source.old))
+        (S.left source.old) (S.left source.new)) }
+    ensures cause { IfErr result (IsCause (S.faults source.old) (S.faults source.new)) }
+    ensures faults { S.faults source.old ≤ S.faults source.new }
+    ensures begins { S.begins source.new ≡ option_map one_more (S.begins source.old) }
+    ensures names { S.names source.new ≡ option_map (with_name (string_bytes name)) (S.names source.old) }
+{
+    source.begin(name)?;
+    let mut text = Vec::new(alloc);
+    let mut chunk = [0u8; 4096];
+    'turns: while text.len() < MOST_BYTES {
+        let room = (MOST_BYTES - text.len()).min(4096);
+        let count = source.read(&mut chunk[..room])?;
+        if count == 0 {
+            return Ok(text);
+        }
+        text.extend_from_slice(&chunk[..count])?;
+    }
+    Ok(text)
+}

@@ -1,0 +1,75 @@
+//! What a call comes to, and the one place where it is written.
+
+ghost use Rattle.std.specs.Prelude.{◌≡◌, ◌⊎◌, length};
+ghost use Rattle.regent_run.specs.Verdicts.{IsWritten, OutFailed, ErrFailed, out_text, err_text, status_of};
+
+use run_io::{Sink, put_all};
+
+/// What a call comes to before it writes anything.
+#[derive(Drop)]
+pub enum Verdict {
+    /// The words are refused.
+    Usage,
+    /// The text can't be read.
+    Unread,
+    NoMemory,
+    /// The text is no program; the message says on which line.
+    NoProgram { message: String },
+    /// The program has printed this text.
+    Finished { text: Vec<u8> },
+}
+
+impl Verdict {
+    pub fn status(&self) -> u8
+        ensures { result ≡ status_of self.now }
+    {
+        match self {
+            Verdict::Usage => 2,
+            Verdict::Unread => 3,
+            Verdict::NoMemory => 7,
+            Verdict::NoProgram { .. } => 5,
+            Verdict::Finished { .. } => 0,
+        }
+    }
+
+    /// What goes to the output.
+    fn out_text(&self) -> &[u8]
+        ensures { result.now ≡ out_text self.now }
+    {
+        match self {
+            Verdict::Finished { text } => text.as_slice(),
+            _ => b"",
+        }
+    }
+
+    /// What goes to the error output.
+    fn err_text(&self) -> &[u8]
+        ensures { result.now ≡ err_text self.now }
+    {
+        match self {
+            Verdict::Usage => b"error: usage\n",
+            Verdict::Unread => b"error: read failed\n",
+            Verdict::NoMemory => b"error: out of memory\n",
+            Verdict::NoProgram { message } => message.as_bytes(),
+            Verdict::Finished { .. } => b"",
+        }
+    }
+
+    /// Writes the output and then the error output, and gives the status: 4 where a write failed, and
+    /// then nothing more is written.
+    pub fn deliver<K: Sink, E: Sink>(&self, out: &mut K, err: &mut E) -> u8
+        ensures { IsWritten self.now result (K.held out.old) (K.held out.new) (E.held err.old) (E.held err.new)
+            ⊎ (OutFailed self.now result (K.faults out.old) (K.faults out.new) (K.sure out.old)
+            (K.held out.old) (K.held out.new) (E.held err.old) (E.held err.new)
+            ⊎ ErrFailed self.now result (E.faults err.old) (E.faults err.new) (E.sure err.old)
+            (K.held out.old) (K.held out.new) (E.held err.old) (E.held err.new)) }
+    {
+        if put_all(out, self.out_text()).is_err() {
+            return 4;
+        }
+        if put_all(err, self.err_text()).is_err() {
+            return 4;
+        }
+        self.status()
+    }
+}
