@@ -17,6 +17,8 @@ ghost use Rattle.regent_run.specs.Verdicts.{IsNamed};
 ghost use Rattle.regent_run.specs.Words.{file_named, texts};
 
 mod judge;
+#[cfg(test)]
+mod tests;
 mod text;
 mod verdict;
 mod words;
