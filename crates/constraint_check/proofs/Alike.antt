@@ -44,21 +44,24 @@ same-terms (Child p c) (Child q d) e =
 
 pub with_term-kept : (ts : List Term) (t y : Term) → Has ts y → Has (with_term ts t) y
 with_term-kept ts t y h = elim (cases_Bool (list_any (alike t) ts)) [
-    inl e ↦ rw (cond-true (list_any (alike t) ts) ts (ts ++ t ∷ []) e) h
-  | inr e ↦ rw (cond-false (list_any (alike t) ts) ts (ts ++ t ∷ []) e) (Has-append_left ts (t ∷ []) y h) ]
+  | inl e ↦ rw (cond-true (list_any (alike t) ts) ts (ts ++ t ∷ []) e) h
+  | inr e ↦ rw (cond-false (list_any (alike t) ts) ts (ts ++ t ∷ []) e) (Has-append_left ts (t ∷ []) y h)
+]
 
 pub with_term-added : (ts : List Term) (t : Term) → Has (with_term ts t) t
 with_term-added ts t = elim (cases_Bool (list_any (alike t) ts)) [
-    inl e ↦ rw (cond-true (list_any (alike t) ts) ts (ts ++ t ∷ []) e) (found (Has-from_list_any (alike t) ts e))
-  | inr e ↦ rw (cond-false (list_any (alike t) ts) ts (ts ++ t ∷ []) e) (Has-append_right ts (t ∷ []) t (inl refl)) ]
+  | inl e ↦ rw (cond-true (list_any (alike t) ts) ts (ts ++ t ∷ []) e) (found (Has-from_list_any (alike t) ts e))
+  | inr e ↦ rw (cond-false (list_any (alike t) ts) ts (ts ++ t ∷ []) e) (Has-append_right ts (t ∷ []) t (inl refl))
+]
   where
     found : ((x : Term) × Has ts x × (alike t x ≡ true)) → Has ts t
     found w = subst (λ x. Has ts x) (sym (same-terms t w.0 w.2)) w.1
 
 pub with_term-cases : (ts : List Term) (t y : Term) → Has (with_term ts t) y → Has ts y ⊎ (t ≡ y)
 with_term-cases ts t y h = elim (cases_Bool (list_any (alike t) ts)) [
-    inl e ↦ inl (rw (cond-true (list_any (alike t) ts) ts (ts ++ t ∷ []) e) at h)
-  | inr e ↦ pushed (Has-append_cases ts (t ∷ []) y (rw (cond-false (list_any (alike t) ts) ts (ts ++ t ∷ []) e) at h)) ]
+  | inl e ↦ inl (rw (cond-true (list_any (alike t) ts) ts (ts ++ t ∷ []) e) at h)
+  | inr e ↦ pushed (Has-append_cases ts (t ∷ []) y (rw (cond-false (list_any (alike t) ts) ts (ts ++ t ∷ []) e) at h))
+]
   where
     pushed : Has ts y ⊎ Has (t ∷ []) y → Has ts y ⊎ (t ≡ y)
     pushed (inl g) = inl g
@@ -78,5 +81,6 @@ united-added ts (t ∷ more) y (inr h) = united-added (with_term ts t) more y h
 pub united-cases : (ts more : List Term) (y : Term) → Has (united ts more) y → Has ts y ⊎ Has more y
 united-cases ts [] y h = inl h
 united-cases ts (t ∷ more) y h = elim (united-cases (with_term ts t) more y h) [
-    inl g ↦ elim (with_term-cases ts t y g) [ inl k ↦ inl k | inr e ↦ inr (inl e) ]
-  | inr g ↦ inr (inr g) ]
+  | inl g ↦ elim (with_term-cases ts t y g) [ inl k ↦ inl k | inr e ↦ inr (inl e) ]
+  | inr g ↦ inr (inr g)
+]

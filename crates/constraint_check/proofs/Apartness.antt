@@ -25,7 +25,8 @@ Tells (PartOf p r disjoint) x y = record {
   second : ℤ;
   differ : first ≢ second;
   first_is : Child p (Constant first) ≡ x;
-  second_is : Child p (Constant second) ≡ y }
+  second_is : Child p (Constant second) ≡ y;
+}
 Tells (Made s) x y = record { earlier : ℕ; below : earlier < s; first_is : Name s ≡ x; second_is : Name earlier ≡ y }
 
 -- a fact tells of what a and b lie within
@@ -58,25 +59,41 @@ record IsParted (facts : List Known) (a b : Term) : Type 0 where
 
 told-parted : (facts : List Known) (k : Known) (x y : Term) → Contains facts k → Tells k x y → IsParted facts x y
 told-parted facts k x y h t = record {
-    fact = k; known = h;
-    either = inl (record { first = x; second = y; first_above = same; second_above = same; tells = t }) }
+  fact = k;
+  known = h;
+  either = inl (record { first = x; second = y; first_above = same; second_above = same; tells = t });
+}
 
 apart-parted : {facts : List Known} {a b : Term} → IsApart facts a b → IsParted facts a b
 apart-parted {facts = facts} (told_apart {a = a} {b = b} h) = told-parted facts (Apart a b) a b h (refl, refl)
 apart-parted {facts = facts} {a = a} {b = b} (turned d) = let w = apart-parted d in record {
-    fact = w.fact; known = w.known; either = elim w.either [ inl p ↦ inr p | inr p ↦ inl p ] }
+  fact = w.fact;
+  known = w.known;
+  either = elim w.either [ inl p ↦ inr p | inr p ↦ inl p ];
+}
 apart-parted {facts = facts} (children {p = p} {r = r} {i = i} {j = j} h ne) =
     told-parted facts (PartOf p r true) (Child p (Constant i)) (Child p (Constant j)) h
     (record { is_disjoint = refl; first = i; second = j; differ = ne; first_is = refl; second_is = refl })
 apart-parted {facts = facts} (inside {a = a} {b = b} {c = c} d e) = let w = apart-parted e in record {
-    fact = w.fact; known = w.known;
-    either = elim w.either [
-        inl p ↦ inl (record {
-          first = p.first; second = p.second; first_above = through d p.first_above;
-          second_above = p.second_above; tells = p.tells })
-      | inr p ↦ inr (record {
-          first = p.first; second = p.second; first_above = p.first_above;
-          second_above = through d p.second_above; tells = p.tells }) ] }
+  fact = w.fact;
+  known = w.known;
+  either = elim w.either [
+    | inl p ↦ inl (record {
+      first = p.first;
+      second = p.second;
+      first_above = through d p.first_above;
+      second_above = p.second_above;
+      tells = p.tells;
+    })
+    | inr p ↦ inr (record {
+      first = p.first;
+      second = p.second;
+      first_above = p.first_above;
+      second_above = through d p.second_above;
+      tells = p.tells;
+    })
+  ];
+}
 apart-parted {facts = facts} (made {s = s} {r = r} h l) =
     told-parted facts (Made s) (Name s) (Name r) h (record { earlier = r; below = l; first_is = refl; second_is = refl })
 
@@ -89,8 +106,10 @@ record IsNumber (c : Colour) (i : ℤ) : Type 0 where
 
 other_constant-sound : (i : ℤ) (c : Colour) → is_other_constant i c ≡ true → IsNumber c i
 other_constant-sound i (Constant j) e = record {
-    number = j; is_number = refl;
-    differs = λ q. absurd (elim_false (not-true (int_eq i j) e) ((Decides-int_eq i j).1 q)) }
+  number = j;
+  is_number = refl;
+  differs = λ q. absurd (elim_false (not-true (int_eq i j) e) ((Decides-int_eq i j).1 q));
+}
   where
     elim_false : int_eq i j ≡ false → int_eq i j ≡ true → ⊥
     elim_false f t = cc
@@ -115,8 +134,12 @@ other_child-sound p (Constant i) (Child q d) e =
     let both = and_parts (p == q) (differ (Constant i) d) e in
     let w = other_constant-sound i d both.1 in
     record {
-      first = i; second = w.number; differ = w.differs; first_is = refl;
-      second_is = subst (λ m. Child p (Constant w.number) ≡ Child m d) (eqb-true p q both.0) (ap (Child p) w.is_number) }
+      first = i;
+      second = w.number;
+      differ = w.differs;
+      first_is = refl;
+      second_is = subst (λ m. Child p (Constant w.number) ≡ Child m d) (eqb-true p q both.0) (ap (Child p) w.is_number);
+    }
 other_child-sound p (Loop n) (Child q d) e = absurd (false≢true (and_parts (p == q) false e).1)
 other_child-sound p Unknown (Child q d) e = absurd (false≢true (and_parts (p == q) false e).1)
 
@@ -127,8 +150,12 @@ parts-sound facts a b (Within x y) e = absurd cc
 parts-sound facts a b (Apart x y) e =
     let both = and_parts (is_below (closed facts) a x) (is_below (closed facts) b y) e in
     record {
-      first = x; second = y; tells = (refl, refl);
-      first_above = is_below-sound facts a x both.0; second_above = is_below-sound facts b y both.1 }
+      first = x;
+      second = y;
+      tells = (refl, refl);
+      first_above = is_below-sound facts a x both.0;
+      second_above = is_below-sound facts b y both.1;
+    }
 parts-sound facts a b (PartOf p r d) e =
     let both = and_parts d (any_above (closed facts) (has_sibling_above (closed facts) p b) a) e in
     let w = any_above-sound facts (has_sibling_above (closed facts) p b) a both.1 in
@@ -141,10 +168,19 @@ parts-sound facts a b (PartOf p r d) e =
         let v = any_above-sound facts (is_other_child p c) b parts_of.1 in
         let o = other_child-sound p c v.term v.passes in
         record {
-          first = Child m c; second = v.term; first_above = below; second_above = v.below;
+          first = Child m c;
+          second = v.term;
+          first_above = below;
+          second_above = v.below;
           tells = record {
-            is_disjoint = t; first = o.first; second = o.second; differ = o.differ; second_is = o.second_is;
-            first_is = subst (λ n. Child p (Constant o.first) ≡ Child n c) (eqb-true p m parts_of.0) o.first_is } }
+            is_disjoint = t;
+            first = o.first;
+            second = o.second;
+            differ = o.differ;
+            second_is = o.second_is;
+            first_is = subst (λ n. Child p (Constant o.first) ≡ Child n c) (eqb-true p m parts_of.0) o.first_is;
+          };
+        }
 parts-sound facts a b (Made s) e =
     let both = and_parts (is_below (closed facts) a (Name s)) (any_above (closed facts) (is_earlier s) b) e in
     let w = any_above-sound facts (is_earlier s) b both.1 in
@@ -152,8 +188,12 @@ parts-sound facts a b (Made s) e =
   where
     earlier : (y : Term) → IsBelow facts b y → is_earlier s y ≡ true → IsBelow facts a (Name s) → PartedBy facts a b (Made s)
     earlier (Name r) below q up = record {
-        first = Name s; second = Name r; first_above = up; second_above = below;
-        tells = record { earlier = r; below = ltb-true r s q; first_is = refl; second_is = refl } }
+      first = Name s;
+      second = Name r;
+      first_above = up;
+      second_above = below;
+      tells = record { earlier = r; below = ltb-true r s q; first_is = refl; second_is = refl };
+    }
     earlier (Child m c) below q up = absurd cc
 
 parts-complete : (facts : List Known) (a b : Term) (k : Known) → PartedBy facts a b k → parts (closed facts) a b k ≡ true
@@ -165,18 +205,18 @@ parts-complete facts a b (Apart x y) w =
 parts-complete facts a b (PartOf p r d) w =
     and_from d (any_above (closed facts) (has_sibling_above (closed facts) p b) a) w.tells.is_disjoint
     (any_above-complete facts (has_sibling_above (closed facts) p b) a (Child p (Constant w.tells.first))
-      (subst (λ v. IsBelow facts a v) (sym w.tells.first_is) w.first_above)
-      (and_from (p == p) (any_above (closed facts) (is_other_child p (Constant w.tells.first)) b) (eq-eqb p p refl)
-        (any_above-complete facts (is_other_child p (Constant w.tells.first)) b (Child p (Constant w.tells.second))
-          (subst (λ v. IsBelow facts b v) (sym w.tells.second_is) w.second_above)
-          (and_from (p == p) (is_other_constant w.tells.first (Constant w.tells.second)) (eq-eqb p p refl)
-            (other_constant-complete w.tells.first w.tells.second w.tells.differ)))))
+    (subst (λ v. IsBelow facts a v) (sym w.tells.first_is) w.first_above)
+    (and_from (p == p) (any_above (closed facts) (is_other_child p (Constant w.tells.first)) b) (eq-eqb p p refl)
+    (any_above-complete facts (is_other_child p (Constant w.tells.first)) b (Child p (Constant w.tells.second))
+    (subst (λ v. IsBelow facts b v) (sym w.tells.second_is) w.second_above)
+    (and_from (p == p) (is_other_constant w.tells.first (Constant w.tells.second)) (eq-eqb p p refl)
+    (other_constant-complete w.tells.first w.tells.second w.tells.differ)))))
 parts-complete facts a b (Made s) w =
     and_from (is_below (closed facts) a (Name s)) (any_above (closed facts) (is_earlier s) b)
     (is_below-complete facts a (Name s) (subst (λ v. IsBelow facts a v) (sym w.tells.first_is) w.first_above))
     (any_above-complete facts (is_earlier s) b (Name w.tells.earlier)
-      (subst (λ v. IsBelow facts b v) (sym w.tells.second_is) w.second_above)
-      (lt-ltb w.tells.earlier s w.tells.below))
+    (subst (λ v. IsBelow facts b v) (sym w.tells.second_is) w.second_above)
+    (lt-ltb w.tells.earlier s w.tells.below))
 
 -- the form that computes answers exactly what is derivable
 pub are_disjoint-derivable : (facts : List Known) (a b : Term) → (are_disjoint facts a b ≡ true) ↔ IsDisjoint facts a b
@@ -184,13 +224,17 @@ are_disjoint-derivable facts a b = (sound, complete)
   where
     by_fact : ((k : Known) × Has facts k × (parts_either (closed facts) a b k ≡ true)) → IsApart facts a b
     by_fact w = elim (or_cases (parts (closed facts) a b w.0) (parts (closed facts) b a w.0) w.2) [
-        inl e ↦ parted-apart facts a b w.0 (Contains-from_Has facts w.0 w.1) (parts-sound facts a b w.0 e)
-      | inr e ↦ turned (parted-apart facts b a w.0 (Contains-from_Has facts w.0 w.1) (parts-sound facts b a w.0 e)) ]
+      | inl e ↦ parted-apart facts a b w.0 (Contains-from_Has facts w.0 w.1) (parts-sound facts a b w.0 e)
+      | inr e ↦ turned (parted-apart facts b a w.0 (Contains-from_Has facts w.0 w.1) (parts-sound facts b a w.0 e))
+    ]
+
     sound : are_disjoint facts a b ≡ true → IsApart facts a b
     sound e = by_fact (Has-from_list_any (parts_either (closed facts) a b) facts e)
+
     parted : (k : Known) → PartedBy facts a b k ⊎ PartedBy facts b a k → parts_either (closed facts) a b k ≡ true
     parted k (inl p) = or_left (parts (closed facts) a b k) (parts (closed facts) b a k) (parts-complete facts a b k p)
     parted k (inr p) = or_right (parts (closed facts) a b k) (parts (closed facts) b a k) (parts-complete facts b a k p)
+
     complete : IsApart facts a b → are_disjoint facts a b ≡ true
     complete d = let w = apart-parted d in
-      list_any-from_Has (parts_either (closed facts) a b) facts w.fact (Has-from_Contains facts w.fact w.known) (parted w.fact w.either)
+        list_any-from_Has (parts_either (closed facts) a b) facts w.fact (Has-from_Contains facts w.fact w.known) (parted w.fact w.either)

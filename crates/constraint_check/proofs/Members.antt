@@ -1,5 +1,5 @@
 -- Elements of lists, by recursion on the list.
-use Rattle.std.proofs.Common.{◌≡◌, zero, suc, Bool, true, List, [], ◌∷◌, ◌++◌, map, refl, ap, ◌∙◌, ◌⊎◌, inl, inr, arith}
+use Rattle.std.proofs.Common.{◌≡◌, zero, suc, Bool, true, false, ◌||◌, ◌&&◌, List, [], ◌∷◌, ◌++◌, map, refl, ap, ◌∙◌, ◌⊎◌, inl, inr, arith}
 use Rattle.std.specs.List.{Contains, list_any}
 use Rattle.std.proofs.lemmas.Bool.{or_cases, or_left, or_right}
 
@@ -52,5 +52,24 @@ list_any-from_Has p (z ∷ xs) x (inr h) e = or_right (p z) (list_any p xs) (lis
 pub Has-from_list_any : {X : Type 0} (p : X → Bool) (xs : List X) → list_any p xs ≡ true → (x : X) × Has xs x × (p x ≡ true)
 Has-from_list_any p [] e = absurd cc
 Has-from_list_any p (z ∷ xs) e = elim (or_cases (p z) (list_any p xs) e) [
-    inl g ↦ (z, inl refl, g)
-  | inr g ↦ let c = Has-from_list_any p xs g in (c.0, inr c.1, c.2) ]
+  | inl g ↦ (z, inl refl, g)
+  | inr g ↦ let c = Has-from_list_any p xs g in (c.0, inr c.1, c.2)
+]
+
+-- a first test that settles nothing
+pub and-true : (a b : Bool) → a ≡ true → b ≡ (a && b)
+and-true true b e = refl
+and-true false b e = absurd cc
+
+pub or-false : (a b : Bool) → a ≡ false → b ≡ (a || b)
+or-false true b e = absurd cc
+or-false false b e = refl
+
+pub list_any-map : {X Y : Type 0} (p : Y → Bool) (f : X → Y) (xs : List X) → list_any (λ x. p (f x)) xs ≡ list_any p (map f xs)
+list_any-map p f [] = refl
+list_any-map p f (x ∷ xs) = ap (λ b. p (f x) || b) (list_any-map p f xs)
+
+-- two tests that agree
+pub list_any-same : {X : Type 0} (p q : X → Bool) → ((x : X) → p x ≡ q x) → (xs : List X) → list_any p xs ≡ list_any q xs
+list_any-same p q e [] = refl
+list_any-same p q e (x ∷ xs) = ap (λ b. b || list_any p xs) (e x) ∙ ap (λ b. q x || b) (list_any-same p q e xs)

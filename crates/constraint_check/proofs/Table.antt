@@ -26,16 +26,18 @@ pub record IsRaised (rows : List Row) (t y : Term) : Type 0 where
 
 with_raised-kept : (t : Term) (ts : List Term) (row : Row) (y : Term) → Has ts y → Has (with_raised t ts row) y
 with_raised-kept t ts row y h = elim (cases_Bool (raises row.0 t)) [
-    inl e ↦ rw (cond-true (raises row.0 t) (united ts row.1) ts e) (united-kept ts row.1 y h)
-  | inr e ↦ rw (cond-false (raises row.0 t) (united ts row.1) ts e) h ]
+  | inl e ↦ rw (cond-true (raises row.0 t) (united ts row.1) ts e) (united-kept ts row.1 y h)
+  | inr e ↦ rw (cond-false (raises row.0 t) (united ts row.1) ts e) h
+]
 
 with_raised-added : (t : Term) (ts : List Term) (row : Row) (y : Term) → raises row.0 t ≡ true → Has row.1 y → Has (with_raised t ts row) y
 with_raised-added t ts row y e h = rw (cond-true (raises row.0 t) (united ts row.1) ts e) (united-added ts row.1 y h)
 
 with_raised-cases : (t : Term) (ts : List Term) (row : Row) (y : Term) → Has (with_raised t ts row) y → Has ts y ⊎ ((raises row.0 t ≡ true) × Has row.1 y)
 with_raised-cases t ts row y h = elim (cases_Bool (raises row.0 t)) [
-    inl e ↦ elim (united-cases ts row.1 y (rw (cond-true (raises row.0 t) (united ts row.1) ts e) at h)) [ inl g ↦ inl g | inr g ↦ inr (e, g) ]
-  | inr e ↦ inl (rw (cond-false (raises row.0 t) (united ts row.1) ts e) at h) ]
+  | inl e ↦ elim (united-cases ts row.1 y (rw (cond-true (raises row.0 t) (united ts row.1) ts e) at h)) [ inl g ↦ inl g | inr g ↦ inr (e, g) ]
+  | inr e ↦ inl (rw (cond-false (raises row.0 t) (united ts row.1) ts e) at h)
+]
 
 gathered-kept : (t : Term) (ts : List Term) (rows : List Row) (y : Term) → Has ts y → Has (fold (with_raised t) ts rows) y
 gathered-kept t ts [] y h = h
@@ -51,10 +53,12 @@ gathered-added t ts (r ∷ rows) row y (inr h) e g = gathered-added t (with_rais
 gathered-cases : (t : Term) (ts : List Term) (rows : List Row) (y : Term) → Has (fold (with_raised t) ts rows) y → Has ts y ⊎ IsRaised rows t y
 gathered-cases t ts [] y h = inl h
 gathered-cases t ts (row ∷ rows) y h = elim (gathered-cases t (with_raised t ts row) rows y h) [
-    inl g ↦ elim (with_raised-cases t ts row y g) [
-        inl k ↦ inl k
-      | inr k ↦ inr (record { row = row; stands = inl refl; raised = k.0; has = k.1 }) ]
-  | inr r ↦ inr (record { row = r.row; stands = inr r.stands; raised = r.raised; has = r.has }) ]
+  | inl g ↦ elim (with_raised-cases t ts row y g) [
+    | inl k ↦ inl k
+    | inr k ↦ inr (record { row = row; stands = inl refl; raised = k.0; has = k.1 })
+  ]
+  | inr r ↦ inr (record { row = r.row; stands = inr r.stands; raised = r.raised; has = r.has })
+]
 
 -- ---- the table of a list of facts
 
@@ -93,10 +97,12 @@ step-raised : (facts : List Known) (rows : List Row) → IsTable facts rows → 
 step-raised facts rows t a y s =
     let w = row_of facts rows t s.fact s.known in
     record {
-      row = w.row; stands = w.stands;
+      row = w.row;
+      stands = w.stands;
       raised = subst (λ k. raises k a ≡ true) (sym w.fact_is) s.raised;
       has = (t.exact w.row w.stands).complete y
-        (subst (λ k. EndsBelow facts k y) (sym w.fact_is) s.rest) }
+          (subst (λ k. EndsBelow facts k y) (sym w.fact_is) s.rest);
+    }
 
 pub all_above-below : (facts : List Known) (rows : List Row) → IsTable facts rows → (a y : Term) → Has (all_above rows a) y → IsBelow facts a y
 all_above-below facts rows t a y h = found (gathered-cases a (a ∷ []) rows y h)
@@ -108,9 +114,10 @@ all_above-below facts rows t a y h = found (gathered-cases a (a ∷ []) rows y h
 
 pub below-all_above : (facts : List Known) (rows : List Row) → IsTable facts rows → (a y : Term) → IsBelow facts a y → Has (all_above rows a) y
 below-all_above facts rows t a y d = elim (first_step d) [
-    inl e ↦ gathered-kept a (a ∷ []) rows y (inl e)
+  | inl e ↦ gathered-kept a (a ∷ []) rows y (inl e)
   | inr s ↦ let r = step-raised facts rows t a y s in
-      gathered-added a (a ∷ []) rows r.row y r.stands r.raised r.has ]
+      gathered-added a (a ∷ []) rows r.row y r.stands r.raised r.has
+]
 
 above_end-sound : (facts : List Known) (rows : List Row) → IsTable facts rows → (k : Known) (y : Term) → Has (above_end rows k) y → EndsBelow facts k y
 above_end-sound facts rows t (Within a b) y h = record { end = b; is_end = refl; below = all_above-below facts rows t b y h }
@@ -131,8 +138,9 @@ above_end-complete facts rows t (Made s) y w = absurd w.is_end
 -- what widening does to a row's terms
 pub widened-kept : (k : Known) (more : List Term) (row : Row) (y : Term) → Has row.1 y → Has (widened k more row).1 y
 widened-kept k more row y h = elim (cases_Bool (list_any (raises k) row.1)) [
-    inl e ↦ rw (cond-true (list_any (raises k) row.1) (united row.1 more) row.1 e) (united-kept row.1 more y h)
-  | inr e ↦ rw (cond-false (list_any (raises k) row.1) (united row.1 more) row.1 e) h ]
+  | inl e ↦ rw (cond-true (list_any (raises k) row.1) (united row.1 more) row.1 e) (united-kept row.1 more y h)
+  | inr e ↦ rw (cond-false (list_any (raises k) row.1) (united row.1 more) row.1 e) h
+]
 
 pub widened-added : (k : Known) (more : List Term) (row : Row) (z y : Term) → Has row.1 z → raises k z ≡ true → Has more y → Has (widened k more row).1 y
 widened-added k more row z y h r g =
@@ -147,37 +155,47 @@ pub record IsWidened (k : Known) (more : List Term) (row : Row) (y : Term) : Typ
 
 pub widened-cases : (k : Known) (more : List Term) (row : Row) (y : Term) → Has (widened k more row).1 y → Has row.1 y ⊎ IsWidened k more row y
 widened-cases k more row y h = elim (cases_Bool (list_any (raises k) row.1)) [
-    inl e ↦ let w = Has-from_list_any (raises k) row.1 e in
+  | inl e ↦ let w = Has-from_list_any (raises k) row.1 e in
       elim (united-cases row.1 more y (rw (cond-true (list_any (raises k) row.1) (united row.1 more) row.1 e) at h)) [
-        inl g ↦ inl g
-      | inr g ↦ inr (record { raised = w.0; stands = w.1; is_raised = w.2; new = g }) ]
-  | inr e ↦ inl (rw (cond-false (list_any (raises k) row.1) (united row.1 more) row.1 e) at h) ]
+        | inl g ↦ inl g
+        | inr g ↦ inr (record { raised = w.0; stands = w.1; is_raised = w.2; new = g })
+      ]
+  | inr e ↦ inl (rw (cond-false (list_any (raises k) row.1) (united row.1 more) row.1 e) at h)
+]
 
 widened-exact : (facts : List Known) (rows : List Row) → IsTable facts rows → (k : Known) (row : Row) → Has rows row → IsExact (facts ++ k ∷ []) (widened k (above_end rows k) row)
 widened-exact facts rows t k row h = record { sound = sound; complete = complete }
   where
     is_exact : IsExact facts row
     is_exact = t.exact row h
+
     sound : (y : Term) → Has (widened k (above_end rows k) row).1 y → EndsBelow (facts ++ k ∷ []) row.0 y
     sound y g = elim (widened-cases k (above_end rows k) row y g) [
-        inl old ↦ EndsBelow-more facts (k ∷ []) row.0 y (is_exact.sound y old)
+      | inl old ↦ EndsBelow-more facts (k ∷ []) row.0 y (is_exact.sound y old)
       | inr w ↦ let up = is_exact.sound w.raised w.stands in
           let on = EndsBelow-more facts (k ∷ []) k y (above_end-sound facts rows t k y w.new) in
-          record { end = up.end; is_end = up.is_end;
+          record {
+            end = up.end;
+            is_end = up.is_end;
             below = through (more_facts (k ∷ []) up.below)
-              (by_way_of (facts ++ k ∷ []) k w.raised y (Contains-push facts k) w.is_raised on) } ]
+                (by_way_of (facts ++ k ∷ []) k w.raised y (Contains-push facts k) w.is_raised on);
+          }
+    ]
+
     complete : (y : Term) → EndsBelow (facts ++ k ∷ []) row.0 y → Has (widened k (above_end rows k) row).1 y
     complete y w = elim (without_new_fact facts k w.below) [
-        inl d ↦ widened-kept k (above_end rows k) row y
+      | inl d ↦ widened-kept k (above_end rows k) row y
           (is_exact.complete y (record { end = w.end; is_end = w.is_end; below = d }))
       | inr n ↦ widened-added k (above_end rows k) row n.raised y
           (is_exact.complete n.raised (record { end = w.end; is_end = w.is_end; below = n.before }))
-          n.is_raised (above_end-complete facts rows t k y n.after) ]
+          n.is_raised (above_end-complete facts rows t k y n.after)
+    ]
 
 new_row-exact : (facts : List Known) (rows : List Row) → IsTable facts rows → (k : Known) → IsExact (facts ++ k ∷ []) (k, above_end rows k)
 new_row-exact facts rows t k = record {
-    sound = λ y h. EndsBelow-more facts (k ∷ []) k y (above_end-sound facts rows t k y h);
-    complete = λ y w. above_end-complete facts rows t k y (EndsBelow-new facts k y w) }
+  sound = λ y h. EndsBelow-more facts (k ∷ []) k y (above_end-sound facts rows t k y h);
+  complete = λ y w. above_end-complete facts rows t k y (EndsBelow-new facts k y w);
+}
 
 pub facts_of-widened : (k : Known) (more : List Term) (rows : List Row) → map (λ (row : Row). row.0) (map (widened k more) rows) ≡ map (λ (row : Row). row.0) rows
 facts_of-widened k more [] = refl
@@ -190,12 +208,13 @@ facts_of-with_row rows k more =
 
 with_fact-table : (facts : List Known) (rows : List Row) → IsTable facts rows → (k : Known) → IsTable (facts ++ k ∷ []) (with_fact rows k)
 with_fact-table facts rows t k = record {
-    facts_are = facts_of-with_row rows k (above_end rows k) ∙ ap (λ ks. ks ++ k ∷ []) t.facts_are;
-    exact = λ row h. cases row (Has-append_cases (map (widened k (above_end rows k)) rows) ((k, above_end rows k) ∷ []) row h) }
+  facts_are = facts_of-with_row rows k (above_end rows k) ∙ ap (λ ks. ks ++ k ∷ []) t.facts_are;
+  exact = λ row h. cases row (Has-append_cases (map (widened k (above_end rows k)) rows) ((k, above_end rows k) ∷ []) row h);
+}
   where
     cases : (row : Row) → Has (map (widened k (above_end rows k)) rows) row ⊎ Has ((k, above_end rows k) ∷ []) row → IsExact (facts ++ k ∷ []) row
     cases row (inl h) = let w = Has-map_cases (widened k (above_end rows k)) rows row h in
-      subst (λ (r : Row). IsExact (facts ++ k ∷ []) r) w.2 (widened-exact facts rows t k w.0 w.1)
+        subst (λ (r : Row). IsExact (facts ++ k ∷ []) r) w.2 (widened-exact facts rows t k w.0 w.1)
     cases row (inr (inl e)) = subst (λ (r : Row). IsExact (facts ++ k ∷ []) r) e (new_row-exact facts rows t k)
     cases row (inr (inr f)) = absurd f
 
@@ -222,24 +241,29 @@ pub record PassesAbove (facts : List Known) (test : Term → Bool) (a : Term) : 
 
 pub any_above-sound : (facts : List Known) (test : Term → Bool) (a : Term) → any_above (closed facts) test a ≡ true → PassesAbove facts test a
 any_above-sound facts test a e = elim (or_cases (test a) (list_any (raises_to test a) (closed facts)) e) [
-    inl p ↦ record { term = a; below = same; passes = p }
-  | inr p ↦ in_row (Has-from_list_any (raises_to test a) (closed facts) p) ]
+  | inl p ↦ record { term = a; below = same; passes = p }
+  | inr p ↦ in_row (Has-from_list_any (raises_to test a) (closed facts) p)
+]
   where
     in_row : ((row : Row) × Has (closed facts) row × (raises_to test a row ≡ true)) → PassesAbove facts test a
     in_row (row, h, q) =
         let both = and_parts (raises row.0 a) (list_any test row.1) q in
         let w = Has-from_list_any test row.1 both.1 in
-        record { term = w.0; passes = w.2;
+        record {
+          term = w.0;
+          passes = w.2;
           below = raised-below facts (closed facts) (closed-table facts) a w.0
-            (record { row = row; stands = h; raised = both.0; has = w.1 }) }
+              (record { row = row; stands = h; raised = both.0; has = w.1 });
+        }
 
 pub any_above-complete : (facts : List Known) (test : Term → Bool) (a x : Term) → IsBelow facts a x → test x ≡ true → any_above (closed facts) test a ≡ true
 any_above-complete facts test a x d p = elim (first_step d) [
-    inl e ↦ or_left (test a) (list_any (raises_to test a) (closed facts)) (subst (λ y. test y ≡ true) (sym e) p)
+  | inl e ↦ or_left (test a) (list_any (raises_to test a) (closed facts)) (subst (λ y. test y ≡ true) (sym e) p)
   | inr s ↦ let r = step-raised facts (closed facts) (closed-table facts) a x s in
       or_right (test a) (list_any (raises_to test a) (closed facts))
       (list_any-from_Has (raises_to test a) (closed facts) r.row r.stands
-        (and_from (raises r.row.0 a) (list_any test r.row.1) r.raised (list_any-from_Has test r.row.1 x r.has p))) ]
+      (and_from (raises r.row.0 a) (list_any test r.row.1) r.raised (list_any-from_Has test r.row.1 x r.has p)))
+]
 
 pub is_below-sound : (facts : List Known) (a b : Term) → is_below (closed facts) a b ≡ true → IsBelow facts a b
 is_below-sound facts a b e =
@@ -255,6 +279,7 @@ is_subregion-derivable facts a b = (sound, complete)
   where
     sound : is_subregion facts a b ≡ true → IsSubregion facts a b
     sound e = let both = and_parts (is_certain b) (is_below (closed facts) a b) e in
-      record { below = is_below-sound facts a b both.1; certain = both.0 }
+        record { below = is_below-sound facts a b both.1; certain = both.0 }
+
     complete : IsSubregion facts a b → is_subregion facts a b ≡ true
     complete w = and_from (is_certain b) (is_below (closed facts) a b) w.certain (is_below-complete facts a b w.below)

@@ -23,10 +23,10 @@ pub data IsBelow (facts : List Known) : Term → Term → Type 0 where
   through : {a b c : Term} → IsBelow facts a b → IsBelow facts b c → IsBelow facts a c
   -- each child of a partition, of every colour, lies within the partition's parent
   child : {p r : ℕ} {c : Colour} {disjoint : Bool} →
-    Contains facts (PartOf p r disjoint) → IsBelow facts (Child p c) (Name r)
+      Contains facts (PartOf p r disjoint) → IsBelow facts (Child p c) (Name r)
   -- a variable that begins as a child lies within it
   variable : {s p : ℕ} {c : Colour} →
-    Contains facts (Within (Name s) (Child p c)) → IsBelow facts (Name s) (Child p c)
+      Contains facts (Within (Name s) (Child p c)) → IsBelow facts (Name s) (Child p c)
 
 -- `a * b`
 pub data IsApart (facts : List Known) : Term → Term → Type 0 where
@@ -36,7 +36,7 @@ pub data IsApart (facts : List Known) : Term → Term → Type 0 where
   turned : {a b : Term} → IsApart facts b a → IsApart facts a b
   -- two children of a disjoint partition by different numbers
   children : {p r : ℕ} {i j : ℤ} → Contains facts (PartOf p r true) → i ≢ j →
-    IsApart facts (Child p (Constant i)) (Child p (Constant j))
+      IsApart facts (Child p (Constant i)) (Child p (Constant j))
   -- what lies within a term is apart from what the term is apart from
   inside : {a b c : Term} → IsBelow facts a b → IsApart facts b c → IsApart facts a c
   -- a region that was made is apart from each region that was bound before it
