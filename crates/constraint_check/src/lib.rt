@@ -8,6 +8,8 @@
 mod closure;
 mod question;
 mod row;
+#[cfg(test)]
+mod tests;
 
 pub use closure::Facts;
 pub use regent_tree::{Colour, Known, Term};

@@ -112,11 +112,8 @@ fn has_sibling_above(rows: &[Row], parent: u32, b: &Term, x: &Term) -> bool
 fn raises_to_sibling(row: &Row, rows: &[Row], parent: u32, a: &Term, b: &Term) -> bool
     ensures { result ≡ raises_to (has_sibling_above rows.now parent b.now) a.now row.now }
 {
-    raises(row.known(), a)
-        && row
-            .above()
-            .iter()
-            .any(|x| has_sibling_above(rows, parent, b, x))
+    let above = row.above();
+    raises(row.known(), a) && above.iter().any(|x| has_sibling_above(rows, parent, b, x))
 }
 
 /// Whether a and b lie within two children of the partition by different numbers.

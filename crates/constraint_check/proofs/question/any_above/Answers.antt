@@ -11,7 +11,7 @@ pub returns-else-fits : goal.returns-else-fits
 returns-else-fits c =
     let test = raises_to (fits c.args.sought.now) c.args.term.now in
     let found : c.any.result ≡ list_any test c.args.rows.now =
-      any_from_yields_List test _ _ _ c.any.ensures.ran
-        (YieldsList-from_slice c.args.rows.now cc) (λ x b q k. search (rules, tests)) in
+    any_from_yields_List test _ _ _ c.any.ensures.ran
+    (YieldsList-from_slice c.args.rows.now cc) (λ x b q k. search (rules, tests)) in
     let itself : fits c.args.sought.now c.args.term.now ≡ false = cc in
     found ∙ or-false _ _ itself

@@ -11,7 +11,7 @@ pub returns-then-raises : goal.returns-then-raises
 returns-then-raises c =
     let row = c.args.row.now in
     let found : c.any.result ≡ list_any (fits c.args.sought.now) row.1 =
-      any_from_yields_List (fits c.args.sought.now) _ _ _ c.any.ensures.ran
-        (YieldsList-from_slice row.1 cc) (λ x b q k. search (rules, tests)) in
+    any_from_yields_List (fits c.args.sought.now) _ _ _ c.any.ensures.ran
+    (YieldsList-from_slice row.1 cc) (λ x b q k. search (rules, tests)) in
     let raised : raises row.0 c.args.term.now ≡ true = cc in
     found ∙ and-true _ _ raised

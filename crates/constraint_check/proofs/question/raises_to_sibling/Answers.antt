@@ -11,7 +11,7 @@ returns-then-raises c =
     let row = c.args.row.now in
     let test = has_sibling_above c.args.rows.now c.args.parent c.args.b.now in
     let found : c.any.result ≡ list_any test row.1 =
-      any_from_yields_List test _ _ _ c.any.ensures.ran
-        (YieldsList-from_slice row.1 cc) (λ x b q k. search (rules, tests)) in
+    any_from_yields_List test _ _ _ c.any.ensures.ran
+    (YieldsList-from_slice row.1 cc) (λ x b q k. search (rules, tests)) in
     let raised : raises row.0 c.args.a.now ≡ true = cc in
     found ∙ and-true _ _ raised

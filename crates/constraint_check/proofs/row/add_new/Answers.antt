@@ -12,8 +12,8 @@ returns-in_ok-push c =
     let terms : List Term = c.args.terms.now.items in
     let test = alike c.args.term in
     let found : c.any.result ≡ list_any test terms =
-      any_from_yields_List test _ _ _ c.any.ensures.ran
-        (YieldsList-from_slice terms cc) (λ x d q k. search (rules, tests)) in
+    any_from_yields_List test _ _ _ c.any.ensures.ran
+    (YieldsList-from_slice terms cc) (λ x d q k. search (rules, tests)) in
     let absent : list_any test terms ≡ false = cc in
     let pushed : c.push.new.self.items ≡ terms ++ c.args.term ∷ [] = cc (c.in_ok-push.ensures.items) in
     pushed ∙ sym (cond-false (list_any test terms) terms (terms ++ c.args.term ∷ []) absent)

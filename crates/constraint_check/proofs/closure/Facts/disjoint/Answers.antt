@@ -16,8 +16,8 @@ returns-clause-computed c =
     let rows : List Row = c.self.inside.rows.items in
     let test = parts_either rows a b in
     let found : c.any.result ≡ list_any (λ (row : Row). test row.0) rows =
-      any_from_yields_List (λ (row : Row). test row.0) _ _ _ c.any.ensures.ran
-        (YieldsList-from_slice rows cc) (λ x d q k. search (rules, tests)) in
+    any_from_yields_List (λ (row : Row). test row.0) _ _ _ c.any.ensures.ran
+    (YieldsList-from_slice rows cc) (λ x d q k. search (rules, tests)) in
     let rows_are : rows ≡ closed c.args.self.now = c.self.invariant ∙ ap closed c.self.view_is in
     found ∙ list_any-map test (λ (row : Row). row.0) rows
     ∙ ap (λ (facts : List Known). list_any test facts) c.self.view_is
@@ -26,4 +26,4 @@ returns-clause-computed c =
 pub returns-clause-derivable : goal.returns-clause-derivable
 returns-clause-derivable c =
     subst (λ r. (r ≡ true) ↔ IsDisjoint c.args.self.now c.args.a.now c.args.b.now) (sym (returns-clause-computed c))
-      (are_disjoint-derivable c.args.self.now c.args.a.now c.args.b.now)
+    (are_disjoint-derivable c.args.self.now c.args.a.now c.args.b.now)

@@ -12,6 +12,6 @@ returns-then-is_certain-clause-derivable c =
     let certain : is_certain b ≡ true = cc in
     let rows_are = c.deref.ensures.value ∙ c.self.invariant ∙ ap closed c.self.view_is in
     let computed : c.is_below.result ≡ is_subregion c.args.self.now a b =
-      c.is_below.ensures ∙ ap (λ (rows : List Row). is_below rows a b) rows_are ∙ and-true (is_certain b) _ certain in
+    c.is_below.ensures ∙ ap (λ (rows : List Row). is_below rows a b) rows_are ∙ and-true (is_certain b) _ certain in
     subst (λ r. (r ≡ true) ↔ IsSubregion c.args.self.now a b) (sym computed)
-      (is_subregion-derivable c.args.self.now a b)
+    (is_subregion-derivable c.args.self.now a b)
