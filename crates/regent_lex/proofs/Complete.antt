@@ -1,27 +1,25 @@
 -- What stands at the front of a text by the tables, the scanner finds.
-use Rattle.std.proofs.Common.{◌≡◌, ◌≢◌, ℕ, zero, suc, ◌+◌, ◌≤◌, ◌<◌, ◌^◌, Bool, true, false, cond}
-use Rattle.std.proofs.Common.{List, [], ◌∷◌, ◌++◌, length, take, drop, Option, Some, None, refl}
-use Rattle.std.proofs.Common.{sym, ap, subst, ◌∙◌, arith, inl, inr, ◌⊎◌, append_assoc}
+use Rattle.std.proofs.Common.{◌≡◌, ◌≢◌, ℕ, ◌+◌, ◌≤◌, ◌<◌, ◌^◌, Bool, true, false}
+use Rattle.std.proofs.Common.{List, [], ◌∷◌, ◌++◌, length, Option, Some, None, refl}
+use Rattle.std.proofs.Common.{ap, ◌∙◌, arith, inl, inr, ◌⊎◌, append_assoc}
 use Rattle.std.proofs.Math.Seq.{drop-append-add}
-use Rattle.std.specs.List.{prefix_len, list_all, list_any}
+use Rattle.std.specs.List.{list_all, list_any}
 use Rattle.std.specs.Prelude.{◌&&◌, ◌||◌, ◌==◌, nat_lt, codes}
-use Rattle.std.proofs.lemmas.List.{take-append-drop, take_at, drop_at, length-append, append-nil}
+use Rattle.std.proofs.lemmas.List.{take_at, drop_at, length-append, append-nil}
 use Rattle.std.proofs.lemmas.Bool.{eqb-true, lt-ltb, le-ltb, ne_eqb, false_from_ne_true, and_parts}
 use Rattle.std.proofs.lemmas.Bool.{or_parts}
 use Rattle.std.proofs.lemmas.Bool.Decides.{nat_tests}
-use Rattle.regent_lex.specs.declared.lexeme.Lexeme.{Lexeme}
 use Rattle.regent_lex.specs.declared.lexeme.Lexeme.TheVariants.{Trivia, Token, Fault}
 use Rattle.regent_lex.specs.declared.token.TokenKind.{TokenKind}
-use Rattle.regent_lex.specs.declared.token.TokenKind.TheVariants.{Name, Word, Number, Quoted, Sign}
+use Rattle.regent_lex.specs.declared.token.TokenKind.TheVariants.{Quoted, Sign}
 use Rattle.regent_lex.specs.declared.fault.LexKind.{LexKind}
 use Rattle.regent_lex.specs.declared.fault.LexKind.TheVariants.{BadByte, Unclosed, NumberTooLarge}
-use Rattle.regent_lex.specs.declared.fault.LexKind.TheVariants.{NameTooLong}
 use Rattle.regent_lex.specs.declared.search.Wanted.TheVariants.{ClosingQuote, BadContent, Brackets}
 use Rattle.regent_lex.specs.Bytes.{is_blank, is_digit, is_letter, is_word_byte, in_line, is_sign}
 use Rattle.regent_lex.specs.Bytes.{takes_equals, next_is, next_are}
-use Rattle.regent_lex.specs.Words.{is_reserved, IsIdentifier}
-use Rattle.regent_lex.specs.Numbers.{value_of, IsNumeral, HasNoSuffix, is_fraction}
-use Rattle.regent_lex.specs.Strings.{is_escape, IsContent, IsClosed}
+use Rattle.regent_lex.specs.Words.{IsIdentifier}
+use Rattle.regent_lex.specs.Numbers.{value_of, IsNumeral, HasNoSuffix}
+use Rattle.regent_lex.specs.Strings.{IsContent, IsClosed}
 use Rattle.regent_lex.specs.Trivia.{has_brackets, IsTrivia, blank, line_comment, block_comment}
 use Rattle.regent_lex.specs.Tokens.{IsToken, name, word, number, quoted, sign, two_byte_sign}
 use Rattle.regent_lex.specs.Faults.{IsFault, long_name, large_number, behind_number, open_comment}
@@ -74,6 +72,7 @@ equals_isnt q b none h =
 
 -- ---- trivia
 
+-- a comment to the end of its line
 line_found : (bytes after : List ℕ) → list_all in_line bytes ≡ true →
     next_is in_line after ≡ false →
     next_are 91 91 (bytes ++ after) ≡ false →
@@ -81,6 +80,7 @@ line_found : (bytes after : List ℕ) → list_all in_line bytes ≡ true →
 unfolding comment_at
 line_found bytes after all stops no_block = rw (no_block, run_is in_line bytes after all stops) refl
 
+-- a block comment
 block_found : (bytes after : List ℕ) → has_brackets (bytes ++ codes "]") ≡ false →
     comment_at (91 ∷ 91 ∷ (bytes ++ codes "]]") ++ after) ≡ Trivia (length bytes + 1 + 5)
 unfolding comment_at
@@ -89,6 +89,7 @@ block_found bytes after none =
     append_assoc bytes (codes "]]") after in
     ap (λ ts. block_with (search Brackets false ts)) e ∙ rw (ended_found bytes after none) refl
 
+-- blanks and comments are found
 pub trivia_found : (s after : List ℕ) → IsTrivia s after →
     first_lexeme (s ++ after) ≡ Some (Trivia (length s))
 unfolding lexeme_at
@@ -102,6 +103,7 @@ trivia_found s after (block_comment bytes none) =
 
 -- ---- words and names
 
+-- an identifier is taken whole
 identifier_is : (s after : List ℕ) → IsIdentifier s after →
     identifier_at (s ++ after) ≡ word_or_name s
 unfolding identifier_at
@@ -126,11 +128,13 @@ digit_first : (b : ℕ) (bs : List ℕ) → is_digit b ≡ true →
 unfolding lexeme_at
 digit_first b bs h = rw (blank_no_digit b h, letter_no_digit b h, h) refl
 
+-- what begins with digits is read as a number
 number_first : (digits bs : List ℕ) → next_is is_digit digits ≡ true →
     first_lexeme (digits ++ bs) ≡ Some (number_at (digits ++ bs))
 number_first [] bs h = absurd cc
 number_first (d ∷ ds) bs h = digit_first d (ds ++ bs) h
 
+-- digits that spell too large a number
 large_is : (digits after : List ℕ) → list_all is_digit digits ≡ true →
     next_is is_digit after ≡ false →
     2 ^ 63 ≤ value_of digits → number_at (digits ++ after) ≡ Fault NumberTooLarge 0
@@ -139,6 +143,7 @@ large_is digits after all ends large =
     let t : nat_lt (value_of digits) (2 ^ 63) ≡ false = le-ltb _ _ large in
     rw (run_is is_digit digits after all ends, take_at digits after (length digits) refl, t) refl
 
+-- digits that spell a small number, by what comes after them
 small_is : (digits bs : List ℕ) → list_all is_digit digits ≡ true → next_is is_digit bs ≡ false →
     value_of digits < 2 ^ 63 →
     number_at (digits ++ bs) ≡ number_of_digits (length digits) (digits ++ bs)
@@ -160,6 +165,7 @@ suffix_two digits after =
       drop-append-add digits (76 ∷ 76 ∷ after) 2,
     ) refl
 
+-- LL is taken where it stands behind the digits
 suffix_is : (digits suffix after : List ℕ) →
     HasNoSuffix suffix after ⊎ (suffix ≡ codes "LL") →
     number_of_digits (length digits) (digits ++ (suffix ++ after))
@@ -167,11 +173,13 @@ suffix_is : (digits suffix after : List ℕ) →
 suffix_is digits suffix after (inl p) = rw (p.0, append-nil) (suffix_none digits after p.2)
 suffix_is digits suffix after (inr p) = rw (p, length-append) (suffix_two digits after)
 
+-- the digits end before the suffix
 digits_end : (suffix after : List ℕ) →
     HasNoSuffix suffix after ⊎ (suffix ≡ codes "LL") → next_is is_digit (suffix ++ after) ≡ false
 digits_end suffix after (inl p) = rw p.0 p.1
 digits_end suffix after (inr p) = rw p refl
 
+-- a number is taken whole
 numeral_found : (digits suffix after : List ℕ) → IsNumeral digits suffix after →
     value_of digits < 2 ^ 63 →
     first_lexeme ((digits ++ suffix) ++ after)
@@ -189,12 +197,14 @@ quote_first : (bytes : List ℕ) → first_lexeme (34 ∷ bytes) ≡ Some (strin
 unfolding lexeme_at
 quote_first bytes = refl
 
+-- what stands behind a quote is read by the two searches
 string_is : (bytes : List ℕ) (o bad : Option ℕ) → search ClosingQuote false bytes ≡ o →
     search BadContent false bytes ≡ bad →
     first_lexeme (34 ∷ bytes) ≡ Some (string_with o bad)
 unfolding string_at
 string_is bytes o bad closing is = quote_first bytes ∙ rw (closing, is) refl
 
+-- a string is taken whole
 quoted_found : (bytes after : List ℕ) → IsContent bytes →
     first_lexeme ((34 ∷ bytes ++ 34 ∷ []) ++ after)
     ≡ Some (Token Quoted (length (34 ∷ bytes ++ 34 ∷ [])))
@@ -204,6 +214,7 @@ quoted_found bytes after is =
     (bad_over bytes (34 ∷ after) is)
     ∙ ap (λ n. Some (Token Quoted n)) (omega (arith, length-append bytes (34 ∷ [])))
 
+-- the first bad byte of a closed string is told
 bad_found : (bytes : List ℕ) (k : ℕ) → IsClosed bytes → search BadContent false bytes ≡ Some k →
     first_lexeme (34 ∷ bytes) ≡ Some (Fault BadByte (k + 1))
 bad_found bytes k closed bad = let found = closed_found bytes closed in
@@ -211,12 +222,14 @@ bad_found bytes k closed bad = let found = closed_found bytes closed in
 
 -- ---- signs
 
+-- two dashes begin with a sign
 dash_is_sign : (b : ℕ) (after : List ℕ) → is_sign b ≡ false → next_are 45 45 (b ∷ after) ≡ true → ⊥
 dash_is_sign b after h dashes =
     let e : b ≡ 45 = eqb-true b 45 (and_parts (b == 45) (next_is (λ c. c == 45) after) dashes).0 in
     let f : is_sign b ≡ true = rw e refl in
     cc
 
+-- what is no blank, letter, digit, quote or comment is read as a sign
 sign_first : (b : ℕ) (after : List ℕ) → is_blank b ≡ false → is_letter b ≡ false →
     is_digit b ≡ false → (b == 34) ≡ false →
     next_are 45 45 (b ∷ after) ≡ false → first_lexeme (b ∷ after) ≡ Some (sign_at b after)
@@ -255,6 +268,7 @@ nothing_found b after no_blank no_letter no_digit no_quote no_sign lone =
 
 -- ---- the tables
 
+-- the tokens of the table are found
 pub token_found : (kind : TokenKind) (s after : List ℕ) → IsToken kind s after →
     first_lexeme (s ++ after) ≡ Some (Token kind (length s))
 token_found kind s after (name is r len) = identifier_found s after is ∙ rw (r, le-ltb _ _ len) refl
@@ -270,6 +284,7 @@ open_comment_found : (bytes : List ℕ) → has_brackets bytes ≡ false →
 unfolding lexeme_at comment_at
 open_comment_found bytes none = rw (endless_missing bytes none) refl
 
+-- the faults are found
 pub fault_found : (kind : LexKind) (s after : List ℕ) → IsFault kind s after →
     first_lexeme (s ++ after) ≡ Some (Fault kind (length s))
 fault_found kind s all (long_name {name} {after} is r long) = identifier_found name after is

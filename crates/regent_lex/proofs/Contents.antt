@@ -1,6 +1,6 @@
 -- Strings: the search for the closing quote and for a bad byte, at each form of what may stand
 -- behind an opening quote.
-use Rattle.std.proofs.Common.{◌≡◌, ◌≢◌, ℕ, zero, suc, ◌+◌, ◌<◌, ◌≤◌, Bool, true, false, cond, List}
+use Rattle.std.proofs.Common.{◌≡◌, ◌≢◌, ℕ, ◌+◌, ◌<◌, ◌≤◌, Bool, true, false, List}
 use Rattle.std.proofs.Common.{[], ◌∷◌, ◌++◌, length, Option, Some, None, refl, sym, ap, ◌∙◌, arith}
 use Rattle.std.specs.Prelude.{◌==◌, nat_lt}
 use Rattle.std.proofs.lemmas.Bool.{eqb-true, eqb-false, ltb-true, ltb-false, ne_eqb, le-ltb, lt-ltb}
@@ -8,12 +8,14 @@ use Rattle.std.proofs.lemmas.Bool.{false_from_ne_true}
 use Rattle.regent_lex.specs.declared.search.Wanted.TheVariants.{ClosingQuote, BadContent}
 use Rattle.regent_lex.specs.Strings.{is_escape, IsContent, no_bytes, escape, itself, IsClosed}
 use Rattle.regent_lex.specs.Strings.{quote, pair, single}
-use Rattle.regent_lex.specs.Search.{next_step, further, after_step, search}
+use Rattle.regent_lex.specs.Search.{further, search}
 
+-- further and further on
 pub further_further : (m n : ℕ) (o : Option ℕ) → further m (further n o) ≡ further (m + n) o
 further_further m n None = refl
 further_further m n (Some k) = ap (λ j. Some j) (omega arith)
 
+-- no further on
 pub further_none : (o : Option ℕ) → further 0 o ≡ o
 further_none None = refl
 further_none (Some k) = ap (λ j. Some j) (omega arith)
@@ -34,6 +36,7 @@ pub data Front : List ℕ → Type 0 where
   text_ends : {bytes : List ℕ} → IsContent bytes → Front bytes
   half_escape : {bytes : List ℕ} → IsContent bytes → Front (bytes ++ 92 ∷ [])
 
+-- one more byte before a front, which stands for itself
 behind_itself : (b : ℕ) (bytes : List ℕ) → 32 ≤ b → b ≢ 34 → b ≢ 92 → Front bytes →
     Front (b ∷ bytes)
 behind_itself b text high no_quote no_slash (closes content after) =
@@ -47,6 +50,7 @@ behind_itself b text high no_quote no_slash (text_ends content) =
 behind_itself b text high no_quote no_slash (half_escape content) =
     half_escape (itself high no_quote no_slash content)
 
+-- an escape before a front
 behind_escape : (c : ℕ) (bytes : List ℕ) → is_escape c ≡ true → Front bytes →
     Front (92 ∷ c ∷ bytes)
 behind_escape c text good (closes content after) = closes (escape good content) after
@@ -77,6 +81,7 @@ pair_front b c rest two one false false true good q s l g =
 pair_front b c rest two one false false false good q s l g =
     behind_itself b (c ∷ rest) (ltb-false b 32 l) (eqb-false b 34 q) (eqb-false b 92 s) one
 
+-- each list of bytes has a front
 pub front : (bytes : List ℕ) → Front bytes
 front [] = text_ends no_bytes
 front (b ∷ []) = last_front b _ _ _ refl refl refl
@@ -85,11 +90,13 @@ front (b ∷ c ∷ rest) =
 
 -- ---- the searches pass over content
 
+-- an escape is no line feed
 escape_no_feed : (c : ℕ) → is_escape c ≡ true → (c == 10) ≡ false
 escape_no_feed c h =
     false_from_ne_true (c == 10)
     (λ e. let is : c ≡ 10 = eqb-true c 10 e in let f = rw is at h in cc)
 
+-- the search for the closing quote passes over content
 pub closing_over : (bytes after : List ℕ) → IsContent bytes →
     search ClosingQuote false (bytes ++ after)
     ≡ further (length bytes) (search ClosingQuote false after)
@@ -107,6 +114,7 @@ closing_over bytes after (itself {b} {bytes = rest} high no_quote no_slash conte
     rw (feed, quote, slash, later, further_further)
     (ap (λ n. further n (search ClosingQuote false after)) (omega arith))
 
+-- the search for a bad byte passes over content
 pub bad_over : (bytes after : List ℕ) → IsContent bytes →
     search BadContent false (bytes ++ after)
     ≡ further (length bytes) (search BadContent false after)
@@ -125,6 +133,7 @@ bad_over bytes after (itself {b} {bytes = rest} high no_quote no_slash content) 
 
 -- ---- a closing quote is found where there is one
 
+-- the closing quote of what is closed is found
 pub closed_found : (bytes : List ℕ) → IsClosed bytes →
     (n : ℕ) × (search ClosingQuote false bytes ≡ Some n)
 closed_found bytes quote = (0, refl)
@@ -163,12 +172,14 @@ found_on b n rest false false false false f-is q-is s-is later h =
     let k = further_is 1 n (search ClosingQuote false rest) e in
     single (eqb-false b 10 f-is) (eqb-false b 34 q-is) (eqb-false b 92 s-is) (later false k.0 k.1)
 
+-- what has a closing quote found is closed, by induction with a backslash before it or without
 found_behind : (bytes : List ℕ) (taken : Bool) (n : ℕ) → search ClosingQuote taken bytes ≡ Some n →
     IsClosedBehind taken bytes
 found_behind [] taken n h = absurd cc
 found_behind (b ∷ rest) taken n h =
     found_on b n rest taken _ _ _ refl refl refl (λ state k. found_behind rest state k) h
 
+-- what has a closing quote found is closed
 pub found_closed : (bytes : List ℕ) (n : ℕ) → search ClosingQuote false bytes ≡ Some n →
     IsClosed bytes
 found_closed bytes n h = found_behind bytes false n h
@@ -178,14 +189,17 @@ missing_on : (bytes : List ℕ) → (IsClosed bytes → ⊥) → (o : Option ℕ
 missing_on bytes h None is = refl
 missing_on bytes h (Some n) is = absurd (h (found_closed bytes n is))
 
+-- what is not closed has no closing quote found
 pub open_missing : (bytes : List ℕ) → (IsClosed bytes → ⊥) → search ClosingQuote false bytes ≡ None
 open_missing bytes h = missing_on bytes h (search ClosingQuote false bytes) refl
 
+-- what has no closing quote found is not closed
 pub missing_open : (bytes : List ℕ) → search ClosingQuote false bytes ≡ None → IsClosed bytes → ⊥
 missing_open bytes h closed = let found = closed_found bytes closed in let e = found.1 in absurd cc
 
 -- ---- the first bad byte is found
 
+-- a byte below 32 behind content is found
 pub low_bad : (bytes : List ℕ) (b : ℕ) (after : List ℕ) → IsContent bytes → b < 32 →
     search BadContent false (bytes ++ b ∷ after) ≡ Some (length bytes)
 low_bad bytes b after content lt =
@@ -193,6 +207,7 @@ low_bad bytes b after content lt =
     let quote : (b == 34) ≡ false = ne_eqb b 34 (omega arith) in
     bad_over bytes (b ∷ after) content ∙ rw (quote, is_low) (ap (λ n. Some n) (omega arith))
 
+-- a byte that is no escape, behind a backslash, is found
 pub unknown_bad : (bytes : List ℕ) (c : ℕ) (after : List ℕ) → IsContent bytes →
     is_escape c ≡ false →
     search BadContent false (bytes ++ 92 ∷ c ∷ after) ≡ Some (length bytes + 1)

@@ -1,7 +1,7 @@
 -- Numbers that digits spell.
-use Rattle.std.proofs.Common.{◌≡◌, ℕ, suc, ◌+◌, ◌*◌, ◌-◌, ◌^◌, ◌≤◌, ◌<◌, List, [], ◌∷◌, arith}
+use Rattle.std.proofs.Common.{ℕ, suc, ◌+◌, ◌*◌, ◌-◌, ◌^◌, ◌≤◌, ◌<◌, List, [], ◌∷◌, arith}
 use Rattle.std.proofs.Common.{length, drop, drop-cons, get_or}
-use Rattle.regent_lex.specs.Numbers.{value_on, value_of}
+use Rattle.regent_lex.specs.Numbers.{value_on}
 
 -- more digits spell no smaller number
 pub value_grows : (n : ℕ) (ds : List ℕ) → n ≤ value_on n ds

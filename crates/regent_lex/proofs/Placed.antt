@@ -1,6 +1,6 @@
 -- Each token stands in the text where it says, on the line and of the kind that it says.
-use Rattle.std.proofs.Common.{◌≡◌, ℕ, suc, true, Bool, cond, ◌+◌, ◌-◌, ◌≤◌, ◌<◌, List, [], ◌∷◌}
-use Rattle.std.proofs.Common.{◌++◌, length, take, drop, Result, Ok, Err, refl, sym, ap, subst, ◌∙◌}
+use Rattle.std.proofs.Common.{◌≡◌, ℕ, true, Bool, cond, ◌+◌, ◌-◌, ◌≤◌, ◌<◌, List, [], ◌∷◌}
+use Rattle.std.proofs.Common.{◌++◌, length, take, drop, Result, Ok, Err, refl, sym, ap, ◌∙◌}
 use Rattle.std.proofs.Common.{arith, drop-drop}
 use Rattle.std.specs.Prelude.{All, IfOk, ◌==◌}
 use Rattle.std.proofs.lemmas.List.{take_at, drop_at, length-append, length-drop}
@@ -11,7 +11,6 @@ use Rattle.std.specs.Global.{Vec}
 use Rattle.regent_lex.specs.declared.token.Token.{Token}
 use Rattle.regent_lex.specs.declared.token.TokenKind.{TokenKind}
 use Rattle.regent_lex.specs.declared.fault.LexFault.{LexFault}
-use Rattle.regent_lex.specs.declared.fault.LexFault.TheVariants.{At, Memory}
 use Rattle.regent_lex.specs.Bytes.{feeds, next_is}
 use Rattle.regent_lex.specs.Tokens.{IsToken, name, word, number, quoted, sign, two_byte_sign}
 use Rattle.regent_lex.specs.Places.{spelling, Spells, IsWithin, IsOnLine}
@@ -33,6 +32,7 @@ record StandsAt (text here : List ℕ) (place line : ℕ) : Type 0 where
   within : place ≤ length text
   lines : line ≡ 1 + feeds (take place text)
 
+-- one more token
 one_more : (text : List ℕ) (t : Token) (out : Lexed) → IsPlaced text t → ArePlaced text out →
     ArePlaced text (with_token t out)
 one_more text t (Ok ts) is all = All-cons (IsPlaced text) t ts is all
@@ -43,6 +43,7 @@ some_bytes : (p : ℕ → Bool) (bytes : List ℕ) → next_is p bytes ≡ true 
 some_bytes p [] h = absurd cc
 some_bytes p (b ∷ bytes) h = omega arith
 
+-- a token has a byte or more
 token_some : (kind : TokenKind) (bytes after : List ℕ) → IsToken kind bytes after → 0 < length bytes
 token_some kind bytes after (name is r len) = some_bytes _ bytes is.first
 token_some kind bytes after (word is r) = some_bytes _ bytes is.first
@@ -53,9 +54,11 @@ token_some kind bytes after (quoted is) = omega arith
 token_some kind bytes after (sign h no_comment lone) = omega arith
 token_some kind bytes after (two_byte_sign h) = omega arith
 
+-- line feeds add up
 feeds_append : (xs ys : List ℕ) → feeds (xs ++ ys) ≡ feeds xs + feeds ys
 feeds_append xs ys = sum_by-append (λ b. cond (b == 10) 1 0) xs ys
 
+-- from a place to the place behind more bytes
 moves : (text bytes after : List ℕ) (place line : ℕ) → StandsAt text (bytes ++ after) place line →
     StandsAt text after (place + length bytes) (line + feeds bytes)
 moves text bytes after place line at_place =
@@ -76,6 +79,7 @@ moves text bytes after place line at_place =
           ) (omega arith);
     }
 
+-- all tokens that are read from a place are placed
 placed : (text here : List ℕ) (place line : ℕ) (out : Lexed) → Lexes here place line out →
     StandsAt text here place line → ArePlaced text out
 placed text here place line out ends at_place = All-nil (IsPlaced text)
@@ -101,18 +105,21 @@ all_placed : (text : List ℕ) (out : Lexed) → Lexes text 0 1 out → ArePlace
 all_placed text out d =
     placed text text 0 1 out d (record { rest = refl; within = omega arith; lines = refl })
 
+-- the clause within of the call
 pub all_within : (text : List ℕ) (r : Result (Vec Token) LexFault) →
     Told (λ out. Lexes text 0 1 out) r →
     IfOk r (λ ts. All (IsWithin text) ts.items)
 all_within text (Ok v) d = let all = all_placed text (Ok v.items) d in λ k t lt. (all k t lt).within
 all_within text (Err fault) d = tt
 
+-- the clause lines of the call
 pub all_on_line : (text : List ℕ) (r : Result (Vec Token) LexFault) →
     Told (λ out. Lexes text 0 1 out) r →
     IfOk r (λ ts. All (IsOnLine text) ts.items)
 all_on_line text (Ok v) d = let all = all_placed text (Ok v.items) d in λ k t lt. (all k t lt).line
 all_on_line text (Err fault) d = tt
 
+-- the clause kinds of the call
 pub all_spelt : (text : List ℕ) (r : Result (Vec Token) LexFault) →
     Told (λ out. Lexes text 0 1 out) r →
     IfOk r (λ ts. All (λ t. Spells t.kind (spelling text t)) ts.items)

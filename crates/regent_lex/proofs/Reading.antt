@@ -1,6 +1,6 @@
 -- A text is read lexeme after lexeme, and in one way.
-use Rattle.std.proofs.Common.{◌≡◌, ℕ, suc, ◌+◌, ◌≤◌, ◌<◌, List, [], ◌∷◌, ◌++◌, length, take, drop}
-use Rattle.std.proofs.Common.{Option, Some, None, Result, Ok, Err, refl, sym, ap, subst, ◌∙◌, arith}
+use Rattle.std.proofs.Common.{◌≡◌, ℕ, ◌+◌, ◌≤◌, List, [], ◌∷◌, ◌++◌, length, take, drop}
+use Rattle.std.proofs.Common.{Option, Some, None, Result, Ok, Err, refl, sym, ap, subst, ◌∙◌}
 use Rattle.std.proofs.Common.{append_assoc, drop-drop}
 use Rattle.std.proofs.lemmas.List.{take-append-drop, take_at, drop_at, append-nil, length-take-le}
 use Rattle.std.specs.Global.{Vec}
@@ -12,9 +12,6 @@ use Rattle.regent_lex.specs.declared.fault.LexKind.{LexKind}
 use Rattle.regent_lex.specs.declared.fault.LexFault.{LexFault}
 use Rattle.regent_lex.specs.declared.fault.LexFault.TheVariants.{At, Memory}
 use Rattle.regent_lex.specs.Bytes.{feeds}
-use Rattle.regent_lex.specs.Trivia.{IsTrivia}
-use Rattle.regent_lex.specs.Tokens.{IsToken}
-use Rattle.regent_lex.specs.Faults.{IsFault}
 use Rattle.regent_lex.specs.Begins.{Begins}
 use Rattle.regent_lex.specs.Scan.{first_lexeme}
 use Rattle.regent_lex.specs.Texts.{Lexed, with_token, Lexes, ends, skips, takes, fails}
@@ -34,6 +31,7 @@ After (Some (lexeme.Token kind n)) text place line out =
 After (Some (lexeme.Fault kind n)) text place line out =
     out ≡ Err (kind, line + feeds (take n text))
 
+-- an outcome of a text is what its first lexeme leaves
 after_first : {text : List ℕ} {place line : ℕ} {out : Lexed} → Lexes text place line out →
     After (first_lexeme text) text place line out
 after_first ends = refl
@@ -52,6 +50,7 @@ after_first (takes {kind} {bytes} {after} {out = out} is d) =
 after_first (fails {kind} {bytes} {after} is) =
     rw (fault_found kind bytes after is, take_at bytes after (length bytes) refl) refl
 
+-- a text has one outcome at most
 pub one_outcome : {text : List ℕ} {place line : ℕ} {a b : Lexed} →
     Lexes text place line a → Lexes text place line b → a ≡ b
 one_outcome ends e = sym (after_first e)
@@ -77,6 +76,7 @@ one_outcome (fails {kind} {bytes} {after} is) e =
     in
     sym h
 
+-- what is told is the one outcome
 pub told_only : (text : List ℕ) (r : Result (Vec Token) LexFault) (out : Lexed) →
     Lexes text 0 1 out →
     Told (λ t. Lexes text 0 1 t) r → Told (λ t. t ≡ out) r
@@ -95,10 +95,12 @@ abbrev pub SoFar : List Token → List ℕ → ℕ → ℕ → Type 0
 SoFar ts text place line =
     (out : Lexed) → Lexes (drop place text) place line out → Lexes text 0 1 (with_tokens ts out)
 
+-- at the text's begin nothing is told
 pub begins_so_far : (text : List ℕ) → SoFar [] text 0 1
 begins_so_far text (Ok ts) d = d
 begins_so_far text (Err e) d = d
 
+-- a token before the rest is one behind those before it
 regroup : (ts : List Token) (t : Token) (out : Lexed) →
     with_tokens ts (with_token t out) ≡ with_tokens (ts ++ t ∷ []) out
 regroup ts t (Ok us) = ap (λ vs. Ok vs) (sym (append_assoc ts (t ∷ []) us))
@@ -120,6 +122,7 @@ trivia_on ts text place line n is so_far = λ out d.
     (subst (λ (rest : List ℕ). Lexes rest place line out) (take-append-drop n (drop place text))
     (skips is.2 (behind text place line n out is.1 d)))
 
+-- one more blank or comment
 pub trivia_so_far : (ts : List Token) (text here : List ℕ) (place line n : ℕ) →
     here ≡ drop place text →
     Begins (lexeme.Trivia n) here → SoFar ts text place line →
@@ -149,6 +152,7 @@ token_on ts text place line n kind is so_far = λ out d.
     (length-take-le n here is.1) whole in
     subst (λ (o : Lexed). Lexes text 0 1 o) (regroup ts t out) (so_far _ told)
 
+-- one more token
 pub token_so_far : (ts : List Token) (text here : List ℕ) (place line n : ℕ) (kind : TokenKind) →
     here ≡ drop place text → Begins (lexeme.Token kind n) here → SoFar ts text place line →
     SoFar (ts ++ record { kind = kind; start = place; end = place + n; line = line } ∷ []) text
@@ -157,6 +161,7 @@ pub token_so_far : (ts : List Token) (text here : List ℕ) (place line n : ℕ)
 token_so_far ts text here place line n kind is begins so_far =
     rw is (token_on ts text place line n kind (rw is at begins) so_far)
 
+-- a fault ends the text
 pub fault_told : (ts : List Token) (text here : List ℕ) (place line n : ℕ) (kind : LexKind) →
     here ≡ drop place text → Begins (lexeme.Fault kind n) here → SoFar ts text place line →
     Lexes text 0 1 (Err (kind, line + feeds (take n here)))
@@ -165,6 +170,7 @@ fault_told ts text here place line n kind is begins so_far =
     (subst (λ (rest : List ℕ). Lexes rest place line (Err (kind, line + feeds (take n here))))
     (take-append-drop n here ∙ is) (fails begins.1))
 
+-- the end of the text ends it
 pub end_told : (ts : List Token) (text here : List ℕ) (place line : ℕ) → here ≡ drop place text →
     here ≡ [] → SoFar ts text place line → Lexes text 0 1 (Ok ts)
 end_told ts text here place line is empty so_far =

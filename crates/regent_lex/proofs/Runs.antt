@@ -1,8 +1,7 @@
 -- Runs of bytes that pass a test.
-use Rattle.std.proofs.Common.{◌≡◌, ℕ, zero, suc, ◌+◌, ◌<◌, Bool, true, false, cond, List, [], ◌∷◌}
+use Rattle.std.proofs.Common.{◌≡◌, ℕ, suc, ◌+◌, ◌<◌, Bool, true, false, cond, List, [], ◌∷◌}
 use Rattle.std.proofs.Common.{◌++◌, length, take, drop, refl, arith}
 use Rattle.std.specs.List.{prefix_len, list_all}
-use Rattle.std.specs.Prelude.{◌&&◌}
 use Rattle.std.proofs.lemmas.Bool.{and_parts}
 use Rattle.regent_lex.specs.Bytes.{next_is}
 
@@ -30,6 +29,7 @@ pub run_ends : (p : ℕ → Bool) (xs : List ℕ) → next_is p (drop (prefix_le
 run_ends p [] = refl
 run_ends p (x ∷ xs) = run_ends_on p x xs (p x) refl (run_ends p xs)
 
+-- a run that doesn't begin is empty
 run_stops : (p : ℕ → Bool) (after : List ℕ) → next_is p after ≡ false → prefix_len p after ≡ 0
 run_stops p [] h = refl
 run_stops p (x ∷ xs) h = rw h refl

@@ -1,31 +1,30 @@
 -- What the scanner finds at the front of a text stands there by the tables.
 use Rattle.std.proofs.Common.{◌≡◌, ◌≢◌, ℕ, zero, suc, ◌+◌, ◌≤◌, ◌<◌, ◌^◌, Bool, true, false, cond}
 use Rattle.std.proofs.Common.{List, [], ◌∷◌, ◌++◌, length, take, drop, Option, Some, None, refl}
-use Rattle.std.proofs.Common.{sym, ap, subst, ◌∙◌, arith, inl, inr, ◌⊎◌, append_assoc}
-use Rattle.std.specs.List.{prefix_len, list_all, list_any}
-use Rattle.std.specs.Prelude.{◌&&◌, ◌||◌, ◌==◌, nat_lt, codes, IfSome, IfNone}
+use Rattle.std.proofs.Common.{sym, ap, subst, ◌∙◌, arith, inl, inr, append_assoc}
+use Rattle.std.specs.List.{prefix_len, list_all}
+use Rattle.std.specs.Prelude.{◌&&◌, ◌||◌, ◌==◌, nat_lt, codes, IfSome}
 use Rattle.std.proofs.lemmas.List.{take-append-drop, take_at, drop_at, length-append, append-nil}
-use Rattle.std.proofs.lemmas.List.Sums.{prefix_len-le-length}
 use Rattle.std.proofs.lemmas.List.Folds.{length-prefix_len}
 use Rattle.std.proofs.lemmas.Bool.{ltb-true, ltb-false, eqb-true, eqb-false, and_parts}
 use Rattle.regent_lex.specs.declared.lexeme.Lexeme.{Lexeme}
 use Rattle.regent_lex.specs.declared.lexeme.Lexeme.TheVariants.{Trivia, Token, Fault}
 use Rattle.regent_lex.specs.declared.token.TokenKind.TheVariants.{Name, Word, Number, Quoted, Sign}
-use Rattle.regent_lex.specs.declared.fault.LexKind.TheVariants.{BadByte, Unclosed, NumberTooLarge}
+use Rattle.regent_lex.specs.declared.fault.LexKind.TheVariants.{BadByte, NumberTooLarge}
 use Rattle.regent_lex.specs.declared.fault.LexKind.TheVariants.{NameTooLong}
 use Rattle.regent_lex.specs.declared.search.Wanted.TheVariants.{ClosingQuote, BadContent, Brackets}
 use Rattle.regent_lex.specs.Bytes.{is_blank, is_digit, is_letter, is_word_byte, in_line, is_sign}
 use Rattle.regent_lex.specs.Bytes.{takes_equals, next_is, next_are}
 use Rattle.regent_lex.specs.Words.{is_reserved, IsIdentifier}
-use Rattle.regent_lex.specs.Numbers.{value_of, IsNumeral, HasNoSuffix, is_fraction}
-use Rattle.regent_lex.specs.Strings.{is_escape, IsContent, IsClosed}
-use Rattle.regent_lex.specs.Trivia.{has_brackets, IsTrivia, blank, line_comment, block_comment}
+use Rattle.regent_lex.specs.Numbers.{value_of, IsNumeral, is_fraction}
+use Rattle.regent_lex.specs.Strings.{IsClosed}
+use Rattle.regent_lex.specs.Trivia.{IsTrivia, blank, line_comment, block_comment}
 use Rattle.regent_lex.specs.Tokens.{IsToken, name, word, number, quoted, sign, two_byte_sign}
 use Rattle.regent_lex.specs.Faults.{IsFault, long_name, large_number, behind_number, open_comment}
 use Rattle.regent_lex.specs.Faults.{open_string, control_byte, unknown_escape, begins_nothing}
 use Rattle.regent_lex.specs.Begins.{Begins}
 use Rattle.regent_lex.specs.Search.{search}
-use Rattle.regent_lex.specs.Scan.{word_or_name, identifier_at, number_before, number_of_digits}
+use Rattle.regent_lex.specs.Scan.{identifier_at, number_before, number_of_digits}
 use Rattle.regent_lex.specs.Scan.{number_at, string_with, string_at, block_with, comment_at}
 use Rattle.regent_lex.specs.Scan.{sign_at, lexeme_at, first_lexeme}
 use Rattle.regent_lex.proofs.Runs.{run_all, run_ends, run_begins}
@@ -35,6 +34,7 @@ use Rattle.regent_lex.proofs.Contents.{missing_open}
 use Rattle.regent_lex.proofs.Blocks.{Block, ended, endless, block, ended_found, endless_missing}
 use Rattle.regent_lex.proofs.Blocks.{next_are_is}
 
+-- the first byte of a front is that of the text
 first_of : (q : ℕ → Bool) (n : ℕ) (text : List ℕ) → 0 < n → next_is q text ≡ true →
     next_is q (take n text) ≡ true
 first_of q zero text lt h = absurd (omega arith)
@@ -49,11 +49,13 @@ letters_are_word_bytes : (text : List ℕ) → next_is is_letter text ≡ true �
 letters_are_word_bytes [] h = h
 letters_are_word_bytes (b ∷ bs) h = letter_is_word_byte b h
 
+-- a fact of no bytes and the text
 at_first_byte : (P : List ℕ → List ℕ → Type 0) (text : List ℕ) → P [] text →
     P (take 0 text) (drop 0 text)
 at_first_byte P [] p = p
 at_first_byte P (b ∷ bs) p = p
 
+-- a front is no longer than the text
 within : (s after : List ℕ) → length s ≤ length (s ++ after)
 within s after = omega (arith, length-append s after)
 
@@ -76,6 +78,7 @@ word_or_name_begins text s after is lt spelt false false r l =
     rw (is, take_at s after (length s) refl, drop_at s after (length s) refl)
     (lt, within s after, name spelt r (ltb-false _ _ l))
 
+-- words and names, from the first letter
 identifier_begins : (text : List ℕ) → next_is is_letter text ≡ true →
     Begins (identifier_at text) text
 unfolding identifier_at
@@ -93,6 +96,7 @@ identifier_begins text h =
 
 -- ---- numbers
 
+-- a number by what comes after it
 number_before_begins : (text digits suffix after : List ℕ) → text ≡ (digits ++ suffix) ++ after →
     0 < length (digits ++ suffix) → IsNumeral digits suffix after → value_of digits < 2 ^ 63 →
     (b c : Bool) → next_is is_letter after ≡ b → is_fraction after ≡ c →
@@ -108,6 +112,7 @@ number_before_begins text digits suffix after is lt numeral small false false l 
     rw (is, take_at (digits ++ suffix) after _ refl, drop_at (digits ++ suffix) after _ refl)
     (lt, within (digits ++ suffix) after, number numeral small l f)
 
+-- the same by the number of its bytes
 numeral_begins : (text digits suffix after : List ℕ) → text ≡ (digits ++ suffix) ++ after →
     0 < length (digits ++ suffix) → IsNumeral digits suffix after → value_of digits < 2 ^ 63 →
     (m : ℕ) → length (digits ++ suffix) ≡ m → Begins (number_before m (drop m text)) text
@@ -116,6 +121,7 @@ numeral_begins text digits suffix after is lt numeral small m len =
     rw (behind, ← len)
     (number_before_begins text digits suffix after is lt numeral small _ _ refl refl)
 
+-- a number by its suffix
 number_of_digits_begins : (text : List ℕ) (n : ℕ) → n ≡ prefix_len is_digit text → 0 < n →
     next_is is_digit text ≡ true → value_of (take n text) < 2 ^ 63 →
     (b : Bool) → next_are 76 76 (drop n text) ≡ b →
@@ -143,6 +149,7 @@ number_of_digits_begins text n n-is lt h small false l =
     numeral_begins text (take n text) [] (drop n text) parts (omega arith)
     (record { first = first; all = all; ends = inl (refl, stops, l) }) small n whole
 
+-- a number by its value
 number_at_begins : (text : List ℕ) (n : ℕ) → n ≡ prefix_len is_digit text → 0 < n →
     next_is is_digit text ≡ true →
     (b : Bool) → nat_lt (value_of (take n text)) (2 ^ 63) ≡ b →
@@ -159,6 +166,7 @@ number_at_begins text n n-is lt h false large =
           (large_number (take n text) (drop n text) first all stops (ltb-false _ _ large))),
     )
 
+-- numbers, from the first digit
 number_begins : (text : List ℕ) → next_is is_digit text ≡ true → Begins (number_at text) text
 unfolding number_at
 number_begins text h =
@@ -166,18 +174,21 @@ number_begins text h =
 
 -- ---- strings
 
+-- a token at the front of a text
 token_begins : (kind : _) (s after : List ℕ) (n : ℕ) → length s ≡ n → 0 < n → IsToken kind s after →
     Begins (Token kind n) (s ++ after)
 token_begins kind s after n len lt is =
     rw (← len, take_at s after (length s) refl, drop_at s after (length s) refl)
     (omega arith, within s after, is)
 
+-- a blank or a comment at the front of a text
 trivia_begins : (s after : List ℕ) (n : ℕ) → length s ≡ n → 0 < n → IsTrivia s after →
     Begins (Trivia n) (s ++ after)
 trivia_begins s after n len lt is =
     rw (← len, take_at s after (length s) refl, drop_at s after (length s) refl)
     (omega arith, within s after, is)
 
+-- a fault behind the front of a text
 fault_begins : (kind : _) (s after : List ℕ) (n : ℕ) → length s ≡ n → IsFault kind s after →
     Begins (Fault kind n) (s ++ after)
 fault_begins kind s after n len is =
@@ -199,6 +210,7 @@ open_begins : (bytes : List ℕ) (bad : Option ℕ) → search ClosingQuote fals
     Begins (string_with (search ClosingQuote false bytes) bad) (34 ∷ bytes)
 open_begins bytes bad h = rw h (omega arith, open_string (missing_open bytes h))
 
+-- strings by what stands behind the quote
 string_front_begins : (bytes : List ℕ) → Front bytes →
     Begins (string_with (search ClosingQuote false bytes) (search BadContent false bytes))
     (34 ∷ bytes)
@@ -231,12 +243,14 @@ string_front_begins bytes (text_ends is) =
 string_front_begins bytes (half_escape {bytes = content} is) =
     open_begins (content ++ 92 ∷ []) _ (closing_over content (92 ∷ []) is)
 
+-- strings, from the quote
 string_begins : (bytes : List ℕ) → Begins (string_at bytes) (34 ∷ bytes)
 unfolding string_at
 string_begins bytes = string_front_begins bytes (front bytes)
 
 -- ---- comments
 
+-- block comments, by whether they end
 block_begins : (bytes : List ℕ) → Block bytes →
     Begins (block_with (search Brackets false bytes)) (45 ∷ 45 ∷ 91 ∷ 91 ∷ bytes)
 block_begins text (ended bytes after none) =
@@ -249,6 +263,7 @@ block_begins text (ended bytes after none) =
     (omega (arith, length-append bytes (codes "]]"))) (omega arith) (block_comment bytes none)))
 block_begins text (endless none) = rw (endless_missing text none) (omega arith, open_comment none)
 
+-- comments to the end of their line
 line_begins : (bytes : List ℕ) → next_are 91 91 bytes ≡ false →
     Begins (Trivia (prefix_len in_line bytes + 2)) (45 ∷ 45 ∷ bytes)
 line_begins bytes no_block =
@@ -266,12 +281,14 @@ comment_on bytes true h = let after = next_are_is 91 91 bytes h in
     rw after.1 (block_begins after.0 (block after.0))
 comment_on bytes false h = line_begins bytes h
 
+-- comments, from the dashes
 comment_begins : (bytes : List ℕ) → Begins (comment_at bytes) (45 ∷ 45 ∷ bytes)
 unfolding comment_at
 comment_begins bytes = comment_on bytes _ refl
 
 -- ---- signs
 
+-- signs, and bytes that begin nothing
 sign_begins : (b : ℕ) (after : List ℕ) → is_blank b ≡ false → is_letter b ≡ false →
     is_digit b ≡ false → b ≢ 34 →
     next_are 45 45 (b ∷ after) ≡ false →
@@ -301,10 +318,11 @@ dashes_begin b after h =
 quote_begins : (b : ℕ) (after : List ℕ) → b ≡ 34 → Begins (string_at after) (b ∷ after)
 quote_begins b after h = rw h (string_begins after)
 
-lexeme_on : (b : ℕ) (after : List ℕ) (blank-is letter digit quote dashes : Bool) →
-    is_blank b ≡ blank-is → is_letter b ≡ letter → is_digit b ≡ digit → (b == 34) ≡ quote →
+-- any first byte
+lexeme_on : (b : ℕ) (after : List ℕ) (space letter digit quote dashes : Bool) →
+    is_blank b ≡ space → is_letter b ≡ letter → is_digit b ≡ digit → (b == 34) ≡ quote →
     next_are 45 45 (b ∷ after) ≡ dashes →
-    Begins (cond blank-is (Trivia 1)
+    Begins (cond space (Trivia 1)
     (cond letter (identifier_at (b ∷ after))
     (cond digit (number_at (b ∷ after))
     (cond quote (string_at after) (cond dashes (comment_at (drop 1 after)) (sign_at b after))))))
@@ -318,10 +336,12 @@ lexeme_on b after false false false false true bh lh dh qh sh = dashes_begin b a
 lexeme_on b after false false false false false bh lh dh qh sh =
     sign_begins b after bh lh dh (eqb-false b 34 qh) sh _ _ refl refl
 
+-- what the scanner finds at a first byte stands there
 pub lexeme_begins : (b : ℕ) (after : List ℕ) → Begins (lexeme_at b after) (b ∷ after)
 unfolding lexeme_at
 lexeme_begins b after = lexeme_on b after _ _ _ _ _ refl refl refl refl refl
 
+-- what the scanner finds stands there
 pub first_begins : (text : List ℕ) (o : Option Lexeme) → o ≡ first_lexeme text →
     IfSome o (λ lexeme. Begins lexeme text)
 first_begins [] o h = rw h tt

@@ -1,6 +1,6 @@
 -- What the spelling of a token says of its bytes.
-use Rattle.std.proofs.Common.{◌≡◌, ℕ, suc, ◌+◌, ◌≤◌, ◌<◌, ◌^◌, Bool, true, false, List, [], ◌∷◌}
-use Rattle.std.proofs.Common.{◌++◌, length, take, drop, refl, sym, ap, ◌∙◌, arith, inl, inr, ◌⊎◌}
+use Rattle.std.proofs.Common.{◌≡◌, ℕ, ◌≤◌, ◌<◌, ◌^◌, false, List, [], ◌∷◌}
+use Rattle.std.proofs.Common.{length, take, refl, arith, inl, inr, ◌⊎◌}
 use Rattle.std.specs.Prelude.{codes, All, slice_index_or}
 use Rattle.std.specs.List.{prefix_len, AllPass}
 use Rattle.std.proofs.lemmas.List.{take_at, length-append}
@@ -8,13 +8,14 @@ use Rattle.std.proofs.lemmas.List.Sums.{AllPass-from_list_all}
 use Rattle.regent_lex.specs.declared.token.Token.{Token}
 use Rattle.regent_lex.specs.declared.token.TokenKind.{TokenKind}
 use Rattle.regent_lex.specs.declared.token.TokenKind.TheVariants.{Number, Quoted}
-use Rattle.regent_lex.specs.Bytes.{is_digit, next_is, next_are}
-use Rattle.regent_lex.specs.Numbers.{value_of, IsNumeral, HasNoSuffix}
+use Rattle.regent_lex.specs.Bytes.{is_digit, next_is}
+use Rattle.regent_lex.specs.Numbers.{HasNoSuffix}
 use Rattle.regent_lex.specs.Tokens.{IsToken, number, quoted}
 use Rattle.regent_lex.specs.Places.{Spells, spelling}
 use Rattle.regent_lex.specs.Values.{number_value}
 use Rattle.regent_lex.proofs.Runs.{run_all, run_is}
 
+-- a suffix doesn't begin with a digit
 suffix_no_digit : (suffix after : List ℕ) →
     HasNoSuffix suffix after ⊎ (suffix ≡ codes "LL") → next_is is_digit suffix ≡ false
 suffix_no_digit suffix after (inl p) = rw p.0 refl

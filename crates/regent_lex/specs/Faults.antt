@@ -1,6 +1,6 @@
 -- What is no token, and at which byte that is told.
-use Rattle.std.specs.Prelude.{◌≡◌, ◌≢◌, ℕ, ◌^◌, ◌<◌, ◌≤◌, Bool, true, false, List, [], ◌∷◌}
-use Rattle.std.specs.Prelude.{◌++◌, length, codes, ◌==◌, ◌&&◌, ◌||◌}
+use Rattle.std.specs.Prelude.{◌≡◌, ◌≢◌, ℕ, ◌^◌, ◌<◌, ◌≤◌, true, false, List, [], ◌∷◌}
+use Rattle.std.specs.Prelude.{◌++◌, length, codes, ◌&&◌, ◌||◌}
 use Rattle.std.specs.List.{list_all}
 use Rattle.regent_lex.specs.declared.fault.LexKind.{LexKind}
 use Rattle.regent_lex.specs.declared.fault.LexKind.TheVariants.{BadByte, Unclosed}
@@ -33,10 +33,11 @@ pub data IsFault : LexKind → List ℕ → List ℕ → Type 0 where
   open_comment : {bytes : List ℕ} → has_brackets bytes ≡ false →
       IsFault Unclosed [] (codes "--[[" ++ bytes)
   open_string : {bytes : List ℕ} → (IsClosed bytes → ⊥) → IsFault Unclosed [] (quote_mark ∷ bytes)
-  -- in a string that is closed: the first byte that may not stand there
+  -- in a string that is closed, the first byte that may not stand there: one below 32
   control_byte : {b : ℕ} {bytes after : List ℕ} →
       IsContent bytes → b < 32 → IsClosed (bytes ++ b ∷ after) →
       IsFault BadByte (quote_mark ∷ bytes) (b ∷ after)
+  -- or one behind a backslash that is no escape
   unknown_escape : {c : ℕ} {bytes after : List ℕ} →
       IsContent bytes → is_escape c ≡ false → IsClosed (bytes ++ backslash ∷ c ∷ after) →
       IsFault BadByte (quote_mark ∷ bytes ++ backslash ∷ []) (c ∷ after)

@@ -1,6 +1,6 @@
 -- What the scanner finds at the front of a text. That this is what the table of tokens says is a
 -- law, proved in both directions; no public clause speaks of it.
-use Rattle.std.specs.Prelude.{ℕ, ◌+◌, ◌^◌, Bool, true, false, List, [], ◌∷◌, Option, Some, None}
+use Rattle.std.specs.Prelude.{ℕ, ◌+◌, ◌^◌, false, List, [], ◌∷◌, Option, Some, None}
 use Rattle.std.specs.Prelude.{length, take, drop, nat_lt, ◌==◌, ◌&&◌, ◌||◌, if◌then◌else◌}
 use Rattle.std.specs.List.{prefix_len}
 use Rattle.regent_lex.specs.declared.lexeme.Lexeme.{Lexeme}

@@ -12,11 +12,13 @@ use Rattle.regent_lex.specs.Strings.{is_escape}
 -- along, that of the third that the byte before it is a bracket.
 abbrev pub next_step : Wanted → Bool → ℕ → Step
 next_step ClosingQuote taken b =
-    if b == line_feed then Missing else if taken then On false else if b == quote_mark then Found else On (b == backslash)
+    if b == line_feed then Missing else if taken then On false
+    else if b == quote_mark then Found else On (b == backslash)
 next_step BadContent taken b =
     if taken then (if is_escape b then On false else Found)
     else if b == quote_mark then Missing else if nat_lt b 32 then Found else On (b == backslash)
-next_step Brackets behind b = if behind && (b == closing_bracket) then Found else On (b == closing_bracket)
+next_step Brackets behind b =
+    if behind && (b == closing_bracket) then Found else On (b == closing_bracket)
 
 -- n places further on
 abbrev pub further : ℕ → Option ℕ → Option ℕ

@@ -19,6 +19,7 @@ pub data IsContent : List ℕ → Type 0 where
 -- takes the byte behind it along, whatever it is.
 pub data IsClosed : List ℕ → Type 0 where
   quote : {after : List ℕ} → IsClosed (quote_mark ∷ after)
-  pair : {c : ℕ} {bytes : List ℕ} → c ≢ line_feed → IsClosed bytes → IsClosed (backslash ∷ c ∷ bytes)
-  single : {b : ℕ} {bytes : List ℕ} → b ≢ line_feed → b ≢ quote_mark → b ≢ backslash → IsClosed bytes →
-      IsClosed (b ∷ bytes)
+  pair : {c : ℕ} {bytes : List ℕ} → c ≢ line_feed → IsClosed bytes →
+      IsClosed (backslash ∷ c ∷ bytes)
+  single : {b : ℕ} {bytes : List ℕ} → b ≢ line_feed → b ≢ quote_mark → b ≢ backslash →
+      IsClosed bytes → IsClosed (b ∷ bytes)

@@ -20,13 +20,16 @@ with_token t (Err fault) = Err fault
 -- whole text is read from place 0 and line 1.
 pub data Lexes : List ℕ → ℕ → ℕ → Lexed → Type 0 where
   ends : {place line : ℕ} → Lexes [] place line (Ok [])
+  -- a blank or a comment, and what comes after it
   skips : {bytes after : List ℕ} {place line : ℕ} {out : Lexed} →
       IsTrivia bytes after → Lexes after (place + length bytes) (line + feeds bytes) out →
       Lexes (bytes ++ after) place line out
+  -- a token, and what comes after it
   takes : {kind : TokenKind} {bytes after : List ℕ} {place line : ℕ} {out : Lexed} →
       IsToken kind bytes after → Lexes after (place + length bytes) (line + feeds bytes) out →
       Lexes (bytes ++ after) place line
       (with_token
       (record { kind = kind; start = place; end = place + length bytes; line = line }) out)
+  -- a fault, told on the line of its byte
   fails : {kind : LexKind} {bytes after : List ℕ} {place line : ℕ} → IsFault kind bytes after →
       Lexes (bytes ++ after) place line (Err (kind, line + feeds bytes))

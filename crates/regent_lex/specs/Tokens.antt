@@ -1,6 +1,6 @@
 -- The table of tokens.
-use Rattle.std.specs.Prelude.{◌≡◌, ℕ, ◌^◌, ◌<◌, ◌≤◌, Bool, true, false, List, [], ◌∷◌, ◌++◌}
-use Rattle.std.specs.Prelude.{length, ◌==◌, ◌&&◌}
+use Rattle.std.specs.Prelude.{◌≡◌, ℕ, ◌^◌, ◌<◌, ◌≤◌, true, false, List, [], ◌∷◌, ◌++◌}
+use Rattle.std.specs.Prelude.{length, ◌&&◌}
 use Rattle.regent_lex.specs.declared.token.TokenKind.{TokenKind}
 use Rattle.regent_lex.specs.declared.token.TokenKind.TheVariants.{Name, Word, Number, Quoted, Sign}
 use Rattle.regent_lex.specs.Bytes.{dash, quote_mark, equals_sign, is_letter, is_sign}

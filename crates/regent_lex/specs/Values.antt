@@ -21,7 +21,8 @@ escaped c = if c == 110 then line_feed else if c == 116 then 9 else c
 abbrev pub unescaped : Bool → List ℕ → List ℕ
 unescaped behind [] = []
 unescaped true (c ∷ bytes) = escaped c ∷ unescaped false bytes
-unescaped false (b ∷ bytes) = if b == backslash then unescaped true bytes else b ∷ unescaped false bytes
+unescaped false (b ∷ bytes) =
+    if b == backslash then unescaped true bytes else b ∷ unescaped false bytes
 
 -- the bytes that a string with its quotes stands for
 abbrev pub quoted_bytes : List ℕ → List ℕ

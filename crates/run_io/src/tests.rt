@@ -30,34 +30,33 @@ fn read_through<S: Source>(alloc: Global, source: &mut S) -> Result<String, Fail
     Ok(String::from_utf8(seen)?)
 }
 
+/// What two rounds over a memory source give whose calls of these two numbers fail.
+fn two_rounds(alloc: Global, fails: &[u32]) -> Result<String, Fail> {
+    let bytes = bytes_of(alloc, "abcde")?;
+    let mut source = MemorySource::new(bytes, Vec::from_slice(alloc, fails)?);
+    let mut seen = read_through(alloc, &mut source)?;
+    seen.push('/')?;
+    seen.push_str(read_through(alloc, &mut source)?.as_str())?;
+    Ok(seen)
+}
+
 #[test]
 fn a_memory_source_fails_exactly_at_the_listed_calls(rt: HostRuntime) -> Result<(), Fail> {
-    let alloc = rt.alloc();
-    for (fails, first, second) in [
-        ([0, 0], "abcde", ""),
-        ([1, 0], "!", "abcde"),
-        ([2, 0], "!abcde", ""),
-        ([3, 0], "ab!cde", ""),
-        ([4, 0], "abcd!e", ""),
-        ([5, 0], "abcde!", ""),
-        ([6, 0], "abcde", "!"),
-        ([7, 0], "abcde", "!"),
-        ([1, 3], "!", "!"),
-        ([3, 4], "ab!!cde", ""),
-        ([4, 4], "abcd!e", ""),
+    for (one, other, wanted) in [
+        (0, 0, "abcde/"),
+        (1, 0, "!/abcde"),
+        (2, 0, "!abcde/"),
+        (3, 0, "ab!cde/"),
+        (4, 0, "abcd!e/"),
+        (5, 0, "abcde!/"),
+        (6, 0, "abcde/!"),
+        (7, 0, "abcde/!"),
+        (1, 3, "!/!"),
+        (4, 3, "ab!!cde/"),
+        (4, 4, "abcd!e/"),
     ] {
-        let bytes = bytes_of(alloc, "abcde")?;
-        let mut source = MemorySource::new(bytes, Vec::from_slice(alloc, &fails)?);
-        assert_eq!(rt;
-            read_through(alloc, &mut source)?.as_str(),
-            first,
-            "first, {fails:?}"
-        );
-        assert_eq!(rt;
-            read_through(alloc, &mut source)?.as_str(),
-            second,
-            "second, {fails:?}"
-        );
+        let seen = two_rounds(rt.alloc(), &[one, other])?;
+        assert_eq!(rt; seen.as_str(), wanted, "calls {one} and {other}");
     }
     Ok(())
 }
@@ -73,31 +72,35 @@ fn a_sure_source_leaves_its_bytes_once(rt: HostRuntime) -> Result<(), Fail> {
     Ok(())
 }
 
+/// What such a sink holds after all of `7 8 9` was to be put into it; behind it a `!` for a fault.
+fn put_into(alloc: Global, room: usize, step: usize, fails: u32) -> Result<String, Fail> {
+    let mut sink = MemorySink::new(alloc, room, step, Vec::from_slice(alloc, &[fails])?)?;
+    let answer = put_all(&mut sink, b"7 8 9");
+    let mut held = Vec::from_slice(alloc, sink.bytes())?;
+    if answer.is_err() {
+        held.push(b'!')?;
+    }
+    Ok(String::from_utf8(held)?)
+}
+
 #[test]
 fn a_memory_sink_holds_a_prefix(rt: HostRuntime) -> Result<(), Fail> {
-    let alloc = rt.alloc();
-    for (room, step, fails, held) in [
-        (100, 1, 2, "7"),
+    for (room, step, fails, wanted) in [
+        (100, 1, 2, "7!"),
         (100, 100, 0, "7 8 9"),
         (5, 1, 0, "7 8 9"),
-        (4, 3, 0, "7 8 "),
-        (0, 3, 0, ""),
-        (5, 0, 0, ""),
-        (5, 2, 1, ""),
-        (5, 2, 3, "7 8 "),
+        (4, 3, 0, "7 8 !"),
+        (0, 3, 0, "!"),
+        (5, 0, 0, "!"),
+        (5, 2, 1, "!"),
+        (5, 2, 3, "7 8 !"),
         (5, 2, 4, "7 8 9"),
     ] {
-        let mut sink = MemorySink::new(alloc, room, step, Vec::from_slice(alloc, &[fails])?)?;
-        let answer = put_all(&mut sink, b"7 8 9");
+        let held = put_into(rt.alloc(), room, step, fails)?;
         assert_eq!(rt;
-            sink.bytes(),
-            held.as_bytes(),
-            "room {room}, step {step}, {fails}"
-        );
-        assert_eq!(rt;
-            answer.is_ok(),
-            held == "7 8 9",
-            "room {room}, step {step}, {fails}"
+            held.as_str(),
+            wanted,
+            "room {room}, step {step}, call {fails}"
         );
     }
     Ok(())

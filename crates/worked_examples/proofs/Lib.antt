@@ -2,6 +2,7 @@ pub mod Numbers
 pub mod Reductions
 pub mod Partitions
 pub mod Images
+pub mod SampleProgram
 pub mod Statements
 pub mod Calls
 pub mod Pointers

@@ -1,5 +1,5 @@
 -- Shorthand for the trees of the examples and for what is said of them.
-use Rattle.std.specs.Prelude.{ℕ, ℤ, pos, neg_ℤ, List, [], ◌∷◌, map, Bool, false, Some, None, codes}
+use Rattle.std.specs.Prelude.{ℕ, ℤ, pos, neg_ℤ, List, [], ◌∷◌, map, Bool, true, false, Some, None, codes}
 use Prim.Native.String.{String}
 use Rattle.lane_kernels.specs.declared.numbers.Op.{Op}
 use Rattle.lane_kernels.specs.declared.numbers.Width.TheVariants.{W32, W64}
@@ -203,6 +203,10 @@ give e = return_form (Some e)
 
 abbrev pub each : String → Expression → List Statement → Form
 each x e ss = for_in_form false (codes x) e (block ss)
+
+-- under `__demand(__index_launch)`
+abbrev pub launch : String → Expression → List Statement → Form
+launch x e ss = for_in_form true (codes x) e (block ss)
 
 abbrev pub count : String → Expression → Expression → List Statement → Form
 count x a b ss = for_to_form false (codes x) a b (block ss)

@@ -8,6 +8,7 @@ ghost use Rattle.worked_examples.specs.Numbers.{assignment_means, narrow_product
 ghost use Rattle.worked_examples.specs.Reductions.{reducing_calls_means, wrapping_reduction_means, least_lowered_means, least_kept_means, narrow_least_means};
 ghost use Rattle.worked_examples.specs.Partitions.{equal_sizes_means, sizes_by_field_means, set_operations_means, bad_colour_means};
 ghost use Rattle.worked_examples.specs.Images.{preimage_of_colour_0_means, preimage_of_colour_1_means, neighbours_means};
+ghost use Rattle.worked_examples.specs.SampleProgram.{sample_means};
 ghost use Rattle.worked_examples.specs.Statements.{hidden_names_means, choices_means, early_stop_means, early_return_means, filled_means, false_assert_means};
 ghost use Rattle.worked_examples.specs.Calls.{writes_by_parts_means, overlapping_arguments_means, call_between_means, fault_in_loop_means, first_fault_means};
 ghost use Rattle.worked_examples.specs.Pointers.{null_pointer_means, outside_region_means, positions_means, circuit_means};
@@ -115,6 +116,12 @@ pub fn preimage_of_colour_1()
 #[tactic(auto, using(crate::proofs::Images::neighbours_holds))]
 pub fn neighbours()
     ensures { neighbours_means }
+{}
+
+/// The sample program with 64 cells in 4 colours.
+#[tactic(auto, using(crate::proofs::SampleProgram::sample_holds))]
+pub fn sample()
+    ensures { sample_means }
 {}
 
 /// A name that hides an earlier one, in a block and after it.

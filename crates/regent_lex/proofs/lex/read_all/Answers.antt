@@ -1,4 +1,4 @@
-use Rattle.std.proofs.Common.{◌≡◌, ◌≤◌, ◌+◌, length, drop, arith, ap}
+use Rattle.std.proofs.Common.{◌≡◌, length, drop, arith, ap}
 use Rattle.std.proofs.lemmas.List.{length-drop}
 use Rattle.regent_lex.proofs.Reading.{trivia_so_far, token_so_far, fault_told, end_told}
 use Rattle.regent_lex.proofs.lex.read_all.Goals as goal

@@ -1,4 +1,3 @@
-use Rattle.std.proofs.Common.{◌≡◌}
 use Rattle.regent_lex.proofs.Reading.{told_only}
 use Rattle.regent_lex.proofs.Placed.{all_within, all_on_line, all_spelt}
 use Rattle.regent_lex.proofs.lex.tokens.Goals as goal

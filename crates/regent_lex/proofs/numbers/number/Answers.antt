@@ -1,4 +1,3 @@
-use Rattle.std.proofs.Common.{◌≡◌}
 use Rattle.std.proofs.lemmas.List.Sums.{AllPass-from_list_all}
 use Rattle.regent_lex.specs.Bytes.{is_digit}
 use Rattle.regent_lex.proofs.Runs.{run_all}

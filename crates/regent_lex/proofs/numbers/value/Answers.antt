@@ -1,4 +1,3 @@
-use Rattle.std.proofs.Common.{◌≡◌}
 use Rattle.regent_lex.proofs.Digits.{too_large}
 use Rattle.regent_lex.proofs.numbers.value.Goals as goal
 

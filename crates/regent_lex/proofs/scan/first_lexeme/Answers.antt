@@ -1,4 +1,3 @@
-use Rattle.std.proofs.Common.{◌≡◌}
 use Rattle.regent_lex.proofs.Sound.{first_begins}
 use Rattle.regent_lex.proofs.scan.first_lexeme.Goals as goal
 

@@ -1,4 +1,3 @@
-use Rattle.std.proofs.Common.{◌≡◌}
 use Rattle.regent_lex.proofs.Spelt.{spells_at}
 use Rattle.regent_lex.proofs.tests.values.Goals as goal
 

@@ -1,4 +1,4 @@
-use Rattle.std.proofs.Common.{◌≡◌, ◌<◌, ◌≤◌, ◌^◌, arith, take}
+use Rattle.std.proofs.Common.{◌<◌, ◌^◌, arith, take}
 use Rattle.std.proofs.lemmas.Bool.{some_since}
 use Rattle.regent_lex.specs.Numbers.{value_of}
 use Rattle.regent_lex.proofs.Spelt.{front_digits, number_small}

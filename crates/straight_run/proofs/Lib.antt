@@ -1,0 +1,2 @@
+pub mod VariableLaws
+pub mod ChainLaws

@@ -1,0 +1,19 @@
+use Rattle.std.proofs.Common.{[], sym, refl, None, rules}
+use Rattle.straight_run.proofs.VariableLaws.{newest_bound, name_means}
+use Rattle.straight_run.proofs.evaluate.named.Goals as goal
+
+pub returns-in_err-place-clause-sum : goal.returns-in_err-place-clause-sum
+returns-in_err-place-clause-sum c =
+    let bound = newest_bound c.args.variables.now [] None 0 c.args.name.now refl in
+    rw (← bound, ← c.in_err-place.ensures.same) (search rules)
+
+pub returns-clause-means : goal.returns-clause-means
+returns-clause-means c =
+    rw (← c.index-variables-place.is) (name_means c.args.variables.now c.args.name.now
+    c.in_ok-place.place c.index-variables-place.result (sym c.in_ok-place.ensures.same)
+    c.index-variables-place.is)
+
+pub returns-clause-sum : goal.returns-clause-sum
+returns-clause-sum c =
+    let bound = newest_bound c.args.variables.now [] None 0 c.args.name.now refl in
+    rw (← bound, ← c.in_ok-place.ensures.same) refl

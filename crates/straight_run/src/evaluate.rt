@@ -1,0 +1,58 @@
+//! Values of sums.
+
+ghost use Rattle.std.specs.Prelude.{◌≡◌, IfSome, is_some, length};
+ghost use Rattle.regent_tree.specs.Plain.{expression_of, steps_in};
+ghost use Rattle.regent_tree.specs.Syntax.{access_expr, no_step};
+ghost use Rattle.straight_run.specs.FirstForm.{has_name, is_bare, is_sum};
+ghost use Rattle.straight_run.specs.Variables.{Means, names_of};
+
+use crate::machine::{Variable, newest};
+use crate::numbers::{Number, apply, literal, widened, wrapping_operator};
+use regent_tree::{Expr, Step};
+
+/// Whether no step follows a name.
+pub fn is_bare(steps: &[Step]) -> bool
+    ensures { result ≡ is_bare (steps_in steps.now) }
+{
+    match steps {
+        [] => true,
+        [Step::Field(_), ..] => false,
+        [Step::At(_), ..] => false,
+    }
+}
+
+/// The number of the newest variable of a name.
+fn named(name: &[u8], variables: &[Variable]) -> Option<Number>
+    ensures means { IfSome result (λ n. Means variables.now (access_expr name.now no_step) n) }
+    ensures sum { is_some result ≡ has_name (names_of variables.now) name.now }
+{
+    let place = newest(variables, name)?;
+    Some(variables[place].number)
+}
+
+/// The value of a sum over numbers and variables, or None for any other expression.
+pub fn evaluate(e: &Expr, variables: &[Variable]) -> Option<Number>
+    ensures means { IfSome result (λ n. Means variables.now (expression_of e.now) n) }
+    ensures sum { is_some result ≡ is_sum (names_of variables.now) (expression_of e.now) }
+{
+    match e {
+        Expr::Number { value, width } => literal(*value, *width),
+        Expr::Access { name, steps } => {
+            if is_bare(steps) {
+                named(name.as_slice(), variables)
+            } else {
+                None
+            }
+        }
+        Expr::Chain { first, rest } => {
+            let mut total = evaluate(first, variables)?;
+            for link in rest {
+                let operator = wrapping_operator(link.operator)?;
+                let operand = evaluate(&link.operand, variables)?;
+                total = apply(operator, total, operand);
+            }
+            Some(total)
+        }
+        _ => None,
+    }
+}
