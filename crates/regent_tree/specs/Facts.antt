@@ -1,6 +1,6 @@
 -- What follows from what is known of regions: that one lies within another, and that two share no
--- point. A left fold over the known facts closes a list of statements `source <= target`.
-use Rattle.std.specs.Prelude.{ℕ, ℤ, List, [], ◌∷◌, ◌++◌, map, filter, fold, flat_map, Bool, true, false, not, ◌&&◌, ◌||◌, ◌==◌, nat_lt, cond}
+-- point. A left fold over the known facts keeps beside each fact `a <= b` all that b lies within.
+use Rattle.std.specs.Prelude.{ℕ, ℤ, List, [], ◌∷◌, ◌++◌, map, fold, Bool, true, false, not, ◌&&◌, ◌||◌, ◌==◌, nat_lt, cond}
 use Rattle.std.specs.List.{list_any}
 use Rattle.std.specs.Ordering.{int_eq}
 use Rattle.regent_tree.specs.declared.facts.Colour.{Colour}
@@ -56,80 +56,69 @@ is_certain (Child p c) = not (is_unknown c)
 
 -- ---- `a <= b`
 
--- what a statement speaks of on its left: one term, or each child of a partition
-pub data Source : Type 0 where
-  one_term : Term → Source
-  each_child : ℕ → Source
+-- whether a fact says that a term lies within the fact's upper end: within the region b of
+-- `a <= b`, or within the parent of a partition whose child the term is, of any colour
+abbrev pub raises : Known → Term → Bool
+raises (Within a b) t = alike a t
+raises (Apart a b) t = false
+raises (PartOf p r disjoint) t = is_child_of p t
+raises (Made s) t = false
 
--- whether the source speaks of a term
-abbrev pub speaks_of : Source → Term → Bool
-speaks_of (one_term a) t = alike a t
-speaks_of (each_child p) t = is_child_of p t
+-- a fact, and all that its upper end lies within, the upper end included
+abbrev pub Row : Type 0
+Row = Known × List Term
 
-abbrev pub is_each_child : ℕ → Source → Bool
-is_each_child p (one_term b) = false
-is_each_child p (each_child q) = p == q
+-- terms, and those of a second list that are not among them
+abbrev pub with_term : List Term → Term → List Term
+with_term ts t = cond (list_any (alike t) ts) ts (ts ++ t ∷ [])
 
-abbrev pub is_one_term : Term → Source → Bool
-is_one_term a (one_term b) = alike a b
-is_one_term a (each_child q) = false
+abbrev pub united : List Term → List Term → List Term
+united ts more = fold with_term ts more
 
-abbrev pub same_source : Source → Source → Bool
-same_source (one_term a) s = is_one_term a s
-same_source (each_child p) s = is_each_child p s
+-- a term, and all that it lies within: what stands in the rows whose facts raise it
+abbrev pub with_raised : Term → List Term → Row → List Term
+with_raised t ts row = cond (raises row.0 t) (united ts row.1) ts
 
--- a statement `source <= target`
-abbrev pub Below : Type 0
-Below = Source × Term
+abbrev pub all_above : List Row → Term → List Term
+all_above rows t = fold (with_raised t) (t ∷ []) rows
 
--- what a term lies within by one statement, and what speaks of things within a source
-abbrev pub over : List Below → Term → List Term
-over known t = map (λ (b : Below). b.1) (filter (λ (b : Below). speaks_of b.0 t) known)
+-- the upper end of a fact, and all that it lies within
+abbrev pub above_end : List Row → Known → List Term
+above_end rows (Within a b) = all_above rows b
+above_end rows (Apart a b) = []
+above_end rows (PartOf p r disjoint) = all_above rows (Name r)
+above_end rows (Made s) = []
 
-abbrev pub under : List Below → Source → List Source
-under known s = map (λ (b : Below). b.0) (filter (λ (b : Below). speaks_of s b.1) known)
+-- a row when a fact is added, and what is above that fact's upper end: if the new fact raises one
+-- of the row's terms, then the row's upper end lies within all of that too
+abbrev pub widened : Known → List Term → Row → Row
+widened k more row = (row.0, cond (list_any (raises k) row.1) (united row.1 more) row.1)
 
--- one more statement, unless it is there
-abbrev pub is_stated : Below → List Below → Bool
-is_stated s = list_any (λ (b : Below). same_source s.0 b.0 && alike s.1 b.1)
+abbrev pub with_row : List Row → Known → List Term → List Row
+with_row rows k more = map (widened k more) rows ++ (k, more) ∷ []
 
-abbrev pub with_statement : List Below → Below → List Below
-with_statement known s = cond (is_stated s known) known (known ++ s ∷ [])
+abbrev pub with_fact : List Row → Known → List Row
+with_fact rows k = with_row rows k (above_end rows k)
 
--- each of these sources with each of these targets
-abbrev pub each_with_each : List Source → List Term → List Below
-each_with_each ss ts = flat_map (λ s. map (λ t. (s, t)) ts) ss
-
--- closed statements with one more, and all that follows: what is under it lies within what is over
-abbrev pub joined : List Below → Source → Term → List Below
-joined known s t =
-    fold with_statement known (each_with_each (s ∷ under known s) (t ∷ over known t))
-
--- what a fact adds: a subregion, or a partition whose children all lie within its parent
-abbrev pub with_fact : List Below → Known → List Below
-with_fact known (Within a b) = joined known (one_term a) b
-with_fact known (PartOf p r disjoint) = joined known (each_child p) (Name r)
-with_fact known (Apart a b) = known
-with_fact known (Made s) = known
-
--- all statements that follow from these facts
-abbrev pub closed : List Known → List Below
+-- the rows of these facts
+abbrev pub closed : List Known → List Row
 closed facts = fold with_fact [] facts
 
--- a term, and all that it lies within
-abbrev pub upper : List Known → Term → List Term
-upper facts a = a ∷ over (closed facts) a
+-- whether a term passes a test, or one that it lies within does
+abbrev pub raises_to : (Term → Bool) → Term → Row → Bool
+raises_to test a row = raises row.0 a && list_any test row.1
+
+abbrev pub any_above : List Row → (Term → Bool) → Term → Bool
+any_above rows test a = test a || list_any (raises_to test a) rows
+
+abbrev pub is_below : List Row → Term → Term → Bool
+is_below rows a b = any_above rows (alike b) a
 
 -- whether `a <= b` follows
 abbrev pub is_subregion : List Known → Term → Term → Bool
-is_subregion facts a b = is_certain b && list_any (alike b) (upper facts a)
+is_subregion facts a b = is_certain b && is_below (closed facts) a b
 
 -- ---- `a * b`
-
--- whether a fact says that a partition is disjoint
-abbrev pub says_disjoint : ℕ → Known → Bool
-says_disjoint p (PartOf q r disjoint) = (p == q) && disjoint
-says_disjoint p _ = false
 
 -- whether two colours are two different numbers
 abbrev pub is_other_constant : ℤ → Colour → Bool
@@ -140,31 +129,33 @@ abbrev pub differ : Colour → Colour → Bool
 differ (Constant i) d = is_other_constant i d
 differ _ d = false
 
--- whether b is a child of p whose colour differs from c
+-- whether a term is a child of p whose colour differs from c
 abbrev pub is_other_child : ℕ → Colour → Term → Bool
 is_other_child p c (Name b) = false
 is_other_child p c (Child q d) = (p == q) && differ c d
-
--- whether two terms are different children of one disjoint partition
-abbrev pub are_siblings : List Known → Term → Term → Bool
-are_siblings facts (Name a) b = false
-are_siblings facts (Child p c) b = is_other_child p c b && list_any (says_disjoint p) facts
 
 -- whether a term is a name that was bound before
 abbrev pub is_earlier : ℕ → Term → Bool
 is_earlier s (Name r) = nat_lt r s
 is_earlier s (Child q d) = false
 
--- whether a fact says `a * b`: as it stands, or since a was made when b was bound already
-abbrev pub says_apart : Term → Term → Known → Bool
-says_apart a b (Apart x y) = alike x a && alike y b
-says_apart a b (Made s) = is_name s a && is_earlier s b
-says_apart a b _ = false
+-- whether x is a child of p, and b lies within another one
+abbrev pub has_sibling_above : List Row → ℕ → Term → Term → Bool
+has_sibling_above rows p b (Name a) = false
+has_sibling_above rows p b (Child q c) = (p == q) && any_above rows (is_other_child p c) b
 
-abbrev pub are_told_apart : List Known → Term → Term → Bool
-are_told_apart facts a b = list_any (says_apart a b) facts || are_siblings facts a b
+-- whether a fact parts a from b, in this order: it tells of two regions that share no point, of a
+-- region that was made when the others were bound already, or of a disjoint partition, and a lies
+-- within the one and b within the other
+abbrev pub parts : List Row → Term → Term → Known → Bool
+parts rows a b (Within x y) = false
+parts rows a b (Apart x y) = is_below rows a x && is_below rows b y
+parts rows a b (PartOf p r disjoint) = disjoint && any_above rows (has_sibling_above rows p b) a
+parts rows a b (Made s) = is_below rows a (Name s) && any_above rows (is_earlier s) b
 
--- whether `a * b` follows: what they lie within is told apart, in one order or the other
+abbrev pub parts_either : List Row → Term → Term → Known → Bool
+parts_either rows a b k = parts rows a b k || parts rows b a k
+
+-- whether `a * b` follows
 abbrev pub are_disjoint : List Known → Term → Term → Bool
-are_disjoint facts a b = list_any (λ x. list_any (λ y.
-    are_told_apart facts x y || are_told_apart facts y x) (upper facts b)) (upper facts a)
+are_disjoint facts a b = list_any (parts_either (closed facts) a b) facts

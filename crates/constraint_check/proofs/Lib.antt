@@ -1,0 +1,5 @@
+pub mod Members
+pub mod Alike
+pub mod Steps
+pub mod Table
+pub mod Apartness

@@ -1,0 +1,29 @@
+use Rattle.std.proofs.Common.{◌≡◌, ◌∙◌, List, subst, sym, ap, true, ◌↔◌, rules, tests}
+use Rattle.std.specs.List.{list_any}
+use Rattle.std.proofs.lemmas.Iterator.{YieldsList-from_slice}
+use Rattle.std.proofs.lemmas.Iterator.Search.{any_from_yields_List}
+use Rattle.regent_tree.specs.Facts.{Row, closed, parts_either}
+use Rattle.regent_tree.specs.declared.facts.Known.{Known}
+use Rattle.constraint_check.specs.Derivations.{IsDisjoint}
+use Rattle.constraint_check.proofs.Apartness.{are_disjoint-derivable}
+use Rattle.constraint_check.proofs.Members.{list_any-map}
+use Rattle.constraint_check.proofs.closure.Facts.disjoint.Goals as goal
+
+pub returns-clause-computed : goal.returns-clause-computed
+returns-clause-computed c =
+    let a = c.args.a.now in
+    let b = c.args.b.now in
+    let rows : List Row = c.self.inside.rows.items in
+    let test = parts_either rows a b in
+    let found : c.any.result ≡ list_any (λ (row : Row). test row.0) rows =
+    any_from_yields_List (λ (row : Row). test row.0) _ _ _ c.any.ensures.ran
+    (YieldsList-from_slice rows cc) (λ x d q k. search (rules, tests)) in
+    let rows_are : rows ≡ closed c.args.self.now = c.self.invariant ∙ ap closed c.self.view_is in
+    found ∙ list_any-map test (λ (row : Row). row.0) rows
+    ∙ ap (λ (facts : List Known). list_any test facts) c.self.view_is
+    ∙ ap (λ (table : List Row). list_any (parts_either table a b) c.args.self.now) rows_are
+
+pub returns-clause-derivable : goal.returns-clause-derivable
+returns-clause-derivable c =
+    subst (λ r. (r ≡ true) ↔ IsDisjoint c.args.self.now c.args.a.now c.args.b.now) (sym (returns-clause-computed c))
+    (are_disjoint-derivable c.args.self.now c.args.a.now c.args.b.now)

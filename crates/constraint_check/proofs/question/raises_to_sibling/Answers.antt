@@ -1,0 +1,17 @@
+use Rattle.std.proofs.Common.{rules, tests, ◌≡◌, ◌∙◌, true}
+use Rattle.std.specs.List.{list_any}
+use Rattle.std.proofs.lemmas.Iterator.{YieldsList-from_slice}
+use Rattle.std.proofs.lemmas.Iterator.Search.{any_from_yields_List}
+use Rattle.regent_tree.specs.Facts.{raises, has_sibling_above}
+use Rattle.constraint_check.proofs.Members.{and-true}
+use Rattle.constraint_check.proofs.question.raises_to_sibling.Goals as goal
+
+pub returns-then-raises : goal.returns-then-raises
+returns-then-raises c =
+    let row = c.args.row.now in
+    let test = has_sibling_above c.args.rows.now c.args.parent c.args.b.now in
+    let found : c.any.result ≡ list_any test row.1 =
+    any_from_yields_List test _ _ _ c.any.ensures.ran
+    (YieldsList-from_slice row.1 cc) (λ x b q k. search (rules, tests)) in
+    let raised : raises row.0 c.args.a.now ≡ true = cc in
+    found ∙ and-true _ _ raised

@@ -1,0 +1,151 @@
+//! What the rows of a table say of two terms.
+
+ghost use Rattle.std.specs.Prelude.{◌≡◌};
+ghost use Rattle.regent_tree.specs.Facts.{is_certain, raises_to, any_above, is_below, differ, is_other_child, is_earlier, has_sibling_above, parts, parts_either};
+ghost use Rattle.constraint_check.specs.Looking.{fits};
+
+use crate::row::{Row, raises};
+use regent_tree::{Colour, Known, Term};
+
+/// What is looked for above a term.
+#[derive(Clone, Copy)]
+enum Sought {
+    /// This very term.
+    This(Term),
+    /// A name that was bound before this one.
+    Earlier(u32),
+    /// A child of the partition by another number than the colour.
+    OtherChild { partition: u32, colour: Colour },
+}
+
+impl Sought {
+    fn fits(&self, term: &Term) -> bool
+        ensures { result ≡ fits self.now term.now }
+    {
+        match self {
+            Sought::This(wanted) => wanted == term,
+            Sought::Earlier(name) => is_earlier(*name, term),
+            Sought::OtherChild { partition, colour } => is_other_child(*partition, colour, term),
+        }
+    }
+}
+
+fn is_earlier(name: u32, term: &Term) -> bool
+    ensures { result ≡ is_earlier name term.now }
+{
+    match term {
+        Term::Name(other) => *other < name,
+        Term::Child { .. } => false,
+    }
+}
+
+fn is_other_child(parent: u32, colour: &Colour, term: &Term) -> bool
+    ensures { result ≡ is_other_child parent colour.now term.now }
+{
+    match term {
+        Term::Name(_) => false,
+        Term::Child {
+            partition,
+            colour: other,
+        } => parent == *partition && differ(colour, other),
+    }
+}
+
+/// Whether two colours are two different numbers.
+fn differ(one: &Colour, other: &Colour) -> bool
+    ensures { result ≡ differ one.now other.now }
+{
+    match (one, other) {
+        (Colour::Constant(i), Colour::Constant(j)) => i != j,
+        _ => false,
+    }
+}
+
+/// Whether a term stands for one region: a child of an unknown colour is the same as nothing.
+pub fn is_certain(term: &Term) -> bool
+    ensures { result ≡ is_certain term.now }
+{
+    match term {
+        Term::Name(_) => true,
+        Term::Child { colour, .. } => !matches!(colour, Colour::Unknown),
+    }
+}
+
+/// Whether a row's fact raises a term to what is looked for.
+fn raises_to(row: &Row, sought: &Sought, term: &Term) -> bool
+    ensures { result ≡ raises_to (fits sought.now) term.now row.now }
+{
+    raises(row.known(), term) && row.above().iter().any(|above| sought.fits(above))
+}
+
+/// Whether a term, or one that it lies within, is what is looked for.
+fn any_above(rows: &[Row], sought: &Sought, term: &Term) -> bool
+    ensures { result ≡ any_above rows.now (fits sought.now) term.now }
+{
+    sought.fits(term) || rows.iter().any(|row| raises_to(row, sought, term))
+}
+
+/// Whether `a <= b`, as the terms are written.
+pub fn is_below(rows: &[Row], a: &Term, b: &Term) -> bool
+    ensures { result ≡ is_below rows.now a.now b.now }
+{
+    any_above(rows, &Sought::This(*b), a)
+}
+
+/// Whether x is a child of the partition, and b lies within another one.
+fn has_sibling_above(rows: &[Row], parent: u32, b: &Term, x: &Term) -> bool
+    ensures { result ≡ has_sibling_above rows.now parent b.now x.now }
+{
+    match x {
+        Term::Name(_) => false,
+        Term::Child { partition, colour } => {
+            let sought = Sought::OtherChild {
+                partition: parent,
+                colour: *colour,
+            };
+            parent == *partition && any_above(rows, &sought, b)
+        }
+    }
+}
+
+/// Whether a row's fact raises a to a child of the partition, and b lies within another one.
+fn raises_to_sibling(row: &Row, rows: &[Row], parent: u32, a: &Term, b: &Term) -> bool
+    ensures { result ≡ raises_to (has_sibling_above rows.now parent b.now) a.now row.now }
+{
+    let above = row.above();
+    raises(row.known(), a) && above.iter().any(|x| has_sibling_above(rows, parent, b, x))
+}
+
+/// Whether a and b lie within two children of the partition by different numbers.
+fn are_in_siblings(rows: &[Row], parent: u32, a: &Term, b: &Term) -> bool
+    ensures { result ≡ any_above rows.now (has_sibling_above rows.now parent b.now) a.now }
+{
+    has_sibling_above(rows, parent, b, a)
+        || rows
+            .iter()
+            .any(|row| raises_to_sibling(row, rows, parent, a, b))
+}
+
+/// Whether a fact parts a from b, in this order.
+fn parts(rows: &[Row], a: &Term, b: &Term, known: &Known) -> bool
+    ensures { result ≡ parts rows.now a.now b.now known.now }
+{
+    match known {
+        Known::Within(..) => false,
+        Known::Apart(x, y) => is_below(rows, a, x) && is_below(rows, b, y),
+        Known::PartOf {
+            partition,
+            disjoint,
+            ..
+        } => *disjoint && are_in_siblings(rows, *partition, a, b),
+        Known::Made(name) => is_below(rows, a, &Term::Name(*name))
+            && any_above(rows, &Sought::Earlier(*name), b),
+    }
+}
+
+/// Whether a fact parts a and b, in one order or the other.
+pub fn parts_either(rows: &[Row], a: &Term, b: &Term, known: &Known) -> bool
+    ensures { result ≡ parts_either rows.now a.now b.now known.now }
+{
+    parts(rows, a, b, known) || parts(rows, b, a, known)
+}

@@ -1,0 +1,2 @@
+mod Accesses
+mod Holding
