@@ -1,24 +1,28 @@
 -- What a failed write leaves, and where none fails.
-use Rattle.std.proofs.Common.{◌≡◌, ◌≢◌, ℕ, ◌≤◌, ◌<◌, ◌⊎◌, inl, inr, List, [], ◌++◌, Option, Some, None, length, sym, ap, subst, ◌∙◌, arith}
+use Rattle.std.proofs.Common.{◌≡◌, ◌≢◌, ℕ, ◌≤◌, ◌<◌, ◌⊎◌, inl, inr, List, [], ◌++◌, Option, Some, None, length, refl, sym, ap, subst, ◌∙◌, arith}
 use Rattle.std.specs.Prelude.{string_bytes}
 use Rattle.std.proofs.lemmas.List.{append-nil}
-use Rattle.run_io.specs.Sink.{Adds, AddsPrefix}
+use Rattle.run_io.specs.Sink.{Adds}
 use Rattle.run_io.specs.Source.{next_left}
 use Rattle.regent_tree.specs.Syntax.{Tree}
 use Rattle.regent_tree.specs.declared.outcome.Outcome.{Outcome}
 use Rattle.regent_reader.proofs.SpellingLaws.{one_tree}
 use Rattle.regent_run.specs.declared.verdict.Verdict.{Verdict}
 use Rattle.regent_run.specs.declared.verdict.Verdict.TheVariants.{Usage, Unread, NoMemory, NoProgram, Finished}
-use Rattle.regent_run.specs.Answers.{HasPrefix, OfNextText}
+use Rattle.regent_run.specs.Answers.{OutStopped, ErrStopped, OfNextText}
 use Rattle.regent_run.specs.FirstForm.{IsFirstForm, Prints}
-use Rattle.regent_run.specs.Verdicts.{IsWritten, OutFailed, ErrFailed, OfText, SaysOfText, out_text, err_text, status_of}
+use Rattle.regent_run.specs.Texts.{usage_message, read_message, memory_message}
+use Rattle.regent_run.specs.Verdicts.{SinkChange, HasGained, HasFailed, IsUntouched, IsDelivered, OfText, SaysOfText, SaysOfWords, out_text, err_text, status_of}
 
 adds_nothing : (before now : Option (List ℕ)) → Adds before [] now → now ≡ before
 adds_nothing None now h = h
 adds_nothing (Some held) now h = let e : now ≡ Some (held ++ []) = h in e ∙ ap Some (append-nil held)
 
-no_prefix : {X : Type 0} (before now : Option (List ℕ)) → AddsPrefix before [] now → X
-no_prefix before now h = let e : h.0 < 0 = h.1 in absurd (omega arith)
+no_failure : {X : Type 0} (sink : SinkChange) → HasFailed [] sink → X
+no_failure sink h = let e : h.prefix.0 < 0 = h.prefix.1 in absurd (omega arith)
+
+untouched : (sink : SinkChange) → HasGained [] sink → IsUntouched sink
+untouched sink h = record { steady = h.steady; kept = adds_nothing sink.held sink.held_now h.gained }
 
 -- no verdict's own status is that of a failed write
 no_stop : (v : Verdict) → 4 ≡ status_of v → ⊥
@@ -28,34 +32,44 @@ no_stop NoMemory h = absurd cc
 no_stop (NoProgram message) h = absurd cc
 no_stop (Finished text) h = absurd cc
 
-out_prefix : (later : Option (List (List ℕ))) (before now : ℕ) (v : Verdict) (out out_now err err_now : Option (List ℕ)) →
-    OfText (SaysOfText later before now) v → AddsPrefix out (out_text v) out_now → err_now ≡ err → HasPrefix later out out_now err err_now
-out_prefix later before now Usage out out_now err err_now said p e = no_prefix out out_now p
-out_prefix later before now Unread out out_now err err_now said p e = no_prefix out out_now p
-out_prefix later before now NoMemory out out_now err err_now said p e = no_prefix out out_now p
-out_prefix later before now (NoProgram message) out out_now err err_now said p e = no_prefix out out_now p
-out_prefix later before now (Finished text) out out_now err err_now said p e = inl (text.items, said, p, e)
+out_stops : (later : Option (List (List ℕ))) (before now : ℕ) (v : Verdict) (out err : SinkChange) →
+    OfText (SaysOfText later before now) v → HasFailed (out_text v) out → IsUntouched err → OutStopped later out err
+out_stops later before now Usage out err said p e = no_failure out p
+out_stops later before now Unread out err said p e = no_failure out p
+out_stops later before now NoMemory out err said p e = no_failure out p
+out_stops later before now (NoProgram message) out err said p e = no_failure out p
+out_stops later before now (Finished text) out err said p e =
+    record { text = text.items; printed = said; output = p; errors = e }
 
-err_prefix : (later : Option (List (List ℕ))) (v : Verdict) (out out_now err err_now : Option (List ℕ)) →
-    Adds out (out_text v) out_now → AddsPrefix err (err_text v) err_now → HasPrefix later out out_now err err_now
-err_prefix later Usage out out_now err err_now a p = inr (err_text Usage, adds_nothing out out_now a, p)
-err_prefix later Unread out out_now err err_now a p = inr (err_text Unread, adds_nothing out out_now a, p)
-err_prefix later NoMemory out out_now err err_now a p = inr (err_text NoMemory, adds_nothing out out_now a, p)
-err_prefix later (NoProgram message) out out_now err err_now a p = inr (string_bytes message, adds_nothing out out_now a, p)
-err_prefix later (Finished text) out out_now err err_now a p = no_prefix err err_now p
+err_stops : (words : List (List ℕ)) (later : Option (List (List ℕ))) (before now : ℕ) (v : Verdict) (out err : SinkChange) →
+    SaysOfWords words v → OfText (SaysOfText later before now) v → HasGained (out_text v) out → HasFailed (err_text v) err →
+    ErrStopped words later before now out err
+err_stops words later before now Usage out err named said a p =
+    record { message = usage_message; told = inr (inl (refl, named)); output = untouched out a; errors = p }
+err_stops words later before now Unread out err named said a p =
+    record { message = read_message; told = inr (inr (inl (refl, said))); output = untouched out a; errors = p }
+err_stops words later before now NoMemory out err named said a p =
+    record { message = memory_message; told = inl refl; output = untouched out a; errors = p }
+err_stops words later before now (NoProgram message) out err named said a p =
+    record { message = string_bytes message; told = inr (inr (inr (said.1, said.2, said.0))); output = untouched out a; errors = p }
+err_stops words later before now (Finished text) out err named said a p = no_failure err p
 
 -- after a failed write nothing more is written
-pub stopped_at : (later : Option (List (List ℕ))) (before now : ℕ) (v : Verdict) (answer ofs ofs_now osure efs efs_now esure : ℕ) (out out_now err err_now : Option (List ℕ)) →
-    OfText (SaysOfText later before now) v →
-    IsWritten v answer out out_now err err_now
-    ⊎ (OutFailed v answer ofs ofs_now osure out out_now err err_now ⊎ ErrFailed v answer efs efs_now esure out out_now err err_now) →
-    answer ≡ 4 → HasPrefix later out out_now err err_now
-stopped_at later before now v answer ofs ofs_now osure efs efs_now esure out out_now err err_now said (inl w) is =
-    absurd (no_stop v (sym is ∙ w.status))
-stopped_at later before now v answer ofs ofs_now osure efs efs_now esure out out_now err err_now said (inr (inl o)) is =
-    out_prefix later before now v out out_now err err_now said o.output o.errors
-stopped_at later before now v answer ofs ofs_now osure efs efs_now esure out out_now err err_now said (inr (inr e)) is =
-    err_prefix later v out out_now err err_now e.output e.errors
+pub stopped_at : (words : List (List ℕ)) (later : Option (List (List ℕ))) (before now : ℕ) (v : Verdict) (answer : ℕ) (out err : SinkChange) →
+    SaysOfWords words v → OfText (SaysOfText later before now) v → IsDelivered v answer out err →
+    answer ≡ 4 → OutStopped later out err ⊎ ErrStopped words later before now out err
+stopped_at words later before now v answer out err named said (inl w) is = absurd (no_stop v (sym is ∙ w.status))
+stopped_at words later before now v answer out err named said (inr (inl o)) is =
+    inl (out_stops later before now v out err said o.output o.errors)
+stopped_at words later before now v answer out err named said (inr (inr e)) is =
+    inr (err_stops words later before now v out err named said e.output e.errors)
+
+-- but for a failed write, no write failed
+pub steady_unless : (v : Verdict) (answer : ℕ) (out err : SinkChange) → IsDelivered v answer out err → answer ≢ 4 →
+    (out.faults_now ≡ out.faults) × (err.faults_now ≡ err.faults)
+steady_unless v answer out err (inl w) isnt = (w.output.steady, w.errors.steady)
+steady_unless v answer out err (inr (inl o)) isnt = absurd (isnt o.status)
+steady_unless v answer out err (inr (inr e)) isnt = absurd (isnt e.status)
 
 -- ---- sinks that are sure
 
@@ -90,26 +104,20 @@ err_sure texts before now NoMemory sure tree said form fits unsure = let e : sur
 err_sure texts before now (NoProgram message) sure tree said form fits unsure = said.0 tree form
 err_sure texts before now (Finished text) sure tree said form fits unsure = let e : sure < 0 = unsure in absurd (omega arith)
 
-sure_of : (texts : List (List ℕ)) (before now : ℕ) (v : Verdict) (answer ofs ofs_now osure efs efs_now esure : ℕ) (out out_now err err_now : Option (List ℕ)) →
-    OfText (SaysOfText (Some texts) before now) v →
-    IsWritten v answer out out_now err err_now
-    ⊎ (OutFailed v answer ofs ofs_now osure out out_now err err_now ⊎ ErrFailed v answer efs efs_now esure out out_now err err_now) →
+sure_of : (texts : List (List ℕ)) (before now : ℕ) (v : Verdict) (answer : ℕ) (out err : SinkChange) →
+    OfText (SaysOfText (Some texts) before now) v → IsDelivered v answer out err →
     (tree : Tree) (printed : List ℕ) → IsFirstForm (next_left texts) tree → Prints tree printed →
-    length printed ≤ osure → 64 ≤ esure → answer ≢ 4
-sure_of texts before now v answer ofs ofs_now osure efs efs_now esure out out_now err err_now said (inl w) tree printed form prints fits line is =
-    no_stop v (sym is ∙ w.status)
-sure_of texts before now v answer ofs ofs_now osure efs efs_now esure out out_now err err_now said (inr (inl o)) tree printed form prints fits line is =
-    out_sure texts before now v osure tree printed said form prints fits o.unsure
-sure_of texts before now v answer ofs ofs_now osure efs efs_now esure out out_now err err_now said (inr (inr e)) tree printed form prints fits line is =
-    err_sure texts before now v esure tree said form line e.unsure
+    length printed ≤ out.sure → 64 ≤ err.sure → answer ≢ 4
+sure_of texts before now v answer out err said (inl w) tree printed form prints fits line is = no_stop v (sym is ∙ w.status)
+sure_of texts before now v answer out err said (inr (inl o)) tree printed form prints fits line is =
+    out_sure texts before now v out.sure tree printed said form prints fits o.output.unsure
+sure_of texts before now v answer out err said (inr (inr e)) tree printed form prints fits line is =
+    err_sure texts before now v err.sure tree said form line e.errors.unsure
 
 -- nothing fails where the sinks are sure of what is written
-pub none_stops : (later : Option (List (List ℕ))) (before now : ℕ) (v : Verdict) (answer ofs ofs_now osure efs efs_now esure : ℕ) (out out_now err err_now : Option (List ℕ)) →
-    OfText (SaysOfText later before now) v →
-    IsWritten v answer out out_now err err_now
-    ⊎ (OutFailed v answer ofs ofs_now osure out out_now err err_now ⊎ ErrFailed v answer efs efs_now esure out out_now err err_now) →
+pub none_stops : (later : Option (List (List ℕ))) (before now : ℕ) (v : Verdict) (answer : ℕ) (out err : SinkChange) →
+    OfText (SaysOfText later before now) v → IsDelivered v answer out err →
     OfNextText later (λ text. (tree : Tree) (printed : List ℕ) → IsFirstForm text tree → Prints tree printed →
-    length printed ≤ osure → 64 ≤ esure → answer ≢ 4)
-none_stops None before now v answer ofs ofs_now osure efs efs_now esure out out_now err err_now said d = tt
-none_stops (Some texts) before now v answer ofs ofs_now osure efs efs_now esure out out_now err err_now said d =
-    sure_of texts before now v answer ofs ofs_now osure efs efs_now esure out out_now err err_now said d
+    length printed ≤ out.sure → 64 ≤ err.sure → answer ≢ 4)
+none_stops None before now v answer out err said d = tt
+none_stops (Some texts) before now v answer out err said d = sure_of texts before now v answer out err said d

@@ -1,10 +1,12 @@
 -- The statuses of a call, and what may stand in their place.
-use Rattle.std.specs.Prelude.{◌≡◌, ◌≤◌, ◌⊎◌, ℕ, List, [], Option, Some, IfSome, length}
+use Rattle.std.specs.Prelude.{◌≡◌, ◌≤◌, ◌⊎◌, ℕ, List, [], Option, Some, None, IfSome, length}
 use Rattle.run_io.specs.Faults.{Rose}
-use Rattle.run_io.specs.Sink.{Adds, AddsPrefix}
+use Rattle.run_io.specs.Sink.{Adds}
 use Rattle.run_io.specs.Source.{next_left}
 use Rattle.regent_run.specs.Begins.{IsBegunBy}
-use Rattle.regent_run.specs.FirstForm.{NextPrints}
+use Rattle.regent_run.specs.FirstForm.{NextPrints, NextIsNone}
+use Rattle.regent_run.specs.Texts.{usage_message, read_message, memory_message, syntax_message}
+use Rattle.regent_run.specs.Verdicts.{SinkChange, HasFailed, IsUntouched}
 use Rattle.regent_run.specs.Words.{file_named}
 
 -- the status is this one, unless memory ran out or a write failed
@@ -31,12 +33,29 @@ pub record HasTold (message : List ℕ) (out_before out_after err_before err_aft
   pub output : out_after ≡ out_before
   pub errors : Adds err_before message err_after
 
--- A write failed: the output holds a proper prefix of its text and the error output has gained
--- nothing, or the output has gained nothing and the error output a proper prefix of its line.
-abbrev pub HasPrefix : Option (List (List ℕ)) → Option (List ℕ) → Option (List ℕ) → Option (List ℕ) → Option (List ℕ) → Type 0
-HasPrefix later out_before out_after err_before err_after =
-    ((text : List ℕ) × NextPrints later text × AddsPrefix out_before text out_after × (err_after ≡ err_before))
-    ⊎ ((message : List ℕ) × (out_after ≡ out_before) × AddsPrefix err_before message err_after)
+-- the line about an error that a call has come to: memory ran out, the words are refused, the source
+-- failed, or the next text isn't of the first form
+abbrev pub IsErrorLine : List (List ℕ) → Option (List (List ℕ)) → ℕ → ℕ → List ℕ → Type 0
+IsErrorLine words later source source_now message =
+    (message ≡ memory_message)
+    ⊎ (((message ≡ usage_message) × (file_named words ≡ None))
+    ⊎ (((message ≡ read_message) × Rose source source_now)
+    ⊎ ((line : ℕ) × (message ≡ syntax_message line) × NextIsNone later)))
+
+-- A write to the output failed, of what the program of the next text prints, and nothing was written
+-- after it.
+pub record OutStopped (later : Option (List (List ℕ))) (out err : SinkChange) : Type 0 where
+  pub text : List ℕ
+  pub printed : NextPrints later text
+  pub output : HasFailed text out
+  pub errors : IsUntouched err
+
+-- Nothing was written to the output, and a write to the error output failed, of a line about an error.
+pub record ErrStopped (words : List (List ℕ)) (later : Option (List (List ℕ))) (source source_now : ℕ) (out err : SinkChange) : Type 0 where
+  pub message : List ℕ
+  pub told : IsErrorLine words later source source_now message
+  pub output : IsUntouched out
+  pub errors : HasFailed message err
 
 -- the source was begun once more, by the file that the words name
 pub record IsBegunOnce (words : List (List ℕ)) (begins begins_now : Option ℕ) (names names_now : Option (List (List ℕ))) : Type 0 where

@@ -1,5 +1,5 @@
 -- What a call comes to before it writes, and what it then writes.
-use Rattle.std.specs.Prelude.{◌≡◌, ◌<◌, ℕ, List, [], Option, Some, None, length, string_bytes}
+use Rattle.std.specs.Prelude.{◌≡◌, ◌<◌, ◌⊎◌, ℕ, List, [], Option, Some, None, length, string_bytes}
 use Rattle.run_io.specs.Faults.{Rose}
 use Rattle.run_io.specs.Sink.{Adds, AddsPrefix}
 use Rattle.regent_run.specs.declared.verdict.Verdict.{Verdict}
@@ -70,24 +70,55 @@ IsNoProgram line (NoProgram message) = string_bytes message ≡ syntax_message l
 IsNoProgram line NoMemory = Unit {0}
 IsNoProgram line _ = ⊥
 
+-- ---- what is written
+--
+-- Of each sink: its count of faults before and now, how many bytes it is sure of, and what it holds
+-- before and now.
+
+pub record SinkChange : Type 0 where
+  pub faults : ℕ
+  pub faults_now : ℕ
+  pub sure : ℕ
+  pub held : Option (List ℕ)
+  pub held_now : Option (List ℕ)
+
+abbrev pub change_of : ℕ → ℕ → ℕ → Option (List ℕ) → Option (List ℕ) → SinkChange
+change_of faults faults_now sure held held_now =
+    record { faults = faults; faults_now = faults_now; sure = sure; held = held; held_now = held_now }
+
+-- nothing failed, and the sink has gained the bytes
+pub record HasGained (bytes : List ℕ) (sink : SinkChange) : Type 0 where
+  pub steady : sink.faults_now ≡ sink.faults
+  pub gained : Adds sink.held bytes sink.held_now
+
+-- a write failed, which the sink wasn't sure of, and a proper prefix of the bytes was added
+pub record HasFailed (bytes : List ℕ) (sink : SinkChange) : Type 0 where
+  pub cause : Rose sink.faults sink.faults_now
+  pub unsure : sink.sure < length bytes
+  pub prefix : AddsPrefix sink.held bytes sink.held_now
+
+-- nothing was done
+pub record IsUntouched (sink : SinkChange) : Type 0 where
+  pub steady : sink.faults_now ≡ sink.faults
+  pub kept : sink.held_now ≡ sink.held
+
 -- all was written, and the status is the verdict's
-pub record IsWritten (v : Verdict) (answer : ℕ) (out_before out_after err_before err_after : Option (List ℕ)) : Type 0 where
+pub record IsWritten (v : Verdict) (answer : ℕ) (out err : SinkChange) : Type 0 where
   pub status : answer ≡ status_of v
-  pub output : Adds out_before (out_text v) out_after
-  pub errors : Adds err_before (err_text v) err_after
+  pub output : HasGained (out_text v) out
+  pub errors : HasGained (err_text v) err
 
 -- a write to the output failed, and nothing was written after it
-pub record OutFailed (v : Verdict) (answer before now sure : ℕ) (out_before out_after err_before err_after : Option (List ℕ)) : Type 0 where
+pub record OutFailed (v : Verdict) (answer : ℕ) (out err : SinkChange) : Type 0 where
   pub status : answer ≡ 4
-  pub cause : Rose before now
-  pub unsure : sure < length (out_text v)
-  pub output : AddsPrefix out_before (out_text v) out_after
-  pub errors : err_after ≡ err_before
+  pub output : HasFailed (out_text v) out
+  pub errors : IsUntouched err
 
 -- all was written to the output, and then a write to the error output failed
-pub record ErrFailed (v : Verdict) (answer before now sure : ℕ) (out_before out_after err_before err_after : Option (List ℕ)) : Type 0 where
+pub record ErrFailed (v : Verdict) (answer : ℕ) (out err : SinkChange) : Type 0 where
   pub status : answer ≡ 4
-  pub cause : Rose before now
-  pub unsure : sure < length (err_text v)
-  pub output : Adds out_before (out_text v) out_after
-  pub errors : AddsPrefix err_before (err_text v) err_after
+  pub output : HasGained (out_text v) out
+  pub errors : HasFailed (err_text v) err
+
+abbrev pub IsDelivered : Verdict → ℕ → SinkChange → SinkChange → Type 0
+IsDelivered v answer out err = IsWritten v answer out err ⊎ (OutFailed v answer out err ⊎ ErrFailed v answer out err)

@@ -7,18 +7,16 @@ ghost use Rattle.std.specs.Option.{option_map};
 ghost use Rattle.regent_tree.specs.Syntax.{Tree};
 ghost use Rattle.run_io.specs.Faults.{Rose};
 ghost use Rattle.run_io.specs.Source.{next_left};
-ghost use Rattle.regent_run.specs.Answers.{HasPrinted, HasTold, HasPrefix, IsBegunOnce, IsReadWhole};
+ghost use Rattle.regent_run.specs.Answers.{HasPrinted, HasTold, OutStopped, ErrStopped, IsBegunOnce, IsReadWhole};
 ghost use Rattle.regent_run.specs.Answers.{IsStatus, NoneRose, OfNextText, UnlessStopped, UnlessUnread};
 ghost use Rattle.regent_run.specs.Begins.{IsUnbegun};
 ghost use Rattle.regent_run.specs.FirstForm.{IsFirstForm, Prints, NextIsNone};
 ghost use Rattle.regent_run.specs.Reading.{TakesAtMost};
 ghost use Rattle.regent_run.specs.Texts.{usage_message, read_message, memory_message, syntax_message};
-ghost use Rattle.regent_run.specs.Verdicts.{IsNamed};
+ghost use Rattle.regent_run.specs.Verdicts.{IsNamed, change_of};
 ghost use Rattle.regent_run.specs.Words.{file_named, texts};
 
 mod judge;
-#[cfg(test)]
-mod tests;
 mod text;
 mod verdict;
 mod words;
@@ -59,6 +57,8 @@ pub fn regent_run<S: Source, K: Sink, E: Sink>(
     ensures unread { result ≡ 3 → Rose (S.faults source.old) (S.faults source.new) }
     ensures unwritten { result ≡ 4 → Rose (K.faults out.old) (K.faults out.new)
         ⊎ Rose (E.faults err.old) (E.faults err.new) }
+    ensures steady { result ≢ 4 → (K.faults out.new ≡ K.faults out.old)
+        × (E.faults err.new ≡ E.faults err.old) }
 
     // There is no other status. Where nothing failed, a program of the first form finishes, unless
     // memory runs out, which is 7.
@@ -81,9 +81,14 @@ pub fn regent_run<S: Source, K: Sink, E: Sink>(
         (K.held out.old) (K.held out.new) (E.held err.old) (E.held err.new) }
     ensures told_memory { result ≡ 7 → HasTold memory_message
         (K.held out.old) (K.held out.new) (E.held err.old) (E.held err.new) }
-    // Nothing is written after a failed write.
-    ensures stopped { result ≡ 4 → HasPrefix (S.later source.old)
-        (K.held out.old) (K.held out.new) (E.held err.old) (E.held err.new) }
+    // Nothing is written after a failed write, and a write fails only where its sink isn't sure of it.
+    ensures stopped { result ≡ 4 →
+        OutStopped (S.later source.old)
+        (change_of (K.faults out.old) (K.faults out.new) (K.sure out.old) (K.held out.old) (K.held out.new))
+        (change_of (E.faults err.old) (E.faults err.new) (E.sure err.old) (E.held err.old) (E.held err.new))
+        ⊎ ErrStopped (texts words.now.items) (S.later source.old) (S.faults source.old) (S.faults source.new)
+        (change_of (K.faults out.old) (K.faults out.new) (K.sure out.old) (K.held out.old) (K.held out.new))
+        (change_of (E.faults err.old) (E.faults err.new) (E.sure err.old) (E.held err.old) (E.held err.new)) }
 
     // What is read: the source is begun once at most, by the file that the words name.
     ensures begins { IsUnbegun (S.begins source.old) (S.begins source.new) (S.names source.old) (S.names source.new)

@@ -1,7 +1,7 @@
 //! What a call comes to, and the one place where it is written.
 
-ghost use Rattle.std.specs.Prelude.{◌≡◌, ◌⊎◌, length};
-ghost use Rattle.regent_run.specs.Verdicts.{IsWritten, OutFailed, ErrFailed, out_text, err_text, status_of};
+ghost use Rattle.std.specs.Prelude.{◌≡◌};
+ghost use Rattle.regent_run.specs.Verdicts.{IsDelivered, change_of, out_text, err_text, status_of};
 
 use run_io::{Sink, put_all};
 
@@ -58,11 +58,9 @@ impl Verdict {
     /// Writes the output and then the error output, and gives the status: 4 where a write failed, and
     /// then nothing more is written.
     pub fn deliver<K: Sink, E: Sink>(&self, out: &mut K, err: &mut E) -> u8
-        ensures { IsWritten self.now result (K.held out.old) (K.held out.new) (E.held err.old) (E.held err.new)
-            ⊎ (OutFailed self.now result (K.faults out.old) (K.faults out.new) (K.sure out.old)
-            (K.held out.old) (K.held out.new) (E.held err.old) (E.held err.new)
-            ⊎ ErrFailed self.now result (E.faults err.old) (E.faults err.new) (E.sure err.old)
-            (K.held out.old) (K.held out.new) (E.held err.old) (E.held err.new)) }
+        ensures { IsDelivered self.now result
+            (change_of (K.faults out.old) (K.faults out.new) (K.sure out.old) (K.held out.old) (K.held out.new))
+            (change_of (E.faults err.old) (E.faults err.new) (E.sure err.old) (E.held err.old) (E.held err.new)) }
     {
         if put_all(out, self.out_text()).is_err() {
             return 4;
