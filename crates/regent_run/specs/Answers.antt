@@ -22,19 +22,21 @@ abbrev pub IsStatus : ℕ → Type 0
 IsStatus n = (n ≡ 0) ⊎ ((n ≡ 2) ⊎ ((n ≡ 3) ⊎ ((n ≡ 4) ⊎ ((n ≡ 5) ⊎ (n ≡ 7)))))
 
 -- The output has gained what the program of the next text prints, and the error output nothing.
-pub record HasPrinted (later : Option (List (List ℕ))) (out_before out_after err_before err_after : Option (List ℕ)) : Type 0 where
+pub record HasPrinted (later : Option (List (List ℕ)))
+    (out_before out_after err_before err_after : Option (List ℕ)) : Type 0 where
   pub text : List ℕ
   pub printed : NextPrints later text
   pub output : Adds out_before text out_after
   pub errors : err_after ≡ err_before
 
 -- The error output has gained the line about an error, and the output nothing.
-pub record HasTold (message : List ℕ) (out_before out_after err_before err_after : Option (List ℕ)) : Type 0 where
+pub record HasTold (message : List ℕ)
+    (out_before out_after err_before err_after : Option (List ℕ)) : Type 0 where
   pub output : out_after ≡ out_before
   pub errors : Adds err_before message err_after
 
--- the line about an error that a call has come to: memory ran out, the words are refused, the source
--- failed, or the next text isn't of the first form
+-- the line about an error that a call has come to: memory ran out, the words are refused, the
+-- source failed, or the next text isn't of the first form
 abbrev pub IsErrorLine : List (List ℕ) → Option (List (List ℕ)) → ℕ → ℕ → List ℕ → Type 0
 IsErrorLine words later source source_now message =
     (message ≡ memory_message)
@@ -42,23 +44,26 @@ IsErrorLine words later source source_now message =
     ⊎ (((message ≡ read_message) × Rose source source_now)
     ⊎ ((line : ℕ) × (message ≡ syntax_message line) × NextIsNone later)))
 
--- A write to the output failed, of what the program of the next text prints, and nothing was written
--- after it.
+-- A write to the output failed, of what the program of the next text prints, and nothing was
+-- written after it.
 pub record OutStopped (later : Option (List (List ℕ))) (out err : SinkChange) : Type 0 where
   pub text : List ℕ
   pub printed : NextPrints later text
   pub output : HasFailed text out
   pub errors : IsUntouched err
 
--- Nothing was written to the output, and a write to the error output failed, of a line about an error.
-pub record ErrStopped (words : List (List ℕ)) (later : Option (List (List ℕ))) (source source_now : ℕ) (out err : SinkChange) : Type 0 where
+-- Nothing was written to the output, and a write to the error output failed, of a line about an
+-- error.
+pub record ErrStopped (words : List (List ℕ)) (later : Option (List (List ℕ)))
+    (source source_now : ℕ) (out err : SinkChange) : Type 0 where
   pub message : List ℕ
   pub told : IsErrorLine words later source source_now message
   pub output : IsUntouched out
   pub errors : HasFailed message err
 
 -- the source was begun once more, by the file that the words name
-pub record IsBegunOnce (words : List (List ℕ)) (begins begins_now : Option ℕ) (names names_now : Option (List (List ℕ))) : Type 0 where
+pub record IsBegunOnce (words : List (List ℕ)) (begins begins_now : Option ℕ)
+    (names names_now : Option (List (List ℕ))) : Type 0 where
   pub file : List ℕ
   pub named : file_named words ≡ Some file
   pub begun : IsBegunBy file begins begins_now names names_now

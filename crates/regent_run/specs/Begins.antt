@@ -8,30 +8,36 @@ use Rattle.regent_run.specs.declared.verdict.Verdict.TheVariants.{Usage, Unread,
 use Rattle.regent_run.specs.Words.{file_named}
 
 -- the source was begun once more, by this name
-pub record IsBegunBy (file : List ℕ) (begins begins_now : Option ℕ) (names names_now : Option (List (List ℕ))) : Type 0 where
+pub record IsBegunBy (file : List ℕ) (begins begins_now : Option ℕ)
+    (names names_now : Option (List (List ℕ))) : Type 0 where
   pub counted : begins_now ≡ option_map one_more begins
   pub noted : names_now ≡ option_map (with_name file) names
 
 -- the source wasn't begun
-pub record IsUnbegun (begins begins_now : Option ℕ) (names names_now : Option (List (List ℕ))) : Type 0 where
+pub record IsUnbegun (begins begins_now : Option ℕ)
+    (names names_now : Option (List (List ℕ))) : Type 0 where
   pub counted : begins_now ≡ begins
   pub noted : names_now ≡ names
 
 -- begun by this name, but where memory ran out maybe not
-abbrev pub BeginsFile : List ℕ → Option ℕ → Option ℕ → Option (List (List ℕ)) → Option (List (List ℕ)) → Verdict → Type 0
+abbrev pub BeginsFile : List ℕ → Option ℕ → Option ℕ →
+    Option (List (List ℕ)) → Option (List (List ℕ)) → Verdict → Type 0
 BeginsFile file begins begins_now names names_now Usage = ⊥
 BeginsFile file begins begins_now names names_now NoMemory =
     IsUnbegun begins begins_now names names_now ⊎ IsBegunBy file begins begins_now names names_now
-BeginsFile file begins begins_now names names_now _ = IsBegunBy file begins begins_now names names_now
+BeginsFile file begins begins_now names names_now _ =
+    IsBegunBy file begins begins_now names names_now
 
 -- begun by the file that the words name
-pub record BeginsNamed (words : List (List ℕ)) (begins begins_now : Option ℕ) (names names_now : Option (List (List ℕ))) (v : Verdict) : Type 0 where
+pub record BeginsNamed (words : List (List ℕ)) (begins begins_now : Option ℕ)
+    (names names_now : Option (List (List ℕ))) (v : Verdict) : Type 0 where
   pub file : List ℕ
   pub named : file_named words ≡ Some file
   pub begun : BeginsFile file begins begins_now names names_now v
 
 -- where the words are refused, not begun
-abbrev pub Begins : List (List ℕ) → Option ℕ → Option ℕ → Option (List (List ℕ)) → Option (List (List ℕ)) → Verdict → Type 0
+abbrev pub Begins : List (List ℕ) → Option ℕ → Option ℕ →
+    Option (List (List ℕ)) → Option (List (List ℕ)) → Verdict → Type 0
 Begins words begins begins_now names names_now Usage = IsUnbegun begins begins_now names names_now
 Begins words begins begins_now names names_now Unread =
     BeginsNamed words begins begins_now names names_now Unread

@@ -5,15 +5,20 @@ use Rattle.run_io.specs.Source.{Moves}
 use Rattle.regent_run.specs.declared.text.NoText.{NoText}
 use Rattle.regent_run.specs.declared.text.NoText.TheVariants as no_text
 use Rattle.regent_run.specs.declared.verdict.Verdict.{Verdict}
-use Rattle.regent_run.specs.declared.verdict.Verdict.TheVariants.{NoProgram, Finished}
+use Rattle.regent_run.specs.declared.verdict.Verdict.TheVariants.{Unread, NoProgram, Finished}
 
--- a failed read has its cause in the source
+-- what a text that can't be had says of the source's count of faults
 abbrev pub IsCause : ℕ → ℕ → NoText → Type 0
 IsCause before now no_text.Failed = Rose before now
-IsCause before now no_text.Memory = Unit {0}
+IsCause before now no_text.Memory = now ≡ before
 
--- Of what the begin leaves at most so many bytes were taken; a begin that fails takes nothing of what
--- was left before.
+-- no call of the source failed, but where the text can't be read
+abbrev pub IsSteady : ℕ → ℕ → Verdict → Type 0
+IsSteady before now Unread = Unit {0}
+IsSteady before now _ = now ≡ before
+
+-- Of what the begin leaves at most so many bytes were taken; a begin that fails takes nothing of
+-- what was left before.
 abbrev pub TakesAtMost : ℕ → Option (List ℕ) → Option (List ℕ) → Option (List ℕ) → Type 0
 TakesAtMost most begun before now =
     (now ≡ before) ⊎ ((moved : List ℕ) × (length moved ≤ most) × Moves begun moved now)

@@ -84,7 +84,13 @@ pub record SinkChange : Type 0 where
 
 abbrev pub change_of : ℕ → ℕ → ℕ → Option (List ℕ) → Option (List ℕ) → SinkChange
 change_of faults faults_now sure held held_now =
-    record { faults = faults; faults_now = faults_now; sure = sure; held = held; held_now = held_now }
+    record {
+      faults = faults;
+      faults_now = faults_now;
+      sure = sure;
+      held = held;
+      held_now = held_now;
+    }
 
 -- nothing failed, and the sink has gained the bytes
 pub record HasGained (bytes : List ℕ) (sink : SinkChange) : Type 0 where
@@ -121,4 +127,5 @@ pub record ErrFailed (v : Verdict) (answer : ℕ) (out err : SinkChange) : Type 
   pub errors : HasFailed (err_text v) err
 
 abbrev pub IsDelivered : Verdict → ℕ → SinkChange → SinkChange → Type 0
-IsDelivered v answer out err = IsWritten v answer out err ⊎ (OutFailed v answer out err ⊎ ErrFailed v answer out err)
+IsDelivered v answer out err =
+    IsWritten v answer out err ⊎ (OutFailed v answer out err ⊎ ErrFailed v answer out err)

@@ -7,8 +7,8 @@ is_option [] = false
 is_option (b ∷ []) = false
 is_option (b ∷ c ∷ bytes) = b == 45
 
--- The file to run: the words are the program's name, `run`, and a file that is no option. None where
--- the words are refused.
+-- The file to run: the words are the program's name, `run`, and a file that is no option. None
+-- where the words are refused.
 abbrev pub file_named : List (List ℕ) → Option (List ℕ)
 file_named [] = None
 file_named (program ∷ []) = None

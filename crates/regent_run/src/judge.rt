@@ -1,12 +1,12 @@
 //! From words and a source to a verdict.
 
-ghost use Rattle.std.specs.Prelude.{◌≤◌};
+ghost use Rattle.std.specs.Prelude.{◌≡◌, ◌≤◌, None};
 ghost use Rattle.std.specs.Option.{option_map};
 ghost use Rattle.run_io.specs.Source.{next_left};
 ghost use Rattle.regent_run.specs.Begins.{Begins, BeginsFile};
-ghost use Rattle.regent_run.specs.Reading.{TakesAtMost, ReadsToEnd};
+ghost use Rattle.regent_run.specs.Reading.{IsSteady, TakesAtMost, ReadsToEnd};
 ghost use Rattle.regent_run.specs.Verdicts.{IsNoProgram, Judges, OfText, SaysOfText, SaysOfWords};
-ghost use Rattle.regent_run.specs.Words.{texts};
+ghost use Rattle.regent_run.specs.Words.{file_named, texts};
 
 use crate::text::{NoText, read_text};
 use crate::verdict::Verdict;
@@ -51,6 +51,7 @@ fn judge_file<S: Source>(alloc: Global, file: &str, source: &mut S) -> Verdict
         (S.left source.old) (S.left source.new) }
     ensures end { ReadsToEnd (option_map next_left (S.later source.old)) (S.left source.new) result }
     ensures faults { S.faults source.old ≤ S.faults source.new }
+    ensures steady { IsSteady (S.faults source.old) (S.faults source.new) result }
 {
     let Ok(name) = String::from_str(alloc, file) else {
         return Verdict::NoMemory;
@@ -65,6 +66,7 @@ fn judge_file<S: Source>(alloc: Global, file: &str, source: &mut S) -> Verdict
 /// What the words and the source come to.
 pub fn judge<S: Source>(alloc: Global, words: &[String], source: &mut S) -> Verdict
     ensures words { SaysOfWords (texts words.now) result }
+    ensures untouched { file_named (texts words.now) ≡ None → source.new ≡ source.old }
     ensures said { OfText (SaysOfText (S.later source.old) (S.faults source.old) (S.faults source.new)) result }
     ensures begins { Begins (texts words.now) (S.begins source.old) (S.begins source.new)
         (S.names source.old) (S.names source.new) result }
@@ -72,6 +74,7 @@ pub fn judge<S: Source>(alloc: Global, words: &[String], source: &mut S) -> Verd
         (S.left source.old) (S.left source.new) }
     ensures end { ReadsToEnd (option_map next_left (S.later source.old)) (S.left source.new) result }
     ensures faults { S.faults source.old ≤ S.faults source.new }
+    ensures steady { IsSteady (S.faults source.old) (S.faults source.new) result }
 {
     match file_named(words) {
         None => Verdict::Usage,

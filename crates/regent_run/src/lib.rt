@@ -1,5 +1,5 @@
-//! The call that the program makes: from the words of the command line and a source to two sinks and
-//! a status.
+//! The call that the program makes: from the words of the command line and a source to two sinks
+//! and a status.
 #![tactic(auto)]
 
 ghost use Rattle.std.specs.Prelude.{◌≡◌, ◌≢◌, ◌≤◌, ◌⊎◌, ℕ, List, None, length};
@@ -17,6 +17,8 @@ ghost use Rattle.regent_run.specs.Verdicts.{IsNamed, change_of};
 ghost use Rattle.regent_run.specs.Words.{file_named, texts};
 
 mod judge;
+#[cfg(test)]
+mod tests;
 mod text;
 mod verdict;
 mod words;
@@ -27,10 +29,10 @@ use std::alloc::Global;
 
 /// Runs what the words say, and gives the status.
 ///
-/// The words are `regent run FILE`. The file's text is that which the source leaves when it is begun
-/// by that name. The statuses: 0 the program finished, 2 the words are refused, 3 the text can't be
-/// read, 4 a write failed, 5 the text is no program of the first form, 7 memory ran out. What is
-/// printed goes to `out`, and then one line about an error to `err`.
+/// The words are `regent run FILE`. The file's text is that which the source leaves when it is
+/// begun by that name. The statuses: 0 the program finished, 2 the words are refused, 3 the text
+/// can't be read, 4 a write failed, 5 the text is no program of the first form, 7 memory ran out.
+/// What is printed goes to `out`, and then one line about an error to `err`.
 pub fn regent_run<S: Source, K: Sink, E: Sink>(
     alloc: Global,
     words: &Vec<String>,
@@ -55,6 +57,7 @@ pub fn regent_run<S: Source, K: Sink, E: Sink>(
 
     // 3 and 4: a count of faults rose in this call.
     ensures unread { result ≡ 3 → Rose (S.faults source.old) (S.faults source.new) }
+    ensures read { result ≢ 3 → result ≢ 4 → S.faults source.new ≡ S.faults source.old }
     ensures unwritten { result ≡ 4 → Rose (K.faults out.old) (K.faults out.new)
         ⊎ Rose (E.faults err.old) (E.faults err.new) }
     ensures steady { result ≢ 4 → (K.faults out.new ≡ K.faults out.old)
@@ -81,7 +84,7 @@ pub fn regent_run<S: Source, K: Sink, E: Sink>(
         (K.held out.old) (K.held out.new) (E.held err.old) (E.held err.new) }
     ensures told_memory { result ≡ 7 → HasTold memory_message
         (K.held out.old) (K.held out.new) (E.held err.old) (E.held err.new) }
-    // Nothing is written after a failed write, and a write fails only where its sink isn't sure of it.
+    // Nothing is written after a failed write, and a write fails only where its sink isn't sure.
     ensures stopped { result ≡ 4 →
         OutStopped (S.later source.old)
         (change_of (K.faults out.old) (K.faults out.new) (K.sure out.old) (K.held out.old) (K.held out.new))
@@ -94,8 +97,7 @@ pub fn regent_run<S: Source, K: Sink, E: Sink>(
     ensures begins { IsUnbegun (S.begins source.old) (S.begins source.new) (S.names source.old) (S.names source.new)
         ⊎ IsBegunOnce (texts words.now.items) (S.begins source.old) (S.begins source.new)
         (S.names source.old) (S.names source.new) }
-    ensures unbegun { result ≡ 2 → IsUnbegun (S.begins source.old) (S.begins source.new)
-        (S.names source.old) (S.names source.new) }
+    ensures untouched { file_named (texts words.now.items) ≡ None → source.new ≡ source.old }
     ensures begun { (result ≡ 0) ⊎ (result ≡ 5) → IsBegunOnce (texts words.now.items)
         (S.begins source.old) (S.begins source.new) (S.names source.old) (S.names source.new) }
     ensures takes { TakesAtMost 1048577 (option_map next_left (S.later source.old))

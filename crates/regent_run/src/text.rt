@@ -53,6 +53,7 @@ pub fn read_text<S: Source>(alloc: Global, source: &mut S, name: String) -> Resu
     ensures takes { IfErr result (λ _. TakesAtMost 1048577 (option_map next_left (S.later source.old))
         (S.left source.old) (S.left source.new)) }
     ensures cause { IfErr result (IsCause (S.faults source.old) (S.faults source.new)) }
+    ensures steady { IfOk result (λ _. S.faults source.new ≡ S.faults source.old) }
     ensures faults { S.faults source.old ≤ S.faults source.new }
     ensures begins { S.begins source.new ≡ option_map one_more (S.begins source.old) }
     ensures names { S.names source.new ≡ option_map (with_name (string_bytes name)) (S.names source.old) }

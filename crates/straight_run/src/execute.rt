@@ -18,7 +18,7 @@ ghost use Rattle.straight_run.specs.Variables.{AllMean, Executes, Steps, names_o
 use crate::evaluate::{evaluate, is_bare};
 use crate::format::{print, prints};
 use crate::machine::{Machine, Variable, newest};
-use crate::numbers::{Number, taken_at_64};
+use crate::numbers::{Number, widened};
 use regent_tree::{Expr, How, Init, Name, NumberTerm, Step, Stmt, TypeTerm, What};
 use std::alloc::{AllocError, Global};
 
@@ -84,7 +84,7 @@ fn variable_of(name: Name, number: Number) -> Variable
 {
     Variable {
         name,
-        value: taken_at_64(number),
+        value: widened(number),
     }
 }
 
@@ -123,7 +123,7 @@ fn assign(target: &[u8], value: &Expr, machine: &mut Machine) -> bool
         Some(place) => match evaluate(value, &machine.variables) {
             None => false,
             Some(number) => {
-                machine.variables[place].value = taken_at_64(number);
+                machine.variables[place].value = widened(number);
                 true
             }
         },
@@ -187,15 +187,7 @@ fn assign_bare(target: &[u8], steps: &[Step], how: How, value: &Expr, machine: &
     ensures steps { IsTrue result → Steps machine.old
         (assign_form target.now (steps_in steps.now) how (expression_of value.now)) machine.new }
 {
-    if is_set(how) {
-        if is_bare(steps) {
-            assign(target, value, machine)
-        } else {
-            false
-        }
-    } else {
-        false
-    }
+    is_set(how) && is_bare(steps) && assign(target, value, machine)
 }
 
 /// A `printf`, where it is called by no other name.

@@ -79,20 +79,11 @@ fn in_64(operator: Wrapping, a: i64, b: i64) -> i64
     }
 }
 
-/// The number itself, in 64 bits.
-pub fn widened(number: Number) -> i64
-    ensures { result ≡ number_of (value_of number) }
-{
-    match number {
-        Number::Narrow(value) => i64::from(value),
-        Number::Wide(value) => value,
-    }
-}
-
-/// The number in 64 bits, as a variable of type int64 takes it.
+/// The number in 64 bits, which is also what a variable of type int64 takes of it.
 #[tactic(auto, using(std::proofs::lemmas::Int::int_wrap_fits))]
-pub fn taken_at_64(number: Number) -> i64
-    ensures { result ≡ wrapped W64 (number_of (value_of number)) }
+pub fn widened(number: Number) -> i64
+    ensures number { result ≡ number_of (value_of number) }
+    ensures taken { result ≡ wrapped W64 (number_of (value_of number)) }
 {
     match number {
         Number::Narrow(value) => i64::from(value),

@@ -9,7 +9,7 @@ abbrev pub invariant-turns : goal.invariant-turns
 invariant-turns g l = record {
   so_far : Moves (option_map next_left (g.S.Source.later l.fn.source)) l.text.items (g.S.Source.left l.source);
   within : length l.text.items ≤ 1048577;
-  faults : g.S.Source.faults l.fn.source ≤ g.S.Source.faults l.source;
+  faults : g.S.Source.faults l.source ≡ g.S.Source.faults l.fn.source;
   begins : g.S.Source.begins l.source ≡ option_map one_more (g.S.Source.begins l.fn.source);
   names : g.S.Source.names l.source
       ≡ option_map (with_name (string_bytes l.fn.name)) (g.S.Source.names l.fn.source);

@@ -13,12 +13,12 @@ use Rattle.straight_run.proofs.execute.assign.Goals as goal
 pub returns-in-Some-evaluate-clause-steps : goal.returns-in-Some-evaluate-clause-steps
 returns-in-Some-evaluate-clause-steps c =
     let items = c.args.machine.now.variables.items in
-    let v : Variable = record { name = c.index_mut.result.now.name; value = to_z w64 (of_z w64 c.taken_at_64.result) } in
+    let v : Variable = record { name = c.index_mut.result.now.name; value = to_z w64 (of_z w64 c.widened.result) } in
     λ _. assigns c.args.machine.now _ c.args.target.now (expression_of c.args.value.now) c.in-Some-evaluate.number c.in-Some.place v
     (subst (λ (vs : List Variable). newest None 0 vs c.args.target.now ≡ Some c.in-Some.place) c.deref.ensures.value (sym c.in-Some.ensures.same))
     (subst (λ (vs : List Variable). Means vs (expression_of c.args.value.now) c.in-Some-evaluate.number) c.deref-in-Some.ensures.value c.in-Some-evaluate.ensures.means)
     (ap (λ (u : Variable). u.name) (c.index_mut.ensures.value ∙ get_or-any items c.in-Some.place c.index_mut.result.now v (search rules)))
-    (to_z-of_z w64 c.taken_at_64.result (search rules) ∙ c.taken_at_64.ensures)
+    (to_z-of_z w64 c.widened.result (search rules) ∙ c.widened.ensures.taken)
     refl refl
 
 pub returns-in-None-clause-order : goal.returns-in-None-clause-order
