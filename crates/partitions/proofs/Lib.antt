@@ -1,0 +1,4 @@
+mod Colours
+mod Gathering
+mod LinkLists
+mod Reached
