@@ -18,3 +18,6 @@ pub use parts::equal;
 
 /// How many colours a partition may have at most.
 pub const COLOUR_LIMIT: u32 = 65_536;
+
+#[cfg(test)]
+mod tests;
