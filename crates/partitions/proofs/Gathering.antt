@@ -1,5 +1,5 @@
 -- Lists of points and their sets.
-use Rattle.std.proofs.Common.{◌≡◌, ℕ, ◌+◌, ◌<◌, ◌||◌, false, eqb, List, [], ◌∷◌, ◌++◌, length, get_or, take, refl, Some, slice_get, Contains, All, sym, ap, ◌∙◌, arith}
+use Rattle.std.proofs.Common.{◌≡◌, ℕ, ◌+◌, ◌<◌, ◌||◌, false, eqb, List, [], ◌∷◌, ◌++◌, length, get_or, take, refl, Some, slice_get, Contains, All, sym, ◌∙◌, arith}
 use Rattle.std.specs.List.{dedup}
 use Rattle.std.specs.List.Retain.{IsFiltered, DiffersFromLast}
 use Rattle.std.specs.List.Sorted.{IsPermutation, IsSorted, IsStrictlyIncreasing}

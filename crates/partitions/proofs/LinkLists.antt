@@ -1,9 +1,9 @@
 -- Lists of links: made point by point, and searched by the point from which they go.
-use Rattle.std.proofs.Common.{◌≡◌, ℕ, ℤ, suc, ◌+◌, ◌-◌, ◌<◌, ◌≤◌, Bool, true, false, eqb, ltb, leb, cond, List, [], ◌∷◌, ◌++◌, length, length-drop, length-append, get_or, take, drop, map, filter, All, Option, Some, None, refl, sym, ap, ◌∙◌, subst, arith, ⊎_elim, get_or-take, get_or-drop, append_assoc}
-use Rattle.std.specs.List.{AllWithin, flat_map}
-use Rattle.std.specs.List.Sorted.{IsPermutation, IsPartitionPoint}
-use Rattle.std.proofs.lemmas.Bool.{cases_Bool, cases_lt, ltb-true, ltb-false, leb-true, leb-false, eq-eqb, ne_eqb, cond-true, cond-false, false≢true}
-use Rattle.std.proofs.lemmas.List.{append-nil, drop_more, drop_all, length-take-le, take-append-drop, drop-drop}
+use Rattle.std.proofs.Common.{◌≡◌, ℕ, ℤ, ◌+◌, ◌<◌, ◌≤◌, Bool, true, false, ltb, leb, cond, List, [], ◌∷◌, ◌++◌, length, length-drop, get_or, take, drop, filter, All, Option, Some, None, refl, sym, ap, ◌∙◌, arith, ⊎_elim, get_or-take, get_or-drop}
+use Rattle.std.specs.List.{flat_map}
+use Rattle.std.specs.List.Sorted.{IsPartitionPoint}
+use Rattle.std.proofs.lemmas.Bool.{cases_Bool, ltb-true, ltb-false, leb-true, leb-false, eq-eqb, ne_eqb, cond-true, cond-false}
+use Rattle.std.proofs.lemmas.List.{append-nil, length-take-le, take-append-drop}
 use Rattle.std.proofs.lemmas.List.Elements.{All-nil, All-cons, All-head, All-tail, All-append, All-map, All-filter, filter-append}
 use Rattle.plain_values.specs.Points.{has}
 use Rattle.point_sets.specs.declared.TheConstants.{POINT_LIMIT}

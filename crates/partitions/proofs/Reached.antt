@@ -1,19 +1,18 @@
 -- What links lead to, in the words of the meaning.
-use Rattle.std.proofs.Common.{◌≡◌, ◌≢◌, ℕ, ℤ, ◌<◌, ◌≤◌, Bool, true, false, ◌&&◌, ◌||◌, eqb, ltb, cond, List, [], ◌∷◌, ◌++◌, map, filter, All, Contains, Option, Some, None, refl, sym, ap, ◌∙◌, subst, arith, ⊎_elim}
+use Rattle.std.proofs.Common.{◌≡◌, ℕ, ℤ, ◌<◌, ◌≤◌, Bool, true, false, ◌&&◌, ◌||◌, eqb, cond, List, [], ◌∷◌, map, filter, Option, Some, None, refl, sym, ap, ◌∙◌, subst, arith, ⊎_elim}
 use Rattle.std.specs.List.{flat_map, list_any}
 use Rattle.std.specs.List.Sorted.{IsPermutation, IsStrictlyIncreasing}
-use Rattle.std.proofs.lemmas.Bool.{cases_Bool, cases_eq, cases_lt, ltb-true, ltb-false, lt-ltb, le-ltb, eqb-true, ne_eqb, cond-true, cond-false, and_left, and_right, and_parts, and_from, or_cases, false≢true}
+use Rattle.std.proofs.lemmas.Bool.{cases_Bool, cases_eq, cases_lt, lt-ltb, le-ltb, eqb-true, ne_eqb, and_left, and_right, and_parts, and_from, or_cases, false≢true}
 use Rattle.std.proofs.lemmas.Bool.Decides.{nat_tests}
-use Rattle.std.proofs.lemmas.List.Elements.{All-contains, All-head, All-tail}
+use Rattle.std.proofs.lemmas.List.Elements.{All-contains}
 use Rattle.std.proofs.lemmas.List.Folds.{list_any_none, list_any-append}
 use Rattle.std.proofs.lemmas.List.Sorted.{list_any-IsPermutation}
 use Rattle.plain_values.specs.Points.{IsPoints, has}
 use Rattle.point_sets.specs.declared.TheConstants.{POINT_LIMIT}
 use Rattle.point_sets.proofs.Rising.{Contains-from_has, has-append, has-filter, has-cons_cases, has_tail, has_head, members_decide, rising-filter, rising_head, rising_tail, rising_cons}
 use Rattle.regent_tree.specs.Partitions.{point_named, is_point, is_among, numbers_at, points_where}
-use Rattle.partitions.specs.Links.{set_of, in_range, link, links_at, links_of, leads_from, targets_at, targets_of}
+use Rattle.partitions.specs.Links.{in_range, link, links_at, links_of, leads_from, targets_at, targets_of}
 use Rattle.partitions.specs.declared.links.Link.{Link}
-use Rattle.partitions.specs.declared.links.Direction.{Direction}
 use Rattle.partitions.specs.declared.links.Direction.TheVariants.{Forward, Backward}
 use Rattle.partitions.proofs.Gathering.{has-set_of, rising-set_of}
 
@@ -118,7 +117,7 @@ in_image parent set x p low (y ∷ ys) (z ∷ zs) =
     kept true = refl
     kept false = refl
 
-has-where : (test : ℤ → Bool) (x y : ℕ) (z : ℤ) (ys : List ℕ) (zs : List ℤ) → has (points_where test (y ∷ ys) (z ∷ zs)) x ≡ ((test z && eqb x y) || has (points_where test ys zs) x)
+pub has-where : (test : ℤ → Bool) (x y : ℕ) (z : ℤ) (ys : List ℕ) (zs : List ℤ) → has (points_where test (y ∷ ys) (z ∷ zs)) x ≡ ((test z && eqb x y) || has (points_where test ys zs) x)
 has-where test x y z ys zs = kept (test z)
   where
     kept : (b : Bool) → has (cond b (y ∷ points_where test ys zs) (points_where test ys zs)) x ≡ ((b && eqb x y) || has (points_where test ys zs) x)
@@ -150,13 +149,13 @@ module _ (parent r : List ℕ) (zs : List ℤ) (p : Bool) (links : List Link) (p
 -- ---- by field
 
 module _ (test : ℤ → Bool) where
-  where_within : (r : List ℕ) (zs : List ℤ) (x : ℕ) → has (points_where test r zs) x ≡ true → has r x ≡ true
+  pub where_within : (r : List ℕ) (zs : List ℤ) (x : ℕ) → has (points_where test r zs) x ≡ true → has r x ≡ true
   where_within [] zs x h = h
   where_within (y ∷ ys) [] x h = absurd (false≢true h)
   where_within (y ∷ ys) (z ∷ zs) x h =
       ⊎_elim (λ e. let same = eqb-true x y (and_parts (test z) (eqb x y) e).1 in subst (λ v. has (y ∷ ys) v ≡ true) (sym same) (has_head y ys)) (λ m. has_tail x y ys (where_within ys zs x m)) (or_cases (test z && eqb x y) (has (points_where test ys zs) x) (sym (has-where test x y z ys zs) ∙ h))
 
-  rising-where : (r : List ℕ) (zs : List ℤ) → IsStrictlyIncreasing r → IsStrictlyIncreasing (points_where test r zs)
+  pub rising-where : (r : List ℕ) (zs : List ℤ) → IsStrictlyIncreasing r → IsStrictlyIncreasing (points_where test r zs)
   rising-where [] zs up = up
   rising-where (y ∷ ys) [] up = λ k l. absurd (omega arith)
   rising-where (y ∷ ys) (z ∷ zs) up = kept (rising-where ys zs (rising_tail y ys up)) (test z)

@@ -2,6 +2,7 @@
 
 ghost use Rattle.std.specs.Prelude.{◌≡◌, ◌≤◌, IfOk, length};
 ghost use Rattle.regent_tree.specs.Partitions.{by_field_flag, by_field_sets};
+ghost use Rattle.partitions.specs.Laws.{ArePartsOf, NoneShared};
 
 use crate::COLOUR_LIMIT;
 use crate::links::{Direction, Links};
@@ -22,6 +23,8 @@ pub fn by_field(
     requires colours { colours ≤ COLOUR_LIMIT }
     ensures sets { IfOk result (λ r. r.0.items ≡ by_field_sets region.now values.now colours) }
     ensures flag { IfOk result (λ r. r.1 ≡ by_field_flag) }
+    ensures parts { IfOk result (λ r. ArePartsOf region.now r.0.items) }
+    ensures apart { IfOk result (λ r. NoneShared r.0.items) }
 {
     let links = Links::new(alloc, Direction::Backward, region, region, values, false)?;
     let sets = links.targets_of_first(alloc, colours)?;

@@ -3,6 +3,7 @@
 ghost use Rattle.std.specs.Prelude.{◌≡◌, IfOk, length};
 ghost use Rattle.regent_tree.specs.Partitions.{image_flag, image_sets};
 ghost use Rattle.regent_tree.specs.Partitions.{preimage_flag, preimage_sets};
+ghost use Rattle.partitions.specs.Laws.{ArePartsOf, NoneShared};
 
 use crate::links::{Direction, Links};
 use point_sets::PointSet;
@@ -26,6 +27,7 @@ pub fn image(
     ensures sets { IfOk result (λ r.
         r.0.items ≡ image_sets parent.now sets.now region.now values.now pointers) }
     ensures flag { IfOk result (λ r. r.1 ≡ image_flag) }
+    ensures parts { IfOk result (λ r. ArePartsOf parent.now r.0.items) }
 {
     let links = Links::new(alloc, Direction::Forward, parent, region, values, pointers)?;
     let images = links.targets_of_each(alloc, sets)?;
@@ -50,6 +52,8 @@ pub fn preimage(
     ensures sets { IfOk result (λ r.
         r.0.items ≡ preimage_sets parent.now sets.now region.now values.now pointers) }
     ensures flag { IfOk result (λ r. r.1 ≡ preimage_flag disjoint) }
+    ensures parts { IfOk result (λ r. ArePartsOf parent.now r.0.items) }
+    ensures apart { NoneShared sets.now → IfOk result (λ r. NoneShared r.0.items) }
 {
     let links = Links::new(alloc, Direction::Backward, parent, region, values, pointers)?;
     let preimages = links.targets_of_each(alloc, sets)?;

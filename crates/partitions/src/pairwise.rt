@@ -1,8 +1,10 @@
 //! Set operations on partitions, colour by colour.
 
-ghost use Rattle.std.specs.Prelude.{◌≡◌, IfOk};
+ghost use Rattle.std.specs.Prelude.{◌≡◌, ◌⊎◌, IfOk, List, ℕ};
 ghost use Rattle.regent_tree.specs.Partitions.{both_sets, each_with, either_flag, either_sets};
 ghost use Rattle.regent_tree.specs.Partitions.{minus_flag, minus_sets};
+ghost use Rattle.partitions.specs.Laws.{ArePartsOf, NoneShared};
+ghost use Rattle.partitions.specs.Laws.{BothFilters, EitherFilters, WithoutFilters};
 ghost use Rattle.partitions.specs.Pairwise.{made_by};
 
 use point_sets::PointSet;
@@ -18,6 +20,11 @@ pub fn both(
 ) -> Result<(Vec<PointSet>, bool), AllocError>
     ensures sets { IfOk result (λ r. r.0.items ≡ both_sets p.now q.now) }
     ensures flag { IfOk result (λ r. r.1 ≡ disjoint) }
+    ensures filters { BothFilters }
+    ensures parts { (parent : List ℕ) → ArePartsOf parent p.now
+        → IfOk result (λ r. ArePartsOf parent r.0.items) }
+    ensures apart { NoneShared p.now ⊎ NoneShared q.now
+        → IfOk result (λ r. NoneShared r.0.items) }
 {
     let sets = colour_by_colour(alloc, Operation::Both, p, q)?;
     Ok((sets, disjoint))
@@ -31,6 +38,9 @@ pub fn either_of(
 ) -> Result<(Vec<PointSet>, bool), AllocError>
     ensures sets { IfOk result (λ r. r.0.items ≡ either_sets p.now q.now) }
     ensures flag { IfOk result (λ r. r.1 ≡ either_flag) }
+    ensures filters { EitherFilters }
+    ensures parts { (parent : List ℕ) → ArePartsOf parent p.now → ArePartsOf parent q.now
+        → IfOk result (λ r. ArePartsOf parent r.0.items) }
 {
     let sets = colour_by_colour(alloc, Operation::Either, p, q)?;
     Ok((sets, false))
@@ -46,6 +56,10 @@ pub fn without(
 ) -> Result<(Vec<PointSet>, bool), AllocError>
     ensures sets { IfOk result (λ r. r.0.items ≡ minus_sets p.now q.now) }
     ensures flag { IfOk result (λ r. r.1 ≡ minus_flag disjoint) }
+    ensures filters { WithoutFilters }
+    ensures parts { (parent : List ℕ) → ArePartsOf parent p.now
+        → IfOk result (λ r. ArePartsOf parent r.0.items) }
+    ensures apart { NoneShared p.now → IfOk result (λ r. NoneShared r.0.items) }
 {
     let sets = colour_by_colour(alloc, Operation::Without, p, q)?;
     Ok((sets, disjoint))

@@ -2,6 +2,7 @@
 
 ghost use Rattle.std.specs.Prelude.{◌≡◌, ◌*◌, ◌/◌, ◌<◌, ◌≤◌, IfOk, length};
 ghost use Rattle.regent_tree.specs.Partitions.{equal_flag, equal_part, equal_sets};
+ghost use Rattle.partitions.specs.Laws.{ArePartsOf, NoneShared};
 
 use crate::listing::listed;
 use point_sets::PointSet;
@@ -16,6 +17,8 @@ pub fn equal(
 ) -> Result<(Vec<PointSet>, bool), AllocError>
     ensures sets { IfOk result (λ r. r.0.items ≡ equal_sets region.now colours) }
     ensures flag { IfOk result (λ r. r.1 ≡ equal_flag) }
+    ensures parts { IfOk result (λ r. ArePartsOf region.now r.0.items) }
+    ensures apart { IfOk result (λ r. NoneShared r.0.items) }
 {
     let count = region.len();
     let points = listed(alloc, region)?;

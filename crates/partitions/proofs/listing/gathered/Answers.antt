@@ -1,4 +1,3 @@
-use Rattle.std.proofs.Common.{rules}
 use Rattle.partitions.proofs.Gathering.{gathered_points, gathered_is}
 use Rattle.partitions.proofs.listing.gathered.Goals as goal
 

@@ -1,6 +1,8 @@
-use Rattle.std.proofs.Common.{◌≡◌, ℕ, suc, ◌+◌, ◌-◌, ◌*◌, ◌/◌, length, take, drop, ap, sym, ◌∙◌, refl, add-one}
+use Rattle.std.proofs.Common.{◌≡◌, length, ap, sym, ◌∙◌, refl, add-one, arith}
 use Rattle.regent_tree.specs.Partitions.{equal_part}
+use Rattle.partitions.proofs.Apart.{equal_apart}
 use Rattle.partitions.proofs.Colours.{colours_more}
+use Rattle.partitions.proofs.Inside.{equal_parts}
 use Rattle.partitions.proofs.parts.equal.Goals as goal
 
 pub loop-colour-preserved : goal.loop-colour-preserved
@@ -17,3 +19,17 @@ loop-colour-preserved c =
     let part : c.in_ok-from_sorted.field-0 ≡ equal_part r c.args.colours colour =
     c.in_ok-from_sorted.ensures.value ∙ rw (slice, first, end, count, add-one) refl in
     cc
+
+pub returns-clause-sets : goal.returns-clause-sets
+returns-clause-sets c =
+    let all : c.loop-colour.colour ≡ c.args.colours = omega arith in
+    let region = c.in_ok-points.ensures.value in
+    rw (c.loop-colour.invariant, all, region) refl
+
+pub returns-clause-parts : goal.returns-clause-parts
+returns-clause-parts c =
+    rw (returns-clause-sets c) (equal_parts c.args.region.now c.args.colours c.listed.ensures.points)
+
+pub returns-clause-apart : goal.returns-clause-apart
+returns-clause-apart c =
+    rw (returns-clause-sets c) (equal_apart c.args.region.now c.args.colours c.listed.ensures.points.rising)

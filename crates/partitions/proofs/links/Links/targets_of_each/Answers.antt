@@ -1,5 +1,4 @@
-use Rattle.std.proofs.Common.{◌≡◌, ◌<◌, All, length, get_or, take, rules, ap, sym, ◌∙◌}
-use Rattle.std.proofs.lemmas.List.{take_more, map_more, take_all}
+use Rattle.std.proofs.lemmas.List.{map_more, take_all}
 use Rattle.std.proofs.lemmas.List.Elements.{All-more}
 use Rattle.plain_values.specs.Points.{IsPoints}
 use Rattle.point_sets.specs.declared.TheConstants.{POINT_LIMIT}
