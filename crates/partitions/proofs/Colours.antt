@@ -1,5 +1,7 @@
 -- Lists with one set for each colour.
-use Rattle.std.proofs.Common.{◌≡◌, ℕ, ◌+◌, ◌<◌, ◌≤◌, true, List, [], ◌∷◌, ◌++◌, length, length-take, length-drop, get_or, take, drop, map, All, refl, sym, ap, ◌∙◌, arith, ⊎_elim, get_or-take, get_or-drop}
+use Rattle.std.proofs.Common.{◌≡◌, ℕ, ◌+◌, ◌<◌, ◌≤◌, true, List, [], ◌∷◌, ◌++◌, length, length-take}
+use Rattle.std.proofs.Common.{length-drop, get_or, take, drop, map, All, refl, sym, ap, ◌∙◌, arith}
+use Rattle.std.proofs.Common.{⊎_elim, get_or-take, get_or-drop}
 use Rattle.std.proofs.lemmas.Bool.{cases_lt, false≢true}
 use Rattle.std.proofs.lemmas.List.{map_push, get_or-map, get_or_past, length-map}
 use Rattle.std.proofs.lemmas.List.Elements.{All-head, All-tail, All-take, All-drop, All-from_get_or}
@@ -7,16 +9,21 @@ use Rattle.plain_values.specs.Points.{IsPoints, points, has}
 use Rattle.point_sets.proofs.Rising.{counted_from-+, get_or-counted_from, length-counted_from}
 use Rattle.partitions.specs.Laws.{colour, NoneShared}
 
-pub map_agree : {X Y : Type 0} (P : X → Type 0) (f g : X → Y) → ((x : X) → P x → f x ≡ g x) → (xs : List X) → All P xs → map f xs ≡ map g xs
+pub map_agree : {X Y : Type 0} (P : X → Type 0) (f g : X → Y) → ((x : X) → P x → f x ≡ g x) →
+    (xs : List X) → All P xs → map f xs ≡ map g xs
 map_agree P f g h [] a = refl
-map_agree P f g h (x ∷ xs) a = let e = h x (All-head P x xs a) in let t = map_agree P f g h xs (All-tail P x xs a) in rw (e, t) refl
+map_agree P f g h (x ∷ xs) a = let e = h x (All-head P x xs a) in
+    let t = map_agree P f g h xs (All-tail P x xs a) in rw (e, t) refl
 
-pub colours_more : {X : Type 0} (f : ℕ → X) (n : ℕ) → map f (points (n + 1)) ≡ map f (points n) ++ f n ∷ []
+pub colours_more : {X : Type 0} (f : ℕ → X) (n : ℕ) →
+    map f (points (n + 1)) ≡ map f (points n) ++ f n ∷ []
 colours_more f n =
     let zero_plus : 0 + n ≡ n = omega arith in
-    ap (map f) (counted_from-+ 0 n 1 ∙ ap (λ k. points n ++ k ∷ []) zero_plus) ∙ map_push f (points n) n
+    ap (map f) (counted_from-+ 0 n 1 ∙ ap (λ k. points n ++ k ∷ []) zero_plus)
+    ∙ map_push f (points n) n
 
-pub colours_agree : {X : Type 0} (f g : ℕ → X) (n : ℕ) → ((c : ℕ) → c < n → f c ≡ g c) → map f (points n) ≡ map g (points n)
+pub colours_agree : {X : Type 0} (f g : ℕ → X) (n : ℕ) → ((c : ℕ) → c < n → f c ≡ g c) →
+    map f (points n) ≡ map g (points n)
 colours_agree f g n h = map_agree (λ c. c < n) f g h (points n) below
   where
     below : All (λ c. c < n) (points n)
@@ -26,7 +33,8 @@ colours_agree f g n h = map_agree (λ c. c < n) f g h (points n) below
 
 -- ---- parts of a rising list
 
-pub part_points : (bound : ℕ) (xs : List ℕ) (j k : ℕ) → IsPoints bound xs → IsPoints bound (take k (drop j xs))
+pub part_points : (bound : ℕ) (xs : List ℕ) (j k : ℕ) → IsPoints bound xs →
+    IsPoints bound (take k (drop j xs))
 part_points bound xs j k p = record {
   rising = λ i l.
       let n = length-take k (drop j xs) in
@@ -34,8 +42,10 @@ part_points bound xs j k p = record {
       let here : i < k = omega arith in
       let next : i + 1 < k = omega arith in
       let r = p.rising (j + i) (omega arith) in
-      let a : get_or (take k (drop j xs)) i 0 ≡ get_or xs (j + i) 0 = get_or-take k (drop j xs) i 0 here ∙ get_or-drop j xs i 0 in
-      let b : get_or (take k (drop j xs)) (i + 1) 0 ≡ get_or xs (j + (i + 1)) 0 = get_or-take k (drop j xs) (i + 1) 0 next ∙ get_or-drop j xs (i + 1) 0 in
+      let a : get_or (take k (drop j xs)) i 0 ≡ get_or xs (j + i) 0 = get_or-take k
+      (drop j xs) i 0 here ∙ get_or-drop j xs i 0 in
+      let b : get_or (take k (drop j xs)) (i + 1) 0 ≡ get_or xs (j + (i + 1)) 0 = get_or-take k
+      (drop j xs) (i + 1) 0 next ∙ get_or-drop j xs (i + 1) 0 in
       let s : j + (i + 1) ≡ j + i + 1 = omega arith in
       rw (a, b, s) r;
   below = All-take (λ x. x < bound) k (drop j xs) (All-drop (λ x. x < bound) j xs p.below);
@@ -46,7 +56,8 @@ part_points bound xs j k p = record {
 pub colour_made : (f : ℕ → List ℕ) (n c : ℕ) → c < n → colour (map f (points n)) c ≡ f c
 colour_made f n c l =
     let m = length-counted_from 0 n in
-    get_or-map f (points n) c 0 [] (omega arith) ∙ ap f (get_or-counted_from 0 n c 0 l ∙ omega arith)
+    get_or-map f (points n) c 0 [] (omega arith)
+    ∙ ap f (get_or-counted_from 0 n c 0 l ∙ omega arith)
 
 pub colour_lacking : (sets : List (List ℕ)) (c : ℕ) → length sets ≤ c → colour sets c ≡ []
 colour_lacking sets c l = get_or_past sets c [] l
@@ -54,24 +65,32 @@ colour_lacking sets c l = get_or_past sets c [] l
 -- a colour with a point is there
 pub colour_there : (sets : List (List ℕ)) (c x : ℕ) → has (colour sets c) x ≡ true → c < length sets
 colour_there sets c x h =
-    ⊎_elim (λ l. l) (λ g. absurd (false≢true (sym (ap (λ s. has s x) (colour_lacking sets c g)) ∙ h))) (cases_lt c (length sets))
+    ⊎_elim (λ l. l) (λ g.
+    absurd (false≢true (sym (ap (λ s. has s x) (colour_lacking sets c g)) ∙ h)))
+    (cases_lt c (length sets))
 
 pub length_made : (f : ℕ → List ℕ) (n : ℕ) → length (map f (points n)) ≡ n
 length_made f n = length-map (points n) f ∙ length-counted_from 0 n
 
-pub all_made : (P : List ℕ → Type 0) (f : ℕ → List ℕ) (n : ℕ) → ((c : ℕ) → c < n → P (f c)) → All P (map f (points n))
+pub all_made : (P : List ℕ → Type 0) (f : ℕ → List ℕ) (n : ℕ) → ((c : ℕ) → c < n → P (f c)) →
+    All P (map f (points n))
 all_made P f n h =
-    All-from_get_or P (map f (points n)) [] (λ c l. let under : c < n = omega (arith, length_made f n) in rw (colour_made f n c under) (h c under))
+    All-from_get_or P (map f (points n)) [] (λ c l. let under : c < n = omega
+    (arith, length_made f n) in rw (colour_made f n c under) (h c under))
 
-pub none_shared_made : (f : ℕ → List ℕ) (n : ℕ) → ((c d x : ℕ) → c < n → d < n → has (f c) x ≡ true → has (f d) x ≡ true → c ≡ d) → NoneShared (map f (points n))
+pub none_shared_made : (f : ℕ → List ℕ) (n : ℕ) →
+    ((c d x : ℕ) → c < n → d < n → has (f c) x ≡ true → has (f d) x ≡ true → c ≡ d) →
+    NoneShared (map f (points n))
 none_shared_made f n h c d x a b =
     let m = length_made f n in
     let l : c < n = omega (arith, colour_there (map f (points n)) c x a) in
     let l' : d < n = omega (arith, colour_there (map f (points n)) d x b) in
-    h c d x l l' (sym (ap (λ s. has s x) (colour_made f n c l)) ∙ a) (sym (ap (λ s. has s x) (colour_made f n d l')) ∙ b)
+    h c d x l l' (sym (ap (λ s. has s x) (colour_made f n c l)) ∙ a)
+    (sym (ap (λ s. has s x) (colour_made f n d l')) ∙ b)
 
 -- a function of each set
-pub colour_mapped : (f : List ℕ → List ℕ) (sets : List (List ℕ)) (c x : ℕ) → has (colour (map f sets) c) x ≡ true → has (f (colour sets c)) x ≡ true
+pub colour_mapped : (f : List ℕ → List ℕ) (sets : List (List ℕ)) (c x : ℕ) →
+    has (colour (map f sets) c) x ≡ true → has (f (colour sets c)) x ≡ true
 colour_mapped f sets c x h =
     let l : c < length sets = omega (arith, colour_there (map f sets) c x h, length-map sets f) in
     sym (ap (λ s. has s x) (get_or-map f sets c [] [] l)) ∙ h

@@ -1,5 +1,6 @@
 -- Lists of points and their sets.
-use Rattle.std.proofs.Common.{◌≡◌, ℕ, ◌+◌, ◌<◌, ◌||◌, false, eqb, List, [], ◌∷◌, ◌++◌, length, get_or, take, refl, Some, slice_get, Contains, All, sym, ◌∙◌, arith}
+use Rattle.std.proofs.Common.{◌≡◌, ℕ, ◌+◌, ◌<◌, ◌||◌, false, eqb, List, [], ◌∷◌, ◌++◌, length}
+use Rattle.std.proofs.Common.{get_or, take, refl, Some, slice_get, Contains, All, sym, ◌∙◌, arith}
 use Rattle.std.specs.List.{dedup}
 use Rattle.std.specs.List.Retain.{IsFiltered, DiffersFromLast}
 use Rattle.std.specs.List.Sorted.{IsPermutation, IsSorted, IsStrictlyIncreasing}
@@ -27,14 +28,16 @@ pub rising-set_of : (xs : List ℕ) → IsStrictlyIncreasing (set_of xs)
 rising-set_of xs = rising-union_of xs [] (λ k l. absurd (omega arith))
 
 -- what a sort and a dedup leave of a list
-module _ (xs ys zs : List ℕ) (moved : IsPermutation xs ys) (sorted : IsSorted nat_cmp ys) (once : IsFiltered (DiffersFromLast eqb) [] ys zs) where
+module _ (xs ys zs : List ℕ) (moved : IsPermutation xs ys) (sorted : IsSorted nat_cmp ys)
+    (once : IsFiltered (DiffersFromLast eqb) [] ys zs) where
   kept : zs ≡ dedup eqb ys
   kept = dedup_is eqb ys zs once
 
   pub gathered_points : All (λ x. x < POINT_LIMIT) xs → IsPoints POINT_LIMIT zs
   gathered_points below = rw kept (record {
     rising = IsStrictlyIncreasing-dedup ys sorted;
-    below = All-dedup eqb (λ x. x < POINT_LIMIT) ys (All-permutation (λ x. x < POINT_LIMIT) xs ys moved below);
+    below = All-dedup eqb (λ x. x < POINT_LIMIT) ys
+        (All-permutation (λ x. x < POINT_LIMIT) xs ys moved below);
   })
 
   there : (z : ℕ) → Contains zs z → Contains xs z
@@ -47,7 +50,8 @@ module _ (xs ys zs : List ℕ) (moved : IsPermutation xs ys) (sorted : IsSorted 
 
   pub gathered_is : IsPoints POINT_LIMIT zs → zs ≡ set_of xs
   gathered_is points =
-      members_decide zs (set_of xs) points.rising (rising-set_of xs) (λ z. same z ∙ sym (has-set_of xs z))
+      members_decide zs (set_of xs) points.rising (rising-set_of xs)
+      (λ z. same z ∙ sym (has-set_of xs z))
     where
       same : (z : ℕ) → has zs z ≡ has xs z
       same z =
@@ -56,7 +60,8 @@ module _ (xs ys zs : List ℕ) (moved : IsPermutation xs ys) (sorted : IsSorted 
           same_from_decides (has zs z) (has xs z) a (λ h. back z (b.0 h), λ c. b.1 (there z c))
 
 -- a list that is read place by place
-pub place_read : (xs : List ℕ) (i x : ℕ) → i < length xs → slice_get xs i ≡ Some x → take i xs ++ x ∷ [] ≡ take (i + 1) xs
+pub place_read : (xs : List ℕ) (i x : ℕ) → i < length xs → slice_get xs i ≡ Some x →
+    take i xs ++ x ∷ [] ≡ take (i + 1) xs
 place_read xs i x l e =
     let at = slice_get-get_or xs i 0 l in
     let same : x ≡ get_or xs i 0 = cc in

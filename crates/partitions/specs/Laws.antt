@@ -1,5 +1,6 @@
 -- What is true of partitions, whatever the sets: laws over the definitions.
-use Rattle.std.specs.Prelude.{◌≡◌, ℕ, List, [], All, map, filter, length, slice_index_or, Bool, not, ◌&&◌, ◌||◌, IsTrue}
+use Rattle.std.specs.Prelude.{◌≡◌, ℕ, List, [], All, map, filter, length, slice_index_or, Bool, not}
+use Rattle.std.specs.Prelude.{◌&&◌, ◌||◌, IsTrue}
 use Rattle.std.specs.List.Sorted.{IsStrictlyIncreasing}
 use Rattle.plain_values.specs.Points.{points, has, within}
 use Rattle.regent_tree.specs.Partitions.{both_sets, either_sets, minus_sets}

@@ -1,5 +1,6 @@
 -- Links between points, which the numbers of a field make, and what they lead to.
-use Rattle.std.specs.Prelude.{ℕ, ℤ, ◌<◌, List, [], ◌∷◌, ◌++◌, All, map, filter, Bool, cond, nat_lt, ◌==◌, Option, Some, None}
+use Rattle.std.specs.Prelude.{ℕ, ℤ, ◌<◌, List, [], ◌∷◌, ◌++◌, All, map, filter, Bool, cond, nat_lt}
+use Rattle.std.specs.Prelude.{◌==◌, Option, Some, None}
 use Rattle.std.specs.List.{flat_map}
 use Rattle.std.specs.List.Sorted.{IsNonDecreasingBy}
 use Rattle.plain_values.specs.Points.{has, union_of}

@@ -9,8 +9,8 @@ use crate::links::{Direction, Links};
 use point_sets::PointSet;
 use std::alloc::{AllocError, Global};
 
-/// `partition(region.f, colours)`: colour `c` has the points whose field is `c`. A point whose number
-/// is no colour is in no set.
+/// `partition(region.f, colours)`: colour `c` has the points whose field is `c`. A point whose
+/// number is no colour is in no set.
 ///
 /// `values` has the field's number at each point of the region, by place.
 pub fn by_field(

@@ -9,12 +9,12 @@ use crate::links::{Direction, Links};
 use point_sets::PointSet;
 use std::alloc::{AllocError, Global};
 
-/// `image(parent, p, region.f)`: colour `c` has the points of the parent that the field names at some
-/// point of `p[c]`.
+/// `image(parent, p, region.f)`: colour `c` has the points of the parent that the field names at
+/// some point of `p[c]`.
 ///
-/// `sets` are those of `p`, and are within the region; `values` has the field's number at each point
-/// of the region, by place. `pointers` says that the numbers are kept pointers: below 0 is null, and
-/// the point is the number modulo 2^32.
+/// `sets` are those of `p`, within the region; `values` has the field's number at each point of the
+/// region, by place. `pointers` says that the numbers are kept pointers: one below 0 is null, any
+/// other stands for the point with its number modulo 2^32.
 pub fn image(
     alloc: Global,
     parent: &PointSet,
@@ -34,11 +34,11 @@ pub fn image(
     Ok((images, false))
 }
 
-/// `preimage(parent, p, region.f)`: colour `c` has the points of the parent whose field names a point
-/// of `p[c]`.
+/// `preimage(parent, p, region.f)`: colour `c` has the points of the parent whose field names a
+/// point of `p[c]`.
 ///
-/// `sets` and `disjoint` are those of `p`. The parent is within the region; `values` has the field's
-/// number at each point of the region, by place, and `pointers` says how it is read, as in `image`.
+/// `sets` and `disjoint` are those of `p`. The parent is within the region; `values` has the
+/// field's number at each point of the region, by place, read as `pointers` says (see `image`).
 pub fn preimage(
     alloc: Global,
     parent: &PointSet,

@@ -10,8 +10,8 @@ ghost use Rattle.partitions.specs.Pairwise.{made_by};
 use point_sets::PointSet;
 use std::alloc::{AllocError, Global};
 
-/// `p & q`: the points in `p[c]` and in `q[c]`. The colours are those of `p`, and one that `q` lacks
-/// counts as empty. `disjoint` says that p's sets or q's share no points.
+/// `p & q`: the points in `p[c]` and in `q[c]`. The colours are those of `p`, and one that `q`
+/// lacks counts as empty. `disjoint` says that p's sets or q's share no points.
 pub fn both(
     alloc: Global,
     p: &[PointSet],

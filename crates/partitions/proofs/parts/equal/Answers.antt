@@ -28,8 +28,10 @@ returns-clause-sets c =
 
 pub returns-clause-parts : goal.returns-clause-parts
 returns-clause-parts c =
-    rw (returns-clause-sets c) (equal_parts c.args.region.now c.args.colours c.listed.ensures.points)
+    rw (returns-clause-sets c) (equal_parts c.args.region.now c.args.colours
+    c.listed.ensures.points)
 
 pub returns-clause-apart : goal.returns-clause-apart
 returns-clause-apart c =
-    rw (returns-clause-sets c) (equal_apart c.args.region.now c.args.colours c.listed.ensures.points.rising)
+    rw (returns-clause-sets c) (equal_apart c.args.region.now c.args.colours
+    c.listed.ensures.points.rising)

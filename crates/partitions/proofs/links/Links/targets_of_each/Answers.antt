@@ -13,11 +13,15 @@ loop-set-preserved c =
     let made = c.in_ok-targets-2.ensures in
     let slice = c.as_slice.ensures.value in
     let points = c.in_ok-points.ensures.value in
-    let more = map_more (targets_of c.args.self.now) c.args.sets.now c.loop-set.set-index c.set-item.result c.loop-set-test.true in
+    let more = map_more (targets_of c.args.self.now) c.args.sets.now c.loop-set.set-index
+    c.set-item.result c.loop-set-test.true in
     record {
       sets = cc;
-      points = All-more (IsPoints POINT_LIMIT) c.args.sets.now c.loop-set.set-index c.set-item.result c.loop-set-test.true c.loop-set.invariant.points (rw (← at) c.in_ok-points.ensures.points);
+      points = All-more (IsPoints POINT_LIMIT) c.args.sets.now c.loop-set.set-index
+          c.set-item.result c.loop-set-test.true c.loop-set.invariant.points
+          (rw (← at) c.in_ok-points.ensures.points);
     }
 
 pub returns-clause-points : goal.returns-clause-points
-returns-clause-points c = rw (← take_all c.loop-set.set-index c.args.sets.now c.loop-set-test.false) c.loop-set.invariant.points
+returns-clause-points c = rw (← take_all c.loop-set.set-index c.args.sets.now c.loop-set-test.false)
+    c.loop-set.invariant.points
