@@ -13,7 +13,7 @@ use Rattle.point_sets.proofs.Rising.{Contains-from_has, has-filter, rising_head,
 use Rattle.regent_tree.specs.Partitions.{point_named, is_point, is_among, points_where, equal_part}
 use Rattle.regent_tree.specs.Partitions.{equal_sets, by_field_sets, preimage_sets}
 use Rattle.partitions.specs.Laws.{colour, NoneShared}
-use Rattle.partitions.proofs.Colours.{none_shared_made, colour_mapped}
+use Rattle.partitions.proofs.Colours.{InOneAtMost, none_shared, in_one_at_most, none_shared_made, colour_mapped}
 use Rattle.partitions.proofs.Reached.{has-where, where_within}
 
 -- ---- equal parts
@@ -117,23 +117,26 @@ field_apart r zs n up =
 pub preimage_apart : (parent : List ℕ) (sets : List (List ℕ)) (r : List ℕ) (zs : List ℤ)
     (p : Bool) → IsStrictlyIncreasing r → NoneShared sets →
     NoneShared (preimage_sets parent sets r zs p)
-preimage_apart parent sets r zs p up apart c d x a b =
-    let both = where_shared (test c) (test d) r zs x up (seen c a) (seen d b) in
-    one_set (point_named p both.0) both.1 both.2
+preimage_apart parent sets r zs p up apart = none_shared (preimage_sets parent sets r zs p) one
   where
     test : ℕ → ℤ → Bool
     test e z = is_among (colour sets e) (point_named p z)
 
-    seen : (e : ℕ) → has (colour (preimage_sets parent sets r zs p) e) x ≡ true →
+    seen : (e x : ℕ) → has (colour (preimage_sets parent sets r zs p) e) x ≡ true →
         has (points_where (test e) r zs) x ≡ true
-    seen e h =
+    seen e x h =
         let whole = colour_mapped
         (λ set. filter (has (points_where (λ z. is_among set (point_named p z)) r zs)) parent)
         sets e x h in
         (and_parts (has parent x) (has (points_where (test e) r zs) x)
         (sym (has-filter (has (points_where (test e) r zs)) parent x) ∙ whole)).1
 
-    one_set : (o : Option ℕ) → is_among (colour sets c) o ≡ true →
+    one_set : (c d : ℕ) (o : Option ℕ) → is_among (colour sets c) o ≡ true →
         is_among (colour sets d) o ≡ true → c ≡ d
-    one_set None a b = absurd (false≢true a)
-    one_set (Some n) a b = apart c d n a b
+    one_set c d None a b = absurd (false≢true a)
+    one_set c d (Some n) a b = in_one_at_most sets apart c d n a b
+
+    one : InOneAtMost (preimage_sets parent sets r zs p)
+    one c d x a b =
+        let both = where_shared (test c) (test d) r zs x up (seen c x a) (seen d x b) in
+        one_set c d (point_named p both.0) both.1 both.2

@@ -1,12 +1,13 @@
 -- Lists with one set for each colour.
-use Rattle.std.proofs.Common.{◌≡◌, ℕ, ◌+◌, ◌<◌, ◌≤◌, true, List, [], ◌∷◌, ◌++◌, length, length-take}
+use Rattle.std.proofs.Common.{◌&&◌, ◌≡◌, ℕ, ◌+◌, ◌<◌, ◌≤◌, true, List, [], ◌∷◌, ◌++◌, length, length-take}
 use Rattle.std.proofs.Common.{length-drop, get_or, take, drop, map, All, refl, sym, ap, ◌∙◌, arith}
 use Rattle.std.proofs.Common.{⊎_elim, get_or-take, get_or-drop}
-use Rattle.std.proofs.lemmas.Bool.{cases_lt, false≢true}
+use Rattle.std.proofs.lemmas.Bool.{cases_Bool, cases_lt, cases_order, false≢true, and_parts, and_from}
 use Rattle.std.proofs.lemmas.List.{map_push, get_or-map, get_or_past, length-map}
 use Rattle.std.proofs.lemmas.List.Elements.{All-head, All-tail, All-take, All-drop, All-from_get_or}
-use Rattle.plain_values.specs.Points.{IsPoints, points, has}
+use Rattle.plain_values.specs.Points.{IsPoints, points, has, meets}
 use Rattle.point_sets.proofs.Rising.{counted_from-+, get_or-counted_from, length-counted_from}
+use Rattle.point_sets.proofs.Rising.{meets_at, meets_where}
 use Rattle.partitions.specs.Laws.{colour, NoneShared}
 
 pub map_agree : {X Y : Type 0} (P : X → Type 0) (f g : X → Y) → ((x : X) → P x → f x ≡ g x) →
@@ -78,15 +79,45 @@ all_made P f n h =
     All-from_get_or P (map f (points n)) [] (λ c l. let under : c < n = omega
     (arith, length_made f n) in rw (colour_made f n c under) (h c under))
 
+-- each point is in one colour at most
+abbrev pub InOneAtMost : List (List ℕ) → Type 0
+InOneAtMost sets =
+    (c d x : ℕ) → has (colour sets c) x ≡ true → has (colour sets d) x ≡ true → c ≡ d
+
+pub none_shared : (sets : List (List ℕ)) → InOneAtMost sets → NoneShared sets
+none_shared sets one c d l l' =
+    ⊎_elim (λ e. absurd (twice (meets_where (colour sets c) (colour sets d) e))) (λ e. e)
+    (cases_Bool (meets (colour sets c) (colour sets d)))
+  where
+    twice : (x : ℕ) × ((has (colour sets c) x && has (colour sets d) x) ≡ true) → ⊥
+    twice w =
+        let both = and_parts (has (colour sets c) w.0) (has (colour sets d) w.0) w.1 in
+        let same = one c d w.0 both.0 both.1 in
+        absurd (omega arith)
+
+pub in_one_at_most : (sets : List (List ℕ)) → NoneShared sets → InOneAtMost sets
+in_one_at_most sets apart c d x a b =
+    ⊎_elim (λ e. e) (λ o. absurd (⊎_elim (λ l. shared c d a b l) (λ l. shared d c b a l) o))
+    (cases_order c d)
+  where
+    shared : (c d : ℕ) → has (colour sets c) x ≡ true → has (colour sets d) x ≡ true → c < d → ⊥
+    shared c d a b l =
+        let both = and_from (has (colour sets c) x) (has (colour sets d) x) a b in
+        let meet = meets_at (colour sets c) (colour sets d) x both in
+        false≢true (sym (apart c d l (colour_there sets d x b)) ∙ meet)
+
 pub none_shared_made : (f : ℕ → List ℕ) (n : ℕ) →
     ((c d x : ℕ) → c < n → d < n → has (f c) x ≡ true → has (f d) x ≡ true → c ≡ d) →
     NoneShared (map f (points n))
-none_shared_made f n h c d x a b =
-    let m = length_made f n in
-    let l : c < n = omega (arith, colour_there (map f (points n)) c x a) in
-    let l' : d < n = omega (arith, colour_there (map f (points n)) d x b) in
-    h c d x l l' (sym (ap (λ s. has s x) (colour_made f n c l)) ∙ a)
-    (sym (ap (λ s. has s x) (colour_made f n d l')) ∙ b)
+none_shared_made f n h = none_shared (map f (points n)) one
+  where
+    one : InOneAtMost (map f (points n))
+    one c d x a b =
+        let m = length_made f n in
+        let l : c < n = omega (arith, colour_there (map f (points n)) c x a) in
+        let l' : d < n = omega (arith, colour_there (map f (points n)) d x b) in
+        h c d x l l' (sym (ap (λ s. has s x) (colour_made f n c l)) ∙ a)
+        (sym (ap (λ s. has s x) (colour_made f n d l')) ∙ b)
 
 -- a function of each set
 pub colour_mapped : (f : List ℕ → List ℕ) (sets : List (List ℕ)) (c x : ℕ) →

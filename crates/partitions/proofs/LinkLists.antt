@@ -28,9 +28,9 @@ at_below : (d : Direction) (parent : List ℕ) (x : ℕ) (o : Option ℕ) → x 
     All LeadsBelow (links_at d parent x (in_range o))
 at_below d parent x None l = All-nil LeadsBelow
 at_below d parent x (Some n) l =
-    ⊎_elim (λ e. rw (cond-true (ltb n POINT_LIMIT) (Some n) None e)
-    (each d (ltb-true n POINT_LIMIT e))) (λ e. rw
-    (cond-false (ltb n POINT_LIMIT) (Some n) None e) (All-nil LeadsBelow))
+    ⊎_elim
+    (λ e. rw (cond-true (ltb n POINT_LIMIT) (Some n) None e) (each d (ltb-true n POINT_LIMIT e)))
+    (λ e. rw (cond-false (ltb n POINT_LIMIT) (Some n) None e) (All-nil LeadsBelow))
     (cases_Bool (ltb n POINT_LIMIT))
   where
     one : (b : Bool) (k : Link) → k.to < POINT_LIMIT → All LeadsBelow (cond b (k ∷ []) [])
@@ -46,9 +46,9 @@ pub links_below : (d : Direction) (parent : List ℕ) (p : Bool) (xs : List ℕ)
 links_below d parent p [] zs below = All-nil LeadsBelow
 links_below d parent p (x ∷ xs) [] below = All-nil LeadsBelow
 links_below d parent p (x ∷ xs) (z ∷ zs) below =
-    All-append LeadsBelow (links_at d parent x (in_range (point_named p z)))
-    (links_of d parent p xs zs) (at_below d parent x (point_named p z)
-    (All-head (λ y. y < POINT_LIMIT) x xs below))
+    All-append LeadsBelow
+    (links_at d parent x (in_range (point_named p z))) (links_of d parent p xs zs)
+    (at_below d parent x (point_named p z) (All-head (λ y. y < POINT_LIMIT) x xs below))
     (links_below d parent p xs zs (All-tail (λ y. y < POINT_LIMIT) x xs below))
 
 pub targets_below : (links : List Link) (ys : List ℕ) → AreLinks links →
@@ -89,8 +89,8 @@ module _ (links : List Link) (point first count : ℕ)
     (more : IsPartitionPoint (λ (l : Link). leb l.from point ≡ true)
     (λ (l : Link). leb l.from point ≡ false) (drop first links) count)
     (in_first : first ≤ length links) (in_count : count ≤ length (drop first links)) where
-  parted : links ≡ take
-      first links ++ (take count (drop first links) ++ drop count (drop first links))
+  parted : links
+      ≡ take first links ++ (take count (drop first links) ++ drop count (drop first links))
   parted =
       sym (ap (λ t. take first links ++ t) (take-append-drop count (drop first links))
       ∙ take-append-drop first links)
@@ -98,9 +98,8 @@ module _ (links : List Link) (point first count : ℕ)
   before : All (λ (l : Link). leads_from point l ≡ false) (take first links)
   before k d m =
       let under : k < first = omega (arith, length-take-le first links in_first) in
-      rw (get_or-take first links k d under) (ne_eqb _ point
-      (λ e. let low = ltb-true (get_or links k d).from point (some.0 k d (omega arith) under) in
-      absurd (omega arith)))
+      let low = ltb-true (get_or links k d).from point (some.0 k d (omega arith) under) in
+      rw (get_or-take first links k d under) (ne_eqb _ point (λ e. absurd (omega arith)))
 
   within : All (λ (l : Link). leads_from point l ≡ true) (take count (drop first links))
   within k d m =
@@ -116,12 +115,11 @@ module _ (links : List Link) (point first count : ℕ)
 
   after : All (λ (l : Link). leads_from point l ≡ false) (drop count (drop first links))
   after k d m =
-      let there : count + k < length (drop first links) = omega
-      (arith, length-drop count (drop first links)) in
-      rw (get_or-drop count (drop first links) k d)
-      (ne_eqb _ point (λ e. let high = leb-false
-      (get_or (drop first links) (count + k) d).from point
-      (more.1 (count + k) d (omega arith) there) in absurd (omega arith)))
+      let rest = drop first links in
+      let there : count + k < length rest = omega (arith, length-drop count rest) in
+      let behind = more.1 (count + k) d (omega arith) there in
+      let high = leb-false (get_or rest (count + k) d).from point behind in
+      rw (get_or-drop count rest k d) (ne_eqb _ point (λ e. absurd (omega arith)))
 
   links_between : take count (drop first links) ≡ filter (leads_from point) links
   links_between =

@@ -11,7 +11,8 @@ use Rattle.point_sets.proofs.Rising.{within_from_each}
 use Rattle.regent_tree.specs.Partitions.{each_with, both_sets, either_sets, minus_sets}
 use Rattle.partitions.specs.Laws.{colour, NoneShared, ArePartsOf, BothFilters, EitherFilters}
 use Rattle.partitions.specs.Laws.{WithoutFilters}
-use Rattle.partitions.proofs.Colours.{colours_agree, colour_lacking, none_shared_made, all_made}
+use Rattle.partitions.proofs.Colours.{colours_agree, colour_lacking, all_made}
+use Rattle.partitions.proofs.Colours.{in_one_at_most, none_shared_made}
 use Rattle.partitions.proofs.Inside.{IsPartOf}
 
 -- ---- colour by colour
@@ -29,13 +30,14 @@ each_made f (p ∷ ps) [] =
     (each_made f ps [] ∙
     sym (map_shifted (λ c. f (colour (p ∷ ps) c) (colour [] c)) 0 (length ps) ∙ same))
   where
-    same : map (λ c. f (colour ps c) (colour [] (suc c))) (points (length ps)) ≡ map
-        (λ c. f (colour ps c) (colour [] c)) (points (length ps))
+    same : map (λ c. f (colour ps c) (colour [] (suc c))) (points (length ps))
+        ≡ map (λ c. f (colour ps c) (colour [] c)) (points (length ps))
     same = colours_agree (λ c. f (colour ps c) (colour [] (suc c)))
         (λ c. f (colour ps c) (colour [] c)) (length ps) (λ c l. refl)
 each_made f (p ∷ ps) (q ∷ qs) =
-    ap (λ t. f p q ∷ t) (each_made f ps qs ∙ sym
-    (map_shifted (λ c. f (colour (p ∷ ps) c) (colour (q ∷ qs) c)) 0 (length ps)))
+    ap (λ t. f p q ∷ t)
+    (each_made f ps qs
+    ∙ sym (map_shifted (λ c. f (colour (p ∷ ps) c) (colour (q ∷ qs) c)) 0 (length ps)))
 
 -- ---- each filters the parent
 
@@ -99,7 +101,8 @@ pub both_apart : (ps qs : List (List ℕ)) → NoneShared ps ⊎ NoneShared qs �
 both_apart ps qs h =
     rw (each_made meet_of ps qs) (none_shared_made (λ c. meet_of (colour ps c) (colour qs c))
     (length ps) (λ c d x l l' a b. let p = parts c x a in let q = parts d x b in
-    ⊎_elim (λ apart. apart c d x p.0 q.0) (λ apart. apart c d x p.1 q.1) h))
+    ⊎_elim (λ apart. in_one_at_most ps apart c d x p.0 q.0)
+    (λ apart. in_one_at_most qs apart c d x p.1 q.1) h))
   where
     parts : (c x : ℕ) → has (meet_of (colour ps c) (colour qs c)) x ≡ true →
         (has (colour ps c) x ≡ true) × (has (colour qs c) x ≡ true)
@@ -110,7 +113,7 @@ both_apart ps qs h =
 pub without_apart : (ps qs : List (List ℕ)) → NoneShared ps → NoneShared (minus_sets ps qs)
 without_apart ps qs h =
     rw (each_made minus_of ps qs) (none_shared_made (λ c. minus_of (colour ps c) (colour qs c))
-    (length ps) (λ c d x l l' a b. h c d x (left c x a) (left d x b)))
+    (length ps) (λ c d x l l' a b. in_one_at_most ps h c d x (left c x a) (left d x b)))
   where
     left : (c x : ℕ) → has (minus_of (colour ps c) (colour qs c)) x ≡ true →
         has (colour ps c) x ≡ true
@@ -125,8 +128,8 @@ part_of_part : (test : ℕ → Bool) (parent set : List ℕ) → IsPartOf parent
 part_of_part test parent set h = (
   rising-filter test set h.0,
   within_from_each (filter test set) parent
-      (λ x m. within_each set
-      parent h.1 x (and_parts (has set x) (test x) (sym (has-filter test set x) ∙ m)).0),
+      (λ x m. within_each set parent h.1 x
+      (and_parts (has set x) (test x) (sym (has-filter test set x) ∙ m)).0),
 )
 
 pub both_parts : (parent : List ℕ) (ps qs : List (List ℕ)) → ArePartsOf parent ps →

@@ -72,10 +72,11 @@ has-targets_at [] y x = refl
 has-targets_at (l ∷ ls) y x =
     kept (leads_from y l) ∙ ap (λ b. (leads_from y l && eqb x l.to) || b) (has-targets_at ls y x)
   where
-    kept : (b : Bool) → has
-        (map (λ (k : Link). k.to)
-        (cond b (l ∷ filter (leads_from y) ls) (filter (leads_from y) ls))) x ≡
-        ((b && eqb x l.to) || has (targets_at ls y) x)
+    rest : List Link
+    rest = filter (leads_from y) ls
+
+    kept : (b : Bool) → has (map (λ (k : Link). k.to) (cond b (l ∷ rest) rest)) x
+        ≡ ((b && eqb x l.to) || has (map (λ (k : Link). k.to) rest) x)
     kept true = refl
     kept false = refl
 
@@ -86,8 +87,8 @@ has-targets links (y ∷ ys) x =
     has-append (targets_at links y) (flat_map (targets_at links) ys) x
     ∙ ap (λ b. b || has (flat_map (targets_at links) ys) x) (has-targets_at links y x)
     ∙ ap (λ b. list_any (λ (l : Link). leads_from y l && eqb x l.to) links || b)
-    (has-targets links ys x) ∙ sym (list_any-or (λ (l : Link). leads_from y l && eqb x l.to)
-    (reaches ys x) links)
+    (has-targets links ys x)
+    ∙ sym (list_any-or (λ (l : Link). leads_from y l && eqb x l.to) (reaches ys x) links)
     ∙ list_any-agree (λ (l : Link). (leads_from y l && eqb x l.to) || reaches ys x l)
     (reaches (y ∷ ys) x) (λ l. shared (leads_from y l) (has ys l.from) (eqb x l.to)) links
 
@@ -144,12 +145,11 @@ in_image parent set x p low [] zs = sym (and_right (has parent x) false refl)
 in_image parent set x p low (y ∷ ys) [] = sym (and_right (has parent x) false refl)
 in_image parent set x p low (y ∷ ys) (z ∷ zs) =
     list_any-append (reaches set x) (links_at Forward parent y (in_range (point_named p z)))
-    (links_of Forward parent p ys zs) ∙ ap
-    (λ b. b || list_any (reaches set x) (links_of Forward parent p ys zs))
+    (links_of Forward parent p ys zs)
+    ∙ ap (λ b. b || list_any (reaches set x) (links_of Forward parent p ys zs))
     (at_forward parent set x y (point_named p z) low)
-    ∙ ap (λ b. (has parent x && (has set y && named z)) || b)
-    (in_image parent set x p low ys zs) ∙ spread (has parent x) (has set y && named z)
-    (list_any named (numbers_at set ys zs))
+    ∙ ap (λ b. (has parent x && (has set y && named z)) || b) (in_image parent set x p low ys zs)
+    ∙ spread (has parent x) (has set y && named z) (list_any named (numbers_at set ys zs))
     ∙ ap (λ b. has parent x && b) (sym (kept (has set y)))
   where
     named : ℤ → Bool
@@ -179,8 +179,8 @@ in_preimage parent set x p low (y ∷ ys) [] = sym (and_right (has parent x) fal
 in_preimage parent set x p low (y ∷ ys) (z ∷ zs) =
     let test = λ (v : ℤ). is_among set (point_named p v) in
     list_any-append (reaches set x) (links_at Backward parent y (in_range (point_named p z)))
-    (links_of Backward parent p ys zs) ∙ ap
-    (λ b. b || list_any (reaches set x) (links_of Backward parent p ys zs))
+    (links_of Backward parent p ys zs)
+    ∙ ap (λ b. b || list_any (reaches set x) (links_of Backward parent p ys zs))
     (at_backward parent set x y (point_named p z) low)
     ∙ ap (λ b. (has parent x && (test z && eqb x y)) || b)
     (in_preimage parent set x p low ys zs)
@@ -208,8 +208,8 @@ module _ (parent r : List ℕ) (zs : List ℤ) (p : Bool) (links : List Link)
       ∙ sym (has-filter test parent x))
 
   pub preimage_is : IsPermutation (links_of Backward parent p r zs) links → (set : List ℕ) →
-      IsPoints POINT_LIMIT set → targets_of links set ≡ filter
-      (has (points_where (λ z. is_among set (point_named p z)) r zs)) parent
+      IsPoints POINT_LIMIT set → targets_of links set
+      ≡ filter (has (points_where (λ z. is_among set (point_named p z)) r zs)) parent
   preimage_is moved set inside =
       let test = has (points_where (λ z. is_among set (point_named p z)) r zs) in
       members_decide (targets_of links set) (filter test parent)

@@ -1,8 +1,8 @@
 -- What is true of partitions, whatever the sets: laws over the definitions.
-use Rattle.std.specs.Prelude.{◌≡◌, ℕ, List, [], All, map, filter, length, slice_index_or, Bool, not}
+use Rattle.std.specs.Prelude.{◌≡◌, ℕ, ◌<◌, false, List, [], All, map, filter, length, slice_index_or, Bool, not}
 use Rattle.std.specs.Prelude.{◌&&◌, ◌||◌, IsTrue}
 use Rattle.std.specs.List.Sorted.{IsStrictlyIncreasing}
-use Rattle.plain_values.specs.Points.{points, has, within}
+use Rattle.plain_values.specs.Points.{points, has, meets, within}
 use Rattle.regent_tree.specs.Partitions.{both_sets, either_sets, minus_sets}
 
 -- the set of a colour: no points where the colour is lacking
@@ -12,7 +12,7 @@ colour sets c = slice_index_or sets c []
 -- no two colours share a point
 abbrev pub NoneShared : List (List ℕ) → Type 0
 NoneShared sets =
-    (c d x : ℕ) → IsTrue (has (colour sets c) x) → IsTrue (has (colour sets d) x) → c ≡ d
+    (c d : ℕ) → c < d → d < length sets → meets (colour sets c) (colour sets d) ≡ false
 
 -- each set is a rising part of the parent
 abbrev pub ArePartsOf : List ℕ → List (List ℕ) → Type 0
