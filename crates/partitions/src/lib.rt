@@ -1,0 +1,23 @@
+//! Partition operations, after Dependent Partitioning (OOPSLA 2016).
+//!
+//! Each call makes the sets of a partition, colour by colour, and says whether no two of them share
+//! a point.
+#![tactic(auto)]
+
+mod fields;
+mod images;
+mod links;
+mod listing;
+mod pairwise;
+mod parts;
+
+pub use fields::by_field;
+pub use images::{image, preimage};
+pub use pairwise::{both, either_of, without};
+pub use parts::equal;
+
+/// How many colours a partition may have at most.
+pub const COLOUR_LIMIT: u32 = 65_536;
+
+#[cfg(test)]
+mod tests;
