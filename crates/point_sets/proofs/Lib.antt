@@ -5,3 +5,4 @@ pub mod Rising
 mod RunLists
 mod RunPush
 mod RunSearch
+mod Stretching

@@ -1,4 +1,5 @@
 pub mod Laws
 pub mod Operations
 pub mod Runs
+pub mod Stretches
 pub mod Sweeps

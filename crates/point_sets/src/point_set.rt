@@ -7,6 +7,7 @@ ghost use Rattle.plain_values.specs.Points.{meet_of, minus_of, union_of};
 ghost use Rattle.point_sets.specs.Laws.{HasTells, MembersDecide, MeetsIsShared, WithinIsEach};
 ghost use Rattle.point_sets.specs.Laws.{MeetIsBoth, MinusIsRest, UnionIsEither};
 ghost use Rattle.point_sets.specs.Operations.{combined_of, kept};
+ghost use Rattle.point_sets.specs.Stretches.{IsStretchFrom};
 
 use crate::POINT_LIMIT;
 use crate::operation::Operation;
@@ -14,6 +15,7 @@ use crate::runs::{Run, ends_before, first_run_to, first_run_with_more};
 use crate::sweep::Sweep;
 use std::alloc::{AllocError, Global};
 use std::marker::Model;
+use std::ops::Range;
 
 /// A set of points, which contracts see as the rising list of them.
 #[derive(Debug, Drop)]
@@ -173,6 +175,22 @@ impl PointSet {
             return None;
         }
         Some(run.total - (run.last + 1 - point))
+    }
+
+    /// The first stretch of points without a gap that stands at a point or behind it: from its
+    /// start to below its end. Of a stretch that begins before the point it is what is left.
+    pub fn stretch_from(&self, point: u32) -> Option<Range<u32>>
+        ensures stretch { IfSome result (λ r. IsStretchFrom self.now point r.start r.end) }
+        ensures limit { IfSome result (λ r. r.end ≤ POINT_LIMIT) }
+        ensures none { result ≡ None → (z : ℕ) → point ≤ z → has self.now z ≡ false }
+    {
+        let runs = self.as_runs();
+        let place = first_run_to(runs, point);
+        if place == runs.len() {
+            return None;
+        }
+        let run = runs[place];
+        Some(run.first.max(point)..run.last + 1)
     }
 
     /// The runs, with what they are known to be.

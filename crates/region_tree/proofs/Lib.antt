@@ -1,0 +1,13 @@
+pub mod Apart
+pub mod Covering
+pub mod Dividing
+pub mod Growth
+pub mod Interfering
+pub mod Joins
+pub mod LiesUnder
+pub mod PartLaws
+pub mod Parting
+pub mod Refusing
+pub mod SharedModes
+pub mod Spanning
+pub mod Sweeping

@@ -1,0 +1,11 @@
+pub mod Entries
+pub mod Kept
+pub mod Modes
+pub mod Needs
+pub mod Paths
+pub mod Pieces
+pub mod Refusals
+pub mod Requirements
+pub mod Rows
+pub mod Sharing
+pub mod Trees
