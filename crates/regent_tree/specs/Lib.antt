@@ -19,3 +19,4 @@ pub mod Execution
 pub mod Meaning
 pub mod Cover
 pub mod Laws
+pub mod Limits

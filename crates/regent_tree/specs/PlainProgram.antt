@@ -1,8 +1,10 @@
 -- The plain tree of statements and of a whole program.
-use Rattle.std.specs.Prelude.{List, [], ◌∷◌, map}
+use Rattle.std.specs.Prelude.{List, [], ◌∷◌, Option, Some, None, map}
+use Rattle.std.specs.declared.alloc.Global.{Global}
+use Rattle.std.specs.declared.vec.Vec.{Vec}
 use Rattle.std.specs.Option.{option_map}
 use Rattle.regent_tree.specs.declared.statement.What.{What, Var, If', While', ForIn', ForTo', Do', Fill, Assert, Print, Call, Assign, Return, Row_of-Arm, end_of-Arm, more_of-Arm, Row_of-Stmt, end_of-Stmt, more_of-Stmt, Held-What-If-1, None', Some'}
-use Rattle.regent_tree.specs.declared.statement.Arm.{Arm'}
+use Rattle.regent_tree.specs.declared.statement.Arm.{Arm, Arm'}
 use Rattle.regent_tree.specs.declared.statement.Stmt.{Stmt}
 use Rattle.regent_tree.specs.declared.program.Task.{Task}
 use Rattle.regent_tree.specs.declared.program.Item.{Item}
@@ -48,6 +50,17 @@ abbrev mutual
 abbrev pub block_in : List Stmt → Block
 block_in [] = no_statement
 block_in (s ∷ ss) = then_statement (a_statement s.line (form_of s.what)) (block_in ss)
+
+abbrev pub arm_before : Arm → Arms → Arms
+arm_before (Arm' test shape body) rest = an_arm (expression_of test) (block_of body) rest
+
+abbrev pub arms_in : List Arm → Arms
+arms_in [] = no_arm
+arms_in (a ∷ rest) = arm_before a (arms_in rest)
+
+abbrev pub otherwise_in : Option (Vec Stmt Global) → Otherwise
+otherwise_in None = no_else
+otherwise_in (Some body) = else_block (block_in body.items)
 
 abbrev pub task_of : Task → TaskTree
 task_of t = record {

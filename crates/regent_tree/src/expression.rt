@@ -101,7 +101,8 @@ pub enum Expr {
 impl Expr {
     ghost use Rattle.std.specs.Prelude.{◌≡◌};
     ghost use Rattle.regent_tree.specs.Plain.{expression_of, links_in, expressions_in, steps_in};
-    ghost use Rattle.regent_tree.specs.Syntax.{access_expr, call_expr, chain_expr};
+    ghost use Rattle.regent_tree.specs.Syntax.{access_expr, call_expr, cast_expr, chain_expr};
+    ghost use Rattle.regent_tree.specs.Syntax.{convert_expr, is_null_expr, prefix_expr, space_expr};
 
     /// A chain of a first member and further ones.
     pub fn chain(first: Box<Expr>, rest: Vec<Link>) -> Expr
@@ -122,5 +123,40 @@ impl Expr {
         ensures { expression_of result ≡ access_expr name (steps_in steps.items) }
     {
         Expr::Access { name, steps }
+    }
+
+    /// An expression behind prefixes.
+    pub fn prefix(signs: Sequence<Sign>, inner: Box<Expr>) -> Expr
+        ensures { expression_of result ≡ prefix_expr signs (expression_of inner.value) }
+    {
+        Expr::Prefix { signs, inner }
+    }
+
+    /// A conversion to a number type.
+    pub fn convert(to: NumberTerm, inner: Box<Expr>) -> Expr
+        ensures { expression_of result ≡ convert_expr to (expression_of inner.value) }
+    {
+        Expr::Convert { to, inner }
+    }
+
+    /// Whether a pointer is null.
+    pub fn is_null(inner: Box<Expr>) -> Expr
+        ensures { expression_of result ≡ is_null_expr (expression_of inner.value) }
+    {
+        Expr::IsNull(inner)
+    }
+
+    /// A pointer to a point that is looked for in the regions of a pointer type.
+    pub fn cast(pointer: PointerTerm, inner: Box<Expr>) -> Expr
+        ensures { expression_of result ≡ cast_expr pointer (expression_of inner.value) }
+    {
+        Expr::Cast { pointer, inner }
+    }
+
+    /// A new index space.
+    pub fn space(kind: Kind, size: Box<Expr>) -> Expr
+        ensures { expression_of result ≡ space_expr kind (expression_of size.value) }
+    {
+        Expr::Space { kind, size }
     }
 }

@@ -8,6 +8,7 @@
 mod expression;
 mod facts;
 pub mod invariants;
+mod limits;
 mod outcome;
 mod program;
 mod statement;
@@ -16,6 +17,7 @@ mod types;
 pub use expression::{Arithmetic, Comparison, Expr, Link, Operator, Sign, Step};
 pub use facts::{Colour, Known, Term};
 pub use lane_kernels::{FieldKind, Mode, Op, Width};
+pub use limits::{Counted, Excess};
 pub use outcome::{Ending, Fault, FaultKind, Outcome, RootImage};
 pub use plain_values::{Sequence, Shared};
 pub use program::{Clause, FieldSpace, Grant, Item, ItemKind, Place, Program, Task};

@@ -128,3 +128,72 @@ pub enum What {
         value: Option<Expr>,
     },
 }
+
+impl Arm {
+    ghost use Rattle.std.specs.Prelude.{◌≡◌};
+    ghost use Rattle.regent_tree.specs.Plain.{expression_of};
+    ghost use Rattle.regent_tree.specs.PlainProgram.{arm_before, block_in};
+    ghost use Rattle.regent_tree.specs.Syntax.{Arms, an_arm};
+
+    /// A test with its block.
+    pub fn new(test: Expr, body: Vec<Stmt>) -> Arm
+        ensures { (rest : Arms) → arm_before result rest ≡ an_arm (expression_of test) (block_in body.items) rest }
+    {
+        Arm { test, body }
+    }
+}
+
+impl What {
+    ghost use Rattle.std.specs.Prelude.{◌≡◌};
+    ghost use Rattle.regent_tree.specs.Plain.{expression_of};
+    ghost use Rattle.regent_tree.specs.PlainProgram.{arms_in, block_in, form_of, otherwise_in};
+    ghost use Rattle.regent_tree.specs.Syntax.{do_form, for_in_form, for_to_form, if_form, while_form};
+
+    /// An `if` with its tests, and the block of its `else`.
+    pub fn choice(arms: Vec<Arm>, other: Option<Vec<Stmt>>) -> What
+        ensures { form_of result ≡ if_form (arms_in arms.items) (otherwise_in other) }
+    {
+        What::If { arms, other }
+    }
+
+    /// A `while`.
+    pub fn repeat(test: Expr, body: Vec<Stmt>) -> What
+        ensures { form_of result ≡ while_form (expression_of test) (block_in body.items) }
+    {
+        What::While { test, body }
+    }
+
+    /// A `for` over a region or an index space.
+    pub fn for_in(demanded: bool, name: Name, domain: Expr, body: Vec<Stmt>) -> What
+        ensures { form_of result
+            ≡ for_in_form demanded name (expression_of domain) (block_in body.items) }
+    {
+        What::ForIn {
+            demanded,
+            name,
+            domain,
+            body,
+        }
+    }
+
+    /// A `for` over the numbers from one bound to just before another.
+    pub fn for_to(demanded: bool, name: Name, from: Expr, to: Expr, body: Vec<Stmt>) -> What
+        ensures { form_of result
+            ≡ for_to_form demanded name (expression_of from) (expression_of to) (block_in body.items) }
+    {
+        What::ForTo {
+            demanded,
+            name,
+            from,
+            to,
+            body,
+        }
+    }
+
+    /// A block of its own.
+    pub fn block(body: Vec<Stmt>) -> What
+        ensures { form_of result ≡ do_form (block_in body.items) }
+    {
+        What::Do { body }
+    }
+}
