@@ -1,0 +1,14 @@
+pub mod LexemeLaws
+pub mod Rulings
+pub mod Lengths
+pub mod Sound
+pub mod Complete
+pub mod ReadingLaws
+pub mod Facts
+pub mod Examples
+pub mod Laws
+pub mod Sizes
+pub mod Prices
+pub mod Priced
+pub mod PricedStatements
+pub mod LimitLaws

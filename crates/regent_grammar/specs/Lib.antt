@@ -1,0 +1,15 @@
+pub mod Lexemes
+pub mod Symbols
+pub mod Nodes
+pub mod Rules
+pub mod Singles
+pub mod Types
+pub mod Expressions
+pub mod Statements
+pub mod Items
+pub mod Guards
+pub mod Grammar
+pub mod Derivations
+pub mod Reading
+pub mod Nesting
+pub mod Laws

@@ -1,0 +1,109 @@
+//! Texts and their lexemes. What is expected is taken from the language's tables, by hand.
+
+use crate::{Lexeme, Mark, Symbol, Word, first_too_deep, lexemes};
+use lane_kernels::Width;
+use plain_values::Sequence;
+use regent_lex::tokens;
+use std::alloc::Global;
+use std::process::Abort;
+use std::test::Fail;
+
+/// The text is this one lexeme, on line 2.
+fn assert_one(rt: &impl Abort, alloc: Global, text: &[u8], want: &Symbol) -> Result<(), Fail> {
+    assert!(rt; text.len() <= 1048576);
+    let tokens = tokens(alloc, text)?;
+    let found = lexemes(alloc, text, tokens.as_slice())?;
+    match found.as_slice() {
+        [one] => {
+            assert_eq!(rt; one.line, 2, "in {text:?}");
+            assert!(rt; one.symbol == *want, "in {text:?}");
+        }
+        _ => assert!(rt; false, "not one lexeme in {text:?}"),
+    }
+    Ok(())
+}
+
+#[test]
+fn words_and_signs(rt: HostRuntime) -> Result<(), Fail> {
+    let alloc = rt.alloc();
+    assert_one(
+        &rt,
+        alloc,
+        b"\n__demand".as_slice(),
+        &Symbol::Word(Word::Demand),
+    )?;
+    assert_one(
+        &rt,
+        alloc,
+        b"\nelseif".as_slice(),
+        &Symbol::Word(Word::Elseif),
+    )?;
+    assert_one(
+        &rt,
+        alloc,
+        b"\nwrites".as_slice(),
+        &Symbol::Word(Word::Writes),
+    )?;
+    assert_one(
+        &rt,
+        alloc,
+        b"\n~=".as_slice(),
+        &Symbol::Mark(Mark::NotEqual),
+    )?;
+    assert_one(&rt, alloc, b"\n|".as_slice(), &Symbol::Mark(Mark::Bar))
+}
+
+#[test]
+fn numbers(rt: HostRuntime) -> Result<(), Fail> {
+    let alloc = rt.alloc();
+    let (value, width) = (2_147_483_647, Width::W32);
+    assert_one(
+        &rt,
+        alloc,
+        b"\n2147483647".as_slice(),
+        &Symbol::Number { value, width },
+    )?;
+    let width = Width::W64;
+    assert_one(
+        &rt,
+        alloc,
+        b"\n2147483647LL".as_slice(),
+        &Symbol::Number { value, width },
+    )?;
+    let value = 2_147_483_648;
+    assert_one(
+        &rt,
+        alloc,
+        b"\n2147483648".as_slice(),
+        &Symbol::Number { value, width },
+    )
+}
+
+#[test]
+fn names_and_strings(rt: HostRuntime) -> Result<(), Fail> {
+    let alloc = rt.alloc();
+    let name = Sequence::from_slice(alloc, b"printf".as_slice())?;
+    assert_one(&rt, alloc, b"\nprintf".as_slice(), &Symbol::Name(name))?;
+    let text = Sequence::from_slice(alloc, b"a\n".as_slice())?;
+    assert_one(&rt, alloc, b"\n\"a\\n\"".as_slice(), &Symbol::Text(text))
+}
+
+/// The word, as often as told, on the lines from 0.
+fn repeated(alloc: Global, word: Word, times: u32) -> Result<Vec<Lexeme>, Fail> {
+    let mut found = Vec::new(alloc);
+    for line in 0..times {
+        let symbol = Symbol::Word(word);
+        found.push(Lexeme { symbol, line })?;
+    }
+    Ok(found)
+}
+
+#[test]
+fn sixty_five_are_too_deep(rt: HostRuntime) -> Result<(), Fail> {
+    let alloc = rt.alloc();
+    let found = repeated(alloc, Word::Do, 64)?;
+    assert_eq!(rt; first_too_deep(found.as_slice()), None);
+    let found = repeated(alloc, Word::Do, 66)?;
+    assert_eq!(rt; first_too_deep(found.as_slice()), Some(64));
+    Ok(())
+}

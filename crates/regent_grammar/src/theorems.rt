@@ -1,0 +1,76 @@
+//! Laws of the grammar. Each function does nothing; its contract is a law.
+
+ghost use Rattle.regent_grammar.specs.Laws.{ExcessByLexemes, LimitsButCounts};
+ghost use Rattle.regent_grammar.specs.Laws.{OneTree, AllDecided, NeverBoth, OnePlace, PlaceInText, NoneBehind, ReadingIsExact};
+ghost use Rattle.regent_grammar.specs.Laws.{NodesByLexemes, LiteralsFit, NumbersOfText, TokensByBytes};
+
+/// Lexemes are one program at most.
+#[tactic(auto, using(crate::proofs::Laws::one_tree))]
+pub fn one_tree()
+    ensures { OneTree }
+{}
+
+/// Lexemes are a program, or stop somewhere.
+pub fn all_decided()
+    ensures { AllDecided }
+{}
+
+/// No lexemes are a program and stop somewhere.
+#[tactic(auto, using(crate::proofs::Laws::never_both))]
+pub fn never_both()
+    ensures { NeverBoth }
+{}
+
+/// Lexemes that are no program stop at one place.
+#[tactic(auto, using(crate::proofs::Laws::one_place_each))]
+pub fn one_place()
+    ensures { OnePlace }
+{}
+
+/// The place at which lexemes stop is among them, or their end.
+#[tactic(auto, using(crate::proofs::Laws::place_in_text))]
+pub fn place_in_text()
+    ensures { PlaceInText }
+{}
+
+/// Nothing stands behind a program.
+#[tactic(auto, using(crate::proofs::Laws::none_behind))]
+pub fn none_behind()
+    ensures { NoneBehind }
+{}
+
+/// Reading by a rule reads what the rule spells, and stops where the rule does.
+pub fn reading_is_exact()
+    ensures { ReadingIsExact }
+{}
+
+/// A program has two nodes at most for each of its lexemes.
+pub fn nodes_by_lexemes()
+    ensures { NodesByLexemes }
+{}
+
+/// A program's literals fit their widths where the numbers among its lexemes do.
+pub fn literals_fit()
+    ensures { LiteralsFit }
+{}
+
+/// The numbers of a text fit their widths.
+pub fn numbers_of_text()
+    ensures { NumbersOfText }
+{}
+
+/// A text has no more tokens than bytes.
+#[tactic(auto, using(crate::proofs::LimitLaws::tokens_by_bytes))]
+pub fn tokens_by_bytes()
+    ensures { TokensByBytes }
+{}
+
+/// A program of a text that isn't too long is within the limits, but for what it may have too many of.
+pub fn limits_but_counts()
+    ensures { LimitsButCounts }
+{}
+
+/// What a program has too many of is counted by its lexemes.
+pub fn excess_by_lexemes()
+    ensures { ExcessByLexemes }
+{}
