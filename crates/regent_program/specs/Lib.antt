@@ -1,0 +1,4 @@
+pub mod Blocks
+pub mod Mappings
+pub mod Ranges
+pub mod Targets

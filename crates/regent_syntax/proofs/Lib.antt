@@ -1,0 +1,4 @@
+pub mod Loops
+pub mod Lengths
+pub mod NodeLaws
+pub mod Wrapping

@@ -1,0 +1,4 @@
+pub mod Gives
+pub mod Levels
+pub mod Heads
+pub mod Nodes
