@@ -1,8 +1,3 @@
-pub mod Holds
-pub mod Repeated
-pub mod SumLaws
-pub mod StatementLaws
-pub mod ProgramLaws
-pub mod NodeLaws
-pub mod LexemeLaws
-pub mod SpellingLaws
+pub mod CountLaws
+pub mod TextLaws
+pub mod LimitLaws

@@ -1,6 +1,1 @@
-pub mod Lexemes
-pub mod Spelling
-pub mod Symbols
-pub mod Grammar
-pub mod Nodes
-pub mod Reading
+pub mod Texts

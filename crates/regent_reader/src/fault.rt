@@ -1,6 +1,7 @@
 //! Why a text is no program.
 
 use regent_lex::LexKind;
+use regent_tree::Counted;
 use std::alloc::{AllocError, AllocFailed};
 use thiserror::Error;
 
@@ -13,10 +14,17 @@ pub enum ReadFault {
     /// The text has no tokens.
     #[error("line {line}: {kind}")]
     Lex { kind: LexKind, line: u32 },
-    /// The tokens are no program. The line is that of the first token at which no production goes on,
-    /// or of the text's end.
+    /// Nesting passes 64 on this line.
+    #[error("line {line}: nested too deeply")]
+    TooDeep { line: u32 },
+    /// The tokens are no program. The line is that of the first token that no production takes, or
+    /// of the text's end.
     #[error("line {line}: no program goes on here")]
     NoProgram { line: u32 },
+    /// There are too many of something. The first such place in the text is told, and how many there
+    /// are.
+    #[error("too many {what:?}: {count}")]
+    TooMany { what: Counted, count: u32 },
     #[error(transparent)]
     Memory(AllocError),
 }

@@ -2,14 +2,7 @@
 #![tactic(auto)]
 
 mod fault;
-mod lexemes;
-mod program;
 mod reading;
-mod statements;
-mod stop;
-mod sums;
-mod symbol;
-mod take;
 
 pub use fault::ReadFault;
 pub use reading::read;

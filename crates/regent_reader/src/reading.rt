@@ -1,28 +1,25 @@
 //! From bytes to a program.
 
-ghost use Rattle.std.specs.Prelude.{◌≡◌, ◌<◌, ◌≤◌, ◌+◌, ℕ, List, Ok, IfOk, IfErr, length};
-ghost use Rattle.regent_lex.specs.declared.token.Token.{Token};
-ghost use Rattle.regent_lex.specs.Texts.{Lexes};
-ghost use Rattle.regent_tree.specs.Syntax.{Tree};
+ghost use Rattle.std.specs.Prelude.{◌≡◌, ◌≤◌, IfErr, IfOk, None, length};
+ghost use Rattle.regent_tree.specs.Limits.{WithinLimits, first_excess, parts_of_program};
 ghost use Rattle.regent_tree.specs.PlainProgram.{tree_of};
-ghost use Rattle.regent_reader.specs.Lexemes.{lexemes};
-ghost use Rattle.regent_reader.specs.Grammar.{IsProgram};
-ghost use Rattle.regent_reader.specs.Spelling.{Spells, Refuses, IsMemory, LexemesOf, IsUnread};
+ghost use Rattle.regent_reader.specs.Texts.{Answers, AreWithin, Has, HasSmallCounts, IsLexed, Nests, Outcome, Parses, Reads, RefusesTokens, counted_program, last_line, line_at};
 
 use crate::fault::ReadFault;
-use crate::lexemes::lexemes;
-use crate::program::program;
-use crate::stop::Stop;
-use crate::symbol::Lexeme;
+use regent_grammar::{Lexeme, first_too_deep, lexemes};
 use regent_lex::{LexFault, tokens};
+use regent_limits::first_excess;
+use regent_program::program;
+use regent_syntax::Stop;
 use regent_tree::Program;
 use std::alloc::Global;
 
 /// The text's lexemes.
 fn lexed(alloc: Global, text: &[u8]) -> Result<Vec<Lexeme>, ReadFault>
     requires { length text.now ≤ 1048576 }
-    ensures ok { IfOk result (λ ls. LexemesOf text.now ls.items) }
-    ensures err { IfErr result (Refuses text.now) }
+    ensures ok { IfOk result (λ ls. IsLexed text.now ls.items) }
+    ensures within { IfOk result (λ ls. AreWithin ls.items) }
+    ensures err { IfErr result (RefusesTokens text.now) }
 {
     match tokens(alloc, text) {
         Ok(tokens) => Ok(lexemes(alloc, text, tokens.as_slice())?),
@@ -34,39 +31,86 @@ fn lexed(alloc: Global, text: &[u8]) -> Result<Vec<Lexeme>, ReadFault>
 /// The line on which a text ends.
 fn last_line(text: &[u8]) -> u32
     requires { length text.now ≤ 1048576 }
+    ensures { result ≡ last_line text.now }
 {
-    1 + text.iter().filter(|byte| **byte == b'\n').count() as u32
+    let mut line: u32 = 1;
+    for byte in text {
+        if *byte == b'\n' {
+            line += 1;
+        }
+    }
+    line
 }
 
-/// The program of a text's lexemes.
-fn parsed(alloc: Global, text: &[u8], lexemes: &[Lexeme]) -> Result<Program, ReadFault>
+/// The line of the first of these lexemes, or else of the text's end.
+fn line_at(text: &[u8], lexemes: &[Lexeme]) -> u32
     requires { length text.now ≤ 1048576 }
-    ensures ok { IfOk result (λ p. IsProgram lexemes.now (tree_of p)) }
-    ensures err { IfErr result (IsUnread lexemes.now) }
+    ensures { result ≡ line_at text.now lexemes.now }
+{
+    match lexemes {
+        [] => last_line(text),
+        [next, ..] => next.line,
+    }
+}
+
+/// A program, unless it has too many of something.
+fn counted(program: Program) -> Result<Program, ReadFault>
+    requires small { HasSmallCounts (tree_of program) }
+    ensures answers { Answers (λ outcome. outcome ≡ counted_program (tree_of program)) result }
+    ensures same { IfOk result (λ p. (tree_of p ≡ tree_of program)
+        × (first_excess (parts_of_program (tree_of program)) ≡ None)) }
+{
+    match first_excess(&program) {
+        None => Ok(program),
+        Some(excess) => Err(ReadFault::TooMany {
+            what: excess.what,
+            count: excess.count as u32,
+        }),
+    }
+}
+
+/// What lexemes come to that aren't nested too deeply.
+fn parsed(alloc: Global, text: &[u8], lexemes: &[Lexeme]) -> Result<Program, ReadFault>
+    requires short { length text.now ≤ 1048576 }
+    requires within { AreWithin lexemes.now }
+    ensures answers { Answers (Parses text.now lexemes.now) result }
+    ensures within { IfOk result (λ p. WithinLimits (tree_of p)) }
 {
     match program(alloc, lexemes) {
-        Ok(program) => Ok(program),
-        Err(Stop::At { line }) => Err(ReadFault::NoProgram { line }),
-        Err(Stop::AtEnd) => Err(ReadFault::NoProgram {
-            line: last_line(text),
+        Ok(program) => counted(program),
+        Err(Stop::At(at)) => Err(ReadFault::NoProgram {
+            line: line_at(text, at),
         }),
         Err(Stop::Memory(error)) => Err(ReadFault::Memory(error)),
     }
 }
 
-/// The program that a text of the first form spells.
+/// What lexemes come to.
+fn nested(alloc: Global, text: &[u8], lexemes: &[Lexeme]) -> Result<Program, ReadFault>
+    requires short { length text.now ≤ 1048576 }
+    requires within { AreWithin lexemes.now }
+    ensures answers { Answers (Nests text.now lexemes.now) result }
+    ensures within { IfOk result (λ p. WithinLimits (tree_of p)) }
+{
+    match first_too_deep(lexemes) {
+        Some(line) => Err(ReadFault::TooDeep { line }),
+        None => parsed(alloc, text, lexemes),
+    }
+}
+
+/// The program that a text spells, or the first cause why it is none: too many bytes, no tokens,
+/// nesting that is too deep anywhere, a token that no production takes, or too many of something.
 pub fn read(alloc: Global, text: &[u8]) -> Result<Program, ReadFault>
-    // What is read is spelt.
-    ensures found { IfOk result (λ p. Spells text.now (tree_of p)) }
-    // Nothing else is spelt: a text has one tree at most, and it is read unless memory runs out.
-    ensures one_tree { (tree : Tree) → Spells text.now tree → IfOk result (λ p. tree_of p ≡ tree) }
-    ensures complete { (tree : Tree) → Spells text.now tree → IfErr result IsMemory }
-    // Each refusal is so.
-    ensures refused { IfErr result (Refuses text.now) }
+    // The answer is what the text comes to.
+    ensures reads { Answers (Reads text.now) result }
+    // What is read is within the limits of a tree.
+    ensures within { IfOk result (λ p. WithinLimits (tree_of p)) }
+    // A text comes to one thing at most, and that is the answer unless memory runs out.
+    ensures only { (outcome : Outcome) → Reads text.now outcome → Has outcome result }
 {
     if text.len() > 1_048_576 {
         return Err(ReadFault::TooLong);
     }
     let lexemes = lexed(alloc, text)?;
-    parsed(alloc, text, lexemes.as_slice())
+    nested(alloc, text, lexemes.as_slice())
 }

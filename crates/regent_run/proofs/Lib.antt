@@ -1,2 +1,4 @@
+pub mod WordLaws
+pub mod InputLaws
 pub mod Judging
 pub mod Writing

@@ -1,22 +1,29 @@
--- What a failed write leaves, and where none fails.
-use Rattle.std.proofs.Common.{◌≡◌, ◌≢◌, ℕ, ◌≤◌, ◌<◌, ◌⊎◌, inl, inr, List, [], ◌++◌, Option, Some, None, length, refl, sym, ap, subst, ◌∙◌, arith}
-use Rattle.std.specs.Prelude.{string_bytes}
+-- What a failed write leaves, where none fails, and what the statuses mean.
+use Rattle.std.proofs.Common.{◌≡◌, ◌≢◌, ℕ, ◌≤◌, ◌<◌, ◌⊎◌, inl, inr, List, [], Option, Some, None, Ok, Err, length, true, false, unwrap_or, refl, sym, ap, subst, ◌∙◌, arith}
 use Rattle.std.proofs.lemmas.List.{append-nil}
+use Rattle.run_io.specs.Faults.{Rose}
 use Rattle.run_io.specs.Sink.{Adds}
 use Rattle.run_io.specs.Source.{next_left}
 use Rattle.regent_tree.specs.Syntax.{Tree}
-use Rattle.regent_tree.specs.declared.outcome.Outcome.{Outcome}
-use Rattle.regent_reader.proofs.SpellingLaws.{one_tree}
+use Rattle.regent_lex.specs.declared.fault.LexKind.TheVariants as lex
+use Rattle.regent_reader.specs.declared.fault.ReadFault.{ReadFault}
+use Rattle.regent_reader.specs.declared.fault.ReadFault.TheVariants as fault
+use Rattle.regent_reader.specs.Texts.{Outcome, Reads}
+use Rattle.regent_reader.proofs.TextLaws.{one_outcome}
+use Rattle.straight_run.specs.Inputs.{are_inputs}
+use Rattle.straight_run.specs.RunningForm.{is_running, main_task}
+use Rattle.regent_run.specs.declared.limit.Limit.{Limit}
 use Rattle.regent_run.specs.declared.verdict.Verdict.{Verdict}
-use Rattle.regent_run.specs.declared.verdict.Verdict.TheVariants.{Usage, Unread, NoMemory, NoProgram, Finished}
-use Rattle.regent_run.specs.Answers.{OutStopped, ErrStopped, OfNextText}
-use Rattle.regent_run.specs.FirstForm.{IsFirstForm, Prints}
-use Rattle.regent_run.specs.Texts.{usage_message, read_message, memory_message}
-use Rattle.regent_run.specs.Verdicts.{SinkChange, HasGained, HasFailed, IsUntouched, IsDelivered, OfText, SaysOfText, SaysOfWords, out_text, err_text, status_of}
+use Rattle.regent_run.specs.declared.verdict.Verdict.TheVariants as verdict
+use Rattle.regent_run.specs.Answers.{OutStopped, ErrStopped, ComesTo, IsErrorLine, no_memory, usage, unread, syntax, limit, not_built, inputs, NoneRose, UnlessUnread, IsSureOfErrors, IsSureOfOutput}
+use Rattle.regent_run.specs.Programs.{limit_passed, syntax_line, HasOtherInputs, IsRun, TakesNumbers, Comes, finishes, is_no_program, passes_a_limit, has_other_inputs, is_not_built, OfNextText}
+use Rattle.regent_run.specs.Verdicts.{SinkChange, HasGained, HasFailed, IsUntouched, IsDelivered, Says, SaysOfText, out_text, err_text, status_of}
+use Rattle.regent_run.specs.Words.{Command, command}
+use Rattle.regent_run.proofs.InputLaws.{one_inputs}
 
 adds_nothing : (before now : Option (List ℕ)) → Adds before [] now → now ≡ before
 adds_nothing None now h = h
-adds_nothing (Some held) now h = let e : now ≡ Some (held ++ []) = h in e ∙ ap Some (append-nil held)
+adds_nothing (Some held) now h = let e : now ≡ Some _ = h in e ∙ ap Some (append-nil held)
 
 no_failure : {X : Type 0} (sink : SinkChange) → HasFailed [] sink → X
 no_failure sink h = let e : h.prefix.0 < 0 = h.prefix.1 in absurd (omega arith)
@@ -26,43 +33,79 @@ untouched sink h = record { steady = h.steady; kept = adds_nothing sink.held sin
 
 -- no verdict's own status is that of a failed write
 no_stop : (v : Verdict) → 4 ≡ status_of v → ⊥
-no_stop Usage h = absurd cc
-no_stop Unread h = absurd cc
-no_stop NoMemory h = absurd cc
-no_stop (NoProgram message) h = absurd cc
-no_stop (Finished text) h = absurd cc
+no_stop verdict.Usage h = absurd cc
+no_stop verdict.Unread h = absurd cc
+no_stop verdict.NoMemory h = absurd cc
+no_stop (verdict.NoProgram message) h = absurd cc
+no_stop (verdict.PastLimit passed) h = absurd cc
+no_stop verdict.NotBuilt h = absurd cc
+no_stop verdict.OtherInputs h = absurd cc
+no_stop (verdict.Finished text) h = absurd cc
 
-out_stops : (later : Option (List (List ℕ))) (before now : ℕ) (v : Verdict) (out err : SinkChange) →
-    OfText (SaysOfText later before now) v → HasFailed (out_text v) out → IsUntouched err → OutStopped later out err
-out_stops later before now Usage out err said p e = no_failure out p
-out_stops later before now Unread out err said p e = no_failure out p
-out_stops later before now NoMemory out err said p e = no_failure out p
-out_stops later before now (NoProgram message) out err said p e = no_failure out p
-out_stops later before now (Finished text) out err said p e =
-    record { text = text.items; printed = said; output = p; errors = e }
+-- a failed write was of a line
+some_line : (v : Verdict) (err : SinkChange) → HasFailed (err_text v) err → 0 < length (err_text v)
+some_line v err p = let e : p.prefix.0 < length (err_text v) = p.prefix.1 in omega arith
 
-err_stops : (words : List (List ℕ)) (later : Option (List (List ℕ))) (before now : ℕ) (v : Verdict) (out err : SinkChange) →
-    SaysOfWords words v → OfText (SaysOfText later before now) v → HasGained (out_text v) out → HasFailed (err_text v) err →
-    ErrStopped words later before now out err
-err_stops words later before now Usage out err named said a p =
-    record { message = usage_message; told = inr (inl (refl, named)); output = untouched out a; errors = p }
-err_stops words later before now Unread out err named said a p =
-    record { message = read_message; told = inr (inr (inl (refl, said))); output = untouched out a; errors = p }
-err_stops words later before now NoMemory out err named said a p =
-    record { message = memory_message; told = inl refl; output = untouched out a; errors = p }
-err_stops words later before now (NoProgram message) out err named said a p =
-    record { message = string_bytes message; told = inr (inr (inr (said.1, said.2, said.0))); output = untouched out a; errors = p }
-err_stops words later before now (Finished text) out err named said a p = no_failure err p
+-- a verdict with a line prints nothing
+quiet : (v : Verdict) → 0 < length (err_text v) → out_text v ≡ []
+quiet verdict.Usage some = refl
+quiet verdict.Unread some = refl
+quiet verdict.NoMemory some = refl
+quiet (verdict.NoProgram message) some = refl
+quiet (verdict.PastLimit passed) some = refl
+quiet verdict.NotBuilt some = refl
+quiet verdict.OtherInputs some = refl
+quiet (verdict.Finished text) some = absurd (omega arith)
 
--- after a failed write nothing more is written
-pub stopped_at : (words : List (List ℕ)) (later : Option (List (List ℕ))) (before now : ℕ) (v : Verdict) (answer : ℕ) (out err : SinkChange) →
-    SaysOfWords words v → OfText (SaysOfText later before now) v → IsDelivered v answer out err →
-    answer ≡ 4 → OutStopped later out err ⊎ ErrStopped words later before now out err
-stopped_at words later before now v answer out err named said (inl w) is = absurd (no_stop v (sym is ∙ w.status))
-stopped_at words later before now v answer out err named said (inr (inl o)) is =
-    inl (out_stops later before now v out err said o.output o.errors)
-stopped_at words later before now v answer out err named said (inr (inr e)) is =
-    inr (err_stops words later before now v out err named said e.output e.errors)
+module _ (words : List (List ℕ)) (later : Option (List (List ℕ))) (before now : ℕ) where
+  -- the line of a verdict, where it has one, is one that the call has come to
+  line_of : (v : Verdict) → Says words later before now v → 0 < length (err_text v) → IsErrorLine words later before now (err_text v)
+  line_of verdict.Usage said some = usage said
+  line_of verdict.Unread said some = unread said.2
+  line_of verdict.NoMemory said some = no_memory
+  line_of (verdict.NoProgram message) said some =
+      subst (λ (m : List ℕ). IsErrorLine words later before now m) (sym said.2.1) (syntax said.2.0 said.2.2)
+  line_of (verdict.PastLimit passed) said some = limit passed said.2
+  line_of verdict.NotBuilt said some = not_built said.2
+  line_of verdict.OtherInputs said some = inputs said.0 said.1 said.2
+  line_of (verdict.Finished text) said some = absurd (omega arith)
+
+  out_stops : (v : Verdict) (out err : SinkChange) → Says words later before now v → HasFailed (out_text v) out → IsUntouched err → OutStopped words later out err
+  out_stops verdict.Usage out err said p e = no_failure out p
+  out_stops verdict.Unread out err said p e = no_failure out p
+  out_stops verdict.NoMemory out err said p e = no_failure out p
+  out_stops (verdict.NoProgram message) out err said p e = no_failure out p
+  out_stops (verdict.PastLimit passed) out err said p e = no_failure out p
+  out_stops verdict.NotBuilt out err said p e = no_failure out p
+  out_stops verdict.OtherInputs out err said p e = no_failure out p
+  out_stops (verdict.Finished text) out err said p e =
+      record { named = said.0; words_name = said.1; printed = text.items; run = said.2; output = p; errors = e }
+
+  -- after a failed write nothing more is written
+  pub stopped_at : (v : Verdict) (answer : ℕ) (out err : SinkChange) → Says words later before now v → IsDelivered v answer out err →
+      answer ≡ 4 → OutStopped words later out err ⊎ ErrStopped words later before now out err
+  stopped_at v answer out err said (inl w) is = absurd (no_stop v (sym is ∙ w.status))
+  stopped_at v answer out err said (inr (inl o)) is = inl (out_stops v out err said o.output o.errors)
+  stopped_at v answer out err said (inr (inr e)) is = inr (record {
+    message = err_text v;
+    told = line_of v said (some_line v err e.errors);
+    output = untouched out (subst (λ (b : List ℕ). HasGained b out) (quiet v (some_line v err e.errors)) e.output);
+    errors = e.errors;
+  })
+
+  -- nothing fails where the sinks are sure of what may be written
+  pub sure_at : (v : Verdict) (answer : ℕ) (out err : SinkChange) → Says words later before now v → IsDelivered v answer out err →
+      IsSureOfOutput words later out.sure → IsSureOfErrors words later before now err.sure → answer ≢ 4
+  sure_at v answer out err said (inl w) output errors is = no_stop v (sym is ∙ w.status)
+  sure_at v answer out err said (inr (inl o)) output errors is =
+      let s = out_stops v out err said o.output o.errors in
+      let fits : length s.printed ≤ out.sure = output s.named s.printed s.words_name s.run in
+      let unsure : out.sure < length s.printed = s.output.unsure in
+      absurd (omega arith)
+  sure_at v answer out err said (inr (inr e)) output errors is =
+      let fits : length (err_text v) ≤ err.sure = errors (err_text v) (line_of v said (some_line v err e.errors)) in
+      let unsure : err.sure < length (err_text v) = e.errors.unsure in
+      absurd (omega arith)
 
 -- but for a failed write, no write failed
 pub steady_unless : (v : Verdict) (answer : ℕ) (out err : SinkChange) → IsDelivered v answer out err → answer ≢ 4 →
@@ -71,53 +114,138 @@ steady_unless v answer out err (inl w) isnt = (w.output.steady, w.errors.steady)
 steady_unless v answer out err (inr (inl o)) isnt = absurd (isnt o.status)
 steady_unless v answer out err (inr (inr e)) isnt = absurd (isnt e.status)
 
--- ---- sinks that are sure
+-- ---- a text comes to one status alone
 
--- a program prints one text
-one_text : (text : List ℕ) (a b : Tree) (p q : List ℕ) → IsFirstForm text a → Prints a p → IsFirstForm text b → Prints b q → p ≡ q
-one_text text a b p q fa pa fb pb =
-    let same : a ≡ b = one_tree text a b fa.spelt fb.spelt in
-    let pa2 : Prints b p = subst (λ (t : Tree). Prints t p) same pa in
-    ap (λ (o : Outcome). o.text) (sym pa2 ∙ pb)
+same_tree : (text : List ℕ) (t u : Tree) → Reads text (Ok t) → Reads text (Ok u) → t ≡ u
+same_tree text t u p q =
+    let x : Outcome = Ok t in
+    let y : Outcome = Ok u in
+    let e : x ≡ y = one_outcome text x y p q in
+    cc
 
--- a sink that is sure of the output doesn't fail there
-out_sure : (texts : List (List ℕ)) (before now : ℕ) (v : Verdict) (sure : ℕ) (tree : Tree) (printed : List ℕ) →
-    OfText (SaysOfText (Some texts) before now) v → IsFirstForm (next_left texts) tree → Prints tree printed →
-    length printed ≤ sure → sure < length (out_text v) → ⊥
-out_sure texts before now Usage sure tree printed said form prints fits unsure = let e : sure < 0 = unsure in absurd (omega arith)
-out_sure texts before now Unread sure tree printed said form prints fits unsure = let e : sure < 0 = unsure in absurd (omega arith)
-out_sure texts before now NoMemory sure tree printed said form prints fits unsure = let e : sure < 0 = unsure in absurd (omega arith)
-out_sure texts before now (NoProgram message) sure tree printed said form prints fits unsure = let e : sure < 0 = unsure in absurd (omega arith)
-out_sure texts before now (Finished text) sure tree printed said form prints fits unsure =
-    let same : text.items ≡ printed = one_text (next_left texts) said.0 tree text.items printed said.1 said.2 form prints in
-    let size : length text.items ≡ length printed = ap length same in
-    let e : sure < length text.items = unsure in
-    absurd (omega arith)
+same_fault : (text : List ℕ) (f g : ReadFault) → Reads text (Err f) → Reads text (Err g) → f ≡ g
+same_fault text f g p q =
+    let x : Outcome = Err f in
+    let y : Outcome = Err g in
+    let e : x ≡ y = one_outcome text x y p q in
+    cc
 
--- nor does one that is sure of a line about an error
-err_sure : (texts : List (List ℕ)) (before now : ℕ) (v : Verdict) (sure : ℕ) (tree : Tree) →
-    OfText (SaysOfText (Some texts) before now) v → IsFirstForm (next_left texts) tree →
-    64 ≤ sure → sure < length (err_text v) → ⊥
-err_sure texts before now Usage sure tree said form fits unsure = let e : sure < 13 = unsure in absurd (omega arith)
-err_sure texts before now Unread sure tree said form fits unsure = let e : sure < 19 = unsure in absurd (omega arith)
-err_sure texts before now NoMemory sure tree said form fits unsure = let e : sure < 21 = unsure in absurd (omega arith)
-err_sure texts before now (NoProgram message) sure tree said form fits unsure = said.0 tree form
-err_sure texts before now (Finished text) sure tree said form fits unsure = let e : sure < 0 = unsure in absurd (omega arith)
+never_both : (text : List ℕ) (t : Tree) (f : ReadFault) → Reads text (Ok t) → Reads text (Err f) → ⊥
+never_both text t f p q =
+    let x : Outcome = Ok t in
+    let y : Outcome = Err f in
+    let e : x ≡ y = one_outcome text x y p q in
+    absurd cc
 
-sure_of : (texts : List (List ℕ)) (before now : ℕ) (v : Verdict) (answer : ℕ) (out err : SinkChange) →
-    OfText (SaysOfText (Some texts) before now) v → IsDelivered v answer out err →
-    (tree : Tree) (printed : List ℕ) → IsFirstForm (next_left texts) tree → Prints tree printed →
-    length printed ≤ out.sure → 64 ≤ err.sure → answer ≢ 4
-sure_of texts before now v answer out err said (inl w) tree printed form prints fits line is = no_stop v (sym is ∙ w.status)
-sure_of texts before now v answer out err said (inr (inl o)) tree printed form prints fits line is =
-    out_sure texts before now v out.sure tree printed said form prints fits o.output.unsure
-sure_of texts before now v answer out err said (inr (inr e)) tree printed form prints fits line is =
-    err_sure texts before now v err.sure tree said form line e.errors.unsure
+-- a fault isn't both an error of syntax and a passed limit
+one_kind : (f : ReadFault) (line : ℕ) (l : Limit) → syntax_line f ≡ Some line → limit_passed f ≡ Some l → ⊥
+one_kind fault.TooLong line l p q = absurd cc
+one_kind (fault.Lex lex.BadByte at) line l p q = absurd cc
+one_kind (fault.Lex lex.Unclosed at) line l p q = absurd cc
+one_kind (fault.Lex lex.NumberTooLarge at) line l p q = absurd cc
+one_kind (fault.Lex lex.NameTooLong at) line l p q = absurd cc
+one_kind (fault.TooDeep at) line l p q = absurd cc
+one_kind (fault.NoProgram at) line l p q = absurd cc
+one_kind (fault.TooMany what count) line l p q = absurd cc
+one_kind (fault.Memory e) line l p q = absurd cc
 
--- nothing fails where the sinks are sure of what is written
-pub none_stops : (later : Option (List (List ℕ))) (before now : ℕ) (v : Verdict) (answer : ℕ) (out err : SinkChange) →
-    OfText (SaysOfText later before now) v → IsDelivered v answer out err →
-    OfNextText later (λ text. (tree : Tree) (printed : List ℕ) → IsFirstForm text tree → Prints tree printed →
-    length printed ≤ out.sure → 64 ≤ err.sure → answer ≢ 4)
-none_stops None before now v answer out err said d = tt
-none_stops (Some texts) before now v answer out err said d = sure_of texts before now v answer out err said d
+module _ (text : List ℕ) (numbers : List (List ℕ)) where
+  other_form : (t u : Tree) → Reads text (Ok t) → Reads text (Ok u) → is_running t ≡ true → is_running u ≡ false → ⊥
+  other_form t u p q yes_form no_form = let e : true ≡ false = sym yes_form ∙ ap is_running (same_tree text t u p q) ∙ no_form in absurd cc
+
+  run_or_other : TakesNumbers text numbers → HasOtherInputs text numbers → ⊥
+  run_or_other r o =
+      let e : true ≡ false = sym r.fits ∙ ap (λ (t : Tree). are_inputs (main_task t).params r.inputs) (same_tree text r.tree o.tree r.reads o.reads)
+      ∙ ap (λ zs. are_inputs (main_task o.tree).params zs) (one_inputs numbers r.inputs o.inputs r.given o.given) ∙ o.other in
+      absurd cc
+
+  one_status : (m n : ℕ) → Comes text numbers m → Comes text numbers n → m ≡ n
+  one_status m n (finishes p) (finishes q) = refl
+  one_status m n (finishes p) (is_no_program q) = absurd (never_both text p.tree q.fault p.reads q.reads)
+  one_status m n (finishes p) (passes_a_limit q) = absurd (never_both text p.tree q.fault p.reads q.reads)
+  one_status m n (finishes p) (has_other_inputs q) = absurd (run_or_other p q)
+  one_status m n (finishes p) (is_not_built q) = absurd (other_form p.tree q.tree p.reads q.reads p.form q.form)
+  one_status m n (is_no_program p) (finishes q) = absurd (never_both text q.tree p.fault q.reads p.reads)
+  one_status m n (is_no_program p) (is_no_program q) = refl
+  one_status m n (is_no_program p) (passes_a_limit q) = absurd (one_kind q.fault _ _ (subst (λ (f : ReadFault). syntax_line f ≡ Some _) (same_fault text p.fault q.fault p.reads q.reads) p.told) q.told)
+  one_status m n (is_no_program p) (has_other_inputs q) = absurd (never_both text q.tree p.fault q.reads p.reads)
+  one_status m n (is_no_program p) (is_not_built q) = absurd (never_both text q.tree p.fault q.reads p.reads)
+  one_status m n (passes_a_limit p) (finishes q) = absurd (never_both text q.tree p.fault q.reads p.reads)
+  one_status m n (passes_a_limit p) (is_no_program q) = absurd (one_kind p.fault _ _ (subst (λ (f : ReadFault). syntax_line f ≡ Some _) (same_fault text q.fault p.fault q.reads p.reads) q.told) p.told)
+  one_status m n (passes_a_limit p) (passes_a_limit q) = refl
+  one_status m n (passes_a_limit p) (has_other_inputs q) = absurd (never_both text q.tree p.fault q.reads p.reads)
+  one_status m n (passes_a_limit p) (is_not_built q) = absurd (never_both text q.tree p.fault q.reads p.reads)
+  one_status m n (has_other_inputs p) (finishes q) = absurd (run_or_other q p)
+  one_status m n (has_other_inputs p) (is_no_program q) = absurd (never_both text p.tree q.fault p.reads q.reads)
+  one_status m n (has_other_inputs p) (passes_a_limit q) = absurd (never_both text p.tree q.fault p.reads q.reads)
+  one_status m n (has_other_inputs p) (has_other_inputs q) = refl
+  one_status m n (has_other_inputs p) (is_not_built q) = absurd (other_form p.tree q.tree p.reads q.reads p.form q.form)
+  one_status m n (is_not_built p) (finishes q) = absurd (other_form q.tree p.tree q.reads p.reads q.form p.form)
+  one_status m n (is_not_built p) (is_no_program q) = absurd (never_both text p.tree q.fault p.reads q.reads)
+  one_status m n (is_not_built p) (passes_a_limit q) = absurd (never_both text p.tree q.fault p.reads q.reads)
+  one_status m n (is_not_built p) (has_other_inputs q) = absurd (other_form q.tree p.tree q.reads p.reads q.form p.form)
+  one_status m n (is_not_built p) (is_not_built q) = refl
+
+-- the verdict's status is what the text comes to, but where it can't be read or memory ran out
+says_comes : (texts : List (List ℕ)) (numbers : List (List ℕ)) (before now : ℕ) (v : Verdict) → SaysOfText (Some texts) numbers before now v →
+    ((status_of v ≡ 3) × Rose before now) ⊎ ((status_of v ≡ 7) ⊎ Comes (next_left texts) numbers (status_of v))
+says_comes texts numbers before now verdict.Usage h = absurd h
+says_comes texts numbers before now verdict.Unread h = inl (refl, h)
+says_comes texts numbers before now verdict.NoMemory h = inr (inl refl)
+says_comes texts numbers before now (verdict.NoProgram m) h = inr (inr (is_no_program h.2))
+says_comes texts numbers before now (verdict.PastLimit l) h = inr (inr (passes_a_limit h))
+says_comes texts numbers before now verdict.NotBuilt h = inr (inr (is_not_built h))
+says_comes texts numbers before now verdict.OtherInputs h = inr (inr (has_other_inputs h))
+says_comes texts numbers before now (verdict.Finished p) h = inr (inr (finishes (record { tree = h.tree; reads = h.reads; form = h.prints.running; inputs = h.inputs; given = h.given; fits = h.prints.fits })))
+
+-- words name one file and its numbers
+renamed : (words : List (List ℕ)) (a b : Command) (later : Option (List (List ℕ))) (before now : ℕ) (v : Verdict) → command words ≡ Some a → command words ≡ Some b →
+    SaysOfText later b.numbers before now v → SaysOfText later a.numbers before now v
+renamed words a b later before now v p q h =
+    let e : Some b ≡ Some a = sym q ∙ p in
+    let same : b ≡ a = ap (λ o. unwrap_or o a) e in
+    subst (λ (c : Command). SaysOfText later c.numbers before now v) same h
+
+-- a verdict is of the words that name a file
+says_named : (words : List (List ℕ)) (later : Option (List (List ℕ))) (before now : ℕ) (v : Verdict) (named : Command) → command words ≡ Some named →
+    Says words later before now v → SaysOfText later named.numbers before now v
+says_named words later before now verdict.Usage named is said = let e : None ≡ Some named = sym said ∙ is in absurd cc
+says_named words later before now verdict.Unread named is said = said.2
+says_named words later before now verdict.NoMemory named is said = tt
+says_named words later before now (verdict.NoProgram m) named is said = said.2
+says_named words later before now (verdict.PastLimit l) named is said = said.2
+says_named words later before now verdict.NotBuilt named is said = said.2
+says_named words later before now verdict.OtherInputs named is said = renamed words named said.0 later before now verdict.OtherInputs is said.1 said.2
+says_named words later before now (verdict.Finished p) named is said = renamed words named said.0 later before now (verdict.Finished p) is said.1 said.2
+
+comes_on : (text : List ℕ) (numbers : List (List ℕ)) (before now n answer : ℕ) (v : Verdict) (out err : SinkChange) → IsDelivered v answer out err → Comes text numbers n →
+    ((status_of v ≡ 3) × Rose before now) ⊎ ((status_of v ≡ 7) ⊎ Comes text numbers (status_of v)) → UnlessUnread n answer
+comes_on text numbers before now n answer v out err (inl w) c (inl three) = inr (w.status ∙ three.0)
+comes_on text numbers before now n answer v out err (inl w) c (inr (inl seven)) = inl (inr (inl (w.status ∙ seven)))
+comes_on text numbers before now n answer v out err (inl w) c (inr (inr d)) = inl (inl (w.status ∙ one_status text numbers (status_of v) n d c))
+comes_on text numbers before now n answer v out err (inr (inl o)) c s = inl (inr (inr o.status))
+comes_on text numbers before now n answer v out err (inr (inr e)) c s = inl (inr (inr e.status))
+
+pub comes_to : (words : List (List ℕ)) (later : Option (List (List ℕ))) (before now : ℕ) (v : Verdict) (answer : ℕ) (out err : SinkChange) →
+    Says words later before now v → IsDelivered v answer out err → ComesTo words later answer
+comes_to words None before now v answer out err said d = λ named is. tt
+comes_to words (Some texts) before now v answer out err said d = λ named is n c.
+    comes_on (next_left texts) named.numbers before now n answer v out err d c (says_comes texts named.numbers before now v (says_named words (Some texts) before now v named is said))
+
+-- where nothing failed, the answer is what the text comes to, or memory ran out
+complete_on : (text : List ℕ) (numbers : List (List ℕ)) (before now n answer : ℕ) (v : Verdict) (out err : SinkChange) → IsDelivered v answer out err →
+    NoneRose before now out.faults out.faults_now err.faults err.faults_now → Comes text numbers n →
+    ((status_of v ≡ 3) × Rose before now) ⊎ ((status_of v ≡ 7) ⊎ Comes text numbers (status_of v)) → (answer ≡ n) ⊎ (answer ≡ 7)
+complete_on text numbers before now n answer v out err (inl w) none c (inl three) = absurd (none.source_kept three.1)
+complete_on text numbers before now n answer v out err (inl w) none c (inr (inl seven)) = inr (w.status ∙ seven)
+complete_on text numbers before now n answer v out err (inl w) none c (inr (inr d)) = inl (w.status ∙ one_status text numbers (status_of v) n d c)
+complete_on text numbers before now n answer v out err (inr (inl o)) none c s = absurd (none.out_kept o.output.cause)
+complete_on text numbers before now n answer v out err (inr (inr e)) none c s = absurd (none.err_kept e.errors.cause)
+
+pub complete_at : (words : List (List ℕ)) (later : Option (List (List ℕ))) (before now : ℕ) (v : Verdict) (answer : ℕ) (out err : SinkChange) →
+    Says words later before now v → IsDelivered v answer out err → NoneRose before now out.faults out.faults_now err.faults err.faults_now →
+    (named : Command) → command words ≡ Some named → OfNextText later (λ text. (n : ℕ) → Comes text named.numbers n → (answer ≡ n) ⊎ (answer ≡ 7))
+complete_at words None before now v answer out err said d none named is = tt
+complete_at words (Some texts) before now v answer out err said d none named is = λ n c.
+    complete_on (next_left texts) named.numbers before now n answer v out err d none c
+    (says_comes texts named.numbers before now v (says_named words (Some texts) before now v named is said))

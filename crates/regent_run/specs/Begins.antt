@@ -4,8 +4,8 @@ use Rattle.std.specs.Option.{option_map}
 use Rattle.run_io.specs.Faults.{one_more}
 use Rattle.run_io.specs.Source.{with_name}
 use Rattle.regent_run.specs.declared.verdict.Verdict.{Verdict}
-use Rattle.regent_run.specs.declared.verdict.Verdict.TheVariants.{Usage, Unread, NoMemory, NoProgram, Finished}
-use Rattle.regent_run.specs.Words.{file_named}
+use Rattle.regent_run.specs.declared.verdict.Verdict.TheVariants.{Usage, NoMemory}
+use Rattle.regent_run.specs.Words.{Command, command}
 
 -- the source was begun once more, by this name
 pub record IsBegunBy (file : List ℕ) (begins begins_now : Option ℕ)
@@ -31,19 +31,13 @@ BeginsFile file begins begins_now names names_now _ =
 -- begun by the file that the words name
 pub record BeginsNamed (words : List (List ℕ)) (begins begins_now : Option ℕ)
     (names names_now : Option (List (List ℕ))) (v : Verdict) : Type 0 where
-  pub file : List ℕ
-  pub named : file_named words ≡ Some file
-  pub begun : BeginsFile file begins begins_now names names_now v
+  pub named : Command
+  pub words_name : command words ≡ Some named
+  pub begun : BeginsFile named.file begins begins_now names names_now v
 
 -- where the words are refused, not begun
 abbrev pub Begins : List (List ℕ) → Option ℕ → Option ℕ →
     Option (List (List ℕ)) → Option (List (List ℕ)) → Verdict → Type 0
 Begins words begins begins_now names names_now Usage = IsUnbegun begins begins_now names names_now
-Begins words begins begins_now names names_now Unread =
-    BeginsNamed words begins begins_now names names_now Unread
-Begins words begins begins_now names names_now NoMemory =
-    BeginsNamed words begins begins_now names names_now NoMemory
-Begins words begins begins_now names names_now (NoProgram message) =
-    BeginsNamed words begins begins_now names names_now (NoProgram message)
-Begins words begins begins_now names names_now (Finished text) =
-    BeginsNamed words begins begins_now names names_now (Finished text)
+Begins words begins begins_now names names_now v =
+    BeginsNamed words begins begins_now names names_now v

@@ -1,6 +1,7 @@
 pub mod Answers
 pub mod Begins
-pub mod FirstForm
+pub mod Inputs
+pub mod Programs
 pub mod Reading
 pub mod Texts
 pub mod Verdicts

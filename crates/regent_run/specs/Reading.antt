@@ -5,7 +5,7 @@ use Rattle.run_io.specs.Source.{Moves}
 use Rattle.regent_run.specs.declared.text.NoText.{NoText}
 use Rattle.regent_run.specs.declared.text.NoText.TheVariants as no_text
 use Rattle.regent_run.specs.declared.verdict.Verdict.{Verdict}
-use Rattle.regent_run.specs.declared.verdict.Verdict.TheVariants.{Unread, NoProgram, Finished}
+use Rattle.regent_run.specs.declared.verdict.Verdict.TheVariants.{Usage, Unread, NoMemory}
 
 -- what a text that can't be had says of the source's count of faults
 abbrev pub IsCause : ℕ → ℕ → NoText → Type 0
@@ -23,10 +23,10 @@ abbrev pub TakesAtMost : ℕ → Option (List ℕ) → Option (List ℕ) → Opt
 TakesAtMost most begun before now =
     (now ≡ before) ⊎ ((moved : List ℕ) × (length moved ≤ most) × Moves begun moved now)
 
--- Where a program or none was found, all that the begin leaves was read, or the text is too long.
+-- Where a text was judged, all that the begin leaves was read, or the text is too long.
 abbrev pub ReadsToEnd : Option (List ℕ) → Option (List ℕ) → Verdict → Type 0
-ReadsToEnd begun now (NoProgram message) =
+ReadsToEnd begun now Usage = Unit {0}
+ReadsToEnd begun now Unread = Unit {0}
+ReadsToEnd begun now NoMemory = Unit {0}
+ReadsToEnd begun now _ =
     IfSome begun (λ text. length text ≤ 1048576 → IfSome now (λ left. left ≡ []))
-ReadsToEnd begun now (Finished text) =
-    IfSome begun (λ text. length text ≤ 1048576 → IfSome now (λ left. left ≡ []))
-ReadsToEnd begun now _ = Unit {0}

@@ -1,6 +1,8 @@
 -- The messages that go to the error output. Each ends with a line feed (10).
 use Rattle.std.specs.Prelude.{ℕ, List, [], ◌∷◌, ◌++◌, codes}
 use Rattle.std.specs.Fmt.{decimal}
+use Rattle.regent_run.specs.declared.limit.Limit.{Limit}
+use Rattle.regent_run.specs.declared.limit.Limit.TheVariants.{Text, Name, Number, Nesting, Tasks, Spaces, Fields, Parameters, Regions}
 
 abbrev pub usage_message : List ℕ
 usage_message = codes "error: usage" ++ 10 ∷ []
@@ -13,3 +15,24 @@ memory_message = codes "error: out of memory" ++ 10 ∷ []
 
 abbrev pub syntax_message : ℕ → List ℕ
 syntax_message line = codes "error: syntax at line " ++ decimal line ++ 10 ∷ []
+
+-- the kind and the number of each limit
+abbrev pub limit_named : Limit → List ℕ
+limit_named Text = codes "text 1048576"
+limit_named Name = codes "name 64"
+limit_named Number = codes "number 9223372036854775807"
+limit_named Nesting = codes "nesting 64"
+limit_named Tasks = codes "tasks 256"
+limit_named Spaces = codes "spaces 256"
+limit_named Fields = codes "fields 16"
+limit_named Parameters = codes "parameters 16"
+limit_named Regions = codes "regions 4"
+
+abbrev pub limit_message : Limit → List ℕ
+limit_message l = codes "error: limit " ++ limit_named l ++ 10 ∷ []
+
+abbrev pub not_built_message : List ℕ
+not_built_message = codes "error: not built" ++ 10 ∷ []
+
+abbrev pub inputs_message : List ℕ
+inputs_message = codes "error: inputs" ++ 10 ∷ []

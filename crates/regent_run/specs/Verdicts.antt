@@ -1,19 +1,27 @@
 -- What a call comes to before it writes, and what it then writes.
-use Rattle.std.specs.Prelude.{◌≡◌, ◌<◌, ◌⊎◌, ℕ, List, [], Option, Some, None, length, string_bytes}
+use Rattle.std.specs.Prelude.{◌≡◌, ◌<◌, ◌⊎◌, ℕ, ℤ, true, false, List, [], Option, Some, None, length, string_bytes}
 use Rattle.run_io.specs.Faults.{Rose}
 use Rattle.run_io.specs.Sink.{Adds, AddsPrefix}
 use Rattle.regent_run.specs.declared.verdict.Verdict.{Verdict}
-use Rattle.regent_run.specs.declared.verdict.Verdict.TheVariants.{Usage, Unread, NoMemory, NoProgram, Finished}
-use Rattle.regent_run.specs.Words.{file_named}
-use Rattle.regent_run.specs.Texts.{usage_message, read_message, memory_message, syntax_message}
-use Rattle.regent_run.specs.FirstForm.{IsFirstForm, Prints, NextPrints, NextIsNone}
+use Rattle.regent_run.specs.declared.verdict.Verdict.TheVariants.{Usage, Unread, NoMemory, NoProgram, PastLimit, NotBuilt, OtherInputs, Finished}
+use Rattle.regent_run.specs.Words.{Command, command}
+use Rattle.regent_run.specs.Texts.{usage_message, read_message, memory_message, syntax_message, limit_message, not_built_message, inputs_message}
 use Rattle.regent_tree.specs.Syntax.{Tree}
+use Rattle.regent_reader.specs.declared.fault.ReadFault.{ReadFault}
+use Rattle.straight_run.specs.Answers.{Prints}
+use Rattle.straight_run.specs.Inputs.{are_inputs}
+use Rattle.straight_run.specs.RunningForm.{is_running, main_task}
+use Rattle.regent_run.specs.Inputs.{AreInputs}
+use Rattle.regent_run.specs.Programs.{limit_passed, syntax_line, HasSyntaxError, PassesLimit, IsNotBuilt, HasOtherInputs, IsRun, OfNextText}
 
 abbrev pub status_of : Verdict → ℕ
 status_of Usage = 2
 status_of Unread = 3
 status_of NoMemory = 7
 status_of (NoProgram message) = 5
+status_of (PastLimit passed) = 8
+status_of NotBuilt = 10
+status_of OtherInputs = 9
 status_of (Finished text) = 0
 
 -- what goes to the output, and what to the error output
@@ -26,43 +34,67 @@ err_text Usage = usage_message
 err_text Unread = read_message
 err_text NoMemory = memory_message
 err_text (NoProgram message) = string_bytes message
+err_text (PastLimit passed) = limit_message passed
+err_text NotBuilt = not_built_message
+err_text OtherInputs = inputs_message
 err_text (Finished text) = []
 
--- the words name a file
+-- the words name a file to run
 abbrev pub IsNamed : List (List ℕ) → Type 0
-IsNamed words = (file : List ℕ) × (file_named words ≡ Some file)
+IsNamed words = (named : Command) × (command words ≡ Some named)
 
--- what the verdict says of the text that the next begin leaves, and of the source's count of faults
+-- what a verdict says of a text that is given the words of numbers
+abbrev pub Judges : List ℕ → List (List ℕ) → Verdict → Type 0
+Judges text numbers Usage = ⊥
+Judges text numbers Unread = ⊥
+Judges text numbers NoMemory = Unit {0}
+Judges text numbers (NoProgram message) =
+    (line : ℕ) × (string_bytes message ≡ syntax_message line) × HasSyntaxError text line
+Judges text numbers (PastLimit passed) = PassesLimit text passed
+Judges text numbers NotBuilt = IsNotBuilt text
+Judges text numbers OtherInputs = HasOtherInputs text numbers
+Judges text numbers (Finished printed) = IsRun text numbers printed.items
+
+-- what it says of a program that was read
+abbrev pub JudgesProgram : Tree → List (List ℕ) → Verdict → Type 0
+JudgesProgram tree numbers NoMemory = Unit {0}
+JudgesProgram tree numbers NotBuilt = is_running tree ≡ false
+JudgesProgram tree numbers OtherInputs = (is_running tree ≡ true) × (inputs : List (Option ℤ))
+    × AreInputs numbers inputs × (are_inputs (main_task tree).params inputs ≡ false)
+JudgesProgram tree numbers (Finished printed) =
+    (inputs : List (Option ℤ)) × AreInputs numbers inputs × Prints tree inputs printed.items
+JudgesProgram tree numbers _ = ⊥
+
+-- what it says of a text that is refused for a fault
+abbrev pub Refuses : ReadFault → Verdict → Type 0
+Refuses fault NoMemory = Unit {0}
+Refuses fault (NoProgram message) =
+    (line : ℕ) × (string_bytes message ≡ syntax_message line) × (syntax_line fault ≡ Some line)
+Refuses fault (PastLimit passed) = limit_passed fault ≡ Some passed
+Refuses fault _ = ⊥
+
+-- the same of the text that the next begin leaves, and what it says of the source's count of faults
 -- before and after
-abbrev pub SaysOfText : Option (List (List ℕ)) → ℕ → ℕ → Verdict → Type 0
-SaysOfText later before now Usage = ⊥
-SaysOfText later before now Unread = Rose before now
-SaysOfText later before now NoMemory = Unit {0}
-SaysOfText later before now (NoProgram message) =
-    NextIsNone later × (line : ℕ) × (string_bytes message ≡ syntax_message line)
-SaysOfText later before now (Finished text) = NextPrints later text.items
+abbrev pub SaysOfText : Option (List (List ℕ)) → List (List ℕ) → ℕ → ℕ → Verdict → Type 0
+SaysOfText later numbers before now Usage = ⊥
+SaysOfText later numbers before now Unread = Rose before now
+SaysOfText later numbers before now NoMemory = Unit {0}
+SaysOfText later numbers before now (NoProgram message) =
+    (line : ℕ) × (string_bytes message ≡ syntax_message line)
+    × OfNextText later (λ text. HasSyntaxError text line)
+SaysOfText later numbers before now (PastLimit passed) =
+    OfNextText later (λ text. PassesLimit text passed)
+SaysOfText later numbers before now NotBuilt = OfNextText later IsNotBuilt
+SaysOfText later numbers before now OtherInputs =
+    OfNextText later (λ text. HasOtherInputs text numbers)
+SaysOfText later numbers before now (Finished printed) =
+    OfNextText later (λ text. IsRun text numbers printed.items)
 
--- a fact of a verdict, but where the words are refused
-abbrev pub OfText : (Verdict → Type 0) → Verdict → Type 0
-OfText P Usage = Unit {0}
-OfText P Unread = P Unread
-OfText P NoMemory = P NoMemory
-OfText P (NoProgram message) = P (NoProgram message)
-OfText P (Finished text) = P (Finished text)
-
--- what it says of the words besides: they are refused, or they name a file
-abbrev pub SaysOfWords : List (List ℕ) → Verdict → Type 0
-SaysOfWords words Usage = file_named words ≡ None
-SaysOfWords words _ = IsNamed words
-
--- the same of a text that is at hand
-abbrev pub Judges : List ℕ → Verdict → Type 0
-Judges text Usage = ⊥
-Judges text Unread = ⊥
-Judges text NoMemory = Unit {0}
-Judges text (NoProgram message) = ((tree : Tree) → IsFirstForm text tree → ⊥)
-    × (line : ℕ) × (string_bytes message ≡ syntax_message line)
-Judges text (Finished printed) = (tree : Tree) × IsFirstForm text tree × Prints tree printed.items
+-- what a verdict says: the words are refused, or the text that they name comes to it
+abbrev pub Says : List (List ℕ) → Option (List (List ℕ)) → ℕ → ℕ → Verdict → Type 0
+Says words later before now Usage = command words ≡ None
+Says words later before now v =
+    (named : Command) × (command words ≡ Some named) × SaysOfText later named.numbers before now v
 
 -- the message of a line, unless memory ran out
 abbrev pub IsNoProgram : ℕ → Verdict → Type 0

@@ -1,19 +1,27 @@
 //! From words and a source to a verdict.
 
-ghost use Rattle.std.specs.Prelude.{◌≡◌, ◌≤◌, None};
+ghost use Rattle.std.specs.Prelude.{◌≡◌, ◌≤◌, ◌++◌, None};
 ghost use Rattle.std.specs.Option.{option_map};
+ghost use Rattle.regent_tree.specs.PlainProgram.{tree_of};
+ghost use Rattle.regent_reader.specs.declared.fault.ReadFault.TheVariants.{Lex};
 ghost use Rattle.run_io.specs.Source.{next_left};
 ghost use Rattle.regent_run.specs.Begins.{Begins, BeginsFile};
+ghost use Rattle.regent_run.specs.Programs.{limit_counted, limit_in_token};
 ghost use Rattle.regent_run.specs.Reading.{IsSteady, TakesAtMost, ReadsToEnd};
-ghost use Rattle.regent_run.specs.Verdicts.{IsNoProgram, Judges, OfText, SaysOfText, SaysOfWords};
-ghost use Rattle.regent_run.specs.Words.{file_named, texts};
+ghost use Rattle.regent_run.specs.Verdicts.{IsNoProgram, Judges, JudgesProgram, Refuses, Says, SaysOfText};
+ghost use Rattle.regent_run.specs.Words.{command, texts};
 
+use crate::inputs::inputs_of;
+use crate::limit::Limit;
 use crate::text::{NoText, read_text};
 use crate::verdict::Verdict;
-use crate::words::file_named;
+use crate::words::{Named, command};
+use regent_lex::LexKind;
 use regent_reader::{ReadFault, read};
+use regent_tree::{Counted, Program};
 use run_io::Source;
 use std::alloc::Global;
+use straight_run::{Answer, run};
 
 /// The text is no program on this line.
 fn no_program(alloc: Global, line: u32) -> Verdict
@@ -25,27 +33,84 @@ fn no_program(alloc: Global, line: u32) -> Verdict
     }
 }
 
+/// The limit that a token passes, where its fault is that.
+fn limit_in_token(kind: LexKind) -> Option<Limit>
+    ensures { result ≡ limit_in_token kind }
+{
+    match kind {
+        LexKind::BadByte | LexKind::Unclosed => None,
+        LexKind::NumberTooLarge => Some(Limit::Number),
+        LexKind::NameTooLong => Some(Limit::Name),
+    }
+}
+
+/// A text without tokens.
+fn refused_token(alloc: Global, kind: LexKind, line: u32) -> Verdict
+    ensures { Refuses (Lex kind line) result }
+{
+    match limit_in_token(kind) {
+        Some(passed) => Verdict::PastLimit(passed),
+        None => no_program(alloc, line),
+    }
+}
+
+fn limit_counted(what: Counted) -> Limit
+    ensures { result ≡ limit_counted what }
+{
+    match what {
+        Counted::Tasks => Limit::Tasks,
+        Counted::Spaces => Limit::Spaces,
+        Counted::Fields => Limit::Fields,
+        Counted::Parameters => Limit::Parameters,
+        Counted::Regions => Limit::Regions,
+    }
+}
+
+/// A text that is no program.
+fn refused(alloc: Global, fault: ReadFault) -> Verdict
+    ensures { Refuses fault result }
+{
+    match fault {
+        ReadFault::TooLong => Verdict::PastLimit(Limit::Text),
+        ReadFault::Lex { kind, line } => refused_token(alloc, kind, line),
+        ReadFault::TooDeep { .. } => Verdict::PastLimit(Limit::Nesting),
+        ReadFault::NoProgram { line } => no_program(alloc, line),
+        ReadFault::TooMany { what, .. } => Verdict::PastLimit(limit_counted(what)),
+        ReadFault::Memory(_) => Verdict::NoMemory,
+    }
+}
+
+/// What a program comes to.
+fn judge_program(alloc: Global, program: &Program, before: &[String], behind: &[String]) -> Verdict
+    ensures { JudgesProgram (tree_of program.now) (texts before.now ++ texts behind.now) result }
+{
+    let Ok(inputs) = inputs_of(alloc, before, behind) else {
+        return Verdict::NoMemory;
+    };
+    match run(alloc, program, inputs.as_slice()) {
+        Ok(Answer::NotRunning) => Verdict::NotBuilt,
+        Ok(Answer::OtherInputs) => Verdict::OtherInputs,
+        Ok(Answer::Printed(text)) => Verdict::Finished { text },
+        Err(_) => Verdict::NoMemory,
+    }
+}
+
 /// What a text comes to.
-fn judge_text(alloc: Global, text: &[u8]) -> Verdict
-    ensures { Judges text.now result }
+fn judge_text(alloc: Global, text: &[u8], before: &[String], behind: &[String]) -> Verdict
+    ensures { Judges text.now (texts before.now ++ texts behind.now) result }
 {
     match read(alloc, text) {
-        Ok(program) => match straight_run::run(alloc, &program) {
-            Ok(Some(text)) => Verdict::Finished { text },
-            Ok(None) => no_program(alloc, 1),
-            Err(_) => Verdict::NoMemory,
-        },
-        Err(ReadFault::TooLong) => no_program(alloc, 1),
-        Err(ReadFault::Lex { line, .. }) => no_program(alloc, line),
-        Err(ReadFault::NoProgram { line }) => no_program(alloc, line),
-        Err(ReadFault::Memory(_)) => Verdict::NoMemory,
+        Ok(program) => judge_program(alloc, &program, before, behind),
+        Err(fault) => refused(alloc, fault),
     }
 }
 
 /// What the text of a file comes to.
-fn judge_file<S: Source>(alloc: Global, file: &str, source: &mut S) -> Verdict
-    ensures said { SaysOfText (S.later source.old) (S.faults source.old) (S.faults source.new) result }
-    ensures begins { BeginsFile file.now (S.begins source.old) (S.begins source.new)
+fn judge_file<S: Source>(alloc: Global, named: &Named<'_>, source: &mut S) -> Verdict
+    ensures said { SaysOfText (S.later source.old)
+        (texts named.now.before.now ++ texts named.now.behind.now)
+        (S.faults source.old) (S.faults source.new) result }
+    ensures begins { BeginsFile named.now.file.now (S.begins source.old) (S.begins source.new)
         (S.names source.old) (S.names source.new) result }
     ensures takes { TakesAtMost 1048577 (option_map next_left (S.later source.old))
         (S.left source.old) (S.left source.new) }
@@ -53,11 +118,11 @@ fn judge_file<S: Source>(alloc: Global, file: &str, source: &mut S) -> Verdict
     ensures faults { S.faults source.old ≤ S.faults source.new }
     ensures steady { IsSteady (S.faults source.old) (S.faults source.new) result }
 {
-    let Ok(name) = String::from_str(alloc, file) else {
+    let Ok(name) = String::from_str(alloc, named.file) else {
         return Verdict::NoMemory;
     };
     match read_text(alloc, source, name) {
-        Ok(text) => judge_text(alloc, text.as_slice()),
+        Ok(text) => judge_text(alloc, text.as_slice(), named.before, named.behind),
         Err(NoText::Failed) => Verdict::Unread,
         Err(NoText::Memory) => Verdict::NoMemory,
     }
@@ -65,9 +130,8 @@ fn judge_file<S: Source>(alloc: Global, file: &str, source: &mut S) -> Verdict
 
 /// What the words and the source come to.
 pub fn judge<S: Source>(alloc: Global, words: &[String], source: &mut S) -> Verdict
-    ensures words { SaysOfWords (texts words.now) result }
-    ensures untouched { file_named (texts words.now) ≡ None → source.new ≡ source.old }
-    ensures said { OfText (SaysOfText (S.later source.old) (S.faults source.old) (S.faults source.new)) result }
+    ensures untouched { command (texts words.now) ≡ None → source.new ≡ source.old }
+    ensures said { Says (texts words.now) (S.later source.old) (S.faults source.old) (S.faults source.new) result }
     ensures begins { Begins (texts words.now) (S.begins source.old) (S.begins source.new)
         (S.names source.old) (S.names source.new) result }
     ensures takes { TakesAtMost 1048577 (option_map next_left (S.later source.old))
@@ -76,8 +140,8 @@ pub fn judge<S: Source>(alloc: Global, words: &[String], source: &mut S) -> Verd
     ensures faults { S.faults source.old ≤ S.faults source.new }
     ensures steady { IsSteady (S.faults source.old) (S.faults source.new) result }
 {
-    match file_named(words) {
+    match command(words) {
         None => Verdict::Usage,
-        Some(file) => judge_file(alloc, file, source),
+        Some(named) => judge_file(alloc, &named, source),
     }
 }

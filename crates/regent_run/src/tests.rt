@@ -72,6 +72,20 @@ fn run_text(alloc: Global, text: &str, faults: &Faults) -> Result<String, Fail> 
     call(alloc, &["regent", "run", "first.rg"], text, faults)
 }
 
+/// A program whose start value stands in so many parentheses.
+fn nested(alloc: Global, depth: usize) -> Result<String, AllocError> {
+    let mut text = String::from_str(alloc, "task main() var x = ")?;
+    for _ in 0..depth {
+        text.push('(')?;
+    }
+    text.push('1')?;
+    for _ in 0..depth {
+        text.push(')')?;
+    }
+    text.push_str(" end")?;
+    Ok(text)
+}
+
 #[test]
 fn texts_are_run(rt: HostRuntime) -> Result<(), Fail> {
     for (text, wanted) in [
@@ -82,10 +96,24 @@ fn texts_are_run(rt: HostRuntime) -> Result<(), Fail> {
             "0|-2|",
         ),
         (
+            "task main() var x : int32 = -2147483649 regentlib.c.printf(\"%d\", -x) end",
+            "0|-2147483647|",
+        ),
+    ] {
+        let told = run_text(rt.alloc(), text, &NO_FAULT)?;
+        assert_eq!(rt; told.as_str(), wanted, "{text}");
+    }
+    Ok(())
+}
+
+#[test]
+fn texts_that_are_no_programs(rt: HostRuntime) -> Result<(), Fail> {
+    for (text, wanted) in [
+        (
             "task main()\n  var x : int64 = 1\n",
             "5||error: syntax at line 3\n",
         ),
-        ("task main()\n  x = 1\nend", "5||error: syntax at line 1\n"),
+        ("task main(", "5||error: syntax at line 1\n"),
         ("task main()\n  y = @\nend", "5||error: syntax at line 2\n"),
         (WITHOUT_END, "5||error: syntax at line 8\n"),
         ("", "5||error: syntax at line 1\n"),
@@ -93,6 +121,98 @@ fn texts_are_run(rt: HostRuntime) -> Result<(), Fail> {
         let told = run_text(rt.alloc(), text, &NO_FAULT)?;
         assert_eq!(rt; told.as_str(), wanted, "{text}");
     }
+    Ok(())
+}
+
+#[test]
+fn programs_that_do_not_run_yet(rt: HostRuntime) -> Result<(), Fail> {
+    for text in [
+        "task main()\n  x = 1\nend",
+        "task main() for i = 0, 5 do end end",
+        "task other() end task main() end",
+        "task main() return end",
+    ] {
+        let told = run_text(rt.alloc(), text, &NO_FAULT)?;
+        assert_eq!(rt; told.as_str(), "10||error: not built\n", "{text}");
+    }
+    Ok(())
+}
+
+#[test]
+fn limits_of_texts(rt: HostRuntime) -> Result<(), Fail> {
+    let alloc = rt.alloc();
+    let told = run_text(alloc, nested(alloc, 64)?.as_str(), &NO_FAULT)?;
+    assert_eq!(rt; told.as_str(), "0||");
+    let told = run_text(alloc, nested(alloc, 65)?.as_str(), &NO_FAULT)?;
+    assert_eq!(rt; told.as_str(), "8||error: limit nesting 64\n");
+    let told = run_text(
+        alloc,
+        "task main() var x = 9223372036854775808 end",
+        &NO_FAULT,
+    )?;
+    assert_eq!(rt;
+        told.as_str(),
+        "8||error: limit number 9223372036854775807\n"
+    );
+    let told = run_text(
+        alloc,
+        "task a(p : ptr(f, a, b, c, d, e)) end task main() end",
+        &NO_FAULT,
+    )?;
+    assert_eq!(rt; told.as_str(), "8||error: limit regions 4\n");
+    Ok(())
+}
+
+/// The program without statements behind a comment, in so many bytes.
+fn long(alloc: Global, bytes: usize) -> Result<String, AllocError> {
+    let mut text = String::from_str(alloc, "--")?;
+    for _ in 0..bytes.saturating_sub(18) {
+        text.push('x')?;
+    }
+    text.push_str("\ntask main() end")?;
+    Ok(text)
+}
+
+#[test]
+fn long_texts(rt: HostRuntime) -> Result<(), Fail> {
+    let alloc = rt.alloc();
+    let told = run_text(alloc, long(alloc, 1_048_576)?.as_str(), &NO_FAULT)?;
+    assert_eq!(rt; told.as_str(), "0||");
+    let told = run_text(alloc, long(alloc, 1_048_577)?.as_str(), &NO_FAULT)?;
+    assert_eq!(rt; told.as_str(), "8||error: limit text 1048576\n");
+    Ok(())
+}
+
+/// The status and the output, where these words stand behind `run`.
+fn run_given(alloc: Global, words: &[&str]) -> Result<String, Fail> {
+    let mut all = Vec::new(alloc);
+    all.push("regent")?;
+    all.push("run")?;
+    for word in words {
+        all.push(*word)?;
+    }
+    let text = "task main(n : int64) regentlib.c.printf(\"%lld\", n) end";
+    call(alloc, all.as_slice(), text, &NO_FAULT)
+}
+
+#[test]
+fn numbers_are_given(rt: HostRuntime) -> Result<(), Fail> {
+    let alloc = rt.alloc();
+    let other = "9||error: inputs\n";
+    assert_eq!(rt; run_given(alloc, &["f.rg", "--", "-3"])?.as_str(), "0|-3|");
+    assert_eq!(rt; run_given(alloc, &["--", "f.rg", "-3"])?.as_str(), "0|-3|");
+    assert_eq!(rt; run_given(alloc, &["f.rg", "007"])?.as_str(), "0|7|");
+    assert_eq!(rt; run_given(alloc, &["f.rg"])?.as_str(), other);
+    assert_eq!(rt; run_given(alloc, &["f.rg", "1", "2"])?.as_str(), other);
+    assert_eq!(rt; run_given(alloc, &["f.rg", "+3"])?.as_str(), other);
+    assert_eq!(rt;
+        run_given(alloc, &["f.rg", "9223372036854775808"])?.as_str(),
+        other
+    );
+    assert_eq!(rt;
+        run_given(alloc, &["f.rg", "-3"])?.as_str(),
+        "2||error: usage\n"
+    );
     Ok(())
 }
 
@@ -111,10 +231,6 @@ fn words_are_refused(rt: HostRuntime) -> Result<(), Fail> {
     );
     assert_eq!(rt;
         call(alloc, &["regent", "run", "-a"], FIRST, &NO_FAULT)?.as_str(),
-        refused
-    );
-    assert_eq!(rt;
-        call(alloc, &["regent", "run", "a", "b"], FIRST, &NO_FAULT)?.as_str(),
         refused
     );
     assert_eq!(rt;

@@ -3,6 +3,7 @@
 ghost use Rattle.std.specs.Prelude.{◌≡◌};
 ghost use Rattle.regent_run.specs.Verdicts.{IsDelivered, change_of, out_text, err_text, status_of};
 
+use crate::limit::Limit;
 use run_io::{Sink, put_all};
 
 /// What a call comes to before it writes anything.
@@ -15,6 +16,12 @@ pub enum Verdict {
     NoMemory,
     /// The text is no program; the message says on which line.
     NoProgram { message: String },
+    /// The text passes a limit.
+    PastLimit(Limit),
+    /// The text is a program that can't be run yet.
+    NotBuilt,
+    /// The words aren't the numbers that the program takes.
+    OtherInputs,
     /// The program has printed this text.
     Finished { text: Vec<u8> },
 }
@@ -28,6 +35,9 @@ impl Verdict {
             Verdict::Unread => 3,
             Verdict::NoMemory => 7,
             Verdict::NoProgram { .. } => 5,
+            Verdict::PastLimit(_) => 8,
+            Verdict::OtherInputs => 9,
+            Verdict::NotBuilt => 10,
             Verdict::Finished { .. } => 0,
         }
     }
@@ -51,6 +61,9 @@ impl Verdict {
             Verdict::Unread => b"error: read failed\n",
             Verdict::NoMemory => b"error: out of memory\n",
             Verdict::NoProgram { message } => message.as_bytes(),
+            Verdict::PastLimit(passed) => passed.message(),
+            Verdict::NotBuilt => b"error: not built\n",
+            Verdict::OtherInputs => b"error: inputs\n",
             Verdict::Finished { .. } => b"",
         }
     }

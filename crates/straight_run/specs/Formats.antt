@@ -11,7 +11,7 @@ use Rattle.straight_run.specs.declared.format.Piece.{Piece}
 use Rattle.straight_run.specs.declared.format.Piece.TheVariants as piece
 use Rattle.straight_run.specs.declared.numbers.Number.{Number}
 use Rattle.straight_run.specs.Values.{value_of}
-use Rattle.straight_run.specs.FirstForm.{one_more, numbers_printed, after_percent, after_l, after_two_l}
+use Rattle.straight_run.specs.RunningForm.{one_more, numbers_printed, after_percent, after_l, after_two_l}
 
 -- how many numbers are printed from a spot on
 abbrev pub counted_at : Spot → List ℕ → Option ℕ

@@ -1,43 +1,49 @@
 -- The evaluator's variables as names of the meaning, and what expressions and statements give.
-use Rattle.std.specs.Prelude.{ℕ, ◌≡◌, ◌+◌, List, [], ◌∷◌, map, Option, Some, cond, bytes_eq, false}
-use Rattle.lane_kernels.specs.declared.numbers.Width.TheVariants.{W64}
-use Rattle.regent_tree.specs.Syntax.{Name, Expression, Links, Expressions, Form, Block}
+use Rattle.lane_kernels.specs.Numbers.{wrapped}
+use Rattle.lane_kernels.specs.declared.numbers.Width.{Width}
+use Rattle.std.specs.Prelude.{ℕ, ◌≡◌, ◌+◌, List, [], ◌∷◌, map, Option, Some, None, cond, bytes_eq, false}
+use Rattle.regent_tree.specs.declared.types.TypeTerm.{TypeTerm}
+use Rattle.regent_tree.specs.Syntax.{Name, Expression, Links, Expressions, Start, Form, Block}
 use Rattle.regent_tree.specs.Values.{Value, a_number}
-use Rattle.regent_tree.specs.StaticTypes.{integer_type}
+use Rattle.regent_tree.specs.StaticTypes.{StaticType, integer_type}
 use Rattle.regent_tree.specs.Scopes.{Scope, with_name}
-use Rattle.regent_tree.specs.Typing.{linked_type}
+use Rattle.regent_tree.specs.Typing.{known_of_start, linked_type, start_type, var_type}
 use Rattle.regent_tree.specs.Running.{Here, State, gives}
 use Rattle.regent_tree.specs.Evaluation.{value, values, linked, typed}
+use Rattle.regent_tree.specs.Starting.{start_value}
 use Rattle.regent_tree.specs.Execution.{exec, exec_block, after_statement, goes_on}
 use Rattle.straight_run.specs.declared.numbers.Number.{Number}
 use Rattle.straight_run.specs.declared.machine.Variable.{Variable}
 use Rattle.straight_run.specs.declared.machine.Machine.{Machine}
-use Rattle.straight_run.specs.FirstForm.{names_after}
-use Rattle.straight_run.specs.Values.{value_of, width_in}
+use Rattle.straight_run.specs.RunningForm.{Binding, bound_after}
+use Rattle.straight_run.specs.Values.{value_of}
 
 -- the place of the newest variable of a name, from a place on
 abbrev pub newest : Option ℕ → ℕ → List Variable → Name → Option ℕ
 newest found i [] n = found
 newest found i (v ∷ vs) n = newest (cond (bytes_eq v.name n) (Some i) found) (i + 1) vs n
 
--- the names of variables, the newest first
-abbrev pub names_before : List Name → List Variable → List Name
-names_before names [] = names
-names_before names (v ∷ vs) = names_before (v.name ∷ names) vs
+-- variables as names of the running form, the newest first
+abbrev pub binding_of : Variable → Binding
+binding_of v = record { name = v.name; variable = v.assignable }
 
-abbrev pub names_of : List Variable → List Name
-names_of vs = names_before [] vs
+abbrev pub bound_before : List Binding → List Variable → List Binding
+bound_before bs [] = bs
+bound_before bs (v ∷ vs) = bound_before (binding_of v ∷ bs) vs
+
+abbrev pub bindings_of : List Variable → List Binding
+bindings_of vs = bound_before [] vs
 
 -- the scope with these variables
 abbrev pub scope_with : Scope → List Variable → Scope
 scope_with s [] = s
-scope_with s (v ∷ vs) = scope_with (with_name s v.name (integer_type W64) false) vs
+scope_with s (v ∷ vs) = scope_with (with_name s v.name (integer_type v.number.width) false) vs
 
 abbrev pub no_scope : Scope
 no_scope = record { names = []; known = []; next = 0 }
 
 abbrev pub values_of : List Variable → List Value
-values_of vs = map (λ (v : Variable). a_number W64 v.value) vs
+values_of vs = map (λ (v : Variable). value_of v.number) vs
 
 -- a place where these variables are in scope, and a state that has them
 abbrev pub knowing : Here → List Variable → Here
@@ -48,23 +54,46 @@ having s vs = record s { names = values_of vs }
 
 -- among these variables the expression has this number, and its width as its type
 pub record Means (vs : List Variable) (e : Expression) (n : Number) : Type 0 where
-  pub type : (h : Here) → typed (knowing h vs) e ≡ integer_type (width_in n)
+  pub type : (h : Here) → typed (knowing h vs) e ≡ integer_type n.width
   pub number : (h : Here) (s : State) →
       value (knowing h vs) e (having s vs) ≡ gives (value_of n) (having s vs)
 
 -- what follows in a chain, from a number on, gives this number
 pub record LinksMean (vs : List Variable) (total : Number) (ls : Links) (n : Number) : Type 0 where
   pub type : (h : Here) →
-      linked_type h.tree (knowing h vs).scope (integer_type (width_in total)) ls
-      ≡ integer_type (width_in n)
+      linked_type h.tree (knowing h vs).scope (integer_type total.width) ls
+      ≡ integer_type n.width
   pub number : (h : Here) (s : State) →
-      linked (knowing h vs) (integer_type (width_in total)) (value_of total) ls (having s vs)
+      linked (knowing h vs) (integer_type total.width) (value_of total) ls (having s vs)
       ≡ gives (value_of n) (having s vs)
 
 -- the arguments have these numbers
 pub record AllMean (vs : List Variable) (es : Expressions) (ns : List Number) : Type 0 where
   pub numbers : (h : Here) (s : State) →
       values (knowing h vs) [] es (having s vs) ≡ gives (map value_of ns) (having s vs)
+
+-- the start value has this number, and its width as its type
+pub record StartMeans (vs : List Variable) (start : Start) (n : Number) : Type 0 where
+  pub type : (h : Here) (own : ℕ) →
+      start_type h.tree (knowing h vs).scope own start ≡ integer_type n.width
+  pub known : (h : Here) (own : ℕ) →
+      known_of_start h.tree (knowing h vs).scope own (Some start) ≡ []
+  pub number : (h : Here) (s : State) (wanted : StaticType) →
+      start_value (knowing h vs) None wanted (Some start) (having s vs)
+      ≡ gives (value_of n) (having s vs)
+  pub taken : (h : Here) (s : State) (t : TypeTerm) (w : Width) →
+      start_value (knowing h vs) (Some t) (integer_type w) (Some start) (having s vs)
+      ≡ gives (a_number w (wrapped w n.value)) (having s vs)
+
+-- a variable that is declared so begins with this number, of this width
+pub record Begins (vs : List Variable) (term : Option TypeTerm) (start : Option Start) (n : Number) : Type 0 where
+  pub type : (h : Here) →
+      var_type h.tree (knowing h vs).scope term start ≡ integer_type n.width
+  pub known : (h : Here) (own : ℕ) →
+      known_of_start h.tree (knowing h vs).scope own start ≡ []
+  pub number : (h : Here) (s : State) →
+      start_value (knowing h vs) term (integer_type n.width) start (having s vs)
+      ≡ gives (value_of n) (having s vs)
 
 -- the machine as a state of the meaning: its variables and what it has printed
 abbrev pub at : State → Machine → State
@@ -76,16 +105,16 @@ pub record Steps (old : Machine) (form : Form) (new : Machine) : Type 0 where
       after_statement (knowing h old.variables.items) form ≡ knowing h new.variables.items
   pub run : (h : Here) (s : State) →
       exec (knowing h old.variables.items) form (at s old) ≡ gives goes_on (at s new)
-  pub names : names_of new.variables.items ≡ names_after (names_of old.variables.items) form
+  pub names : bindings_of new.variables.items ≡ bound_after (bindings_of old.variables.items) form
 
 -- statements in order do
 pub record Executes (old : Machine) (body : Block) (new : Machine) : Type 0 where
   pub run : (h : Here) (s : State) →
       exec_block (knowing h old.variables.items) body (at s old) ≡ gives goes_on (at s new)
 
--- statements that begin with nothing print a text and go on
-pub record Prints (body : Block) (text : List ℕ) : Type 0 where
+-- statements that begin with these variables print a text and go on
+pub record Prints (given : List Variable) (body : Block) (text : List ℕ) : Type 0 where
   pub variables : List Variable
   pub run : (h : Here) (s : State) →
-      exec_block (knowing h []) body (record s { names = []; text = [] })
+      exec_block (knowing h given) body (record s { names = values_of given; text = [] })
       ≡ gives goes_on (record s { names = values_of variables; text = text })

@@ -1,25 +1,24 @@
-//! Statements in order: variables of type `int64`, assignments and `printf`.
+//! Statements in order: variables of integer types, assignments and `printf`.
 
-ghost use Rattle.std.specs.Prelude.{◌≡◌, ◌&&◌, List, Some, None, false, IfOk, IfSome, IsTrue, not, MatchOption, is_some, length};
+ghost use Rattle.std.specs.Prelude.{◌≡◌, ◌<◌, ◌&&◌, List, Some, None, false, IfOk, IfSome, IsTrue, not, MatchOption, is_some, length, pos};
 ghost use Rattle.std.specs.Option.{option_map};
-ghost use Rattle.lane_kernels.specs.declared.numbers.Width.TheVariants.{W64};
+ghost use Rattle.lane_kernels.specs.Numbers.{wrapped};
 ghost use Rattle.regent_tree.specs.declared.statement.How.TheVariants.{Set};
-ghost use Rattle.regent_tree.specs.declared.types.NumberTerm.TheVariants.{Int64};
-ghost use Rattle.regent_tree.specs.declared.types.TypeTerm.TheVariants as term;
 ghost use Rattle.regent_tree.specs.Plain.{expression_of, expressions_in, start_of, steps_in};
 ghost use Rattle.regent_tree.specs.PlainProgram.{block_in, form_of};
 ghost use Rattle.regent_tree.specs.Syntax.{Name, assign_form, no_step, plain_start, print_form, var_form};
-ghost use Rattle.regent_tree.specs.Values.{number_of};
-ghost use Rattle.lane_kernels.specs.Numbers.{wrapped};
-ghost use Rattle.straight_run.specs.FirstForm.{are_in_order, are_sums, count_of, has_name, is_bare, is_in_order, is_int64, is_plain_sum, is_set, is_sum, prints};
+ghost use Rattle.regent_tree.specs.Values.{a_number};
+ghost use Rattle.straight_run.specs.Inputs.{width_said};
+ghost use Rattle.straight_run.specs.RunningForm.{Binding, are_in_order, are_sums, begins, count_of, is_bare, is_in_order, is_integer, is_plain_sum, is_set, is_sum, is_variable, prints};
 ghost use Rattle.straight_run.specs.Values.{value_of};
-ghost use Rattle.straight_run.specs.Variables.{AllMean, Executes, Steps, names_of};
+ghost use Rattle.straight_run.specs.Variables.{AllMean, Begins, Executes, StartMeans, Steps, bindings_of, newest};
 
 use crate::evaluate::{evaluate, is_bare};
 use crate::format::{print, prints};
 use crate::machine::{Machine, Variable, newest};
-use crate::numbers::{Number, widened};
-use regent_tree::{Expr, How, Init, Name, NumberTerm, Step, Stmt, TypeTerm, What};
+use crate::numbers::{Number, wrapped_at};
+use crate::parameters::integer_width;
+use regent_tree::{Expr, How, Init, Name, Step, Stmt, TypeTerm, What};
 use std::alloc::{AllocError, Global};
 
 /// The numbers of arguments, or None where one isn't a sum.
@@ -31,7 +30,7 @@ fn arguments(
     ensures mean { IfOk result (λ o. IfSome o (λ numbers.
         AllMean variables.now (expressions_in args.now) numbers.items)) }
     ensures sums { IfOk result (λ o.
-        is_some o ≡ are_sums (names_of variables.now) (expressions_in args.now)) }
+        is_some o ≡ are_sums (bindings_of variables.now) (expressions_in args.now)) }
     ensures count { IfOk result (λ o. IfSome o (λ numbers.
         length numbers.items ≡ count_of (expressions_in args.now))) }
 {
@@ -45,26 +44,24 @@ fn arguments(
     Ok(Some(numbers))
 }
 
-/// Whether the declared type is `int64`.
-fn is_int64(term: &Option<TypeTerm>) -> bool
-    ensures { result ≡ is_int64 term.now }
+/// The expression with which a variable begins.
+fn plain_expression(init: &Init) -> Option<&Expr>
+    ensures { MatchOption result
+        ((bs : List Binding) → is_plain_sum bs (start_of init.now) ≡ false)
+        (λ e. start_of init.now ≡ plain_start (expression_of e.now)) }
 {
-    match term {
-        Some(TypeTerm::Number(NumberTerm::Int64)) => true,
-        _ => false,
+    match init {
+        Init::Plain(e) => Some(e),
+        _ => None,
     }
 }
 
-/// The expression with which a variable begins.
-fn plain_expression(init: &Option<Init>) -> Option<&Expr>
-    ensures { MatchOption result
-        ((names : List Name) → is_plain_sum names (option_map start_of init.now) ≡ false)
-        (λ e. option_map start_of init.now ≡ Some (plain_start (expression_of e.now))) }
+/// The number of a start value.
+fn started(init: &Init, variables: &[Variable]) -> Option<Number>
+    ensures means { IfSome result (λ n. StartMeans variables.now (start_of init.now) n) }
+    ensures sum { is_some result ≡ is_plain_sum (bindings_of variables.now) (start_of init.now) }
 {
-    match init {
-        Some(Init::Plain(e)) => Some(e),
-        _ => None,
-    }
+    evaluate(plain_expression(init)?, variables)
 }
 
 /// Whether an assignment is by `=`.
@@ -77,14 +74,24 @@ fn is_set(how: How) -> bool
     }
 }
 
-/// A variable of a name, with a number in 64 bits.
-fn variable_of(name: Name, number: Number) -> Variable
-    ensures name { result.name ≡ name }
-    ensures value { result.value ≡ wrapped W64 (number_of (value_of number)) }
+/// The first number of a variable: its start value, which wraps where a type is written, or 0.
+fn first_number(
+    term: &Option<TypeTerm>,
+    init: &Option<Init>,
+    variables: &[Variable],
+) -> Option<Number>
+    ensures means { IfSome result (λ n. Begins variables.now term.now (option_map start_of init.now) n) }
+    ensures order { is_some result
+        ≡ begins (bindings_of variables.now) term.now (option_map start_of init.now) }
 {
-    Variable {
-        name,
-        value: widened(number),
+    match (term, init) {
+        (None, None) => None,
+        (None, Some(init)) => started(init, variables),
+        (Some(term), None) => Some(wrapped_at(integer_width(term)?, 0)),
+        (Some(term), Some(init)) => {
+            let width = integer_width(term)?;
+            Some(wrapped_at(width, started(init, variables)?.value))
+        }
     }
 }
 
@@ -92,38 +99,57 @@ fn variable_of(name: Name, number: Number) -> Variable
 fn declare(
     alloc: Global,
     name: &[u8],
-    start: &Expr,
+    term: &Option<TypeTerm>,
+    init: &Option<Init>,
     machine: &mut Machine,
 ) -> Result<bool, AllocError>
-    ensures order { IfOk result (λ ok.
-        ok ≡ is_sum (names_of machine.old.variables.items) (expression_of start.now)) }
-    ensures steps { IfOk result (λ ok. IsTrue ok → Steps machine.old
-        (var_form name.now (Some (term.Number Int64))
-        (Some (plain_start (expression_of start.now)))) machine.new) }
+    ensures order { IfOk result (λ ok. ok
+        ≡ begins (bindings_of machine.old.variables.items) term.now (option_map start_of init.now)) }
+    ensures steps { IfOk result (λ ok. IsTrue ok →
+        Steps machine.old (var_form name.now term.now (option_map start_of init.now)) machine.new) }
 {
-    match evaluate(start, &machine.variables) {
+    match first_number(term, init, &machine.variables) {
         None => Ok(false),
         Some(number) => {
             let name = Name::from_slice(alloc, name)?;
-            machine.variables.push(variable_of(name, number))?;
+            machine.variables.push(Variable {
+                name,
+                number,
+                assignable: true,
+            })?;
             Ok(true)
         }
     }
 }
 
-/// A new number for a variable.
+/// The place of the variable that a name means, where it is assignable.
+fn target_place(variables: &[Variable], name: &[u8]) -> Option<usize>
+    ensures place { IfSome result (λ place. newest None 0 variables.now name.now ≡ Some place) }
+    ensures within { IfSome result (λ place. place < length variables.now) }
+    ensures variable { is_some result ≡ is_variable (bindings_of variables.now) name.now }
+{
+    let place = newest(variables, name)?;
+    if variables[place].assignable {
+        Some(place)
+    } else {
+        None
+    }
+}
+
+/// A new number for a variable, which wraps at the variable's width.
 fn assign(target: &[u8], value: &Expr, machine: &mut Machine) -> bool
-    ensures order { result ≡ (has_name (names_of machine.old.variables.items) target.now
-        && is_sum (names_of machine.old.variables.items) (expression_of value.now)) }
+    ensures order { result ≡ (is_variable (bindings_of machine.old.variables.items) target.now
+        && is_sum (bindings_of machine.old.variables.items) (expression_of value.now)) }
     ensures steps { IsTrue result → Steps machine.old
         (assign_form target.now no_step Set (expression_of value.now)) machine.new }
 {
-    match newest(&machine.variables, target) {
+    match target_place(&machine.variables, target) {
         None => false,
         Some(place) => match evaluate(value, &machine.variables) {
             None => false,
             Some(number) => {
-                machine.variables[place].value = widened(number);
+                let variable = &mut machine.variables[place];
+                variable.number = wrapped_at(variable.number.width, number.value);
                 true
             }
         },
@@ -138,7 +164,7 @@ fn print_arguments(
     machine: &mut Machine,
 ) -> Result<bool, AllocError>
     ensures order { IfOk result (λ ok. ok ≡
-        (are_sums (names_of machine.old.variables.items) (expressions_in args.now)
+        (are_sums (bindings_of machine.old.variables.items) (expressions_in args.now)
         && prints format.now (count_of (expressions_in args.now)))) }
     ensures steps { IfOk result (λ ok. IsTrue ok → Steps machine.old
         (print_form None format.now (expressions_in args.now)) machine.new) }
@@ -156,34 +182,11 @@ fn print_arguments(
     }
 }
 
-/// A `var`, where its type is `int64` and it begins with an expression.
-fn declare_typed(
-    alloc: Global,
-    name: &[u8],
-    term: &Option<TypeTerm>,
-    init: &Option<Init>,
-    machine: &mut Machine,
-) -> Result<bool, AllocError>
-    ensures order { IfOk result (λ ok. ok ≡ (is_int64 term.now
-        && is_plain_sum (names_of machine.old.variables.items) (option_map start_of init.now))) }
-    ensures steps { IfOk result (λ ok. IsTrue ok →
-        Steps machine.old (var_form name.now term.now (option_map start_of init.now)) machine.new) }
-{
-    if is_int64(term) {
-        match plain_expression(init) {
-            None => Ok(false),
-            Some(start) => declare(alloc, name, start, machine),
-        }
-    } else {
-        Ok(false)
-    }
-}
-
 /// An assignment, where it is by `=` and to a name.
 fn assign_bare(target: &[u8], steps: &[Step], how: How, value: &Expr, machine: &mut Machine) -> bool
     ensures order { result ≡ (is_set how && (is_bare (steps_in steps.now)
-        && (has_name (names_of machine.old.variables.items) target.now
-        && is_sum (names_of machine.old.variables.items) (expression_of value.now)))) }
+        && (is_variable (bindings_of machine.old.variables.items) target.now
+        && is_sum (bindings_of machine.old.variables.items) (expression_of value.now)))) }
     ensures steps { IsTrue result → Steps machine.old
         (assign_form target.now (steps_in steps.now) how (expression_of value.now)) machine.new }
 {
@@ -199,7 +202,7 @@ fn print_named(
     machine: &mut Machine,
 ) -> Result<bool, AllocError>
     ensures order { IfOk result (λ ok. ok ≡ (not (is_some alias.now)
-        && (are_sums (names_of machine.old.variables.items) (expressions_in args.now)
+        && (are_sums (bindings_of machine.old.variables.items) (expressions_in args.now)
         && prints format.now (count_of (expressions_in args.now))))) }
     ensures steps { IfOk result (λ ok. IsTrue ok → Steps machine.old
         (print_form alias.now format.now (expressions_in args.now)) machine.new) }
@@ -213,14 +216,12 @@ fn print_named(
 /// A statement, where it is in order.
 fn execute(alloc: Global, what: &What, machine: &mut Machine) -> Result<bool, AllocError>
     ensures order { IfOk result (λ ok. ok
-        ≡ is_in_order (names_of machine.old.variables.items) (form_of what.now)) }
+        ≡ is_in_order (bindings_of machine.old.variables.items) (form_of what.now)) }
     ensures steps { IfOk result (λ ok.
         IsTrue ok → Steps machine.old (form_of what.now) machine.new) }
 {
     match what {
-        What::Var { name, term, init } => {
-            declare_typed(alloc, name.as_slice(), term, init, machine)
-        }
+        What::Var { name, term, init } => { declare(alloc, name.as_slice(), term, init, machine) }
         What::Assign {
             target,
             steps,
@@ -239,7 +240,7 @@ fn execute(alloc: Global, what: &What, machine: &mut Machine) -> Result<bool, Al
 /// Statements in order, or false at the first that isn't in order.
 pub fn execute_all(alloc: Global, body: &[Stmt], machine: &mut Machine) -> Result<bool, AllocError>
     ensures order { IfOk result (λ ok. ok
-        ≡ are_in_order (names_of machine.old.variables.items) (block_in body.now)) }
+        ≡ are_in_order (bindings_of machine.old.variables.items) (block_in body.now)) }
     ensures executes { IfOk result (λ ok.
         IsTrue ok → Executes machine.old (block_in body.now) machine.new) }
 {

@@ -3,10 +3,10 @@
 ghost use Rattle.std.specs.Prelude.{◌≡◌, ℕ, ℤ, List, ◌∷◌, ◌++◌, drop, IfOk, OnOk, string_bytes};
 ghost use Rattle.std.specs.Fmt.{signed_decimal};
 ghost use Rattle.regent_tree.specs.Printing.{first_number, printed};
-ghost use Rattle.straight_run.specs.FirstForm.{numbers_printed, prints};
+ghost use Rattle.straight_run.specs.RunningForm.{numbers_printed, prints};
 ghost use Rattle.straight_run.specs.Formats.{counted_at, counted_by, numbers_of, printed_at, printed_by};
 
-use crate::numbers::{Number, widened};
+use crate::numbers::Number;
 use std::alloc::{AllocError, Global};
 
 /// Where a byte stands: in the text, or behind `%`, `%l` or `%ll`.
@@ -149,7 +149,7 @@ fn print_number(
     match numbers.get(place) {
         None => Ok(()),
         Some(number) => {
-            let digits = decimal(alloc, widened(*number))?;
+            let digits = decimal(alloc, number.value)?;
             text.extend_from_slice(digits.as_bytes())?;
             Ok(())
         }

@@ -1,36 +1,56 @@
-//! Straight-line programs, evaluated on their tree: variables of type `int64`, assignments and
-//! `printf`, over sums and products of numbers. What is printed is what the program means.
+//! Straight-line programs, evaluated on their tree: one task `main` that takes integers, with
+//! variables of integer types, assignments and `printf`, over sums and products. What is printed is
+//! what the program means.
 #![tactic(auto)]
 
-ghost use Rattle.std.specs.Prelude.{◌≡◌, ℕ, [], ◌&&◌, IfOk, IfSome, IsTrue, is_some};
-ghost use Rattle.regent_tree.specs.Meaning.{meaning};
+ghost use Rattle.std.specs.Prelude.{◌≡◌, IfOk, IfSome, is_some};
 ghost use Rattle.regent_tree.specs.PlainProgram.{block_in, task_of, tree_of};
-ghost use Rattle.regent_tree.specs.declared.outcome.Ending.TheVariants.{Finished};
-ghost use Rattle.straight_run.specs.FirstForm.{are_in_order, is_closed, takes_nothing};
-ghost use Rattle.straight_run.specs.Variables.{Prints};
+ghost use Rattle.straight_run.specs.Answers.{Answers, TaskAnswers};
+ghost use Rattle.straight_run.specs.Parameters.{with_inputs};
+ghost use Rattle.straight_run.specs.RunningForm.{are_in_order, is_running_task};
+ghost use Rattle.straight_run.specs.Variables.{Prints, bindings_of};
 
 mod evaluate;
 mod execute;
 mod format;
 mod machine;
 mod numbers;
+mod parameters;
 mod started;
 #[cfg(test)]
 mod tests;
 
 use execute::execute_all;
-use machine::Machine;
+use machine::{Machine, Variable};
+use parameters::{are_inputs, parameters};
 use regent_tree::{Program, Stmt, Task};
-use started::{started, task_named};
+use started::{are_running_items, started, task_named};
 use std::alloc::{AllocError, Global};
 
-/// The text of a body, where its statements are in order.
-fn run_body(alloc: Global, body: &[Stmt]) -> Result<Option<Vec<u8>>, AllocError>
-    ensures order { IfOk result (λ o. is_some o ≡ are_in_order [] (block_in body.now)) }
-    ensures text { IfOk result (λ o. IfSome o (λ text. Prints (block_in body.now) text.items)) }
+/// What a program and the numbers that it is given come to.
+#[derive(Drop)]
+pub enum Answer {
+    /// The program isn't of the running form.
+    NotRunning,
+    /// These aren't the numbers that the program takes.
+    OtherInputs,
+    /// The program prints this text.
+    Printed(Vec<u8>),
+}
+
+/// The text of a body that begins with these variables, where its statements are in order.
+fn run_body(
+    alloc: Global,
+    body: &[Stmt],
+    variables: Vec<Variable>,
+) -> Result<Option<Vec<u8>>, AllocError>
+    ensures order { IfOk result (λ o. is_some o
+        ≡ are_in_order (bindings_of variables.items) (block_in body.now)) }
+    ensures text { IfOk result (λ o. IfSome o (λ text.
+        Prints variables.items (block_in body.now) text.items)) }
 {
     let mut machine = Machine {
-        variables: Vec::new(alloc),
+        variables,
         text: Vec::new(alloc),
     };
     if execute_all(alloc, body, &mut machine)? {
@@ -40,30 +60,54 @@ fn run_body(alloc: Global, body: &[Stmt]) -> Result<Option<Vec<u8>>, AllocError>
     }
 }
 
-/// Whether a task has no parameters and no clauses.
-fn takes_nothing(task: &Task) -> bool
-    ensures { result ≡ takes_nothing (task_of task.now) }
+/// The text of a task, where it is of the running form. A number that doesn't fit counts as 0.
+fn run_task(
+    alloc: Global,
+    task: &Task,
+    inputs: &[Option<i64>],
+) -> Result<Option<Vec<u8>>, AllocError>
+    ensures order { IfOk result (λ o. is_some o ≡ is_running_task (task_of task.now)) }
+    ensures text { IfOk result (λ o. IfSome o (λ text.
+        Prints (with_inputs (task_of task.now).params inputs.now) (task_of task.now).body text.items)) }
 {
-    task.params.is_empty() && task.clauses.is_empty()
-}
-
-/// The text that a program prints, or None where the program isn't in order.
-pub fn run(alloc: Global, program: &Program) -> Result<Option<Vec<u8>>, AllocError>
-    // None exactly where the program isn't in order.
-    ensures closed { IfOk result (λ o. is_some o ≡ is_closed (tree_of program.now)) }
-    // The text is what the program means, whatever the turns.
-    ensures text { (turns : ℕ) → IfOk result (λ o. IfSome o (λ text.
-        meaning (tree_of program.now) [] turns
-        ≡ record { text = text.items; ending = Finished [] })) }
-{
-    match task_named(&program.items, started(&program.items)) {
-        None => Ok(Some(Vec::new(alloc))),
-        Some(task) => {
-            if takes_nothing(task) {
-                run_body(alloc, &task.body)
+    match parameters(alloc, task.params.as_slice(), inputs)? {
+        None => Ok(None),
+        Some(variables) => {
+            if task.result.is_none() && task.clauses.is_empty() {
+                run_body(alloc, &task.body, variables)
             } else {
                 Ok(None)
             }
         }
+    }
+}
+
+/// What a task and the numbers that it is given come to.
+fn answer_of(alloc: Global, task: &Task, inputs: &[Option<i64>]) -> Result<Answer, AllocError>
+    ensures { IfOk result (TaskAnswers (task_of task.now) inputs.now) }
+{
+    match run_task(alloc, task, inputs)? {
+        None => Ok(Answer::NotRunning),
+        Some(text) => {
+            if are_inputs(task.params.as_slice(), inputs) {
+                Ok(Answer::Printed(text))
+            } else {
+                Ok(Answer::OtherInputs)
+            }
+        }
+    }
+}
+
+/// What a program and the numbers that it is given come to. An input is None where it is no number
+/// of 64 bits. Whether the program is of the running form is told before the inputs are.
+pub fn run(alloc: Global, program: &Program, inputs: &[Option<i64>]) -> Result<Answer, AllocError>
+    ensures { IfOk result (Answers (tree_of program.now) inputs.now) }
+{
+    if !are_running_items(&program.items) {
+        return Ok(Answer::NotRunning);
+    }
+    match task_named(&program.items, started(&program.items)) {
+        None => Ok(Answer::NotRunning),
+        Some(task) => answer_of(alloc, task, inputs),
     }
 }

@@ -6,18 +6,12 @@ ghost use Rattle.straight_run.specs.Variables.{newest};
 use crate::numbers::Number;
 use regent_tree::Name;
 
-/// A variable of 64 bits.
+/// A variable, or a parameter, which can't be assigned to.
 #[derive(Drop)]
 pub struct Variable {
     pub name: Name,
-    pub value: i64,
-}
-
-/// A variable's number.
-pub fn number_in(variable: &Variable) -> Number
-    ensures { result ≡ Number.Wide variable.now.value }
-{
-    Number::Wide(variable.value)
+    pub number: Number,
+    pub assignable: bool,
 }
 
 /// The variables in the order of their binding, and the text that was printed.

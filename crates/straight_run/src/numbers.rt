@@ -1,22 +1,21 @@
 //! Numbers with their widths, and the operators that wrap.
 
-ghost use Rattle.std.specs.Prelude.{◌≡◌, ◌↔◌, Some, IfSome, IsTrue, is_some};
-ghost use Rattle.lane_kernels.specs.declared.numbers.Width.TheVariants.{W32, W64};
-ghost use Rattle.regent_tree.specs.Numbers.{computed, wider};
+ghost use Rattle.std.specs.Prelude.{◌≡◌, Some};
+ghost use Rattle.lane_kernels.specs.declared.numbers.Width.TheVariants.{W64};
 ghost use Rattle.lane_kernels.specs.Numbers.{wrapped};
-ghost use Rattle.regent_tree.specs.Values.{a_number, number_of};
-ghost use Rattle.straight_run.specs.FirstForm.{is_number};
+ghost use Rattle.regent_tree.specs.Numbers.{computed, wider};
+ghost use Rattle.regent_tree.specs.Operators.{arithmetic, negated};
 ghost use Rattle.regent_tree.specs.Running.{Here, State, gives};
-ghost use Rattle.regent_tree.specs.Operators.{arithmetic};
-ghost use Rattle.straight_run.specs.Values.{arithmetic_of, wrapping_of, value_of, width_in};
+ghost use Rattle.regent_tree.specs.Values.{a_number};
+ghost use Rattle.straight_run.specs.Values.{arithmetic_of, value_of, wrapping_of};
 
 use regent_tree::{Arithmetic, Operator, Width};
 
-/// A number of 32 or 64 bits.
+/// A number, and the width of its type.
 #[derive(Clone, Copy, Debug, PartialEq, Eq)]
-pub enum Number {
-    Narrow(i32),
-    Wide(i64),
+pub struct Number {
+    pub width: Width,
+    pub value: i64,
 }
 
 /// The operators whose results wrap at the wider width of the two operands.
@@ -39,32 +38,13 @@ pub fn wrapping_operator(operator: Operator) -> Option<Wrapping>
     }
 }
 
-/// The number that is written, where it is one of its width.
-pub fn literal(value: i64, width: Width) -> Option<Number>
-    ensures value { IfSome result (λ n. value_of n ≡ a_number width value) }
-    ensures width { IfSome result (λ n. width_in n ≡ width) }
-    ensures fits { is_some result ≡ is_number value width }
+/// The wider of two widths.
+fn wider(a: Width, b: Width) -> Width
+    ensures { result ≡ wider a b }
 {
-    match width {
-        Width::W32 => {
-            if -2_147_483_648 <= value && value <= 2_147_483_647 {
-                Some(Number::Narrow(value as i32))
-            } else {
-                None
-            }
-        }
-        Width::W64 => Some(Number::Wide(value)),
-    }
-}
-
-#[tactic(auto, using(std::proofs::lemmas::Int::wrapping_add_is, std::proofs::lemmas::Int::wrapping_sub_is, std::proofs::lemmas::Int::wrapping_mul_is))]
-fn in_32(operator: Wrapping, a: i32, b: i32) -> i32
-    ensures { computed (arithmetic_of operator) W32 a b ≡ Some result }
-{
-    match operator {
-        Wrapping::Add => a.wrapping_add(b),
-        Wrapping::Subtract => a.wrapping_sub(b),
-        Wrapping::Multiply => a.wrapping_mul(b),
+    match a {
+        Width::W32 => b,
+        Width::W64 => Width::W64,
     }
 }
 
@@ -79,29 +59,43 @@ fn in_64(operator: Wrapping, a: i64, b: i64) -> i64
     }
 }
 
-/// The number in 64 bits, which is also what a variable of type int64 takes of it.
-#[tactic(auto, using(std::proofs::lemmas::Int::int_wrap_fits))]
-pub fn widened(number: Number) -> i64
-    ensures number { result ≡ number_of (value_of number) }
-    ensures taken { result ≡ wrapped W64 (number_of (value_of number)) }
+fn at_width(operator: Wrapping, width: Width, a: i64, b: i64) -> i64
+    ensures { computed (arithmetic_of operator) width a b ≡ Some result }
 {
-    match number {
-        Number::Narrow(value) => i64::from(value),
-        Number::Wide(value) => value,
+    width.wrap(in_64(operator, a, b))
+}
+
+/// A number at a width, to which it wraps.
+pub fn wrapped_at(width: Width, value: i64) -> Number
+    ensures { value_of result ≡ a_number width (wrapped width value) }
+{
+    Number {
+        width,
+        value: width.wrap(value),
     }
 }
 
 /// The result of an operator at the wider width of its operands.
 pub fn apply(operator: Wrapping, a: Number, b: Number) -> Number
-    ensures width { width_in result ≡ wider (width_in a) (width_in b) }
+    ensures width { result.width ≡ wider a.width b.width }
     ensures means { (h : Here) (s : State) →
         arithmetic h (arithmetic_of operator) (value_of a) (value_of b) s
         ≡ gives (value_of result) s }
 {
-    if let Number::Narrow(x) = a {
-        if let Number::Narrow(y) = b {
-            return Number::Narrow(in_32(operator, x, y));
-        }
+    let width = wider(a.width, b.width);
+    Number {
+        width,
+        value: at_width(operator, width, a.value, b.value),
     }
-    Number::Wide(in_64(operator, widened(a), widened(b)))
+}
+
+/// The number behind a `-`, which wraps.
+#[tactic(auto, using(std::proofs::lemmas::Int::wrapping_neg_is))]
+pub fn negative(number: Number) -> Number
+    ensures { value_of result ≡ negated (value_of number) }
+{
+    Number {
+        width: number.width,
+        value: number.width.wrap(number.value.wrapping_neg()),
+    }
 }

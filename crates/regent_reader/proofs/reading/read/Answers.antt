@@ -1,21 +1,34 @@
+use Rattle.std.proofs.Common.{arith}
 use Rattle.std.proofs.lemmas.Result.{err_from_is_err_and}
-use Rattle.regent_reader.proofs.SpellingLaws.{spelt_program, spelt_refused, only_program, all_read}
+use Rattle.regent_reader.specs.Texts.{is_long}
+use Rattle.regent_reader.proofs.TextLaws.{answers_only, reads_nested, reads_no_tokens}
 use Rattle.regent_reader.proofs.reading.read.Goals as goal
 
-pub returns-in_err-lexemes-clause-complete : goal.returns-in_err-lexemes-clause-complete
-returns-in_err-lexemes-clause-complete c =
+pub returns-then-text-gt1048576-clause-reads : goal.returns-then-text-gt1048576-clause-reads
+returns-then-text-gt1048576-clause-reads c = is_long c.if-text-gt1048576.true
+
+pub returns-in_err-lexemes-clause-reads : goal.returns-in_err-lexemes-clause-reads
+returns-in_err-lexemes-clause-reads c =
     let p = err_from_is_err_and c.from_residual.result c.from_residual.ensures.1 in
-    λ tree spelt. rw (p.1, p.2)
-    (spelt_refused c.args.text.now tree spelt _ c.in_err-lexemes.ensures.err)
+    let fits = c.if-text-gt1048576.false in
+    rw (p.1, p.2) (reads_no_tokens c.args.text.now c.in_err-lexemes.field-0.0 (omega arith) c.in_err-lexemes.ensures.err)
 
-pub returns-clause-one_tree : goal.returns-clause-one_tree
-returns-clause-one_tree c =
-    let of = rw (← c.as_slice.ensures.value) at c.in_ok-lexemes.ensures.ok in
-    λ tree spelt. only_program c.as_slice.result.now tree c.parsed.result
-    (spelt_program c.args.text.now c.as_slice.result.now tree of spelt) c.parsed.ensures.ok
+pub returns-in_err-lexemes-clause-only : goal.returns-in_err-lexemes-clause-only
+returns-in_err-lexemes-clause-only c =
+    let p = err_from_is_err_and c.from_residual.result c.from_residual.ensures.1 in
+    let fits = c.if-text-gt1048576.false in
+    answers_only c.args.text.now c.from_residual.result
+    (rw (p.1, p.2) (reads_no_tokens c.args.text.now c.in_err-lexemes.field-0.0 (omega arith) c.in_err-lexemes.ensures.err))
 
-pub returns-clause-complete : goal.returns-clause-complete
-returns-clause-complete c =
-    let of = rw (← c.as_slice.ensures.value) at c.in_ok-lexemes.ensures.ok in
-    λ tree spelt. all_read c.as_slice.result.now tree c.parsed.result
-    (spelt_program c.args.text.now c.as_slice.result.now tree of spelt) c.parsed.ensures.err
+pub returns-clause-reads : goal.returns-clause-reads
+returns-clause-reads c =
+    let fits = c.if-text-gt1048576.false in
+    reads_nested c.args.text.now c.as_slice.result.now c.nested.result (omega arith)
+    (rw (← c.as_slice.ensures.value) at c.in_ok-lexemes.ensures.ok) c.nested.ensures.answers
+
+pub returns-clause-only : goal.returns-clause-only
+returns-clause-only c =
+    let fits = c.if-text-gt1048576.false in
+    answers_only c.args.text.now c.nested.result
+    (reads_nested c.args.text.now c.as_slice.result.now c.nested.result (omega arith)
+    (rw (← c.as_slice.ensures.value) at c.in_ok-lexemes.ensures.ok) c.nested.ensures.answers)

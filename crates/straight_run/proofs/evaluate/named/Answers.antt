@@ -1,4 +1,7 @@
-use Rattle.std.proofs.Common.{[], sym, refl, None, rules}
+use Rattle.std.proofs.Common.{[], subst, sym, refl, None, rules}
+use Rattle.regent_tree.specs.Syntax.{access_expr, no_step}
+use Rattle.straight_run.specs.declared.machine.Variable.{Variable}
+use Rattle.straight_run.specs.Variables.{Means}
 use Rattle.straight_run.proofs.VariableLaws.{newest_bound, name_means}
 use Rattle.straight_run.proofs.evaluate.named.Goals as goal
 
@@ -9,9 +12,9 @@ returns-in_err-place-clause-sum c =
 
 pub returns-clause-means : goal.returns-clause-means
 returns-clause-means c =
-    rw (c.number_in.ensures) (name_means c.args.variables.now c.args.name.now
-    c.in_ok-place.place c.index-variables-place.result (sym c.in_ok-place.ensures.same)
-    c.index-variables-place.is)
+    subst (λ (u : Variable). Means c.args.variables.now (access_expr c.args.name.now no_step) u.number) c.index-variables-place.is
+    (name_means c.args.variables.now c.args.name.now c.in_ok-place.place c.index-variables-place.result
+    (sym c.in_ok-place.ensures.same) c.index-variables-place.is)
 
 pub returns-clause-sum : goal.returns-clause-sum
 returns-clause-sum c =

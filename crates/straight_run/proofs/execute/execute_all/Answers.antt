@@ -1,13 +1,13 @@
 use Rattle.std.proofs.Common.{◌∙◌, ◌+◌, ap, sym, drop, rules}
 use Rattle.regent_tree.specs.PlainProgram.{block_in, form_of}
-use Rattle.straight_run.specs.FirstForm.{are_in_order}
-use Rattle.straight_run.specs.Variables.{names_of}
+use Rattle.straight_run.specs.RunningForm.{are_in_order}
+use Rattle.straight_run.specs.Variables.{bindings_of}
 use Rattle.straight_run.proofs.StatementLaws.{block_step, executes_then, order_ends, order_goes_on}
 use Rattle.straight_run.proofs.execute.execute_all.Goals as goal
 
 pub returns-then-not-branch-clause-order : goal.returns-then-not-branch-clause-order
 returns-then-not-branch-clause-order c =
-    let names = names_of c.loop-statement.machine.variables.items in
+    let names = bindings_of c.loop-statement.machine.variables.items in
     let t = c.statement-item.result in
     let i = c.loop-statement.statement-index in
     order_ends names t.line (form_of t.what) (block_in (drop (i + 1) c.args.body.now)) (sym c.if-not-branch.true ∙ c.in_ok-execute.ensures.order)
@@ -15,7 +15,7 @@ returns-then-not-branch-clause-order c =
 
 pub loop-statement-preserved : goal.loop-statement-preserved
 loop-statement-preserved c =
-    let names = names_of c.loop-statement.machine.variables.items in
+    let names = bindings_of c.loop-statement.machine.variables.items in
     let t = c.statement-item.result in
     let i = c.loop-statement.statement-index in
     let rest = block_in (drop (i + 1) c.args.body.now) in

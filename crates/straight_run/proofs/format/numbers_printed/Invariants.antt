@@ -1,5 +1,5 @@
 use Rattle.std.proofs.Common.{◌≡◌, ◌≤◌, drop}
-use Rattle.straight_run.specs.FirstForm.{numbers_printed}
+use Rattle.straight_run.specs.RunningForm.{numbers_printed}
 use Rattle.straight_run.specs.Formats.{added, counted_at}
 use Rattle.straight_run.proofs.format.numbers_printed.Given as goal
 

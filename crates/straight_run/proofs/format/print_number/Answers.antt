@@ -7,4 +7,4 @@ use Rattle.straight_run.proofs.format.print_number.Goals as goal
 pub returns-in_ok-extend_from_slice-in-Some : goal.returns-in_ok-extend_from_slice-in-Some
 returns-in_ok-extend_from_slice-in-Some c =
     c.in_ok-extend_from_slice-in-Some.ensures.items ∙ ap (λ u. c.args.text.now.items ++ u)
-    (c.as_bytes.ensures.value ∙ c.in_ok-digits-in-Some.ensures ∙ ap signed_decimal (to_z-of_z w64 c.widened.result (search rules) ∙ c.widened.ensures.number) ∙ sym (first_from c.args.numbers.now c.args.place c.in-Some.number.now (search rules) c.in-Some.ensures.lookup.1))
+    (c.as_bytes.ensures.value ∙ c.in_ok-digits-in-Some.ensures ∙ ap signed_decimal (to_z-of_z w64 c.in-Some.number.now.value (search rules)) ∙ sym (first_from c.args.numbers.now c.args.place c.in-Some.number.now (search rules) c.in-Some.ensures.lookup.1))

@@ -1,0 +1,44 @@
+-- Inputs, one word after the other.
+use Rattle.std.proofs.Common.{◌≡◌, ◌∙◌, ℕ, ℤ, suc, zero, ◌+◌, ◌<◌, List, [], ◌∷◌, ◌++◌, length, get_or, take, refl, ap, sym, subst, Option, Some, None, arith, append_assoc}
+use Rattle.std.proofs.lemmas.List.{append-nil}
+use Rattle.std.specs.Prelude.{String, string_bytes}
+use Rattle.regent_run.specs.Inputs.{AreInputs, IsInput}
+use Rattle.regent_run.specs.Words.{texts}
+
+more_inputs : (ws : List (List ℕ)) (zs : List (Option ℤ)) (w : List ℕ) (z : Option ℤ) → AreInputs ws zs → IsInput w z → AreInputs (ws ++ w ∷ []) (zs ++ z ∷ [])
+more_inputs [] [] w z h i = (i, tt)
+more_inputs [] (y ∷ zs) w z h i = absurd h
+more_inputs (v ∷ ws) [] w z h i = absurd h
+more_inputs (v ∷ ws) (y ∷ zs) w z h i = (h.0, more_inputs ws zs w z h.1 i)
+
+texts-snoc : {A : Type 0} (words : List (String A)) (i : ℕ) (d : String A) → i < length words → texts (take (i + 1) words) ≡ texts (take i words) ++ string_bytes (get_or words i d) ∷ []
+texts-snoc [] i d h = absurd (omega arith)
+texts-snoc (w ∷ words) zero d h = refl
+texts-snoc (w ∷ words) (suc i) d h = let e : suc i + 1 ≡ suc (i + 1) = omega arith in rw e (ap (λ ws. string_bytes w ∷ ws) (texts-snoc words i d (omega arith)))
+
+pub input_on : {A : Type 0} (words : List (String A)) (i : ℕ) (word : String A) (before : List (List ℕ)) (zs : List (Option ℤ)) (z : Option ℤ) → i < length words →
+    word ≡ get_or words i word → IsInput (string_bytes word) z → AreInputs (before ++ texts (take i words)) zs →
+    AreInputs (before ++ texts (take (i + 1) words)) (zs ++ z ∷ [])
+input_on words i word before zs z h is input so_far =
+    subst (λ (ws : List (List ℕ)). AreInputs ws (zs ++ z ∷ []))
+    (append_assoc before (texts (take i words)) (string_bytes word ∷ [])
+    ∙ ap (λ ws. before ++ ws) (ap (λ v. texts (take i words) ++ string_bytes v ∷ []) is ∙ sym (texts-snoc words i word h)))
+    (more_inputs (before ++ texts (take i words)) zs (string_bytes word) z so_far input)
+
+pub no_inputs : (before : List (List ℕ)) (zs : List (Option ℤ)) → AreInputs before zs → AreInputs (before ++ []) zs
+no_inputs before zs h = subst (λ (ws : List (List ℕ)). AreInputs ws zs) (sym (append-nil before)) h
+
+-- words have one list of inputs
+one_input : (w : List ℕ) (a b : Option ℤ) → IsInput w a → IsInput w b → a ≡ b
+one_input w None None p q = refl
+one_input w None (Some z) p q = absurd (p q.0)
+one_input w (Some y) None p q = absurd (q p.0)
+one_input w (Some y) (Some z) p q = ap Some (p.1 ∙ sym q.1)
+
+pub one_inputs : (ws : List (List ℕ)) (a b : List (Option ℤ)) → AreInputs ws a → AreInputs ws b → a ≡ b
+one_inputs [] [] [] p q = refl
+one_inputs [] [] (z ∷ zs) p q = absurd q
+one_inputs [] (y ∷ ys) b p q = absurd p
+one_inputs (w ∷ ws) [] b p q = absurd p
+one_inputs (w ∷ ws) (y ∷ ys) [] p q = absurd q
+one_inputs (w ∷ ws) (y ∷ ys) (z ∷ zs) p q = ap (λ x. x ∷ ys) (one_input w y z p.0 q.0) ∙ ap (λ xs. z ∷ xs) (one_inputs ws ys zs p.1 q.1)

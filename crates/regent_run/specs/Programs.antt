@@ -1,0 +1,107 @@
+-- What a text and the words of its numbers come to.
+use Rattle.std.specs.Prelude.{◌≡◌, ℕ, ℤ, List, true, false, Option, Some, None, Ok, Err, IfSome}
+use Rattle.regent_lex.specs.declared.fault.LexKind.{LexKind}
+use Rattle.regent_lex.specs.declared.fault.LexKind.TheVariants.{BadByte, Unclosed, NumberTooLarge, NameTooLong}
+use Rattle.regent_tree.specs.declared.limits.Counted.{Counted}
+use Rattle.regent_tree.specs.declared.limits.Counted.TheVariants as counted
+use Rattle.regent_tree.specs.Syntax.{Tree}
+use Rattle.regent_reader.specs.declared.fault.ReadFault.{ReadFault}
+use Rattle.regent_reader.specs.declared.fault.ReadFault.TheVariants.{TooLong, Lex, TooDeep, NoProgram, TooMany}
+use Rattle.regent_reader.specs.Texts.{Reads}
+use Rattle.run_io.specs.Source.{next_left}
+use Rattle.straight_run.specs.Answers.{Prints}
+use Rattle.straight_run.specs.Inputs.{are_inputs}
+use Rattle.straight_run.specs.RunningForm.{is_running, main_task}
+use Rattle.regent_run.specs.declared.limit.Limit.{Limit}
+use Rattle.regent_run.specs.declared.limit.Limit.TheVariants as limit
+use Rattle.regent_run.specs.Inputs.{AreInputs}
+
+-- the line of a fault that is an error of syntax
+abbrev pub lex_line : LexKind → ℕ → Option ℕ
+lex_line BadByte line = Some line
+lex_line Unclosed line = Some line
+lex_line NumberTooLarge line = None
+lex_line NameTooLong line = None
+
+abbrev pub syntax_line : ReadFault → Option ℕ
+syntax_line (Lex kind line) = lex_line kind line
+syntax_line (NoProgram line) = Some line
+syntax_line _ = None
+
+-- the limit that a fault passes
+abbrev pub limit_counted : Counted → Limit
+limit_counted counted.Tasks = limit.Tasks
+limit_counted counted.Spaces = limit.Spaces
+limit_counted counted.Fields = limit.Fields
+limit_counted counted.Parameters = limit.Parameters
+limit_counted counted.Regions = limit.Regions
+
+abbrev pub limit_in_token : LexKind → Option Limit
+limit_in_token BadByte = None
+limit_in_token Unclosed = None
+limit_in_token NumberTooLarge = Some limit.Number
+limit_in_token NameTooLong = Some limit.Name
+
+abbrev pub limit_passed : ReadFault → Option Limit
+limit_passed TooLong = Some limit.Text
+limit_passed (Lex kind line) = limit_in_token kind
+limit_passed (TooDeep line) = Some limit.Nesting
+limit_passed (TooMany what count) = Some (limit_counted what)
+limit_passed _ = None
+
+-- the text is no program, which is told on this line
+pub record HasSyntaxError (text : List ℕ) (line : ℕ) : Type 0 where
+  pub fault : ReadFault
+  pub reads : Reads text (Err fault)
+  pub told : syntax_line fault ≡ Some line
+
+-- the text passes a limit
+pub record PassesLimit (text : List ℕ) (passed : Limit) : Type 0 where
+  pub fault : ReadFault
+  pub reads : Reads text (Err fault)
+  pub told : limit_passed fault ≡ Some passed
+
+-- the text is a program that can't be run yet: it isn't of the running form
+pub record IsNotBuilt (text : List ℕ) : Type 0 where
+  pub tree : Tree
+  pub reads : Reads text (Ok tree)
+  pub form : is_running tree ≡ false
+
+-- the text is a program of the running form, and the words aren't the numbers that it takes
+pub record HasOtherInputs (text : List ℕ) (numbers : List (List ℕ)) : Type 0 where
+  pub tree : Tree
+  pub reads : Reads text (Ok tree)
+  pub form : is_running tree ≡ true
+  pub inputs : List (Option ℤ)
+  pub given : AreInputs numbers inputs
+  pub other : are_inputs (main_task tree).params inputs ≡ false
+
+-- the text is a program of the running form, which finishes with what is printed where it is given
+-- the numbers
+pub record IsRun (text : List ℕ) (numbers : List (List ℕ)) (printed : List ℕ) : Type 0 where
+  pub tree : Tree
+  pub reads : Reads text (Ok tree)
+  pub inputs : List (Option ℤ)
+  pub given : AreInputs numbers inputs
+  pub prints : Prints tree inputs printed
+
+-- the text is a program of the running form, and the words are the numbers that it takes
+pub record TakesNumbers (text : List ℕ) (numbers : List (List ℕ)) : Type 0 where
+  pub tree : Tree
+  pub reads : Reads text (Ok tree)
+  pub form : is_running tree ≡ true
+  pub inputs : List (Option ℤ)
+  pub given : AreInputs numbers inputs
+  pub fits : are_inputs (main_task tree).params inputs ≡ true
+
+-- the status that a text and the words of its numbers come to
+pub data Comes (text : List ℕ) (numbers : List (List ℕ)) : ℕ → Type 0 where
+  finishes : TakesNumbers text numbers → Comes text numbers 0
+  is_no_program : {line : ℕ} → HasSyntaxError text line → Comes text numbers 5
+  passes_a_limit : {passed : Limit} → PassesLimit text passed → Comes text numbers 8
+  has_other_inputs : HasOtherInputs text numbers → Comes text numbers 9
+  is_not_built : IsNotBuilt text → Comes text numbers 10
+
+-- what holds of the text that the next begin leaves, where the source tells it
+abbrev pub OfNextText : Option (List (List ℕ)) → (List ℕ → Type 0) → Type 0
+OfNextText later P = IfSome later (λ texts. P (next_left texts))

@@ -1,0 +1,89 @@
+-- The items of a program of the running form.
+use Rattle.std.proofs.Common.{◌≡◌, ℕ, suc, ◌+◌, ◌<◌, List, [], ◌∷◌, length, get_or, drop, map, refl, ap, ◌∙◌, sym, Bool, true, false, cond, arith}
+use Rattle.std.specs.List.{filter}
+use Rattle.std.specs.Prelude.{◌&&◌, ◌==◌, nat_le}
+use Rattle.std.specs.List.{list_all}
+use Rattle.std.specs.Cmp.{unsigned_Decides}
+use Rattle.std.proofs.lemmas.List.{drop_more}
+use Rattle.std.proofs.lemmas.Slice.Eq.{bytes_eq-Decides}
+use Rattle.regent_tree.specs.declared.program.Item.{Item}
+use Rattle.regent_tree.specs.PlainProgram.{item_of, item_tree_of}
+use Rattle.regent_tree.specs.StaticTypes.{no_task, started, task_named}
+use Rattle.regent_tree.specs.Syntax.{Name, ItemForm, import_item, alias_item, space_item, task_item, start_item, ItemTree, TaskTree, Tree}
+use Rattle.straight_run.specs.RunningForm.{are_running_items, count_items, is_main, is_running_item, is_start, is_task}
+use Rattle.straight_run.proofs.ChainLaws.{both_left, both_right}
+
+length_cond : {A : Type 0} (b : Bool) (x : A) (xs : List A) → length (cond b (x ∷ xs) xs) ≡ cond b (suc (length xs)) (length xs)
+length_cond true x xs = refl
+length_cond false x xs = refl
+
+-- one more item
+pub count_step : (test : ItemForm → Bool) (items : List Item) (i : ℕ) (x : Item) → i < length items → x ≡ get_or items i x →
+    count_items test (map item_tree_of (drop i items))
+    ≡ cond (test (item_of x.what)) (suc (count_items test (map item_tree_of (drop (i + 1) items)))) (count_items test (map item_tree_of (drop (i + 1) items)))
+count_step test items i x h is =
+    let rest : Tree = map item_tree_of (drop (i + 1) items) in
+    let e : drop i items ≡ x ∷ drop (i + 1) items = drop_more items i x h ∙ ap (λ y. y ∷ drop (i + 1) items) (sym is) in
+    ap (λ ys. count_items test (map item_tree_of ys)) e
+    ∙ length_cond (test (item_of x.what)) (item_tree_of x) (filter (λ (t : ItemTree). test t.form) rest)
+
+pub counted : (test : ItemForm → Bool) (items : List Item) (i : ℕ) (x : Item) (count : ℕ) (b : Bool) → i < length items → x ≡ get_or items i x →
+    b ≡ test (item_of x.what) → b ≡ true → count + count_items test (map item_tree_of (drop i items)) ≡ count_items test (map item_tree_of items) →
+    count + 1 + count_items test (map item_tree_of (drop (i + 1) items)) ≡ count_items test (map item_tree_of items)
+counted test items i x count b h is tested is_true before =
+    let step : count_items test (map item_tree_of (drop i items)) ≡ suc (count_items test (map item_tree_of (drop (i + 1) items))) =
+    count_step test items i x h is ∙ ap (λ c. cond c (suc (count_items test (map item_tree_of (drop (i + 1) items)))) (count_items test (map item_tree_of (drop (i + 1) items)))) (sym tested ∙ is_true) in
+    omega (arith, before, step)
+
+pub uncounted : (test : ItemForm → Bool) (items : List Item) (i : ℕ) (x : Item) (count : ℕ) (b : Bool) → i < length items → x ≡ get_or items i x →
+    b ≡ test (item_of x.what) → b ≡ false → count + count_items test (map item_tree_of (drop i items)) ≡ count_items test (map item_tree_of items) →
+    count + count_items test (map item_tree_of (drop (i + 1) items)) ≡ count_items test (map item_tree_of items)
+uncounted test items i x count b h is tested is_false before =
+    let step : count_items test (map item_tree_of (drop i items)) ≡ count_items test (map item_tree_of (drop (i + 1) items)) =
+    count_step test items i x h is ∙ ap (λ c. cond c (suc (count_items test (map item_tree_of (drop (i + 1) items)))) (count_items test (map item_tree_of (drop (i + 1) items)))) (sym tested ∙ is_false) in
+    omega (arith, before, step)
+
+-- ---- the task `main`
+
+abbrev main : Name
+main = 109 ∷ 97 ∷ 105 ∷ 110 ∷ []
+
+start_on : (l : ℕ) (f : ItemForm) (items : Tree) → is_running_item f ≡ true → started items ≡ main → started (record { line = l; form = f } ∷ items) ≡ main
+start_on l import_item items h rest = rest
+start_on l (alias_item n) items h rest = absurd cc
+start_on l (space_item s) items h rest = absurd cc
+start_on l (task_item t) items h rest = rest
+start_on l (start_item n) items h rest = (bytes_eq-Decides n main).0 h
+
+-- the task `main` is started
+pub starts_main : (tree : Tree) → list_all (λ (i : ItemTree). is_running_item i.form) tree ≡ true → started tree ≡ main
+starts_main [] h = refl
+starts_main (i ∷ items) h =
+    start_on i.line i.form items (both_left (is_running_item i.form) (list_all (λ (j : ItemTree). is_running_item j.form) items) h)
+    (starts_main items (both_right (is_running_item i.form) (list_all (λ (j : ItemTree). is_running_item j.form) items) h))
+
+named_on : (l : ℕ) (f : ItemForm) (items : Tree) → is_running_item f ≡ true → (0 < count_items is_task items → is_main (task_named items main).name ≡ true) →
+    0 < count_items is_task (record { line = l; form = f } ∷ items) → is_main (task_named (record { line = l; form = f } ∷ items) main).name ≡ true
+named_on l import_item items h rest some = rest some
+named_on l (alias_item n) items h rest some = absurd cc
+named_on l (space_item s) items h rest some = absurd cc
+named_on l (start_item n) items h rest some = rest some
+named_on l (task_item t) items h rest some = ap (λ b. is_main (cond b t (task_named items main)).name) h ∙ h
+
+-- there is a task `main` where there is a task
+pub has_main : (tree : Tree) → list_all (λ (i : ItemTree). is_running_item i.form) tree ≡ true → 0 < count_items is_task tree →
+    is_main (task_named tree main).name ≡ true
+has_main [] h some = absurd (omega arith)
+has_main (i ∷ items) h some =
+    named_on i.line i.form items (both_left (is_running_item i.form) (list_all (λ (j : ItemTree). is_running_item j.form) items) h)
+    (has_main items (both_right (is_running_item i.form) (list_all (λ (j : ItemTree). is_running_item j.form) items) h)) some
+
+-- so the started task is there
+pub main_is_there : (tree : Tree) → true ≡ are_running_items tree → task_named tree (started tree) ≡ no_task → ⊥
+main_is_there tree items none =
+    let all = list_all (λ (i : ItemTree). is_running_item i.form) tree in
+    let counts = (count_items is_task tree == 1) && nat_le (count_items is_start tree) 1 in
+    let running : all ≡ true = both_left all counts (sym items) in
+    let one : count_items is_task tree ≡ 1 = (unsigned_Decides (count_items is_task tree) 1).0 (both_left (count_items is_task tree == 1) (nat_le (count_items is_start tree) 1) (both_right all counts (sym items))) in
+    let e : false ≡ true = ap (λ (t : TaskTree). is_main t.name) (sym (ap (task_named tree) (sym (starts_main tree running)) ∙ none)) ∙ has_main tree running (rw one (omega arith)) in
+    absurd cc
