@@ -1,2 +1,2 @@
 mod Accesses
-mod Holding
+pub mod Holding

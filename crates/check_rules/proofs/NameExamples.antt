@@ -1,0 +1,23 @@
+use Rattle.std.specs.Prelude.{refl}
+use Rattle.check_rules.specs.NameExamples.{unbound_name_breaks, missing_things_breaks, past_its_block_breaks, two_of_a_name_breaks, causes_alone_breaks, pointer_to_number_breaks, beside_the_unbound_breaks}
+
+pub unbound_name_holds : unbound_name_breaks
+unbound_name_holds = refl
+
+pub missing_things_holds : missing_things_breaks
+missing_things_holds = refl
+
+pub past_its_block_holds : past_its_block_breaks
+past_its_block_holds = refl
+
+pub two_of_a_name_holds : two_of_a_name_breaks
+two_of_a_name_holds = refl
+
+pub causes_alone_holds : causes_alone_breaks
+causes_alone_holds = refl
+
+pub pointer_to_number_holds : pointer_to_number_breaks
+pointer_to_number_holds = refl
+
+pub beside_the_unbound_holds : beside_the_unbound_breaks
+beside_the_unbound_holds = refl

@@ -1,0 +1,35 @@
+-- Rule 16, Declared: a clause names what isn't a region parameter, or a field that its space
+-- hasn't.
+use Rattle.std.specs.List.{list_all, list_any}
+use Rattle.std.specs.Prelude.{Bool, List, None, Option, Some, false, not, ◌||◌}
+use Rattle.regent_tree.specs.Scopes.{Bound}
+use Rattle.regent_tree.specs.StaticTypes.{StaticType}
+use Rattle.regent_tree.specs.Syntax.{ItemForm, Name, Tree, task_item}
+use Rattle.regent_tree.specs.declared.program.Clause.{Clause}
+use Rattle.regent_tree.specs.declared.program.Clause.TheVariants as clause
+use Rattle.regent_tree.specs.declared.program.Place.{Place}
+use Rattle.check_rules.specs.Declared.{params_bound}
+use Rattle.check_rules.specs.Lookup.{names_a, region_has, type_named}
+use Rattle.check_rules.specs.Sorts.{is_region}
+
+abbrev pub is_no_region : List Bound → Name → Bool
+is_no_region names n = not (names_a is_region names n)
+
+abbrev pub lacks_fields : Tree → StaticType → Option (List Name) → Bool
+lacks_fields tree t None = false
+lacks_fields tree t (Some fs) = not (list_all (region_has tree t) fs)
+
+abbrev pub misdeclares_place : Tree → List Bound → Place → Bool
+misdeclares_place tree names p = is_no_region names p.region
+    || lacks_fields tree (type_named names p.region) p.fields
+
+abbrev pub misdeclares : Tree → List Bound → Clause → Bool
+misdeclares tree names (clause.Grants grants places) =
+    list_any (misdeclares_place tree names) places
+misdeclares tree names (clause.Within a b) = is_no_region names a || is_no_region names b
+misdeclares tree names (clause.Apart a b) = is_no_region names a || is_no_region names b
+
+abbrev pub misdeclares_item : Tree → ItemForm → Bool
+misdeclares_item tree (task_item t) =
+    list_any (misdeclares tree (params_bound tree t.params)) t.clauses
+misdeclares_item tree form = false

@@ -1,0 +1,119 @@
+-- Rule 15, Partition: what a partition operation names doesn't lie where it must, or a partition
+-- isn't as a parameter asks.
+use Rattle.std.specs.List.{list_any}
+use Rattle.std.specs.Prelude.{Bool, List, None, Option, Some, [], cond, false, not, true, ℕ, ◌&&◌, ◌==◌, ◌||◌, ◌∷◌}
+use Rattle.regent_tree.specs.Facts.{is_name, is_subregion}
+use Rattle.regent_tree.specs.Scopes.{Bound, Scope, bound_to}
+use Rattle.regent_tree.specs.Starting.{colours}
+use Rattle.regent_tree.specs.StaticTypes.{StaticType, partition_type, region_type}
+use Rattle.regent_tree.specs.Syntax.{Expression, Name, Start, Tree, a_link, access_expr, both_start, by_field_start, chain_expr, either_start, equal_start, image_start, no_link, no_step, plain_start, preimage_start}
+use Rattle.regent_tree.specs.Typing.{is_pointer}
+use Rattle.regent_tree.specs.declared.expression.Arithmetic.TheVariants.{Subtract}
+use Rattle.regent_tree.specs.declared.expression.Operator.TheVariants.{Compute}
+use Rattle.regent_tree.specs.declared.facts.Known.{Known}
+use Rattle.regent_tree.specs.declared.facts.Term.TheVariants as term
+use Rattle.regent_tree.specs.declared.types.TypeTerm.{TypeTerm}
+use Rattle.regent_tree.specs.declared.types.TypeTerm.TheVariants as typed
+use Rattle.check_rules.specs.Declared.{known_field}
+use Rattle.check_rules.specs.Lookup.{names_a, type_named}
+use Rattle.check_rules.specs.Names.{are_partitions}
+use Rattle.check_rules.specs.Shapes.{Calling}
+use Rattle.check_rules.specs.Sorts.{is_index, is_integer, is_region, is_unknown_type, is_unstructured, may_be, type_at}
+
+-- ---- types
+
+-- the colours of a partition type are an index space of kind `ptr`
+abbrev pub is_unstructured_name : List Bound → Option Name → Bool
+is_unstructured_name names None = false
+is_unstructured_name names (Some n) = is_unstructured (type_named names n)
+
+abbrev pub miscolours_in_type : List Bound → TypeTerm → Bool
+miscolours_in_type names (typed.Partition d r colours) = is_unstructured_name names colours
+miscolours_in_type names t = false
+
+-- ---- calls
+
+-- a region that an argument is, by the number of a partition's parent
+abbrev pub is_parent : ℕ → StaticType → Bool
+is_parent parent (region_type k s args t) = is_name parent t
+is_parent parent t = is_unknown_type t
+
+-- a partition argument is aliased for a disjoint parameter, or its parent isn't the argument for
+-- the region of the parameter
+abbrev pub mispartitions : List StaticType → StaticType → StaticType → Bool
+mispartitions types (partition_type asked r own) (partition_type d parent p) =
+    (asked && not d) || not (is_parent parent (type_at types r))
+mispartitions types wanted t = false
+
+abbrev pub mispartition_in : List StaticType → List StaticType → List StaticType → Bool
+mispartition_in types [] ts = false
+mispartition_in types (p ∷ ps) [] = false
+mispartition_in types (p ∷ ps) (t ∷ ts) =
+    mispartitions types p t || mispartition_in types ps ts
+
+abbrev pub mispartitions_call : List StaticType → Calling → Bool
+mispartitions_call params c = mispartition_in c.args params c.args
+
+-- ---- start values
+
+-- the difference of two partitions: two bare names with one `-`, as the whole of a start value
+abbrev pub is_difference : List Bound → Expression → Bool
+is_difference names (chain_expr (access_expr p no_step)
+    (a_link (Compute Subtract) (access_expr q no_step) no_link)) = are_partitions names p q
+is_difference names e = false
+
+-- the two partitions of a set operation
+abbrev pub operands_of : List Bound → Start → List (Name × Name)
+operands_of names (both_start p q) = (p, q) ∷ []
+operands_of names (either_start p q) = (p, q) ∷ []
+operands_of names (plain_start (chain_expr (access_expr p no_step)
+    (a_link (Compute Subtract) (access_expr q no_step) no_link))) =
+    cond (are_partitions names p q) ((p, q) ∷ []) []
+operands_of names start = []
+
+-- a field that tells colours is an integer or index, one that tells points an index or pointer
+abbrev pub tells_colours : StaticType → Bool
+tells_colours t = may_be (λ u. is_integer u || is_index u) t
+
+abbrev pub tells_points : StaticType → Bool
+tells_points t = may_be (λ u. is_index u || is_pointer u) t
+
+-- a region with a number doesn't derivably lie within one of a type
+abbrev pub is_outside : List Known → ℕ → StaticType → Bool
+is_outside known a (region_type k s args r) = not (is_subregion known (term.Name a) r)
+is_outside known a t = false
+
+abbrev pub parent_is_outside : List Known → StaticType → StaticType → Bool
+parent_is_outside known (partition_type d parent p) t = is_outside known parent t
+parent_is_outside known u t = false
+
+abbrev pub have_other_parents : StaticType → StaticType → Bool
+have_other_parents (partition_type d r p) (partition_type e s q) = not (r == s)
+have_other_parents t u = false
+
+-- an `image` where the partition's parent isn't within the field's region, a `preimage` where the
+-- new partition's isn't, a set operation of partitions with different parents, a field of another
+-- type
+abbrev pub mispartitions_start : Tree → Scope → Start → Bool
+mispartitions_start tree s (by_field_start r f e) =
+    not (tells_colours (known_field tree (type_named s.names r) f))
+mispartitions_start tree s (image_start parent p r f) =
+    parent_is_outside s.known (type_named s.names p) (type_named s.names r)
+    || not (tells_points (known_field tree (type_named s.names r) f))
+mispartitions_start tree s (preimage_start parent p r f) =
+    (names_a is_region s.names parent && not (is_unknown_type (type_named s.names parent))
+    && is_outside s.known (bound_to s.names parent).number (type_named s.names r))
+    || not (tells_points (known_field tree (type_named s.names r) f))
+mispartitions_start tree s start = list_any
+    (λ (pq : Name × Name).
+    have_other_parents (type_named s.names pq.0) (type_named s.names pq.1))
+    (operands_of s.names start)
+
+-- the colours of a partition, whose type is among these, are an index space of kind `ptr`
+abbrev pub has_colours : Start → Bool
+has_colours (equal_start r e) = true
+has_colours (by_field_start r f e) = true
+has_colours start = false
+
+abbrev pub miscolours_start : Start → List StaticType → Bool
+miscolours_start start types = has_colours start && list_any is_unstructured types

@@ -1,0 +1,54 @@
+-- Rule 5, Place: a region, partition or index space stands where only a number, truth or pointer
+-- may, or a variable of such a type doesn't begin as it must.
+use Rattle.std.specs.List.{list_any}
+use Rattle.std.specs.Prelude.{Bool, List, None, Option, Some, false, not, true, ◌&&◌, ◌||◌}
+use Rattle.regent_tree.specs.Scopes.{Bound}
+use Rattle.regent_tree.specs.StaticTypes.{StaticType}
+use Rattle.regent_tree.specs.Syntax.{Start, Tree, access_expr, at_step, no_step, plain_start, region_start}
+use Rattle.check_rules.specs.Partitions.{is_difference}
+use Rattle.check_rules.specs.Shapes.{Shape}
+use Rattle.check_rules.specs.Sorts.{is_collection, is_number, is_partition, is_region, is_truth, is_unknown_type}
+use Rattle.check_rules.specs.Standing.{Spot, Standing, domain_spot, param_spot, space_spot, standing_in, typed_spot}
+
+-- a place for a number, truth or pointer alone
+abbrev pub is_value_type : StaticType → Bool
+is_value_type t = is_number t || is_truth t
+
+abbrev pub is_value_spot : Spot → Bool
+is_value_spot space_spot = false
+is_value_spot domain_spot = false
+is_value_spot (typed_spot t) = is_value_type t
+is_value_spot (param_spot t) = is_value_type t
+is_value_spot spot = true
+
+-- a region, partition or index space stands at such a place
+abbrev pub misplaces : Standing → Bool
+misplaces s = is_value_spot s.spot && is_collection s.type
+
+abbrev pub misplaces_in : Tree → Shape → Bool
+misplaces_in tree shape = list_any misplaces (standing_in tree shape)
+
+-- ---- variables
+
+-- how a variable that is a region begins: with a new region, or with a child of a partition
+abbrev pub begins_region : Start → Bool
+begins_region (region_start e u) = true
+begins_region (plain_start (access_expr p (at_step e no_step))) = true
+begins_region start = false
+
+-- how one that is a partition begins: with a partition operation
+abbrev pub begins_partition : List Bound → Start → Bool
+begins_partition names (region_start e u) = false
+begins_partition names (plain_start e) = is_difference names e
+begins_partition names start = true
+
+-- a variable of a type begins with something else, whose type is known
+abbrev pub misbegins : List Bound → StaticType → StaticType → Start → Bool
+misbegins names wanted t start = not (is_unknown_type t)
+    && ((is_region wanted && not (is_region t && begins_region start))
+    || (is_partition wanted && not (begins_partition names start)))
+
+-- a collection has no start value
+abbrev pub lacks_start : StaticType → Option Start → Bool
+lacks_start wanted None = is_collection wanted
+lacks_start wanted (Some start) = false

@@ -1,0 +1,46 @@
+-- Rule 13, Pointer: a field is taken of a pointer whose list holds `wild`; a name after the space
+-- in a pointer type is no region with that field space and kind; `wild` is in a written type's own
+-- list.
+use Rattle.std.specs.List.{list_any}
+use Rattle.std.specs.Prelude.{Bool, List, false, not, true, ℕ, ◌&&◌, ◌==◌}
+use Rattle.regent_tree.specs.Scopes.{Bound}
+use Rattle.regent_tree.specs.StaticTypes.{StaticType, place_of_space, region_type}
+use Rattle.regent_tree.specs.Syntax.{Tree}
+use Rattle.regent_tree.specs.Typing.{has_wild, reaches_of}
+use Rattle.regent_tree.specs.declared.types.Kind.{Kind}
+use Rattle.regent_tree.specs.declared.types.Ref.{Ref}
+use Rattle.regent_tree.specs.declared.types.Ref.TheVariants.{Named, Wild}
+use Rattle.regent_tree.specs.declared.types.TypeTerm.{TypeTerm}
+use Rattle.regent_tree.specs.declared.types.TypeTerm.TheVariants as typed
+use Rattle.check_rules.specs.Lookup.{has_space, type_named}
+use Rattle.check_rules.specs.Shapes.{Shape, Taking, access_shape, field_of}
+use Rattle.check_rules.specs.Sorts.{may_be, same_kind}
+
+-- ---- types
+
+-- whether a type is of a region of a field space and kind, whatever its arguments
+abbrev pub is_region_in : Kind → ℕ → StaticType → Bool
+is_region_in k s (region_type j u args r) = same_kind k j && (s == u)
+is_region_in k s t = false
+
+-- `wild` stands in a pointer type's own list, or the name of what is no region of its field space
+-- and kind
+abbrev pub mispoints : List Bound → Kind → ℕ → Ref → Bool
+mispoints names k s Wild = true
+mispoints names k s (Named n) = not (may_be (is_region_in k s) (type_named names n))
+
+abbrev pub mispoints_in_type : Tree → List Bound → TypeTerm → Bool
+mispoints_in_type tree names (typed.Pointer t) = has_space tree t.space.name
+    && list_any (mispoints names t.kind (place_of_space tree t.space.name)) t.regions
+mispoints_in_type tree names t = false
+
+-- ---- expressions
+
+-- a field is taken of a pointer whose list holds `wild`
+abbrev pub takes_of_wild : Taking → Bool
+takes_of_wild (field_of t f) = has_wild (reaches_of t)
+takes_of_wild taking = false
+
+abbrev pub mispoints_in : Shape → Bool
+mispoints_in (access_shape n taken) = list_any takes_of_wild taken
+mispoints_in shape = false

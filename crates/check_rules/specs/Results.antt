@@ -1,0 +1,14 @@
+-- Rule 17, Return: a value is returned by a task with no result type, or none by one that has it; a
+-- result type is none of the number types and `bool`.
+use Rattle.std.specs.Prelude.{Bool, None, Some, false, is_none, is_some}
+use Rattle.regent_tree.specs.Syntax.{Form, ItemForm, TaskTree, return_form, task_item}
+use Rattle.check_rules.specs.Declared.{is_no_result_type}
+
+abbrev pub misreturns : TaskTree → Form → Bool
+misreturns t (return_form (Some e)) = is_none t.result
+misreturns t (return_form None) = is_some t.result
+misreturns t form = false
+
+abbrev pub misdeclares_result : ItemForm → Bool
+misdeclares_result (task_item t) = is_no_result_type t.result
+misdeclares_result form = false

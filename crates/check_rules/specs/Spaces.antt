@@ -1,0 +1,61 @@
+-- Rule 14, Spaces: a region argument of a call or of a field space use has another kind, field
+-- space or field space arguments than the parameter, whose type is read with the arguments.
+use Rattle.std.specs.List.{list_any}
+use Rattle.std.specs.Prelude.{Bool, List, [], false, map, not, reverse, ◌&&◌, ◌||◌, ◌∷◌}
+use Rattle.regent_tree.specs.Scopes.{Bound, bound_params}
+use Rattle.regent_tree.specs.StaticTypes.{StaticType, region_type, unknown_type}
+use Rattle.regent_tree.specs.Syntax.{Tree}
+use Rattle.regent_tree.specs.Typing.{put}
+use Rattle.regent_tree.specs.declared.types.Ref.{Ref}
+use Rattle.regent_tree.specs.declared.types.Ref.TheVariants.{Named, Wild}
+use Rattle.regent_tree.specs.declared.types.SpaceUse.{SpaceUse}
+use Rattle.regent_tree.specs.declared.types.TypeTerm.{TypeTerm}
+use Rattle.check_rules.specs.Counts.{uses_of}
+use Rattle.check_rules.specs.Fitting.{is_region_like}
+use Rattle.check_rules.specs.Lookup.{space_used, type_named}
+use Rattle.check_rules.specs.Shapes.{Calling}
+use Rattle.check_rules.specs.Sorts.{is_region, is_unknown_type}
+
+-- the type of what a field space argument or a pointer's region names; of `wild` it is unknown
+abbrev pub type_of_ref : List Bound → Ref → StaticType
+type_of_ref names Wild = unknown_type
+type_of_ref names (Named n) = type_named names n
+
+-- A region type's arguments, read with the arguments of the call or use in whose list it stands.
+abbrev pub differs_from : List StaticType → StaticType → StaticType → Bool
+differs_from types (region_type k s args r) t = not (is_region_like k s (map (put types) args) t)
+differs_from types wanted t = not (is_unknown_type wanted)
+
+-- A region's kind, field space or field space arguments are others than the parameter's, read with
+-- all the arguments; what isn't a region is told elsewhere.
+abbrev pub differs : List StaticType → StaticType → StaticType → Bool
+differs types wanted t = is_region t && differs_from types wanted t
+
+abbrev pub differ_in : List StaticType → List StaticType → List StaticType → Bool
+differ_in types [] ts = false
+differ_in types (p ∷ ps) [] = false
+differ_in types (p ∷ ps) (t ∷ ts) = differs types p t || differ_in types ps ts
+
+-- ---- types
+
+-- the types of a list of parameters, in their order
+abbrev pub types_in_order : List Bound → List StaticType
+types_in_order names = map (λ (b : Bound). b.type) (reverse names)
+
+-- the types that a field space's parameters say
+abbrev pub space_params : Tree → SpaceUse → List StaticType
+space_params tree u = let params = (space_used tree u).params in
+    types_in_order (bound_params tree params 0 params)
+
+abbrev pub misfits_use : Tree → List Bound → SpaceUse → Bool
+misfits_use tree names u = let types = map (type_of_ref names) u.args in
+    differ_in types (space_params tree u) types
+
+abbrev pub misfits_in_type : Tree → List Bound → TypeTerm → Bool
+misfits_in_type tree names t = list_any (misfits_use tree names) (uses_of t)
+
+-- ---- calls
+
+-- a region argument differs from the parameter at its place
+abbrev pub misfits_call : List StaticType → Calling → Bool
+misfits_call params c = differ_in c.args params c.args

@@ -1,0 +1,45 @@
+-- Rule 6, Target: an assignment's target is a loop variable, a parameter, a region, a partition,
+-- an index space, or an access that doesn't end in a field or a variable; a reduction's target
+-- isn't an integer.
+use Rattle.std.specs.Prelude.{Bool, List, false, length, nat_lt, not, true, ◌&&◌, ◌||◌}
+use Rattle.regent_tree.specs.Scopes.{Bound, Scope, bound_to}
+use Rattle.regent_tree.specs.StaticTypes.{StaticType}
+use Rattle.regent_tree.specs.Syntax.{Form, Name, Steps, TaskTree, Tree, access_expr, assign_form, at_step, field_step, no_step}
+use Rattle.regent_tree.specs.declared.statement.How.{How}
+use Rattle.regent_tree.specs.declared.statement.How.TheVariants as how
+use Rattle.check_rules.specs.KnownTypes.{known_type}
+use Rattle.check_rules.specs.Lookup.{is_bound}
+use Rattle.check_rules.specs.Sorts.{is_collection, is_integer, is_space, is_unknown_type, may_be}
+
+-- whether a name can't be assigned; parameters are the first bindings of a task
+abbrev pub is_fixed : TaskTree → Bound → Bool
+is_fixed t b = b.loop || nat_lt b.number (length t.params) || is_collection b.type
+
+-- whether an access ends in `[e]`
+abbrev pub ends_in_element : Steps → Bool
+ends_in_element no_step = false
+ends_in_element (at_step e no_step) = true
+ends_in_element (field_step f rest) = ends_in_element rest
+ends_in_element (at_step e rest) = ends_in_element rest
+
+-- an access of a type that is known ends in an element, or in the colours of a partition
+abbrev pub misends : Steps → StaticType → Bool
+misends steps t = not (is_unknown_type t) && (ends_in_element steps || is_space t)
+
+abbrev pub is_no_target : TaskTree → List Bound → Name → Steps → StaticType → Bool
+is_no_target task names n no_step t = is_bound names n && is_fixed task (bound_to names n)
+is_no_target task names n steps t = misends steps t
+
+abbrev pub is_no_integer : How → StaticType → Bool
+is_no_integer how.Set t = false
+is_no_integer (how.Reduce o) t = not (may_be is_integer t)
+
+-- a target that is an access of this type breaches the rule
+abbrev pub mistargets : TaskTree → List Bound → Name → Steps → How → StaticType → Bool
+mistargets task names n steps h t =
+    is_no_target task names n steps t || is_no_integer h t
+
+abbrev pub mistargets_form : Tree → TaskTree → Scope → Form → Bool
+mistargets_form tree task s (assign_form n steps h e) =
+    mistargets task s.names n steps h (known_type tree s (access_expr n steps))
+mistargets_form tree task s form = false

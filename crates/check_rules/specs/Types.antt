@@ -1,0 +1,94 @@
+-- Rule 3, Type: an expression's type doesn't fit its place, or an operator's operands aren't as it
+-- takes them.
+use Rattle.std.specs.List.{list_any}
+use Rattle.std.specs.Prelude.{Bool, List, false, is_none, not, true, ◌&&◌, ◌||◌}
+use Rattle.regent_tree.specs.Operators.{comparison}
+use Rattle.regent_tree.specs.StaticTypes.{StaticType, index_type, task_named}
+use Rattle.regent_tree.specs.Syntax.{Tree}
+use Rattle.regent_tree.specs.Typing.{are_pointers, counting_as, is_pointer}
+use Rattle.regent_tree.specs.declared.expression.Comparison.{Comparison}
+use Rattle.regent_tree.specs.declared.expression.Comparison.TheVariants.{Equal, NotEqual}
+use Rattle.regent_tree.specs.declared.expression.Operator.{Operator}
+use Rattle.regent_tree.specs.declared.expression.Operator.TheVariants.{Compare, Compute}
+use Rattle.regent_tree.specs.declared.facts.Known.{Known}
+use Rattle.check_rules.specs.Fitting.{fits, fits_param}
+use Rattle.check_rules.specs.Lookup.{has_task}
+use Rattle.check_rules.specs.Shapes.{Calling, Computing, Shape, Taking, access_shape, call_shape, chain_shape, element_of, field_of}
+use Rattle.check_rules.specs.Sorts.{is_integer, is_number, is_partition, is_region, is_space, is_truth, may_be, same_kind}
+use Rattle.check_rules.specs.Standing.{Spot, Standing, domain_spot, integer_spot, number_spot, param_spot, pointer_spot, space_spot, standing_in, truth_spot, typed_spot, value_spot}
+
+-- ---- operators
+
+-- integers widen, an index goes with an integer or an index of its own kind, and a pointer counts
+-- as an index; what is unknown goes with everything
+abbrev pub computes_with : StaticType → StaticType → Bool
+computes_with (index_type k) (index_type j) = same_kind k j
+computes_with t u = may_be is_number t && may_be is_number u
+
+-- order is between integers and indices, and a pointer counts as an index beside one of these
+abbrev pub has_order_with : StaticType → StaticType → Bool
+has_order_with t u = may_be is_number t && may_be is_number u && not (are_pointers t u)
+
+-- equality is between these too, and between two truths or two pointers
+abbrev pub has_equality_with : StaticType → StaticType → Bool
+has_equality_with t u =
+    (may_be is_number t && may_be is_number u) || (may_be is_truth t && may_be is_truth u)
+
+abbrev pub compares_with : Comparison → StaticType → StaticType → Bool
+compares_with Equal t u = has_equality_with t u
+compares_with NotEqual t u = has_equality_with t u
+compares_with comparison t u = has_order_with t u
+
+-- `and` and `or` take truths
+abbrev pub operates_on : Operator → StaticType → StaticType → Bool
+operates_on (Compute o) t u = computes_with (counting_as t) (counting_as u)
+operates_on (Compare c) t u = compares_with c t u
+operates_on connective t u = may_be is_truth t && may_be is_truth u
+
+-- the operands aren't as the operator takes them
+abbrev pub misoperates : Computing → Bool
+misoperates c = not (operates_on c.operator c.left c.right)
+
+-- ---- accesses
+
+-- a field is taken of what is no pointer and no partition, an element of what is no region and no
+-- partition
+abbrev pub mistakes : Taking → Bool
+mistakes (field_of t f) = not (may_be (λ u. is_pointer u || is_partition u) t)
+mistakes (element_of t e) = not (may_be (λ u. is_region u || is_partition u) t)
+
+-- ---- places
+
+-- whether a type may stand at a place
+abbrev pub may_stand : List Known → Standing → Bool
+may_stand known s = may_stand_at known s.type s.spot
+  where
+    may_stand_at : List Known → StaticType → Spot → Bool
+    may_stand_at known t integer_spot = may_be is_integer t
+    may_stand_at known t truth_spot = may_be is_truth t
+    may_stand_at known t number_spot = may_be is_number t
+    may_stand_at known t pointer_spot = may_be is_pointer t
+    may_stand_at known t value_spot = true
+    may_stand_at known t space_spot = may_be is_space t
+    may_stand_at known t domain_spot = may_be (λ u. is_region u || is_space u) t
+    may_stand_at known t (typed_spot wanted) = fits known t wanted
+    may_stand_at known t (param_spot wanted) = fits_param known t wanted
+
+abbrev pub misstands : List Known → Standing → Bool
+misstands known s = not (may_stand known s)
+
+-- ---- expressions
+
+abbrev pub has_no_result : Tree → Calling → Bool
+has_no_result tree c = has_task tree c.task && is_none (task_named tree c.task).result
+
+abbrev pub mistypes_itself : Tree → Shape → Bool
+mistypes_itself tree (chain_shape cs) = list_any misoperates cs
+mistypes_itself tree (call_shape c) = has_no_result tree c
+mistypes_itself tree (access_shape n taken) = list_any mistakes taken
+mistypes_itself tree shape = false
+
+-- an operator's operands aren't as it takes them, or a part doesn't fit its place
+abbrev pub mistypes : Tree → List Known → Shape → Bool
+mistypes tree known shape =
+    mistypes_itself tree shape || list_any (misstands known) (standing_in tree shape)

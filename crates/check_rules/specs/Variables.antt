@@ -1,0 +1,94 @@
+-- Start values of variables, and the scope behind a statement where there may be breaches.
+use Rattle.std.specs.List.{list_any}
+use Rattle.std.specs.Prelude.{Bool, List, None, Option, Some, [], cond, false, map, not, ◌&&◌, ◌++◌, ◌||◌, ◌∷◌}
+use Rattle.regent_tree.specs.Scopes.{Bound, Scope, in_scope, knowing, known_of_type, with_name}
+use Rattle.regent_tree.specs.StaticTypes.{StaticType, type_said, unknown_type}
+use Rattle.regent_tree.specs.Syntax.{Expression, Form, Start, Tree, a_link, by_field_start, chain_expr, equal_start, no_link, plain_start, region_start, var_form}
+use Rattle.regent_tree.specs.Typing.{arithmetic_type, known_of_start, scope_after, start_type}
+use Rattle.regent_tree.specs.declared.facts.Known.{Known}
+use Rattle.regent_tree.specs.declared.types.Kind.TheVariants.{Int1d}
+use Rattle.regent_tree.specs.declared.types.TypeTerm.{TypeTerm}
+use Rattle.regent_tree.specs.declared.types.TypeTerm.TheVariants as typed
+use Rattle.check_rules.specs.Declared.{is_flawed_type, type_unless}
+use Rattle.check_rules.specs.KnownTypes.{known_type}
+use Rattle.check_rules.specs.Names.{misnames_start}
+use Rattle.check_rules.specs.Partitions.{is_difference, miscolours_start, mispartitions_start}
+use Rattle.check_rules.specs.Sorts.{is_integer, is_unknown_type}
+use Rattle.check_rules.specs.Standing.{Standing, space_spot, stands}
+use Rattle.check_rules.specs.Types.{misstands}
+
+-- ---- start values
+
+-- the expressions that stand in a start value
+abbrev pub members_of : Expression → List Expression
+members_of (chain_expr first (a_link o e no_link)) = first ∷ e ∷ []
+members_of e = e ∷ []
+
+abbrev pub expressions_in_start : List Bound → Start → List Expression
+expressions_in_start names (region_start e u) = e ∷ []
+expressions_in_start names (equal_start r e) = e ∷ []
+expressions_in_start names (by_field_start r f e) = e ∷ []
+expressions_in_start names (plain_start e) = cond (is_difference names e) (members_of e) (e ∷ [])
+expressions_in_start names start = []
+
+-- the colours of a partition, and the size of a new region, are index spaces
+abbrev pub standing_in_start : Tree → Scope → Start → List Standing
+standing_in_start tree s (region_start e u) = stands (known_type tree s e) space_spot ∷ []
+standing_in_start tree s (equal_start r e) = stands (known_type tree s e) space_spot ∷ []
+standing_in_start tree s (by_field_start r f e) = stands (known_type tree s e) space_spot ∷ []
+standing_in_start tree s start = []
+
+-- the type that a start value has written in it; its kind is that of the index space
+abbrev pub written_in_start : Start → List TypeTerm
+written_in_start (region_start e u) = typed.Region Int1d u ∷ []
+written_in_start start = []
+
+-- ---- types of variables
+
+abbrev pub types_in_start : Tree → Scope → Start → List StaticType
+types_in_start tree s start =
+    map (known_type tree s) (expressions_in_start s.names start)
+
+-- the start value has a breach, or depends on what is unknown
+abbrev pub is_flawed_start : Tree → Scope → Start → Bool
+is_flawed_start tree s start =
+    list_any is_unknown_type (types_in_start tree s start)
+    || miscolours_start start (types_in_start tree s start)
+    || list_any (misstands s.known) (standing_in_start tree s start)
+    || list_any (is_flawed_type tree s.names) (written_in_start start)
+    || misnames_start tree s.names start || mispartitions_start tree s start
+
+abbrev pub known_start : Tree → Scope → Start → StaticType
+known_start tree s start =
+    type_unless (is_flawed_start tree s start) (start_type tree s s.next start)
+
+abbrev pub declared_type : Tree → Scope → TypeTerm → StaticType
+declared_type tree s t =
+    type_unless (is_flawed_type tree s.names t) (type_said tree (in_scope s) s.next t)
+
+-- the type of a new variable: as it is declared, or else as its start value's
+abbrev pub variable_type : Tree → Scope → Option TypeTerm → Option Start → StaticType
+variable_type tree s (Some t) start = declared_type tree s t
+variable_type tree s None (Some start) = known_start tree s start
+variable_type tree s None None = unknown_type
+
+-- ---- scopes
+
+-- what a start value tells, where it has no breach
+abbrev pub known_of_known_start : Tree → Scope → Option Start → List Known
+known_of_known_start tree s None = []
+known_of_known_start tree s (Some start) =
+    cond (is_flawed_start tree s start) [] (known_of_start tree s s.next (Some start))
+
+-- the scope behind a statement: as in the meaning of programs, but where a variable's declared
+-- type or start value has a breach, its type is unknown
+abbrev pub scope_behind : Tree → Scope → Form → Scope
+scope_behind tree s (var_form n t start) =
+    let type = variable_type tree s t start in
+    knowing (with_name s n type false)
+    (known_of_known_start tree s start ++ known_of_type type)
+scope_behind tree s form = scope_after tree s form
+
+-- a counted loop's variable is an integer where both bounds are
+abbrev pub counted_type : StaticType → StaticType → StaticType
+counted_type a b = type_unless (not (is_integer a && is_integer b)) (arithmetic_type a b)

@@ -1,0 +1,145 @@
+-- Going through a tree: its statements, each with its scope and line, and what stands in them; and
+-- the types that its lists of parameters and fields declare.
+use Rattle.std.specs.List.{list_any}
+use Rattle.std.specs.Prelude.{Bool, List, Some, [], filter, flat_map, map, true, ℕ, ◌++◌, ◌∷◌}
+use Rattle.regent_tree.specs.Scopes.{Bound, Scope, past, with_name}
+use Rattle.regent_tree.specs.Syntax.{Arms, Block, Expression, Form, ItemForm, ItemTree, Otherwise, Start, TaskTree, Tree, a_statement, access_expr, an_arm, assert_form, assign_form, call_form, do_form, else_block, fill_form, for_in_form, for_to_form, if_form, no_arm, no_else, no_statement, print_form, return_form, space_item, task_item, then_statement, var_form, while_form}
+use Rattle.regent_tree.specs.Typing.{scope_after_arms, scope_after_block, taken_from}
+use Rattle.regent_tree.specs.declared.types.Param.{Param}
+use Rattle.regent_tree.specs.declared.types.TypeTerm.{TypeTerm}
+use Rattle.check_rules.specs.Declared.{body_scope, params_beside}
+use Rattle.check_rules.specs.KnownTypes.{known_type, known_types, shape_of}
+use Rattle.check_rules.specs.Parts.{listed, parts, tests_of}
+use Rattle.check_rules.specs.Shapes.{Calling, Shape, call_in, calling, written_in}
+use Rattle.check_rules.specs.Variables.{counted_type, expressions_in_start, scope_behind, written_in_start}
+
+-- a statement with the task in which it stands, its line and the scope before it
+pub record Visit : Type 0 where
+  pub task : TaskTree
+  pub scope : Scope
+  pub line : ℕ
+  pub form : Form
+
+-- ---- statements
+
+abbrev mutual
+  pub visits_in : Tree → TaskTree → Scope → Block → List Visit
+  visits_in tree t s no_statement = []
+  visits_in tree t s (then_statement (a_statement line form) rest) =
+      (record { task = t; scope = s; line = line; form = form }
+      ∷ visits_within tree t s form) ++ visits_in tree t (scope_behind tree s form) rest
+
+  -- the statements in the blocks of a statement
+  pub visits_within : Tree → TaskTree → Scope → Form → List Visit
+  visits_within tree t s (if_form arms other) =
+      visits_in_arms tree t s arms ++ visits_in_else tree t (scope_after_arms tree s arms) other
+  visits_within tree t s (while_form test body) = visits_in tree t s body
+  visits_within tree t s (for_in_form demanded n domain body) = visits_in tree t
+      (with_name s n (taken_from (known_type tree s domain)) true) body
+  visits_within tree t s (for_to_form demanded n from to body) = visits_in tree t
+      (with_name s n (counted_type (known_type tree s from) (known_type tree s to)) true) body
+  visits_within tree t s (do_form body) = visits_in tree t s body
+  visits_within tree t s form = []
+
+  pub visits_in_arms : Tree → TaskTree → Scope → Arms → List Visit
+  visits_in_arms tree t s no_arm = []
+  visits_in_arms tree t s (an_arm test body rest) = visits_in tree t s body
+      ++ visits_in_arms tree t (past s (scope_after_block tree s body)) rest
+
+  pub visits_in_else : Tree → TaskTree → Scope → Otherwise → List Visit
+  visits_in_else tree t s no_else = []
+  visits_in_else tree t s (else_block body) = visits_in tree t s body
+
+abbrev pub visits_of_item : Tree → ItemForm → List Visit
+visits_of_item tree (task_item t) = visits_in tree t (body_scope tree t) t.body
+visits_of_item tree form = []
+
+-- all statements of a tree
+abbrev pub visits : Tree → List Visit
+visits tree = flat_map (λ (i : ItemTree). visits_of_item tree i.form) tree
+
+-- the lines of the statements at which something holds
+abbrev pub lines_where : Tree → (Visit → Bool) → List ℕ
+lines_where tree test = map (λ (v : Visit). v.line) (filter test (visits tree))
+
+-- ---- expressions
+
+-- the expressions that stand in a statement itself, but for the target of an assignment
+abbrev pub heads_of : List Bound → Form → List Expression
+heads_of names (var_form n t (Some start)) = expressions_in_start names start
+heads_of names (if_form arms other) = tests_of arms
+heads_of names (while_form test body) = test ∷ []
+heads_of names (for_in_form demanded n domain body) = domain ∷ []
+heads_of names (for_to_form demanded n from to body) = from ∷ to ∷ []
+heads_of names (fill_form r fields e) = e ∷ []
+heads_of names (assert_form e) = e ∷ []
+heads_of names (print_form alias format args) = listed args
+heads_of names (call_form task args) = listed args
+heads_of names (assign_form n steps how e) = e ∷ []
+heads_of names (return_form (Some e)) = e ∷ []
+heads_of names form = []
+
+abbrev pub targets_of : Form → List Expression
+targets_of (assign_form n steps how e) = access_expr n steps ∷ []
+targets_of form = []
+
+-- the shapes of these expressions, and of all expressions in them
+abbrev pub shapes_in : Tree → Scope → List Expression → List Shape
+shapes_in tree s es = map (shape_of tree s) (flat_map parts es)
+
+abbrev pub shapes_at : Tree → Visit → List Shape
+shapes_at tree v =
+    shapes_in tree v.scope (heads_of v.scope.names v.form ++ targets_of v.form)
+
+-- the calls at a statement: the statement itself, or expressions in it
+abbrev pub call_of_form : Tree → Scope → Form → List Calling
+call_of_form tree s (call_form task args) = calling task (known_types tree s args) ∷ []
+call_of_form tree s form = []
+
+abbrev pub calls_at : Tree → Visit → List Calling
+calls_at tree v =
+    call_of_form tree v.scope v.form ++ flat_map call_in (shapes_at tree v)
+
+-- the start value of a variable
+abbrev pub start_at : Form → List Start
+start_at (var_form n t (Some start)) = start ∷ []
+start_at form = []
+
+-- ---- written types
+
+abbrev pub declared_at : Form → List TypeTerm
+declared_at (var_form n (Some t) start) = t ∷ []
+declared_at form = []
+
+-- the types that are written in a statement
+abbrev pub written_at : Tree → Visit → List TypeTerm
+written_at tree v = declared_at v.form ++ flat_map written_in_start (start_at v.form)
+    ++ flat_map written_in (shapes_at tree v)
+
+-- a parameter or field, with the names that its type may use
+pub record Declaration : Type 0 where
+  pub names : List Bound
+  pub param : Param
+
+abbrev pub declarations_in : List Bound → List Param → List Declaration
+declarations_in names params =
+    map (λ (p : Param). record { names = names; param = p }) params
+
+abbrev pub declarations_of_item : Tree → ItemForm → List Declaration
+declarations_of_item tree (space_item s) =
+    declarations_in (params_beside tree s.params) (s.params ++ s.fields)
+declarations_of_item tree (task_item t) =
+    declarations_in (params_beside tree t.params) t.params
+declarations_of_item tree form = []
+
+abbrev pub declarations : Tree → List Declaration
+declarations tree = flat_map (λ (i : ItemTree). declarations_of_item tree i.form) tree
+
+-- the lines of the parameters and fields for whose types something holds
+abbrev pub lines_declaring : Tree → (List Bound → TypeTerm → Bool) → List ℕ
+lines_declaring tree test = map (λ (d : Declaration). d.param.line)
+    (filter (λ (d : Declaration). test d.names d.param.term) (declarations tree))
+
+-- where something holds for a type that is written in a statement
+abbrev pub any_written : Tree → Visit → (List Bound → TypeTerm → Bool) → Bool
+any_written tree v test = list_any (test v.scope.names) (written_at tree v)
