@@ -1,10 +1,10 @@
 -- The items of a program of the running form.
-use Rattle.std.proofs.Common.{◌≡◌, ℕ, suc, ◌+◌, ◌<◌, List, [], ◌∷◌, length, get_or, drop, map, refl, ap, ◌∙◌, sym, Bool, true, false, cond, arith}
-use Rattle.std.specs.List.{filter}
+use Rattle.std.proofs.Common.{◌≡◌, ℕ, ◌+◌, ◌<◌, List, [], ◌∷◌, length, get_or, take, map, refl, ap, ◌∙◌, sym, Bool, true, false, cond, arith}
 use Rattle.std.specs.Prelude.{◌&&◌, ◌==◌, nat_le}
 use Rattle.std.specs.List.{list_all}
 use Rattle.std.specs.Cmp.{unsigned_Decides}
-use Rattle.std.proofs.lemmas.List.{drop_more}
+use Rattle.std.proofs.lemmas.List.{get_or-map, length-map}
+use Rattle.std.proofs.lemmas.List.Filters.{length-filter_more}
 use Rattle.std.proofs.lemmas.Slice.Eq.{bytes_eq-Decides}
 use Rattle.regent_tree.specs.declared.program.Item.{Item}
 use Rattle.regent_tree.specs.PlainProgram.{item_of, item_tree_of}
@@ -13,35 +13,13 @@ use Rattle.regent_tree.specs.Syntax.{Name, ItemForm, import_item, alias_item, sp
 use Rattle.straight_run.specs.RunningForm.{are_running_items, count_items, is_main, is_running_item, is_start, is_task}
 use Rattle.straight_run.proofs.ChainLaws.{both_left, both_right}
 
-length_cond : {A : Type 0} (b : Bool) (x : A) (xs : List A) → length (cond b (x ∷ xs) xs) ≡ cond b (suc (length xs)) (length xs)
-length_cond true x xs = refl
-length_cond false x xs = refl
-
 -- one more item
-pub count_step : (test : ItemForm → Bool) (items : List Item) (i : ℕ) (x : Item) → i < length items → x ≡ get_or items i x →
-    count_items test (map item_tree_of (drop i items))
-    ≡ cond (test (item_of x.what)) (suc (count_items test (map item_tree_of (drop (i + 1) items)))) (count_items test (map item_tree_of (drop (i + 1) items)))
-count_step test items i x h is =
-    let rest : Tree = map item_tree_of (drop (i + 1) items) in
-    let e : drop i items ≡ x ∷ drop (i + 1) items = drop_more items i x h ∙ ap (λ y. y ∷ drop (i + 1) items) (sym is) in
-    ap (λ ys. count_items test (map item_tree_of ys)) e
-    ∙ length_cond (test (item_of x.what)) (item_tree_of x) (filter (λ (t : ItemTree). test t.form) rest)
-
-pub counted : (test : ItemForm → Bool) (items : List Item) (i : ℕ) (x : Item) (count : ℕ) (b : Bool) → i < length items → x ≡ get_or items i x →
-    b ≡ test (item_of x.what) → b ≡ true → count + count_items test (map item_tree_of (drop i items)) ≡ count_items test (map item_tree_of items) →
-    count + 1 + count_items test (map item_tree_of (drop (i + 1) items)) ≡ count_items test (map item_tree_of items)
-counted test items i x count b h is tested is_true before =
-    let step : count_items test (map item_tree_of (drop i items)) ≡ suc (count_items test (map item_tree_of (drop (i + 1) items))) =
-    count_step test items i x h is ∙ ap (λ c. cond c (suc (count_items test (map item_tree_of (drop (i + 1) items)))) (count_items test (map item_tree_of (drop (i + 1) items)))) (sym tested ∙ is_true) in
-    omega (arith, before, step)
-
-pub uncounted : (test : ItemForm → Bool) (items : List Item) (i : ℕ) (x : Item) (count : ℕ) (b : Bool) → i < length items → x ≡ get_or items i x →
-    b ≡ test (item_of x.what) → b ≡ false → count + count_items test (map item_tree_of (drop i items)) ≡ count_items test (map item_tree_of items) →
-    count + count_items test (map item_tree_of (drop (i + 1) items)) ≡ count_items test (map item_tree_of items)
-uncounted test items i x count b h is tested is_false before =
-    let step : count_items test (map item_tree_of (drop i items)) ≡ count_items test (map item_tree_of (drop (i + 1) items)) =
-    count_step test items i x h is ∙ ap (λ c. cond c (suc (count_items test (map item_tree_of (drop (i + 1) items)))) (count_items test (map item_tree_of (drop (i + 1) items)))) (sym tested ∙ is_false) in
-    omega (arith, before, step)
+pub one_more : (test : ItemForm → Bool) (items : List Item) (i : ℕ) (x : Item) → i < length items → x ≡ get_or items i x →
+    count_items test (take (i + 1) (map item_tree_of items)) ≡ count_items test (take i (map item_tree_of items)) + cond (test (item_of x.what)) 1 0
+one_more test items i x h is =
+    length-filter_more (λ (t : ItemTree). test t.form) (map item_tree_of items) i (item_tree_of x) (rw length-map h)
+    ∙ ap (λ (t : ItemTree). count_items test (take i (map item_tree_of items)) + cond (test t.form) 1 0)
+    (get_or-map item_tree_of items i x (item_tree_of x) h ∙ ap item_tree_of (sym is))
 
 -- ---- the task `main`
 

@@ -1,23 +1,17 @@
 -- The parameters of the started task, and the numbers that it is given.
-use Rattle.std.proofs.Common.{◌≡◌, ◌≢◌, ℕ, ℤ, zero, suc, ◌+◌, ◌<◌, List, [], ◌∷◌, ◌++◌, length, get_or, drop, refl, ap, ◌∙◌, sym, Bool, true, false, Option, arith, append_assoc}
+use Rattle.std.proofs.Common.{◌≡◌, ◌≢◌, ℕ, ℤ, suc, ◌+◌, ◌<◌, List, [], ◌∷◌, ◌++◌, length, get_or, drop, refl, ap, ◌∙◌, sym, Bool, true, false, Option, append_assoc}
 use Rattle.std.specs.Prelude.{◌&&◌, not}
-use Rattle.std.proofs.lemmas.List.{drop_more}
+use Rattle.std.proofs.lemmas.List.{drop-drop, drop_more}
 use Rattle.regent_tree.specs.declared.types.Param.{Param}
 use Rattle.straight_run.specs.declared.machine.Variable.{Variable}
 use Rattle.straight_run.specs.Inputs.{are_inputs, is_input, width_said}
-use Rattle.straight_run.specs.Parameters.{first_input, other_inputs, with_input, with_inputs}
+use Rattle.straight_run.specs.Parameters.{first_input, with_input, with_inputs}
 use Rattle.straight_run.specs.RunningForm.{Binding, are_parameters, bound_by, is_bound, is_integer}
 use Rattle.straight_run.specs.Variables.{bindings_of}
 use Rattle.straight_run.proofs.ChainLaws.{and_false, and_true}
 use Rattle.straight_run.proofs.StatementLaws.{bound_before-snoc}
 
 -- ---- a parameter after the other
-
-other-drop : (k : ℕ) (zs : List (Option ℤ)) → other_inputs (drop k zs) ≡ drop (k + 1) zs
-other-drop zero [] = refl
-other-drop zero (z ∷ zs) = refl
-other-drop (suc k) [] = let e : suc k + 1 ≡ suc (k + 1) = omega arith in rw e refl
-other-drop (suc k) (z ∷ zs) = let e : suc k + 1 ≡ suc (k + 1) = omega arith in rw e (other-drop k zs)
 
 param_step : (params : List Param) (i : ℕ) (p : Param) → i < length params → p ≡ get_or params i p → drop i params ≡ p ∷ drop (i + 1) params
 param_step params i p h is = drop_more params i p h ∙ ap (λ q. q ∷ drop (i + 1) params) (sym is)
@@ -28,8 +22,8 @@ pub given_on : (params : List Param) (inputs : List (Option ℤ)) (i : ℕ) (p :
     (vs ++ v ∷ []) ++ with_inputs (drop (i + 1) params) (drop (i + 1) inputs) ≡ whole
 given_on params inputs i p v vs whole h is made before =
     append_assoc vs (v ∷ []) (with_inputs (drop (i + 1) params) (drop (i + 1) inputs))
-    ∙ ap (λ zs. vs ++ (v ∷ with_inputs (drop (i + 1) params) zs)) (sym (other-drop i inputs))
-    ∙ ap (λ u. vs ++ (u ∷ with_inputs (drop (i + 1) params) (other_inputs (drop i inputs)))) made
+    ∙ ap (λ zs. vs ++ (v ∷ with_inputs (drop (i + 1) params) zs)) (sym (drop-drop 1 i inputs))
+    ∙ ap (λ u. vs ++ (u ∷ with_inputs (drop (i + 1) params) (drop 1 (drop i inputs)))) made
     ∙ ap (λ ps. vs ++ with_inputs ps (drop i inputs)) (sym (param_step params i p h is)) ∙ before
 
 -- whether a parameter is one is told by its type and the earlier names

@@ -1,5 +1,5 @@
 -- The parameters of the started task as the first variables.
-use Rattle.std.specs.Prelude.{ℤ, pos, List, [], ◌∷◌, Option, Some, None, false, cond}
+use Rattle.std.specs.Prelude.{ℤ, pos, List, [], ◌∷◌, Option, Some, None, false, cond, drop}
 use Rattle.lane_kernels.specs.declared.numbers.Width.{Width}
 use Rattle.regent_tree.specs.declared.types.Param.{Param}
 use Rattle.straight_run.specs.declared.machine.Variable.{Variable}
@@ -14,10 +14,6 @@ abbrev pub first_input : List (Option ℤ) → Option ℤ
 first_input [] = None
 first_input (z ∷ zs) = z
 
-abbrev pub other_inputs : List (Option ℤ) → List (Option ℤ)
-other_inputs [] = []
-other_inputs (z ∷ zs) = zs
-
 -- a parameter with its number
 abbrev pub with_input : Param → Option ℤ → Variable
 with_input p z = record {
@@ -28,4 +24,4 @@ with_input p z = record {
 
 abbrev pub with_inputs : List Param → List (Option ℤ) → List Variable
 with_inputs [] zs = []
-with_inputs (p ∷ ps) zs = with_input p (first_input zs) ∷ with_inputs ps (other_inputs zs)
+with_inputs (p ∷ ps) zs = with_input p (first_input zs) ∷ with_inputs ps (drop 1 zs)

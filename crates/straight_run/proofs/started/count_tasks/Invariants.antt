@@ -1,4 +1,4 @@
-use Rattle.std.proofs.Common.{◌≡◌, ◌≤◌, ◌+◌, drop, map}
+use Rattle.std.proofs.Common.{◌≡◌, ◌≤◌, map, take}
 use Rattle.regent_tree.specs.PlainProgram.{item_tree_of}
 use Rattle.straight_run.specs.RunningForm.{count_items, is_task}
 use Rattle.straight_run.proofs.started.count_tasks.Given as goal
@@ -6,6 +6,5 @@ use Rattle.straight_run.proofs.started.count_tasks.Given as goal
 abbrev pub invariant-loop-item : goal.invariant-loop-item
 invariant-loop-item l = record {
   bound : l.count ≤ l.item-index;
-  whole : l.count + count_items is_task (map item_tree_of (drop l.item-index l.items))
-      ≡ count_items is_task (map item_tree_of l.items);
+  so_far : l.count ≡ count_items is_task (take l.item-index (map item_tree_of l.items));
 }
