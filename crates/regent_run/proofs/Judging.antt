@@ -6,7 +6,7 @@ use Rattle.std.proofs.lemmas.List.{append-nil, length-append}
 use Rattle.run_io.specs.Source.{Moves, next_left}
 use Rattle.regent_tree.specs.Syntax.{Tree}
 use Rattle.regent_reader.specs.declared.fault.ReadFault.{ReadFault}
-use Rattle.regent_reader.specs.declared.fault.ReadFault.TheVariants.{TooLong, Lex, Memory}
+use Rattle.regent_reader.specs.declared.fault.ReadFault.TheVariants.{TooLong, Lex}
 use Rattle.regent_reader.specs.Texts.{Outcome, Reads, is_long, has_tokens}
 use Rattle.regent_run.specs.declared.verdict.Verdict.{Verdict}
 use Rattle.regent_run.specs.declared.verdict.Verdict.TheVariants as verdict
@@ -25,17 +25,6 @@ refused_judges text numbers fault (verdict.PastLimit passed) reads h = record { 
 refused_judges text numbers fault verdict.NotBuilt reads h = absurd h
 refused_judges text numbers fault verdict.OtherInputs reads h = absurd h
 refused_judges text numbers fault (verdict.Finished printed) reads h = absurd h
-
--- a fault that is want of memory leads to that verdict
-pub memory_judges : {error : _} (text : List ℕ) (numbers : List (List ℕ)) (v : Verdict) → Refuses (Memory error) v → Judges text numbers v
-memory_judges text numbers verdict.Usage h = h
-memory_judges text numbers verdict.Unread h = h
-memory_judges text numbers verdict.NoMemory h = tt
-memory_judges text numbers (verdict.NoProgram message) h = let e : None ≡ Some h.0 = h.2 in absurd cc
-memory_judges text numbers (verdict.PastLimit passed) h = absurd cc
-memory_judges text numbers verdict.NotBuilt h = absurd h
-memory_judges text numbers verdict.OtherInputs h = absurd h
-memory_judges text numbers (verdict.Finished printed) h = absurd h
 
 -- a text that was read comes to what its program comes to
 pub program_judges : (text : List ℕ) (numbers : List (List ℕ)) (tree : Tree) (v : Verdict) → Reads text (Ok tree) → JudgesProgram tree numbers v → Judges text numbers v

@@ -16,7 +16,7 @@ use Rattle.regent_run.specs.declared.limit.Limit.{Limit}
 use Rattle.regent_run.specs.declared.verdict.Verdict.{Verdict}
 use Rattle.regent_run.specs.declared.verdict.Verdict.TheVariants as verdict
 use Rattle.regent_run.specs.Answers.{OutStopped, ErrStopped, ComesTo, IsErrorLine, no_memory, usage, unread, syntax, limit, not_built, inputs, NoneRose, UnlessUnread, IsSureOfErrors, IsSureOfOutput}
-use Rattle.regent_run.specs.Programs.{limit_passed, syntax_line, HasOtherInputs, IsRun, TakesNumbers, Comes, finishes, is_no_program, passes_a_limit, has_other_inputs, is_not_built, OfNextText}
+use Rattle.regent_run.specs.Programs.{limit_passed, syntax_line, HasOtherInputs, TakesNumbers, Comes, finishes, is_no_program, passes_a_limit, has_other_inputs, is_not_built, OfNextText}
 use Rattle.regent_run.specs.Verdicts.{SinkChange, HasGained, HasFailed, IsUntouched, IsDelivered, Says, SaysOfText, out_text, err_text, status_of}
 use Rattle.regent_run.specs.Words.{Command, command}
 use Rattle.regent_run.proofs.InputLaws.{one_inputs}

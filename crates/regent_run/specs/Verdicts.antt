@@ -39,10 +39,6 @@ err_text NotBuilt = not_built_message
 err_text OtherInputs = inputs_message
 err_text (Finished text) = []
 
--- the words name a file to run
-abbrev pub IsNamed : List (List ℕ) → Type 0
-IsNamed words = (named : Command) × (command words ≡ Some named)
-
 -- what a verdict says of a text that is given the words of numbers
 abbrev pub Judges : List ℕ → List (List ℕ) → Verdict → Type 0
 Judges text numbers Usage = ⊥
