@@ -85,7 +85,3 @@ read_is_program ls tree h = ((grammar.reading_is_exact _ item.program program_so
 
 pub stuck_is_none : (ls at : List Lexeme) → reading item.program ls ≡ stuck at → IsNoProgram ls at
 stuck_is_none ls at h = ((grammar.reading_is_exact _ item.program program_sound ls).1 at).0 h
-
--- the same of an error that is handed on
-pub error_reads : (text : List ℕ) (fault : ReadFault) (r : Result Program ReadFault) → r ≡ Err fault → Answers (Reads text) (Err fault) → Answers (Reads text) r
-error_reads text fault r is h = subst (λ (o : Result Program ReadFault). Answers (Reads text) o) (sym is) h

@@ -36,10 +36,12 @@ abbrev pub counted : Tree → Option Excess → Outcome
 counted tree None = Ok tree
 counted tree (Some e) = Err (TooMany e.what e.count)
 
+abbrev pub counted_program : Tree → Outcome
+counted_program tree = counted tree (first_excess (parts_of_program tree))
+
 -- what lexemes come to: their tree, or the line of the first that no production takes
 pub data Parses (text : List ℕ) (ls : List Lexeme) : Outcome → Type 0 where
-  is_tree : {tree : Tree} → IsProgram ls tree →
-      Parses text ls (counted tree (first_excess (parts_of_program tree)))
+  is_tree : {tree : Tree} → IsProgram ls tree → Parses text ls (counted_program tree)
   is_none : {at : List Lexeme} → IsNoProgram ls at →
       Parses text ls (Err (NoProgram (line_at text at)))
 
@@ -94,6 +96,3 @@ abbrev pub RefusesTokens : List ℕ → ReadFault → Type 0
 RefusesTokens text (Lex kind line) = Lexes text 0 1 (Err (kind, line))
 RefusesTokens text (Memory error) = Unit {0}
 RefusesTokens text fault = ⊥
-
-abbrev pub counted_program : Tree → Outcome
-counted_program tree = counted tree (first_excess (parts_of_program tree))
