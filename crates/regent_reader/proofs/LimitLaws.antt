@@ -1,22 +1,16 @@
 -- What is read is within the limits.
-use Rattle.std.proofs.Common.{◌≡◌, ℕ, ◌*◌, ◌≤◌, List, [], ◌∷◌, Option, Some, None, All, length, Bool, true, false, cond, Result, Ok, Err, IfOk, subst, sym, refl, arith}
-use Rattle.std.specs.Prelude.{nat_lt}
-use Rattle.std.proofs.lemmas.Bool.{ltb-false}
-use Rattle.std.proofs.lemmas.List.Elements.{All-nil, All-cons, All-head, All-tail}
+use Rattle.std.proofs.Common.{◌≡◌, ℕ, ◌*◌, ◌≤◌, List, None, All, length, Result, Ok, Err, IfOk, subst, sym, arith}
 use Rattle.std.proofs.lemmas.List.{length-map}
 use Rattle.regent_lex.specs.declared.token.Token.{Token}
 use Rattle.regent_lex.specs.Places as place
 use Rattle.regent_lex.specs.Places.{spelling}
 use Rattle.regent_lex.specs.Texts.{Lexes}
-use Rattle.regent_tree.specs.declared.limits.Counted.{Counted}
-use Rattle.regent_tree.specs.declared.limits.Excess.{Excess}
 use Rattle.regent_tree.specs.declared.program.Program.{Program}
-use Rattle.regent_tree.specs.Limits.{Part, node, literal, counted, most, KeepsLimit, WithinLimits, excess_before, first_excess, number_of_nodes, parts_of_program}
+use Rattle.regent_tree.specs.Limits.{WithinLimits, first_excess, parts_of_program}
 use Rattle.regent_tree.specs.PlainProgram.{tree_of}
 use Rattle.regent_tree.specs.Syntax.{Tree}
 use Rattle.regent_grammar.specs.declared.symbol.Lexeme.{Lexeme}
 use Rattle.regent_grammar.specs.Derivations.{IsProgram}
-use Rattle.regent_grammar.specs.Laws.{LiteralFits}
 use Rattle.regent_grammar.specs.Lexemes.{lexemes}
 use Rattle.regent_grammar.proofs.LimitLaws as grammar
 use Rattle.regent_reader.specs.declared.fault.ReadFault.{ReadFault}

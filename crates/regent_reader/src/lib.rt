@@ -2,6 +2,7 @@
 #![tactic(auto)]
 
 mod fault;
+mod items;
 mod reading;
 
 pub use fault::ReadFault;

@@ -6,10 +6,10 @@ ghost use Rattle.regent_tree.specs.PlainProgram.{tree_of};
 ghost use Rattle.regent_reader.specs.Texts.{Answers, AreWithin, Has, HasSmallCounts, IsLexed, Nests, Outcome, Parses, Reads, RefusesTokens, counted_program, last_line, line_at};
 
 use crate::fault::ReadFault;
+use crate::items::program;
 use regent_grammar::{Lexeme, first_too_deep, lexemes};
 use regent_lex::{LexFault, tokens};
 use regent_limits::first_excess;
-use regent_program::program;
 use regent_syntax::Stop;
 use regent_tree::Program;
 use std::alloc::Global;

@@ -321,6 +321,24 @@ pub fn type_term(alloc: Global, lexemes: &[Lexeme]) -> Result<(TypeTerm, &[Lexem
     }
 }
 
+/// The type behind a colon, where it is written.
+#[tactic(auto, unfolding(regent_grammar::specs::Reading::reading, regent_grammar::specs::Reading::reading_with, regent_grammar::specs::Reading::then_read))]
+pub fn declared_type(
+    alloc: Global,
+    lexemes: &[Lexeme],
+) -> Result<(Option<TypeTerm>, &[Lexeme]), Stop<'_>>
+    ensures { Gives (λ x. read x.0 x.1.now) result
+        (reading (maybe (comes (is_mark mark.Colon)) (a_mark mark.Colon ⊳ type_term)) lexemes.now) }
+{
+    if comes_mark(lexemes, Mark::Colon) {
+        let rest = take_mark(lexemes, Mark::Colon)?;
+        let (term, rest) = type_term(alloc, rest)?;
+        Ok((Some(term), rest))
+    } else {
+        Ok((None, lexemes))
+    }
+}
+
 /// A parameter.
 #[tactic(auto, unfolding(regent_grammar::specs::Reading::reading, regent_grammar::specs::Reading::reading_with, regent_grammar::specs::Reading::then_read, regent_grammar::specs::Types::parameter))]
 pub fn parameter(alloc: Global, lexemes: &[Lexeme]) -> Result<(Param, &[Lexeme]), Stop<'_>>
