@@ -4,6 +4,8 @@
 mod fault;
 mod items;
 mod reading;
+#[cfg(test)]
+mod tests;
 
 pub use fault::ReadFault;
 pub use reading::read;
