@@ -290,9 +290,11 @@ regentlib.start(main)
 
 fspace f { }
 
+fspace f(a : int1d, b : ptr) { x : int; y : bool; }
+
 task a(r : region(fs(r, wild)), p : partition(aliased, r, c), q : ispace(ptr), b : bool) : int32
 where r <= p, reads writes reduces max(r.{x}, p) do
-  var x; var y : ptr(f(r), p, wild);
+  var x; var y : ptr(f(r), p, wild); var q = p & p; regentlib.assert(y == q)
   if not - not b then elseif b or true and false then else return end
   while 1 ~= 2 do do end end
   fill(r.{x, y}, null(ptr(f, r)));
