@@ -8,7 +8,7 @@ use Rattle.regent_tree.specs.declared.facts.Colour.{Colour}
 use Rattle.regent_tree.specs.declared.facts.Colour.TheVariants.{Constant, Loop, Unknown}
 use Rattle.regent_tree.specs.declared.facts.Term.{Term}
 use Rattle.regent_tree.specs.declared.facts.Term.TheVariants.{Name, Child}
-use Rattle.constraint_check.proofs.Members.{Has, Has-append_left, Has-append_right, Has-append_cases, Has-from_list_any}
+use Rattle.regent_tree.proofs.Members.{Has, Has-append_left, Has-append_right, Has-append_cases, Has-from_list_any}
 
 pub alike_colours-refl : (c : Colour) → alike_colours c c ≡ true
 alike_colours-refl (Constant i) = (Decides-int_eq i i).1 refl

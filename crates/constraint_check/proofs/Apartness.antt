@@ -12,7 +12,7 @@ use Rattle.regent_tree.specs.declared.facts.Known.TheVariants.{Within, Apart, Pa
 use Rattle.regent_tree.specs.declared.facts.Term.{Term}
 use Rattle.regent_tree.specs.declared.facts.Term.TheVariants.{Name, Child}
 use Rattle.constraint_check.specs.Derivations.{IsBelow, same, through, IsApart, told_apart, turned, children, inside, made, IsDisjoint}
-use Rattle.constraint_check.proofs.Members.{Has, Has-from_Contains, Contains-from_Has, list_any-from_Has, Has-from_list_any}
+use Rattle.regent_tree.proofs.Members.{Has, Has-from_Contains, Contains-from_Has, list_any-from_Has, Has-from_list_any}
 use Rattle.constraint_check.proofs.Table.{any_above-sound, any_above-complete, is_below-sound, is_below-complete}
 
 -- a fact tells that x and y share no point, in this order

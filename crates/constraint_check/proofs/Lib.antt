@@ -1,4 +1,3 @@
-pub mod Members
 pub mod Alike
 pub mod Steps
 pub mod Table

@@ -9,7 +9,7 @@ use Rattle.regent_tree.specs.declared.facts.Known.TheVariants.{Within, Apart, Pa
 use Rattle.regent_tree.specs.declared.facts.Term.{Term}
 use Rattle.regent_tree.specs.declared.facts.Term.TheVariants.{Name, Child}
 use Rattle.constraint_check.specs.Derivations.{IsBelow, same, told_within, through, child, variable}
-use Rattle.constraint_check.proofs.Members.{Has, Has-from_Contains}
+use Rattle.regent_tree.proofs.Members.{Has, Has-from_Contains}
 use Rattle.constraint_check.proofs.Alike.{alike-refl, same-terms}
 
 -- t is the upper end of a fact

@@ -11,7 +11,7 @@ use Rattle.regent_tree.specs.declared.facts.Known.TheVariants.{Within, Apart, Pa
 use Rattle.regent_tree.specs.declared.facts.Term.{Term}
 use Rattle.regent_tree.specs.declared.facts.Term.TheVariants.{Name}
 use Rattle.constraint_check.specs.Derivations.{IsBelow, same, through, IsSubregion}
-use Rattle.constraint_check.proofs.Members.{Has, Has-from_Contains, Contains-from_Has, Has-append_cases, Has-map, Has-map_cases, list_any-from_Has, Has-from_list_any}
+use Rattle.regent_tree.proofs.Members.{Has, Has-from_Contains, Contains-from_Has, Has-append_cases, Has-map, Has-map_cases, list_any-from_Has, Has-from_list_any}
 use Rattle.constraint_check.proofs.Alike.{alike-refl, same-terms, united-kept, united-added, united-cases}
 use Rattle.constraint_check.proofs.Steps.{EndsBelow, by_way_of, FirstStep, first_step, more_facts, without_new_fact, EndsBelow-new, EndsBelow-more}
 

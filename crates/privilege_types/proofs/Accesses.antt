@@ -3,9 +3,9 @@ use Rattle.std.proofs.Common.{◌≡◌, true, refl, ap}
 use Rattle.lane_kernels.specs.Modes.{same_op}
 use Rattle.lane_kernels.specs.declared.numbers.Op.{Op}
 use Rattle.lane_kernels.specs.declared.numbers.Op.TheVariants.{Sum, Product, Least, Greatest}
-use Rattle.privilege_types.specs.Access.{same_access}
-use Rattle.privilege_types.specs.declared.access.Access.{Access}
-use Rattle.privilege_types.specs.declared.access.Access.TheVariants.{Read, Write, Reduce}
+use Rattle.regent_tree.specs.Rights.{same_access}
+use Rattle.regent_tree.specs.declared.rights.Access.{Access}
+use Rattle.regent_tree.specs.declared.rights.Access.TheVariants.{Read, Write, Reduce}
 
 same_op-refl : (p : Op) → same_op p p ≡ true
 same_op-refl Sum = refl

@@ -1,3 +1,1 @@
-pub mod Access
 pub mod Privileges
-pub mod Rights

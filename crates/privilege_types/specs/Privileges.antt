@@ -4,10 +4,10 @@ use Rattle.constraint_check.specs.Derivations.{IsSubregion}
 use Rattle.regent_tree.specs.declared.facts.Known.{Known}
 use Rattle.regent_tree.specs.declared.facts.Term.{Term}
 use Rattle.regent_tree.specs.declared.facts.Term.TheVariants.{Name}
-use Rattle.privilege_types.specs.declared.access.Access.{Access}
-use Rattle.privilege_types.specs.declared.access.Access.TheVariants.{Read, Write, Reduce}
-use Rattle.privilege_types.specs.declared.access.Right.{Right}
-use Rattle.privilege_types.specs.declared.access.Wanted.{Wanted}
+use Rattle.regent_tree.specs.declared.rights.Access.{Access}
+use Rattle.regent_tree.specs.declared.rights.Access.TheVariants.{Read, Write, Reduce}
+use Rattle.regent_tree.specs.declared.rights.Right.{Right}
+use Rattle.regent_tree.specs.declared.rights.Wanted.{Wanted}
 
 -- the access to the field is held on a region within which the term derivably lies
 pub record IsHeld (rights : List Right) (facts : List Known) (term : Term) (field : ℕ) (access : Access) : Type 0 where

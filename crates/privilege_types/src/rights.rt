@@ -2,10 +2,11 @@
 
 ghost use Rattle.std.specs.Prelude.{◌≡◌, ◌↔◌, ◌++◌, [], ◌∷◌, All, IsOk, IsOkAnd, IfErr, OnErr, OnOk, IsTrue};
 ghost use Rattle.privilege_types.specs.Privileges.{IsHeld, IsAllowed, IsGranted, IsFirstBreach};
-ghost use Rattle.privilege_types.specs.Rights.{gives};
+ghost use Rattle.regent_tree.specs.Rights.{gives, is_held, allows};
 
-use crate::access::{Access, Breach, Right, Wanted};
+use crate::breach::Breach;
 use constraint_check::{Facts, Term};
+use regent_tree::{Access, Right, Wanted};
 use std::alloc::{AllocError, Global};
 use std::marker::Model;
 
@@ -17,7 +18,7 @@ pub struct Held {
 
 impl Model for Held {
     ghost use Rattle.std.specs.Prelude.{List};
-    ghost use Rattle.privilege_types.specs.declared.access.Right.{Right};
+    ghost use Rattle.regent_tree.specs.declared.rights.Right.{Right};
 
     ghost Value = { List Right };
 
@@ -50,17 +51,10 @@ impl Held {
 
     /// Whether an access to a field of a region is allowed.
     pub fn allows(&self, facts: &Facts, term: &Term, field: u8, access: Access) -> bool
-        ensures { IsTrue result ↔ IsAllowed self.now facts.now term.now field access }
+        ensures computed { result ≡ allows self.now facts.now term.now field access }
+        ensures derivable { IsTrue result ↔ IsAllowed self.now facts.now term.now field access }
     {
-        let rights = &self.rights;
-        match access {
-            Access::Read | Access::Write => is_held(rights, facts, term, field, access),
-            Access::Reduce(_) => {
-                is_held(rights, facts, term, field, access)
-                    || is_held(rights, facts, term, field, Access::Read)
-                        && is_held(rights, facts, term, field, Access::Write)
-            }
-        }
+        is_allowed(&self.rights, facts, term, field, access)
     }
 
     /// Whether all that a call wants is allowed; the breach is the first place that is not.
@@ -77,9 +71,23 @@ impl Held {
     }
 }
 
+/// Whether an access is held, or for a reduction both reading and writing are.
+fn is_allowed(rights: &[Right], facts: &Facts, term: &Term, field: u8, access: Access) -> bool
+    ensures { result ≡ allows rights.now facts.now term.now field access }
+{
+    match access {
+        Access::Read | Access::Write => is_held(rights, facts, term, field, access),
+        Access::Reduce(_) => {
+            is_held(rights, facts, term, field, access)
+                || is_held(rights, facts, term, field, Access::Read)
+                    && is_held(rights, facts, term, field, Access::Write)
+        }
+    }
+}
+
 /// Whether an access is held on a region within which the term lies.
 fn is_held(rights: &[Right], facts: &Facts, term: &Term, field: u8, access: Access) -> bool
-    ensures { IsTrue result ↔ IsHeld rights.now facts.now term.now field access }
+    ensures { result ≡ is_held rights.now facts.now term.now field access }
 {
     rights
         .iter()

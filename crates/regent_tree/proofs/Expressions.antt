@@ -4,7 +4,9 @@ use Rattle.regent_tree.specs.declared.expression.Operator.TheVariants.{Or, And, 
 use Rattle.regent_tree.specs.Syntax.{Expression, number_expr, truth_expr, chain_expr, prefix_expr, call_expr, access_expr, convert_expr, is_null_expr, null_expr, cast_expr, space_expr, Links, no_link, a_link, Expressions, no_expr, an_expr, Steps, no_step, field_step, at_step}
 use Rattle.regent_tree.specs.Values.{Value, a_pointer, null_target, truth_of, number_of}
 use Rattle.regent_tree.specs.Store.{Store}
-use Rattle.regent_tree.specs.StaticTypes.{StaticType, truth_type, task_named}
+use Rattle.regent_tree.specs.StaticTypes.{task_named}
+use Rattle.regent_tree.specs.declared.typing.StaticType.{StaticType}
+use Rattle.regent_tree.specs.declared.typing.StaticType.TheVariants.{Truth as truth_type}
 use Rattle.regent_tree.specs.Typing.{operated, are_pointers, type_of_field, type_of_element, params_at}
 use Rattle.regent_tree.specs.Running.{State, Here}
 use Rattle.regent_tree.specs.Accesses.{standing, converted, regions_written, take_field, take_element}

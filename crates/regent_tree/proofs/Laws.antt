@@ -5,7 +5,8 @@ use Rattle.std.specs.List.{take-map}
 use Rattle.std.proofs.lemmas.List.{append_assoc, append-nil, length-map, map-append}
 use Rattle.std.proofs.Math.Seq.{take-append_seam}
 use Rattle.regent_tree.specs.Scopes.{Scope, scope_of}
-use Rattle.regent_tree.specs.StaticTypes.{StaticType, task_named}
+use Rattle.regent_tree.specs.StaticTypes.{task_named}
+use Rattle.regent_tree.specs.declared.typing.StaticType.{StaticType}
 use Rattle.regent_tree.specs.Typing.{result_type}
 use Rattle.regent_tree.specs.Store.{Store}
 use Rattle.regent_tree.specs.Running.{State, Result, gives, fails, Called, came_back, broke, Calls}

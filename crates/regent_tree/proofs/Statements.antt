@@ -11,7 +11,8 @@ use Rattle.regent_tree.specs.Syntax.{Name, Expression, access_expr, Steps, no_st
 use Rattle.regent_tree.specs.Numbers.{distance}
 use Rattle.regent_tree.specs.Values.{Value, Region, truth_of, number_of, region_of, size_of, kept}
 use Rattle.regent_tree.specs.Store.{Store, write_at, write_all, touch_all}
-use Rattle.regent_tree.specs.StaticTypes.{StaticType, field_type, field_place, task_named}
+use Rattle.regent_tree.specs.StaticTypes.{field_type, field_place, task_named}
+use Rattle.regent_tree.specs.declared.typing.StaticType.{StaticType}
 use Rattle.regent_tree.specs.Typing.{stepped_type, arithmetic_type, params_at, var_type, taken_from, width_of_type}
 use Rattle.regent_tree.specs.Running.{State, Here, Run, Result, gives, fails, change, pay, touch}
 use Rattle.regent_tree.specs.Accesses.{converted, Aim, hits, misses, aimed, space_in, args_in}

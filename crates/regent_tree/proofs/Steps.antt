@@ -11,7 +11,8 @@ use Rattle.regent_tree.specs.Syntax.{Name}
 use Rattle.plain_values.specs.Points.{has}
 use Rattle.regent_tree.specs.Values.{Value, a_number, a_truth, an_index, a_pointer, a_space, a_region, a_partition, Target, null_target, point_target, Region, Partition}
 use Rattle.regent_tree.specs.Store.{Store, Touch}
-use Rattle.regent_tree.specs.StaticTypes.{StaticType, integer_type, truth_type, index_type, pointer_type, ispace_type, region_type, partition_type, no_type, unknown_type}
+use Rattle.regent_tree.specs.declared.typing.StaticType.{StaticType}
+use Rattle.regent_tree.specs.declared.typing.StaticType.TheVariants.{Integer as integer_type, Truth as truth_type, Index as index_type, Pointer as pointer_type, Ispace as ispace_type, Region as region_type, Partition as partition_type, Nothing as no_type, Unknown as unknown_type}
 use Rattle.regent_tree.specs.Running.{State, Here, Run, Result, gives, fails, Called, came_back, broke, given, and_then, ◌>>=◌, state, fault, if_true, pay_from, pay, touch, touch_at}
 use Rattle.regent_tree.specs.Accesses.{standing, standing_target, converted, regions_written, Aim, hits, misses, aimed, read_field, take_field, take_child, take_point, take_element}
 use Rattle.regent_tree.specs.Operators.{operand, unless_divided, arithmetic, combined, space_of_size}

@@ -12,7 +12,9 @@ use Rattle.plain_values.specs.Points.{has}
 use Rattle.lane_kernels.specs.Numbers.{wrapped}
 use Rattle.regent_tree.specs.Values.{Value, a_number, an_index, a_pointer, a_space, a_region, a_partition, Target, null_target, point_target, Region, Partition, no_region, number_of, region_of, target_of, moved, meant}
 use Rattle.regent_tree.specs.Store.{read_at}
-use Rattle.regent_tree.specs.StaticTypes.{StaticType, integer_type, index_type, pointer_type, region_type, Reach, field_type, field_place, field_kind, written_pointer}
+use Rattle.regent_tree.specs.StaticTypes.{Reach, field_type, field_place, field_kind, written_pointer}
+use Rattle.regent_tree.specs.declared.typing.StaticType.{StaticType}
+use Rattle.regent_tree.specs.declared.typing.StaticType.TheVariants.{Integer as integer_type, Index as index_type, Pointer as pointer_type, Region as region_type}
 use Rattle.regent_tree.specs.Scopes.{Scope, bound_as, in_scope}
 use Rattle.regent_tree.specs.Typing.{reaches_of, positions}
 use Rattle.regent_tree.specs.Running.{Here, Run, given, ◌>>=◌, state, fault, if_true, touch_at}

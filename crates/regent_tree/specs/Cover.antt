@@ -13,7 +13,8 @@ use Rattle.regent_tree.specs.Syntax.{Name, Tree, TaskTree}
 use Rattle.plain_values.specs.Points.{has}
 use Rattle.regent_tree.specs.Values.{Value, a_truth, Region, region_of}
 use Rattle.regent_tree.specs.Store.{Touch}
-use Rattle.regent_tree.specs.StaticTypes.{unknown_type, place_in, field_place}
+use Rattle.regent_tree.specs.StaticTypes.{place_in, field_place}
+use Rattle.regent_tree.specs.declared.typing.StaticType.TheVariants.{Unknown as unknown_type}
 use Rattle.regent_tree.specs.Typing.{param_types}
 use Rattle.regent_tree.specs.Accesses.{space_in}
 

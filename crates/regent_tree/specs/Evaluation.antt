@@ -3,7 +3,9 @@ use Rattle.std.specs.Prelude.{List, [], ◌∷◌, ◌++◌, get_or, false}
 use Rattle.regent_tree.specs.declared.expression.Operator.TheVariants.{Or, And}
 use Rattle.regent_tree.specs.Syntax.{Name, Expression, number_expr, truth_expr, chain_expr, prefix_expr, call_expr, access_expr, convert_expr, is_null_expr, null_expr, cast_expr, space_expr, Links, no_link, a_link, Expressions, no_expr, an_expr, Steps, no_step, field_step, at_step}
 use Rattle.regent_tree.specs.Values.{Value, a_number, a_truth, a_pointer, null_target, truth_of, number_of, target_of, is_null_target}
-use Rattle.regent_tree.specs.StaticTypes.{StaticType, truth_type, unknown_type, task_named}
+use Rattle.regent_tree.specs.StaticTypes.{task_named}
+use Rattle.regent_tree.specs.declared.typing.StaticType.{StaticType}
+use Rattle.regent_tree.specs.declared.typing.StaticType.TheVariants.{Truth as truth_type, Unknown as unknown_type}
 use Rattle.regent_tree.specs.Scopes.{bound_to}
 use Rattle.regent_tree.specs.Typing.{type_of, operated, type_of_field, type_of_element, are_pointers, params_at}
 use Rattle.regent_tree.specs.Running.{Here, Run, gives, fails, Called, came_back, broke, given, ◌>>=◌, state, if_true, pay}
@@ -32,7 +34,7 @@ abbrev pub named_value : Here → Name → Run Value
 named_value h n s = gives (get_or s.names (bound_to h.scope.names n).place (a_truth false)) s
 
 abbrev pub type_named : Here → Name → StaticType
-type_named h n = (bound_to h.scope.names n).type
+type_named h n = (bound_to h.scope.names n).static_type
 
 abbrev pub typed : Here → Expression → StaticType
 typed h e = type_of h.tree h.scope e

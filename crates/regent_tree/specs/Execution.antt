@@ -12,7 +12,8 @@ use Rattle.lane_kernels.specs.Numbers.{wrapped, applied}
 use Rattle.regent_tree.specs.Numbers.{distance}
 use Rattle.regent_tree.specs.Values.{Value, a_number, a_truth, an_index, a_pointer, a_space, a_region, point_target, Region, truth_of, number_of, region_of, regions_of, width_of, kept, meant}
 use Rattle.regent_tree.specs.Store.{read_at, write_at, write_all, touch_all}
-use Rattle.regent_tree.specs.StaticTypes.{StaticType, field_type, field_place, field_kind, task_named}
+use Rattle.regent_tree.specs.StaticTypes.{field_type, field_place, field_kind, task_named}
+use Rattle.regent_tree.specs.declared.typing.StaticType.{StaticType}
 use Rattle.regent_tree.specs.Scopes.{bound_to, with_name, past}
 use Rattle.regent_tree.specs.Typing.{stepped_type, arithmetic_type, params_at, var_type, scope_after, scope_after_block, scope_after_arms, taken_from, width_of_type}
 use Rattle.regent_tree.specs.Running.{State, Here, Run, Result, gives, given, ◌>>=◌, and_then, state, change, fault, if_true, pay, touch, touch_at}

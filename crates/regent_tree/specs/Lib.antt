@@ -20,3 +20,5 @@ pub mod Meaning
 pub mod Cover
 pub mod Laws
 pub mod Limits
+pub mod Rights
+pub mod Lookup

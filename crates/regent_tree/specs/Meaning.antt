@@ -6,7 +6,9 @@ use Rattle.regent_tree.specs.declared.outcome.Outcome.{Outcome}
 use Rattle.regent_tree.specs.Syntax.{Tree, TaskTree}
 use Rattle.regent_tree.specs.Values.{Value, a_number, a_pointer}
 use Rattle.regent_tree.specs.Store.{Store}
-use Rattle.regent_tree.specs.StaticTypes.{StaticType, pointer_type, started, task_named}
+use Rattle.regent_tree.specs.StaticTypes.{started, task_named}
+use Rattle.regent_tree.specs.declared.typing.StaticType.{StaticType}
+use Rattle.regent_tree.specs.declared.typing.StaticType.TheVariants.{Pointer as pointer_type}
 use Rattle.regent_tree.specs.Scopes.{Scope, scope_of}
 use Rattle.regent_tree.specs.Typing.{result_type, param_types, width_of_type}
 use Rattle.regent_tree.specs.Running.{State, Here, Result, gives, fails, Called, came_back, broke, Calls}

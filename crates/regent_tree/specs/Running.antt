@@ -7,7 +7,7 @@ use Rattle.regent_tree.specs.declared.outcome.FaultKind.TheVariants.{Turns}
 use Rattle.regent_tree.specs.Syntax.{Name, Tree}
 use Rattle.regent_tree.specs.Values.{Value}
 use Rattle.regent_tree.specs.Store.{Store, Touch}
-use Rattle.regent_tree.specs.StaticTypes.{StaticType}
+use Rattle.regent_tree.specs.declared.typing.StaticType.{StaticType}
 use Rattle.regent_tree.specs.Scopes.{Scope}
 
 -- what a task instance has while it runs: the values of its names by their places, the store, the

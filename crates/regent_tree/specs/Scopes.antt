@@ -1,5 +1,8 @@
 -- Scopes: the names that are bound at a place of the text, with what is known of regions there. A
 -- scope is found from the text alone.
+--
+-- Of a name that is bound, the number is that of the binding, which is never used again within the
+-- task; the place is where its value stands among those of the names in scope.
 use Rattle.std.specs.Prelude.{ℕ, suc, List, [], ◌∷◌, ◌++◌, length, Bool, false, ◌==◌, cond, Some, bytes_eq}
 use Rattle.regent_tree.specs.declared.facts.Known.{Known}
 use Rattle.regent_tree.specs.declared.facts.Known.TheVariants.{Within, Apart, PartOf}
@@ -9,16 +12,10 @@ use Rattle.regent_tree.specs.declared.program.Clause.{Clause}
 use Rattle.regent_tree.specs.declared.program.Clause.TheVariants as clause
 use Rattle.regent_tree.specs.declared.types.Param.{Param}
 use Rattle.regent_tree.specs.Syntax.{Name, Tree, TaskTree}
-use Rattle.regent_tree.specs.StaticTypes.{StaticType, partition_type, unknown_type, Looking, among_params, place_in, type_said}
-
--- A name that is bound. Its number is that of the binding, which is never used again within the
--- task; its place is where its value stands among those of the names in scope.
-pub record Bound : Type 0 where
-  pub name : Name
-  pub number : ℕ
-  pub place : ℕ
-  pub type : StaticType
-  pub loop : Bool
+use Rattle.regent_tree.specs.StaticTypes.{Looking, among_params, place_in, type_said}
+use Rattle.regent_tree.specs.declared.typing.StaticType.{StaticType}
+use Rattle.regent_tree.specs.declared.typing.StaticType.TheVariants.{Partition as partition_type, Unknown as unknown_type}
+use Rattle.regent_tree.specs.declared.typing.Bound.{Bound}
 
 -- the names in scope, innermost first; what is known; and the number of the next binding
 pub record Scope : Type 0 where
@@ -27,7 +24,7 @@ pub record Scope : Type 0 where
   pub next : ℕ
 
 abbrev pub unbound : Bound
-unbound = record { name = []; number = 0; place = 0; type = unknown_type; loop = false }
+unbound = record { name = []; number = 0; place = 0; static_type = unknown_type; by_loop = false }
 
 -- what a name is bound to
 abbrev pub bound_to : List Bound → Name → Bound
@@ -41,13 +38,13 @@ bound_as (b ∷ bs) i = cond (b.number == i) b (bound_as bs i)
 
 -- the scope with one more name, which a loop binds or not
 abbrev pub with_name : Scope → Name → StaticType → Bool → Scope
-with_name s n t loop = record {
+with_name s n t by_loop = record {
   names = record {
     name = n;
     number = s.next;
     place = length s.names;
-    type = t;
-    loop = loop;
+    static_type = t;
+    by_loop = by_loop;
   } ∷ s.names;
   known = s.known;
   next = suc s.next;
@@ -74,8 +71,8 @@ bound_params tree all i (p ∷ ps) = bound_params tree all (suc i) ps ++ record 
   name = p.name;
   number = i;
   place = i;
-  type = type_said tree (among_params all) i p.term;
-  loop = false;
+  static_type = type_said tree (among_params all) i p.term;
+  by_loop = false;
 } ∷ []
 
 -- a partition's type tells its parent, and whether it is disjoint
@@ -85,7 +82,7 @@ known_of_type _ = []
 
 abbrev pub known_of_params : List Bound → List Known
 known_of_params [] = []
-known_of_params (b ∷ bs) = known_of_params bs ++ known_of_type b.type
+known_of_params (b ∷ bs) = known_of_params bs ++ known_of_type b.static_type
 
 -- a clause `a <= b` or `a * b` tells of two parameters
 abbrev pub param_term : List Param → Name → Term

@@ -11,7 +11,9 @@ use Rattle.regent_tree.specs.Syntax.{Name, Expression, Start, region_start, equa
 use Rattle.regent_tree.specs.Partitions.{equal_sets, by_field_sets, image_sets, preimage_sets, both_sets, either_sets, equal_flag, by_field_flag, image_flag, preimage_flag, both_flag, either_flag}
 use Rattle.regent_tree.specs.Values.{Value, a_number, a_truth, an_index, a_pointer, a_region, a_partition, null_target, Region, Partition, size_of, region_of, partition_of}
 use Rattle.regent_tree.specs.Store.{new_root, read_at, touch_all}
-use Rattle.regent_tree.specs.StaticTypes.{StaticType, integer_type, index_type, pointer_type, field_place, field_kind, field_kinds, place_of_space}
+use Rattle.regent_tree.specs.StaticTypes.{field_place, field_kind, field_kinds, place_of_space}
+use Rattle.regent_tree.specs.declared.typing.StaticType.{StaticType}
+use Rattle.regent_tree.specs.declared.typing.StaticType.TheVariants.{Integer as integer_type, Index as index_type, Pointer as pointer_type}
 use Rattle.regent_tree.specs.Scopes.{Scope}
 use Rattle.regent_tree.specs.Typing.{reaches_of}
 use Rattle.regent_tree.specs.Running.{Here, Run, given, ◌>>=◌, state, change, fault, if_true, touch}

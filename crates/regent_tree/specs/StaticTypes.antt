@@ -1,14 +1,17 @@
 -- Static types, and the parts of a program that they speak of.
-use Rattle.std.specs.Prelude.{ℕ, List, [], ◌∷◌, map, get_or, Bool, cond, Option, Some, None, bytes_eq}
+--
+-- In a type a field space is named by its place among the program's, a partition and its parent by
+-- the numbers of their bindings. A pointer type has its field space's arguments and its own list of
+-- regions; a region type has the term that the region is. A call of a task without a result has no
+-- type; what a breach of the rules leaves without one has an unknown type.
+use Rattle.std.specs.Prelude.{ℕ, List, [], ◌∷◌, map, get_or, cond, Option, Some, None, bytes_eq}
 use Rattle.std.specs.List.{position_or_len}
 use Rattle.lane_kernels.specs.declared.numbers.FieldKind.{FieldKind}
 use Rattle.lane_kernels.specs.declared.numbers.FieldKind.TheVariants as keeps
-use Rattle.lane_kernels.specs.declared.numbers.Width.{Width}
 use Rattle.lane_kernels.specs.declared.numbers.Width.TheVariants.{W32, W64}
 use Rattle.regent_tree.specs.declared.facts.Term.{Term}
 use Rattle.regent_tree.specs.declared.facts.Term.TheVariants as term
 use Rattle.regent_tree.specs.declared.program.FieldSpace.{FieldSpace}
-use Rattle.regent_tree.specs.declared.types.Kind.{Kind}
 use Rattle.regent_tree.specs.declared.types.NumberTerm.{NumberTerm}
 use Rattle.regent_tree.specs.declared.types.NumberTerm.TheVariants as number
 use Rattle.regent_tree.specs.declared.types.Param.{Param}
@@ -18,25 +21,12 @@ use Rattle.regent_tree.specs.declared.types.Ref.TheVariants.{Named, Wild}
 use Rattle.regent_tree.specs.declared.types.TypeTerm.{TypeTerm}
 use Rattle.regent_tree.specs.declared.types.TypeTerm.TheVariants as typed
 use Rattle.regent_tree.specs.Syntax.{Name, Tree, ItemForm, space_item, task_item, start_item, TaskTree, no_statement}
+use Rattle.regent_tree.specs.declared.typing.StaticType.{StaticType}
+use Rattle.regent_tree.specs.declared.typing.StaticType.TheVariants.{Integer as integer_type, Truth as truth_type, Index as index_type, Pointer as pointer_type, Ispace as ispace_type, Region as region_type, Partition as partition_type}
 
 -- a region that a type names, or None for `wild`
 abbrev pub Reach : Type 0
 Reach = Option Term
-
--- A static type. A field space is named by its place among the program's, a partition and its
--- parent by the numbers of their bindings. A pointer type has its field space's arguments and its
--- own list of regions; a region type has the term that the region is. A call of a task without a
--- result has no type; what a breach of the rules leaves without one has an unknown type.
-pub data StaticType : Type 0 where
-  integer_type : Width → StaticType
-  truth_type : StaticType
-  index_type : Kind → StaticType
-  pointer_type : Kind → ℕ → List Reach → List Reach → StaticType
-  ispace_type : Kind → StaticType
-  region_type : Kind → ℕ → List Reach → Term → StaticType
-  partition_type : Bool → ℕ → ℕ → StaticType
-  no_type : StaticType
-  unknown_type : StaticType
 
 -- ---- parts of a program
 

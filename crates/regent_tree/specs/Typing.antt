@@ -19,8 +19,11 @@ use Rattle.regent_tree.specs.Syntax.{Name, Expression, number_expr, truth_expr, 
 use Rattle.regent_tree.specs.Numbers.{wider}
 use Rattle.regent_tree.specs.Facts.{is_subregion}
 use Rattle.regent_tree.specs.Partitions.{equal_flag, by_field_flag, image_flag, preimage_flag, both_flag, either_flag}
-use Rattle.regent_tree.specs.StaticTypes.{StaticType, integer_type, truth_type, index_type, pointer_type, ispace_type, region_type, partition_type, no_type, unknown_type, Reach, looked_up, number_type, written_pointer, type_said, field_type, place_of_space, task_named, binding_of_term}
-use Rattle.regent_tree.specs.Scopes.{Bound, Scope, bound_to, bound_as, with_name, knowing, past, in_scope, known_of_type, scope_of}
+use Rattle.regent_tree.specs.StaticTypes.{Reach, looked_up, number_type, written_pointer, type_said, field_type, place_of_space, task_named, binding_of_term}
+use Rattle.regent_tree.specs.declared.typing.StaticType.{StaticType}
+use Rattle.regent_tree.specs.declared.typing.StaticType.TheVariants.{Integer as integer_type, Truth as truth_type, Index as index_type, Pointer as pointer_type, Ispace as ispace_type, Region as region_type, Partition as partition_type, Nothing as no_type, Unknown as unknown_type}
+use Rattle.regent_tree.specs.Scopes.{Scope, bound_to, bound_as, with_name, knowing, past, in_scope, known_of_type, scope_of}
+use Rattle.regent_tree.specs.declared.typing.Bound.{Bound}
 
 -- ---- operators
 
@@ -64,7 +67,7 @@ are_pointers _ u = false
 
 -- the colour of a child as it is written: a number, a loop variable's name, or anything else
 abbrev pub colour_named : Bound → Colour
-colour_named b = cond b.loop (Loop b.number) Unknown
+colour_named b = cond b.by_loop (Loop b.number) Unknown
 
 abbrev pub colour_of : Scope → Expression → Colour
 colour_of s (number_expr z w) = Constant z
@@ -86,7 +89,7 @@ type_of_field tree _ f = unknown_type
 abbrev pub type_of_element : Scope → StaticType → Expression → StaticType
 type_of_element s (region_type k sp args r) e = pointer_type k sp args (Some r ∷ [])
 type_of_element s (partition_type d r p) e =
-    child_type (bound_as s.names r).type (term.Child p (colour_of s e))
+    child_type (bound_as s.names r).static_type (term.Child p (colour_of s e))
 type_of_element s _ e = unknown_type
 
 -- the type after the steps of an access
@@ -109,7 +112,7 @@ abbrev mutual
   type_of tree s (chain_expr first rest) = linked_type tree s (type_of tree s first) rest
   type_of tree s (prefix_expr signs e) = signed_type signs (type_of tree s e)
   type_of tree s (call_expr task args) = result_type tree (task_named tree task).result
-  type_of tree s (access_expr n steps) = stepped_type tree s (bound_to s.names n).type steps
+  type_of tree s (access_expr n steps) = stepped_type tree s (bound_to s.names n).static_type steps
   type_of tree s (convert_expr t e) = number_type t
   type_of tree s (is_null_expr e) = truth_type
   type_of tree s (null_expr t) = written_pointer tree (in_scope s) t
@@ -186,13 +189,13 @@ start_type tree s own (by_field_start r f e) =
 start_type tree s own (image_start parent p r f) =
     partition_type image_flag (bound_to s.names parent).number own
 start_type tree s own (preimage_start parent p r f) = partition_type
-    (preimage_flag (is_disjoint (bound_to s.names p).type)) (bound_to s.names parent).number own
+    (preimage_flag (is_disjoint (bound_to s.names p).static_type)) (bound_to s.names parent).number own
 start_type tree s own (both_start p q) =
-    let t = (bound_to s.names p).type in
-    partition_type (both_flag (is_disjoint t) (is_disjoint (bound_to s.names q).type))
+    let t = (bound_to s.names p).static_type in
+    partition_type (both_flag (is_disjoint t) (is_disjoint (bound_to s.names q).static_type))
     (parent_of t) own
 start_type tree s own (either_start p q) =
-    partition_type either_flag (parent_of (bound_to s.names p).type) own
+    partition_type either_flag (parent_of (bound_to s.names p).static_type) own
 start_type tree s own (plain_start e) = owned own (type_of tree s e)
 
 -- the type of a new variable: as it is declared, or else as its start value's
@@ -272,7 +275,7 @@ put_in types t = t
 
 -- the types of a task's parameters, by themselves
 abbrev pub param_types : Tree → TaskTree → List StaticType
-param_types tree t = map (λ (b : Bound). b.type) (reverse (scope_of tree t).names)
+param_types tree t = map (λ (b : Bound). b.static_type) (reverse (scope_of tree t).names)
 
 -- the types of a task's parameters where it is called with these arguments
 abbrev pub params_at : Tree → Scope → TaskTree → Expressions → List StaticType

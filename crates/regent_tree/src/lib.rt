@@ -11,8 +11,10 @@ pub mod invariants;
 mod limits;
 mod outcome;
 mod program;
+mod rights;
 mod statement;
 mod types;
+mod typing;
 
 pub use expression::{Arithmetic, Comparison, Expr, Link, Operator, Sign, Step};
 pub use facts::{Colour, Known, Term};
@@ -21,5 +23,7 @@ pub use limits::{Counted, Excess};
 pub use outcome::{Ending, Fault, FaultKind, Outcome, RootImage};
 pub use plain_values::{Sequence, Shared};
 pub use program::{Clause, FieldSpace, Grant, Item, ItemKind, Place, Program, Task};
+pub use rights::{Access, Right, Wanted};
 pub use statement::{Arm, How, Init, Stmt, What};
 pub use types::{Kind, Name, NumberTerm, Param, PointerTerm, Ref, SpaceUse, TypeTerm};
+pub use typing::{Bound, Reach, StaticType};

@@ -8,7 +8,7 @@ use Rattle.regent_tree.specs.declared.expression.Operator.TheVariants.{Or, And, 
 use Rattle.regent_tree.specs.declared.expression.Arithmetic.TheVariants as arithmetics
 use Rattle.regent_tree.specs.declared.expression.Sign.{Sign}
 use Rattle.regent_tree.specs.declared.expression.Sign.TheVariants.{Minus, Not}
-use Rattle.regent_tree.specs.StaticTypes.{integer_type}
+use Rattle.regent_tree.specs.declared.typing.StaticType.TheVariants.{Integer as integer_type}
 use Rattle.regent_tree.specs.Typing.{signed_type}
 use Rattle.regent_tree.specs.Values.{Value, a_number, a_truth, an_index, a_pointer, a_space, a_region, a_partition, width_of}
 use Rattle.lane_kernels.specs.declared.numbers.Width.{Width}

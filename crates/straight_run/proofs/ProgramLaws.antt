@@ -8,8 +8,11 @@ use Rattle.regent_tree.specs.declared.outcome.Ending.TheVariants.{Finished}
 use Rattle.regent_tree.specs.declared.types.Param.{Param}
 use Rattle.regent_tree.specs.Syntax.{Block, Tree, TaskTree}
 use Rattle.regent_tree.specs.Values.{Value, a_number}
-use Rattle.regent_tree.specs.StaticTypes.{StaticType, integer_type, among_params, type_said}
-use Rattle.regent_tree.specs.Scopes.{Bound, Scope, bound_params, known_of_params, known_of_type, scope_of, with_name}
+use Rattle.regent_tree.specs.StaticTypes.{among_params, type_said}
+use Rattle.regent_tree.specs.declared.typing.StaticType.{StaticType}
+use Rattle.regent_tree.specs.declared.typing.StaticType.TheVariants.{Integer as integer_type}
+use Rattle.regent_tree.specs.Scopes.{Scope, bound_params, known_of_params, known_of_type, scope_of, with_name}
+use Rattle.regent_tree.specs.declared.typing.Bound.{Bound}
 use Rattle.regent_tree.specs.Running.{State, Calls}
 use Rattle.regent_tree.specs.Typing.{param_types}
 use Rattle.regent_tree.specs.Meaning.{outcome, run_task, entered, inputs_of, body_of, calls_at, meaning}
@@ -65,23 +68,23 @@ integer_of p = integer_type (width_said p.term)
 module _ (tree : Tree) (all : List Param) where
   -- a parameter's binding
   abbrev bound_at : ℕ → Param → Bound
-  bound_at i p = record { name = p.name; number = i; place = i; type = type_said tree (among_params all) i p.term; loop = false }
+  bound_at i p = record { name = p.name; number = i; place = i; static_type = type_said tree (among_params all) i p.term; by_loop = false }
 
-  type_at : (bs : List Binding) (i : ℕ) (p : Param) (ps : List Param) → are_parameters bs (p ∷ ps) ≡ true → (bound_at i p).type ≡ integer_of p
+  type_at : (bs : List Binding) (i : ℕ) (p : Param) (ps : List Param) → are_parameters bs (p ∷ ps) ≡ true → (bound_at i p).static_type ≡ integer_of p
   type_at bs i p ps h = integer_said tree (among_params all) i p.term (first_integer bs p ps h)
 
   -- the types of parameters
   types_are : (bs : List Binding) (i : ℕ) (ps : List Param) → are_parameters bs ps ≡ true →
-      map (λ (b : Bound). b.type) (reverse (bound_params tree all i ps)) ≡ map integer_of ps
+      map (λ (b : Bound). b.static_type) (reverse (bound_params tree all i ps)) ≡ map integer_of ps
   types_are bs i [] h = refl
   types_are bs i (p ∷ ps) h =
-      ap (map (λ (b : Bound). b.type)) (reverse-append (bound_params tree all (suc i) ps) (bound_at i p ∷ []))
-      ∙ ap (λ t. t ∷ map (λ (b : Bound). b.type) (reverse (bound_params tree all (suc i) ps))) (type_at bs i p ps h)
+      ap (map (λ (b : Bound). b.static_type)) (reverse-append (bound_params tree all (suc i) ps) (bound_at i p ∷ []))
+      ∙ ap (λ t. t ∷ map (λ (b : Bound). b.static_type) (reverse (bound_params tree all (suc i) ps))) (type_at bs i p ps h)
       ∙ ap (λ ts. integer_of p ∷ ts) (types_are (bound_by p ∷ bs) (suc i) ps (others_in_order bs p ps h))
 
-  known_behind : (xs : List Bound) (b : Bound) → known_of_type b.type ≡ [] → known_of_params (xs ++ b ∷ []) ≡ known_of_params xs
+  known_behind : (xs : List Bound) (b : Bound) → known_of_type b.static_type ≡ [] → known_of_params (xs ++ b ∷ []) ≡ known_of_params xs
   known_behind [] b h = h
-  known_behind (x ∷ xs) b h = ap (λ ks. ks ++ known_of_type x.type) (known_behind xs b h)
+  known_behind (x ∷ xs) b h = ap (λ ks. ks ++ known_of_type x.static_type) (known_behind xs b h)
 
   -- they tell nothing of regions
   nothing_known : (bs : List Binding) (i : ℕ) (ps : List Param) → are_parameters bs ps ≡ true → known_of_params (bound_params tree all i ps) ≡ []
@@ -95,7 +98,7 @@ module _ (tree : Tree) (all : List Param) where
       scope_with s (with_inputs ps zs) ≡ record { names = bound_params tree all i ps ++ s.names; known = s.known; next = i + length ps }
   scope_is bs i s [] zs h size next = let e : s.next ≡ i + 0 = next ∙ omega arith in ap (λ n. record { names = s.names; known = s.known; next = n }) e
   scope_is bs i s (p ∷ ps) zs h size next =
-      let b : Bound = record { name = p.name; number = s.next; place = length s.names; type = integer_of p; loop = false } in
+      let b : Bound = record { name = p.name; number = s.next; place = length s.names; static_type = integer_of p; by_loop = false } in
       let same : b ≡ bound_at i p = rw (size, next, type_at bs i p ps h) refl in
       let count : suc i + length ps ≡ i + length (p ∷ ps) = omega arith in
       scope_is (bound_by p ∷ bs) (suc i) (with_name s p.name (integer_of p) false) ps _ (others_in_order bs p ps h) (ap suc size) (ap suc next)

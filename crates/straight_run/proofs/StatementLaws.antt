@@ -18,7 +18,8 @@ use Rattle.regent_tree.specs.PlainProgram.{form_of, block_in}
 use Rattle.regent_tree.specs.Execution.{on_line}
 use Rattle.regent_tree.specs.Running.{gives}
 use Rattle.regent_tree.specs.Values.{a_number, number_of, width_of}
-use Rattle.regent_tree.specs.StaticTypes.{Looking, integer_type, type_said}
+use Rattle.regent_tree.specs.StaticTypes.{Looking, type_said}
+use Rattle.regent_tree.specs.declared.typing.StaticType.TheVariants.{Integer as integer_type}
 use Rattle.regent_tree.specs.Scopes.{Scope, in_scope, with_name}
 use Rattle.lane_kernels.specs.Numbers.{wrapped}
 use Rattle.regent_tree.specs.Printing.{printed}

@@ -6,8 +6,9 @@ use Rattle.std.proofs.lemmas.List as lists
 use Rattle.lane_kernels.specs.declared.numbers.Width.TheVariants.{W64}
 use Rattle.regent_tree.specs.Syntax.{Name, access_expr, no_step}
 use Rattle.regent_tree.specs.Values.{a_truth}
-use Rattle.regent_tree.specs.StaticTypes.{integer_type}
-use Rattle.regent_tree.specs.Scopes.{Bound, Scope, bound_to, with_name}
+use Rattle.regent_tree.specs.declared.typing.StaticType.TheVariants.{Integer as integer_type}
+use Rattle.regent_tree.specs.Scopes.{Scope, bound_to, with_name}
+use Rattle.regent_tree.specs.declared.typing.Bound.{Bound}
 use Rattle.straight_run.specs.declared.machine.Variable.{Variable}
 use Rattle.straight_run.specs.RunningForm.{Binding, is_bound, is_variable}
 use Rattle.straight_run.specs.Values.{value_of}
@@ -20,7 +21,7 @@ no_variable = record { name = []; number = record { width = W64; value = pos 0 }
 pub record HoldsAt (b : Bound) (vs : List Variable) (m : ℕ) : Type 0 where
   pub below : m < length vs
   pub place : b.place ≡ m
-  pub type : b.type ≡ integer_type (get_or vs m no_variable).number.width
+  pub type : b.static_type ≡ integer_type (get_or vs m no_variable).number.width
 
 length-snoc : {A : Type 0} (xs : List A) (x : A) → length (xs ++ x ∷ []) ≡ suc (length xs)
 length-snoc xs x = length-append xs (x ∷ []) ∙ omega arith
@@ -31,7 +32,7 @@ get_or-last (y ∷ xs) x = get_or-last xs x
 
 -- the binding of one more variable, or an earlier one
 picked : (test : Bool) (new old : Bound) (us : List Variable) (v : Variable) (m : ℕ) (found : Option ℕ) →
-    new.place ≡ length us → new.type ≡ integer_type v.number.width → ((k : ℕ) → found ≡ Some k → HoldsAt old us k) →
+    new.place ≡ length us → new.static_type ≡ integer_type v.number.width → ((k : ℕ) → found ≡ Some k → HoldsAt old us k) →
     cond test (Some (length us)) found ≡ Some m → HoldsAt (cond test new old) (us ++ v ∷ []) m
 picked true new old us v m found place type before e =
     let same : length us ≡ m = ap (λ o. unwrap_or o m) e in
@@ -58,7 +59,7 @@ newest_holds (v ∷ vs) us s found i n same at before m e =
     (newest_holds vs (us ++ v ∷ []) (with_name s v.name (integer_type v.number.width) false)
     (cond (bytes_eq v.name n) (Some i) found) (i + 1) n
     (let a = same in rw length-snoc (omega arith)) (rw length-snoc (omega arith))
-    (λ k e'. picked (bytes_eq v.name n) record { name = v.name; number = s.next; place = length s.names; type = integer_type v.number.width; loop = false } (bound_to s.names n) us v k found
+    (λ k e'. picked (bytes_eq v.name n) record { name = v.name; number = s.next; place = length s.names; static_type = integer_type v.number.width; by_loop = false } (bound_to s.names n) us v k found
     same refl before (rw (← at) e'))
     m e)
 

@@ -5,7 +5,8 @@ use Rattle.std.specs.Prelude.{ℕ, ◌≡◌, ◌+◌, List, [], ◌∷◌, map,
 use Rattle.regent_tree.specs.declared.types.TypeTerm.{TypeTerm}
 use Rattle.regent_tree.specs.Syntax.{Name, Expression, Links, Expressions, Start, Form, Block}
 use Rattle.regent_tree.specs.Values.{Value, a_number}
-use Rattle.regent_tree.specs.StaticTypes.{StaticType, integer_type}
+use Rattle.regent_tree.specs.declared.typing.StaticType.{StaticType}
+use Rattle.regent_tree.specs.declared.typing.StaticType.TheVariants.{Integer as integer_type}
 use Rattle.regent_tree.specs.Scopes.{Scope, with_name}
 use Rattle.regent_tree.specs.Typing.{known_of_start, linked_type, start_type, var_type}
 use Rattle.regent_tree.specs.Running.{Here, State, gives}

@@ -4,7 +4,7 @@ use Rattle.std.proofs.lemmas.Iterator.{YieldsList-from_slice}
 use Rattle.std.proofs.lemmas.Iterator.Search.{any_from_yields_List}
 use Rattle.regent_tree.specs.Facts.{raises_to}
 use Rattle.constraint_check.specs.Looking.{fits}
-use Rattle.constraint_check.proofs.Members.{or-false}
+use Rattle.regent_tree.proofs.Members.{or-false}
 use Rattle.constraint_check.proofs.question.any_above.Goals as goal
 
 pub returns-else-fits : goal.returns-else-fits

@@ -3,7 +3,7 @@ use Rattle.std.specs.List.{list_any}
 use Rattle.std.proofs.lemmas.Iterator.{YieldsList-from_slice}
 use Rattle.std.proofs.lemmas.Iterator.Search.{any_from_yields_List}
 use Rattle.regent_tree.specs.Facts.{raises_to, has_sibling_above}
-use Rattle.constraint_check.proofs.Members.{or-false}
+use Rattle.regent_tree.proofs.Members.{or-false}
 use Rattle.constraint_check.proofs.question.are_in_siblings.Goals as goal
 
 pub returns-else-has_sibling_above : goal.returns-else-has_sibling_above

@@ -1,7 +1,7 @@
 use Rattle.std.proofs.Common.{◌≡◌, ◌∙◌, ◌==◌, sym, ap}
 use Rattle.std.proofs.lemmas.Bool.{eq-eqb}
 use Rattle.regent_tree.specs.Facts.{any_above, is_other_child, has_sibling_above}
-use Rattle.constraint_check.proofs.Members.{and-true}
+use Rattle.regent_tree.proofs.Members.{and-true}
 use Rattle.constraint_check.proofs.question.has_sibling_above.Goals as goal
 
 pub returns-then-parent-partition : goal.returns-then-parent-partition

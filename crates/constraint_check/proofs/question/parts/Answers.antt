@@ -1,6 +1,6 @@
 use Rattle.std.proofs.Common.{◌≡◌, ◌∙◌, sym, ap}
 use Rattle.regent_tree.specs.Facts.{any_above, has_sibling_above, parts}
-use Rattle.constraint_check.proofs.Members.{and-true}
+use Rattle.regent_tree.proofs.Members.{and-true}
 use Rattle.constraint_check.proofs.question.parts.Goals as goal
 
 pub returns-then-disjoint : goal.returns-then-disjoint

@@ -3,7 +3,7 @@ use Rattle.std.specs.List.{list_any}
 use Rattle.std.proofs.lemmas.Iterator.{YieldsList-from_slice}
 use Rattle.std.proofs.lemmas.Iterator.Search.{any_from_yields_List}
 use Rattle.regent_tree.specs.Facts.{raises, has_sibling_above}
-use Rattle.constraint_check.proofs.Members.{and-true}
+use Rattle.regent_tree.proofs.Members.{and-true}
 use Rattle.constraint_check.proofs.question.raises_to_sibling.Goals as goal
 
 pub returns-then-raises : goal.returns-then-raises

@@ -6,7 +6,7 @@ use Rattle.regent_tree.specs.Facts.{Row, closed, parts_either}
 use Rattle.regent_tree.specs.declared.facts.Known.{Known}
 use Rattle.constraint_check.specs.Derivations.{IsDisjoint}
 use Rattle.constraint_check.proofs.Apartness.{are_disjoint-derivable}
-use Rattle.constraint_check.proofs.Members.{list_any-map}
+use Rattle.regent_tree.proofs.Members.{list_any-map}
 use Rattle.constraint_check.proofs.closure.Facts.disjoint.Goals as goal
 
 pub returns-clause-computed : goal.returns-clause-computed

@@ -1,7 +1,7 @@
 use Rattle.std.proofs.Common.{◌≡◌, ◌∙◌, ap, subst, sym, true, List, ◌↔◌}
 use Rattle.regent_tree.specs.Facts.{Row, closed, is_certain, is_below, is_subregion}
 use Rattle.constraint_check.specs.Derivations.{IsSubregion}
-use Rattle.constraint_check.proofs.Members.{and-true}
+use Rattle.regent_tree.proofs.Members.{and-true}
 use Rattle.constraint_check.proofs.Table.{is_subregion-derivable}
 use Rattle.constraint_check.proofs.closure.Facts.subregion.Goals as goal
 

@@ -7,7 +7,7 @@ use Rattle.privilege_types.proofs.rights.Held.implies_call.Goals as goal
 pub loop-at-preserved : goal.loop-at-preserved
 loop-at-preserved c =
     All-more (IsGranted c.args.self.now c.args.facts.now) c.args.wanted.now c.loop-at.at _ (omega arith)
-    c.loop-at.invariant (c.allows.ensures.0 c.if-not-allows.false)
+    c.loop-at.invariant (c.allows.ensures.derivable.0 c.if-not-allows.false)
 
 pub returns-clause-ok : goal.returns-clause-ok
 returns-clause-ok c =

@@ -1,6 +1,6 @@
 //! Accesses to a field of a region, held or wanted.
 
-use constraint_check::Term;
+use crate::facts::Term;
 use lane_kernels::Op;
 
 /// What is done with a field.
@@ -19,16 +19,10 @@ pub struct Right {
     pub access: Access,
 }
 
-/// What a call wants of a region.
+/// What a statement or a call wants of a region.
 #[derive(Clone, Copy, Debug, PartialEq, Eq)]
 pub struct Wanted {
     pub term: Term,
     pub field: u8,
     pub access: Access,
-}
-
-/// The place of what a call wants and is not allowed.
-#[derive(Clone, Copy, Debug, PartialEq, Eq)]
-pub struct Breach {
-    pub at: usize,
 }
