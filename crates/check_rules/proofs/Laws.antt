@@ -1,86 +1,161 @@
 -- The laws of the definition.
-use Rattle.std.proofs.Common.{◌≡◌, ℕ, Bool, true, false, ◌==◌, ◌&&◌, ◌||◌, cond, List, [], ◌∷◌, ◌++◌, refl, ap, sym, ◌∙◌, ◌⊎◌, inl, inr, ◌↔◌, subst}
+use Rattle.std.proofs.Common.{◌≡◌, ℕ, Bool, true, false, ◌==◌, ◌||◌, not, cond, List, [], ◌∷◌, ◌++◌, refl, ap, sym, ◌∙◌, ◌⊎◌, inl, inr, subst}
 use Rattle.std.specs.List.{list_any, fold}
-use Rattle.std.proofs.lemmas.Bool.{and_parts, and_from, or_cases, or_left, or_right, eqb-true}
-use Rattle.constraint_check.proofs.Members.{Has, Contains-from_Has, Has-from_Contains, Has-append_left, Has-append_right, Has-append_cases, Has-from_list_any}
-use Rattle.regent_tree.specs.declared.facts.Known.{Known}
-use Rattle.regent_tree.specs.declared.facts.Term.{Term}
-use Rattle.regent_tree.specs.Syntax.{Expression, number_expr, truth_expr, chain_expr, prefix_expr, call_expr, access_expr, convert_expr, is_null_expr, null_expr, cast_expr, space_expr, Tree}
-use Rattle.regent_tree.specs.StaticTypes.{StaticType, unknown_type}
+use Rattle.std.proofs.lemmas.Bool.{and_parts, eqb-true, or_left, or_right}
+use Rattle.regent_tree.proofs.Members.{Has, Contains-from_Has, Has-from_Contains, Has-append_left, Has-append_right, Has-append_cases, Has-from_list_any}
+use Rattle.regent_tree.specs.declared.expression.Operator.{Operator}
+use Rattle.regent_tree.specs.declared.expression.Sign.{Sign}
+use Rattle.regent_tree.specs.declared.expression.Sign.TheVariants.{Minus, Not}
+use Rattle.regent_tree.specs.Syntax.{Expression, Links, Name, Steps, number_expr, truth_expr, chain_expr, prefix_expr, call_expr, access_expr, convert_expr, is_null_expr, null_expr, cast_expr, space_expr, no_link, a_link, no_step, field_step, at_step, Tree}
+use Rattle.regent_tree.specs.declared.typing.StaticType.{StaticType}
+use Rattle.regent_tree.specs.declared.typing.StaticType.TheVariants.{Integer as integer_type, Truth as truth_type, Index as index_type, Pointer as pointer_type, Ispace as ispace_type, Region as region_type, Partition as partition_type, Nothing as no_type, Unknown as unknown_type}
 use Rattle.regent_tree.specs.Scopes.{Scope}
-use Rattle.regent_tree.specs.Typing.{type_of}
-use Rattle.privilege_types.specs.declared.access.Access.{Access}
-use Rattle.privilege_types.specs.declared.access.Access.TheVariants.{Read, Write, Reduce}
-use Rattle.privilege_types.specs.declared.access.Right.{Right}
-use Rattle.privilege_types.specs.Privileges.{IsAllowed}
-use Rattle.privilege_types.proofs.Holding.{is_held-derivable}
+use Rattle.regent_tree.specs.Lookup.{type_named}
+use Rattle.regent_tree.specs.Typing.{counting_as, linked_type, operated, signed_type, stepped_type, type_of, type_of_element, type_of_field}
 use Rattle.check_rules.specs.Breaches.{Breach, same_breach, with_breach, each_once}
-use Rattle.check_rules.specs.Declared.{type_unless}
-use Rattle.check_rules.specs.KnownTypes.{known_by, has_unknown_part, is_flawed, shape_of}
-use Rattle.check_rules.specs.Shapes.{Shape}
-use Rattle.check_rules.specs.Privileges.{is_held, allows}
-use Rattle.check_rules.specs.Laws.{GrantedAsDerived, TypesAsMeant, PairsKept}
-
--- ---- privileges
-
-allowed-derivable : (rights : List Right) (known : List Known) (t : Term) (f : ℕ) (a : Access) →
-    (allows rights known t f a ≡ true) ↔ IsAllowed rights known t f a
-allowed-derivable rights known t f Read = is_held-derivable rights known t f Read
-allowed-derivable rights known t f Write = is_held-derivable rights known t f Write
-allowed-derivable rights known t f (Reduce o) =
-    let reduces = is_held rights known t f (Reduce o) in
-    let reads = is_held rights known t f Read in
-    let writes = is_held rights known t f Write in
-    let r = is_held-derivable rights known t f Read in
-    let w = is_held-derivable rights known t f Write in
-    let d = is_held-derivable rights known t f (Reduce o) in (
-      λ e. elim (or_cases reduces (reads && writes) e) [
-        | inl g ↦ inl (d.0 g)
-        | inr g ↦ let both = and_parts reads writes g in inr (r.0 both.0, w.0 both.1)
-      ],
-      λ h. elim h [
-        | inl g ↦ or_left reduces (reads && writes) (d.1 g)
-        | inr g ↦ or_right reduces (reads && writes) (and_from reads writes (r.1 g.0) (w.1 g.1))
-      ],
-    )
-
-pub granted_as_derived : GrantedAsDerived
-granted_as_derived rights known w = allowed-derivable rights known w.term w.field w.access
+use Rattle.check_rules.specs.Declarations.{type_unless}
+use Rattle.check_rules.specs.KnownTypes.{known_type, takes_unknown, type_behind_links, type_behind_operator, type_behind_sign, type_behind_signs, type_behind_step, type_behind_steps}
+use Rattle.check_rules.specs.Names.{misnames_field}
+use Rattle.check_rules.specs.Pointers.{takes_of_wild}
+use Rattle.check_rules.specs.Shapes.{Taking, computing, element_of, field_of}
+use Rattle.check_rules.specs.Sorts.{is_number, is_truth, is_unknown_type}
+use Rattle.check_rules.specs.Types.{misoperates, mistakes}
+use Rattle.check_rules.specs.Laws.{TypesAsMeant, PairsKept}
 
 -- ---- types
 
-type_unless-cases : (flawed : Bool) (t : StaticType) →
-    (type_unless flawed t ≡ t) ⊎ (type_unless flawed t ≡ unknown_type)
-type_unless-cases true t = inr refl
-type_unless-cases false t = inl refl
+-- as meant, or unknown
+abbrev IsMeant : StaticType → StaticType → Type 0
+IsMeant t meant = (t ≡ meant) ⊎ (t ≡ unknown_type)
 
-known_by-cases : (tree : Tree) (s : Scope) (e : Expression) (shape : Shape) →
-    (known_by tree s e shape ≡ type_of tree s e) ⊎ (known_by tree s e shape ≡ unknown_type)
-known_by-cases tree s e shape =
-    type_unless-cases (has_unknown_part tree s.names shape || is_flawed tree s shape)
-    (type_of tree s e)
+type_unless-meant : (flawed : Bool) (t : StaticType) → IsMeant (type_unless flawed t) t
+type_unless-meant true t = inr refl
+type_unless-meant false t = inl refl
 
-pub types_as_meant : TypesAsMeant
-types_as_meant tree s (number_expr z w) = inl refl
-types_as_meant tree s (truth_expr b) = inl refl
-types_as_meant tree s (chain_expr first rest) =
-    known_by-cases tree s (chain_expr first rest) (shape_of tree s (chain_expr first rest))
-types_as_meant tree s (prefix_expr signs e) =
-    known_by-cases tree s (prefix_expr signs e) (shape_of tree s (prefix_expr signs e))
-types_as_meant tree s (call_expr task args) =
-    known_by-cases tree s (call_expr task args) (shape_of tree s (call_expr task args))
-types_as_meant tree s (access_expr n steps) =
-    known_by-cases tree s (access_expr n steps) (shape_of tree s (access_expr n steps))
-types_as_meant tree s (convert_expr t e) =
-    known_by-cases tree s (convert_expr t e) (shape_of tree s (convert_expr t e))
-types_as_meant tree s (is_null_expr e) =
-    known_by-cases tree s (is_null_expr e) (shape_of tree s (is_null_expr e))
-types_as_meant tree s (null_expr p) =
-    known_by-cases tree s (null_expr p) (shape_of tree s (null_expr p))
-types_as_meant tree s (cast_expr p e) =
-    known_by-cases tree s (cast_expr p e) (shape_of tree s (cast_expr p e))
-types_as_meant tree s (space_expr k e) =
-    known_by-cases tree s (space_expr k e) (shape_of tree s (space_expr k e))
+type_unless-true : (flawed : Bool) (t : StaticType) →
+    flawed ≡ true → type_unless flawed t ≡ unknown_type
+type_unless-true true t e = refl
+type_unless-true false t e = absurd cc
+
+operator-meant : (o : Operator) (t meant u meant_u : StaticType) → IsMeant t meant →
+    IsMeant u meant_u → IsMeant (type_behind_operator (computing o t u)) (operated o meant meant_u)
+operator-meant o t meant u meant_u (inl e) (inl f) = subst
+    (λ a. IsMeant (type_behind_operator (computing o t u)) (operated o a meant_u)) e
+    (subst (λ b. IsMeant (type_behind_operator (computing o t u)) (operated o t b)) f
+    (type_unless-meant (is_unknown_type t || is_unknown_type u || misoperates (computing o t u))
+    (operated o t u)))
+operator-meant o t meant u meant_u (inl e) (inr f) = inr (type_unless-true
+    (is_unknown_type t || is_unknown_type u || misoperates (computing o t u)) (operated o t u)
+    (or_left (is_unknown_type t || is_unknown_type u) (misoperates (computing o t u))
+    (or_right (is_unknown_type t) (is_unknown_type u) (ap is_unknown_type f))))
+operator-meant o t meant u meant_u (inr e) h = inr (type_unless-true
+    (is_unknown_type t || is_unknown_type u || misoperates (computing o t u)) (operated o t u)
+    (or_left (is_unknown_type t || is_unknown_type u) (misoperates (computing o t u))
+    (or_left (is_unknown_type t) (is_unknown_type u) (ap is_unknown_type e))))
+
+-- counting a pointer as an index, twice
+counted-twice : (t : StaticType) → counting_as (counting_as t) ≡ counting_as t
+counted-twice (integer_type w) = refl
+counted-twice truth_type = refl
+counted-twice (index_type k) = refl
+counted-twice (pointer_type k s args regions) = refl
+counted-twice (ispace_type k) = refl
+counted-twice (region_type k s args r) = refl
+counted-twice (partition_type d r p) = refl
+counted-twice no_type = refl
+counted-twice unknown_type = refl
+
+minus-meant : (signs : List Sign) (t meant : StaticType) →
+    IsMeant t (signed_type signs meant) →
+    IsMeant (type_behind_sign Minus t) (counting_as meant)
+minus-meant signs t meant (inr e) = inr (ap (type_behind_sign Minus) e)
+minus-meant [] t meant (inl e) = subst
+    (λ a. IsMeant (type_behind_sign Minus t) (counting_as a)) e
+    (type_unless-meant (not (is_number t)) (counting_as t))
+minus-meant (Not ∷ signs) t meant (inl e) = inr (ap (type_behind_sign Minus) e)
+minus-meant (Minus ∷ signs) t meant (inl e) = subst
+    (λ a. IsMeant (type_behind_sign Minus t) a) (ap counting_as e ∙ counted-twice meant)
+    (type_unless-meant (not (is_number t)) (counting_as t))
+
+signs-meant : (signs : List Sign) (t meant : StaticType) → IsMeant t meant →
+    IsMeant (type_behind_signs signs t) (signed_type signs meant)
+signs-meant [] t meant h = h
+signs-meant (Not ∷ signs) t meant h =
+    type_unless-meant (not (is_truth (type_behind_signs signs t))) truth_type
+signs-meant (Minus ∷ signs) t meant h =
+    minus-meant signs (type_behind_signs signs t) meant (signs-meant signs t meant h)
+
+-- behind a step, from something whose type is as meant
+step-meant : (tree : Tree) (taking : Taking) (t meant : StaticType) →
+    (t ≡ meant) ⊎ (takes_unknown tree taking ≡ true) →
+    IsMeant (type_behind_step tree taking t) meant
+step-meant tree taking t meant (inl e) = subst
+    (λ a. IsMeant (type_behind_step tree taking t) a) e
+    (type_unless-meant (takes_unknown tree taking || misnames_field tree taking
+    || mistakes taking || takes_of_wild taking) t)
+step-meant tree taking t meant (inr e) = inr (type_unless-true
+    (takes_unknown tree taking || misnames_field tree taking || mistakes taking
+    || takes_of_wild taking) t
+    (or_left (takes_unknown tree taking || misnames_field tree taking || mistakes taking)
+    (takes_of_wild taking)
+    (or_left (takes_unknown tree taking || misnames_field tree taking) (mistakes taking)
+    (or_left (takes_unknown tree taking) (misnames_field tree taking) e))))
+
+field-meant : (tree : Tree) (t meant : StaticType) (f : Name) → IsMeant t meant →
+    IsMeant (type_behind_step tree (field_of t f) (type_of_field tree t f))
+    (type_of_field tree meant f)
+field-meant tree t meant f (inl e) = step-meant tree (field_of t f) (type_of_field tree t f)
+    (type_of_field tree meant f) (inl (ap (λ u. type_of_field tree u f) e))
+field-meant tree t meant f (inr e) = step-meant tree (field_of t f) (type_of_field tree t f)
+    (type_of_field tree meant f) (inr (ap (λ u. takes_unknown tree (field_of u f)) e))
+
+element-meant : (tree : Tree) (s : Scope) (t meant : StaticType) (e : Expression) →
+    IsMeant t meant →
+    IsMeant (type_behind_step tree (element_of t (known_type tree s e)) (type_of_element s t e))
+    (type_of_element s meant e)
+element-meant tree s t meant e (inl h) = step-meant tree (element_of t (known_type tree s e))
+    (type_of_element s t e) (type_of_element s meant e) (inl (ap (λ u. type_of_element s u e) h))
+element-meant tree s t meant e (inr h) = step-meant tree (element_of t (known_type tree s e))
+    (type_of_element s t e) (type_of_element s meant e)
+    (inr (ap (λ u. takes_unknown tree (element_of u (known_type tree s e))) h))
+
+steps-meant : (tree : Tree) (s : Scope) (t meant : StaticType) (steps : Steps) →
+    IsMeant t meant →
+    IsMeant (type_behind_steps tree s t steps) (stepped_type tree s meant steps)
+steps-meant tree s t meant no_step h = h
+steps-meant tree s t meant (field_step f rest) h = steps-meant tree s
+    (type_behind_step tree (field_of t f) (type_of_field tree t f)) (type_of_field tree meant f)
+    rest (field-meant tree t meant f h)
+steps-meant tree s t meant (at_step e rest) h = steps-meant tree s
+    (type_behind_step tree (element_of t (known_type tree s e)) (type_of_element s t e))
+    (type_of_element s meant e) rest (element-meant tree s t meant e h)
+
+mutual
+  pub types_as_meant : TypesAsMeant
+  types_as_meant tree s (number_expr z w) = inl refl
+  types_as_meant tree s (truth_expr b) = inl refl
+  types_as_meant tree s (chain_expr first rest) = links-meant tree s (known_type tree s first)
+      (type_of tree s first) rest (types_as_meant tree s first)
+  types_as_meant tree s (prefix_expr signs e) =
+      signs-meant signs (known_type tree s e) (type_of tree s e) (types_as_meant tree s e)
+  types_as_meant tree s (call_expr task args) = type_unless-meant _ _
+  types_as_meant tree s (access_expr n steps) =
+      steps-meant tree s (type_named s.names n) (type_named s.names n) steps (inl refl)
+  types_as_meant tree s (convert_expr t e) = type_unless-meant _ _
+  types_as_meant tree s (is_null_expr e) = type_unless-meant _ _
+  types_as_meant tree s (null_expr p) = type_unless-meant _ _
+  types_as_meant tree s (cast_expr p e) = type_unless-meant _ _
+  types_as_meant tree s (space_expr k e) = type_unless-meant _ _
+
+  links-meant : (tree : Tree) (s : Scope) (t meant : StaticType) (rest : Links) →
+      IsMeant t meant →
+      IsMeant (type_behind_links tree s t rest) (linked_type tree s meant rest)
+  links-meant tree s t meant no_link h = h
+  links-meant tree s t meant (a_link o e rest) h = links-meant tree s
+      (type_behind_operator (computing o t (known_type tree s e)))
+      (operated o meant (type_of tree s e)) rest
+      (operator-meant o t meant (known_type tree s e) (type_of tree s e) h
+      (types_as_meant tree s e))
 
 -- ---- each pair once
 

@@ -1,8 +1,7 @@
-pub mod Accepted
-pub mod NameExamples
-pub mod TypeExamples
-pub mod PrivilegeExamples
-pub mod ConstraintExamples
-pub mod RegionExamples
-pub mod ItemExamples
+pub mod Exchange
+pub mod FirstInExpressions
+pub mod FirstInItems
+pub mod FirstInStatements
+pub mod Joined
 pub mod Laws
+pub mod Lines

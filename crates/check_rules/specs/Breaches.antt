@@ -9,11 +9,11 @@ use Rattle.std.specs.Prelude.{Bool, List, None, [], cond, false, filter, flat_ma
 use Rattle.regent_tree.specs.Scopes.{Scope}
 use Rattle.regent_tree.specs.Syntax.{Form, ItemForm, ItemTree, Tree, space_item, var_form}
 use Rattle.regent_tree.specs.declared.types.Param.{Param}
-use Rattle.privilege_types.specs.declared.access.Wanted.{Wanted}
+use Rattle.regent_tree.specs.declared.rights.Wanted.{Wanted}
 use Rattle.check_rules.specs.Clauses.{misdeclares_item}
 use Rattle.check_rules.specs.Constraints.{breaks_constraint}
 use Rattle.check_rules.specs.Counts.{miscounts_call, miscounts_in_type}
-use Rattle.check_rules.specs.Declared.{is_no_field_type, params_of}
+use Rattle.check_rules.specs.Declarations.{is_no_field_type, params_of}
 use Rattle.check_rules.specs.Formats.{misprints_form}
 use Rattle.check_rules.specs.Launches.{is_demanded}
 use Rattle.check_rules.specs.Names.{misnames, misnames_form, misnames_in_type, misnames_start}
@@ -30,7 +30,7 @@ use Rattle.check_rules.specs.Statements.{standing_in_form}
 use Rattle.check_rules.specs.Targets.{mistargets_form}
 use Rattle.check_rules.specs.Types.{misstands, mistypes}
 use Rattle.check_rules.specs.Variables.{known_start, types_in_start, variable_type}
-use Rattle.check_rules.specs.Visits.{Visit, any_written, calls_at, heads_of, lines_declaring, lines_where, shapes_at, shapes_in, start_at}
+use Rattle.check_rules.specs.Visits.{Declaration, Visit, any_written, calls_at, heads_of, lines_declaring, lines_of_declarations, lines_where, shapes_at, shapes_in, start_at}
 
 pub record Breach : Type 0 where
   pub rule : ℕ
@@ -38,7 +38,11 @@ pub record Breach : Type 0 where
 
 -- ---- where each rule is looked for
 
--- 1: in written types, expressions, start values, `fill`, `printf` and calls
+-- 1: in written types, expressions, start values, `fill`, `printf` and calls. Parameters are what
+-- they are written as, whether or not their own types have a breach.
+abbrev pub misnames_declared : Tree → Declaration → Bool
+misnames_declared tree d = misnames_in_type tree d.written d.param.term
+
 abbrev pub misnames_at : Tree → Visit → Bool
 misnames_at tree v = let names = v.scope.names in
     any_written tree v (misnames_in_type tree)
@@ -48,7 +52,7 @@ misnames_at tree v = let names = v.scope.names in
 
 abbrev pub name_lines : Tree → List ℕ
 name_lines tree =
-    lines_declaring tree (misnames_in_type tree) ++ lines_where tree (misnames_at tree)
+    lines_of_declarations tree (misnames_declared tree) ++ lines_where tree (misnames_at tree)
 
 -- 2: in the whole text, and in each list
 abbrev pub twice_lines : Tree → List ℕ

@@ -2,14 +2,15 @@
 -- hasn't.
 use Rattle.std.specs.List.{list_all, list_any}
 use Rattle.std.specs.Prelude.{Bool, List, None, Option, Some, false, not, ◌||◌}
-use Rattle.regent_tree.specs.Scopes.{Bound}
-use Rattle.regent_tree.specs.StaticTypes.{StaticType}
+use Rattle.regent_tree.specs.declared.typing.Bound.{Bound}
+use Rattle.regent_tree.specs.declared.typing.StaticType.{StaticType}
 use Rattle.regent_tree.specs.Syntax.{ItemForm, Name, Tree, task_item}
 use Rattle.regent_tree.specs.declared.program.Clause.{Clause}
 use Rattle.regent_tree.specs.declared.program.Clause.TheVariants as clause
 use Rattle.regent_tree.specs.declared.program.Place.{Place}
-use Rattle.check_rules.specs.Declared.{params_bound}
-use Rattle.check_rules.specs.Lookup.{names_a, region_has, type_named}
+use Rattle.check_rules.specs.Declarations.{params_bound}
+use Rattle.regent_tree.specs.Lookup.{type_named}
+use Rattle.check_rules.specs.Lookup.{names_a, region_has}
 use Rattle.check_rules.specs.Sorts.{is_region}
 
 abbrev pub is_no_region : List Bound → Name → Bool

@@ -2,7 +2,9 @@
 use Rattle.std.specs.List.{list_any}
 use Rattle.std.specs.Prelude.{Bool, List, false, not}
 use Rattle.regent_tree.specs.Facts.{are_disjoint, is_subregion}
-use Rattle.regent_tree.specs.StaticTypes.{StaticType, place_in, region_type, task_named}
+use Rattle.regent_tree.specs.StaticTypes.{place_in, task_named}
+use Rattle.regent_tree.specs.declared.typing.StaticType.{StaticType}
+use Rattle.regent_tree.specs.declared.typing.StaticType.TheVariants.{Region as region_type}
 use Rattle.regent_tree.specs.Syntax.{Name, Tree}
 use Rattle.regent_tree.specs.declared.facts.Known.{Known}
 use Rattle.regent_tree.specs.declared.program.Clause.{Clause}

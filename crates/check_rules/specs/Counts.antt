@@ -6,7 +6,7 @@ use Rattle.regent_tree.specs.Syntax.{Tree}
 use Rattle.regent_tree.specs.declared.types.SpaceUse.{SpaceUse}
 use Rattle.regent_tree.specs.declared.types.TypeTerm.{TypeTerm}
 use Rattle.regent_tree.specs.declared.types.TypeTerm.TheVariants as typed
-use Rattle.check_rules.specs.Lookup.{has_space, has_task, space_used}
+use Rattle.regent_tree.specs.Lookup.{has_space, has_task, space_used}
 use Rattle.check_rules.specs.Shapes.{Calling, Shape, call_in}
 
 -- what a written type names

@@ -3,7 +3,7 @@
 use Rattle.std.specs.List.{list_any}
 use Rattle.std.specs.Prelude.{Bool, List, None, Option, Some, [], false, length, not, option_map, suc, true, ℕ, ◌==◌, ◌||◌, ◌∷◌}
 use Rattle.regent_tree.specs.Scopes.{Scope}
-use Rattle.regent_tree.specs.StaticTypes.{StaticType}
+use Rattle.regent_tree.specs.declared.typing.StaticType.{StaticType}
 use Rattle.regent_tree.specs.Syntax.{Form, Tree, print_form}
 use Rattle.check_rules.specs.KnownTypes.{known_types}
 use Rattle.check_rules.specs.Sorts.{is_integer, may_be}

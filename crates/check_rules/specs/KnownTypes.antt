@@ -2,155 +2,143 @@
 -- type depends on what is unknown, has an unknown type. All others have the types that the meaning
 -- of programs gives them.
 use Rattle.std.specs.List.{list_any}
-use Rattle.std.specs.Prelude.{Bool, List, [], false, ◌||◌, ◌∷◌}
-use Rattle.regent_tree.specs.Scopes.{Bound, Scope}
-use Rattle.regent_tree.specs.StaticTypes.{StaticType, pointer_type, task_named}
+use Rattle.std.specs.Prelude.{Bool, List, [], not, ◌||◌, ◌∷◌}
+use Rattle.regent_tree.specs.Lookup.{type_named}
+use Rattle.regent_tree.specs.Scopes.{Scope, in_scope}
+use Rattle.regent_tree.specs.StaticTypes.{number_type, task_named, written_pointer}
 use Rattle.regent_tree.specs.Syntax.{Expression, Expressions, Links, Steps, Tree, a_link, access_expr, an_expr, at_step, call_expr, cast_expr, chain_expr, convert_expr, field_step, is_null_expr, no_expr, no_link, no_step, null_expr, number_expr, prefix_expr, space_expr, truth_expr}
-use Rattle.regent_tree.specs.Typing.{operated, signed_type, type_of, type_of_element, type_of_field}
+use Rattle.regent_tree.specs.Typing.{counting_as, is_pointer, operated, result_type, type_of_element, type_of_field}
 use Rattle.regent_tree.specs.declared.expression.Sign.{Sign}
-use Rattle.check_rules.specs.Counts.{miscounts}
-use Rattle.check_rules.specs.Declared.{is_flawed_field, is_flawed_type, is_no_result_type, params_of, type_unless}
-use Rattle.check_rules.specs.Lookup.{type_named}
-use Rattle.check_rules.specs.Names.{misnames, misnames_field}
+use Rattle.regent_tree.specs.declared.expression.Sign.TheVariants.{Minus, Not}
+use Rattle.regent_tree.specs.declared.facts.Known.{Known}
+use Rattle.regent_tree.specs.declared.types.TypeTerm.TheVariants as typed
+use Rattle.regent_tree.specs.declared.typing.StaticType.{StaticType}
+use Rattle.regent_tree.specs.declared.typing.StaticType.TheVariants.{Integer as integer_type, Ispace as ispace_type, Pointer as pointer_type, Truth as truth_type}
+use Rattle.check_rules.specs.Counts.{miscounts_call}
+use Rattle.check_rules.specs.Declarations.{is_flawed_field, is_flawed_type, is_no_result_type, params_of, type_unless}
+use Rattle.check_rules.specs.Names.{misnames_field, misnames_task}
 use Rattle.check_rules.specs.Partitions.{mispartitions_call}
-use Rattle.check_rules.specs.Places.{misplaces_in}
-use Rattle.check_rules.specs.Pointers.{mispoints_in, takes_of_wild}
-use Rattle.check_rules.specs.Shapes.{Calling, Computing, Shape, Signing, Taking, access_shape, call_in, call_shape, calling, cast_shape, chain_shape, computing, constant_shape, convert_shape, element_of, field_of, is_null_shape, null_shape, prefix_shape, space_shape, written_in}
-use Rattle.check_rules.specs.Sorts.{is_unknown_type}
+use Rattle.check_rules.specs.Pointers.{takes_of_wild}
+use Rattle.check_rules.specs.Shapes.{Calling, Computing, Shape, Signing, Taking, access_shape, call_shape, calling, cast_shape, chain_shape, computing, constant_shape, convert_shape, element_of, field_of, is_null_shape, null_shape, prefix_shape, space_shape}
+use Rattle.check_rules.specs.Sorts.{is_integer, is_number, is_truth, is_unknown_type}
 use Rattle.check_rules.specs.Spaces.{misfits_call}
-use Rattle.check_rules.specs.Standing.{spot_of_sign, stands}
-use Rattle.check_rules.specs.Types.{misoperates, misstands, mistakes, mistypes}
+use Rattle.check_rules.specs.Standing.{standing_in_call}
+use Rattle.check_rules.specs.Types.{has_no_result, misoperates, misstands, mistakes}
 
--- ---- what has a breach
+-- ---- the type behind a part, by the types of what stands there
 
--- a region argument that differs, or a partition argument that isn't as it must be
-abbrev pub misfits : Tree → Shape → Bool
-misfits tree shape =
-    list_any (λ (c : Calling). misfits_call (params_of tree c.task) c) (call_in shape)
-
-abbrev pub mispartitions_in : Tree → Shape → Bool
-mispartitions_in tree shape =
-    list_any (λ (c : Calling). mispartitions_call (params_of tree c.task) c) (call_in shape)
-
--- the expression itself has a breach of one of these rules
-abbrev pub is_flawed : Tree → Scope → Shape → Bool
-is_flawed tree s shape =
-    misnames tree s.names shape || mistypes tree s.known shape || miscounts tree shape
-    || misplaces_in tree shape || mispoints_in shape || misfits tree shape
-    || mispartitions_in tree shape
-    || list_any (is_flawed_type tree s.names) (written_in shape)
-
--- ---- what is unknown
-
--- the declared type of a field has a breach
-abbrev pub takes_unknown : Tree → Taking → Bool
-takes_unknown tree (field_of (pointer_type k s args regions) f) = is_flawed_field tree s f
-takes_unknown tree (field_of t f) = is_unknown_type t
-takes_unknown tree (element_of t e) = is_unknown_type t || is_unknown_type e
-
-abbrev pub has_unknown_part : Tree → List Bound → Shape → Bool
-has_unknown_part tree names constant_shape = false
-has_unknown_part tree names (chain_shape cs) =
-    list_any (λ (c : Computing). is_unknown_type c.left || is_unknown_type c.right) cs
-has_unknown_part tree names (prefix_shape ss) =
-    list_any (λ (s : Signing). is_unknown_type s.operand) ss
-has_unknown_part tree names (call_shape c) = list_any is_unknown_type c.args
-    || is_no_result_type (task_named tree c.task).result
-has_unknown_part tree names (access_shape n taken) =
-    is_unknown_type (type_named names n) || list_any (takes_unknown tree) taken
-has_unknown_part tree names (convert_shape t) = is_unknown_type t
-has_unknown_part tree names (is_null_shape t) = is_unknown_type t
-has_unknown_part tree names (null_shape p) = false
-has_unknown_part tree names (cast_shape p t) = is_unknown_type t
-has_unknown_part tree names (space_shape t) = is_unknown_type t
-
--- the type of an expression of a shape
-abbrev pub known_by : Tree → Scope → Expression → Shape → StaticType
-known_by tree s e shape =
-    type_unless (has_unknown_part tree s.names shape || is_flawed tree s shape) (type_of tree s e)
-
--- the type behind an operator, a prefix, and a step of an access
 abbrev pub type_behind_operator : Computing → StaticType
 type_behind_operator c = type_unless
     (is_unknown_type c.left || is_unknown_type c.right || misoperates c)
     (operated c.operator c.left c.right)
 
-abbrev pub type_behind_sign : Signing → StaticType
-type_behind_sign s =
-    type_unless (misstands [] (stands s.operand (spot_of_sign s.sign)))
-    (signed_type (s.sign ∷ []) s.operand)
+abbrev pub type_behind_sign : Sign → StaticType → StaticType
+type_behind_sign Not t = type_unless (not (is_truth t)) truth_type
+type_behind_sign Minus t = type_unless (not (is_number t)) (counting_as t)
+
+-- what a step takes isn't known: a field whose declared type has a breach, or a step of what is
+-- unknown or at a place that is no number
+abbrev pub takes_unknown : Tree → Taking → Bool
+takes_unknown tree (field_of (pointer_type k s args regions) f) = is_flawed_field tree s f
+takes_unknown tree (field_of t f) = is_unknown_type t
+takes_unknown tree (element_of t e) = is_unknown_type t || not (is_number e)
 
 abbrev pub type_behind_step : Tree → Taking → StaticType → StaticType
 type_behind_step tree taking t = type_unless
     (takes_unknown tree taking || misnames_field tree taking || mistakes taking
     || takes_of_wild taking) t
 
--- the prefixes with what each stands before, and the type of the whole
+-- a call has a breach, or depends on what is unknown
+abbrev pub is_flawed_call : Tree → List Known → Calling → Bool
+is_flawed_call tree known c =
+    misnames_task tree c || has_no_result tree c || miscounts_call tree c
+    || list_any (misstands known) (standing_in_call tree c)
+    || misfits_call (params_of tree c.task) c || mispartitions_call (params_of tree c.task) c
+    || list_any is_unknown_type c.args || is_no_result_type (task_named tree c.task).result
+
+abbrev pub type_of_call : Tree → List Known → Calling → StaticType
+type_of_call tree known c = type_unless (is_flawed_call tree known c)
+    (result_type tree (task_named tree c.task).result)
+
+-- the type behind prefixes, the outermost first, and what each of them stands before
+abbrev pub type_behind_signs : List Sign → StaticType → StaticType
+type_behind_signs [] t = t
+type_behind_signs (sign ∷ signs) t = type_behind_sign sign (type_behind_signs signs t)
+
 abbrev pub signings : List Sign → StaticType → List Signing
 signings [] t = []
-signings (sign ∷ signs) t = before (signings signs t)
-  where
-    operand_before : List Signing → StaticType
-    operand_before [] = t
-    operand_before (s ∷ ss) = type_behind_sign s
+signings (sign ∷ signs) t =
+    record { sign = sign; operand = type_behind_signs signs t } ∷ signings signs t
 
-    before : List Signing → List Signing
-    before ss = record { sign = sign; operand = operand_before ss } ∷ ss
-
--- ---- types and shapes
+-- ---- types of expressions
 
 abbrev mutual
   pub known_type : Tree → Scope → Expression → StaticType
-  known_type tree s (number_expr z w) = type_of tree s (number_expr z w)
-  known_type tree s (truth_expr b) = type_of tree s (truth_expr b)
-  known_type tree s (chain_expr first rest) = known_by tree s (chain_expr first rest)
-      (chain_shape (computings tree s (known_type tree s first) rest))
-  known_type tree s (prefix_expr signs e) = known_by tree s (prefix_expr signs e)
-      (prefix_shape (signings signs (known_type tree s e)))
-  known_type tree s (call_expr task args) = known_by tree s (call_expr task args)
-      (call_shape (calling task (known_types tree s args)))
-  known_type tree s (access_expr n steps) = known_by tree s (access_expr n steps)
-      (access_shape n (takings tree s (type_named s.names n) steps))
+  known_type tree s (number_expr z w) = integer_type w
+  known_type tree s (truth_expr b) = truth_type
+  known_type tree s (chain_expr first rest) =
+      type_behind_links tree s (known_type tree s first) rest
+  known_type tree s (prefix_expr signs e) = type_behind_signs signs (known_type tree s e)
+  known_type tree s (call_expr task args) =
+      type_of_call tree s.known (calling task (known_types tree s args))
+  known_type tree s (access_expr n steps) =
+      type_behind_steps tree s (type_named s.names n) steps
   known_type tree s (convert_expr t e) =
-      known_by tree s (convert_expr t e) (convert_shape (known_type tree s e))
+      type_unless (not (is_number (known_type tree s e))) (number_type t)
   known_type tree s (is_null_expr e) =
-      known_by tree s (is_null_expr e) (is_null_shape (known_type tree s e))
-  known_type tree s (null_expr p) = known_by tree s (null_expr p) (null_shape p)
-  known_type tree s (cast_expr p e) =
-      known_by tree s (cast_expr p e) (cast_shape p (known_type tree s e))
+      type_unless (not (is_pointer (known_type tree s e))) truth_type
+  known_type tree s (null_expr p) = type_unless (is_flawed_type tree s.names (typed.Pointer p))
+      (written_pointer tree (in_scope s) p)
+  known_type tree s (cast_expr p e) = type_unless
+      (not (is_number (known_type tree s e)) || is_flawed_type tree s.names (typed.Pointer p))
+      (written_pointer tree (in_scope s) p)
   known_type tree s (space_expr k e) =
-      known_by tree s (space_expr k e) (space_shape (known_type tree s e))
-
-  -- the operators of a chain, from the type of what stands on the left
-  pub computings : Tree → Scope → StaticType → Links → List Computing
-  computings tree s t no_link = []
-  computings tree s t (a_link o e rest) =
-      let c = computing o t (known_type tree s e) in
-      c ∷ computings tree s (type_behind_operator c) rest
+      type_unless (not (is_integer (known_type tree s e))) (ispace_type k)
 
   pub known_types : Tree → Scope → Expressions → List StaticType
   known_types tree s no_expr = []
   known_types tree s (an_expr e es) = known_type tree s e ∷ known_types tree s es
 
-  -- the steps of an access, from the type of what they begin with
-  pub takings : Tree → Scope → StaticType → Steps → List Taking
-  takings tree s t no_step = []
-  takings tree s t (field_step f rest) =
-      let taking = field_of t f in
-      taking ∷ takings tree s (type_behind_step tree taking (type_of_field tree t f)) rest
-  takings tree s t (at_step e rest) =
-      let taking = element_of t (known_type tree s e) in
-      taking ∷ takings tree s (type_behind_step tree taking (type_of_element s t e)) rest
+  -- the type of a chain, from the type of what stands on the left
+  pub type_behind_links : Tree → Scope → StaticType → Links → StaticType
+  type_behind_links tree s t no_link = t
+  type_behind_links tree s t (a_link o e rest) = type_behind_links tree s
+      (type_behind_operator (computing o t (known_type tree s e))) rest
 
--- the shape of an expression
+  -- the type of an access, from the type of what it begins with
+  pub type_behind_steps : Tree → Scope → StaticType → Steps → StaticType
+  type_behind_steps tree s t no_step = t
+  type_behind_steps tree s t (field_step f rest) = type_behind_steps tree s
+      (type_behind_step tree (field_of t f) (type_of_field tree t f)) rest
+  type_behind_steps tree s t (at_step e rest) = type_behind_steps tree s
+      (type_behind_step tree (element_of t (known_type tree s e)) (type_of_element s t e)) rest
+
+-- ---- shapes of expressions
+
+-- the operators of a chain, with the types on both sides
+abbrev pub computings : Tree → Scope → StaticType → Links → List Computing
+computings tree s t no_link = []
+computings tree s t (a_link o e rest) =
+    let c = computing o t (known_type tree s e) in
+    c ∷ computings tree s (type_behind_operator c) rest
+
+-- the steps of an access, with the types that they are taken of
+abbrev pub takings : Tree → Scope → StaticType → Steps → List Taking
+takings tree s t no_step = []
+takings tree s t (field_step f rest) =
+    let taking = field_of t f in
+    taking ∷ takings tree s (type_behind_step tree taking (type_of_field tree t f)) rest
+takings tree s t (at_step e rest) =
+    let taking = element_of t (known_type tree s e) in
+    taking ∷ takings tree s (type_behind_step tree taking (type_of_element s t e)) rest
+
 abbrev pub shape_of : Tree → Scope → Expression → Shape
 shape_of tree s (number_expr z w) = constant_shape
 shape_of tree s (truth_expr b) = constant_shape
 shape_of tree s (chain_expr first rest) =
     chain_shape (computings tree s (known_type tree s first) rest)
 shape_of tree s (prefix_expr signs e) = prefix_shape (signings signs (known_type tree s e))
-shape_of tree s (call_expr task args) =
-    call_shape (calling task (known_types tree s args))
+shape_of tree s (call_expr task args) = call_shape (calling task (known_types tree s args))
 shape_of tree s (access_expr n steps) =
     access_shape n (takings tree s (type_named s.names n) steps)
 shape_of tree s (convert_expr t e) = convert_shape (known_type tree s e)

@@ -1,21 +1,12 @@
 -- Laws of the definition.
-use Rattle.std.specs.Prelude.{◌≡◌, ◌↔◌, ◌⊎◌, List, Contains, true}
-use Rattle.regent_tree.specs.declared.facts.Known.{Known}
+use Rattle.std.specs.Prelude.{◌≡◌, ◌↔◌, ◌⊎◌, List, Contains, Some, None, []}
 use Rattle.regent_tree.specs.Syntax.{Expression, Tree}
-use Rattle.regent_tree.specs.StaticTypes.{unknown_type}
+use Rattle.regent_tree.specs.declared.typing.StaticType.TheVariants.{Unknown as unknown_type}
 use Rattle.regent_tree.specs.Scopes.{Scope}
 use Rattle.regent_tree.specs.Typing.{type_of}
-use Rattle.privilege_types.specs.declared.access.Right.{Right}
-use Rattle.privilege_types.specs.declared.access.Wanted.{Wanted}
-use Rattle.privilege_types.specs.Privileges.{IsGranted}
-use Rattle.check_rules.specs.Breaches.{Breach, each_once}
+use Rattle.check_rules.specs.Breaches.{Breach, breaches, each_once}
+use Rattle.check_rules.specs.FirstInItems.{first_breach}
 use Rattle.check_rules.specs.KnownTypes.{known_type}
-use Rattle.check_rules.specs.Privileges.{is_granted}
-
--- The rules on privileges ask for what is derivable.
-abbrev pub GrantedAsDerived : Type 0
-GrantedAsDerived = (rights : List Right) (known : List Known) (w : Wanted) →
-    (is_granted rights known w ≡ true) ↔ IsGranted rights known w
 
 -- An expression has the type that the meaning of programs gives it, or an unknown one.
 abbrev pub TypesAsMeant : Type 0
@@ -25,3 +16,10 @@ TypesAsMeant = (tree : Tree) (s : Scope) (e : Expression) →
 -- Listing each pair once leaves no pair out and brings none in.
 abbrev pub PairsKept : Type 0
 PairsKept = (bs : List Breach) (b : Breach) → Contains (each_once bs) b ↔ Contains bs b
+
+-- The first breach is one of them, and there is none exactly where there are none.
+abbrev pub FirstIsOne : Type 0
+FirstIsOne = (tree : Tree) (b : Breach) → first_breach tree ≡ Some b → Contains (breaches tree) b
+
+abbrev pub NoneWithoutFirst : Type 0
+NoneWithoutFirst = (tree : Tree) → (first_breach tree ≡ None) ↔ (breaches tree ≡ [])

@@ -7,7 +7,7 @@ pub mod Names
 pub mod Counts
 pub mod Pointers
 pub mod Spaces
-pub mod Declared
+pub mod Declarations
 pub mod Partitions
 pub mod Standing
 pub mod Types
@@ -26,11 +26,8 @@ pub mod Repeats
 pub mod Starting
 pub mod Launches
 pub mod Breaches
-pub mod Accepted
-pub mod NameExamples
-pub mod TypeExamples
-pub mod PrivilegeExamples
-pub mod ConstraintExamples
-pub mod RegionExamples
-pub mod ItemExamples
 pub mod Laws
+pub mod Rules
+pub mod FirstInExpressions
+pub mod FirstInStatements
+pub mod FirstInItems

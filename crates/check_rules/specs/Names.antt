@@ -1,16 +1,17 @@
 -- Rule 1, Name: a used name isn't bound to a thing of the kind that its place needs.
 use Rattle.std.specs.List.{list_any}
 use Rattle.std.specs.Prelude.{Bool, List, None, Option, Some, false, not, ◌&&◌, ◌||◌}
-use Rattle.regent_tree.specs.Scopes.{Bound}
+use Rattle.regent_tree.specs.declared.typing.Bound.{Bound}
 use Rattle.regent_tree.specs.Starting.{colours}
-use Rattle.regent_tree.specs.StaticTypes.{partition_type, pointer_type}
+use Rattle.regent_tree.specs.declared.typing.StaticType.TheVariants.{Partition as partition_type, Pointer as pointer_type}
 use Rattle.regent_tree.specs.Syntax.{Form, Name, Start, Tree, both_start, by_field_start, call_form, either_start, equal_start, fill_form, image_start, preimage_start, print_form}
 use Rattle.regent_tree.specs.declared.types.Ref.{Ref}
 use Rattle.regent_tree.specs.declared.types.Ref.TheVariants.{Named, Wild}
 use Rattle.regent_tree.specs.declared.types.SpaceUse.{SpaceUse}
 use Rattle.regent_tree.specs.declared.types.TypeTerm.{TypeTerm}
 use Rattle.regent_tree.specs.declared.types.TypeTerm.TheVariants as typed
-use Rattle.check_rules.specs.Lookup.{has_alias, has_field, has_space, has_task, is_bound, is_colors, names_a, region_has, type_named}
+use Rattle.regent_tree.specs.Lookup.{has_alias, has_field, has_space, has_task, is_bound, type_named}
+use Rattle.check_rules.specs.Lookup.{is_colors, names_a, region_has}
 use Rattle.check_rules.specs.Shapes.{Calling, Shape, Taking, access_shape, call_shape, field_of}
 use Rattle.check_rules.specs.Sorts.{is_partition, is_region, is_space}
 

@@ -3,9 +3,11 @@
 use Rattle.std.specs.List.{list_any}
 use Rattle.std.specs.Prelude.{Bool, List, None, Option, Some, [], cond, false, not, true, ℕ, ◌&&◌, ◌==◌, ◌||◌, ◌∷◌}
 use Rattle.regent_tree.specs.Facts.{is_name, is_subregion}
-use Rattle.regent_tree.specs.Scopes.{Bound, Scope, bound_to}
+use Rattle.regent_tree.specs.Scopes.{Scope, bound_to}
+use Rattle.regent_tree.specs.declared.typing.Bound.{Bound}
 use Rattle.regent_tree.specs.Starting.{colours}
-use Rattle.regent_tree.specs.StaticTypes.{StaticType, partition_type, region_type}
+use Rattle.regent_tree.specs.declared.typing.StaticType.{StaticType}
+use Rattle.regent_tree.specs.declared.typing.StaticType.TheVariants.{Partition as partition_type, Region as region_type}
 use Rattle.regent_tree.specs.Syntax.{Expression, Name, Start, Tree, a_link, access_expr, both_start, by_field_start, chain_expr, either_start, equal_start, image_start, no_link, no_step, plain_start, preimage_start}
 use Rattle.regent_tree.specs.Typing.{is_pointer}
 use Rattle.regent_tree.specs.declared.expression.Arithmetic.TheVariants.{Subtract}
@@ -14,8 +16,9 @@ use Rattle.regent_tree.specs.declared.facts.Known.{Known}
 use Rattle.regent_tree.specs.declared.facts.Term.TheVariants as term
 use Rattle.regent_tree.specs.declared.types.TypeTerm.{TypeTerm}
 use Rattle.regent_tree.specs.declared.types.TypeTerm.TheVariants as typed
-use Rattle.check_rules.specs.Declared.{known_field}
-use Rattle.check_rules.specs.Lookup.{names_a, type_named}
+use Rattle.check_rules.specs.Declarations.{known_field}
+use Rattle.regent_tree.specs.Lookup.{type_named}
+use Rattle.check_rules.specs.Lookup.{names_a}
 use Rattle.check_rules.specs.Names.{are_partitions}
 use Rattle.check_rules.specs.Shapes.{Calling}
 use Rattle.check_rules.specs.Sorts.{is_index, is_integer, is_region, is_unknown_type, is_unstructured, may_be, type_at}

@@ -2,8 +2,8 @@
 -- may, or a variable of such a type doesn't begin as it must.
 use Rattle.std.specs.List.{list_any}
 use Rattle.std.specs.Prelude.{Bool, List, None, Option, Some, false, not, true, ◌&&◌, ◌||◌}
-use Rattle.regent_tree.specs.Scopes.{Bound}
-use Rattle.regent_tree.specs.StaticTypes.{StaticType}
+use Rattle.regent_tree.specs.declared.typing.Bound.{Bound}
+use Rattle.regent_tree.specs.declared.typing.StaticType.{StaticType}
 use Rattle.regent_tree.specs.Syntax.{Start, Tree, access_expr, at_step, no_step, plain_start, region_start}
 use Rattle.check_rules.specs.Partitions.{is_difference}
 use Rattle.check_rules.specs.Shapes.{Shape}

@@ -3,8 +3,10 @@
 -- list.
 use Rattle.std.specs.List.{list_any}
 use Rattle.std.specs.Prelude.{Bool, List, false, not, true, ℕ, ◌&&◌, ◌==◌}
-use Rattle.regent_tree.specs.Scopes.{Bound}
-use Rattle.regent_tree.specs.StaticTypes.{StaticType, place_of_space, region_type}
+use Rattle.regent_tree.specs.declared.typing.Bound.{Bound}
+use Rattle.regent_tree.specs.StaticTypes.{place_of_space}
+use Rattle.regent_tree.specs.declared.typing.StaticType.{StaticType}
+use Rattle.regent_tree.specs.declared.typing.StaticType.TheVariants.{Region as region_type}
 use Rattle.regent_tree.specs.Syntax.{Tree}
 use Rattle.regent_tree.specs.Typing.{has_wild, reaches_of}
 use Rattle.regent_tree.specs.declared.types.Kind.{Kind}
@@ -12,7 +14,7 @@ use Rattle.regent_tree.specs.declared.types.Ref.{Ref}
 use Rattle.regent_tree.specs.declared.types.Ref.TheVariants.{Named, Wild}
 use Rattle.regent_tree.specs.declared.types.TypeTerm.{TypeTerm}
 use Rattle.regent_tree.specs.declared.types.TypeTerm.TheVariants as typed
-use Rattle.check_rules.specs.Lookup.{has_space, type_named}
+use Rattle.regent_tree.specs.Lookup.{has_space, type_named}
 use Rattle.check_rules.specs.Shapes.{Shape, Taking, access_shape, field_of}
 use Rattle.check_rules.specs.Sorts.{may_be, same_kind}
 

@@ -1,9 +1,12 @@
 -- Rules 8 to 11, on privileges: a field is read, written or reduced, or a task is called, without
 -- the privilege on each region in question.
 use Rattle.std.specs.List.{list_all, list_any}
-use Rattle.std.specs.Prelude.{Bool, List, None, Option, Some, [], cond, false, filter, flat_map, map, not, ℕ, ◌&&◌, ◌++◌, ◌==◌, ◌||◌, ◌∷◌}
-use Rattle.regent_tree.specs.Scopes.{Bound, Scope}
-use Rattle.regent_tree.specs.StaticTypes.{Reach, StaticType, field_place, place_in, pointer_type, region_type, space_at, task_named}
+use Rattle.std.specs.Prelude.{Bool, List, None, Option, Some, [], cond, false, filter, flat_map, map, not, ℕ, ◌&&◌, ◌==◌, ◌||◌, ◌∷◌}
+use Rattle.regent_tree.specs.Scopes.{Scope}
+use Rattle.regent_tree.specs.declared.typing.Bound.{Bound}
+use Rattle.regent_tree.specs.StaticTypes.{Reach, field_place, place_in, space_at, task_named}
+use Rattle.regent_tree.specs.declared.typing.StaticType.{StaticType}
+use Rattle.regent_tree.specs.declared.typing.StaticType.TheVariants.{Pointer as pointer_type, Region as region_type}
 use Rattle.regent_tree.specs.Syntax.{Expression, Form, Name, Start, Steps, TaskTree, Tree, access_expr, assign_form, at_step, by_field_start, field_step, fill_form, image_start, no_step, preimage_start}
 use Rattle.regent_tree.specs.Typing.{has_wild}
 use Rattle.regent_tree.specs.declared.facts.Known.{Known}
@@ -16,14 +19,16 @@ use Rattle.regent_tree.specs.declared.program.Grant.TheVariants.{Reads, Reduces,
 use Rattle.regent_tree.specs.declared.program.Place.{Place}
 use Rattle.regent_tree.specs.declared.statement.How.TheVariants as how
 use Rattle.regent_tree.specs.declared.types.Param.{Param}
-use Rattle.privilege_types.specs.Rights.{gives}
-use Rattle.privilege_types.specs.declared.access.Access.{Access}
-use Rattle.privilege_types.specs.declared.access.Access.TheVariants as access
-use Rattle.privilege_types.specs.declared.access.Right.{Right}
-use Rattle.privilege_types.specs.declared.access.Wanted.{Wanted}
-use Rattle.check_rules.specs.Declared.{params_bound, params_of}
+use Rattle.regent_tree.specs.Facts.{is_subregion}
+use Rattle.regent_tree.specs.Rights.{is_granted}
+use Rattle.regent_tree.specs.declared.facts.Term.TheVariants as term
+use Rattle.regent_tree.specs.declared.rights.Access.{Access}
+use Rattle.regent_tree.specs.declared.rights.Access.TheVariants as access
+use Rattle.regent_tree.specs.declared.rights.Right.{Right}
+use Rattle.regent_tree.specs.declared.rights.Wanted.{Wanted}
+use Rattle.check_rules.specs.Declarations.{params_bound, params_of}
 use Rattle.check_rules.specs.KnownTypes.{shape_of}
-use Rattle.check_rules.specs.Lookup.{has_field, type_named}
+use Rattle.regent_tree.specs.Lookup.{has_field, type_named}
 use Rattle.check_rules.specs.Shapes.{Calling, Shape, Taking, access_shape, field_of}
 use Rattle.check_rules.specs.Sorts.{type_at}
 use Rattle.check_rules.specs.Spaces.{types_in_order}
@@ -62,41 +67,20 @@ rights_of_clause tree params c = []
 abbrev pub rights_declared : Tree → TaskTree → List Right
 rights_declared tree t = flat_map (rights_of_clause tree t.params) t.clauses
 
--- a task that makes a region holds all privileges on it
-abbrev pub is_made_as : ℕ → Known → Bool
-is_made_as i (Made s) = i == s
-is_made_as i k = false
-
-abbrev pub rights_on_made : Tree → ℕ → StaticType → List Right
-rights_on_made tree i t = rights_on tree t i (Reads ∷ Writes ∷ []) None
-
-abbrev pub rights_made_by : Tree → List Known → Bound → List Right
-rights_made_by tree known b =
-    cond (list_any (is_made_as b.number) known) (rights_on_made tree b.number b.type) []
-
-abbrev pub rights_held : Tree → TaskTree → Scope → List Right
-rights_held tree t s =
-    rights_declared tree t ++ flat_map (rights_made_by tree s.known) s.names
-
 -- ---- what is allowed
 
--- an access is held on a region within which the term derivably lies
-abbrev pub is_held : List Right → List Known → Term → ℕ → Access → Bool
-is_held rights known t f a = list_any (gives known t f a) rights
+-- a task that makes a region holds all privileges on it
+abbrev pub made_above : List Known → Term → Known → Bool
+made_above known t (Made i) = is_subregion known t (term.Name i)
+made_above known t k = false
 
--- a reduction is allowed too where reading and writing are both held
-abbrev pub allows : List Right → List Known → Term → ℕ → Access → Bool
-allows rights known t f access.Read = is_held rights known t f access.Read
-allows rights known t f access.Write = is_held rights known t f access.Write
-allows rights known t f (access.Reduce o) = is_held rights known t f (access.Reduce o)
-    || (is_held rights known t f access.Read && is_held rights known t f access.Write)
+abbrev pub may_do : List Right → List Known → Wanted → Bool
+may_do rights known w =
+    is_granted rights known w || list_any (made_above known w.term) known
 
-abbrev pub is_granted : List Right → List Known → Wanted → Bool
-is_granted rights known w = allows rights known w.term w.field w.access
-
--- whether a task at a place may not do all of this
+-- whether a task may not do all of this, by its privileges and by what is known
 abbrev pub lacks : Tree → TaskTree → Scope → List Wanted → Bool
-lacks tree t s ws = not (list_all (is_granted (rights_held tree t s) s.known) ws)
+lacks tree t s ws = not (list_all (may_do (rights_declared tree t) s.known) ws)
 
 -- ---- what is wanted
 

@@ -2,7 +2,7 @@
 -- result type is none of the number types and `bool`.
 use Rattle.std.specs.Prelude.{Bool, None, Some, false, is_none, is_some}
 use Rattle.regent_tree.specs.Syntax.{Form, ItemForm, TaskTree, return_form, task_item}
-use Rattle.check_rules.specs.Declared.{is_no_result_type}
+use Rattle.check_rules.specs.Declarations.{is_no_result_type}
 
 abbrev pub misreturns : TaskTree → Form → Bool
 misreturns t (return_form (Some e)) = is_none t.result

@@ -1,6 +1,6 @@
 -- An expression by the types of its parts.
 use Rattle.std.specs.Prelude.{List, [], ◌∷◌}
-use Rattle.regent_tree.specs.StaticTypes.{StaticType}
+use Rattle.regent_tree.specs.declared.typing.StaticType.{StaticType}
 use Rattle.regent_tree.specs.Syntax.{Name}
 use Rattle.regent_tree.specs.declared.expression.Operator.{Operator}
 use Rattle.regent_tree.specs.declared.expression.Sign.{Sign}

@@ -1,6 +1,7 @@
 -- What sort of thing a static type is of.
 use Rattle.std.specs.Prelude.{Bool, List, false, get_or, true, ℕ, ◌||◌}
-use Rattle.regent_tree.specs.StaticTypes.{StaticType, index_type, integer_type, ispace_type, partition_type, region_type, truth_type, unknown_type}
+use Rattle.regent_tree.specs.declared.typing.StaticType.{StaticType}
+use Rattle.regent_tree.specs.declared.typing.StaticType.TheVariants.{Index as index_type, Integer as integer_type, Ispace as ispace_type, Partition as partition_type, Region as region_type, Truth as truth_type, Unknown as unknown_type}
 use Rattle.regent_tree.specs.Typing.{is_pointer}
 use Rattle.regent_tree.specs.declared.types.Kind.{Kind}
 use Rattle.regent_tree.specs.declared.types.Kind.TheVariants.{Int1d, Ptr}

@@ -2,8 +2,10 @@
 -- space or field space arguments than the parameter, whose type is read with the arguments.
 use Rattle.std.specs.List.{list_any}
 use Rattle.std.specs.Prelude.{Bool, List, [], false, map, not, reverse, ◌&&◌, ◌||◌, ◌∷◌}
-use Rattle.regent_tree.specs.Scopes.{Bound, bound_params}
-use Rattle.regent_tree.specs.StaticTypes.{StaticType, region_type, unknown_type}
+use Rattle.regent_tree.specs.Scopes.{bound_params}
+use Rattle.regent_tree.specs.declared.typing.Bound.{Bound}
+use Rattle.regent_tree.specs.declared.typing.StaticType.{StaticType}
+use Rattle.regent_tree.specs.declared.typing.StaticType.TheVariants.{Region as region_type, Unknown as unknown_type}
 use Rattle.regent_tree.specs.Syntax.{Tree}
 use Rattle.regent_tree.specs.Typing.{put}
 use Rattle.regent_tree.specs.declared.types.Ref.{Ref}
@@ -12,7 +14,7 @@ use Rattle.regent_tree.specs.declared.types.SpaceUse.{SpaceUse}
 use Rattle.regent_tree.specs.declared.types.TypeTerm.{TypeTerm}
 use Rattle.check_rules.specs.Counts.{uses_of}
 use Rattle.check_rules.specs.Fitting.{is_region_like}
-use Rattle.check_rules.specs.Lookup.{space_used, type_named}
+use Rattle.regent_tree.specs.Lookup.{space_used, type_named}
 use Rattle.check_rules.specs.Shapes.{Calling}
 use Rattle.check_rules.specs.Sorts.{is_region, is_unknown_type}
 
@@ -40,7 +42,7 @@ differ_in types (p ∷ ps) (t ∷ ts) = differs types p t || differ_in types ps 
 
 -- the types of a list of parameters, in their order
 abbrev pub types_in_order : List Bound → List StaticType
-types_in_order names = map (λ (b : Bound). b.type) (reverse names)
+types_in_order names = map (λ (b : Bound). b.static_type) (reverse names)
 
 -- the types that a field space's parameters say
 abbrev pub space_params : Tree → SpaceUse → List StaticType

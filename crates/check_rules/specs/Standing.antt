@@ -1,11 +1,11 @@
 -- What stands where in an expression.
 use Rattle.std.specs.Prelude.{List, [], flat_map, map, ◌∷◌}
-use Rattle.regent_tree.specs.StaticTypes.{StaticType}
+use Rattle.regent_tree.specs.declared.typing.StaticType.{StaticType}
 use Rattle.regent_tree.specs.Syntax.{Tree}
 use Rattle.regent_tree.specs.Typing.{put_in}
 use Rattle.regent_tree.specs.declared.expression.Sign.{Sign}
 use Rattle.regent_tree.specs.declared.expression.Sign.TheVariants.{Minus, Not}
-use Rattle.check_rules.specs.Declared.{params_of}
+use Rattle.check_rules.specs.Declarations.{params_of}
 use Rattle.check_rules.specs.Shapes.{Calling, Computing, Shape, Signing, Taking, access_shape, call_shape, cast_shape, chain_shape, constant_shape, convert_shape, element_of, field_of, is_null_shape, null_shape, prefix_shape, space_shape}
 
 -- What may stand at a place: an integer; a truth; a number, that is an integer, index or pointer; a

@@ -7,7 +7,7 @@ use Rattle.regent_tree.specs.declared.types.NumberTerm.TheVariants as number
 use Rattle.regent_tree.specs.declared.types.Param.{Param}
 use Rattle.regent_tree.specs.declared.types.TypeTerm.{TypeTerm}
 use Rattle.regent_tree.specs.declared.types.TypeTerm.TheVariants as typed
-use Rattle.check_rules.specs.Lookup.{has_task}
+use Rattle.regent_tree.specs.Lookup.{has_task}
 use Rattle.check_rules.specs.Repeats.{Given}
 
 -- the starts, with their lines

@@ -1,15 +1,16 @@
 -- What stands where in a statement itself.
 use Rattle.std.specs.Prelude.{Bool, List, None, Option, Some, [], map, ◌++◌, ◌∷◌}
 use Rattle.regent_tree.specs.Scopes.{Scope}
-use Rattle.regent_tree.specs.StaticTypes.{StaticType, unknown_type}
+use Rattle.regent_tree.specs.declared.typing.StaticType.{StaticType}
+use Rattle.regent_tree.specs.declared.typing.StaticType.TheVariants.{Unknown as unknown_type}
 use Rattle.regent_tree.specs.Syntax.{Expression, Form, TaskTree, Tree, access_expr, assert_form, assign_form, call_form, fill_form, for_in_form, for_to_form, if_form, print_form, return_form, var_form, while_form}
 use Rattle.regent_tree.specs.Typing.{result_type}
 use Rattle.regent_tree.specs.declared.statement.How.{How}
 use Rattle.regent_tree.specs.declared.statement.How.TheVariants as how
 use Rattle.regent_tree.specs.declared.types.TypeTerm.{TypeTerm}
-use Rattle.check_rules.specs.Declared.{is_no_result_type, known_field, type_unless}
+use Rattle.check_rules.specs.Declarations.{is_no_result_type, known_field, type_unless}
 use Rattle.check_rules.specs.KnownTypes.{known_type, known_types}
-use Rattle.check_rules.specs.Lookup.{type_named}
+use Rattle.regent_tree.specs.Lookup.{type_named}
 use Rattle.check_rules.specs.Parts.{listed, tests_of}
 use Rattle.check_rules.specs.Shapes.{calling}
 use Rattle.check_rules.specs.Standing.{Spot, Standing, domain_spot, integer_spot, standing_in_call, stands, truth_spot, typed_spot, value_spot}

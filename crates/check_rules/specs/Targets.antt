@@ -2,18 +2,19 @@
 -- an index space, or an access that doesn't end in a field or a variable; a reduction's target
 -- isn't an integer.
 use Rattle.std.specs.Prelude.{Bool, List, false, length, nat_lt, not, true, ◌&&◌, ◌||◌}
-use Rattle.regent_tree.specs.Scopes.{Bound, Scope, bound_to}
-use Rattle.regent_tree.specs.StaticTypes.{StaticType}
+use Rattle.regent_tree.specs.Scopes.{Scope, bound_to}
+use Rattle.regent_tree.specs.declared.typing.Bound.{Bound}
+use Rattle.regent_tree.specs.declared.typing.StaticType.{StaticType}
 use Rattle.regent_tree.specs.Syntax.{Form, Name, Steps, TaskTree, Tree, access_expr, assign_form, at_step, field_step, no_step}
 use Rattle.regent_tree.specs.declared.statement.How.{How}
 use Rattle.regent_tree.specs.declared.statement.How.TheVariants as how
 use Rattle.check_rules.specs.KnownTypes.{known_type}
-use Rattle.check_rules.specs.Lookup.{is_bound}
+use Rattle.regent_tree.specs.Lookup.{is_bound}
 use Rattle.check_rules.specs.Sorts.{is_collection, is_integer, is_space, is_unknown_type, may_be}
 
 -- whether a name can't be assigned; parameters are the first bindings of a task
 abbrev pub is_fixed : TaskTree → Bound → Bool
-is_fixed t b = b.loop || nat_lt b.number (length t.params) || is_collection b.type
+is_fixed t b = b.by_loop || nat_lt b.number (length t.params) || is_collection b.static_type
 
 -- whether an access ends in `[e]`
 abbrev pub ends_in_element : Steps → Bool

@@ -3,7 +3,9 @@
 use Rattle.std.specs.List.{list_any}
 use Rattle.std.specs.Prelude.{Bool, List, false, is_none, not, true, ◌&&◌, ◌||◌}
 use Rattle.regent_tree.specs.Operators.{comparison}
-use Rattle.regent_tree.specs.StaticTypes.{StaticType, index_type, task_named}
+use Rattle.regent_tree.specs.StaticTypes.{task_named}
+use Rattle.regent_tree.specs.declared.typing.StaticType.{StaticType}
+use Rattle.regent_tree.specs.declared.typing.StaticType.TheVariants.{Index as index_type}
 use Rattle.regent_tree.specs.Syntax.{Tree}
 use Rattle.regent_tree.specs.Typing.{are_pointers, counting_as, is_pointer}
 use Rattle.regent_tree.specs.declared.expression.Comparison.{Comparison}
@@ -12,7 +14,7 @@ use Rattle.regent_tree.specs.declared.expression.Operator.{Operator}
 use Rattle.regent_tree.specs.declared.expression.Operator.TheVariants.{Compare, Compute}
 use Rattle.regent_tree.specs.declared.facts.Known.{Known}
 use Rattle.check_rules.specs.Fitting.{fits, fits_param}
-use Rattle.check_rules.specs.Lookup.{has_task}
+use Rattle.regent_tree.specs.Lookup.{has_task}
 use Rattle.check_rules.specs.Shapes.{Calling, Computing, Shape, Taking, access_shape, call_shape, chain_shape, element_of, field_of}
 use Rattle.check_rules.specs.Sorts.{is_integer, is_number, is_partition, is_region, is_space, is_truth, may_be, same_kind}
 use Rattle.check_rules.specs.Standing.{Spot, Standing, domain_spot, integer_spot, number_spot, param_spot, pointer_spot, space_spot, standing_in, truth_spot, typed_spot, value_spot}

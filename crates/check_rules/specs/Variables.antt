@@ -1,15 +1,18 @@
 -- Start values of variables, and the scope behind a statement where there may be breaches.
 use Rattle.std.specs.List.{list_any}
-use Rattle.std.specs.Prelude.{Bool, List, None, Option, Some, [], cond, false, map, not, ◌&&◌, ◌++◌, ◌||◌, ◌∷◌}
-use Rattle.regent_tree.specs.Scopes.{Bound, Scope, in_scope, knowing, known_of_type, with_name}
-use Rattle.regent_tree.specs.StaticTypes.{StaticType, type_said, unknown_type}
-use Rattle.regent_tree.specs.Syntax.{Expression, Form, Start, Tree, a_link, by_field_start, chain_expr, equal_start, no_link, plain_start, region_start, var_form}
-use Rattle.regent_tree.specs.Typing.{arithmetic_type, known_of_start, scope_after, start_type}
+use Rattle.std.specs.Prelude.{Bool, List, None, Option, Some, [], cond, false, map, not, true, ◌&&◌, ◌++◌, ◌||◌, ◌∷◌}
+use Rattle.regent_tree.specs.Scopes.{Scope, in_scope, knowing, known_of_type, with_name, past}
+use Rattle.regent_tree.specs.declared.typing.Bound.{Bound}
+use Rattle.regent_tree.specs.StaticTypes.{type_said}
+use Rattle.regent_tree.specs.declared.typing.StaticType.{StaticType}
+use Rattle.regent_tree.specs.declared.typing.StaticType.TheVariants.{Unknown as unknown_type}
+use Rattle.regent_tree.specs.Syntax.{Arms, Block, Expression, Form, Name, Otherwise, Start, Tree, a_link, a_statement, an_arm, by_field_start, chain_expr, do_form, else_block, equal_start, for_in_form, for_to_form, if_form, no_arm, no_else, no_link, no_statement, plain_start, region_start, then_statement, var_form, while_form}
+use Rattle.regent_tree.specs.Typing.{arithmetic_type, known_of_start, start_type, taken_from}
 use Rattle.regent_tree.specs.declared.facts.Known.{Known}
 use Rattle.regent_tree.specs.declared.types.Kind.TheVariants.{Int1d}
 use Rattle.regent_tree.specs.declared.types.TypeTerm.{TypeTerm}
 use Rattle.regent_tree.specs.declared.types.TypeTerm.TheVariants as typed
-use Rattle.check_rules.specs.Declared.{is_flawed_type, type_unless}
+use Rattle.check_rules.specs.Declarations.{is_flawed_type, type_unless}
 use Rattle.check_rules.specs.KnownTypes.{known_type}
 use Rattle.check_rules.specs.Names.{misnames_start}
 use Rattle.check_rules.specs.Partitions.{is_difference, miscolours_start, mispartitions_start}
@@ -80,15 +83,46 @@ known_of_known_start tree s None = []
 known_of_known_start tree s (Some start) =
     cond (is_flawed_start tree s start) [] (known_of_start tree s s.next (Some start))
 
--- the scope behind a statement: as in the meaning of programs, but where a variable's declared
--- type or start value has a breach, its type is unknown
-abbrev pub scope_behind : Tree → Scope → Form → Scope
-scope_behind tree s (var_form n t start) =
-    let type = variable_type tree s t start in
-    knowing (with_name s n type false)
-    (known_of_known_start tree s start ++ known_of_type type)
-scope_behind tree s form = scope_after tree s form
-
 -- a counted loop's variable is an integer where both bounds are
 abbrev pub counted_type : StaticType → StaticType → StaticType
 counted_type a b = type_unless (not (is_integer a && is_integer b)) (arithmetic_type a b)
+
+-- the scope in which the body of a loop begins
+abbrev pub scope_in_loop : Tree → Scope → Name → Expression → Scope
+scope_in_loop tree s n domain = with_name s n (taken_from (known_type tree s domain)) true
+
+abbrev pub scope_in_count : Tree → Scope → Name → Expression → Expression → Scope
+scope_in_count tree s n from to =
+    with_name s n (counted_type (known_type tree s from) (known_type tree s to)) true
+
+-- The scope behind a statement: as in the meaning of programs, but where a variable's declared type
+-- or start value has a breach, its type is unknown.
+abbrev mutual
+  pub scope_behind : Tree → Scope → Form → Scope
+  scope_behind tree s (var_form n t start) =
+      let type = variable_type tree s t start in
+      knowing (with_name s n type false)
+      (known_of_known_start tree s start ++ known_of_type type)
+  scope_behind tree s (if_form arms other) =
+      scope_behind_else tree (scope_behind_arms tree s arms) other
+  scope_behind tree s (while_form test body) = past s (scope_behind_block tree s body)
+  scope_behind tree s (for_in_form demanded n domain body) =
+      past s (scope_behind_block tree (scope_in_loop tree s n domain) body)
+  scope_behind tree s (for_to_form demanded n from to body) =
+      past s (scope_behind_block tree (scope_in_count tree s n from to) body)
+  scope_behind tree s (do_form body) = past s (scope_behind_block tree s body)
+  scope_behind tree s form = s
+
+  pub scope_behind_block : Tree → Scope → Block → Scope
+  scope_behind_block tree s no_statement = s
+  scope_behind_block tree s (then_statement (a_statement line form) rest) =
+      scope_behind_block tree (scope_behind tree s form) rest
+
+  pub scope_behind_arms : Tree → Scope → Arms → Scope
+  scope_behind_arms tree s no_arm = s
+  scope_behind_arms tree s (an_arm test body rest) =
+      scope_behind_arms tree (past s (scope_behind_block tree s body)) rest
+
+  pub scope_behind_else : Tree → Scope → Otherwise → Scope
+  scope_behind_else tree s no_else = s
+  scope_behind_else tree s (else_block body) = past s (scope_behind_block tree s body)

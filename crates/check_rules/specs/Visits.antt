@@ -1,17 +1,17 @@
 -- Going through a tree: its statements, each with its scope and line, and what stands in them; and
 -- the types that its lists of parameters and fields declare.
 use Rattle.std.specs.List.{list_any}
-use Rattle.std.specs.Prelude.{Bool, List, Some, [], filter, flat_map, map, true, ℕ, ◌++◌, ◌∷◌}
-use Rattle.regent_tree.specs.Scopes.{Bound, Scope, past, with_name}
+use Rattle.std.specs.Prelude.{Bool, List, Some, [], filter, flat_map, map, ℕ, ◌++◌, ◌∷◌}
+use Rattle.regent_tree.specs.Scopes.{Scope, bound_params, past}
+use Rattle.regent_tree.specs.declared.typing.Bound.{Bound}
 use Rattle.regent_tree.specs.Syntax.{Arms, Block, Expression, Form, ItemForm, ItemTree, Otherwise, Start, TaskTree, Tree, a_statement, access_expr, an_arm, assert_form, assign_form, call_form, do_form, else_block, fill_form, for_in_form, for_to_form, if_form, no_arm, no_else, no_statement, print_form, return_form, space_item, task_item, then_statement, var_form, while_form}
-use Rattle.regent_tree.specs.Typing.{scope_after_arms, scope_after_block, taken_from}
 use Rattle.regent_tree.specs.declared.types.Param.{Param}
 use Rattle.regent_tree.specs.declared.types.TypeTerm.{TypeTerm}
-use Rattle.check_rules.specs.Declared.{body_scope, params_beside}
-use Rattle.check_rules.specs.KnownTypes.{known_type, known_types, shape_of}
+use Rattle.check_rules.specs.Declarations.{body_scope, params_beside}
+use Rattle.check_rules.specs.KnownTypes.{known_types, shape_of}
 use Rattle.check_rules.specs.Parts.{listed, parts, tests_of}
 use Rattle.check_rules.specs.Shapes.{Calling, Shape, call_in, calling, written_in}
-use Rattle.check_rules.specs.Variables.{counted_type, expressions_in_start, scope_behind, written_in_start}
+use Rattle.check_rules.specs.Variables.{expressions_in_start, scope_behind, scope_behind_arms, scope_behind_block, scope_in_count, scope_in_loop, written_in_start}
 
 -- a statement with the task in which it stands, its line and the scope before it
 pub record Visit : Type 0 where
@@ -32,19 +32,19 @@ abbrev mutual
   -- the statements in the blocks of a statement
   pub visits_within : Tree → TaskTree → Scope → Form → List Visit
   visits_within tree t s (if_form arms other) =
-      visits_in_arms tree t s arms ++ visits_in_else tree t (scope_after_arms tree s arms) other
+      visits_in_arms tree t s arms ++ visits_in_else tree t (scope_behind_arms tree s arms) other
   visits_within tree t s (while_form test body) = visits_in tree t s body
-  visits_within tree t s (for_in_form demanded n domain body) = visits_in tree t
-      (with_name s n (taken_from (known_type tree s domain)) true) body
-  visits_within tree t s (for_to_form demanded n from to body) = visits_in tree t
-      (with_name s n (counted_type (known_type tree s from) (known_type tree s to)) true) body
+  visits_within tree t s (for_in_form demanded n domain body) =
+      visits_in tree t (scope_in_loop tree s n domain) body
+  visits_within tree t s (for_to_form demanded n from to body) =
+      visits_in tree t (scope_in_count tree s n from to) body
   visits_within tree t s (do_form body) = visits_in tree t s body
   visits_within tree t s form = []
 
   pub visits_in_arms : Tree → TaskTree → Scope → Arms → List Visit
   visits_in_arms tree t s no_arm = []
   visits_in_arms tree t s (an_arm test body rest) = visits_in tree t s body
-      ++ visits_in_arms tree t (past s (scope_after_block tree s body)) rest
+      ++ visits_in_arms tree t (past s (scope_behind_block tree s body)) rest
 
   pub visits_in_else : Tree → TaskTree → Scope → Otherwise → List Visit
   visits_in_else tree t s no_else = []
@@ -116,29 +116,38 @@ abbrev pub written_at : Tree → Visit → List TypeTerm
 written_at tree v = declared_at v.form ++ flat_map written_in_start (start_at v.form)
     ++ flat_map written_in (shapes_at tree v)
 
--- a parameter or field, with the names that its type may use
+-- A parameter or field, with the names that its type may use: as their types are written, and with
+-- the types of those that say none unknown.
 pub record Declaration : Type 0 where
+  pub written : List Bound
   pub names : List Bound
   pub param : Param
 
-abbrev pub declarations_in : List Bound → List Param → List Declaration
-declarations_in names params =
-    map (λ (p : Param). record { names = names; param = p }) params
+-- the parameters and fields of a list, whose types may use the names of some parameters
+abbrev pub declarations_in : Tree → List Param → List Param → List Declaration
+declarations_in tree params all = map (λ (p : Param). record {
+  written = bound_params tree params 0 params;
+  names = params_beside tree params;
+  param = p;
+}) all
 
 abbrev pub declarations_of_item : Tree → ItemForm → List Declaration
-declarations_of_item tree (space_item s) =
-    declarations_in (params_beside tree s.params) (s.params ++ s.fields)
-declarations_of_item tree (task_item t) =
-    declarations_in (params_beside tree t.params) t.params
+declarations_of_item tree (space_item s) = declarations_in tree s.params (s.params ++ s.fields)
+declarations_of_item tree (task_item t) = declarations_in tree t.params t.params
 declarations_of_item tree form = []
 
 abbrev pub declarations : Tree → List Declaration
 declarations tree = flat_map (λ (i : ItemTree). declarations_of_item tree i.form) tree
 
--- the lines of the parameters and fields for whose types something holds
+-- the lines of the parameters and fields for which something holds
+abbrev pub lines_of_declarations : Tree → (Declaration → Bool) → List ℕ
+lines_of_declarations tree test =
+    map (λ (d : Declaration). d.param.line) (filter test (declarations tree))
+
+-- and for whose types something holds
 abbrev pub lines_declaring : Tree → (List Bound → TypeTerm → Bool) → List ℕ
-lines_declaring tree test = map (λ (d : Declaration). d.param.line)
-    (filter (λ (d : Declaration). test d.names d.param.term) (declarations tree))
+lines_declaring tree test =
+    lines_of_declarations tree (λ (d : Declaration). test d.names d.param.term)
 
 -- where something holds for a type that is written in a statement
 abbrev pub any_written : Tree → Visit → (List Bound → TypeTerm → Bool) → Bool

@@ -1,14 +1,17 @@
 -- What parameters and fields are declared as, where there may be breaches: a type with a breach is
 -- unknown.
 use Rattle.std.specs.Prelude.{Bool, List, None, Option, Some, cond, false, get_or, map, not, true, ℕ, ◌||◌}
-use Rattle.regent_tree.specs.Scopes.{Bound, Scope, bound_params, scope_of}
-use Rattle.regent_tree.specs.StaticTypes.{StaticType, field_place, field_type, region_type, space_at, task_named, unknown_type}
+use Rattle.regent_tree.specs.Scopes.{Scope, bound_params, scope_of}
+use Rattle.regent_tree.specs.declared.typing.Bound.{Bound}
+use Rattle.regent_tree.specs.StaticTypes.{field_place, field_type, space_at, task_named}
+use Rattle.regent_tree.specs.declared.typing.StaticType.{StaticType}
+use Rattle.regent_tree.specs.declared.typing.StaticType.TheVariants.{Region as region_type, Unknown as unknown_type}
 use Rattle.regent_tree.specs.Syntax.{Name, TaskTree, Tree}
 use Rattle.regent_tree.specs.declared.types.Param.{Param}
 use Rattle.regent_tree.specs.declared.types.TypeTerm.{TypeTerm}
 use Rattle.regent_tree.specs.declared.types.TypeTerm.TheVariants as typed
 use Rattle.check_rules.specs.Counts.{miscounts_in_type}
-use Rattle.check_rules.specs.Lookup.{has_field}
+use Rattle.regent_tree.specs.Lookup.{has_field}
 use Rattle.check_rules.specs.Names.{misnames_in_type}
 use Rattle.check_rules.specs.Pointers.{mispoints_in_type}
 use Rattle.check_rules.specs.Spaces.{misfits_in_type, types_in_order}
@@ -36,7 +39,7 @@ term_at params i = get_or (map (λ (p : Param). p.term) params) i typed.Truth
 -- the names of a list of parameters, where the type of each that doesn't pass is unknown
 abbrev pub with_unknown : (TypeTerm → Bool) → List Param → List Bound → List Bound
 with_unknown flawed params names = map (λ (b : Bound). record b {
-  type = type_unless (flawed (term_at params b.number)) b.type;
+  static_type = type_unless (flawed (term_at params b.number)) b.static_type;
 }) names
 
 -- the names of a list of parameters as its types may use them, and as all else may

@@ -1,5 +1,5 @@
 use Rattle.std.specs.Prelude.{refl}
-use Rattle.check_rules.specs.NameExamples.{unbound_name_breaks, missing_things_breaks, past_its_block_breaks, two_of_a_name_breaks, causes_alone_breaks, pointer_to_number_breaks, beside_the_unbound_breaks}
+use Rattle.check_examples.specs.NameExamples.{unbound_name_breaks, missing_things_breaks, past_its_block_breaks, two_of_a_name_breaks, causes_alone_breaks, pointer_to_number_breaks, beside_the_unbound_breaks}
 
 pub unbound_name_holds : unbound_name_breaks
 unbound_name_holds = refl

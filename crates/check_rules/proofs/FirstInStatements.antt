@@ -1,0 +1,524 @@
+-- The first rule that a statement breaches, against the test of each rule on it, and the first breach
+-- in statements, against the lines on which each rule is breached.
+use Rattle.std.proofs.Common.{◌≡◌, ℕ, Bool, true, false, ◌||◌, not, List, [], ◌∷◌, ◌++◌, refl, ap, sym, ◌∙◌}
+use Rattle.std.specs.List.{list_all, list_any, flat_map}
+use Rattle.std.specs.Option.{option_or}
+use Rattle.std.proofs.lemmas.List.{append-nil}
+use Rattle.std.proofs.lemmas.List.Concat.{flat_map-append}
+use Rattle.std.proofs.lemmas.List.Folds.{list_any-append}
+use Rattle.regent_tree.specs.Lookup.{has_task}
+use Rattle.regent_tree.specs.Scopes.{Scope, past}
+use Rattle.regent_tree.specs.Syntax.{Arms, Block, Expression, Form, Otherwise, Start, TaskTree, Tree, a_statement, an_arm, assert_form, assign_form, call_form, do_form, else_block, for_in_form, for_to_form, if_form, no_arm, no_else, no_statement, then_statement, var_form, while_form, access_expr}
+use Rattle.regent_tree.specs.declared.rights.Wanted.{Wanted}
+use Rattle.regent_tree.specs.declared.types.TypeTerm.{TypeTerm}
+use Rattle.regent_tree.specs.declared.typing.Bound.{Bound}
+use Rattle.check_rules.specs.Breaches.{has_no_type, misbegins_at, miscounts_at, misfits_at, misnames_at, mispartitions_at, misplaces_at, mispoints_at, mistypes_at, reads_at}
+use Rattle.check_rules.specs.Constraints.{breaks_constraint}
+use Rattle.check_rules.specs.Counts.{miscounts_call, miscounts_in_type}
+use Rattle.check_rules.specs.Declarations.{params_of}
+use Rattle.check_rules.specs.FirstInExpressions.{first_in_expression}
+use Rattle.check_rules.specs.FirstInStatements.{first_in_arms, first_in_block, first_in_else, first_in_targets, first_of_form, first_of_start, first_within, told_on}
+use Rattle.check_rules.specs.Formats.{misprints_form}
+use Rattle.check_rules.specs.KnownTypes.{known_types}
+use Rattle.check_rules.specs.Launches.{is_demanded}
+use Rattle.check_rules.specs.Names.{misnames, misnames_form, misnames_in_type, misnames_start, misnames_task}
+use Rattle.check_rules.specs.Partitions.{miscolours_in_type, miscolours_start, mispartitions_call, mispartitions_start}
+use Rattle.check_rules.specs.Parts.{parts}
+use Rattle.check_rules.specs.Places.{misplaces}
+use Rattle.check_rules.specs.Pointers.{mispoints_in, mispoints_in_type}
+use Rattle.check_rules.specs.Privileges.{lacks, may_do, read_steps, read_targets, reads_in, reads_in_start, reductions_by, rights_declared, wanted_by_call, writes_by}
+use Rattle.check_rules.specs.Results.{misreturns}
+use Rattle.check_rules.specs.Shapes.{Calling, Shape, call_in, calling, written_in}
+use Rattle.check_rules.specs.Spaces.{misfits_call, misfits_in_type}
+use Rattle.check_rules.specs.Standing.{Standing, standing_in_call}
+use Rattle.check_rules.specs.Statements.{standing_in_form}
+use Rattle.check_rules.specs.Targets.{mistargets_form}
+use Rattle.check_rules.specs.Types.{misstands}
+use Rattle.check_rules.specs.Variables.{scope_behind, scope_behind_arms, scope_behind_block, scope_in_count, scope_in_loop, types_in_start, written_in_start}
+use Rattle.check_rules.specs.Visits.{Visit, any_written, call_of_form, calls_at, declared_at, heads_of, shapes_at, shapes_in, start_at, targets_of, visits_in, visits_in_arms, visits_in_else, visits_within}
+use Rattle.check_rules.specs.declared.rule.Rule.{Rule}
+use Rattle.check_rules.specs.declared.rule.Rule.TheVariants as rule
+use Rattle.check_rules.proofs.Exchange.{Finding, Tells, any_finding, asked, asked_of_all, by_test, list_any_either, list_any_flat, list_any_never, list_any_same, not_all, only, or_nothing, or_regrouped, or_same, tells_all, tells_same}
+use Rattle.check_rules.proofs.FirstInExpressions.{call_test, found, found-append, lacks_flat, of_call, of_standing, of_type, shape_test, standing_test, target_test, tells_expression, tells_target, type_test}
+use Rattle.check_rules.proofs.Lines.{TellsLine, line_if, line_or, line_told, line_two, lines_passing, lines_passing-append, lines_passing-cons}
+use Rattle.check_rules.proofs.Joined.{join_alone, join_calls, join_names, join_partitions, join_places, join_reads, join_types, join_written}
+
+-- what is wanted for two lists
+lacks-append : (tree : Tree) (task : TaskTree) (s : Scope) (ws others : List Wanted) →
+    lacks tree task s (ws ++ others) ≡ (lacks tree task s ws || lacks tree task s others)
+lacks-append tree task s ws others =
+    let may = may_do (rights_declared tree task) s.known in
+    let lacking : Wanted → Bool = λ w. not (may w) in
+    not_all may (ws ++ others) ∙ list_any-append lacking ws others
+    ∙ or_same (list_any lacking ws) (list_any lacking others) (not (list_all may ws))
+    (not (list_all may others)) (sym (not_all may ws)) (sym (not_all may others))
+
+module _ (tree : Tree) (task : TaskTree) (s : Scope) where
+  -- ---- start values
+
+  abbrev pub start_test : Start → Rule → Bool
+  start_test i rule.Name = list_any (misnames_in_type tree s.names) (written_in_start i)
+      || misnames_start tree s.names i
+  start_test i rule.Count = list_any (miscounts_in_type tree) (written_in_start i)
+  start_test i rule.Read = lacks tree task s (reads_in_start tree s.names i)
+  start_test i rule.Pointer = list_any (mispoints_in_type tree s.names) (written_in_start i)
+  start_test i rule.Spaces = list_any (misfits_in_type tree s.names) (written_in_start i)
+  start_test i rule.Partition = list_any (miscolours_in_type s.names) (written_in_start i)
+      || mispartitions_start tree s i || miscolours_start i (types_in_start tree s i)
+  start_test i q = false
+
+  abbrev pub start_findings : Start → List Finding
+  start_findings i = asked_of_all (of_type tree s.names) (written_in_start i)
+      ∷ asked (misnames_start tree s.names i) rule.Name
+      ∷ asked (mispartitions_start tree s i) rule.Partition
+      ∷ asked (miscolours_start i (types_in_start tree s i)) rule.Partition
+      ∷ asked (lacks tree task s (reads_in_start tree s.names i)) rule.Read
+      ∷ []
+
+  pub start_parts : (i : Start) (q : Rule) → any_finding (start_findings i) q ≡ start_test i q
+  start_parts i rule.Name =
+      ap (λ b. list_any (misnames_in_type tree s.names) (written_in_start i) || b) (or_nothing _)
+  start_parts i rule.Count = or_nothing _
+  start_parts i rule.Pointer = or_nothing _
+  start_parts i rule.Spaces = or_nothing _
+  start_parts i rule.Partition =
+      let written = list_any (miscolours_in_type s.names) (written_in_start i) in
+      ap (λ b. written || (mispartitions_start tree s i || b)) (or_nothing _)
+      ∙ sym (or_regrouped written (mispartitions_start tree s i)
+      (miscolours_start i (types_in_start tree s i)))
+  start_parts i rule.Read =
+      ap (λ b. b || (lacks tree task s (reads_in_start tree s.names i) || false))
+      (list_any_never (written_in_start i)) ∙ or_nothing _
+  start_parts i q = or_nothing _ ∙ list_any_never (written_in_start i)
+
+  abbrev pub of_start : Start → Finding
+  of_start i = by_test (first_of_start tree task s i) (start_test i) (start_findings i) refl
+      (start_parts i)
+
+  -- ---- expressions and targets
+
+  abbrev pub of_expression : Expression → Finding
+  of_expression e = record {
+    told = first_in_expression tree task s e;
+    test = found tree task s (parts e);
+    tells = tells_expression tree task s e;
+  }
+
+  abbrev pub targets_test : Form → Rule → Bool
+  targets_test (assign_form n steps how e) q = target_test tree task s n steps q
+  targets_test form q = false
+
+  pub tells_targets : (form : Form) →
+      Tells (first_in_targets tree task s form) (targets_test form)
+  tells_targets (assign_form n steps how e) = tells_target tree task s n steps
+  tells_targets (var_form n t start) = λ q. refl
+  tells_targets form = λ q. refl
+
+  abbrev pub of_targets : Form → Finding
+  of_targets form = record {
+    told = first_in_targets tree task s form;
+    test = targets_test form;
+    tells = tells_targets form;
+  }
+
+  -- the expressions of a statement whose tests are those of a rule
+  abbrev pub targets_asked : Form → Rule → List Expression
+  targets_asked form rule.Read = read_targets form
+  targets_asked form q = targets_of form
+
+  abbrev found_at : List Expression → Rule → Bool
+  found_at es q = found tree task s (flat_map parts es) q
+
+  found_heads : (es : List Expression) (q : Rule) →
+      list_any (λ e. found tree task s (parts e) q) es ≡ found_at es q
+  found_heads [] q = refl
+  found_heads (e ∷ es) q = ap (λ b. found tree task s (parts e) q || b) (found_heads es q)
+      ∙ sym (found-append tree task s (parts e) (flat_map parts es) q)
+
+  assigned : (e : Expression) (q : Rule) →
+      found tree task s (parts e) q ≡ found_at (e ∷ []) q
+  assigned e q = ap (λ es. found tree task s es q) (sym (append-nil (parts e)))
+
+  found_targets : (form : Form) (q : Rule) →
+      targets_test form q ≡ found_at (targets_asked form q) q
+  found_targets (assign_form n steps how e) rule.Read =
+      assigned (access_expr n (read_steps steps)) rule.Read
+  found_targets (assign_form n steps how e) rule.Name = assigned (access_expr n steps) rule.Name
+  found_targets (assign_form n steps how e) q = assigned (access_expr n steps) q
+  found_targets form rule.Read = refl
+  found_targets form q = refl
+
+  pub found_in_all : (form : Form) (q : Rule) →
+      (list_any (λ e. found tree task s (parts e) q) (heads_of s.names form)
+      || targets_test form q) ≡ found_at (heads_of s.names form ++ targets_asked form q) q
+  found_in_all form q = let heads = heads_of s.names form in
+      let targets = targets_asked form q in
+      or_same (list_any (λ e. found tree task s (parts e) q) heads) (targets_test form q)
+      (found_at heads q) (found_at targets q) (found_heads heads q) (found_targets form q)
+      ∙ sym (found-append tree task s (flat_map parts heads) (flat_map parts targets) q)
+      ∙ ap (λ es. found tree task s es q) (sym (flat_map-append parts heads targets))
+
+-- ---- a call that is a statement
+
+or_twice : (a : Bool) → (a || false || a) ≡ a
+or_twice true = refl
+or_twice false = refl
+
+called_named : (tree : Tree) (s : Scope) (form : Form) →
+    (list_any (misnames_task tree) (call_of_form tree s form) || misnames_form tree s.names form)
+    ≡ misnames_form tree s.names form
+called_named tree s (call_form name args) = or_twice (not (has_task tree name))
+called_named tree s (var_form n t start) = refl
+called_named tree s form = refl
+
+called_stands : (tree : Tree) (task : TaskTree) (s : Scope) (test : Standing → Bool) →
+    (form : Form) → (list_any (λ c. list_any test (standing_in_call tree c)) (call_of_form tree s form)
+    || list_any test (standing_in_form tree task s form))
+    ≡ list_any test (standing_in_form tree task s form)
+called_stands tree task s test (call_form name args) =
+    or_twice (list_any test (standing_in_call tree (calling name (known_types tree s args))))
+called_stands tree task s test (assert_form e) = refl
+called_stands tree task s test form = refl
+
+-- ---- statements
+
+module _ (tree : Tree) (v : Visit) where
+  -- the test of each rule on a statement
+  abbrev pub form_test : Rule → Bool
+  form_test rule.Name = misnames_at tree v
+  form_test rule.Type = mistypes_at tree v
+  form_test rule.Count = miscounts_at tree v
+  form_test rule.Place = misplaces_at tree v
+  form_test rule.Target = mistargets_form tree v.task v.scope v.form
+  form_test rule.Format = misprints_form tree v.scope v.form
+  form_test rule.Read = lacks tree v.task v.scope (reads_at tree v)
+  form_test rule.Write = lacks tree v.task v.scope (writes_by tree v.scope v.form)
+  form_test rule.Reduce = lacks tree v.task v.scope (reductions_by tree v.scope v.form)
+  form_test rule.CallPrivilege =
+      lacks tree v.task v.scope (flat_map (wanted_by_call tree) (calls_at tree v))
+  form_test rule.CallConstraint =
+      list_any (breaks_constraint tree v.scope.known) (calls_at tree v)
+  form_test rule.Pointer = mispoints_at tree v
+  form_test rule.Spaces = misfits_at tree v
+  form_test rule.Partition = mispartitions_at tree v
+  form_test rule.Return = misreturns v.task v.form
+  form_test rule.NotLaunch = is_demanded v.form
+  form_test q = false
+
+  -- what is asked of a statement beside its expressions and targets
+  abbrev form_tail : List Finding
+  form_tail = asked (misnames_form tree v.scope.names v.form) rule.Name
+      ∷ asked_of_all (of_start tree v.task v.scope) (start_at v.form)
+      ∷ asked_of_all (of_call tree v.task v.scope) (call_of_form tree v.scope v.form)
+      ∷ asked_of_all (of_standing v.scope.known) (standing_in_form tree v.task v.scope v.form)
+      ∷ asked (misbegins_at tree v.scope v.form) rule.Place
+      ∷ asked (mistargets_form tree v.task v.scope v.form) rule.Target
+      ∷ asked (misprints_form tree v.scope v.form) rule.Format
+      ∷ asked (lacks tree v.task v.scope (writes_by tree v.scope v.form)) rule.Write
+      ∷ asked (lacks tree v.task v.scope (reductions_by tree v.scope v.form)) rule.Reduce
+      ∷ asked (misreturns v.task v.form) rule.Return
+      ∷ asked (is_demanded v.form) rule.NotLaunch
+      ∷ []
+
+  abbrev form_findings : List Finding
+  form_findings = asked_of_all (of_type tree v.scope.names) (declared_at v.form)
+      ∷ asked (has_no_type v.form) rule.Type
+      ∷ asked_of_all (of_expression tree v.task v.scope) (heads_of v.scope.names v.form)
+      ∷ of_targets tree v.task v.scope v.form
+      ∷ form_tail
+
+  -- what a rule asks of expressions, targets among them
+  abbrev asked_at : Rule → List Shape
+  asked_at q = shapes_in tree v.scope
+      (heads_of v.scope.names v.form ++ targets_asked tree v.task v.scope v.form q)
+
+  abbrev shapes_test : Rule → Bool
+  shapes_test q = list_any (λ shape. shape_test tree v.task v.scope shape q) (asked_at q)
+
+  abbrev declared_test : Rule → Bool
+  declared_test q =
+      list_any (λ t. type_test tree v.scope.names t q) (declared_at v.form)
+
+  abbrev starts_test : Rule → Bool
+  starts_test q = list_any (λ i. start_test tree v.task v.scope i q) (start_at v.form)
+
+  abbrev called_test : Rule → Bool
+  called_test q =
+      list_any (λ c. call_test tree v.task v.scope c q) (call_of_form tree v.scope v.form)
+
+  abbrev stands_test : Rule → Bool
+  stands_test q = list_any (λ t. standing_test v.scope.known t q)
+      (standing_in_form tree v.task v.scope v.form)
+
+  written_joined : (test : List Bound → TypeTerm → Bool) → any_written tree v test
+      ≡ (list_any (test v.scope.names) (declared_at v.form)
+      || (list_any (λ i. list_any (test v.scope.names) (written_in_start i)) (start_at v.form)
+      || list_any (λ shape. list_any (test v.scope.names) (written_in shape)) (shapes_at tree v)))
+  written_joined test = let p = test v.scope.names in
+      let declared = declared_at v.form in
+      let started = flat_map written_in_start (start_at v.form) in
+      let within = flat_map written_in (shapes_at tree v) in
+      list_any-append p (declared ++ started) within
+      ∙ ap (λ b. b || list_any p within) (list_any-append p declared started)
+      ∙ or_regrouped (list_any p declared) (list_any p started) (list_any p within)
+      ∙ ap (λ b. list_any p declared || b) (or_same (list_any p started) (list_any p within)
+      (list_any (λ i. list_any p (written_in_start i)) (start_at v.form))
+      (list_any (λ shape. list_any p (written_in shape)) (shapes_at tree v))
+      (list_any_flat p written_in_start (start_at v.form))
+      (list_any_flat p written_in (shapes_at tree v)))
+
+  calls_joined : (test : Calling → Bool) → list_any test (calls_at tree v)
+      ≡ (list_any test (call_of_form tree v.scope v.form)
+      || list_any (λ shape. list_any test (call_in shape)) (shapes_at tree v))
+  calls_joined test = list_any-append test (call_of_form tree v.scope v.form)
+      (flat_map call_in (shapes_at tree v))
+      ∙ ap (λ b. list_any test (call_of_form tree v.scope v.form) || b)
+      (list_any_flat test call_in (shapes_at tree v))
+
+  -- the tests of a rule at a statement, where expressions and targets are one list
+  abbrev joined_test : Rule → Bool
+  joined_test q = declared_test q || (only rule.Type (has_no_type v.form) q
+      || (shapes_test q || any_finding form_tail q))
+
+  -- a rule that is asked of the statement alone
+  alone : (shapes : List Shape) (b : Bool) →
+      (list_any (λ (t : TypeTerm). false) (declared_at v.form)
+      || (list_any (λ (shape : Shape). false) shapes
+      || (list_any (λ (i : Start). false) (start_at v.form)
+      || (list_any (λ (c : Calling). false) (call_of_form tree v.scope v.form)
+      || (list_any (λ (t : Standing). false) (standing_in_form tree v.task v.scope v.form)
+      || (b || false)))))) ≡ b
+  alone shapes b = join_alone (list_any (λ (t : TypeTerm). false) (declared_at v.form))
+      (list_any (λ (shape : Shape). false) shapes)
+      (list_any (λ (i : Start). false) (start_at v.form))
+      (list_any (λ (c : Calling). false) (call_of_form tree v.scope v.form))
+      (list_any (λ (t : Standing). false) (standing_in_form tree v.task v.scope v.form)) b
+      (list_any_never (declared_at v.form)) (list_any_never shapes)
+      (list_any_never (start_at v.form)) (list_any_never (call_of_form tree v.scope v.form))
+      (list_any_never (standing_in_form tree v.task v.scope v.form))
+
+  joined_parts : (q : Rule) → joined_test q ≡ form_test q
+  joined_parts rule.Name = let names = v.scope.names in
+      join_names (declared_test rule.Name) (shapes_test rule.Name)
+      (misnames_form tree names v.form) (starts_test rule.Name) (called_test rule.Name)
+      (stands_test rule.Name)
+      (list_any (misnames tree names) (shapes_at tree v))
+      (list_any (λ shape. list_any (misnames_in_type tree names) (written_in shape))
+      (shapes_at tree v))
+      (list_any (λ i. list_any (misnames_in_type tree names) (written_in_start i))
+      (start_at v.form))
+      (list_any (misnames_start tree names) (start_at v.form))
+      (any_written tree v (misnames_in_type tree))
+      (list_any_either (misnames tree names)
+      (λ shape. list_any (misnames_in_type tree names) (written_in shape)) (shapes_at tree v))
+      (list_any_either (λ i. list_any (misnames_in_type tree names) (written_in_start i))
+      (misnames_start tree names) (start_at v.form))
+      (called_named tree v.scope v.form)
+      (list_any_never (standing_in_form tree v.task v.scope v.form))
+      (written_joined (misnames_in_type tree))
+  joined_parts rule.Type = join_types (declared_test rule.Type) (has_no_type v.form)
+      (shapes_test rule.Type) (starts_test rule.Type) (called_test rule.Type)
+      (stands_test rule.Type) (list_any_never (declared_at v.form))
+      (list_any_never (start_at v.form))
+      (called_stands tree v.task v.scope (misstands v.scope.known) v.form)
+  joined_parts rule.Count = join_written (declared_test rule.Count) (shapes_test rule.Count)
+      (starts_test rule.Count) (called_test rule.Count) (stands_test rule.Count)
+      (list_any (λ shape. list_any (miscounts_call tree) (call_in shape)) (shapes_at tree v))
+      (list_any (λ shape. list_any (miscounts_in_type tree) (written_in shape))
+      (shapes_at tree v))
+      (any_written tree v (λ names. miscounts_in_type tree))
+      (list_any (miscounts_call tree) (calls_at tree v))
+      (list_any_either (λ shape. list_any (miscounts_call tree) (call_in shape))
+      (λ shape. list_any (miscounts_in_type tree) (written_in shape)) (shapes_at tree v))
+      (list_any_never (standing_in_form tree v.task v.scope v.form))
+      (written_joined (λ names. miscounts_in_type tree))
+      (calls_joined (miscounts_call tree))
+  joined_parts rule.Place = join_places (declared_test rule.Place) (shapes_test rule.Place)
+      (starts_test rule.Place) (called_test rule.Place) (stands_test rule.Place)
+      (misbegins_at tree v.scope v.form)
+      (list_any_never (declared_at v.form)) (list_any_never (start_at v.form))
+      (called_stands tree v.task v.scope misplaces v.form)
+  joined_parts rule.Read = join_reads (declared_test rule.Read) (shapes_test rule.Read)
+      (starts_test rule.Read) (called_test rule.Read) (stands_test rule.Read)
+      (lacks tree v.task v.scope (reads_at tree v))
+      (list_any_never (declared_at v.form))
+      (list_any_never (call_of_form tree v.scope v.form))
+      (list_any_never (standing_in_form tree v.task v.scope v.form))
+      reads_joined
+    where
+      reads_joined : lacks tree v.task v.scope (reads_at tree v)
+          ≡ (shapes_test rule.Read || starts_test rule.Read)
+      reads_joined = let starts = reads_in_start tree v.scope.names in
+          lacks-append tree v.task v.scope (flat_map (reads_in tree) (asked_at rule.Read))
+          (flat_map starts (start_at v.form))
+          ∙ or_same (lacks tree v.task v.scope (flat_map (reads_in tree) (asked_at rule.Read)))
+          (lacks tree v.task v.scope (flat_map starts (start_at v.form)))
+          (shapes_test rule.Read) (starts_test rule.Read)
+          (lacks_flat tree v.task v.scope (reads_in tree) (asked_at rule.Read))
+          (lacks_flat tree v.task v.scope starts (start_at v.form))
+  joined_parts rule.CallPrivilege = join_calls (declared_test rule.CallPrivilege)
+      (shapes_test rule.CallPrivilege) (starts_test rule.CallPrivilege)
+      (called_test rule.CallPrivilege) (stands_test rule.CallPrivilege)
+      (lacks tree v.task v.scope (flat_map (wanted_by_call tree) (calls_at tree v)))
+      (list_any_never (declared_at v.form)) (list_any_never (start_at v.form))
+      (list_any_never (standing_in_form tree v.task v.scope v.form)) wanted_joined
+    where
+      wanted_joined : lacks tree v.task v.scope (flat_map (wanted_by_call tree) (calls_at tree v))
+          ≡ (called_test rule.CallPrivilege || shapes_test rule.CallPrivilege)
+      wanted_joined = let lacking : Calling → Bool = λ c. lacks tree v.task v.scope (wanted_by_call tree c) in
+          lacks_flat tree v.task v.scope (wanted_by_call tree) (calls_at tree v)
+          ∙ calls_joined lacking
+          ∙ ap (λ b. called_test rule.CallPrivilege || b)
+          (list_any_same (λ shape. list_any lacking (call_in shape))
+          (λ shape. lacks tree v.task v.scope (flat_map (wanted_by_call tree) (call_in shape)))
+          (λ shape. sym (lacks_flat tree v.task v.scope (wanted_by_call tree) (call_in shape)))
+          (shapes_at tree v))
+  joined_parts rule.CallConstraint = join_calls (declared_test rule.CallConstraint)
+      (shapes_test rule.CallConstraint) (starts_test rule.CallConstraint)
+      (called_test rule.CallConstraint) (stands_test rule.CallConstraint)
+      (list_any (breaks_constraint tree v.scope.known) (calls_at tree v))
+      (list_any_never (declared_at v.form)) (list_any_never (start_at v.form))
+      (list_any_never (standing_in_form tree v.task v.scope v.form))
+      (calls_joined (breaks_constraint tree v.scope.known))
+  joined_parts rule.Pointer = let names = v.scope.names in
+      join_written (declared_test rule.Pointer) (shapes_test rule.Pointer)
+      (starts_test rule.Pointer) (called_test rule.Pointer) (stands_test rule.Pointer)
+      (list_any mispoints_in (shapes_at tree v))
+      (list_any (λ shape. list_any (mispoints_in_type tree names) (written_in shape))
+      (shapes_at tree v))
+      (any_written tree v (mispoints_in_type tree))
+      (list_any mispoints_in (shapes_at tree v))
+      (list_any_either mispoints_in
+      (λ shape. list_any (mispoints_in_type tree names) (written_in shape)) (shapes_at tree v))
+      (list_any_never (standing_in_form tree v.task v.scope v.form))
+      (written_joined (mispoints_in_type tree))
+      (sym (ap (λ b. b || list_any mispoints_in (shapes_at tree v))
+      (list_any_never (call_of_form tree v.scope v.form))))
+  joined_parts rule.Spaces =
+      let misfits : Calling → Bool = λ (c : Calling). misfits_call (params_of tree c.task) c in
+      join_written (declared_test rule.Spaces) (shapes_test rule.Spaces)
+      (starts_test rule.Spaces) (called_test rule.Spaces) (stands_test rule.Spaces)
+      (list_any (λ shape. list_any misfits (call_in shape)) (shapes_at tree v))
+      (list_any (λ shape. list_any (misfits_in_type tree v.scope.names) (written_in shape))
+      (shapes_at tree v))
+      (any_written tree v (misfits_in_type tree)) (list_any misfits (calls_at tree v))
+      (list_any_either (λ shape. list_any misfits (call_in shape))
+      (λ shape. list_any (misfits_in_type tree v.scope.names) (written_in shape))
+      (shapes_at tree v))
+      (list_any_never (standing_in_form tree v.task v.scope v.form))
+      (written_joined (misfits_in_type tree)) (calls_joined misfits)
+  joined_parts rule.Partition = let names = v.scope.names in
+      let misfits : Calling → Bool =
+      λ (c : Calling). mispartitions_call (params_of tree c.task) c in
+      let coloured : Start → Bool = λ i. list_any (miscolours_in_type names) (written_in_start i) in
+      let parted : Start → Bool = λ i. mispartitions_start tree v.scope i in
+      let colours : Start → Bool = λ i. miscolours_start i (types_in_start tree v.scope i) in
+      join_partitions (declared_test rule.Partition) (shapes_test rule.Partition)
+      (starts_test rule.Partition) (called_test rule.Partition) (stands_test rule.Partition)
+      (list_any (λ shape. list_any misfits (call_in shape)) (shapes_at tree v))
+      (list_any (λ shape. list_any (miscolours_in_type names) (written_in shape))
+      (shapes_at tree v))
+      (list_any coloured (start_at v.form)) (list_any parted (start_at v.form))
+      (list_any colours (start_at v.form))
+      (any_written tree v miscolours_in_type) (list_any misfits (calls_at tree v))
+      (list_any_either (λ shape. list_any misfits (call_in shape))
+      (λ shape. list_any (miscolours_in_type names) (written_in shape)) (shapes_at tree v))
+      (list_any_either (λ i. coloured i || parted i) colours (start_at v.form)
+      ∙ ap (λ b. b || list_any colours (start_at v.form))
+      (list_any_either coloured parted (start_at v.form)))
+      (list_any_never (standing_in_form tree v.task v.scope v.form))
+      (written_joined miscolours_in_type) (calls_joined misfits)
+  joined_parts rule.Target = alone (asked_at rule.Target)
+      (mistargets_form tree v.task v.scope v.form)
+  joined_parts rule.Format = alone (asked_at rule.Format) (misprints_form tree v.scope v.form)
+  joined_parts rule.Write = alone (asked_at rule.Write)
+      (lacks tree v.task v.scope (writes_by tree v.scope v.form))
+  joined_parts rule.Reduce = alone (asked_at rule.Reduce)
+      (lacks tree v.task v.scope (reductions_by tree v.scope v.form))
+  joined_parts rule.Return = alone (asked_at rule.Return) (misreturns v.task v.form)
+  joined_parts rule.NotLaunch = alone (asked_at rule.NotLaunch) (is_demanded v.form)
+  joined_parts q = alone (asked_at q) false
+
+  -- a statement's own test, and its expressions' and targets' in one
+  form_parts : (q : Rule) → any_finding form_findings q ≡ form_test q
+  form_parts q = ap (λ b. declared_test q || (only rule.Type (has_no_type v.form) q || b))
+      (sym (or_regrouped
+      (list_any (λ e. found tree v.task v.scope (parts e) q) (heads_of v.scope.names v.form))
+      (targets_test tree v.task v.scope v.form q) (any_finding form_tail q))
+      ∙ ap (λ b. b || any_finding form_tail q) (found_in_all tree v.task v.scope v.form q))
+      ∙ joined_parts q
+
+  pub tells_form : Tells (first_of_form tree v.task v.scope v.form) form_test
+  tells_form = tells_same (first_of_form tree v.task v.scope v.form) (any_finding form_findings)
+      form_test form_parts (tells_all form_findings)
+
+-- ---- statements in order
+
+module _ (tree : Tree) where
+  -- the lines of these statements at which a rule is breached
+  abbrev pub lines_at : List Visit → Rule → List ℕ
+  lines_at vs q = lines_passing (λ (v : Visit). v.line) (λ v. form_test tree v q) vs
+
+  lines_at-append : (vs others : List Visit) (q : Rule) →
+      lines_at vs q ++ lines_at others q ≡ lines_at (vs ++ others) q
+  lines_at-append vs others q = sym (lines_passing-append (λ (v : Visit). v.line)
+      (λ v. form_test tree v q) vs others)
+
+  statement_whole : (v : Visit) (within rest : List Visit) (q : Rule) →
+      line_if (form_test tree v q) v.line ++ (lines_at within q ++ lines_at rest q)
+      ≡ lines_at ((v ∷ within) ++ rest) q
+  statement_whole v within rest q =
+      ap (λ ls. line_if (form_test tree v q) v.line ++ ls) (lines_at-append within rest q)
+      ∙ lines_passing-cons (λ (w : Visit). w.line) (λ w. form_test tree w q) v (within ++ rest)
+
+  mutual
+    pub tells_block : (task : TaskTree) (s : Scope) (b : Block) →
+        TellsLine (first_in_block tree task s b) (lines_at (visits_in tree task s b))
+    tells_block task s no_statement = λ q. refl
+    tells_block task s (then_statement (a_statement line form) rest) =
+        let v : Visit = record { task = task; scope = s; line = line; form = form } in
+        let within = visits_within tree task s form in
+        let behind = visits_in tree task (scope_behind tree s form) rest in
+        let rest_told = first_in_block tree task (scope_behind tree s form) rest in
+        line_two (told_on line (first_of_form tree task s form))
+        (option_or (first_within tree task s form) rest_told)
+        (λ q. line_if (form_test tree v q) line) (λ q. lines_at within q ++ lines_at behind q)
+        (lines_at ((v ∷ within) ++ behind)) (statement_whole v within behind)
+        (line_told line (first_of_form tree task s form) (form_test tree v) (tells_form tree v))
+        (line_or (first_within tree task s form) rest_told (lines_at within) (lines_at behind)
+        (tells_within task s form) (tells_block task (scope_behind tree s form) rest))
+
+    tells_within : (task : TaskTree) (s : Scope) (form : Form) →
+        TellsLine (first_within tree task s form) (lines_at (visits_within tree task s form))
+    tells_within task s (if_form arms other) =
+        let behind = scope_behind_arms tree s arms in
+        line_two (first_in_arms tree task s arms) (first_in_else tree task behind other)
+        (lines_at (visits_in_arms tree task s arms))
+        (lines_at (visits_in_else tree task behind other))
+        (lines_at (visits_within tree task s (if_form arms other)))
+        (lines_at-append (visits_in_arms tree task s arms)
+        (visits_in_else tree task behind other))
+        (tells_arms task s arms) (tells_else task behind other)
+    tells_within task s (while_form test body) = tells_block task s body
+    tells_within task s (for_in_form demanded n domain body) =
+        tells_block task (scope_in_loop tree s n domain) body
+    tells_within task s (for_to_form demanded n from to body) =
+        tells_block task (scope_in_count tree s n from to) body
+    tells_within task s (do_form body) = tells_block task s body
+    tells_within task s form = λ q. refl
+
+    tells_arms : (task : TaskTree) (s : Scope) (arms : Arms) →
+        TellsLine (first_in_arms tree task s arms) (lines_at (visits_in_arms tree task s arms))
+    tells_arms task s no_arm = λ q. refl
+    tells_arms task s (an_arm test body rest) =
+        let behind = past s (scope_behind_block tree s body) in
+        line_two (first_in_block tree task s body) (first_in_arms tree task behind rest)
+        (lines_at (visits_in tree task s body)) (lines_at (visits_in_arms tree task behind rest))
+        (lines_at (visits_in_arms tree task s (an_arm test body rest)))
+        (lines_at-append (visits_in tree task s body) (visits_in_arms tree task behind rest))
+        (tells_block task s body) (tells_arms task behind rest)
+
+    tells_else : (task : TaskTree) (s : Scope) (other : Otherwise) →
+        TellsLine (first_in_else tree task s other) (lines_at (visits_in_else tree task s other))
+    tells_else task s no_else = λ q. refl
+    tells_else task s (else_block body) = tells_block task s body
