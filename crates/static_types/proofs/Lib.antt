@@ -1,0 +1,4 @@
+pub mod Telling
+pub mod Scopes
+pub mod Agreement
+pub mod SaidInOrder

@@ -1,0 +1,15 @@
+use Rattle.std.proofs.Common.{◌++◌, ap, sym, ◌∙◌}
+use Rattle.std.proofs.lemmas.List.{append-nil, drop_all}
+use Rattle.regent_tree.specs.PlainProgram.{tree_of}
+use Rattle.static_types.specs.Params.{said_from}
+use Rattle.static_types.proofs.SaidInOrder.{types_as_said}
+use Rattle.static_types.proofs.params.said_params.Goals as goal
+
+pub returns : goal.returns
+returns c =
+    let tree = tree_of c.args.tables.now in
+    let params = c.args.params.now in
+    sym (append-nil c.loop-place.types.items)
+    ∙ ap (λ ps. c.loop-place.types.items ++ said_from tree params c.loop-place.place ps)
+    (sym (drop_all c.loop-place.place params c.loop-place-test.false))
+    ∙ c.loop-place.invariant ∙ sym (types_as_said tree params 0 params)

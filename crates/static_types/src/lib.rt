@@ -1,0 +1,31 @@
+//! Static types: what type terms say, what operators give, and what fits what.
+#![tactic(auto)]
+
+mod fitting;
+mod formats;
+mod looking;
+mod operators;
+mod params;
+mod said;
+mod sorts;
+mod stop;
+mod type_rules;
+
+pub use fitting::{agree_all, alike, fits, fits_param, has_wild, is_region_like};
+pub use formats::prints;
+pub use looking::{
+    Among, Arguments, Looking, all_looked_up, binding_of, has_param, number_at, number_bound,
+    place_in,
+};
+pub use operators::{arithmetic_type, behind_operator, behind_sign, counting_as, misoperates};
+pub use params::{differ_in, mispartition_in, put_in, said_params};
+pub use said::{number_type, type_said, written_pointer};
+pub use sorts::{
+    copy_reaches, copy_type, is_collection, is_index, is_integer, is_number, is_partition,
+    is_pointer, is_region, is_space, is_truth, is_unknown, is_unstructured, is_value,
+};
+pub use stop::Stop;
+pub use type_rules::{
+    check_type, miscolours_in_type, miscounts_in_type, misfits_in_type, misnames_in_type,
+    mispoints_in_type, names_partition, names_region, said_pointer,
+};

@@ -1,0 +1,327 @@
+//! The rules on written types.
+
+ghost use Rattle.std.specs.Prelude.{◌≡◌, length, map, IfOk, option_to_list};
+ghost use Rattle.std.specs.Option.{option_copied};
+ghost use Rattle.regent_tree.specs.Lookup.{space_used};
+ghost use Rattle.std.specs.List.{list_any};
+ghost use Rattle.regent_tree.specs.PlainProgram.{tree_of};
+ghost use Rattle.regent_tree.specs.StaticTypes.{written_pointer};
+ghost use Rattle.check_rules.specs.Declarations.{is_flawed_type, type_unless};
+ghost use Rattle.static_types.specs.Scopes.{in_names};
+ghost use Rattle.regent_tree.specs.declared.types.TypeTerm.TheVariants as typed;
+ghost use Rattle.check_rules.specs.Counts.{miscounts_use, miscounts_in_type, uses_of};
+ghost use Rattle.check_rules.specs.FirstInExpressions.{first_in_type};
+ghost use Rattle.check_rules.specs.Lookup.{names_a};
+ghost use Rattle.check_rules.specs.Names.{misses_region, misnames_in_use, misses_space, misnames_in_type};
+ghost use Rattle.check_rules.specs.Partitions.{is_unstructured_name, miscolours_in_type};
+ghost use Rattle.check_rules.specs.Pointers.{is_region_in, mispoints, mispoints_in_type};
+ghost use Rattle.check_rules.specs.Sorts as sort;
+ghost use Rattle.check_rules.specs.Spaces.{misfits_use, misfits_in_type};
+ghost use Rattle.check_rules.specs.Spaces as spaces;
+ghost use Rattle.static_types.specs.Telling.{Tells, Anything};
+
+use crate::params::{differ_in, said_params};
+use crate::said::written_pointer;
+use crate::sorts::{copy_type, is_partition, is_region, is_space, is_unknown, is_unstructured};
+use crate::stop::Stop;
+use check_rules::Rule;
+use program_tables::{Names, Tables};
+use regent_tree::{Kind, Name, Param, PointerTerm, Ref, SpaceUse, StaticType, TypeTerm};
+use std::alloc::{AllocError, Global};
+
+/// Whether a name is bound to a region, as far as is known.
+pub fn names_region(names: &Names, name: &Name) -> bool
+    ensures { result ≡ names_a sort.is_region names.now name.now }
+{
+    match names.bound_to(name) {
+        None => false,
+        Some(bound) => is_unknown(&bound.static_type) || is_region(&bound.static_type),
+    }
+}
+
+/// Whether a name is bound to a partition, as far as is known.
+pub fn names_partition(names: &Names, name: &Name) -> bool
+    ensures { result ≡ names_a sort.is_partition names.now name.now }
+{
+    match names.bound_to(name) {
+        None => false,
+        Some(bound) => is_unknown(&bound.static_type) || is_partition(&bound.static_type),
+    }
+}
+
+fn names_space(names: &Names, name: &Name) -> bool
+    ensures { result ≡ names_a sort.is_space names.now name.now }
+{
+    match names.bound_to(name) {
+        None => false,
+        Some(bound) => is_unknown(&bound.static_type) || is_space(&bound.static_type),
+    }
+}
+
+fn misses_region(names: &Names, region: &Ref) -> bool
+    ensures { result ≡ misses_region names.now region.now }
+{
+    match region {
+        Ref::Wild => false,
+        Ref::Named(name) => !names_region(names, name),
+    }
+}
+
+fn any_misses_region(names: &Names, regions: &[Ref]) -> bool
+    ensures { result ≡ list_any (misses_region names.now) regions.now }
+{
+    for region in regions {
+        if misses_region(names, region) {
+            return true;
+        }
+    }
+    false
+}
+
+fn misnames_in_use(tables: &Tables, names: &Names, used: &SpaceUse) -> bool
+    ensures { result ≡ misnames_in_use (tree_of tables.now) names.now used.now }
+{
+    tables.space(&used.name).is_none() || any_misses_region(names, used.args.as_slice())
+}
+
+fn misses_space(names: &Names, space: &Option<Name>) -> bool
+    ensures { result ≡ misses_space names.now space.now }
+{
+    match space {
+        None => false,
+        Some(name) => !names_space(names, name),
+    }
+}
+
+fn misnames_in_pointer(tables: &Tables, names: &Names, pointer: &PointerTerm) -> bool
+    ensures { result ≡ misnames_in_type (tree_of tables.now) names.now (typed.Pointer pointer.now) }
+{
+    misnames_in_use(tables, names, &pointer.space)
+        || any_misses_region(names, pointer.regions.as_slice())
+}
+
+/// Whether a name in a type isn't bound to a thing of the kind that its place needs.
+pub fn misnames_in_type(tables: &Tables, names: &Names, term: &TypeTerm) -> bool
+    ensures { result ≡ misnames_in_type (tree_of tables.now) names.now term.now }
+{
+    match term {
+        TypeTerm::Pointer(pointer) => misnames_in_pointer(tables, names, pointer),
+        TypeTerm::Region { space, .. } => misnames_in_use(tables, names, space),
+        TypeTerm::Partition {
+            region,
+            colours,
+            ..
+        } => !names_region(names, region) || misses_space(names, colours),
+        TypeTerm::Number(_) | TypeTerm::Truth | TypeTerm::Ispace(_) => false,
+    }
+}
+
+/// The field space use in a type.
+fn used_in(term: &TypeTerm) -> Option<&SpaceUse>
+    ensures { option_to_list (option_copied result) ≡ uses_of term.now }
+{
+    match term {
+        TypeTerm::Pointer(pointer) => Some(&pointer.space),
+        TypeTerm::Region { space, .. } => Some(space),
+        _ => None,
+    }
+}
+
+/// Whether a field space is used with another number of arguments than it has parameters.
+fn miscounts_use(tables: &Tables, used: &SpaceUse) -> bool
+    ensures { result ≡ miscounts_use (tree_of tables.now) used.now }
+{
+    tables.space(&used.name).is_some() && used.args.len() != space_params(tables, used).len()
+}
+
+/// The parameters of the field space that a use names.
+fn space_params<'a>(tables: &Tables<'a>, used: &SpaceUse) -> &'a [Param]
+    ensures { result.now ≡ (space_used (tree_of tables.now) used.now).params }
+{
+    match tables.space_at(tables.place_of_space(&used.name)) {
+        Some(space) => space.params.as_slice(),
+        None => &[],
+    }
+}
+
+/// Whether a field space is used in a type with a wrong number of arguments.
+pub fn miscounts_in_type(tables: &Tables, term: &TypeTerm) -> bool
+    ensures { result ≡ miscounts_in_type (tree_of tables.now) term.now }
+{
+    match used_in(term) {
+        Some(used) => miscounts_use(tables, used),
+        None => false,
+    }
+}
+
+/// Whether a type is of a region of a field space and kind, as far as is known.
+fn may_be_region_in(kind: Kind, space: u32, t: &StaticType) -> bool
+    ensures { result ≡ sort.may_be (is_region_in kind space) t.now }
+{
+    match t {
+        StaticType::Unknown => true,
+        StaticType::Region {
+            kind: other_kind,
+            space: other_space,
+            ..
+        } => kind == *other_kind && space == *other_space,
+        _ => false,
+    }
+}
+
+/// Whether a pointer type of a kind and field space can't lead into this region.
+#[tactic(auto, using(crate::proofs::Scopes::bound_to_none))]
+fn mispoints(names: &Names, kind: Kind, space: u32, region: &Ref) -> bool
+    ensures { result ≡ mispoints names.now kind space region.now }
+{
+    match region {
+        Ref::Wild => true,
+        Ref::Named(name) => match names.bound_to(name) {
+            Some(bound) => !may_be_region_in(kind, space, &bound.static_type),
+            None => false,
+        },
+    }
+}
+
+fn any_mispoints(names: &Names, kind: Kind, space: u32, regions: &[Ref]) -> bool
+    ensures { result ≡ list_any (mispoints names.now kind space) regions.now }
+{
+    for region in regions {
+        if mispoints(names, kind, space, region) {
+            return true;
+        }
+    }
+    false
+}
+
+fn mispoints_in_pointer(tables: &Tables, names: &Names, pointer: &PointerTerm) -> bool
+    ensures { result ≡ mispoints_in_type (tree_of tables.now) names.now (typed.Pointer pointer.now) }
+{
+    match tables.space(&pointer.space.name) {
+        Some(space) => any_mispoints(names, pointer.kind, space, pointer.regions.as_slice()),
+        None => false,
+    }
+}
+
+/// Whether a pointer type names what it can't lead into, or has `wild` in its own list.
+pub fn mispoints_in_type(tables: &Tables, names: &Names, term: &TypeTerm) -> bool
+    ensures { result ≡ mispoints_in_type (tree_of tables.now) names.now term.now }
+{
+    match term {
+        TypeTerm::Pointer(pointer) => mispoints_in_pointer(tables, names, pointer),
+        _ => false,
+    }
+}
+
+/// The type of what an argument of a field space names; of `wild` it is unknown.
+#[tactic(auto, using(crate::proofs::Scopes::bound_to_none))]
+fn type_of_ref(alloc: Global, names: &Names, region: &Ref) -> Result<StaticType, AllocError>
+    ensures { IfOk result (λ t. t ≡ spaces.type_of_ref names.now region.now) }
+{
+    match region {
+        Ref::Wild => Ok(StaticType::Unknown),
+        Ref::Named(name) => match names.bound_to(name) {
+            Some(bound) => copy_type(alloc, &bound.static_type),
+            None => Ok(StaticType::Unknown),
+        },
+    }
+}
+
+fn types_of_refs(
+    alloc: Global,
+    names: &Names,
+    regions: &[Ref],
+) -> Result<Vec<StaticType>, AllocError>
+    ensures { IfOk result (λ types. types.items ≡ map (spaces.type_of_ref names.now) regions.now) }
+{
+    let mut types = Vec::new(alloc);
+    for region in regions {
+        let t = type_of_ref(alloc, names, region)?;
+        types.push(t)?;
+    }
+    Ok(types)
+}
+
+/// Whether a region differs from the field space's parameter for which it stands.
+fn misfits_use(
+    alloc: Global,
+    tables: &Tables,
+    names: &Names,
+    used: &SpaceUse,
+) -> Result<bool, AllocError>
+    ensures { IfOk result (λ b. b ≡ misfits_use (tree_of tables.now) names.now used.now) }
+{
+    let types = types_of_refs(alloc, names, used.args.as_slice())?;
+    let params = said_params(alloc, tables, space_params(tables, used))?;
+    Ok(differ_in(&types, &params, &types))
+}
+
+/// Whether a field space in a type is used with a region that differs from its parameter.
+pub fn misfits_in_type(
+    alloc: Global,
+    tables: &Tables,
+    names: &Names,
+    term: &TypeTerm,
+) -> Result<bool, AllocError>
+    ensures { IfOk result (λ b. b ≡ misfits_in_type (tree_of tables.now) names.now term.now) }
+{
+    match used_in(term) {
+        Some(used) => misfits_use(alloc, tables, names, used),
+        None => Ok(false),
+    }
+}
+
+/// Whether a partition's type has colours of kind `ptr`.
+#[tactic(auto, using(crate::proofs::Scopes::bound_to_none))]
+pub fn miscolours_in_type(names: &Names, term: &TypeTerm) -> bool
+    ensures { result ≡ miscolours_in_type names.now term.now }
+{
+    match term {
+        TypeTerm::Partition {
+            colours: Some(name),
+            ..
+        } => match names.bound_to(name) {
+            Some(bound) => is_unstructured(&bound.static_type),
+            None => false,
+        },
+        _ => false,
+    }
+}
+
+/// The first rule that a written type breaches.
+pub fn check_type(
+    alloc: Global,
+    tables: &Tables,
+    names: &Names,
+    term: &TypeTerm,
+) -> Result<(), Stop>
+    ensures { Tells Anything result (first_in_type (tree_of tables.now) names.now term.now) }
+{
+    Stop::at(misnames_in_type(tables, names, term), Rule::Name)?;
+    Stop::at(miscounts_in_type(tables, term), Rule::Count)?;
+    Stop::at(mispoints_in_type(tables, names, term), Rule::Pointer)?;
+    Stop::at(misfits_in_type(alloc, tables, names, term)?, Rule::Spaces)?;
+    Stop::at(miscolours_in_type(names, term), Rule::Partition)
+}
+
+/// The type that a pointer type in an expression says, where it has no breach.
+pub fn said_pointer(
+    alloc: Global,
+    tables: &Tables,
+    names: &Names,
+    pointer: &PointerTerm,
+) -> Result<StaticType, Stop>
+    ensures { Tells (λ t. t ≡ type_unless
+        (is_flawed_type (tree_of tables.now) names.now (typed.Pointer pointer.now))
+        (written_pointer (tree_of tables.now) (in_names names.now) pointer.now)) result
+        (first_in_type (tree_of tables.now) names.now (typed.Pointer pointer.now)) }
+{
+    Stop::at(misnames_in_pointer(tables, names, pointer), Rule::Name)?;
+    Stop::at(miscounts_use(tables, &pointer.space), Rule::Count)?;
+    Stop::at(mispoints_in_pointer(tables, names, pointer), Rule::Pointer)?;
+    Stop::at(
+        misfits_use(alloc, tables, names, &pointer.space)?,
+        Rule::Spaces,
+    )?;
+    Ok(written_pointer(alloc, tables, names, pointer)?)
+}
