@@ -1,0 +1,11 @@
+pub mod Again
+pub mod Starts
+pub mod Written
+pub mod Declaring
+pub mod Made
+pub mod Places
+pub mod Lying
+pub mod Called
+pub mod Colours
+pub mod Members
+pub mod Prefixes

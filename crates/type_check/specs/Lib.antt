@@ -1,0 +1,11 @@
+pub mod Seen
+pub mod Halting
+pub mod Given
+pub mod Starts
+pub mod Declaring
+pub mod Sound
+pub mod Sites
+pub mod Steps
+pub mod Granting
+pub mod Lying
+pub mod Calls

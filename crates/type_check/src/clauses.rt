@@ -1,0 +1,91 @@
+//! What the clauses of a task name.
+
+ghost use Rattle.std.specs.Prelude.{◌≡◌, not};
+ghost use Rattle.std.specs.List.{list_any, list_all};
+ghost use Rattle.regent_tree.specs.PlainProgram.{tree_of};
+ghost use Rattle.regent_tree.specs.Lookup.{has_field, type_named};
+ghost use Rattle.check_rules.specs.Clauses.{is_no_region, lacks_fields, misdeclares, misdeclares_place};
+ghost use Rattle.check_rules.specs.Lookup.{region_has};
+
+use program_tables::{Names, Tables};
+use regent_tree::{Clause, Name, Place, StaticType};
+use static_types::{has_param, names_region};
+
+/// Whether the field space at a place has a field.
+fn has_field(tables: &Tables, space: u32, field: &Name) -> bool
+    ensures { result ≡ has_field (tree_of tables.now) space field.now }
+{
+    match tables.space_at(space) {
+        Some(space) => has_param(space.fields.as_slice(), field),
+        None => false,
+    }
+}
+
+/// Whether a region has a field; of what isn't a region nothing is said.
+fn region_has(tables: &Tables, t: &StaticType, field: &Name) -> bool
+    ensures { result ≡ region_has (tree_of tables.now) t.now field.now }
+{
+    match t {
+        StaticType::Region { space, .. } => has_field(tables, *space, field),
+        _ => true,
+    }
+}
+
+fn has_all(tables: &Tables, t: &StaticType, fields: &[Name]) -> bool
+    ensures { result ≡ list_all (region_has (tree_of tables.now) t.now) fields.now }
+{
+    for field in fields {
+        if !region_has(tables, t, field) {
+            return false;
+        }
+    }
+    true
+}
+
+/// Whether a place names no region, or a field that its region lacks.
+#[tactic(auto, using(static_types::proofs::Scopes::bound_to_none))]
+fn misdeclares_place(tables: &Tables, names: &Names, place: &Place) -> bool
+    ensures { result ≡ misdeclares_place (tree_of tables.now) names.now place.now }
+{
+    if !names_region(names, &place.region) {
+        return true;
+    }
+    match (&place.fields, names.bound_to(&place.region)) {
+        (Some(fields), Some(bound)) => !has_all(tables, &bound.static_type, fields.as_slice()),
+        _ => false,
+    }
+}
+
+fn any_misdeclares_place(tables: &Tables, names: &Names, places: &[Place]) -> bool
+    ensures { result ≡ list_any (misdeclares_place (tree_of tables.now) names.now) places.now }
+{
+    for place in places {
+        if misdeclares_place(tables, names, place) {
+            return true;
+        }
+    }
+    false
+}
+
+fn misdeclares(tables: &Tables, names: &Names, clause: &Clause) -> bool
+    ensures { result ≡ misdeclares (tree_of tables.now) names.now clause.now }
+{
+    match clause {
+        Clause::Grants { places, .. } => any_misdeclares_place(tables, names, places.as_slice()),
+        Clause::Within { a, b } | Clause::Apart { a, b } => {
+            !names_region(names, a) || !names_region(names, b)
+        }
+    }
+}
+
+/// Whether a clause names what isn't a region parameter, or a field that its region lacks.
+pub fn any_misdeclares(tables: &Tables, names: &Names, clauses: &[Clause]) -> bool
+    ensures { result ≡ list_any (misdeclares (tree_of tables.now) names.now) clauses.now }
+{
+    for clause in clauses {
+        if misdeclares(tables, names, clause) {
+            return true;
+        }
+    }
+    false
+}
