@@ -1,4 +1,5 @@
-//! The checker: a program that it accepts breaches none of the rules.
+//! The checker, as far as it stands: what the items of a program declare, its start, and expressions
+//! and calls in bodies. Statements, and the call that joins the parts, are still to come.
 #![tactic(auto)]
 
 mod accesses;
@@ -17,5 +18,7 @@ mod spots;
 mod starting;
 
 pub use declarations::{check_item, check_items};
+pub use declared::Declared;
+pub use halt::Halt;
 pub use repeats::{check_names, check_names_within};
 pub use starting::{check_start, input_widths};
