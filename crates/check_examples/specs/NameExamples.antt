@@ -1,11 +1,12 @@
 -- Breaches of the rules on names: 1, 2.
-use Rattle.std.specs.Prelude.{[], true, ◌∷◌, ◌≡◌}
+use Rattle.std.specs.Prelude.{[], codes, true, ◌∷◌, ◌≡◌}
 use Rattle.regent_tree.specs.Syntax.{Tree, null_expr, truth_expr}
 use Rattle.regent_tree.specs.declared.expression.Arithmetic.TheVariants.{Add}
 use Rattle.regent_tree.specs.declared.expression.Operator.TheVariants.{And}
+use Rattle.regent_tree.specs.declared.program.Clause.TheVariants.{Within}
 use Rattle.regent_tree.specs.declared.program.Grant.TheVariants.{Reads}
 use Rattle.regent_tree.specs.declared.types.NumberTerm.TheVariants.{Int64}
-use Rattle.worked_examples.specs.Words.{access, at, calc, call, connect, dot, each, equal, field_space, fields, get, grants, int, item, line, new_region, number, param, pointer, print, print_by, ref, region, scope, set, space, space_of, task, var, var_as, var_from, when}
+use Rattle.worked_examples.specs.Words.{access, at, both, calc, call, connect, dot, each, equal, field_space, fields, get, grants, int, item, line, new_region, number, param, partition, pointer, print, print_by, ref, region, scope, set, space, space_of, task, var, var_as, var_from, when, whole}
 use Rattle.check_rules.specs.Breaches.{breaches, breaks}
 
 -- A name that isn't bound: what follows from it is no breach.
@@ -155,3 +156,68 @@ beside_the_unbound_program =
 abbrev pub beside_the_unbound_breaks : Type 0
 beside_the_unbound_breaks =
     breaches beside_the_unbound_program ≡ breaks 1 2 ∷ breaks 3 2 ∷ []
+
+-- What follows from an unknown partition or region is none: a set operation, a value, a region variable
+-- with a declared type, and a call with it.
+--     fspace f { x : int64 }
+--     task t(r : region(ispace(int1d), f)) where reads(r) do end
+--     task main()
+--       var p = partition(equal, z, ispace(int1d, 2))
+--       var q = p & p
+--       var n : int64 = q
+--       var s : region(ispace(int1d), f) = z[0]
+--       t(s)
+--     end
+abbrev pub behind_unknown_program : Tree
+behind_unknown_program =
+    item 1 (field_space "f" [] (param 1 "x" (number Int64) ∷ []))
+    ∷ item 2
+    (task "t" (param 2 "r" (region (space_of "f" [])) ∷ [])
+    (grants (Reads ∷ []) (whole "r" ∷ []) ∷ []) [])
+    ∷ item 3
+    (task "main" [] []
+    (line 4 (var_from "p" (equal "z" (space (int 2))))
+    ∷ line 5 (var_from "q" (both "p" "p"))
+    ∷ line 6 (var_as "n" (number Int64) (get "q"))
+    ∷ line 7 (var_as "s" (region (space_of "f" [])) (access "z" (at (int 0) ∷ [])))
+    ∷ line 8 (call "t" (get "s" ∷ [])) ∷ []))
+    ∷ []
+
+abbrev pub behind_unknown_breaks : Type 0
+behind_unknown_breaks =
+    breaches behind_unknown_program ≡ breaks 1 4 ∷ breaks 1 7 ∷ []
+
+-- A clause on a name that is no parameter tells nothing of the regions that are made.
+--     fspace f { x : int64 }
+--     task t(r : region(ispace(int1d), f)) where r <= z do
+--       var v = region(ispace(int1d, 4), f)
+--       r[0].x = 1
+--     end
+--     task main() end
+abbrev pub clause_on_nothing_program : Tree
+clause_on_nothing_program =
+    item 1 (field_space "f" [] (param 1 "x" (number Int64) ∷ []))
+    ∷ item 2
+    (task "t" (param 2 "r" (region (space_of "f" [])) ∷ []) (Within (codes "r") (codes "z") ∷ [])
+    (line 3 (var_from "v" (new_region (space (int 4)) (space_of "f" [])))
+    ∷ line 4 (set "r" (at (int 0) ∷ dot "x" ∷ []) (int 1)) ∷ []))
+    ∷ item 6 (task "main" [] [] [])
+    ∷ []
+
+abbrev pub clause_on_nothing_breaks : Type 0
+clause_on_nothing_breaks =
+    breaches clause_on_nothing_program ≡ breaks 9 4 ∷ breaks 16 2 ∷ []
+
+-- Two partitions that name each other as their regions.
+--     task t(p : partition(disjoint, q),
+--            q : partition(disjoint, p)) end
+--     task main() end
+abbrev pub named_by_each_other_program : Tree
+named_by_each_other_program =
+    item 1 (task "t" (param 1 "p" (partition true "q") ∷ param 2 "q" (partition true "p") ∷ []) [] [])
+    ∷ item 3 (task "main" [] [] [])
+    ∷ []
+
+abbrev pub named_by_each_other_breaks : Type 0
+named_by_each_other_breaks =
+    breaches named_by_each_other_program ≡ breaks 1 1 ∷ breaks 1 2 ∷ []

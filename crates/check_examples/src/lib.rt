@@ -6,7 +6,7 @@
 #![tactic(auto)]
 
 ghost use Rattle.check_examples.specs.Accepted.{numbers_accepted, reductions_accepted, partitions_accepted, images_accepted, statements_accepted, calls_accepted, pointers_accepted, limits_accepted};
-ghost use Rattle.check_examples.specs.NameExamples.{unbound_name_breaks, missing_things_breaks, past_its_block_breaks, two_of_a_name_breaks, causes_alone_breaks, pointer_to_number_breaks, beside_the_unbound_breaks};
+ghost use Rattle.check_examples.specs.NameExamples.{behind_unknown_breaks, beside_the_unbound_breaks, causes_alone_breaks, clause_on_nothing_breaks, missing_things_breaks, named_by_each_other_breaks, past_its_block_breaks, pointer_to_number_breaks, two_of_a_name_breaks, unbound_name_breaks};
 ghost use Rattle.check_examples.specs.TypeExamples.{wrong_types_breaks, integer_for_index_breaks, wrong_count_breaks, region_as_value_breaks, fixed_targets_breaks, wrong_formats_breaks, field_of_bad_type_breaks, unknown_child_breaks, differences_breaks, no_result_breaks};
 ghost use Rattle.check_examples.specs.PrivilegeExamples.{write_under_reads_breaks, read_under_writes_breaks, other_reduction_breaks, two_regions_breaks, call_without_privilege_breaks, partition_by_field_breaks, privileges_of_parts_breaks};
 ghost use Rattle.check_examples.specs.ConstraintExamples.{overlapping_children_breaks, within_the_other_breaks};
@@ -235,6 +235,25 @@ pub fn causes_alone()
 #[tactic(auto, using(crate::proofs::NameExamples::pointer_to_number_holds))]
 pub fn pointer_to_number()
     ensures { pointer_to_number_breaks }
+{}
+
+/// What follows from an unknown partition or region is none: a set operation, a value, a region
+/// variable with a declared type, and a call with it.
+#[tactic(auto, using(crate::proofs::NameExamples::behind_unknown_holds))]
+pub fn behind_unknown()
+    ensures { behind_unknown_breaks }
+{}
+
+/// A clause on a name that is no parameter tells nothing of the regions that are made.
+#[tactic(auto, using(crate::proofs::NameExamples::clause_on_nothing_holds))]
+pub fn clause_on_nothing()
+    ensures { clause_on_nothing_breaks }
+{}
+
+/// Two partitions that name each other as their regions.
+#[tactic(auto, using(crate::proofs::NameExamples::named_by_each_other_holds))]
+pub fn named_by_each_other()
+    ensures { named_by_each_other_breaks }
 {}
 
 /// A breach beside an unbound name: a number in a conjunction.

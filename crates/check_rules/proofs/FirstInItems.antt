@@ -10,7 +10,8 @@ use Rattle.regent_tree.specs.declared.types.Param.{Param}
 use Rattle.check_rules.specs.Breaches.{Breach, breaches, breaks, broken, each_once, field_lines, lines_of_items, misnames_declared, constraint_lines, count_lines, declared_lines, format_lines, interference_lines, launch_lines, name_lines, partition_lines, place_lines, pointer_lines, privilege_lines, read_lines, reduce_lines, return_lines, space_lines, start_lines, target_lines, twice_lines, type_lines, write_lines}
 use Rattle.check_rules.specs.Clauses.{misdeclares_item}
 use Rattle.check_rules.specs.Counts.{miscounts_in_type}
-use Rattle.check_rules.specs.Declarations.{body_scope, is_no_field_type}
+use Rattle.check_rules.specs.Bodies.{body_scope}
+use Rattle.check_rules.specs.Declarations.{is_no_field_type}
 use Rattle.check_rules.specs.FirstInItems.{first_breach, first_declared, first_in_body, first_in_fields, first_of_field}
 use Rattle.check_rules.specs.Laws.{FirstIsOne, NoneWithoutFirst}
 use Rattle.check_rules.specs.Partitions.{miscolours_in_type}

@@ -5,3 +5,4 @@ pub mod FirstInStatements
 pub mod Joined
 pub mod Laws
 pub mod Lines
+pub mod Written

@@ -1,12 +1,12 @@
 -- What parameters and fields are declared as, where there may be breaches: a type with a breach is
 -- unknown.
 use Rattle.std.specs.Prelude.{Bool, List, None, Option, Some, cond, false, get_or, map, not, true, ℕ, ◌||◌}
-use Rattle.regent_tree.specs.Scopes.{Scope, bound_params, scope_of}
+use Rattle.regent_tree.specs.Scopes.{bound_params}
 use Rattle.regent_tree.specs.declared.typing.Bound.{Bound}
 use Rattle.regent_tree.specs.StaticTypes.{field_place, field_type, space_at, task_named}
 use Rattle.regent_tree.specs.declared.typing.StaticType.{StaticType}
 use Rattle.regent_tree.specs.declared.typing.StaticType.TheVariants.{Region as region_type, Unknown as unknown_type}
-use Rattle.regent_tree.specs.Syntax.{Name, TaskTree, Tree}
+use Rattle.regent_tree.specs.Syntax.{Name, Tree}
 use Rattle.regent_tree.specs.declared.types.Param.{Param}
 use Rattle.regent_tree.specs.declared.types.TypeTerm.{TypeTerm}
 use Rattle.regent_tree.specs.declared.types.TypeTerm.TheVariants as typed
@@ -50,10 +50,6 @@ params_beside tree params = let names = bound_params tree params 0 params in
 abbrev pub params_bound : Tree → List Param → List Bound
 params_bound tree params = let names = params_beside tree params in
     with_unknown (is_flawed_type tree names) params names
-
--- the scope in which a task's body begins
-abbrev pub body_scope : Tree → TaskTree → Scope
-body_scope tree t = record (scope_of tree t) { names = params_bound tree t.params }
 
 -- the types of a task's parameters
 abbrev pub params_of : Tree → Name → List StaticType

@@ -6,7 +6,8 @@ use Rattle.regent_tree.specs.declared.types.Param.{Param}
 use Rattle.check_rules.specs.Breaches.{Breach, breaks}
 use Rattle.check_rules.specs.Clauses.{misdeclares_item}
 use Rattle.check_rules.specs.Counts.{miscounts_in_type}
-use Rattle.check_rules.specs.Declarations.{body_scope, is_no_field_type}
+use Rattle.check_rules.specs.Bodies.{body_scope}
+use Rattle.check_rules.specs.Declarations.{is_no_field_type}
 use Rattle.check_rules.specs.FirstInStatements.{first_in_block, told_on}
 use Rattle.check_rules.specs.Names.{misnames_in_type}
 use Rattle.check_rules.specs.Partitions.{miscolours_in_type}

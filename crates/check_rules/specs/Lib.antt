@@ -21,6 +21,7 @@ pub mod Visits
 pub mod Privileges
 pub mod Constraints
 pub mod Clauses
+pub mod Bodies
 pub mod Results
 pub mod Repeats
 pub mod Starting
@@ -31,3 +32,4 @@ pub mod Rules
 pub mod FirstInExpressions
 pub mod FirstInStatements
 pub mod FirstInItems
+pub mod Sound

@@ -19,9 +19,8 @@ use Rattle.regent_tree.specs.declared.types.TypeTerm.TheVariants as typed
 use Rattle.check_rules.specs.Declarations.{known_field}
 use Rattle.regent_tree.specs.Lookup.{type_named}
 use Rattle.check_rules.specs.Lookup.{names_a}
-use Rattle.check_rules.specs.Names.{are_partitions}
 use Rattle.check_rules.specs.Shapes.{Calling}
-use Rattle.check_rules.specs.Sorts.{is_index, is_integer, is_region, is_unknown_type, is_unstructured, may_be, type_at}
+use Rattle.check_rules.specs.Sorts.{is_index, is_integer, is_partition, is_region, is_unknown_type, is_unstructured, may_be, type_at}
 
 -- ---- types
 
@@ -59,10 +58,15 @@ mispartitions_call params c = mispartition_in c.args params c.args
 
 -- ---- start values
 
+-- two names of partitions, as far as is known; a name that isn't bound may be one
+abbrev pub may_be_partitions : List Bound → Name → Name → Bool
+may_be_partitions names p q =
+    may_be is_partition (type_named names p) && may_be is_partition (type_named names q)
+
 -- the difference of two partitions: two bare names with one `-`, as the whole of a start value
 abbrev pub is_difference : List Bound → Expression → Bool
 is_difference names (chain_expr (access_expr p no_step)
-    (a_link (Compute Subtract) (access_expr q no_step) no_link)) = are_partitions names p q
+    (a_link (Compute Subtract) (access_expr q no_step) no_link)) = may_be_partitions names p q
 is_difference names e = false
 
 -- the two partitions of a set operation
@@ -71,7 +75,7 @@ operands_of names (both_start p q) = (p, q) ∷ []
 operands_of names (either_start p q) = (p, q) ∷ []
 operands_of names (plain_start (chain_expr (access_expr p no_step)
     (a_link (Compute Subtract) (access_expr q no_step) no_link))) =
-    cond (are_partitions names p q) ((p, q) ∷ []) []
+    cond (may_be_partitions names p q) ((p, q) ∷ []) []
 operands_of names start = []
 
 -- a field that tells colours is an integer or index, one that tells points an index or pointer

@@ -6,7 +6,7 @@ use Rattle.regent_tree.specs.declared.typing.Bound.{Bound}
 use Rattle.regent_tree.specs.StaticTypes.{type_said}
 use Rattle.regent_tree.specs.declared.typing.StaticType.{StaticType}
 use Rattle.regent_tree.specs.declared.typing.StaticType.TheVariants.{Unknown as unknown_type}
-use Rattle.regent_tree.specs.Syntax.{Arms, Block, Expression, Form, Name, Otherwise, Start, Tree, a_link, a_statement, an_arm, by_field_start, chain_expr, do_form, else_block, equal_start, for_in_form, for_to_form, if_form, no_arm, no_else, no_link, no_statement, plain_start, region_start, then_statement, var_form, while_form}
+use Rattle.regent_tree.specs.Syntax.{Arms, Block, Expression, Form, Name, Otherwise, Start, Tree, a_link, a_statement, an_arm, both_start, by_field_start, chain_expr, do_form, either_start, else_block, equal_start, for_in_form, for_to_form, if_form, no_arm, no_else, no_link, no_statement, plain_start, preimage_start, region_start, then_statement, var_form, while_form}
 use Rattle.regent_tree.specs.Typing.{arithmetic_type, known_of_start, start_type, taken_from}
 use Rattle.regent_tree.specs.declared.facts.Known.{Known}
 use Rattle.regent_tree.specs.declared.types.Kind.TheVariants.{Int1d}
@@ -14,9 +14,10 @@ use Rattle.regent_tree.specs.declared.types.TypeTerm.{TypeTerm}
 use Rattle.regent_tree.specs.declared.types.TypeTerm.TheVariants as typed
 use Rattle.check_rules.specs.Declarations.{is_flawed_type, type_unless}
 use Rattle.check_rules.specs.KnownTypes.{known_type}
+use Rattle.regent_tree.specs.Lookup.{type_named}
 use Rattle.check_rules.specs.Names.{misnames_start}
 use Rattle.check_rules.specs.Partitions.{is_difference, miscolours_start, mispartitions_start}
-use Rattle.check_rules.specs.Sorts.{is_integer, is_unknown_type}
+use Rattle.check_rules.specs.Sorts.{is_integer, is_region, is_unknown_type}
 use Rattle.check_rules.specs.Standing.{Standing, space_spot, stands}
 use Rattle.check_rules.specs.Types.{misstands}
 
@@ -52,6 +53,13 @@ abbrev pub types_in_start : Tree → Scope → Start → List StaticType
 types_in_start tree s start =
     map (known_type tree s) (expressions_in_start s.names start)
 
+-- the partitions that a set operation or a preimage is made of
+abbrev pub partitions_in_start : Start → List Name
+partitions_in_start (preimage_start parent p r f) = p ∷ []
+partitions_in_start (both_start p q) = p ∷ q ∷ []
+partitions_in_start (either_start p q) = p ∷ q ∷ []
+partitions_in_start start = []
+
 -- the start value has a breach, or depends on what is unknown
 abbrev pub is_flawed_start : Tree → Scope → Start → Bool
 is_flawed_start tree s start =
@@ -60,6 +68,7 @@ is_flawed_start tree s start =
     || list_any (misstands s.known) (standing_in_start tree s start)
     || list_any (is_flawed_type tree s.names) (written_in_start start)
     || misnames_start tree s.names start || mispartitions_start tree s start
+    || list_any (λ n. is_unknown_type (type_named s.names n)) (partitions_in_start start)
 
 abbrev pub known_start : Tree → Scope → Start → StaticType
 known_start tree s start =
@@ -69,9 +78,16 @@ abbrev pub declared_type : Tree → Scope → TypeTerm → StaticType
 declared_type tree s t =
     type_unless (is_flawed_type tree s.names t) (type_said tree (in_scope s) s.next t)
 
+-- what is known of a region variable comes from its start value, so where that has a breach nothing
+-- is known of it, whatever its declared type
+abbrev pub is_lost_region : Tree → Scope → StaticType → Option Start → Bool
+is_lost_region tree s t None = false
+is_lost_region tree s t (Some start) = is_region t && is_flawed_start tree s start
+
 -- the type of a new variable: as it is declared, or else as its start value's
 abbrev pub variable_type : Tree → Scope → Option TypeTerm → Option Start → StaticType
-variable_type tree s (Some t) start = declared_type tree s t
+variable_type tree s (Some t) start = let declared = declared_type tree s t in
+    type_unless (is_lost_region tree s declared start) declared
 variable_type tree s None (Some start) = known_start tree s start
 variable_type tree s None None = unknown_type
 

@@ -7,7 +7,8 @@ use Rattle.regent_tree.specs.declared.typing.Bound.{Bound}
 use Rattle.regent_tree.specs.Syntax.{Arms, Block, Expression, Form, ItemForm, ItemTree, Otherwise, Start, TaskTree, Tree, a_statement, access_expr, an_arm, assert_form, assign_form, call_form, do_form, else_block, fill_form, for_in_form, for_to_form, if_form, no_arm, no_else, no_statement, print_form, return_form, space_item, task_item, then_statement, var_form, while_form}
 use Rattle.regent_tree.specs.declared.types.Param.{Param}
 use Rattle.regent_tree.specs.declared.types.TypeTerm.{TypeTerm}
-use Rattle.check_rules.specs.Declarations.{body_scope, params_beside}
+use Rattle.check_rules.specs.Bodies.{body_scope}
+use Rattle.check_rules.specs.Declarations.{params_beside}
 use Rattle.check_rules.specs.KnownTypes.{known_types, shape_of}
 use Rattle.check_rules.specs.Parts.{listed, parts, tests_of}
 use Rattle.check_rules.specs.Shapes.{Calling, Shape, call_in, calling, written_in}

@@ -18,7 +18,7 @@ pub use looking::{
     place_in,
 };
 pub use operators::{arithmetic_type, behind_operator, behind_sign, counting_as, misoperates};
-pub use params::{differ_in, mispartition_in, put_in, said_params};
+pub use params::{bind_written, differ_in, mispartition_in, put_in, said_params};
 pub use said::{number_type, type_said, written_pointer};
 pub use sorts::{
     copy_reaches, copy_type, is_collection, is_index, is_integer, is_number, is_partition,

@@ -16,7 +16,7 @@ use crate::looking::{Among, number_at};
 use crate::said::type_said;
 use crate::sorts::copy_type;
 use plain_values::Sequence;
-use program_tables::Tables;
+use program_tables::{Names, Tables, copy_name};
 use regent_tree::{Kind, Param, Reach, StaticType, Term};
 use std::alloc::{AllocError, Global};
 
@@ -228,4 +228,19 @@ pub fn said_params(
         types.push(said)?;
     }
     Ok(types)
+}
+
+/// The names of parameters, with the types that are written.
+pub fn bind_written(alloc: Global, tables: &Tables, params: &[Param]) -> Result<Names, AllocError>
+    ensures { IfOk result (λ names. names ≡ bound_params (tree_of tables.now) params.now 0 params.now) }
+{
+    let mut names = Names::new(alloc);
+    let among = Among { params };
+    for (place, param) in params.iter().enumerate() {
+        let number = number_at(place)?;
+        let said = type_said(alloc, tables, &among, number, &param.term)?;
+        let name = copy_name(alloc, &param.name)?;
+        names.bind(name, number, said, false)?;
+    }
+    Ok(names)
 }

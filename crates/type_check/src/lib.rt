@@ -1,24 +1,75 @@
-//! The checker, as far as it stands: what the items of a program declare, its start, and expressions
-//! and calls in bodies. Statements, and the call that joins the parts, are still to come.
+//! The checker: whether a program keeps the rules.
 #![tactic(auto)]
 
-mod accesses;
-mod calls;
-mod clauses;
-mod declarations;
-mod declared;
-mod expressions;
-mod halt;
-mod privileges;
-mod repeats;
-mod rights;
-mod scope;
-mod site;
-mod spots;
-mod starting;
+ghost use Rattle.std.specs.Prelude.{◌≡◌, [], IfErr, IfOk};
+ghost use Rattle.regent_tree.specs.Limits.{WithinLimits};
+ghost use Rattle.regent_tree.specs.PlainProgram.{tree_of};
+ghost use Rattle.check_rules.specs.Breaches.{breaches};
+ghost use Rattle.check_rules.specs.FirstInItems.{first_breach};
+ghost use Rattle.declaration_check.specs.Halting.{TellsAt};
+ghost use Rattle.declaration_check.specs.Starts.{input_widths};
+ghost use Rattle.type_check.specs.Refusals.{Refuses};
 
-pub use declarations::{check_item, check_items};
-pub use declared::Declared;
-pub use halt::Halt;
-pub use repeats::{check_names, check_names_within};
-pub use starting::{check_start, input_widths};
+mod accepted;
+mod assignments;
+mod beginnings;
+mod bodies;
+mod fields;
+mod forms;
+mod heads;
+mod lines;
+mod named;
+mod partition_starts;
+mod starts;
+mod statements;
+mod variables;
+
+pub use accepted::{Accepted, CheckFault};
+use bodies::check_bodies;
+use declaration_check::{Halt, check_items, check_names, check_start, input_widths};
+use expression_check::Declared;
+use lane_kernels::Width;
+use program_tables::Tables;
+use regent_tree::Program;
+use std::alloc::Global;
+
+/// The first breach of a program, or the widths of its inputs: names that are given twice, the start,
+/// what the items declare, and then the bodies of the tasks.
+#[tactic(auto, using(check_rules::proofs::Written::all_is_sound))]
+fn checked(alloc: Global, program: &Program) -> Result<Vec<Width>, Halt>
+    ensures { TellsAt (λ ws. ws.items ≡ input_widths (tree_of program.now)) result
+        (first_breach (tree_of program.now)) }
+{
+    let tables = Tables::new(alloc, program)?;
+    check_names(alloc, program)?;
+    check_start(alloc, &tables)?;
+    check_items(alloc, &tables)?;
+    let inputs = input_widths(alloc, &tables)?;
+    let declared = Declared::new(tables);
+    check_bodies(alloc, &declared)?;
+    Ok(inputs)
+}
+
+/// Whether a program keeps the rules.
+///
+/// It is gone through once, up to the first breach. A breach is told by its rule's number and the line
+/// of the statement, parameter or item in which it stands, and the program comes back with it. Where
+/// memory ran out the program is dropped.
+#[tactic(auto, using(check_rules::proofs::FirstInItems::first_is_one, check_rules::proofs::FirstInItems::none_without_first))]
+pub fn check(alloc: Global, program: Program) -> Result<Accepted, CheckFault>
+    requires { WithinLimits (tree_of program) }
+    ensures same { IfOk result (λ accepted. accepted ≡ program) }
+    // A program is accepted exactly where it has no breach, unless memory ran out.
+    ensures accepted { IfOk result (λ _. breaches (tree_of program) ≡ []) }
+    ensures refused { IfErr result (Refuses program) }
+{
+    match checked(alloc, &program) {
+        Ok(inputs) => Ok(Accepted::new(program, inputs)),
+        Err(Halt::Breach { rule, line }) => Err(CheckFault::Refused {
+            program,
+            rule: rule.number(),
+            line,
+        }),
+        Err(Halt::Memory(error)) => Err(CheckFault::Memory(error)),
+    }
+}

@@ -1,0 +1,4 @@
+pub mod Halting
+pub mod Given
+pub mod Starts
+pub mod Declaring

@@ -1,0 +1,251 @@
+use Rattle.std.proofs.Common.{◌≡◌, None, ap, length, refl, subst, true, ◌∙◌}
+use Rattle.std.specs.Option.{option_map}
+use Rattle.std.proofs.lemmas.Result.{err_from_is_err_and}
+use Rattle.regent_tree.specs.Plain.{expression_of, expressions_in, start_of}
+use Rattle.regent_tree.specs.PlainProgram.{arms_in, block_in, otherwise_of}
+use Rattle.regent_tree.specs.Scopes.{past, with_name}
+use Rattle.regent_tree.specs.Syntax.{else_block, no_else}
+use Rattle.regent_tree.specs.declared.statement.What.TheBlock.{back-What-If-1}
+use Rattle.regent_tree.proofs.Rows.{arms_of_vec, block_of_vec, otherwise_of_option}
+use Rattle.static_types.specs.Telling.{Anything}
+use Rattle.type_check.proofs.ByForm.{bounds_first, call_first, domain_first, fill_first, print_first, tests_first, while_first}
+use Rattle.type_check.proofs.Varied.{var_first}
+use Rattle.check_rules.specs.FirstInStatements.{first_in_arms, first_in_block}
+use Rattle.check_rules.specs.Variables.{scope_behind_arms, scope_behind_block}
+use Rattle.declaration_check.specs.Halting.{TellsAt}
+use Rattle.expression_check.specs.Seen.{seen}
+use Rattle.expression_check.specs.Sites.{task_at, tree_at}
+use Rattle.type_check.proofs.Blocks.{block_left, block_names, head_found, head_none, head_passes, head_stops, loop_names, none_of_both, stops_after, told_after, told_as, told_found, told_here}
+use Rattle.type_check.proofs.Following.{arms_on, arms_stop, behind_arms_on, behind_on, block_on, block_stop}
+use Rattle.type_check.proofs.statements.+statement.Goals as goal
+
+pub arm_blocks-returns-in_err-nested : goal.arm_blocks-returns-in_err-nested
+arm_blocks-returns-in_err-nested t c =
+    let tree = tree_at c.args.site.now in
+    let task = task_at c.args.site.now in
+    let arms = c.args.arms.now in
+    let halt = c.in_err-nested.field-0.0 in
+    let p = err_from_is_err_and c.from_residual.result c.from_residual.ensures.1 in
+    rw (p.1, p.2) (arms_stop tree task arms c.loop-arm.arm-index c.arm-item.result (seen c.loop-arm.scope) halt
+    (first_in_arms tree task (seen c.args.scope.now) (arms_in arms)) c.loop-arm-test.true c.arm-item.is
+    (rw c.as_slice.ensures.value at c.in_err-nested.ensures) c.loop-arm.invariant.told)
+
+pub arm_blocks-loop-arm-preserved : goal.arm_blocks-loop-arm-preserved
+arm_blocks-loop-arm-preserved t c =
+    let tree = tree_at c.args.site.now in
+    let task = task_at c.args.site.now in
+    let arms = c.args.arms.now in
+    let i = c.loop-arm.arm-index in
+    let a = c.arm-item.result in
+    let s = seen c.loop-arm.scope in
+    let u = seen c.nested.new.scope in
+    let here = rw c.as_slice.ensures.value at c.in_ok-nested.ensures in
+    record {
+      told = arms_on tree task arms i a s u (first_in_arms tree task (seen c.args.scope.now) (arms_in arms))
+          c.loop-arm-test.true c.arm-item.is here.0 here.1 c.loop-arm.invariant.told;
+      known = behind_arms_on tree task arms i a s u (scope_behind_arms tree (seen c.args.scope.now) (arms_in arms))
+          c.loop-arm-test.true c.arm-item.is here.1 c.loop-arm.invariant.known;
+    }
+
+pub block-returns-in_err-statement : goal.block-returns-in_err-statement
+block-returns-in_err-statement t c =
+    let tree = tree_at c.args.site.now in
+    let task = task_at c.args.site.now in
+    let body = c.args.body.now in
+    let p = err_from_is_err_and c.from_residual.result c.from_residual.ensures.1 in
+    rw (p.1, p.2) (block_stop tree task body c.loop-stmt.stmt-index c.stmt-item.result (seen c.loop-stmt.scope)
+    c.in_err-statement.field-0.0 (first_in_block tree task (seen c.args.scope.now) (block_in body))
+    c.loop-stmt-test.true c.stmt-item.is c.in_err-statement.ensures c.loop-stmt.invariant.told)
+
+pub block-loop-stmt-preserved : goal.block-loop-stmt-preserved
+block-loop-stmt-preserved t c =
+    let tree = tree_at c.args.site.now in
+    let task = task_at c.args.site.now in
+    let body = c.args.body.now in
+    let i = c.loop-stmt.stmt-index in
+    let x = c.stmt-item.result in
+    let s = seen c.loop-stmt.scope in
+    let u = seen c.statement.new.scope in
+    record {
+      told = block_on tree task body i x s u (first_in_block tree task (seen c.args.scope.now) (block_in body))
+          c.loop-stmt-test.true c.stmt-item.is c.in_ok-statement.ensures.0 c.in_ok-statement.ensures.1 c.loop-stmt.invariant.told;
+      known = behind_on tree task body i x s u (scope_behind_block tree (seen c.args.scope.now) (block_in body))
+          c.loop-stmt-test.true c.stmt-item.is c.in_ok-statement.ensures.1 c.loop-stmt.invariant.known;
+    }
+
+pub loop_body-returns : goal.loop_body-returns
+loop_body-returns t c =
+    let tree = tree_at c.args.site.now in
+    let task = task_at c.args.site.now in
+    let s = seen c.args.scope.now in
+    let n = c.args.name.now in
+    let body = block_in c.args.body.now in
+    let inner : seen c.bind.new.self ≡ with_name s n c.args.taken true =
+    c.in_ok-bind.ensures ∙ ap (λ m. with_name s m c.args.taken true) c.in_ok-name.ensures in
+    let len : c.len-outer.result ≡ length c.args.scope.now.names = c.len-outer.ensures ∙ ap length c.names.ensures in (
+      subst (λ u. first_in_block tree task u body ≡ None) inner c.in_ok-block.ensures.0,
+      block_left s (scope_behind_block tree (with_name s n c.args.taken true) body) c.block.new.scope c.leave.new.self
+          (c.in_ok-block.ensures.1 ∙ ap (λ u. scope_behind_block tree u body) inner)
+          (loop_names tree s n c.args.taken body) (rw len at c.leave.ensures),
+    )
+
+pub nested-returns : goal.nested-returns
+nested-returns t c =
+    let tree = tree_at c.args.site.now in
+    let s = seen c.args.scope.now in
+    let body = block_in c.args.body.now in
+    let len : c.len-len.result ≡ length c.args.scope.now.names = c.len-len.ensures ∙ ap length c.names.ensures in (
+      c.in_ok-block.ensures.0,
+      block_left s (scope_behind_block tree s body) c.block.new.scope c.leave.new.self c.in_ok-block.ensures.1
+          (block_names tree s body) (rw len at c.leave.ensures),
+    )
+
+-- ---- `if`
+
+pub statement-returns-in_err-on_line-in-If : goal.statement-returns-in_err-on_line-in-If
+statement-returns-in_err-on_line-in-If t c =
+    let p = err_from_is_err_and c.from_residual.result c.from_residual.ensures.1 in
+    let told = rw c.as_slice.ensures.value at c.tests.ensures in
+    rw (c.in-If.is, arms_of_vec c.in-If.arms, p.1, p.2)
+    (head_stops Anything c.args.stmt.now.line c.tests.result c.in_err-on_line-in-If.field-0.0 _ _ _ c.in_err-on_line-in-If.ensures
+    (tests_first (tree_at c.args.site.now) (task_at c.args.site.now) (seen c.args.scope.now) (arms_in c.in-If.arms.items) (otherwise_of (back-What-If-1 c.in-If.other)))
+    told)
+
+pub statement-returns-in_err-arm_blocks-in-If : goal.statement-returns-in_err-arm_blocks-in-If
+statement-returns-in_err-arm_blocks-in-If t c =
+    let p = err_from_is_err_and c.from_residual-in_err-arm_blocks-in-If.result c.from_residual-in_err-arm_blocks-in-If.ensures.1 in
+    let h = c.in_err-arm_blocks-in-If.field-0.0 in
+    let told = rw c.as_slice.ensures.value at c.tests.ensures in
+    let blocks = rw c.as_slice-in-If.ensures.value at c.in_err-arm_blocks-in-If.ensures in
+    let none = head_none Anything c.args.stmt.now.line c.in_ok-on_line-in-If.field-0 c.tests.result _ _ c.in_ok-on_line-in-If.ensures
+    (tests_first (tree_at c.args.site.now) (task_at c.args.site.now) (seen c.args.scope.now) (arms_in c.in-If.arms.items) (otherwise_of (back-What-If-1 c.in-If.other)))
+    told in
+    rw (c.in-If.is, arms_of_vec c.in-If.arms, p.1, p.2)
+    (stops_after h _ _ none (told_here h _ _ blocks))
+
+pub statement-returns-in-Some : goal.statement-returns-in-Some
+statement-returns-in-Some t c =
+    let tree = tree_at c.args.site.now in
+    let task = task_at c.args.site.now in
+    let s = seen c.args.scope.now in
+    let arms = arms_in c.as_slice.result.now in
+    let body = block_in c.as_slice-in-Some.result.now in
+    let blocks = rw (c.as_slice-in-If.ensures.value, ← c.as_slice.ensures.value) at c.in_ok-arm_blocks-in-If.ensures in
+    let other = subst
+    (λ u. TellsAt (λ _. seen c.nested.new.scope ≡ past u (scope_behind_block tree u body)) c.nested.result (first_in_block tree task u body))
+    blocks.1 c.nested.ensures in
+    rw (c.in-If.is, arms_of_vec c.in-If.arms, otherwise_of_option c.in-If.other, c.in-Some.is, ← c.as_slice.ensures.value, ← c.as_slice-in-Some.ensures.value)
+    (head_passes Anything (λ _. seen c.nested.new.scope ≡ past (scope_behind_arms tree s arms) (scope_behind_block tree (scope_behind_arms tree s arms) body))
+    c.args.stmt.now.line c.in_ok-on_line-in-If.field-0 c.tests.result c.nested.result _ _ _ c.in_ok-on_line-in-If.ensures
+    (tests_first tree task s arms (else_block body)) c.tests.ensures
+    (told_after (λ _. seen c.nested.new.scope ≡ past (scope_behind_arms tree s arms) (scope_behind_block tree (scope_behind_arms tree s arms) body))
+    c.nested.result (first_in_arms tree task s arms) _ blocks.0 other))
+
+pub statement-returns-in-None : goal.statement-returns-in-None
+statement-returns-in-None t c =
+    let tree = tree_at c.args.site.now in
+    let task = task_at c.args.site.now in
+    let s = seen c.args.scope.now in
+    let arms = arms_in c.as_slice.result.now in
+    let blocks = rw (c.as_slice-in-If.ensures.value, ← c.as_slice.ensures.value) at c.in_ok-arm_blocks-in-If.ensures in
+    let none = head_none Anything c.args.stmt.now.line c.in_ok-on_line-in-If.field-0 c.tests.result _ _ c.in_ok-on_line-in-If.ensures
+    (tests_first tree task s arms no_else) c.tests.ensures in
+    rw (c.in-If.is, arms_of_vec c.in-If.arms, otherwise_of_option c.in-If.other, c.in-None.is, ← c.as_slice.ensures.value)
+    (none_of_both _ _ none (none_of_both _ _ blocks.0 refl), blocks.1)
+
+-- ---- loops
+
+pub statement-returns-in_ok-on_line-in-While : goal.statement-returns-in_ok-on_line-in-While
+statement-returns-in_ok-on_line-in-While t c =
+    rw (c.in-While.is, block_of_vec c.in-While.body, ← c.as_slice-in-While.ensures.value)
+    (head_passes Anything _ c.args.stmt.now.line c.in_ok-on_line-in-While.field-0 c.test.result c.nested-in-While.result _ _ _
+    c.in_ok-on_line-in-While.ensures
+    (while_first (tree_at c.args.site.now) (task_at c.args.site.now) (seen c.args.scope.now) (expression_of c.in-While.e) (block_in c.as_slice-in-While.result.now))
+    c.test.ensures c.nested-in-While.ensures)
+
+pub statement-returns-in_err-taken-in-ForIn : goal.statement-returns-in_err-taken-in-ForIn
+statement-returns-in_err-taken-in-ForIn t c =
+    let p = err_from_is_err_and c.from_residual-in_err-taken-in-ForIn.result c.from_residual-in_err-taken-in-ForIn.ensures.1 in
+    rw (c.in-ForIn.is, block_of_vec c.in-ForIn.body, p.1, p.2)
+    (head_stops _ c.args.stmt.now.line c.domain.result c.in_err-taken-in-ForIn.field-0.0 _ _ _ c.in_err-taken-in-ForIn.ensures
+    (domain_first (tree_at c.args.site.now) (task_at c.args.site.now) (seen c.args.scope.now) c.in-ForIn.demanded c.in-ForIn.name (expression_of c.in-ForIn.e) (block_in c.in-ForIn.body.items))
+    c.domain.ensures)
+
+pub statement-returns-in_ok-taken-in-ForIn : goal.statement-returns-in_ok-taken-in-ForIn
+statement-returns-in_ok-taken-in-ForIn t c =
+    let tree = tree_at c.args.site.now in
+    let task = task_at c.args.site.now in
+    let s = seen c.args.scope.now in
+    let n = c.in-ForIn.name in
+    let body = block_in c.as_slice-in-ForIn.result.now in
+    let found = head_found _ c.args.stmt.now.line c.in_ok-taken-in-ForIn.taken c.domain.result _ c.in_ok-taken-in-ForIn.ensures c.domain.ensures in
+    let blocks = subst
+    (λ u. TellsAt (λ _. seen c.loop_body.new.scope ≡ past s (scope_behind_block tree (with_name s n u true) body)) c.loop_body.result
+    (first_in_block tree task (with_name s n u true) body)) found c.loop_body.ensures in
+    rw (c.in-ForIn.is, block_of_vec c.in-ForIn.body, ← c.as_slice-in-ForIn.ensures.value)
+    (head_passes _ _ c.args.stmt.now.line c.in_ok-taken-in-ForIn.taken c.domain.result c.loop_body.result _ _ _
+    c.in_ok-taken-in-ForIn.ensures (domain_first tree task s c.in-ForIn.demanded n (expression_of c.in-ForIn.e) body)
+    c.domain.ensures blocks)
+
+pub statement-returns-in_err-counted-in-ForTo : goal.statement-returns-in_err-counted-in-ForTo
+statement-returns-in_err-counted-in-ForTo t c =
+    let p = err_from_is_err_and c.from_residual-in_err-counted-in-ForTo.result c.from_residual-in_err-counted-in-ForTo.ensures.1 in
+    rw (c.in-ForTo.is, block_of_vec c.in-ForTo.body, p.1, p.2)
+    (head_stops _ c.args.stmt.now.line c.bounds.result c.in_err-counted-in-ForTo.field-0.0 _ _ _ c.in_err-counted-in-ForTo.ensures
+    (bounds_first (tree_at c.args.site.now) (task_at c.args.site.now) (seen c.args.scope.now) c.in-ForTo.demanded c.in-ForTo.name
+    (expression_of c.in-ForTo.from) (expression_of c.in-ForTo.to) (block_in c.in-ForTo.body.items))
+    c.bounds.ensures)
+
+pub statement-returns-in_ok-counted-in-ForTo : goal.statement-returns-in_ok-counted-in-ForTo
+statement-returns-in_ok-counted-in-ForTo t c =
+    let tree = tree_at c.args.site.now in
+    let task = task_at c.args.site.now in
+    let s = seen c.args.scope.now in
+    let n = c.in-ForTo.name in
+    let body = block_in c.as_slice-in-ForTo.result.now in
+    let found = head_found _ c.args.stmt.now.line c.in_ok-counted-in-ForTo.counted c.bounds.result _ c.in_ok-counted-in-ForTo.ensures c.bounds.ensures in
+    let blocks = subst
+    (λ u. TellsAt (λ _. seen c.loop_body-in-ForTo.new.scope ≡ past s (scope_behind_block tree (with_name s n u true) body)) c.loop_body-in-ForTo.result
+    (first_in_block tree task (with_name s n u true) body)) found c.loop_body-in-ForTo.ensures in
+    rw (c.in-ForTo.is, block_of_vec c.in-ForTo.body, ← c.as_slice-in-ForTo.ensures.value)
+    (head_passes _ _ c.args.stmt.now.line c.in_ok-counted-in-ForTo.counted c.bounds.result c.loop_body-in-ForTo.result _ _ _
+    c.in_ok-counted-in-ForTo.ensures
+    (bounds_first tree task s c.in-ForTo.demanded n (expression_of c.in-ForTo.from) (expression_of c.in-ForTo.to) body)
+    c.bounds.ensures blocks)
+
+pub statement-returns-in-Do : goal.statement-returns-in-Do
+statement-returns-in-Do t c =
+    rw (c.in-Do.is, block_of_vec c.in-Do.body, ← c.as_slice-in-Do.ensures.value) c.nested-in-Do.ensures
+
+-- ---- statements without blocks
+
+pub statement-returns-in-Var : goal.statement-returns-in-Var
+statement-returns-in-Var t c =
+    rw (c.in-Var.is, c.on_line.ensures)
+    (told_as _ c.args.stmt.now.line c.variable.result _ _
+    (var_first (tree_at c.args.site.now) (task_at c.args.site.now) (seen c.args.scope.now) c.in-Var.name c.in-Var.term (option_map start_of c.in-Var.init))
+    c.variable.ensures)
+
+pub statement-returns-in-Fill : goal.statement-returns-in-Fill
+statement-returns-in-Fill t c =
+    let told = rw c.as_slice-in-Fill.ensures at c.fill.ensures in
+    rw (c.in-Fill.is, c.on_line-in-Fill.ensures)
+    (told_found _ c.args.stmt.now.line c.fill.result _ _
+    (fill_first (tree_at c.args.site.now) (task_at c.args.site.now) (seen c.args.scope.now) c.in-Fill.region c.in-Fill.fields (expression_of c.in-Fill.value))
+    (λ _. refl) told)
+
+pub statement-returns-in-Print : goal.statement-returns-in-Print
+statement-returns-in-Print t c =
+    let told = rw (c.as_slice-in-Print.ensures, c.as_slice-in-Print-2.ensures.value) at c.print.ensures in
+    rw (c.in-Print.is, c.on_line-in-Print.ensures)
+    (told_found _ c.args.stmt.now.line c.print.result _ _
+    (print_first (tree_at c.args.site.now) (task_at c.args.site.now) (seen c.args.scope.now) c.in-Print.alias c.in-Print.format (expressions_in c.in-Print.args.items))
+    (λ _. refl) told)
+
+pub statement-returns-in-Call : goal.statement-returns-in-Call
+statement-returns-in-Call t c =
+    let told = rw c.as_slice-in-Call.ensures.value at c.call_alone.ensures in
+    rw (c.in-Call.is, c.on_line-in-Call.ensures)
+    (told_found _ c.args.stmt.now.line c.call_alone.result _ _
+    (call_first (tree_at c.args.site.now) (task_at c.args.site.now) (seen c.args.scope.now) c.in-Call.task (expressions_in c.in-Call.args.items))
+    (λ _. refl) told)

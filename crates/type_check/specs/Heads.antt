@@ -1,0 +1,79 @@
+-- The first rule that a statement breaches in its own parts, form by form, in the order of the checker.
+use Rattle.std.specs.List.{list_any}
+use Rattle.std.specs.Option.{option_or}
+use Rattle.std.specs.Prelude.{Bool, List, Option, [], flat_map, map, not, ℕ, ◌||◌, ◌∷◌}
+use Rattle.regent_tree.specs.Lookup.{type_named}
+use Rattle.regent_tree.specs.Scopes.{Scope}
+use Rattle.regent_tree.specs.Syntax.{Expression, Expressions, Name, TaskTree, Tree}
+use Rattle.regent_tree.specs.declared.rights.Access.TheVariants.{Write}
+use Rattle.regent_tree.specs.declared.typing.Bound.{Bound}
+use Rattle.check_rules.specs.Declarations.{known_field}
+use Rattle.check_rules.specs.FirstInExpressions.{first_in_args, first_in_expression, first_of_call, first_of_standing}
+use Rattle.check_rules.specs.Formats.{misprints}
+use Rattle.check_rules.specs.KnownTypes.{known_type, known_types}
+use Rattle.check_rules.specs.Lookup.{names_a}
+use Rattle.check_rules.specs.Names.{misnames_region_field, misses_alias}
+use Rattle.check_rules.specs.Privileges.{lacks, wanted_of_region}
+use Rattle.check_rules.specs.Rules.{first_in, first_of, rule_if}
+use Rattle.check_rules.specs.Shapes.{calling}
+use Rattle.check_rules.specs.Sorts.{is_region}
+use Rattle.check_rules.specs.Standing.{domain_spot, integer_spot, stands, truth_spot, typed_spot, value_spot}
+use Rattle.check_rules.specs.declared.rule.Rule.{Rule}
+use Rattle.check_rules.specs.declared.rule.Rule.TheVariants as rule
+
+-- the test of a `while` or an `assert`
+abbrev pub first_of_test : Tree → TaskTree → Scope → Expression → Option Rule
+first_of_test tree task s e = first_of (first_in_expression tree task s e
+    ∷ first_of_standing [] (stands (known_type tree s e) truth_spot)
+    ∷ [])
+
+-- the tests of an `if`
+abbrev pub first_of_tests : Tree → TaskTree → Scope → List Expression → Option Rule
+first_of_tests tree task s es = first_of (first_in (first_in_expression tree task s) es
+    ∷ first_in (first_of_standing []) (map (λ t. stands t truth_spot) (map (known_type tree s) es))
+    ∷ [])
+
+-- the head of a loop over a region or an index space
+abbrev pub first_of_domain : Tree → TaskTree → Scope → Bool → Expression → Option Rule
+first_of_domain tree task s demanded e = first_of (first_in_expression tree task s e
+    ∷ first_of_standing [] (stands (known_type tree s e) domain_spot)
+    ∷ rule_if demanded rule.NotLaunch
+    ∷ [])
+
+-- the head of a loop between two bounds
+abbrev pub first_of_bounds : Tree → TaskTree → Scope → Bool → Expression → Expression → Option Rule
+first_of_bounds tree task s demanded from to = first_of (first_in_expression tree task s from
+    ∷ first_in_expression tree task s to
+    ∷ first_of_standing [] (stands (known_type tree s from) integer_spot)
+    ∷ first_of_standing [] (stands (known_type tree s to) integer_spot)
+    ∷ rule_if demanded rule.NotLaunch
+    ∷ [])
+
+-- ---- statements without blocks
+
+-- the region and the fields of a `fill`
+abbrev pub first_of_filled : Tree → List Bound → Name → List Name → Option Rule
+first_of_filled tree names r fields =
+    rule_if (not (names_a is_region names r) || list_any (misnames_region_field tree names r) fields) rule.Name
+
+abbrev pub first_of_fill : Tree → TaskTree → Scope → Name → List Name → Expression → Option Rule
+first_of_fill tree task s r fields e = let t = type_named s.names r in
+    first_of (first_in_expression tree task s e
+    ∷ first_of_filled tree s.names r fields
+    ∷ first_in (first_of_standing s.known)
+    (map (λ f. stands (known_type tree s e) (typed_spot (known_field tree t f))) fields)
+    ∷ rule_if (lacks tree task s (flat_map (wanted_of_region tree Write t) fields)) rule.Write
+    ∷ [])
+
+abbrev pub first_of_print : Tree → TaskTree → Scope → Option Name → List ℕ → Expressions → Option Rule
+first_of_print tree task s alias format args = let types = known_types tree s args in
+    first_of (first_in_args tree task s args
+    ∷ rule_if (misses_alias tree alias) rule.Name
+    ∷ first_in (first_of_standing []) (map (λ t. stands t value_spot) types)
+    ∷ rule_if (misprints format types) rule.Format
+    ∷ [])
+
+-- a call that stands alone
+abbrev pub first_of_call_alone : Tree → TaskTree → Scope → Name → Expressions → Option Rule
+first_of_call_alone tree task s n args = option_or (first_in_args tree task s args)
+    (first_of_call tree task s (calling n (known_types tree s args)))

@@ -1,0 +1,125 @@
+//! The bodies of tasks.
+
+ghost use Rattle.std.specs.Prelude.{◌≡◌, [], IfOk, OnOk, ◌++◌, length, option_to_list};
+ghost use Rattle.regent_tree.specs.PlainProgram.{item_tree_of, task_of, tree_of};
+ghost use Rattle.regent_tree.specs.Scopes.{bound_params, knowing, known_of_clause, known_of_clauses, known_of_params, param_term};
+ghost use Rattle.regent_tree.specs.Syntax.{ItemTree};
+ghost use Rattle.check_rules.specs.Bodies.{body_scope};
+ghost use Rattle.check_rules.specs.FirstInItems.{first_in_body};
+ghost use Rattle.check_rules.specs.FirstInStatements.{first_in_block};
+ghost use Rattle.check_rules.specs.Rules.{first_in};
+ghost use Rattle.check_rules.specs.Sound.{StandsIn};
+ghost use Rattle.declaration_check.specs.Halting.{TellsAt};
+ghost use Rattle.expression_check.specs.Seen.{seen};
+ghost use Rattle.static_types.specs.Telling.{Anything};
+
+use crate::statements::block;
+use crate::variables::{bind, know};
+use declaration_check::Halt;
+use expression_check::{Declared, Scope, Site, held_by, rights_declared};
+use program_tables::{Tables, copy_name};
+use regent_tree::{Clause, ItemKind, Known, Name, Param, Task, Term};
+use static_types::{Among, number_at, place_in, type_said};
+use std::alloc::{AllocError, Global};
+
+/// Binds parameters in a scope in which nothing is bound or known.
+fn bind_params(
+    alloc: Global,
+    tables: &Tables,
+    scope: &mut Scope,
+    params: &[Param],
+) -> Result<(), AllocError>
+    requires { seen scope.old ≡ record { names = []; known = []; next = 0 } }
+    ensures { OnOk result (seen scope.new ≡ record {
+      names = bound_params (tree_of tables.now) params.now 0 params.now;
+      known = known_of_params (bound_params (tree_of tables.now) params.now 0 params.now);
+      next = length params.now;
+    }) }
+{
+    let among = Among { params };
+    for (place, param) in params.iter().enumerate() {
+        let number = number_at(place)?;
+        let said = type_said(alloc, tables, &among, number, &param.term)?;
+        let name = copy_name(alloc, &param.name)?;
+        bind(scope, name, said, None)?;
+    }
+    Ok(())
+}
+
+fn param_term(params: &[Param], name: &Name) -> Result<Term, AllocError>
+    ensures { IfOk result (λ t. t ≡ param_term params.now name.now) }
+{
+    Ok(Term::Name(number_at(place_in(params, name))?))
+}
+
+/// What a clause tells of two parameters.
+fn known_of_clause(params: &[Param], clause: &Clause) -> Result<Option<Known>, AllocError>
+    ensures { IfOk result (λ known. option_to_list known ≡ known_of_clause params.now clause.now) }
+{
+    match clause {
+        Clause::Within { a, b } => {
+            let known = Known::Within(param_term(params, a)?, param_term(params, b)?);
+            Ok(Some(known))
+        }
+        Clause::Apart { a, b } => {
+            let known = Known::Apart(param_term(params, a)?, param_term(params, b)?);
+            Ok(Some(known))
+        }
+        Clause::Grants { .. } => Ok(None),
+    }
+}
+
+fn know_clauses(scope: &mut Scope, params: &[Param], clauses: &[Clause]) -> Result<(), AllocError>
+    ensures { OnOk result (seen scope.new
+        ≡ knowing (seen scope.old) (known_of_clauses params.now clauses.now)) }
+{
+    for clause in clauses {
+        let known = known_of_clause(params, clause)?;
+        know(scope, known)?;
+    }
+    Ok(())
+}
+
+/// The scope in which the body of a task of the program begins.
+fn body_scope(alloc: Global, declared: &Declared, task: &Task) -> Result<Scope, AllocError>
+    requires { StandsIn (tree_of declared.now) (task_of task.now) }
+    ensures { IfOk result (λ s. seen s ≡ body_scope (tree_of declared.now) (task_of task.now)) }
+{
+    let mut scope = Scope::new(alloc)?;
+    let params = task.params.as_slice();
+    bind_params(alloc, declared.tables(), &mut scope, params)?;
+    know_clauses(&mut scope, params, task.clauses.as_slice())?;
+    declared.has_sound_task(task);
+    Ok(scope)
+}
+
+/// Checks the body of a task of the program.
+fn check_body(alloc: Global, declared: &Declared, task: &Task) -> Result<(), Halt>
+    requires { StandsIn (tree_of declared.now) (task_of task.now) }
+    ensures { TellsAt Anything result (first_in_block (tree_of declared.now) (task_of task.now)
+        (body_scope (tree_of declared.now) (task_of task.now)) (task_of task.now).body) }
+{
+    let mut scope = body_scope(alloc, declared, task)?;
+    let types = declared.param_types(alloc, task)?;
+    let rights = rights_declared(alloc, declared, task, &types)?;
+    let site = Site {
+        alloc,
+        declared,
+        task,
+        held: held_by(alloc, &rights)?,
+    };
+    block(&site, &mut scope, task.body.as_slice())
+}
+
+/// Checks the bodies of all tasks.
+pub fn check_bodies(alloc: Global, declared: &Declared) -> Result<(), Halt>
+    ensures { TellsAt Anything result (first_in (λ (i : ItemTree). first_in_body (tree_of declared.now) i.form) (tree_of declared.now)) }
+{
+    let program = declared.tables().program();
+    for item in &program.items {
+        if let ItemKind::Task(task) = &item.what {
+            check_body(alloc, declared, task)?;
+        }
+    }
+    Ok(())
+}
