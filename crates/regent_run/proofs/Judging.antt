@@ -5,7 +5,6 @@ use Rattle.std.proofs.lemmas.Bool.{cases_lt}
 use Rattle.std.proofs.lemmas.List.{append-nil, length-append}
 use Rattle.run_io.specs.Source.{Moves, next_left}
 use Rattle.regent_tree.specs.Syntax.{Tree}
-use Rattle.regent_reader.specs.declared.fault.ReadFault.{ReadFault}
 use Rattle.regent_reader.specs.declared.fault.ReadFault.TheVariants.{TooLong, Lex}
 use Rattle.regent_reader.specs.Texts.{Outcome, Reads, is_long, has_tokens}
 use Rattle.regent_run.specs.declared.verdict.Verdict.{Verdict}
@@ -13,29 +12,40 @@ use Rattle.regent_run.specs.declared.verdict.Verdict.TheVariants as verdict
 use Rattle.regent_lex.specs.declared.fault.LexKind.{LexKind}
 use Rattle.regent_lex.specs.declared.fault.LexKind.TheVariants.{BadByte, Unclosed, NumberTooLarge, NameTooLong}
 use Rattle.regent_run.specs.Programs.{limit_in_token, syntax_line}
-use Rattle.regent_run.specs.Verdicts.{IsNoProgram, Judges, JudgesProgram, Refuses, SaysOfText}
+use Rattle.regent_run.specs.Verdicts.{IsNoProgram, Judges, JudgesAccepted, JudgesProgram, Refuses, SaysOfText}
+use Rattle.regent_run.specs.Words.{Deed, checks, runs}
+use Rattle.check_rules.specs.Breaches.{breaches}
 
--- a text that is refused for a fault comes to it
-pub refused_judges : (text : List ℕ) (numbers : List (List ℕ)) (fault : ReadFault) (v : Verdict) → Reads text (Err fault) → Refuses fault v → Judges text numbers v
-refused_judges text numbers fault verdict.Usage reads h = h
-refused_judges text numbers fault verdict.Unread reads h = h
-refused_judges text numbers fault verdict.NoMemory reads h = tt
-refused_judges text numbers fault (verdict.NoProgram message) reads h = (h.0, h.1, record { fault = fault; reads = reads; told = h.2 })
-refused_judges text numbers fault (verdict.PastLimit passed) reads h = record { fault = fault; reads = reads; told = h }
-refused_judges text numbers fault verdict.NotBuilt reads h = absurd h
-refused_judges text numbers fault verdict.OtherInputs reads h = absurd h
-refused_judges text numbers fault (verdict.Finished printed) reads h = absurd h
+-- a text that was read and has no breach comes to what its program comes to
+accepted_judges : (text : List ℕ) (tree : Tree) (deed : Deed) (v : Verdict) → Reads text (Ok tree) → breaches tree ≡ [] → JudgesAccepted tree deed v → Judges text deed v
+accepted_judges text tree checks v reads sound h =
+    subst (λ (w : Verdict). Judges text checks w) (sym h) (refl, record { tree = tree; reads = reads; sound = sound })
+accepted_judges text tree (runs numbers) verdict.Usage reads sound h = h
+accepted_judges text tree (runs numbers) verdict.Unread reads sound h = h
+accepted_judges text tree (runs numbers) verdict.NoMemory reads sound h = tt
+accepted_judges text tree (runs numbers) (verdict.NoProgram message) reads sound h = absurd h
+accepted_judges text tree (runs numbers) (verdict.PastLimit passed) reads sound h = absurd h
+accepted_judges text tree (runs numbers) (verdict.Refused message) reads sound h = absurd h
+accepted_judges text tree (runs numbers) verdict.NotBuilt reads sound h = (numbers, refl, record { tree = tree; reads = reads; sound = sound; form = h })
+accepted_judges text tree (runs numbers) verdict.OtherInputs reads sound h =
+    (numbers, refl, record { tree = tree; reads = reads; sound = sound; form = h.0; inputs = h.1; given = h.2; other = h.3 })
+accepted_judges text tree (runs numbers) (verdict.Finished printed) reads sound h =
+    (numbers, refl, record { tree = tree; reads = reads; sound = sound; inputs = h.0; given = h.1; prints = h.2 })
+accepted_judges text tree (runs numbers) verdict.Accepted reads sound h = absurd h
 
 -- a text that was read comes to what its program comes to
-pub program_judges : (text : List ℕ) (numbers : List (List ℕ)) (tree : Tree) (v : Verdict) → Reads text (Ok tree) → JudgesProgram tree numbers v → Judges text numbers v
-program_judges text numbers tree verdict.Usage reads h = h
-program_judges text numbers tree verdict.Unread reads h = h
-program_judges text numbers tree verdict.NoMemory reads h = tt
-program_judges text numbers tree (verdict.NoProgram message) reads h = absurd h
-program_judges text numbers tree (verdict.PastLimit passed) reads h = absurd h
-program_judges text numbers tree verdict.NotBuilt reads h = record { tree = tree; reads = reads; form = h }
-program_judges text numbers tree verdict.OtherInputs reads h = record { tree = tree; reads = reads; form = h.0; inputs = h.1; given = h.2; other = h.3 }
-program_judges text numbers tree (verdict.Finished printed) reads h = record { tree = tree; reads = reads; inputs = h.0; given = h.1; prints = h.2 }
+pub program_judges : (text : List ℕ) (deed : Deed) (tree : Tree) (v : Verdict) → Reads text (Ok tree) → JudgesProgram tree deed v → Judges text deed v
+program_judges text deed tree verdict.NoMemory reads h = tt
+program_judges text deed tree (verdict.Refused message) reads h =
+    (h.rule, h.line, h.told, record { tree = tree; reads = reads; breach = h.breach })
+program_judges text deed tree verdict.Usage reads h = accepted_judges text tree deed verdict.Usage reads h.0 h.1
+program_judges text deed tree verdict.Unread reads h = accepted_judges text tree deed verdict.Unread reads h.0 h.1
+program_judges text deed tree (verdict.NoProgram message) reads h = accepted_judges text tree deed (verdict.NoProgram message) reads h.0 h.1
+program_judges text deed tree (verdict.PastLimit passed) reads h = accepted_judges text tree deed (verdict.PastLimit passed) reads h.0 h.1
+program_judges text deed tree verdict.NotBuilt reads h = accepted_judges text tree deed verdict.NotBuilt reads h.0 h.1
+program_judges text deed tree verdict.OtherInputs reads h = accepted_judges text tree deed verdict.OtherInputs reads h.0 h.1
+program_judges text deed tree (verdict.Finished printed) reads h = accepted_judges text tree deed (verdict.Finished printed) reads h.0 h.1
+program_judges text deed tree verdict.Accepted reads h = accepted_judges text tree deed verdict.Accepted reads h.0 h.1
 
 -- ---- from the bytes that were read to the text that the begin left
 
@@ -46,15 +56,17 @@ left_on later read None texts is moves = let e : Some (next_left texts) ≡ None
 left_on later read (Some rest) texts is moves = let e : Some (next_left texts) ≡ Some (read ++ rest) = rw is at moves in (rest, refl, cc)
 
 -- of a text that is read to its end all is said
-says_of_read : (numbers : List (List ℕ)) (v : Verdict) (texts : List (List ℕ)) (before now : ℕ) → Judges (next_left texts) numbers v → SaysOfText (Some texts) numbers before now v
-says_of_read numbers verdict.Usage texts before now h = h
-says_of_read numbers verdict.Unread texts before now h = absurd h
-says_of_read numbers verdict.NoMemory texts before now h = tt
-says_of_read numbers (verdict.NoProgram message) texts before now h = h
-says_of_read numbers (verdict.PastLimit passed) texts before now h = h
-says_of_read numbers verdict.NotBuilt texts before now h = h
-says_of_read numbers verdict.OtherInputs texts before now h = h
-says_of_read numbers (verdict.Finished printed) texts before now h = h
+says_of_read : (deed : Deed) (v : Verdict) (texts : List (List ℕ)) (before now : ℕ) → Judges (next_left texts) deed v → SaysOfText (Some texts) deed before now v
+says_of_read deed verdict.Usage texts before now h = h
+says_of_read deed verdict.Unread texts before now h = absurd h
+says_of_read deed verdict.NoMemory texts before now h = tt
+says_of_read deed (verdict.NoProgram message) texts before now h = h
+says_of_read deed (verdict.PastLimit passed) texts before now h = h
+says_of_read deed (verdict.Refused message) texts before now h = h
+says_of_read deed verdict.NotBuilt texts before now h = h
+says_of_read deed verdict.OtherInputs texts before now h = h
+says_of_read deed (verdict.Finished printed) texts before now h = h
+says_of_read deed verdict.Accepted texts before now h = h
 
 -- a text that is too long comes to that alone, however it goes on
 long_reads : (read : List ℕ) (outcome : Outcome) → 1048576 < length read → Reads read outcome → outcome ≡ Err TooLong
@@ -66,43 +78,55 @@ still_long text read rest outcome is long reads =
     let size : length text ≡ length read + length rest = ap length is ∙ length-append read rest in
     subst (λ (o : Outcome). Reads text o) (sym (long_reads read outcome long reads)) (is_long (omega (arith, size, long)))
 
-long_judges : (text read rest : List ℕ) (numbers : List (List ℕ)) (v : Verdict) → text ≡ read ++ rest → 1048576 < length read → Judges read numbers v → Judges text numbers v
-long_judges text read rest numbers verdict.Usage is long h = h
-long_judges text read rest numbers verdict.Unread is long h = h
-long_judges text read rest numbers verdict.NoMemory is long h = tt
-long_judges text read rest numbers (verdict.NoProgram message) is long h =
+long_judges : (text read rest : List ℕ) (deed : Deed) (v : Verdict) → text ≡ read ++ rest → 1048576 < length read → Judges read deed v → Judges text deed v
+long_judges text read rest deed verdict.Usage is long h = h
+long_judges text read rest deed verdict.Unread is long h = h
+long_judges text read rest deed verdict.NoMemory is long h = tt
+long_judges text read rest deed (verdict.NoProgram message) is long h =
     (h.0, h.1, record { fault = h.2.fault; reads = still_long text read rest _ is long h.2.reads; told = h.2.told })
-long_judges text read rest numbers (verdict.PastLimit passed) is long h = record { fault = h.fault; reads = still_long text read rest _ is long h.reads; told = h.told }
-long_judges text read rest numbers verdict.NotBuilt is long h = record { tree = h.tree; reads = still_long text read rest _ is long h.reads; form = h.form }
-long_judges text read rest numbers verdict.OtherInputs is long h =
-    record { tree = h.tree; reads = still_long text read rest _ is long h.reads; form = h.form; inputs = h.inputs; given = h.given; other = h.other }
-long_judges text read rest numbers (verdict.Finished printed) is long h =
-    record { tree = h.tree; reads = still_long text read rest _ is long h.reads; inputs = h.inputs; given = h.given; prints = h.prints }
+long_judges text read rest deed (verdict.PastLimit passed) is long h = record { fault = h.fault; reads = still_long text read rest _ is long h.reads; told = h.told }
+long_judges text read rest deed (verdict.Refused message) is long h =
+    let b = h.3 in
+    (h.0, h.1, h.2, record { tree = b.tree; reads = still_long text read rest _ is long b.reads; breach = b.breach })
+long_judges text read rest deed verdict.NotBuilt is long h =
+    let b = h.2 in
+    (h.0, h.1, record { tree = b.tree; reads = still_long text read rest _ is long b.reads; sound = b.sound; form = b.form })
+long_judges text read rest deed verdict.OtherInputs is long h =
+    let b = h.2 in
+    (h.0, h.1, record { tree = b.tree; reads = still_long text read rest _ is long b.reads; sound = b.sound; form = b.form; inputs = b.inputs; given = b.given; other = b.other })
+long_judges text read rest deed (verdict.Finished printed) is long h =
+    let b = h.2 in
+    (h.0, h.1, record { tree = b.tree; reads = still_long text read rest _ is long b.reads; sound = b.sound; inputs = b.inputs; given = b.given; prints = b.prints })
+long_judges text read rest deed verdict.Accepted is long h =
+    let b = h.1 in
+    (h.0, record { tree = b.tree; reads = still_long text read rest _ is long b.reads; sound = b.sound })
 
-says_on : (text read rest : List ℕ) (numbers : List (List ℕ)) (v : Verdict) → text ≡ read ++ rest → (length read ≤ 1048576 → rest ≡ []) →
-    (1048576 < length read) ⊎ (length read ≤ 1048576) → Judges read numbers v → Judges text numbers v
-says_on text read rest numbers v is whole (inl long) h = long_judges text read rest numbers v is long h
-says_on text read rest numbers v is whole (inr short) h =
-    subst (λ (t : List ℕ). Judges t numbers v) (sym (is ∙ ap (λ r. read ++ r) (whole short) ∙ append-nil read)) h
+says_on : (text read rest : List ℕ) (deed : Deed) (v : Verdict) → text ≡ read ++ rest → (length read ≤ 1048576 → rest ≡ []) →
+    (1048576 < length read) ⊎ (length read ≤ 1048576) → Judges read deed v → Judges text deed v
+says_on text read rest deed v is whole (inl long) h = long_judges text read rest deed v is long h
+says_on text read rest deed v is whole (inr short) h =
+    subst (λ (t : List ℕ). Judges t deed v) (sym (is ∙ ap (λ r. read ++ r) (whole short) ∙ append-nil read)) h
 
-says_nothing : (read : List ℕ) (numbers : List (List ℕ)) (v : Verdict) (before now : ℕ) → Judges read numbers v → SaysOfText None numbers before now v
-says_nothing read numbers verdict.Usage before now h = h
-says_nothing read numbers verdict.Unread before now h = absurd h
-says_nothing read numbers verdict.NoMemory before now h = tt
-says_nothing read numbers (verdict.NoProgram message) before now h = (h.0, h.1, tt)
-says_nothing read numbers (verdict.PastLimit passed) before now h = tt
-says_nothing read numbers verdict.NotBuilt before now h = tt
-says_nothing read numbers verdict.OtherInputs before now h = tt
-says_nothing read numbers (verdict.Finished printed) before now h = tt
+says_nothing : (read : List ℕ) (deed : Deed) (v : Verdict) (before now : ℕ) → Judges read deed v → SaysOfText None deed before now v
+says_nothing read deed verdict.Usage before now h = h
+says_nothing read deed verdict.Unread before now h = absurd h
+says_nothing read deed verdict.NoMemory before now h = tt
+says_nothing read deed (verdict.NoProgram message) before now h = (h.0, h.1, tt)
+says_nothing read deed (verdict.PastLimit passed) before now h = tt
+says_nothing read deed (verdict.Refused message) before now h = (h.0, h.1, h.2, tt)
+says_nothing read deed verdict.NotBuilt before now h = (h.0, h.1, tt)
+says_nothing read deed verdict.OtherInputs before now h = (h.0, h.1, tt)
+says_nothing read deed (verdict.Finished printed) before now h = (h.0, h.1, tt)
+says_nothing read deed verdict.Accepted before now h = (h.0, tt)
 
 -- what is judged of the bytes that were read is said of the text
-pub says_of_text : (later : Option (List (List ℕ))) (read : List ℕ) (left : Option (List ℕ)) (numbers : List (List ℕ)) (v : Verdict) (before now : ℕ) →
-    Moves (option_map next_left later) read left → (length read ≤ 1048576 → IfSome left (λ rest. rest ≡ [])) → Judges read numbers v → SaysOfText later numbers before now v
-says_of_text None read left numbers v before now moves whole h = says_nothing read numbers v before now h
-says_of_text (Some texts) read left numbers v before now moves whole h =
+pub says_of_text : (later : Option (List (List ℕ))) (read : List ℕ) (left : Option (List ℕ)) (deed : Deed) (v : Verdict) (before now : ℕ) →
+    Moves (option_map next_left later) read left → (length read ≤ 1048576 → IfSome left (λ rest. rest ≡ [])) → Judges read deed v → SaysOfText later deed before now v
+says_of_text None read left deed v before now moves whole h = says_nothing read deed v before now h
+says_of_text (Some texts) read left deed v before now moves whole h =
     let p = left_on (Some texts) read left texts refl moves in
-    says_of_read numbers v texts before now
-    (says_on (next_left texts) read p.0 numbers v p.2
+    says_of_read deed v texts before now
+    (says_on (next_left texts) read p.0 deed v p.2
     (λ short. let w : IfSome (Some p.0) (λ rest. rest ≡ []) = subst (λ (o : Option (List ℕ)). IfSome o (λ rest. rest ≡ [])) p.1 (whole short) in w)
     (cases_lt 1048576 (length read)) h)
 
@@ -119,6 +143,8 @@ refuses_token kind line verdict.Unread none h = h
 refuses_token kind line verdict.NoMemory none h = tt
 refuses_token kind line (verdict.NoProgram message) none h = (line, h, syntax_told kind line none)
 refuses_token kind line (verdict.PastLimit passed) none h = absurd h
+refuses_token kind line (verdict.Refused message) none h = h
 refuses_token kind line verdict.NotBuilt none h = h
 refuses_token kind line verdict.OtherInputs none h = h
 refuses_token kind line (verdict.Finished printed) none h = h
+refuses_token kind line verdict.Accepted none h = h

@@ -4,7 +4,7 @@ use Rattle.std.specs.Prelude.{if◌then◌else◌, String, string_bytes}
 use Rattle.std.specs.Option.{option_map}
 use Rattle.std.proofs.lemmas.List.{drop_all, drop_more, drop-map, length-drop, length-map, take_all, take-map}
 use Rattle.std.proofs.lemmas.List as lists
-use Rattle.regent_run.specs.Words.{is_option, is_separator, positional, texts}
+use Rattle.regent_run.specs.Words.{is_option, is_separator, positional, texts, to_check}
 
 -- what words say behind others that are positional
 abbrev pub behind : List (List ℕ) → Option (List (List ℕ)) → Option (List (List ℕ))
@@ -74,3 +74,9 @@ module _ {A : Type 0} (words : List (String A)) where
 
   pub texts_dropped : (n : ℕ) → texts (take (length words - n) (drop n words)) ≡ drop n (texts words)
   texts_dropped n = ap texts (take_all (length words - n) (drop n words) (rw length-drop (omega arith))) ∙ sym (drop-map string_bytes n words)
+
+-- two words are no file to check
+pub two_words : {A : Type 0} (words : List (String A)) (more : List (List ℕ)) → 2 ≤ length words → to_check (texts words ++ more) ≡ None
+two_words [] more h = absurd (omega arith)
+two_words (w ∷ []) more h = absurd (omega arith)
+two_words (w ∷ v ∷ words) more h = refl

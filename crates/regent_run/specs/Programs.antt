@@ -1,5 +1,6 @@
--- What a text and the words of its numbers come to.
-use Rattle.std.specs.Prelude.{◌≡◌, ℕ, ℤ, List, true, false, Option, Some, None, Ok, Err, IfSome}
+-- What a text comes to, by what is to be done with it.
+use Rattle.std.specs.Prelude.{Contains, Err, IfSome, List, None, Ok, Option, Some, [], false, true, ℕ, ℤ, ◌≡◌}
+use Rattle.check_rules.specs.Breaches.{breaches, breaks}
 use Rattle.regent_lex.specs.declared.fault.LexKind.{LexKind}
 use Rattle.regent_lex.specs.declared.fault.LexKind.TheVariants.{BadByte, Unclosed, NumberTooLarge, NameTooLong}
 use Rattle.regent_tree.specs.declared.limits.Counted.{Counted}
@@ -15,6 +16,8 @@ use Rattle.straight_run.specs.RunningForm.{is_running, main_task}
 use Rattle.regent_run.specs.declared.limit.Limit.{Limit}
 use Rattle.regent_run.specs.declared.limit.Limit.TheVariants as limit
 use Rattle.regent_run.specs.Inputs.{AreInputs}
+use Rattle.regent_run.specs.Texts.{accepted_text}
+use Rattle.regent_run.specs.Words.{Deed, checks, runs}
 
 -- the line of a fault that is an error of syntax
 abbrev pub lex_line : LexKind → ℕ → Option ℕ
@@ -61,47 +64,71 @@ pub record PassesLimit (text : List ℕ) (passed : Limit) : Type 0 where
   pub reads : Reads text (Err fault)
   pub told : limit_passed fault ≡ Some passed
 
--- the text is a program that can't be run yet: it isn't of the running form
+-- the text is a program that breaches a rule on a line
+pub record HasBreach (text : List ℕ) (rule line : ℕ) : Type 0 where
+  pub tree : Tree
+  pub reads : Reads text (Ok tree)
+  pub breach : Contains (breaches tree) (breaks rule line)
+
+-- the text is a program that breaches no rule
+pub record IsAccepted (text : List ℕ) : Type 0 where
+  pub tree : Tree
+  pub reads : Reads text (Ok tree)
+  pub sound : breaches tree ≡ []
+
+-- the text is an accepted program that can't be run yet: it isn't of the running form
 pub record IsNotBuilt (text : List ℕ) : Type 0 where
   pub tree : Tree
   pub reads : Reads text (Ok tree)
+  pub sound : breaches tree ≡ []
   pub form : is_running tree ≡ false
 
--- the text is a program of the running form, and the words aren't the numbers that it takes
+-- the text is an accepted program of the running form, and the words aren't the numbers that it takes
 pub record HasOtherInputs (text : List ℕ) (numbers : List (List ℕ)) : Type 0 where
   pub tree : Tree
   pub reads : Reads text (Ok tree)
+  pub sound : breaches tree ≡ []
   pub form : is_running tree ≡ true
   pub inputs : List (Option ℤ)
   pub given : AreInputs numbers inputs
   pub other : are_inputs (main_task tree).params inputs ≡ false
 
--- the text is a program of the running form, which finishes with what is printed where it is given
--- the numbers
+-- the text is an accepted program of the running form, which finishes with what is printed where it is
+-- given the numbers
 pub record IsRun (text : List ℕ) (numbers : List (List ℕ)) (printed : List ℕ) : Type 0 where
   pub tree : Tree
   pub reads : Reads text (Ok tree)
+  pub sound : breaches tree ≡ []
   pub inputs : List (Option ℤ)
   pub given : AreInputs numbers inputs
   pub prints : Prints tree inputs printed
 
--- the text is a program of the running form, and the words are the numbers that it takes
+-- the text is an accepted program of the running form, and the words are the numbers that it takes
 pub record TakesNumbers (text : List ℕ) (numbers : List (List ℕ)) : Type 0 where
   pub tree : Tree
   pub reads : Reads text (Ok tree)
+  pub sound : breaches tree ≡ []
   pub form : is_running tree ≡ true
   pub inputs : List (Option ℤ)
   pub given : AreInputs numbers inputs
   pub fits : are_inputs (main_task tree).params inputs ≡ true
 
--- the status that a text and the words of its numbers come to
-pub data Comes (text : List ℕ) (numbers : List (List ℕ)) : ℕ → Type 0 where
-  finishes : TakesNumbers text numbers → Comes text numbers 0
-  is_no_program : {line : ℕ} → HasSyntaxError text line → Comes text numbers 5
-  passes_a_limit : {passed : Limit} → PassesLimit text passed → Comes text numbers 8
-  has_other_inputs : HasOtherInputs text numbers → Comes text numbers 9
-  is_not_built : IsNotBuilt text → Comes text numbers 10
+-- the status that a text comes to, where this is to be done with it
+pub data Comes (text : List ℕ) : Deed → ℕ → Type 0 where
+  finishes : {numbers : List (List ℕ)} → TakesNumbers text numbers → Comes text (runs numbers) 0
+  is_accepted : IsAccepted text → Comes text checks 0
+  is_no_program : {deed : Deed} {line : ℕ} → HasSyntaxError text line → Comes text deed 5
+  has_a_breach : {deed : Deed} {rule line : ℕ} → HasBreach text rule line → Comes text deed 6
+  passes_a_limit : {deed : Deed} {passed : Limit} → PassesLimit text passed → Comes text deed 8
+  has_other_inputs : {numbers : List (List ℕ)} → HasOtherInputs text numbers →
+      Comes text (runs numbers) 9
+  is_not_built : {numbers : List (List ℕ)} → IsNotBuilt text → Comes text (runs numbers) 10
 
 -- what holds of the text that the next begin leaves, where the source tells it
 abbrev pub OfNextText : Option (List (List ℕ)) → (List ℕ → Type 0) → Type 0
 OfNextText later P = IfSome later (λ texts. P (next_left texts))
+
+-- what a command prints: a run what the program prints, a check the line that it is accepted
+abbrev pub IsPrinted : Option (List (List ℕ)) → Deed → List ℕ → Type 0
+IsPrinted later (runs numbers) printed = OfNextText later (λ text. IsRun text numbers printed)
+IsPrinted later checks printed = (printed ≡ accepted_text) × OfNextText later IsAccepted

@@ -1,8 +1,12 @@
--- The messages that go to the error output. Each ends with a line feed (10).
+-- What a check writes to the output, and the messages that go to the error output. Each ends with a
+-- line feed (10).
 use Rattle.std.specs.Prelude.{ℕ, List, [], ◌∷◌, ◌++◌, codes}
 use Rattle.std.specs.Fmt.{decimal}
 use Rattle.regent_run.specs.declared.limit.Limit.{Limit}
 use Rattle.regent_run.specs.declared.limit.Limit.TheVariants.{Text, Name, Number, Nesting, Tasks, Spaces, Fields, Parameters, Regions}
+
+abbrev pub accepted_text : List ℕ
+accepted_text = codes "accepted" ++ 10 ∷ []
 
 abbrev pub usage_message : List ℕ
 usage_message = codes "error: usage" ++ 10 ∷ []
@@ -15,6 +19,10 @@ memory_message = codes "error: out of memory" ++ 10 ∷ []
 
 abbrev pub syntax_message : ℕ → List ℕ
 syntax_message line = codes "error: syntax at line " ++ decimal line ++ 10 ∷ []
+
+abbrev pub breach_message : ℕ → ℕ → List ℕ
+breach_message rule line =
+    codes "error: rule " ++ decimal rule ++ codes " at line " ++ decimal line ++ 10 ∷ []
 
 -- the kind and the number of each limit
 abbrev pub limit_named : Limit → List ℕ

@@ -1,18 +1,19 @@
 -- What a call comes to before it writes, and what it then writes.
-use Rattle.std.specs.Prelude.{◌≡◌, ◌<◌, ◌⊎◌, ℕ, ℤ, true, false, List, [], Option, Some, None, length, string_bytes}
+use Rattle.std.specs.Prelude.{◌≡◌, ◌<◌, ◌⊎◌, ℕ, ℤ, true, false, Contains, List, [], Option, Some, None, length, string_bytes}
 use Rattle.run_io.specs.Faults.{Rose}
 use Rattle.run_io.specs.Sink.{Adds, AddsPrefix}
 use Rattle.regent_run.specs.declared.verdict.Verdict.{Verdict}
-use Rattle.regent_run.specs.declared.verdict.Verdict.TheVariants.{Usage, Unread, NoMemory, NoProgram, PastLimit, NotBuilt, OtherInputs, Finished}
-use Rattle.regent_run.specs.Words.{Command, command}
-use Rattle.regent_run.specs.Texts.{usage_message, read_message, memory_message, syntax_message, limit_message, not_built_message, inputs_message}
+use Rattle.regent_run.specs.declared.verdict.Verdict.TheVariants.{Usage, Unread, NoMemory, NoProgram, PastLimit, Refused, NotBuilt, OtherInputs, Finished, Accepted}
+use Rattle.regent_run.specs.Words.{Command, Deed, checks, command, runs}
+use Rattle.regent_run.specs.Texts.{accepted_text, usage_message, read_message, memory_message, syntax_message, breach_message, limit_message, not_built_message, inputs_message}
+use Rattle.check_rules.specs.Breaches.{breaches, breaks}
 use Rattle.regent_tree.specs.Syntax.{Tree}
 use Rattle.regent_reader.specs.declared.fault.ReadFault.{ReadFault}
 use Rattle.straight_run.specs.Answers.{Prints}
 use Rattle.straight_run.specs.Inputs.{are_inputs}
 use Rattle.straight_run.specs.RunningForm.{is_running, main_task}
 use Rattle.regent_run.specs.Inputs.{AreInputs}
-use Rattle.regent_run.specs.Programs.{limit_passed, syntax_line, HasSyntaxError, PassesLimit, IsNotBuilt, HasOtherInputs, IsRun, OfNextText}
+use Rattle.regent_run.specs.Programs.{HasBreach, HasOtherInputs, HasSyntaxError, IsAccepted, IsNotBuilt, IsRun, OfNextText, PassesLimit, limit_passed, syntax_line}
 
 abbrev pub status_of : Verdict → ℕ
 status_of Usage = 2
@@ -20,13 +21,16 @@ status_of Unread = 3
 status_of NoMemory = 7
 status_of (NoProgram message) = 5
 status_of (PastLimit passed) = 8
+status_of (Refused message) = 6
 status_of NotBuilt = 10
 status_of OtherInputs = 9
 status_of (Finished text) = 0
+status_of Accepted = 0
 
 -- what goes to the output, and what to the error output
 abbrev pub out_text : Verdict → List ℕ
 out_text (Finished text) = text.items
+out_text Accepted = accepted_text
 out_text _ = []
 
 abbrev pub err_text : Verdict → List ℕ
@@ -35,31 +39,56 @@ err_text Unread = read_message
 err_text NoMemory = memory_message
 err_text (NoProgram message) = string_bytes message
 err_text (PastLimit passed) = limit_message passed
+err_text (Refused message) = string_bytes message
 err_text NotBuilt = not_built_message
 err_text OtherInputs = inputs_message
 err_text (Finished text) = []
+err_text Accepted = []
 
--- what a verdict says of a text that is given the words of numbers
-abbrev pub Judges : List ℕ → List (List ℕ) → Verdict → Type 0
-Judges text numbers Usage = ⊥
-Judges text numbers Unread = ⊥
-Judges text numbers NoMemory = Unit {0}
-Judges text numbers (NoProgram message) =
+-- what a verdict says of a text, where this is to be done with it
+abbrev pub Judges : List ℕ → Deed → Verdict → Type 0
+Judges text deed Usage = ⊥
+Judges text deed Unread = ⊥
+Judges text deed NoMemory = Unit {0}
+Judges text deed (NoProgram message) =
     (line : ℕ) × (string_bytes message ≡ syntax_message line) × HasSyntaxError text line
-Judges text numbers (PastLimit passed) = PassesLimit text passed
-Judges text numbers NotBuilt = IsNotBuilt text
-Judges text numbers OtherInputs = HasOtherInputs text numbers
-Judges text numbers (Finished printed) = IsRun text numbers printed.items
+Judges text deed (PastLimit passed) = PassesLimit text passed
+Judges text deed (Refused message) = (rule : ℕ) × (line : ℕ)
+    × (string_bytes message ≡ breach_message rule line) × HasBreach text rule line
+Judges text deed NotBuilt = (numbers : List (List ℕ)) × (deed ≡ runs numbers) × IsNotBuilt text
+Judges text deed OtherInputs =
+    (numbers : List (List ℕ)) × (deed ≡ runs numbers) × HasOtherInputs text numbers
+Judges text deed (Finished printed) =
+    (numbers : List (List ℕ)) × (deed ≡ runs numbers) × IsRun text numbers printed.items
+Judges text deed Accepted = (deed ≡ checks) × IsAccepted text
 
--- what it says of a program that was read
-abbrev pub JudgesProgram : Tree → List (List ℕ) → Verdict → Type 0
-JudgesProgram tree numbers NoMemory = Unit {0}
-JudgesProgram tree numbers NotBuilt = is_running tree ≡ false
-JudgesProgram tree numbers OtherInputs = (is_running tree ≡ true) × (inputs : List (Option ℤ))
+-- what it says of an accepted program that is run with the words of numbers
+abbrev pub JudgesRun : Tree → List (List ℕ) → Verdict → Type 0
+JudgesRun tree numbers NoMemory = Unit {0}
+JudgesRun tree numbers NotBuilt = is_running tree ≡ false
+JudgesRun tree numbers OtherInputs = (is_running tree ≡ true) × (inputs : List (Option ℤ))
     × AreInputs numbers inputs × (are_inputs (main_task tree).params inputs ≡ false)
-JudgesProgram tree numbers (Finished printed) =
+JudgesRun tree numbers (Finished printed) =
     (inputs : List (Option ℤ)) × AreInputs numbers inputs × Prints tree inputs printed.items
-JudgesProgram tree numbers _ = ⊥
+JudgesRun tree numbers _ = ⊥
+
+-- and of one with which this is to be done
+abbrev pub JudgesAccepted : Tree → Deed → Verdict → Type 0
+JudgesAccepted tree (runs numbers) v = JudgesRun tree numbers v
+JudgesAccepted tree checks v = v ≡ Accepted
+
+-- the message of a breach of the tree
+pub record IsOfBreach (tree : Tree) (message : List ℕ) : Type 0 where
+  pub rule : ℕ
+  pub line : ℕ
+  pub breach : Contains (breaches tree) (breaks rule line)
+  pub told : message ≡ breach_message rule line
+
+-- what it says of a program that was read: it has a breach, or it is accepted
+abbrev pub JudgesProgram : Tree → Deed → Verdict → Type 0
+JudgesProgram tree deed NoMemory = Unit {0}
+JudgesProgram tree deed (Refused message) = IsOfBreach tree (string_bytes message)
+JudgesProgram tree deed v = (breaches tree ≡ []) × JudgesAccepted tree deed v
 
 -- what it says of a text that is refused for a fault
 abbrev pub Refuses : ReadFault → Verdict → Type 0
@@ -71,32 +100,42 @@ Refuses fault _ = ⊥
 
 -- the same of the text that the next begin leaves, and what it says of the source's count of faults
 -- before and after
-abbrev pub SaysOfText : Option (List (List ℕ)) → List (List ℕ) → ℕ → ℕ → Verdict → Type 0
-SaysOfText later numbers before now Usage = ⊥
-SaysOfText later numbers before now Unread = Rose before now
-SaysOfText later numbers before now NoMemory = Unit {0}
-SaysOfText later numbers before now (NoProgram message) =
+abbrev pub SaysOfText : Option (List (List ℕ)) → Deed → ℕ → ℕ → Verdict → Type 0
+SaysOfText later deed before now Usage = ⊥
+SaysOfText later deed before now Unread = Rose before now
+SaysOfText later deed before now NoMemory = Unit {0}
+SaysOfText later deed before now (NoProgram message) =
     (line : ℕ) × (string_bytes message ≡ syntax_message line)
     × OfNextText later (λ text. HasSyntaxError text line)
-SaysOfText later numbers before now (PastLimit passed) =
+SaysOfText later deed before now (PastLimit passed) =
     OfNextText later (λ text. PassesLimit text passed)
-SaysOfText later numbers before now NotBuilt = OfNextText later IsNotBuilt
-SaysOfText later numbers before now OtherInputs =
-    OfNextText later (λ text. HasOtherInputs text numbers)
-SaysOfText later numbers before now (Finished printed) =
-    OfNextText later (λ text. IsRun text numbers printed.items)
+SaysOfText later deed before now (Refused message) = (rule : ℕ) × (line : ℕ)
+    × (string_bytes message ≡ breach_message rule line)
+    × OfNextText later (λ text. HasBreach text rule line)
+SaysOfText later deed before now NotBuilt =
+    (numbers : List (List ℕ)) × (deed ≡ runs numbers) × OfNextText later IsNotBuilt
+SaysOfText later deed before now OtherInputs = (numbers : List (List ℕ)) × (deed ≡ runs numbers)
+    × OfNextText later (λ text. HasOtherInputs text numbers)
+SaysOfText later deed before now (Finished printed) = (numbers : List (List ℕ))
+    × (deed ≡ runs numbers) × OfNextText later (λ text. IsRun text numbers printed.items)
+SaysOfText later deed before now Accepted = (deed ≡ checks) × OfNextText later IsAccepted
 
 -- what a verdict says: the words are refused, or the text that they name comes to it
 abbrev pub Says : List (List ℕ) → Option (List (List ℕ)) → ℕ → ℕ → Verdict → Type 0
 Says words later before now Usage = command words ≡ None
 Says words later before now v =
-    (named : Command) × (command words ≡ Some named) × SaysOfText later named.numbers before now v
+    (named : Command) × (command words ≡ Some named) × SaysOfText later named.deed before now v
 
 -- the message of a line, unless memory ran out
 abbrev pub IsNoProgram : ℕ → Verdict → Type 0
 IsNoProgram line (NoProgram message) = string_bytes message ≡ syntax_message line
 IsNoProgram line NoMemory = Unit {0}
 IsNoProgram line _ = ⊥
+
+abbrev pub IsRefused : ℕ → ℕ → Verdict → Type 0
+IsRefused rule line (Refused message) = string_bytes message ≡ breach_message rule line
+IsRefused rule line NoMemory = Unit {0}
+IsRefused rule line _ = ⊥
 
 -- ---- what is written
 --

@@ -1,6 +1,9 @@
 -- What the words of the command line say.
-use Rattle.std.specs.Prelude.{ℕ, ◌==◌, Bool, false, List, [], ◌∷◌, Option, Some, None, bytes_eq, codes, map, string_bytes, String, if◌then◌else◌}
+use Rattle.std.specs.Prelude.{ℕ, ◌≡◌, ◌==◌, ◌++◌, Bool, false, List, [], ◌∷◌, Option, Some, None, bytes_eq, codes, map, option_and_then, string_bytes, String, if◌then◌else◌}
 use Rattle.std.specs.Option.{option_map}
+use Rattle.regent_run.specs.declared.words.Deed.{Deed as LentDeed}
+use Rattle.regent_run.specs.declared.words.Deed.TheVariants as deed
+use Rattle.regent_run.specs.declared.words.Named.{Named}
 
 -- a word that could be an option: two bytes or more, and the first is `-` (45)
 abbrev pub is_option : List ℕ → Bool
@@ -20,27 +23,56 @@ positional (word ∷ words) =
     else if is_option word then None
     else option_map (λ more. word ∷ more) (positional words)
 
--- a file to run, and the words of its numbers
+-- what is to be done with a file: it is run with the numbers that these words spell, or checked
+pub data Deed : Type 0 where
+  runs : List (List ℕ) → Deed
+  checks : Deed
+
+-- a file, and what is to be done with it
 pub record Command : Type 0 where
   pub file : List ℕ
-  pub numbers : List (List ℕ)
+  pub deed : Deed
 
-abbrev pub command_of : List (List ℕ) → Option Command
-command_of [] = None
-command_of (file ∷ numbers) = Some (record { file = file; numbers = numbers })
+-- to run: a file and numbers
+abbrev pub to_run : List (List ℕ) → Option Command
+to_run [] = None
+to_run (file ∷ numbers) = Some (record { file = file; deed = runs numbers })
 
-abbrev pub command_in : Option (List (List ℕ)) → Option Command
-command_in None = None
-command_in (Some words) = command_of words
+-- to check: one file and no other word
+abbrev pub to_check : List (List ℕ) → Option Command
+to_check [] = None
+to_check (file ∷ []) = Some (record { file = file; deed = checks })
+to_check (file ∷ word ∷ words) = None
 
--- What is to be run: behind the program's name stand `run`, a file and numbers. None where the words
--- are refused.
+-- the command of this name, with these positional words
+abbrev pub command_of : List ℕ → List (List ℕ) → Option Command
+command_of name words =
+    if bytes_eq name (codes "run") then to_run words
+    else if bytes_eq name (codes "check") then to_check words
+    else None
+
+-- What the words say: behind the program's name stand the command's name and its words. None where
+-- the words are refused.
 abbrev pub command : List (List ℕ) → Option Command
 command [] = None
 command (program ∷ []) = None
-command (program ∷ name ∷ words) =
-    if bytes_eq name (codes "run") then command_in (positional words) else None
+command (program ∷ name ∷ words) = option_and_then (command_of name) (positional words)
+
+-- the words name a file that is to be run with these numbers
+pub record IsToRun (words numbers : List (List ℕ)) : Type 0 where
+  pub named : Command
+  pub words_name : command words ≡ Some named
+  pub run : named.deed ≡ runs numbers
 
 -- the bytes of each word
 abbrev pub texts : {A : Type 0} → List (String A) → List (List ℕ)
 texts words = map string_bytes words
+
+-- ---- the same of the words that are lent
+
+abbrev pub deed_of : LentDeed → Deed
+deed_of (deed.Run before behind) = runs (texts before.now ++ texts behind.now)
+deed_of deed.Check = checks
+
+abbrev pub command_named : Named → Command
+command_named named = record { file = named.file.now; deed = deed_of named.deed }

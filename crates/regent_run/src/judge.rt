@@ -2,26 +2,28 @@
 
 ghost use Rattle.std.specs.Prelude.{◌≡◌, ◌≤◌, ◌++◌, None};
 ghost use Rattle.std.specs.Option.{option_map};
+ghost use Rattle.regent_tree.specs.Limits.{WithinLimits};
 ghost use Rattle.regent_tree.specs.PlainProgram.{tree_of};
 ghost use Rattle.regent_reader.specs.declared.fault.ReadFault.TheVariants.{Lex};
 ghost use Rattle.run_io.specs.Source.{next_left};
 ghost use Rattle.regent_run.specs.Begins.{Begins, BeginsFile};
 ghost use Rattle.regent_run.specs.Programs.{limit_counted, limit_in_token};
 ghost use Rattle.regent_run.specs.Reading.{IsSteady, TakesAtMost, ReadsToEnd};
-ghost use Rattle.regent_run.specs.Verdicts.{IsNoProgram, Judges, JudgesProgram, Refuses, Says, SaysOfText};
-ghost use Rattle.regent_run.specs.Words.{command, texts};
+ghost use Rattle.regent_run.specs.Verdicts.{IsNoProgram, IsRefused, Judges, JudgesAccepted, JudgesProgram, JudgesRun, Refuses, Says, SaysOfText};
+ghost use Rattle.regent_run.specs.Words.{command, deed_of, texts};
 
 use crate::inputs::inputs_of;
 use crate::limit::Limit;
 use crate::text::{NoText, read_text};
 use crate::verdict::Verdict;
-use crate::words::{Named, command};
+use crate::words::{Deed, Named, command};
 use regent_lex::LexKind;
 use regent_reader::{ReadFault, read};
 use regent_tree::{Counted, Program};
 use run_io::Source;
 use std::alloc::Global;
 use straight_run::{Answer, run};
+use type_check::{CheckFault, check};
 
 /// The text is no program on this line.
 fn no_program(alloc: Global, line: u32) -> Verdict
@@ -80,9 +82,19 @@ fn refused(alloc: Global, fault: ReadFault) -> Verdict
     }
 }
 
-/// What a program comes to.
-fn judge_program(alloc: Global, program: &Program, before: &[String], behind: &[String]) -> Verdict
-    ensures { JudgesProgram (tree_of program.now) (texts before.now ++ texts behind.now) result }
+/// The program breaches the rule on this line.
+fn broken_rule(alloc: Global, rule: u8, line: u32) -> Verdict
+    ensures { IsRefused rule line result }
+{
+    match format!(in alloc; "error: rule {rule} at line {line}\n") {
+        Ok(message) => Verdict::Refused { message },
+        Err(_) => Verdict::NoMemory,
+    }
+}
+
+/// What an accepted program comes to that is run.
+fn judge_run(alloc: Global, program: &Program, before: &[String], behind: &[String]) -> Verdict
+    ensures { JudgesRun (tree_of program.now) (texts before.now ++ texts behind.now) result }
 {
     let Ok(inputs) = inputs_of(alloc, before, behind) else {
         return Verdict::NoMemory;
@@ -95,20 +107,41 @@ fn judge_program(alloc: Global, program: &Program, before: &[String], behind: &[
     }
 }
 
+/// What an accepted program comes to.
+fn judge_accepted(alloc: Global, program: &Program, deed: &Deed<'_>) -> Verdict
+    ensures { JudgesAccepted (tree_of program.now) (deed_of deed.now) result }
+{
+    match deed {
+        Deed::Run { before, behind } => judge_run(alloc, program, before, behind),
+        Deed::Check => Verdict::Accepted,
+    }
+}
+
+/// What a program comes to.
+fn judge_program(alloc: Global, program: Program, deed: &Deed<'_>) -> Verdict
+    requires { WithinLimits (tree_of program) }
+    ensures { JudgesProgram (tree_of program) (deed_of deed.now) result }
+{
+    match check(alloc, program) {
+        Ok(accepted) => judge_accepted(alloc, accepted.program(), deed),
+        Err(CheckFault::Refused { rule, line, .. }) => broken_rule(alloc, rule, line),
+        Err(CheckFault::Memory(_)) => Verdict::NoMemory,
+    }
+}
+
 /// What a text comes to.
-fn judge_text(alloc: Global, text: &[u8], before: &[String], behind: &[String]) -> Verdict
-    ensures { Judges text.now (texts before.now ++ texts behind.now) result }
+fn judge_text(alloc: Global, text: &[u8], deed: &Deed<'_>) -> Verdict
+    ensures { Judges text.now (deed_of deed.now) result }
 {
     match read(alloc, text) {
-        Ok(program) => judge_program(alloc, &program, before, behind),
+        Ok(program) => judge_program(alloc, program, deed),
         Err(fault) => refused(alloc, fault),
     }
 }
 
 /// What the text of a file comes to.
 fn judge_file<S: Source>(alloc: Global, named: &Named<'_>, source: &mut S) -> Verdict
-    ensures said { SaysOfText (S.later source.old)
-        (texts named.now.before.now ++ texts named.now.behind.now)
+    ensures said { SaysOfText (S.later source.old) (deed_of named.now.deed)
         (S.faults source.old) (S.faults source.new) result }
     ensures begins { BeginsFile named.now.file.now (S.begins source.old) (S.begins source.new)
         (S.names source.old) (S.names source.new) result }
@@ -122,7 +155,7 @@ fn judge_file<S: Source>(alloc: Global, named: &Named<'_>, source: &mut S) -> Ve
         return Verdict::NoMemory;
     };
     match read_text(alloc, source, name) {
-        Ok(text) => judge_text(alloc, text.as_slice(), named.before, named.behind),
+        Ok(text) => judge_text(alloc, text.as_slice(), &named.deed),
         Err(NoText::Failed) => Verdict::Unread,
         Err(NoText::Memory) => Verdict::NoMemory,
     }

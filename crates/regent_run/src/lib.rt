@@ -8,7 +8,7 @@ ghost use Rattle.run_io.specs.Faults.{Rose};
 ghost use Rattle.run_io.specs.Source.{next_left};
 ghost use Rattle.regent_run.specs.Answers.{ComesTo, HasPrinted, HasTold, OutStopped, ErrStopped, IsBegunOnce, IsReadWhole};
 ghost use Rattle.regent_run.specs.Answers.{IsOfText, IsStatus, IsSureOfErrors, IsSureOfOutput, NoneRose, UnlessStopped};
-ghost use Rattle.regent_run.specs.Answers.{ToldInputs, ToldLimit, ToldNotBuilt, ToldSyntax};
+ghost use Rattle.regent_run.specs.Answers.{ToldBreach, ToldInputs, ToldLimit, ToldNotBuilt, ToldSyntax};
 ghost use Rattle.regent_run.specs.Begins.{IsUnbegun};
 ghost use Rattle.regent_run.specs.Programs.{Comes, OfNextText};
 ghost use Rattle.regent_run.specs.Reading.{TakesAtMost};
@@ -29,14 +29,14 @@ use judge::judge;
 use run_io::{Sink, Source};
 use std::alloc::Global;
 
-/// Runs what the words say, and gives the status.
+/// Does what the words say, and gives the status.
 ///
-/// The words are `regent run FILE [NUMBER ..]`; behind a word `--` none is an option. The file's text
-/// is that which the source leaves when it is begun by that name. The statuses: 0 the program
-/// finished, 2 the words are refused, 3 the text can't be read, 4 a write failed, 5 the text is no
-/// program, 7 memory ran out, 8 the text passes a limit, 9 the numbers aren't those that the program
-/// takes, 10 the program can't be run yet. What is printed goes to `out`, and then one line about an
-/// error to `err`.
+/// The words are `regent run FILE [NUMBER ..]` or `regent check FILE`; behind a word `--` none is an
+/// option. The file's text is that which the source leaves when it is begun by that name. The
+/// statuses: 0 the program finished or is accepted, 2 the words are refused, 3 the text can't be read,
+/// 4 a write failed, 5 the text is no program, 6 the program breaches a rule, 7 memory ran out, 8 the
+/// text passes a limit, 9 the numbers aren't those that the program takes, 10 the program can't be run
+/// yet. What is printed, or `accepted`, goes to `out`, and then one line about an error to `err`.
 pub fn regent_run<S: Source, K: Sink, E: Sink>(
     alloc: Global,
     words: &Vec<String>,
@@ -44,24 +44,28 @@ pub fn regent_run<S: Source, K: Sink, E: Sink>(
     out: &mut K,
     err: &mut E,
 ) -> u8
-    // 0: the output has gained what the program prints, by the meaning of its text.
+    // 0: the program has no breach. The output has gained what it prints, by the meaning of its text,
+    // or under `check` the line that it is accepted.
     ensures finished { result ≡ 0 → HasPrinted (texts words.now.items) (S.later source.old)
         (K.held out.old) (K.held out.new) (E.held err.old) (E.held err.new) }
     // 2: the words are refused.
     ensures usage { result ≡ 2 → command (texts words.now.items) ≡ None }
     ensures refuses { command (texts words.now.items) ≡ None → UnlessStopped 2 result }
-    // 5, 8, 9 and 10: the text is no program, passes a limit, takes other numbers, or can't be run
-    // yet; the error output has gained the line that tells it.
+    // 5 and 8: the text is no program or passes a limit. 6: its program has a breach, and one that is
+    // there is told. 9 and 10: the program has none, and takes other numbers or can't be run yet. The
+    // error output has gained the line that tells it.
     ensures syntax { result ≡ 5 → ToldSyntax (S.later source.old)
         (K.held out.old) (K.held out.new) (E.held err.old) (E.held err.new) }
     ensures limit { result ≡ 8 → ToldLimit (S.later source.old)
         (K.held out.old) (K.held out.new) (E.held err.old) (E.held err.new) }
+    ensures types { result ≡ 6 → ToldBreach (S.later source.old)
+        (K.held out.old) (K.held out.new) (E.held err.old) (E.held err.new) }
     ensures inputs { result ≡ 9 → ToldInputs (texts words.now.items) (S.later source.old)
         (K.held out.old) (K.held out.new) (E.held err.old) (E.held err.new) }
-    ensures not_built { result ≡ 10 → ToldNotBuilt (S.later source.old)
+    ensures not_built { result ≡ 10 → ToldNotBuilt (texts words.now.items) (S.later source.old)
         (K.held out.old) (K.held out.new) (E.held err.old) (E.held err.new) }
-    // A text with its numbers comes to one of 0, 5, 8, 9 and 10 at most, and that is the answer unless
-    // the call was stopped.
+    // A text with its command comes to one of 0, 5, 6, 8, 9 and 10 at most, and that is the answer
+    // unless the call was stopped.
     ensures comes { ComesTo (texts words.now.items) (S.later source.old) result }
 
     // 3 and 4: a count of faults rose in this call.
@@ -78,7 +82,7 @@ pub fn regent_run<S: Source, K: Sink, E: Sink>(
     ensures complete { NoneRose (S.faults source.old) (S.faults source.new)
         (K.faults out.old) (K.faults out.new) (E.faults err.old) (E.faults err.new) →
         (named : Command) → command (texts words.now.items) ≡ Some named →
-        OfNextText (S.later source.old) (λ text. (n : ℕ) → Comes text named.numbers n →
+        OfNextText (S.later source.old) (λ text. (n : ℕ) → Comes text named.deed n →
         (result ≡ n) ⊎ (result ≡ 7)) }
     // Nothing fails where the sinks are sure of what may be written.
     ensures sure { IsSureOfOutput (texts words.now.items) (S.later source.old) (K.sure out.old) →

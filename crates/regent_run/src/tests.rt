@@ -127,13 +127,42 @@ fn texts_that_are_no_programs(rt: HostRuntime) -> Result<(), Fail> {
 #[test]
 fn programs_that_do_not_run_yet(rt: HostRuntime) -> Result<(), Fail> {
     for text in [
-        "task main()\n  x = 1\nend",
         "task main() for i = 0, 5 do end end",
         "task other() end task main() end",
         "task main() return end",
     ] {
         let told = run_text(rt.alloc(), text, &NO_FAULT)?;
         assert_eq!(rt; told.as_str(), "10||error: not built\n", "{text}");
+    }
+    Ok(())
+}
+
+/// A task that writes what it declares to read.
+const WRITE_UNDER_READS: &str = "fspace f { x : int64 }
+task t(r : region(ispace(int1d), f))
+where reads(r.x) do
+  r[0].x = 1
+end
+task main() end
+";
+
+#[test]
+fn rules_are_checked(rt: HostRuntime) -> Result<(), Fail> {
+    for (command, text, wanted) in [
+        ("check", FIRST, "0|accepted\n|"),
+        ("check", "task main() return end", "0|accepted\n|"),
+        ("check", "task main(n : int64) end", "0|accepted\n|"),
+        ("check", "task", "5||error: syntax at line 1\n"),
+        ("check", WRITE_UNDER_READS, "6||error: rule 9 at line 4\n"),
+        ("run", WRITE_UNDER_READS, "6||error: rule 9 at line 4\n"),
+        (
+            "run",
+            "task main()\n  x = 1\nend",
+            "6||error: rule 1 at line 2\n",
+        ),
+    ] {
+        let told = call(rt.alloc(), &["regent", command, "f.rg"], text, &NO_FAULT)?;
+        assert_eq!(rt; told.as_str(), wanted, "{text}");
     }
     Ok(())
 }
@@ -231,6 +260,10 @@ fn words_are_refused(rt: HostRuntime) -> Result<(), Fail> {
     );
     assert_eq!(rt;
         call(alloc, &["regent", "run", "-a"], FIRST, &NO_FAULT)?.as_str(),
+        refused
+    );
+    assert_eq!(rt;
+        call(alloc, &["regent", "check", "a", "1"], FIRST, &NO_FAULT)?.as_str(),
         refused
     );
     assert_eq!(rt;

@@ -18,12 +18,16 @@ pub enum Verdict {
     NoProgram { message: String },
     /// The text passes a limit.
     PastLimit(Limit),
-    /// The text is a program that can't be run yet.
+    /// The program breaches a rule; the message says which, and on which line.
+    Refused { message: String },
+    /// The text is an accepted program that can't be run yet.
     NotBuilt,
     /// The words aren't the numbers that the program takes.
     OtherInputs,
     /// The program has printed this text.
     Finished { text: Vec<u8> },
+    /// The program is accepted, and that is all that was asked.
+    Accepted,
 }
 
 impl Verdict {
@@ -35,10 +39,11 @@ impl Verdict {
             Verdict::Unread => 3,
             Verdict::NoMemory => 7,
             Verdict::NoProgram { .. } => 5,
+            Verdict::Refused { .. } => 6,
             Verdict::PastLimit(_) => 8,
             Verdict::OtherInputs => 9,
             Verdict::NotBuilt => 10,
-            Verdict::Finished { .. } => 0,
+            Verdict::Finished { .. } | Verdict::Accepted => 0,
         }
     }
 
@@ -48,6 +53,7 @@ impl Verdict {
     {
         match self {
             Verdict::Finished { text } => text.as_slice(),
+            Verdict::Accepted => b"accepted\n",
             _ => b"",
         }
     }
@@ -62,9 +68,10 @@ impl Verdict {
             Verdict::NoMemory => b"error: out of memory\n",
             Verdict::NoProgram { message } => message.as_bytes(),
             Verdict::PastLimit(passed) => passed.message(),
+            Verdict::Refused { message } => message.as_bytes(),
             Verdict::NotBuilt => b"error: not built\n",
             Verdict::OtherInputs => b"error: inputs\n",
-            Verdict::Finished { .. } => b"",
+            Verdict::Finished { .. } | Verdict::Accepted => b"",
         }
     }
 
