@@ -2,3 +2,4 @@ pub mod Alike
 pub mod Steps
 pub mod Table
 pub mod Apartness
+pub mod Widening

@@ -5,7 +5,7 @@ ghost use Rattle.regent_tree.specs.Facts.{is_subregion, are_disjoint};
 ghost use Rattle.constraint_check.specs.Derivations.{IsSubregion, IsDisjoint};
 
 use crate::question::{is_below, is_certain, parts_either};
-use crate::row::{Row, with_fact};
+use crate::row::{Row, add_fact};
 use regent_tree::{Known, Term};
 use std::alloc::{AllocError, Global};
 use std::marker::Model;
@@ -45,8 +45,7 @@ impl Facts {
         ensures ok { OnOk result (self.new ≡ self.old ++ known ∷ []) }
         ensures err { OnErr result (self.new ≡ self.old) }
     {
-        let rows = with_fact(self.alloc, &self.rows, known)?;
-        self.rows = rows;
+        add_fact(self.alloc, &mut self.rows, known)?;
         Ok(())
     }
 

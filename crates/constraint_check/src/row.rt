@@ -1,7 +1,8 @@
 //! A fact beside all that its upper end lies within, and what a further fact adds to it.
 
-ghost use Rattle.std.specs.Prelude.{◌≡◌, IfOk, OnOk};
-ghost use Rattle.regent_tree.specs.Facts.{raises, is_child_of, with_term, united, all_above, above_end, widened, with_fact};
+ghost use Rattle.std.specs.List.{list_any};
+ghost use Rattle.std.specs.Prelude.{◌≡◌, IfOk, OnErr, OnOk};
+ghost use Rattle.regent_tree.specs.Facts.{Row, raises, is_child_of, with_term, united, all_above, above_end, widened, with_row, with_fact};
 
 use regent_tree::{Known, Term};
 use std::alloc::{AllocError, Global};
@@ -43,7 +44,7 @@ impl Row {
         ensures { IfOk result (λ row. row ≡ widened known.now more.now self.now) }
     {
         let mut above = Vec::from_slice(alloc, &self.above)?;
-        if self.above.iter().any(|term| raises(known, term)) {
+        if widens(self, known) {
             unite(&mut above, more)?;
         }
         Ok(Row {
@@ -117,11 +118,33 @@ fn above_end(alloc: Global, rows: &[Row], known: &Known) -> Result<Vec<Term>, Al
     }
 }
 
-/// The rows when a fact is added.
-pub fn with_fact(alloc: Global, rows: &[Row], known: Known) -> Result<Vec<Row>, AllocError>
-    ensures { IfOk result (λ v. v.items ≡ with_fact rows.now known) }
+/// Whether a new fact raises one of the terms above a row's fact.
+fn widens(row: &Row, known: &Known) -> bool
+    ensures { result ≡ list_any (raises known.now) row.now.1 }
 {
-    let above = above_end(alloc, rows, &known)?;
+    row.above().iter().any(|term| raises(known, term))
+}
+
+/// Whether a new fact raises a term above some row's fact.
+fn widens_any(rows: &[Row], known: &Known) -> bool
+    ensures { result ≡ list_any (λ (row : Row). list_any (raises known.now) row.1) rows.now }
+{
+    match known {
+        Known::Within(..) | Known::PartOf { .. } => rows.iter().any(|row| widens(row, known)),
+        Known::Apart(..) => false,
+        Known::Made(_) => false,
+    }
+}
+
+/// The rows with one more, by which the others are widened.
+fn with_row(
+    alloc: Global,
+    rows: &[Row],
+    known: Known,
+    above: Vec<Term>,
+) -> Result<Vec<Row>, AllocError>
+    ensures { IfOk result (λ v. v.items ≡ with_row rows.now known above.items) }
+{
     let mut all = Vec::with_capacity(alloc, rows.len() + 1)?;
     for row in rows {
         let wider = row.widened(alloc, &known, &above)?;
@@ -129,4 +152,20 @@ pub fn with_fact(alloc: Global, rows: &[Row], known: Known) -> Result<Vec<Row>, 
     }
     all.push(Row { known, above })?;
     Ok(all)
+}
+
+/// Adds a fact. The rows are made anew only where it widens one of them, as no fact on a new name
+/// does.
+pub fn add_fact(alloc: Global, rows: &mut Vec<Row>, known: Known) -> Result<(), AllocError>
+    ensures ok { OnOk result (rows.new.items ≡ with_fact rows.old.items known) }
+    ensures err { OnErr result (rows.new.items ≡ rows.old.items) }
+{
+    let above = above_end(alloc, rows, &known)?;
+    if widens_any(rows, &known) {
+        let all = with_row(alloc, rows, known, above)?;
+        *rows = all;
+        return Ok(());
+    }
+    rows.push(Row { known, above })?;
+    Ok(())
 }
