@@ -12,7 +12,7 @@ use Rattle.regent_run.specs.declared.verdict.Verdict.TheVariants as verdict
 use Rattle.regent_lex.specs.declared.fault.LexKind.{LexKind}
 use Rattle.regent_lex.specs.declared.fault.LexKind.TheVariants.{BadByte, Unclosed, NumberTooLarge, NameTooLong}
 use Rattle.regent_run.specs.Programs.{limit_in_token, syntax_line}
-use Rattle.regent_run.specs.Verdicts.{IsNoProgram, Judges, JudgesAccepted, JudgesProgram, Refuses, SaysOfText}
+use Rattle.regent_run.specs.Verdicts.{IsNoProgram, Judges, JudgesAccepted, JudgesProgram, TellsFault, SaysOfText}
 use Rattle.regent_run.specs.Words.{Deed, checks, runs}
 use Rattle.check_rules.specs.Breaches.{breaches}
 
@@ -137,14 +137,14 @@ syntax_told Unclosed line h = refl
 syntax_told NumberTooLarge line h = absurd cc
 syntax_told NameTooLong line h = absurd cc
 
-pub refuses_token : (kind : LexKind) (line : ℕ) (v : Verdict) → None ≡ limit_in_token kind → IsNoProgram line v → Refuses (Lex kind line) v
-refuses_token kind line verdict.Usage none h = h
-refuses_token kind line verdict.Unread none h = h
-refuses_token kind line verdict.NoMemory none h = tt
-refuses_token kind line (verdict.NoProgram message) none h = (line, h, syntax_told kind line none)
-refuses_token kind line (verdict.PastLimit passed) none h = absurd h
-refuses_token kind line (verdict.Refused message) none h = h
-refuses_token kind line verdict.NotBuilt none h = h
-refuses_token kind line verdict.OtherInputs none h = h
-refuses_token kind line (verdict.Finished printed) none h = h
-refuses_token kind line verdict.Accepted none h = h
+pub tells_token : (kind : LexKind) (line : ℕ) (v : Verdict) → None ≡ limit_in_token kind → IsNoProgram line v → TellsFault (Lex kind line) v
+tells_token kind line verdict.Usage none h = h
+tells_token kind line verdict.Unread none h = h
+tells_token kind line verdict.NoMemory none h = tt
+tells_token kind line (verdict.NoProgram message) none h = (line, h, syntax_told kind line none)
+tells_token kind line (verdict.PastLimit passed) none h = absurd h
+tells_token kind line (verdict.Refused message) none h = h
+tells_token kind line verdict.NotBuilt none h = h
+tells_token kind line verdict.OtherInputs none h = h
+tells_token kind line (verdict.Finished printed) none h = h
+tells_token kind line verdict.Accepted none h = h

@@ -90,13 +90,13 @@ JudgesProgram tree deed NoMemory = Unit {0}
 JudgesProgram tree deed (Refused message) = IsOfBreach tree (string_bytes message)
 JudgesProgram tree deed v = (breaches tree ≡ []) × JudgesAccepted tree deed v
 
--- what it says of a text that is refused for a fault
-abbrev pub Refuses : ReadFault → Verdict → Type 0
-Refuses fault NoMemory = Unit {0}
-Refuses fault (NoProgram message) =
+-- what it says of a text in which the reader finds a fault
+abbrev pub TellsFault : ReadFault → Verdict → Type 0
+TellsFault fault NoMemory = Unit {0}
+TellsFault fault (NoProgram message) =
     (line : ℕ) × (string_bytes message ≡ syntax_message line) × (syntax_line fault ≡ Some line)
-Refuses fault (PastLimit passed) = limit_passed fault ≡ Some passed
-Refuses fault _ = ⊥
+TellsFault fault (PastLimit passed) = limit_passed fault ≡ Some passed
+TellsFault fault _ = ⊥
 
 -- the same of the text that the next begin leaves, and what it says of the source's count of faults
 -- before and after

@@ -9,7 +9,7 @@ ghost use Rattle.run_io.specs.Source.{next_left};
 ghost use Rattle.regent_run.specs.Begins.{Begins, BeginsFile};
 ghost use Rattle.regent_run.specs.Programs.{limit_counted, limit_in_token};
 ghost use Rattle.regent_run.specs.Reading.{IsSteady, TakesAtMost, ReadsToEnd};
-ghost use Rattle.regent_run.specs.Verdicts.{IsNoProgram, IsRefused, Judges, JudgesAccepted, JudgesProgram, JudgesRun, Refuses, Says, SaysOfText};
+ghost use Rattle.regent_run.specs.Verdicts.{IsNoProgram, IsRefused, Judges, JudgesAccepted, JudgesProgram, JudgesRun, TellsFault, Says, SaysOfText};
 ghost use Rattle.regent_run.specs.Words.{command, deed_of, texts};
 
 use crate::inputs::inputs_of;
@@ -46,9 +46,9 @@ fn limit_in_token(kind: LexKind) -> Option<Limit>
     }
 }
 
-/// A text without tokens.
-fn refused_token(alloc: Global, kind: LexKind, line: u32) -> Verdict
-    ensures { Refuses (Lex kind line) result }
+/// What a text comes to that has no tokens.
+fn token_fault(alloc: Global, kind: LexKind, line: u32) -> Verdict
+    ensures { TellsFault (Lex kind line) result }
 {
     match limit_in_token(kind) {
         Some(passed) => Verdict::PastLimit(passed),
@@ -68,13 +68,13 @@ fn limit_counted(what: Counted) -> Limit
     }
 }
 
-/// A text that is no program.
-fn refused(alloc: Global, fault: ReadFault) -> Verdict
-    ensures { Refuses fault result }
+/// What a text comes to that is no program within the limits.
+fn read_fault(alloc: Global, fault: ReadFault) -> Verdict
+    ensures { TellsFault fault result }
 {
     match fault {
         ReadFault::TooLong => Verdict::PastLimit(Limit::Text),
-        ReadFault::Lex { kind, line } => refused_token(alloc, kind, line),
+        ReadFault::Lex { kind, line } => token_fault(alloc, kind, line),
         ReadFault::TooDeep { .. } => Verdict::PastLimit(Limit::Nesting),
         ReadFault::NoProgram { line } => no_program(alloc, line),
         ReadFault::TooMany { what, .. } => Verdict::PastLimit(limit_counted(what)),
@@ -135,7 +135,7 @@ fn judge_text(alloc: Global, text: &[u8], deed: &Deed<'_>) -> Verdict
 {
     match read(alloc, text) {
         Ok(program) => judge_program(alloc, program, deed),
-        Err(fault) => refused(alloc, fault),
+        Err(fault) => read_fault(alloc, fault),
     }
 }
 
