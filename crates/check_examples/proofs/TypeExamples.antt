@@ -1,5 +1,5 @@
 use Rattle.std.specs.Prelude.{refl}
-use Rattle.check_examples.specs.TypeExamples.{wrong_types_breaks, integer_for_index_breaks, wrong_count_breaks, region_as_value_breaks, fixed_targets_breaks, wrong_formats_breaks, field_of_bad_type_breaks, unknown_child_breaks, differences_breaks, no_result_breaks}
+use Rattle.check_examples.specs.TypeExamples.{wrong_types_breaks, integer_for_index_breaks, wrong_count_breaks, region_as_value_breaks, fixed_targets_breaks, wrong_formats_breaks, field_of_bad_type_breaks, unknown_child_breaks, differences_breaks, misbegun_regions_breaks, no_result_breaks}
 
 pub wrong_types_holds : wrong_types_breaks
 wrong_types_holds = refl
@@ -30,3 +30,6 @@ differences_holds = refl
 
 pub no_result_holds : no_result_breaks
 no_result_holds = refl
+
+pub misbegun_regions_holds : misbegun_regions_breaks
+misbegun_regions_holds = refl

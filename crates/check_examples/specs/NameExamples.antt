@@ -221,3 +221,25 @@ named_by_each_other_program =
 abbrev pub named_by_each_other_breaks : Type 0
 named_by_each_other_breaks =
     breaches named_by_each_other_program ≡ breaks 1 1 ∷ breaks 1 2 ∷ []
+
+-- A field space's parameter whose type says none: what a use gives for it is no breach.
+--     fspace f { x : int64 }
+--     task t(r : region(ispace(int1d), f), q : region(ispace(int1d), h(r))) end
+--     fspace h(s : region(ispace(int1d), nope)) { y : int64 }
+--     task main() end
+abbrev pub parameter_of_no_type_program : Tree
+parameter_of_no_type_program =
+    item 1 (field_space "f" [] (param 1 "x" (number Int64) ∷ []))
+    ∷ item 2
+    (task "t"
+    (param 2 "r" (region (space_of "f" []))
+    ∷ param 2 "q" (region (space_of "h" (ref "r" ∷ []))) ∷ []) [] [])
+    ∷ item 3
+    (field_space "h" (param 3 "s" (region (space_of "nope" [])) ∷ [])
+    (param 3 "y" (number Int64) ∷ []))
+    ∷ item 4 (task "main" [] [] [])
+    ∷ []
+
+abbrev pub parameter_of_no_type_breaks : Type 0
+parameter_of_no_type_breaks =
+    breaches parameter_of_no_type_program ≡ breaks 1 3 ∷ []

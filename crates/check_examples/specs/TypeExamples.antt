@@ -247,3 +247,44 @@ no_result_program =
 abbrev pub no_result_breaks : Type 0
 no_result_breaks =
     breaches no_result_program ≡ breaks 3 5 ∷ breaks 5 6 ∷ []
+
+-- Region variables that don't begin as they must: behind them nothing is told of them.
+--     fspace f { x : int64 }
+--     fspace g { y : int64 }
+--     task main()
+--       var r = region(ispace(int1d, 4), f)
+--       var s = r
+--       var t : region(ispace(int1d), f)
+--       var u : region(ispace(int1d), f) = 1
+--       var v : region(ispace(int1d), g) = region(ispace(int1d, 4), f)
+--       s[0].x = 1
+--       t[0].x = 1
+--       u[0].x = 1
+--       v[0].y = v[1].x
+--     end
+abbrev pub misbegun_regions_program : Tree
+misbegun_regions_program =
+    item 1 (field_space "f" [] (param 1 "x" (number Int64) ∷ []))
+    ∷ item 2 (field_space "g" [] (param 2 "y" (number Int64) ∷ []))
+    ∷ item 3
+    (task "main" [] []
+    (line 4 (var_from "r" (new_region (space (int 4)) (space_of "f" [])))
+    ∷ line 5 (var "s" (get "r"))
+    ∷ line 6 (var_form (codes "t") (Some (region (space_of "f" []))) None)
+    ∷ line 7 (var_as "u" (region (space_of "f" [])) (int 1))
+    ∷ line 8
+    (var_form (codes "v") (Some (region (space_of "g" [])))
+    (Some (new_region (space (int 4)) (space_of "f" []))))
+    ∷ line 9 (set "s" (at (int 0) ∷ dot "x" ∷ []) (int 1))
+    ∷ line 10 (set "t" (at (int 0) ∷ dot "x" ∷ []) (int 1))
+    ∷ line 11 (set "u" (at (int 0) ∷ dot "x" ∷ []) (int 1))
+    ∷ line 12 (set "v" (at (int 0) ∷ dot "y" ∷ []) (access "v" (at (int 1) ∷ dot "x" ∷ []))) ∷ []))
+    ∷ []
+
+abbrev pub misbegun_regions_breaks : Type 0
+misbegun_regions_breaks =
+    breaches misbegun_regions_program ≡ breaks 3 7
+    ∷ breaks 3 8
+    ∷ breaks 5 5
+    ∷ breaks 5 6
+    ∷ breaks 5 7 ∷ []

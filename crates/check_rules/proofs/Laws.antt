@@ -13,7 +13,7 @@ use Rattle.regent_tree.specs.Scopes.{Scope}
 use Rattle.regent_tree.specs.Lookup.{type_named}
 use Rattle.regent_tree.specs.Typing.{counting_as, linked_type, operated, signed_type, stepped_type, type_of, type_of_element, type_of_field}
 use Rattle.check_rules.specs.Breaches.{Breach, same_breach, with_breach, each_once}
-use Rattle.check_rules.specs.Declarations.{type_unless}
+use Rattle.check_rules.specs.Params.{type_unless}
 use Rattle.check_rules.specs.KnownTypes.{known_type, takes_unknown, type_behind_links, type_behind_operator, type_behind_sign, type_behind_signs, type_behind_step, type_behind_steps}
 use Rattle.check_rules.specs.Names.{misnames_field}
 use Rattle.check_rules.specs.Pointers.{takes_of_wild}

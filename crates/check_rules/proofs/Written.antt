@@ -22,7 +22,8 @@ use Rattle.check_rules.specs.Clauses.{misdeclares, misdeclares_item}
 use Rattle.regent_tree.specs.declared.program.Clause.{Clause}
 use Rattle.check_rules.specs.Counts.{miscounts_in_type}
 use Rattle.check_rules.specs.Bodies.{body_scope}
-use Rattle.check_rules.specs.Declarations.{is_flawed_field, is_flawed_type, is_no_field_type, params_beside, params_bound, says_no_type, term_at, type_unless, with_unknown}
+use Rattle.check_rules.specs.Declarations.{is_flawed_field, is_flawed_type, is_no_field_type, params_bound}
+use Rattle.check_rules.specs.Params.{params_beside, says_no_type, term_at, type_unless, types_in_order, with_unknown}
 use Rattle.check_rules.specs.FirstInItems.{first_declared, first_in_fields, first_line, first_of_field, first_of_said, first_of_saying}
 use Rattle.check_rules.specs.FirstInStatements.{told_on}
 use Rattle.check_rules.specs.Names.{misnames_in_type}
@@ -31,7 +32,7 @@ use Rattle.check_rules.specs.Pointers.{mispoints_in_type}
 use Rattle.check_rules.specs.Repeats.{repeats_within}
 use Rattle.check_rules.specs.Results.{misdeclares_result}
 use Rattle.check_rules.specs.Rules.{first_in, rule_if}
-use Rattle.check_rules.specs.Spaces.{misfits_in_type, types_in_order}
+use Rattle.check_rules.specs.Spaces.{misfits_in_type}
 use Rattle.check_rules.specs.Visits.{Declaration, declarations_in, declarations_of_item}
 use Rattle.check_rules.specs.declared.rule.Rule.{Rule}
 use Rattle.check_rules.specs.declared.rule.Rule.TheVariants as rule

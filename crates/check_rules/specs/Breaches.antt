@@ -1,9 +1,10 @@
 -- The breaches of a tree: pairs of a rule and a line, found by going through the tree once for each
 -- rule. A tree is accepted where there is none.
 --
--- A breach stands on the line of its statement, parameter or item. An unbound name, and an
--- expression, a variable, a parameter or a field whose type has a breach, has an unknown type: it
--- fits everything, so the list holds causes and not what follows from them.
+-- A breach stands on the line of its statement, parameter or item. An unbound name, an expression, a
+-- variable, a parameter or a field whose type has a breach, and a region variable that doesn't begin
+-- as it must, has an unknown type: it fits everything, so the list holds causes and not what follows
+-- from them.
 use Rattle.std.specs.List.{list_any}
 use Rattle.std.specs.Prelude.{Bool, List, None, [], cond, false, filter, flat_map, fold, map, option_to_list, true, ℕ, ◌&&◌, ◌++◌, ◌==◌, ◌||◌, ◌∷◌}
 use Rattle.regent_tree.specs.Scopes.{Scope}

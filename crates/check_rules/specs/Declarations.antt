@@ -1,7 +1,6 @@
 -- What parameters and fields are declared as, where there may be breaches: a type with a breach is
 -- unknown.
-use Rattle.std.specs.Prelude.{Bool, List, None, Option, Some, cond, false, get_or, map, not, true, ℕ, ◌||◌}
-use Rattle.regent_tree.specs.Scopes.{bound_params}
+use Rattle.std.specs.Prelude.{Bool, List, None, Option, Some, false, not, true, ℕ, ◌||◌}
 use Rattle.regent_tree.specs.declared.typing.Bound.{Bound}
 use Rattle.regent_tree.specs.StaticTypes.{field_place, field_type, space_at, task_named}
 use Rattle.regent_tree.specs.declared.typing.StaticType.{StaticType}
@@ -10,43 +9,21 @@ use Rattle.regent_tree.specs.Syntax.{Name, Tree}
 use Rattle.regent_tree.specs.declared.types.Param.{Param}
 use Rattle.regent_tree.specs.declared.types.TypeTerm.{TypeTerm}
 use Rattle.regent_tree.specs.declared.types.TypeTerm.TheVariants as typed
-use Rattle.check_rules.specs.Counts.{miscounts_in_type}
 use Rattle.regent_tree.specs.Lookup.{has_field}
-use Rattle.check_rules.specs.Names.{misnames_in_type}
 use Rattle.check_rules.specs.Pointers.{mispoints_in_type}
-use Rattle.check_rules.specs.Spaces.{misfits_in_type, types_in_order}
+use Rattle.check_rules.specs.Spaces.{misfits_in_type}
+use Rattle.check_rules.specs.Params.{params_beside, says_no_type, term_at, type_unless, types_in_order, with_unknown}
 
 -- ---- types
-
--- a name or a count in the type is wrong, so that it says no type
-abbrev pub says_no_type : Tree → List Bound → TypeTerm → Bool
-says_no_type tree names t = misnames_in_type tree names t || miscounts_in_type tree t
 
 -- the type has a breach: what it says is taken for unknown
 abbrev pub is_flawed_type : Tree → List Bound → TypeTerm → Bool
 is_flawed_type tree names t =
     says_no_type tree names t || mispoints_in_type tree names t || misfits_in_type tree names t
 
-abbrev pub type_unless : Bool → StaticType → StaticType
-type_unless flawed t = cond flawed unknown_type t
-
 -- ---- parameters
 
--- the type that a parameter of a list is declared with
-abbrev pub term_at : List Param → ℕ → TypeTerm
-term_at params i = get_or (map (λ (p : Param). p.term) params) i typed.Truth
-
--- the names of a list of parameters, where the type of each that doesn't pass is unknown
-abbrev pub with_unknown : (TypeTerm → Bool) → List Param → List Bound → List Bound
-with_unknown flawed params names = map (λ (b : Bound). record b {
-  static_type = type_unless (flawed (term_at params b.number)) b.static_type;
-}) names
-
--- the names of a list of parameters as its types may use them, and as all else may
-abbrev pub params_beside : Tree → List Param → List Bound
-params_beside tree params = let names = bound_params tree params 0 params in
-    with_unknown (says_no_type tree names) params names
-
+-- the names of a list of parameters, where a type with a breach is unknown
 abbrev pub params_bound : Tree → List Param → List Bound
 params_bound tree params = let names = params_beside tree params in
     with_unknown (is_flawed_type tree names) params names

@@ -15,7 +15,8 @@ use Rattle.regent_tree.specs.declared.types.TypeTerm.TheVariants as typed
 use Rattle.regent_tree.specs.declared.typing.StaticType.{StaticType}
 use Rattle.regent_tree.specs.declared.typing.StaticType.TheVariants.{Integer as integer_type, Ispace as ispace_type, Pointer as pointer_type, Truth as truth_type}
 use Rattle.check_rules.specs.Counts.{miscounts_call}
-use Rattle.check_rules.specs.Declarations.{is_flawed_field, is_flawed_type, is_no_result_type, params_of, type_unless}
+use Rattle.check_rules.specs.Declarations.{is_flawed_field, is_flawed_type, is_no_result_type, params_of}
+use Rattle.check_rules.specs.Params.{type_unless}
 use Rattle.check_rules.specs.Names.{misnames_field, misnames_task}
 use Rattle.check_rules.specs.Partitions.{mispartitions_call}
 use Rattle.check_rules.specs.Pointers.{takes_of_wild}

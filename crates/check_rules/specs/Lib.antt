@@ -6,6 +6,7 @@ pub mod Shapes
 pub mod Names
 pub mod Counts
 pub mod Pointers
+pub mod Params
 pub mod Spaces
 pub mod Declarations
 pub mod Partitions

@@ -31,7 +31,7 @@ use Rattle.check_rules.specs.KnownTypes.{shape_of}
 use Rattle.regent_tree.specs.Lookup.{has_field, type_named}
 use Rattle.check_rules.specs.Shapes.{Calling, Shape, Taking, access_shape, field_of}
 use Rattle.check_rules.specs.Sorts.{type_at}
-use Rattle.check_rules.specs.Spaces.{types_in_order}
+use Rattle.check_rules.specs.Params.{types_in_order}
 
 -- ---- what a task holds
 

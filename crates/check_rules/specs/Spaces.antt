@@ -1,8 +1,7 @@
 -- Rule 14, Spaces: a region argument of a call or of a field space use has another kind, field
 -- space or field space arguments than the parameter, whose type is read with the arguments.
 use Rattle.std.specs.List.{list_any}
-use Rattle.std.specs.Prelude.{Bool, List, [], false, map, not, reverse, ◌&&◌, ◌||◌, ◌∷◌}
-use Rattle.regent_tree.specs.Scopes.{bound_params}
+use Rattle.std.specs.Prelude.{Bool, List, [], false, map, not, ◌&&◌, ◌||◌, ◌∷◌}
 use Rattle.regent_tree.specs.declared.typing.Bound.{Bound}
 use Rattle.regent_tree.specs.declared.typing.StaticType.{StaticType}
 use Rattle.regent_tree.specs.declared.typing.StaticType.TheVariants.{Region as region_type, Unknown as unknown_type}
@@ -15,6 +14,7 @@ use Rattle.regent_tree.specs.declared.types.TypeTerm.{TypeTerm}
 use Rattle.check_rules.specs.Counts.{uses_of}
 use Rattle.check_rules.specs.Fitting.{is_region_like}
 use Rattle.regent_tree.specs.Lookup.{space_used, type_named}
+use Rattle.check_rules.specs.Params.{params_beside, types_in_order}
 use Rattle.check_rules.specs.Shapes.{Calling}
 use Rattle.check_rules.specs.Sorts.{is_region, is_unknown_type}
 
@@ -40,14 +40,10 @@ differ_in types (p ∷ ps) (t ∷ ts) = differs types p t || differ_in types ps 
 
 -- ---- types
 
--- the types of a list of parameters, in their order
-abbrev pub types_in_order : List Bound → List StaticType
-types_in_order names = map (λ (b : Bound). b.static_type) (reverse names)
-
--- the types that a field space's parameters say
+-- The types that a field space's parameters say, so far as each says one. One that breaches this rule
+-- itself says what is written: field spaces may name each other in circles.
 abbrev pub space_params : Tree → SpaceUse → List StaticType
-space_params tree u = let params = (space_used tree u).params in
-    types_in_order (bound_params tree params 0 params)
+space_params tree u = types_in_order (params_beside tree (space_used tree u).params)
 
 abbrev pub misfits_use : Tree → List Bound → SpaceUse → Bool
 misfits_use tree names u = let types = map (type_of_ref names) u.args in

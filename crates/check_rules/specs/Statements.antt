@@ -8,14 +8,15 @@ use Rattle.regent_tree.specs.Typing.{result_type}
 use Rattle.regent_tree.specs.declared.statement.How.{How}
 use Rattle.regent_tree.specs.declared.statement.How.TheVariants as how
 use Rattle.regent_tree.specs.declared.types.TypeTerm.{TypeTerm}
-use Rattle.check_rules.specs.Declarations.{is_no_result_type, known_field, type_unless}
+use Rattle.check_rules.specs.Declarations.{is_no_result_type, known_field}
+use Rattle.check_rules.specs.Params.{type_unless}
 use Rattle.check_rules.specs.KnownTypes.{known_type, known_types}
 use Rattle.regent_tree.specs.Lookup.{type_named}
 use Rattle.check_rules.specs.Parts.{listed, tests_of}
 use Rattle.check_rules.specs.Shapes.{calling}
 use Rattle.check_rules.specs.Standing.{Spot, Standing, domain_spot, integer_spot, standing_in_call, stands, truth_spot, typed_spot, value_spot}
 use Rattle.check_rules.specs.Targets.{mistargets}
-use Rattle.check_rules.specs.Variables.{known_start, standing_in_start, variable_type}
+use Rattle.check_rules.specs.Variables.{known_start, standing_in_start, stands_declared, variable_type}
 
 -- the type of a task's results; without one, and where it has a breach, it is unknown
 abbrev pub known_result : Tree → Option TypeTerm → StaticType
@@ -30,11 +31,6 @@ spot_of_target flawed (how.Reduce o) t = integer_spot
 
 abbrev pub all_stand : Tree → Scope → Spot → List Expression → List Standing
 all_stand tree s spot es = map (λ e. stands (known_type tree s e) spot) es
-
--- the start value of a variable with a declared type
-abbrev pub stands_declared : StaticType → Option TypeTerm → StaticType → List Standing
-stands_declared t None wanted = []
-stands_declared t (Some term) wanted = stands t (typed_spot wanted) ∷ []
 
 abbrev pub standing_in_form : Tree → TaskTree → Scope → Form → List Standing
 standing_in_form tree task s (var_form n t (Some start)) = standing_in_start tree s start

@@ -12,13 +12,15 @@ use Rattle.regent_tree.specs.declared.facts.Known.{Known}
 use Rattle.regent_tree.specs.declared.types.Kind.TheVariants.{Int1d}
 use Rattle.regent_tree.specs.declared.types.TypeTerm.{TypeTerm}
 use Rattle.regent_tree.specs.declared.types.TypeTerm.TheVariants as typed
-use Rattle.check_rules.specs.Declarations.{is_flawed_type, type_unless}
+use Rattle.check_rules.specs.Declarations.{is_flawed_type}
+use Rattle.check_rules.specs.Params.{type_unless}
 use Rattle.check_rules.specs.KnownTypes.{known_type}
 use Rattle.regent_tree.specs.Lookup.{type_named}
 use Rattle.check_rules.specs.Names.{misnames_start}
 use Rattle.check_rules.specs.Partitions.{is_difference, miscolours_start, mispartitions_start}
 use Rattle.check_rules.specs.Sorts.{is_integer, is_region, is_unknown_type}
-use Rattle.check_rules.specs.Standing.{Standing, space_spot, stands}
+use Rattle.check_rules.specs.Places.{misbegins}
+use Rattle.check_rules.specs.Standing.{Standing, space_spot, stands, typed_spot}
 use Rattle.check_rules.specs.Types.{misstands}
 
 -- ---- start values
@@ -78,18 +80,31 @@ abbrev pub declared_type : Tree → Scope → TypeTerm → StaticType
 declared_type tree s t =
     type_unless (is_flawed_type tree s.names t) (type_said tree (in_scope s) s.next t)
 
--- what is known of a region variable comes from its start value, so where that has a breach nothing
--- is known of it, whatever its declared type
-abbrev pub is_lost_region : Tree → Scope → StaticType → Option Start → Bool
-is_lost_region tree s t None = false
-is_lost_region tree s t (Some start) = is_region t && is_flawed_start tree s start
-
--- the type of a new variable: as it is declared, or else as its start value's
+-- the type that a new variable has: as it is declared, or else as its start value's
 abbrev pub variable_type : Tree → Scope → Option TypeTerm → Option Start → StaticType
-variable_type tree s (Some t) start = let declared = declared_type tree s t in
-    type_unless (is_lost_region tree s declared start) declared
+variable_type tree s (Some t) start = declared_type tree s t
 variable_type tree s None (Some start) = known_start tree s start
 variable_type tree s None None = unknown_type
+
+-- the start value of a variable with a declared type
+abbrev pub stands_declared : StaticType → Option TypeTerm → StaticType → List Standing
+stands_declared t None wanted = []
+stands_declared t (Some term) wanted = stands t (typed_spot wanted) ∷ []
+
+-- what a region variable begins with is missing, isn't known, doesn't fit, or isn't as it must be
+abbrev pub misleads : Tree → Scope → Option TypeTerm → Option Start → Bool
+misleads tree s t None = true
+misleads tree s t (Some start) =
+    let begun = known_start tree s start in
+    let wanted = variable_type tree s t (Some start) in
+    is_unknown_type begun || list_any (misstands s.known) (stands_declared begun t wanted)
+    || misbegins s.names wanted begun start
+
+-- The type by which all behind it takes a new variable. What is known of a region comes from what its
+-- variable begins with, so that where this misleads nothing is known of it, whatever its type.
+abbrev pub bound_type : Tree → Scope → Option TypeTerm → Option Start → StaticType
+bound_type tree s t start = let type = variable_type tree s t start in
+    type_unless (is_region type && misleads tree s t start) type
 
 -- ---- scopes
 
@@ -111,12 +126,13 @@ abbrev pub scope_in_count : Tree → Scope → Name → Expression → Expressio
 scope_in_count tree s n from to =
     with_name s n (counted_type (known_type tree s from) (known_type tree s to)) true
 
--- The scope behind a statement: as in the meaning of programs, but where a variable's declared type
--- or start value has a breach, its type is unknown.
+-- The scope behind a statement: as in the meaning of programs, but that where the declared type of a
+-- variable has a breach, or what it begins with has one and no other type is declared or it is a
+-- region, its type is unknown.
 abbrev mutual
   pub scope_behind : Tree → Scope → Form → Scope
   scope_behind tree s (var_form n t start) =
-      let type = variable_type tree s t start in
+      let type = bound_type tree s t start in
       knowing (with_name s n type false)
       (known_of_known_start tree s start ++ known_of_type type)
   scope_behind tree s (if_form arms other) =

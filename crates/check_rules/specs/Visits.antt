@@ -8,7 +8,7 @@ use Rattle.regent_tree.specs.Syntax.{Arms, Block, Expression, Form, ItemForm, It
 use Rattle.regent_tree.specs.declared.types.Param.{Param}
 use Rattle.regent_tree.specs.declared.types.TypeTerm.{TypeTerm}
 use Rattle.check_rules.specs.Bodies.{body_scope}
-use Rattle.check_rules.specs.Declarations.{params_beside}
+use Rattle.check_rules.specs.Params.{params_beside}
 use Rattle.check_rules.specs.KnownTypes.{known_types, shape_of}
 use Rattle.check_rules.specs.Parts.{listed, parts, tests_of}
 use Rattle.check_rules.specs.Shapes.{Calling, Shape, call_in, calling, written_in}

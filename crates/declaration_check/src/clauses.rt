@@ -3,33 +3,13 @@
 ghost use Rattle.std.specs.Prelude.{◌≡◌, not};
 ghost use Rattle.std.specs.List.{list_any, list_all};
 ghost use Rattle.regent_tree.specs.PlainProgram.{tree_of};
-ghost use Rattle.regent_tree.specs.Lookup.{has_field, type_named};
+ghost use Rattle.regent_tree.specs.Lookup.{type_named};
 ghost use Rattle.check_rules.specs.Clauses.{is_no_region, lacks_fields, misdeclares, misdeclares_place};
 ghost use Rattle.check_rules.specs.Lookup.{region_has};
 
 use program_tables::{Names, Tables};
 use regent_tree::{Clause, Name, Place, StaticType};
-use static_types::{has_param, names_region};
-
-/// Whether the field space at a place has a field.
-fn has_field(tables: &Tables, space: u32, field: &Name) -> bool
-    ensures { result ≡ has_field (tree_of tables.now) space field.now }
-{
-    match tables.space_at(space) {
-        Some(space) => has_param(space.fields.as_slice(), field),
-        None => false,
-    }
-}
-
-/// Whether a region has a field; of what isn't a region nothing is said.
-fn region_has(tables: &Tables, t: &StaticType, field: &Name) -> bool
-    ensures { result ≡ region_has (tree_of tables.now) t.now field.now }
-{
-    match t {
-        StaticType::Region { space, .. } => has_field(tables, *space, field),
-        _ => true,
-    }
-}
+use static_types::{names_region, region_has};
 
 fn has_all(tables: &Tables, t: &StaticType, fields: &[Name]) -> bool
     ensures { result ≡ list_all (region_has (tree_of tables.now) t.now) fields.now }

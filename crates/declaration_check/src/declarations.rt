@@ -7,7 +7,8 @@ ghost use Rattle.regent_tree.specs.PlainProgram.{item_of, item_tree_of, tree_of}
 ghost use Rattle.regent_tree.specs.Scopes.{bound_params};
 ghost use Rattle.check_rules.specs.Clauses.{misdeclares};
 ghost use Rattle.check_rules.specs.Counts.{miscounts_in_type};
-ghost use Rattle.check_rules.specs.Declarations.{is_no_field_type, is_no_result_type, params_beside, params_bound};
+ghost use Rattle.check_rules.specs.Declarations.{is_no_field_type, is_no_result_type, params_bound};
+ghost use Rattle.check_rules.specs.Params.{params_beside};
 ghost use Rattle.check_rules.specs.FirstInItems.{first_declared, first_of_field, first_of_said, first_of_saying};
 ghost use Rattle.check_rules.specs.FirstInStatements.{told_on};
 ghost use Rattle.check_rules.specs.Names.{misnames_in_type};

@@ -13,7 +13,8 @@ use Rattle.regent_tree.specs.declared.types.TypeTerm.{TypeTerm}
 use Rattle.regent_tree.specs.declared.typing.StaticType.{StaticType}
 use Rattle.check_rules.specs.Constraints.{breaks_constraint}
 use Rattle.check_rules.specs.Counts.{miscounts_call}
-use Rattle.check_rules.specs.Declarations.{is_no_result_type, params_of, type_unless}
+use Rattle.check_rules.specs.Declarations.{is_no_result_type, params_of}
+use Rattle.check_rules.specs.Params.{type_unless}
 use Rattle.check_rules.specs.FirstInExpressions.{first_of_call, first_of_standing}
 use Rattle.check_rules.specs.KnownTypes.{is_flawed_call, type_of_call}
 use Rattle.check_rules.specs.Names.{misnames_task}

@@ -5,7 +5,7 @@ use Rattle.regent_tree.specs.declared.program.Grant.{Grant}
 use Rattle.regent_tree.specs.declared.rights.Right.{Right}
 use Rattle.check_rules.specs.Declarations.{params_bound}
 use Rattle.check_rules.specs.Privileges.{a_right, access_of_grant}
-use Rattle.check_rules.specs.Spaces.{types_in_order}
+use Rattle.check_rules.specs.Params.{types_in_order}
 use Rattle.expression_check.specs.declared.rights.Declaring.{Declaring}
 
 -- the types are those of the parameters

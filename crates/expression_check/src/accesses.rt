@@ -3,7 +3,7 @@
 ghost use Rattle.std.specs.Prelude.{◌≡◌, IfOk, Some, [], ◌∷◌, not};
 ghost use Rattle.regent_tree.specs.Plain.{expression_of};
 ghost use Rattle.regent_tree.specs.PlainProgram.{tree_of};
-ghost use Rattle.regent_tree.specs.StaticTypes.{field_type, space_at};
+ghost use Rattle.regent_tree.specs.StaticTypes.{field_type};
 ghost use Rattle.regent_tree.specs.Typing.{child_type, colour_named, colour_of, type_of_element, type_of_field};
 ghost use Rattle.regent_tree.specs.declared.typing.StaticType.TheVariants.{Pointer as pointer_type, Unknown as unknown_type};
 ghost use Rattle.regent_tree.specs.Scopes.{bound_to, bound_as};
@@ -22,12 +22,9 @@ use crate::site::Site;
 use crate::spots;
 use check_rules::Rule;
 use plain_values::Sequence;
-use program_tables::{Names, Tables};
-use regent_tree::{Colour, Expr, Kind, Name, Param, Reach, StaticType, Term};
-use static_types::{
-    Arguments, Stop, copy_reaches, has_wild, is_number, is_partition, is_region, is_unknown,
-    type_said,
-};
+use program_tables::Names;
+use regent_tree::{Colour, Expr, Kind, Name, Reach, StaticType, Term};
+use static_types::{Stop, copy_reaches, has_wild, is_number, is_partition, is_region, is_unknown};
 use std::alloc::{AllocError, Global};
 
 /// Whether a name is `colors`, which can be asked of a partition.
@@ -35,16 +32,6 @@ pub fn is_colors(name: &Name) -> bool
     ensures { result ≡ is_colors name.now }
 {
     name.as_slice() == b"colors".as_slice()
-}
-
-/// The parameters of the field space at a place.
-fn params_at<'a>(tables: &Tables<'a>, space: u32) -> &'a [Param]
-    ensures { result.now ≡ (space_at (tree_of tables.now) space).params }
-{
-    match tables.space_at(space) {
-        Some(found) => found.params.as_slice(),
-        None => &[],
-    }
 }
 
 /// The type of `x.f`, where x is a pointer into a field space with these arguments.
@@ -65,10 +52,7 @@ fn behind_field(
         return Err(Stop::Breach(Rule::Name));
     };
     Stop::at(has_wild(regions), Rule::Pointer)?;
-    let params = params_at(declared.tables(), space);
-    let look = Arguments { params, args };
-    let t = type_said(alloc, declared.tables(), &look, 0, &field.term)?;
-    Ok(t)
+    Ok(declared.field_said(alloc, space, args, &field.term)?)
 }
 
 /// The type of `x.f` by the type of x.

@@ -3,16 +3,16 @@
 ghost use Rattle.std.specs.Prelude.{◌≡◌, IfOk, IfSome, IfNone, is_some, false, true};
 ghost use Rattle.regent_tree.specs.Lookup.{has_field, has_task};
 ghost use Rattle.regent_tree.specs.PlainProgram.{tree_of, task_of};
-ghost use Rattle.regent_tree.specs.StaticTypes.{task_named, field_place, field_term, space_at};
+ghost use Rattle.regent_tree.specs.StaticTypes.{among_args, field_place, field_term, space_at, task_named, type_said};
 ghost use Rattle.check_rules.specs.Declarations.{params_bound, params_of, is_flawed_field, is_no_result_type};
 ghost use Rattle.regent_tree.specs.Scopes.{scope_of};
 ghost use Rattle.check_rules.specs.Bodies.{body_scope};
-ghost use Rattle.check_rules.specs.Spaces.{types_in_order};
+ghost use Rattle.check_rules.specs.Params.{types_in_order};
 ghost use Rattle.check_rules.specs.Sound.{IsSound, StandsIn};
 
 use program_tables::{Names, Tables, place_in};
-use regent_tree::{Name, Param, StaticType, Task};
-use static_types::{bind_written, said_params};
+use regent_tree::{Name, Param, Reach, StaticType, Task, TypeTerm};
+use static_types::{Arguments, bind_written, said_params, type_said};
 use std::alloc::{AllocError, Global};
 use std::marker::Model;
 
@@ -35,6 +35,16 @@ impl<'a> Model for Declared<'a> {
     ghost view = { λ d. d.tables };
 
     ghost invariant = { λ d. IsSound (tree_of d.tables) };
+}
+
+/// The parameters of the field space at a place.
+fn params_at<'a>(tables: &Tables<'a>, space: u32) -> &'a [Param]
+    ensures { result.now ≡ (space_at (tree_of tables.now) space).params }
+{
+    match tables.space_at(space) {
+        Some(found) => found.params.as_slice(),
+        None => &[],
+    }
 }
 
 impl<'a> Declared<'a> {
@@ -78,6 +88,22 @@ impl<'a> Declared<'a> {
         let fields = self.tables.space_at(space)?.fields.as_slice();
         let place = place_in(fields, name)?;
         Some((place, &fields[place]))
+    }
+
+    /// The type that a field's term says in a field space with these arguments.
+    pub fn field_said(
+        &self,
+        alloc: Global,
+        space: u32,
+        args: &[Reach],
+        term: &TypeTerm,
+    ) -> Result<StaticType, AllocError>
+        ensures { IfOk result (λ t. t ≡ type_said (tree_of self.now)
+            (among_args (space_at (tree_of self.now) space).params args.now) 0 term.now) }
+    {
+        let params = params_at(&self.tables, space);
+        let look = Arguments { params, args };
+        type_said(alloc, &self.tables, &look, 0, term)
     }
 
     /// No task's result type has a breach.

@@ -10,7 +10,8 @@ ghost use Rattle.regent_tree.specs.Syntax.{access_expr, call_expr};
 ghost use Rattle.regent_tree.specs.Typing.{is_pointer, type_of_element, type_of_field};
 ghost use Rattle.regent_tree.specs.declared.types.TypeTerm.TheVariants as typed;
 ghost use Rattle.regent_tree.specs.declared.typing.StaticType.TheVariants.{Ispace as ispace_type, Truth as truth_type};
-ghost use Rattle.check_rules.specs.Declarations.{is_flawed_type, type_unless};
+ghost use Rattle.check_rules.specs.Declarations.{is_flawed_type};
+ghost use Rattle.check_rules.specs.Params.{type_unless};
 ghost use Rattle.check_rules.specs.FirstInExpressions.{first_in_args, first_in_expression, first_in_links, first_in_steps, first_in_type, first_of_operator, first_of_signs, first_of_standing, first_of_step};
 ghost use Rattle.check_rules.specs.KnownTypes.{known_type, known_types, type_behind_links, type_behind_operator, type_behind_signs, type_behind_step, type_behind_steps};
 ghost use Rattle.check_rules.specs.Rules.{rule_if};
@@ -101,8 +102,8 @@ fn prefixed(signs: &[Sign], inner: StaticType) -> Result<StaticType, Stop>
     Ok(t)
 }
 
-/// What a name in an expression is bound to.
-pub fn begun(site: &Site, scope: &Scope, name: &Name) -> Result<StaticType, Stop>
+/// The type of what a name in an expression is bound to.
+pub fn type_of_name(site: &Site, scope: &Scope, name: &Name) -> Result<StaticType, Stop>
     ensures { Tells (λ t. t ≡ type_named (seen scope.now).names name.now) result
         (rule_if (not (is_bound (seen scope.now).names name.now)) rule.Name) }
 {
@@ -239,7 +240,7 @@ fn access(site: &Site, scope: &Scope, name: &Name, steps: &[Step]) -> Result<Sta
     ensures { Tells (λ t. t ≡ known_type (tree_at site.now) (seen scope.now) (access_expr name.now (steps_in steps.now))) result
         (first_in_expression (tree_at site.now) (task_at site.now) (seen scope.now) (access_expr name.now (steps_in steps.now))) }
 {
-    let start = begun(site, scope, name)?;
+    let start = type_of_name(site, scope, name)?;
     walk(site, scope, start, steps)
 }
 

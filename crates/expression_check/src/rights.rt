@@ -8,7 +8,7 @@ ghost use Rattle.regent_tree.specs.declared.types.Param.{Param};
 ghost use Rattle.check_rules.specs.Declarations.{params_bound};
 ghost use Rattle.check_rules.specs.Privileges.{a_right, access_of_grant, fields_named, rights_declared, rights_of_clause, rights_of_place, rights_on};
 ghost use Rattle.check_rules.specs.Sorts.{type_at};
-ghost use Rattle.check_rules.specs.Spaces.{types_in_order};
+ghost use Rattle.check_rules.specs.Params.{types_in_order};
 ghost use Rattle.expression_check.specs.Granting.{AreTyped, granted_on};
 
 use crate::declared::Declared;

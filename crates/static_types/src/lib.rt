@@ -1,6 +1,7 @@
 //! Static types: what type terms say, what operators give, and what fits what.
 #![tactic(auto)]
 
+mod fields;
 mod fitting;
 mod formats;
 mod looking;
@@ -11,6 +12,7 @@ mod sorts;
 mod stop;
 mod type_rules;
 
+pub use fields::region_has;
 pub use fitting::{agree_all, alike, fits, fits_param, has_wild, is_region_like};
 pub use formats::prints;
 pub use looking::{

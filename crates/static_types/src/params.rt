@@ -8,7 +8,8 @@ ghost use Rattle.regent_tree.specs.declared.typing.StaticType.TheVariants.{Regio
 ghost use Rattle.regent_tree.specs.Typing.{put, put_in, reach_of};
 ghost use Rattle.check_rules.specs.Fitting.{agree_all};
 ghost use Rattle.check_rules.specs.Partitions.{is_parent, mispartitions, mispartition_in};
-ghost use Rattle.check_rules.specs.Spaces.{differs_from, differs, differ_in, types_in_order};
+ghost use Rattle.check_rules.specs.Spaces.{differs_from, differs, differ_in};
+ghost use Rattle.check_rules.specs.Params.{types_in_order};
 ghost use Rattle.check_rules.specs.Sorts.{type_at};
 
 use crate::fitting::{agree, alike};

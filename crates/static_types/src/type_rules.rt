@@ -5,8 +5,9 @@ ghost use Rattle.std.specs.Option.{option_copied};
 ghost use Rattle.regent_tree.specs.Lookup.{space_used};
 ghost use Rattle.std.specs.List.{list_any};
 ghost use Rattle.regent_tree.specs.PlainProgram.{tree_of};
-ghost use Rattle.regent_tree.specs.StaticTypes.{written_pointer};
-ghost use Rattle.check_rules.specs.Declarations.{is_flawed_type, type_unless};
+ghost use Rattle.regent_tree.specs.StaticTypes.{among_params, type_said, written_pointer};
+ghost use Rattle.check_rules.specs.Declarations.{is_flawed_type};
+ghost use Rattle.check_rules.specs.Params.{params_beside, says_no_type, type_unless, types_in_order};
 ghost use Rattle.static_types.specs.Scopes.{in_names};
 ghost use Rattle.regent_tree.specs.declared.types.TypeTerm.TheVariants as typed;
 ghost use Rattle.check_rules.specs.Counts.{miscounts_use, miscounts_in_type, uses_of};
@@ -20,8 +21,9 @@ ghost use Rattle.check_rules.specs.Spaces.{misfits_use, misfits_in_type};
 ghost use Rattle.check_rules.specs.Spaces as spaces;
 ghost use Rattle.static_types.specs.Telling.{Tells, Anything};
 
-use crate::params::{differ_in, said_params};
-use crate::said::written_pointer;
+use crate::looking::{Among, number_at};
+use crate::params::{bind_written, differ_in};
+use crate::said::{type_said, written_pointer};
 use crate::sorts::{copy_type, is_partition, is_region, is_space, is_unknown, is_unstructured};
 use crate::stop::Stop;
 use check_rules::Rule;
@@ -242,6 +244,51 @@ fn types_of_refs(
     Ok(types)
 }
 
+/// Whether a name or a count in a type is wrong, so that it says no type.
+fn says_no_type(tables: &Tables, names: &Names, term: &TypeTerm) -> bool
+    ensures { result ≡ says_no_type (tree_of tables.now) names.now term.now }
+{
+    misnames_in_type(tables, names, term) || miscounts_in_type(tables, term)
+}
+
+/// The type of a parameter, which is unknown where its term says none.
+fn type_of_param(
+    alloc: Global,
+    tables: &Tables,
+    names: &Names,
+    among: &Among,
+    own: u32,
+    term: &TypeTerm,
+) -> Result<StaticType, AllocError>
+    ensures { IfOk result (λ t. t ≡ type_unless (says_no_type (tree_of tables.now) names.now term.now)
+        (type_said (tree_of tables.now) (among_params among.now.params.now) own term.now)) }
+{
+    if says_no_type(tables, names, term) {
+        return Ok(StaticType::Unknown);
+    }
+    type_said(alloc, tables, among, own, term)
+}
+
+/// The types of a field space's parameters, in their order.
+fn types_of_params(
+    alloc: Global,
+    tables: &Tables,
+    params: &[Param],
+) -> Result<Vec<StaticType>, AllocError>
+    ensures { IfOk result (λ types. types.items
+        ≡ types_in_order (params_beside (tree_of tables.now) params.now)) }
+{
+    let names = bind_written(alloc, tables, params)?;
+    let among = Among { params };
+    let mut types = Vec::new(alloc);
+    for (place, param) in params.iter().enumerate() {
+        let own = number_at(place)?;
+        let t = type_of_param(alloc, tables, &names, &among, own, &param.term)?;
+        types.push(t)?;
+    }
+    Ok(types)
+}
+
 /// Whether a region differs from the field space's parameter for which it stands.
 fn misfits_use(
     alloc: Global,
@@ -252,7 +299,7 @@ fn misfits_use(
     ensures { IfOk result (λ b. b ≡ misfits_use (tree_of tables.now) names.now used.now) }
 {
     let types = types_of_refs(alloc, names, used.args.as_slice())?;
-    let params = said_params(alloc, tables, space_params(tables, used))?;
+    let params = types_of_params(alloc, tables, space_params(tables, used))?;
     Ok(differ_in(&types, &params, &types))
 }
 

@@ -30,7 +30,8 @@ use Rattle.static_types.proofs.Telling.{told_here}
 use Rattle.static_types.specs.declared.stop.Stop.{Stop}
 use Rattle.static_types.specs.declared.stop.Stop.TheVariants.{Breach, Memory}
 use Rattle.expression_check.specs.Steps.{first_at_step, type_behind}
-use Rattle.type_check.specs.Targets.{EndsIn, IsTarget, LeadsTo, behind_front, first_at_last, first_of_target, first_of_use, is_element, is_no_place, mistargets, type_of_target, wanted_by}
+use Rattle.type_check.specs.Differences.{is_place}
+use Rattle.type_check.specs.Targets.{EndsIn, IsTarget, LeadsTo, behind_front, first_at_last, first_of_target, first_of_use, is_no_place, mistargets, type_of_target, wanted_by}
 use Rattle.type_check.specs.declared.assignments.Target.{Target}
 use Rattle.type_check.specs.declared.assignments.Target.TheVariants as target
 
@@ -149,7 +150,7 @@ ends_then (Field f) y ys = refl
 ends_then (At e) (Field g) ys = refl
 ends_then (At e) (At d) ys = refl
 
-ends_alone : (x : Step) → ends_in_element (steps_in (x ∷ [])) ≡ is_element x
+ends_alone : (x : Step) → ends_in_element (steps_in (x ∷ [])) ≡ is_place x
 ends_alone (Field f) = refl
 ends_alone (At e) = refl
 
@@ -158,7 +159,7 @@ ends_passing : (x : Step) (front : List Step) (last : Step) →
 ends_passing x [] last = ends_then x last []
 ends_passing x (y ∷ ys) last = ends_then x y (ys ++ last ∷ [])
 
-ends_as_last : (front : List Step) (last : Step) → ends_in_element (steps_in (front ++ last ∷ [])) ≡ is_element last
+ends_as_last : (front : List Step) (last : Step) → ends_in_element (steps_in (front ++ last ∷ [])) ≡ is_place last
 ends_as_last [] last = ends_alone last
 ends_as_last (x ∷ xs) last = ends_passing x xs last ∙ ends_as_last xs last
 
@@ -209,12 +210,12 @@ module _ (tree : Tree) (task : TaskTree) (s : Scope) (n : Name) where
 
   unplaced_last : (front : List Step) (last : Step) (t : StaticType) →
       is_no_target task s.names n (steps_in (front ++ last ∷ [])) t
-      ≡ (not (is_unknown_type t) && (is_element last || is_space t))
+      ≡ (not (is_unknown_type t) && (is_place last || is_space t))
   unplaced_last [] last t = unplaced last [] t ∙ ap (λ b. not (is_unknown_type t) && (b || is_space t)) (ends_as_last [] last)
   unplaced_last (x ∷ xs) last t = unplaced x (xs ++ last ∷ []) t ∙ ap (λ b. not (is_unknown_type t) && (b || is_space t)) (ends_as_last (x ∷ xs) last)
 
   no_place_led : (steps : List Step) (last : Step) (holder t : StaticType) → LeadsTo tree s n steps last holder t →
-      is_no_target task s.names n (steps_in steps) t ≡ (not (is_unknown_type t) && (is_element last || is_space t))
+      is_no_target task s.names n (steps_in steps) t ≡ (not (is_unknown_type t) && (is_place last || is_space t))
   no_place_led steps last holder t l =
       ap (λ (ss : List Step). is_no_target task s.names n (steps_in ss) t) l.whole ∙ unplaced_last l.front last t
 
@@ -245,7 +246,7 @@ module _ (tree : Tree) (task : TaskTree) (s : Scope) (n : Name) where
       ap (λ (u : StaticType). rules_on.mistargets task s.names n (steps_in steps) h u) (type_of_led steps t led)
       ∙ ap (λ b. b || rules_on.is_no_integer h (type_of_target t)) (no_place steps t led)
 
-  nothing_of_element : (a : Access) (last : Step) (holder : StaticType) → is_element last ≡ true →
+  nothing_of_element : (a : Access) (last : Step) (holder : StaticType) → is_place last ≡ true →
       wanted_of_last tree a (taking_at tree s holder last ∷ []) ≡ []
   nothing_of_element a (Field f) holder e = absurd cc
   nothing_of_element a (At d) holder e = refl

@@ -1,5 +1,5 @@
 -- Names that a block binds end with it.
-use Rattle.std.proofs.Common.{List, None, Option, Result, Some, [], ◌++◌, ◌-◌, ◌∷◌, ◌≡◌, ap, arith, drop, length, refl, subst, sym, true, ◌∙◌}
+use Rattle.std.proofs.Common.{List, None, Option, Result, [], ◌++◌, ◌-◌, ◌∷◌, ◌≡◌, ap, arith, drop, length, refl, subst, sym, true, ◌∙◌}
 use Rattle.std.proofs.lemmas.List.{length-append}
 use Rattle.std.proofs.Math.Seq.{drop-append_seam}
 use Rattle.std.specs.Option.{option_or}
@@ -88,22 +88,6 @@ block_left s inner now after e extends f =
 
 -- ---- what is told
 
-pub told_line : {A : Type 0} (Found : A → Type 0) (line : ℕ) (r : Result A Stop) (first : Option Rule) →
-    Tells Found r first → TellsAt Found (on_line line r) (told_on line first)
-told_line Found line (Ok x) first h = (ap (told_on line) h.0, h.1)
-told_line Found line (Err (stop.Breach q)) first h = ap (told_on line) h
-told_line Found line (Err (stop.Memory error)) first h = tt
-
-or_nothing : {A : Type 0} (a : Option A) → option_or a None ≡ a
-or_nothing None = refl
-or_nothing (Some x) = refl
-
--- of a statement without blocks
-pub told_alone : {A : Type 0} (Found : A → Type 0) (line : ℕ) (r : Result A Stop) (first : Option Rule) →
-    Tells Found r first → TellsAt Found (on_line line r) (option_or (told_on line first) None)
-told_alone Found line r first h =
-    subst (TellsAt Found (on_line line r)) (sym (or_nothing (told_on line first))) (told_line Found line r first h)
-
 -- what is told of the first is told of both
 pub told_here : (h : Halt) (a b : Option Breach) → IsToldAt h a → IsToldAt h (option_or a b)
 told_here (halt.Breach r line) a b e = ap (λ o. option_or o b) e
@@ -113,12 +97,6 @@ told_here (halt.Memory error) a b e = tt
 pub told_after : {A : Type 0} (Found : A → Type 0) (r : Result A Halt) (a b : Option Breach) → a ≡ None →
     TellsAt Found r b → TellsAt Found r (option_or a b)
 told_after Found r a b e h = subst (TellsAt Found r) (ap (λ o. option_or o b) (sym e)) h
-
--- of a statement without blocks, by what is told of its form
-pub told_as : {A : Type 0} (Found : A → Type 0) (line : ℕ) (r : Result A Stop) (first other : Option Rule) → first ≡ other →
-    Tells Found r other → TellsAt Found (on_line line r) (option_or (told_on line first) None)
-told_as Found line r first other same h =
-    told_alone Found line r first (subst (Tells Found r) (sym same) h)
 
 abbrev ok_value : {A : Type 0} → A → Result A Halt → A
 ok_value y (Ok x) = x
@@ -172,7 +150,12 @@ found_too : {A : Type 0} (Found : A → Type 0) (r : Result A Stop) (other : Opt
 found_too Found (Ok x) other all h = (h.0, all x)
 found_too Found (Err s) other all h = h
 
+-- of a statement without blocks, by what is told of its form
+pub told_by : {A : Type 0} (Found : A → Type 0) (r : Result A Stop) (first other : Option Rule) → first ≡ other →
+    Tells Found r other → Tells Found r first
+told_by Found r first other same h = subst (Tells Found r) (sym same) h
+
 -- where what is found is so anyway
-pub told_found : {A : Type 0} (Found : A → Type 0) (line : ℕ) (r : Result A Stop) (first other : Option Rule) → first ≡ other →
-    ((x : A) → Found x) → Tells Anything r other → TellsAt Found (on_line line r) (option_or (told_on line first) None)
-told_found Found line r first other same all h = told_as Found line r first other same (found_too Found r other all h)
+pub found_by : {A : Type 0} (Found : A → Type 0) (r : Result A Stop) (first other : Option Rule) → first ≡ other →
+    ((x : A) → Found x) → Tells Anything r other → Tells Found r first
+found_by Found r first other same all h = told_by Found r first other same (found_too Found r other all h)

@@ -15,7 +15,8 @@ use Rattle.regent_tree.specs.declared.types.TypeTerm.TheVariants as typed
 use Rattle.regent_tree.specs.declared.typing.StaticType.{StaticType}
 use Rattle.regent_tree.specs.declared.typing.StaticType.TheVariants.{Integer as integer_type, Truth as truth_type, Index as index_type, Pointer as pointer_type, Ispace as ispace_type, Region as region_type, Partition as partition_type, Nothing as no_type, Unknown as unknown_type}
 use Rattle.check_rules.specs.Counts.{miscounts_in_type}
-use Rattle.check_rules.specs.Declarations.{is_flawed_type, type_unless}
+use Rattle.check_rules.specs.Declarations.{is_flawed_type}
+use Rattle.check_rules.specs.Params.{type_unless}
 use Rattle.check_rules.specs.FirstInExpressions.{first_in_expression, first_in_type, first_of_standing}
 use Rattle.check_rules.specs.KnownTypes.{known_type}
 use Rattle.check_rules.specs.Names.{misnames_in_type}

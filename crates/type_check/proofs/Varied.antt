@@ -1,5 +1,5 @@
--- A start value has a breach, or depends on what is unknown, where the type that it gives is unknown.
-use Rattle.std.proofs.Common.{Bool, List, None, Option, [], ◌&&◌, ◌++◌, ◌∷◌, ◌||◌, ◌≡◌, ◌⊎◌, ap, cond, false, inl, inr, map, refl, subst, sym, true, ◌∙◌}
+-- What is told of a `var`, and the type by which it is bound where nothing is told of it.
+use Rattle.std.proofs.Common.{Bool, List, None, Option, [], ◌&&◌, ◌++◌, ◌∷◌, ◌||◌, ◌≡◌, ap, false, refl, subst, sym, true, ◌∙◌}
 use Rattle.std.specs.Prelude.{Some}
 use Rattle.std.specs.List.{list_any}
 use Rattle.std.specs.Option.{option_or}
@@ -7,111 +7,29 @@ use Rattle.std.proofs.lemmas.List.{append-nil}
 use Rattle.regent_tree.specs.Scopes.{Scope, in_scope}
 use Rattle.regent_tree.specs.StaticTypes.{type_said}
 use Rattle.regent_tree.specs.declared.types.TypeTerm.{TypeTerm}
-use Rattle.regent_tree.specs.Syntax.{Expression, Name, Start, TaskTree, Tree, var_form, a_link, access_expr, both_start, by_field_start, chain_expr, either_start, equal_start, image_start, no_link, no_step, plain_start, preimage_start, region_start}
-use Rattle.regent_tree.specs.Typing.{arithmetic_type, counting_as, owned, start_type, type_of}
-use Rattle.regent_tree.specs.declared.expression.Arithmetic.TheVariants.{Subtract}
-use Rattle.regent_tree.specs.declared.expression.Operator.TheVariants.{Compute}
+use Rattle.regent_tree.specs.Syntax.{Name, Start, TaskTree, Tree, var_form}
 use Rattle.regent_tree.specs.declared.typing.StaticType.{StaticType}
 use Rattle.regent_tree.specs.declared.typing.StaticType.TheVariants.{Integer as integer_type, Truth as truth_type, Index as index_type, Pointer as pointer_type, Ispace as ispace_type, Region as region_type, Partition as partition_type, Nothing as no_type, Unknown as unknown_type}
 use Rattle.check_rules.specs.Counts.{miscounts_in_type}
-use Rattle.check_rules.specs.Declarations.{type_unless}
+use Rattle.check_rules.specs.Params.{type_unless}
 use Rattle.check_rules.specs.FirstInExpressions.{first_in_expression, first_in_type, first_of_standing}
 use Rattle.check_rules.specs.FirstInStatements.{first_of_form, first_of_start}
 use Rattle.check_rules.specs.Names.{misnames_in_type}
-use Rattle.check_rules.specs.Places.{misbegins}
+use Rattle.check_rules.specs.Places.{misbegins, misplaces}
 use Rattle.check_rules.specs.Pointers.{mispoints_in_type}
 use Rattle.check_rules.specs.Rules.{first_in, rule_if}
 use Rattle.check_rules.specs.Spaces.{misfits_in_type}
 use Rattle.check_rules.specs.Standing.{Standing, stands, typed_spot}
+use Rattle.check_rules.specs.Types.{misstands}
 use Rattle.check_rules.specs.declared.rule.Rule.{Rule}
 use Rattle.check_rules.specs.declared.rule.Rule.TheVariants as rule
 use Rattle.static_types.specs.Telling.{IsTold}
 use Rattle.static_types.specs.declared.stop.Stop.{Stop}
 use Rattle.type_check.specs.Beginning.{first_in_start}
 use Rattle.type_check.specs.Variables.{first_of_begun, first_of_both, first_of_declared, first_of_started, first_of_var}
-use Rattle.check_rules.specs.KnownTypes.{known_type}
-use Rattle.check_rules.specs.Partitions.{is_difference, miscolours_in_type}
-use Rattle.check_rules.specs.Sorts.{is_collection, is_partition, is_region, is_unknown_type, may_be}
-use Rattle.check_rules.specs.Variables.{declared_type, expressions_in_start, is_flawed_start, is_lost_region, known_start, members_of, standing_in_start, variable_type}
-use Rattle.check_rules.proofs.Laws.{types_as_meant}
-
-unless : (b : Bool) (t : StaticType) → (b ≡ false → is_unknown_type t ≡ false) → is_unknown_type (type_unless b t) ≡ b
-unless true t h = refl
-unless false t h = h refl
-
-neither : (a b : Bool) → (a || b) ≡ false → (a ≡ false) × (b ≡ false)
-neither true b e = absurd cc
-neither false b e = (refl, e)
-
-first_of_seven : (a b c d e f g : Bool) → (a || b || c || d || e || f || g) ≡ false → a ≡ false
-first_of_seven true b c d e f g h = absurd cc
-first_of_seven false b c d e f g h = refl
-
-owned_known : (own : _) (t : StaticType) → is_unknown_type t ≡ false → is_unknown_type (owned own t) ≡ false
-owned_known own unknown_type e = absurd cc
-owned_known own (region_type k s args r) e = refl
-owned_known own (partition_type d r p) e = refl
-owned_known own (integer_type w) e = refl
-owned_known own truth_type e = refl
-owned_known own (index_type k) e = refl
-owned_known own (pointer_type k s args regions) e = refl
-owned_known own (ispace_type k) e = refl
-owned_known own no_type e = refl
-
-contrary : (b : Bool) (A : Type 0) → b ≡ true → b ≡ false → A
-contrary true A e f = absurd cc
-contrary false A e f = absurd cc
-
-known_is_meant : (t meant : StaticType) → (t ≡ meant) ⊎ (t ≡ unknown_type) → is_unknown_type t ≡ false →
-    is_unknown_type meant ≡ false
-known_is_meant t meant (inl e) k = ap is_unknown_type (sym e) ∙ k
-known_is_meant t meant (inr e) k = contrary (is_unknown_type t) (is_unknown_type meant ≡ false) (ap is_unknown_type e) k
-
-subtracted : (t u : StaticType) → (may_be is_partition t && may_be is_partition u) ≡ true →
-    (is_unknown_type t || (is_unknown_type u || false)) ≡ false →
-    is_unknown_type (arithmetic_type (counting_as t) (counting_as u)) ≡ false
-subtracted (partition_type d r p) u e k = refl
-subtracted unknown_type u e k = absurd cc
-subtracted (integer_type w) u e k = absurd cc
-subtracted truth_type u e k = absurd cc
-subtracted (index_type i) u e k = absurd cc
-subtracted (pointer_type i s args regions) u e k = absurd cc
-subtracted (ispace_type i) u e k = absurd cc
-subtracted (region_type i s args r) u e k = absurd cc
-subtracted no_type u e k = absurd cc
-
-module _ (tree : Tree) (s : Scope) where
-  difference_known : (e : Expression) → is_difference s.names e ≡ true →
-      list_any is_unknown_type (map (known_type tree s) (members_of e)) ≡ false →
-      is_unknown_type (type_of tree s e) ≡ false
-  difference_known (chain_expr (access_expr p no_step) (a_link (Compute Subtract) (access_expr q no_step) no_link)) d k =
-      subtracted _ _ d k
-  difference_known e d k = absurd cc
-
-  plain_known : (b : Bool) (e : Expression) → is_difference s.names e ≡ b →
-      list_any is_unknown_type (map (known_type tree s) (cond b (members_of e) (e ∷ []))) ≡ false →
-      is_unknown_type (type_of tree s e) ≡ false
-  plain_known true e d k = difference_known e d k
-  plain_known false e d k =
-      known_is_meant (known_type tree s e) (type_of tree s e) (types_as_meant tree s e) (neither _ _ k).0
-
-  start_known : (i : Start) → is_flawed_start tree s i ≡ false → is_unknown_type (start_type tree s s.next i) ≡ false
-  start_known (region_start e u) k = refl
-  start_known (equal_start r e) k = refl
-  start_known (by_field_start r f e) k = refl
-  start_known (image_start parent p r f) k = refl
-  start_known (preimage_start parent p r f) k = refl
-  start_known (both_start p q) k = refl
-  start_known (either_start p q) k = refl
-  start_known (plain_start e) k =
-      owned_known s.next (type_of tree s e) (plain_known (is_difference s.names e) e refl (first_of_seven _ _ _ _ _ _ _ k))
-
-  pub unknown_start : (i : Start) → is_unknown_type (known_start tree s i) ≡ is_flawed_start tree s i
-  unknown_start i = unless (is_flawed_start tree s i) (start_type tree s s.next i) (start_known i)
-
-pub lost_region : (tree : Tree) (s : Scope) (d : StaticType) (i : Start) →
-    is_lost_region tree s d (Some i) ≡ (is_region d && is_unknown_type (known_start tree s i))
-lost_region tree s d i = ap (λ b. is_region d && b) (sym (unknown_start tree s i))
+use Rattle.check_rules.specs.Partitions.{miscolours_in_type}
+use Rattle.check_rules.specs.Sorts.{is_collection, is_region, is_unknown_type}
+use Rattle.check_rules.specs.Variables.{bound_type, declared_type, expressions_in_start, known_start, standing_in_start}
 
 -- ---- declared types
 
@@ -194,7 +112,7 @@ all_by_one (Some x) h fs st w m = refl
 both_first : (tree : Tree) (task : TaskTree) (s : Scope) (n : Name) (t : TypeTerm) (i : Start) →
     first_of_form tree task s (var_form n (Some t) (Some i)) ≡ first_of_both tree task s t i
 both_first tree task s n t i =
-    let wanted = variable_type tree s (Some t) (Some i) in
+    let wanted = declared_type tree s t in
     let known = known_start tree s i in
     let declared = first_in_type tree s.names t in
     let heads = first_in (first_in_expression tree task s) (expressions_in_start s.names i) in
@@ -216,34 +134,99 @@ var_first tree task s n None (Some i) = started_first tree task s n i
 var_first tree task s n (Some t) None = declared_first tree task s n t
 var_first tree task s n (Some t) (Some i) = both_first tree task s n t i
 
--- ---- a `var` with a type and a start value
+-- ---- a `var` of which nothing is told
 
-pub wanted_is : (tree : Tree) (s : Scope) (t : TypeTerm) (i : Start) (declared begun wanted : StaticType) →
+unbroken : (b : Bool) (r : Rule) → rule_if b r ≡ None → b ≡ false
+unbroken true r e = absurd cc
+unbroken false r e = refl
+
+-- with a start value alone
+pub by_start_none : (tree : Tree) (task : TaskTree) (s : Scope) (i : Start) (t : StaticType) →
+    first_in_start tree task s i ≡ None → t ≡ known_start tree s i → rule_if (misbegins s.names t t i) rule.Place ≡ None →
+    first_of_started tree task s i ≡ None
+by_start_none tree task s i t started begun right =
+    (λ j. option_or (started j) (option_or (rule_if (misbegins s.names (sym begun j) (sym begun j) i) rule.Place) None))
+    ∙ ap (λ r. option_or r None) right
+
+pub by_start_bound : (tree : Tree) (s : Scope) (i : Start) (t : StaticType) → t ≡ known_start tree s i →
+    rule_if (misbegins s.names t t i) rule.Place ≡ None → t ≡ bound_type tree s None (Some i)
+by_start_bound tree s i t begun right =
+    told t (misbegins s.names t t i) (unbroken (misbegins s.names t t i) rule.Place right)
+    ∙ (λ j. type_unless (is_region (begun j) && (is_unknown_type (begun j) || false || misbegins s.names (begun j) (begun j) i)) (begun j))
+  where
+    told : (t : StaticType) (m : Bool) → m ≡ false → t ≡ type_unless (is_region t && (is_unknown_type t || false || m)) t
+    told (region_type k s args r) m e = λ j. type_unless (sym e j) (region_type k s args r)
+    told (partition_type d r p) m e = refl
+    told (integer_type w) m e = refl
+    told truth_type m e = refl
+    told (index_type k) m e = refl
+    told (pointer_type k s args regions) m e = refl
+    told (ispace_type k) m e = refl
+    told no_type m e = refl
+    told unknown_type m e = refl
+
+-- with a declared type alone
+pub by_type_none : (tree : Tree) (task : TaskTree) (s : Scope) (t : TypeTerm) (d : StaticType) →
+    first_in_type tree s.names t ≡ None → d ≡ declared_type tree s t → rule_if (is_collection d) rule.Place ≡ None →
+    first_of_declared tree task s t ≡ None
+by_type_none tree task s t d typed declared right =
+    (λ j. option_or (typed j) (option_or (rule_if (is_collection (sym declared j)) rule.Place) None))
+    ∙ ap (λ r. option_or r None) right
+
+pub by_type_bound : (tree : Tree) (s : Scope) (t : TypeTerm) (d : StaticType) → d ≡ declared_type tree s t →
+    rule_if (is_collection d) rule.Place ≡ None → d ≡ bound_type tree s (Some t) None
+by_type_bound tree s t d declared right =
+    told d (unbroken (is_collection d) rule.Place right) ∙ (λ j. type_unless (is_region (declared j) && true) (declared j))
+  where
+    told : (t : StaticType) → is_collection t ≡ false → t ≡ type_unless (is_region t && true) t
+    told (region_type k s args r) e = absurd cc
+    told (partition_type d r p) e = refl
+    told (integer_type w) e = refl
+    told truth_type e = refl
+    told (index_type k) e = refl
+    told (pointer_type k s args regions) e = refl
+    told (ispace_type k) e = refl
+    told no_type e = refl
+    told unknown_type e = refl
+
+-- with both
+leads : (misplaced misstanding misbegun region unknown : Bool) →
+    option_or (option_or (rule_if misplaced rule.Place) (option_or (rule_if misstanding rule.Type) None))
+    (option_or (rule_if misbegun rule.Place) None) ≡ None →
+    (region && unknown) ≡ (region && (unknown || (misstanding || false) || misbegun))
+leads true ms mb r u e = absurd cc
+leads false true mb r u e = absurd cc
+leads false false true r u e = absurd cc
+leads false false false r u e = ap (λ b. r && b) (sym (or_false u) ∙ sym (or_false (u || false)))
+
+pub by_both_bound : (tree : Tree) (s : Scope) (t : TypeTerm) (i : Start) (declared begun : StaticType) →
+    declared ≡ declared_type tree s t → begun ≡ known_start tree s i → first_of_begun s declared begun i ≡ None →
+    type_unless (is_region declared && is_unknown_type begun) declared ≡ bound_type tree s (Some t) (Some i)
+by_both_bound tree s t i declared begun d b none =
+    let stands_there : StaticType → StaticType → Standing = λ u w. stands u (typed_spot w) in
+    ap (λ x. type_unless x declared) (leads (misplaces (stands_there begun declared)) (misstands s.known (stands_there begun declared))
+    (misbegins s.names declared begun i) (is_region declared) (is_unknown_type begun) none)
+    ∙ (λ j. type_unless (is_region (d j) && (is_unknown_type (b j) || list_any (misstands s.known) (stands_there (b j) (d j) ∷ [])
+    || misbegins s.names (d j) (b j) i)) (d j))
+
+both_parts : (tree : Tree) (task : TaskTree) (s : Scope) (t : TypeTerm) (i : Start) (declared begun : StaticType) →
     declared ≡ declared_type tree s t → begun ≡ known_start tree s i →
-    wanted ≡ type_unless (is_region declared && is_unknown_type begun) declared →
-    wanted ≡ variable_type tree s (Some t) (Some i)
-wanted_is tree s t i declared begun wanted d b e =
-    e ∙ (λ j. type_unless (is_region (d j) && is_unknown_type (b j)) (d j))
-    ∙ ap (λ x. type_unless x (declared_type tree s t)) (sym (lost_region tree s (declared_type tree s t) i))
-
-both_parts : (tree : Tree) (task : TaskTree) (s : Scope) (t : TypeTerm) (i : Start) (begun wanted : StaticType) →
-    wanted ≡ variable_type tree s (Some t) (Some i) → begun ≡ known_start tree s i →
     first_in_type tree s.names t ≡ None → first_in_start tree task s i ≡ None →
-    first_of_begun s wanted begun i ≡ first_of_both tree task s t i
-both_parts tree task s t i begun wanted w b typed started =
-    sym (or_nothing (first_of_begun s wanted begun i))
-    ∙ (λ j. option_or (sym typed j) (option_or (sym started j) (option_or (first_of_begun s (w j) (b j) i) None)))
+    first_of_begun s declared begun i ≡ first_of_both tree task s t i
+both_parts tree task s t i declared begun d b typed started =
+    sym (or_nothing (first_of_begun s declared begun i))
+    ∙ (λ j. option_or (sym typed j) (option_or (sym started j) (option_or (first_of_begun s (d j) (b j) i) None)))
 
-pub both_stop : (tree : Tree) (task : TaskTree) (s : Scope) (t : TypeTerm) (i : Start) (begun wanted : StaticType) (stop : Stop) →
-    wanted ≡ variable_type tree s (Some t) (Some i) → begun ≡ known_start tree s i →
+pub both_stop : (tree : Tree) (task : TaskTree) (s : Scope) (t : TypeTerm) (i : Start) (declared begun : StaticType) (stop : Stop) →
+    declared ≡ declared_type tree s t → begun ≡ known_start tree s i →
     first_in_type tree s.names t ≡ None → first_in_start tree task s i ≡ None →
-    IsTold stop (first_of_begun s wanted begun i) → IsTold stop (first_of_both tree task s t i)
-both_stop tree task s t i begun wanted stop w b typed started told =
-    subst (IsTold stop) (both_parts tree task s t i begun wanted w b typed started) told
+    IsTold stop (first_of_begun s declared begun i) → IsTold stop (first_of_both tree task s t i)
+both_stop tree task s t i declared begun stop d b typed started told =
+    subst (IsTold stop) (both_parts tree task s t i declared begun d b typed started) told
 
-pub both_none : (tree : Tree) (task : TaskTree) (s : Scope) (t : TypeTerm) (i : Start) (begun wanted : StaticType) →
-    wanted ≡ variable_type tree s (Some t) (Some i) → begun ≡ known_start tree s i →
+pub both_none : (tree : Tree) (task : TaskTree) (s : Scope) (t : TypeTerm) (i : Start) (declared begun : StaticType) →
+    declared ≡ declared_type tree s t → begun ≡ known_start tree s i →
     first_in_type tree s.names t ≡ None → first_in_start tree task s i ≡ None →
-    first_of_begun s wanted begun i ≡ None → first_of_both tree task s t i ≡ None
-both_none tree task s t i begun wanted w b typed started none =
-    sym (both_parts tree task s t i begun wanted w b typed started) ∙ none
+    first_of_begun s declared begun i ≡ None → first_of_both tree task s t i ≡ None
+both_none tree task s t i declared begun d b typed started none =
+    sym (both_parts tree task s t i declared begun d b typed started) ∙ none

@@ -10,7 +10,7 @@ use Rattle.regent_tree.specs.declared.facts.Term.TheVariants as term
 use Rattle.regent_tree.specs.declared.types.SpaceUse.{SpaceUse}
 use Rattle.regent_tree.specs.declared.typing.StaticType.{StaticType}
 use Rattle.regent_tree.specs.declared.typing.StaticType.TheVariants.{Region as region_type}
-use Rattle.check_rules.specs.Declarations.{type_unless}
+use Rattle.check_rules.specs.Params.{type_unless}
 use Rattle.check_rules.specs.FirstInExpressions.{first_in_expression, first_of_standing}
 use Rattle.check_rules.specs.FirstInStatements.{first_of_start}
 use Rattle.check_rules.specs.Rules.{first_in}

@@ -1,10 +1,10 @@
 -- The first rule that a statement breaches in its own parts, form by form, in the order of the checker.
 use Rattle.std.specs.List.{list_any}
 use Rattle.std.specs.Option.{option_or}
-use Rattle.std.specs.Prelude.{Bool, List, Option, [], flat_map, map, not, ℕ, ◌||◌, ◌∷◌}
+use Rattle.std.specs.Prelude.{Bool, List, Option, [], false, flat_map, map, not, true, ℕ, ◌||◌, ◌∷◌}
 use Rattle.regent_tree.specs.Lookup.{type_named}
 use Rattle.regent_tree.specs.Scopes.{Scope}
-use Rattle.regent_tree.specs.Syntax.{Expression, Expressions, Name, TaskTree, Tree}
+use Rattle.regent_tree.specs.Syntax.{Expression, Expressions, Form, Name, TaskTree, Tree, do_form, for_in_form, for_to_form, if_form, while_form}
 use Rattle.regent_tree.specs.declared.rights.Access.TheVariants.{Write}
 use Rattle.regent_tree.specs.declared.typing.Bound.{Bound}
 use Rattle.check_rules.specs.Declarations.{known_field}
@@ -77,3 +77,12 @@ first_of_print tree task s alias format args = let types = known_types tree s ar
 abbrev pub first_of_call_alone : Tree → TaskTree → Scope → Name → Expressions → Option Rule
 first_of_call_alone tree task s n args = option_or (first_in_args tree task s args)
     (first_of_call tree task s (calling n (known_types tree s args)))
+
+-- blocks stand in the statement
+abbrev pub has_block : Form → Bool
+has_block (if_form arms other) = true
+has_block (while_form test body) = true
+has_block (for_in_form demanded n domain body) = true
+has_block (for_to_form demanded n from to body) = true
+has_block (do_form body) = true
+has_block form = false

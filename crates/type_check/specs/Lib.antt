@@ -1,7 +1,7 @@
 pub mod Heads
+pub mod Differences
 pub mod Targets
 pub mod Beginning
-pub mod Differences
 pub mod Variables
 pub mod Lines
 pub mod Acceptance

@@ -1,5 +1,5 @@
 -- What an assignment goes to.
-use Rattle.std.specs.Prelude.{Bool, List, Option, [], false, not, true, ◌&&◌, ◌++◌, ◌||◌, ◌∷◌, ◌≡◌}
+use Rattle.std.specs.Prelude.{Bool, List, Option, [], not, true, ◌&&◌, ◌++◌, ◌||◌, ◌∷◌, ◌≡◌}
 use Rattle.regent_tree.specs.Lookup.{is_bound, type_named}
 use Rattle.regent_tree.specs.Plain.{steps_in}
 use Rattle.regent_tree.specs.Scopes.{Scope, bound_to}
@@ -24,6 +24,7 @@ use Rattle.check_rules.specs.Targets.{is_fixed, is_no_integer}
 use Rattle.check_rules.specs.declared.rule.Rule.{Rule}
 use Rattle.check_rules.specs.declared.rule.Rule.TheVariants as rule
 use Rattle.expression_check.specs.Steps.{first_at_step, type_behind}
+use Rattle.type_check.specs.Differences.{is_place}
 use Rattle.type_check.specs.declared.assignments.Target.{Target}
 use Rattle.type_check.specs.declared.assignments.Target.TheVariants as target
 
@@ -38,16 +39,12 @@ pub record LeadsTo (tree : Tree) (s : Scope) (n : Name) (steps : List Step) (las
   pub before : holder ≡ behind_front tree s n front
   pub is : t ≡ type_behind tree s holder last
 
-abbrev pub is_element : Step → Bool
-is_element (Field f) = false
-is_element (At e) = true
-
 -- what a name with steps behind it is as a target
 abbrev pub IsTarget : Tree → Scope → Name → List Step → Target → Type 0
 IsTarget tree s n steps (target.Variable t) = (steps ≡ []) × (t ≡ type_named s.names n)
 IsTarget tree s n steps (target.Field holder f t) = LeadsTo tree s n steps (Field f.now) holder t
 IsTarget tree s n steps (target.Element t) =
-    (last : Step) × (holder : StaticType) × (is_element last ≡ true) × LeadsTo tree s n steps last holder t
+    (last : Step) × (holder : StaticType) × (is_place last ≡ true) × LeadsTo tree s n steps last holder t
 
 -- the same of its last step alone
 abbrev pub EndsIn : Tree → Scope → StaticType → Step → Target → Type 0
@@ -55,7 +52,7 @@ EndsIn tree s holder last (target.Variable t) = ⊥
 EndsIn tree s holder last (target.Field h f t) =
     (h ≡ holder) × (last ≡ Field f.now) × (t ≡ type_behind tree s holder last)
 EndsIn tree s holder last (target.Element t) =
-    (is_element last ≡ true) × (t ≡ type_behind tree s holder last)
+    (is_place last ≡ true) × (t ≡ type_behind tree s holder last)
 
 abbrev pub type_of_target : Target → StaticType
 type_of_target (target.Variable t) = t

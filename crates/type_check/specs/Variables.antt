@@ -10,7 +10,7 @@ use Rattle.check_rules.specs.Places.{misbegins}
 use Rattle.check_rules.specs.Rules.{first_of, rule_if}
 use Rattle.check_rules.specs.Sorts.{is_collection}
 use Rattle.check_rules.specs.Standing.{stands, typed_spot}
-use Rattle.check_rules.specs.Variables.{declared_type, known_start, variable_type}
+use Rattle.check_rules.specs.Variables.{declared_type, known_start}
 use Rattle.check_rules.specs.declared.rule.Rule.{Rule}
 use Rattle.check_rules.specs.declared.rule.Rule.TheVariants as rule
 use Rattle.type_check.specs.Beginning.{first_in_start}
@@ -34,7 +34,7 @@ first_of_begun s wanted t i = first_of (first_of_standing s.known (stands t (typ
 
 -- with both
 abbrev pub first_of_both : Tree → TaskTree → Scope → TypeTerm → Start → Option Rule
-first_of_both tree task s t i = let wanted = variable_type tree s (Some t) (Some i) in
+first_of_both tree task s t i = let wanted = declared_type tree s t in
     first_of (first_in_type tree s.names t
     ∷ first_in_start tree task s i
     ∷ first_of_begun s wanted (known_start tree s i) i

@@ -17,7 +17,7 @@ ghost use Rattle.type_check.specs.Targets.{EndsIn, IsTarget, first_at_last, firs
 use check_rules::Rule;
 use constraint_check::Facts;
 use expression_check::{
-    Scope, Site, begun, element_step, expression, field_step, misuses_field, spots, walk,
+    Scope, Site, element_step, expression, field_step, misuses_field, spots, type_of_name, walk,
 };
 use program_tables::Names;
 use regent_tree::{Access, Bound, Expr, How, Name, StaticType, Step};
@@ -95,7 +95,7 @@ fn target_of<'a>(
     ensures { Tells (IsTarget (tree_at site.now) (seen scope.now) name.now steps.now) result
         (first_in_target (tree_at site.now) (task_at site.now) (seen scope.now) name.now (steps_in steps.now)) }
 {
-    let start = begun(site, scope, name)?;
+    let start = type_of_name(site, scope, name)?;
     let Some((last, front)) = split_last(steps) else {
         return Ok(Target::Variable(start));
     };

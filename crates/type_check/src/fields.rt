@@ -4,26 +4,17 @@ ghost use Rattle.std.specs.Prelude.{◌≡◌, ◌||◌, IfOk, not};
 ghost use Rattle.regent_tree.specs.Lookup.{has_field};
 ghost use Rattle.regent_tree.specs.PlainProgram.{tree_of};
 ghost use Rattle.regent_tree.specs.StaticTypes.{field_type, space_at};
-ghost use Rattle.check_rules.specs.Declarations.{is_flawed_field, known_field, type_unless};
+ghost use Rattle.check_rules.specs.Declarations.{is_flawed_field, known_field};
+ghost use Rattle.check_rules.specs.Params.{type_unless};
 ghost use Rattle.check_rules.specs.Lookup.{region_has};
 ghost use Rattle.check_rules.specs.Names.{misnames_region_field};
 ghost use Rattle.expression_check.specs.Sites.{tree_at};
 
 use expression_check::{Declared, Site};
-use program_tables::{Names, Tables};
-use regent_tree::{Name, Param, Reach, StaticType};
-use static_types::{Arguments, names_region, type_said};
+use program_tables::Names;
+use regent_tree::{Name, Reach, StaticType};
+use static_types::{names_region, region_has};
 use std::alloc::{AllocError, Global};
-
-/// The parameters of the field space at a place.
-fn params_at<'a>(tables: &Tables<'a>, space: u32) -> &'a [Param]
-    ensures { result.now ≡ (space_at (tree_of tables.now) space).params }
-{
-    match tables.space_at(space) {
-        Some(found) => found.params.as_slice(),
-        None => &[],
-    }
-}
 
 /// The type of a field of a field space with these arguments; where it has no such field, the type is
 /// unknown.
@@ -38,12 +29,10 @@ fn field_of_space(
         || is_flawed_field (tree_of declared.now) space field.now)
         (field_type (tree_of declared.now) space args.now field.now)) }
 {
-    let Some((_, found)) = declared.field(space, field) else {
-        return Ok(StaticType::Unknown);
-    };
-    let params = params_at(declared.tables(), space);
-    let look = Arguments { params, args };
-    type_said(alloc, declared.tables(), &look, 0, &found.term)
+    match declared.field(space, field) {
+        Some((_, found)) => declared.field_said(alloc, space, args, &found.term),
+        None => Ok(StaticType::Unknown),
+    }
 }
 
 /// The type of a field of what has a type: unknown, where that is no region or has no such field.
@@ -58,16 +47,6 @@ pub fn known_field(site: &Site, t: &StaticType, field: &Name) -> Result<StaticTy
     }
 }
 
-/// Whether a region's field space has a field; of what isn't a region nothing is said.
-pub fn region_has(declared: &Declared, t: &StaticType, field: &Name) -> bool
-    ensures { result ≡ region_has (tree_of declared.now) t.now field.now }
-{
-    match t {
-        StaticType::Region { space, .. } => declared.field(*space, field).is_some(),
-        _ => true,
-    }
-}
-
 /// Whether a name is bound to no region, or to one whose field space hasn't a field.
 pub fn misnames_region_field(
     declared: &Declared,
@@ -79,7 +58,8 @@ pub fn misnames_region_field(
 {
     match names.bound_to(region) {
         Some(bound) => {
-            !names_region(names, region) || !region_has(declared, &bound.static_type, field)
+            !names_region(names, region)
+                || !region_has(declared.tables(), &bound.static_type, field)
         }
         None => true,
     }

@@ -7,7 +7,7 @@ ghost use Rattle.regent_tree.specs.Plain.{expression_of};
 ghost use Rattle.regent_tree.specs.Syntax.{both_start, by_field_start, either_start, equal_start, image_start, preimage_start};
 ghost use Rattle.regent_tree.specs.Typing.{is_disjoint, parent_of};
 ghost use Rattle.regent_tree.specs.declared.typing.StaticType.TheVariants.{Partition as partition_type};
-ghost use Rattle.check_rules.specs.Declarations.{type_unless};
+ghost use Rattle.check_rules.specs.Params.{type_unless};
 ghost use Rattle.check_rules.specs.Partitions.{have_other_parents};
 ghost use Rattle.check_rules.specs.Rules.{rule_if};
 ghost use Rattle.check_rules.specs.Sorts.{is_unknown_type};

@@ -195,7 +195,7 @@ fn partition(static_type: StaticType) -> Beginning
 
 /// The first rule that a start value breaches, or what a variable is by it.
 #[tactic(auto, using(crate::proofs::StartValues::nothing_either))]
-pub fn begun(site: &Site, scope: &Scope, init: &Init) -> Result<Beginning, Stop>
+pub fn start_value(site: &Site, scope: &Scope, init: &Init) -> Result<Beginning, Stop>
     requires { HoldsDeclared site.now }
     ensures { Tells (IsBegun (tree_at site.now) (seen scope.now) (start_of init.now)) result
         (first_in_start (tree_at site.now) (task_at site.now) (seen scope.now) (start_of init.now)) }

@@ -1,7 +1,7 @@
 //! Statements, one after the other, and the blocks in them.
 
 ghost use Rattle.std.specs.Option.{option_or};
-ghost use Rattle.std.specs.Prelude.{◌≡◌, true};
+ghost use Rattle.std.specs.Prelude.{◌≡◌, false, true};
 ghost use Rattle.regent_tree.specs.PlainProgram.{arms_in, block_in, form_of, otherwise_in};
 ghost use Rattle.regent_tree.specs.Scopes.{past, with_name};
 ghost use Rattle.check_rules.specs.FirstInStatements.{first_in_arms, first_in_block, first_in_else, first_of_form, first_within, told_on};
@@ -9,6 +9,8 @@ ghost use Rattle.check_rules.specs.Variables.{scope_behind, scope_behind_arms, s
 ghost use Rattle.declaration_check.specs.Halting.{TellsAt};
 ghost use Rattle.expression_check.specs.Seen.{seen};
 ghost use Rattle.expression_check.specs.Sites.{HoldsDeclared, task_at, tree_at};
+ghost use Rattle.static_types.specs.Telling.{Tells};
+ghost use Rattle.type_check.specs.Heads.{has_block};
 
 use crate::assignments::assign;
 use crate::forms::{call_alone, fill, print, return_any};
@@ -19,6 +21,7 @@ use declaration_check::Halt;
 use expression_check::{Scope, Site};
 use program_tables::copy_name;
 use regent_tree::{Arm, Name, StaticType, Stmt, What};
+use static_types::Stop;
 
 /// Checks statements, from the first on.
 #[cycle(statement)]
@@ -33,6 +36,42 @@ pub fn block(site: &Site, scope: &mut Scope, body: &[Stmt]) -> Result<(), Halt>
     Ok(())
 }
 
+/// A statement in which no block stands.
+fn alone(site: &Site, scope: &mut Scope, what: &What) -> Result<(), Stop>
+    requires declared { HoldsDeclared site.now }
+    requires alone { has_block (form_of what.now) ≡ false }
+    ensures { Tells (λ _. seen scope.new ≡ scope_behind (tree_at site.now) (seen scope.old) (form_of what.now)) result
+        (first_of_form (tree_at site.now) (task_at site.now) (seen scope.old) (form_of what.now)) }
+{
+    match what {
+        What::Var { name, term, init } => variable(site, scope, name, term, init),
+        What::Fill {
+            region,
+            fields,
+            value,
+        } => fill(site, scope, region, fields.as_slice(), value),
+        What::Assert { test: e } => test(site, scope, e),
+        What::Print {
+            alias,
+            format,
+            args,
+        } => print(site, scope, alias, format.as_slice(), args.as_slice()),
+        What::Call { task, args } => call_alone(site, scope, task, args.as_slice()),
+        What::Assign {
+            target,
+            steps,
+            how,
+            value,
+        } => assign(site, scope, target, steps.as_slice(), *how, value),
+        What::Return { value } => return_any(site, scope, value),
+        What::If { .. }
+        | What::While { .. }
+        | What::ForIn { .. }
+        | What::ForTo { .. }
+        | What::Do { .. } => unreachable!(),
+    }
+}
+
 /// A statement, with the blocks in it.
 #[cycle(statement)]
 fn statement(site: &Site, scope: &mut Scope, stmt: &Stmt) -> Result<(), Halt>
@@ -43,7 +82,6 @@ fn statement(site: &Site, scope: &mut Scope, stmt: &Stmt) -> Result<(), Halt>
 {
     let line = stmt.line;
     match &stmt.what {
-        What::Var { name, term, init } => on_line(line, variable(site, scope, name, term, init)),
         What::If { arms, other } => {
             on_line(line, tests(site, scope, arms.as_slice()))?;
             arm_blocks(site, scope, arms.as_slice())?;
@@ -76,31 +114,7 @@ fn statement(site: &Site, scope: &mut Scope, stmt: &Stmt) -> Result<(), Halt>
             loop_body(site, scope, name, counted, body.as_slice())
         }
         What::Do { body } => nested(site, scope, body.as_slice()),
-        What::Fill {
-            region,
-            fields,
-            value,
-        } => on_line(line, fill(site, scope, region, fields.as_slice(), value)),
-        What::Assert { test: e } => on_line(line, test(site, scope, e)),
-        What::Print {
-            alias,
-            format,
-            args,
-        } => on_line(
-            line,
-            print(site, scope, alias, format.as_slice(), args.as_slice()),
-        ),
-        What::Call { task, args } => on_line(line, call_alone(site, scope, task, args.as_slice())),
-        What::Assign {
-            target,
-            steps,
-            how,
-            value,
-        } => on_line(
-            line,
-            assign(site, scope, target, steps.as_slice(), *how, value),
-        ),
-        What::Return { value } => on_line(line, return_any(site, scope, value)),
+        what => on_line(line, alone(site, scope, what)),
     }
 }
 

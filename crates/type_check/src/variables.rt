@@ -5,12 +5,12 @@ ghost use Rattle.std.specs.Prelude.{◌≡◌, ◌&&◌, ◌++◌, [], false, No
 ghost use Rattle.regent_tree.specs.Plain.{start_of};
 ghost use Rattle.regent_tree.specs.Scopes.{knowing, known_of_type, with_name};
 ghost use Rattle.regent_tree.specs.Syntax.{var_form};
-ghost use Rattle.check_rules.specs.Declarations.{type_unless};
+ghost use Rattle.check_rules.specs.Params.{type_unless};
 ghost use Rattle.check_rules.specs.FirstInExpressions.{first_in_type};
 ghost use Rattle.check_rules.specs.Places.{misbegins};
 ghost use Rattle.check_rules.specs.Rules.{rule_if};
 ghost use Rattle.check_rules.specs.Sorts.{is_region, is_unknown_type};
-ghost use Rattle.check_rules.specs.Variables.{declared_type, known_of_known_start, known_start, scope_behind, variable_type};
+ghost use Rattle.check_rules.specs.Variables.{bound_type, declared_type, known_of_known_start, scope_behind};
 ghost use Rattle.check_rules.specs.declared.rule.Rule.TheVariants as rule;
 ghost use Rattle.expression_check.specs.Seen.{seen};
 ghost use Rattle.expression_check.specs.Sites.{HoldsDeclared, task_at, tree_at};
@@ -18,7 +18,7 @@ ghost use Rattle.static_types.specs.Telling.{Anything, Tells};
 ghost use Rattle.type_check.specs.Variables.{first_of_begun, first_of_both, first_of_declared, first_of_started, first_of_var};
 
 use crate::beginnings::{begins_partition, begins_region};
-use crate::starts::{Beginning, begun};
+use crate::starts::{Beginning, start_value};
 use check_rules::Rule;
 use expression_check::{Scope, Site, spots};
 use program_tables::{Names, copy_name};
@@ -52,21 +52,21 @@ fn misbegins(names: &Names, wanted: &StaticType, t: &StaticType, init: &Init) ->
 }
 
 /// A variable by its start value alone.
-fn started(site: &Site, scope: &Scope, init: &Init) -> Result<Beginning, Stop>
+fn by_start(site: &Site, scope: &Scope, init: &Init) -> Result<Beginning, Stop>
     requires { HoldsDeclared site.now }
-    ensures { Tells (λ b. (b.static_type ≡ known_start (tree_at site.now) (seen scope.now) (start_of init.now))
+    ensures { Tells (λ b. (b.static_type ≡ bound_type (tree_at site.now) (seen scope.now) None (Some (start_of init.now)))
         × (option_to_list b.known ≡ known_of_known_start (tree_at site.now) (seen scope.now) (Some (start_of init.now)))) result
         (first_of_started (tree_at site.now) (task_at site.now) (seen scope.now) (start_of init.now)) }
 {
-    let begun = begun(site, scope, init)?;
+    let begun = start_value(site, scope, init)?;
     let t = &begun.static_type;
     Stop::at(misbegins(scope.names(), t, t, init), Rule::Place)?;
     Ok(begun)
 }
 
 /// A variable by its declared type alone.
-fn declared(site: &Site, scope: &Scope, term: &TypeTerm) -> Result<Beginning, Stop>
-    ensures { Tells (λ b. (b.static_type ≡ declared_type (tree_at site.now) (seen scope.now) term.now)
+fn by_type(site: &Site, scope: &Scope, term: &TypeTerm) -> Result<Beginning, Stop>
+    ensures { Tells (λ b. (b.static_type ≡ bound_type (tree_at site.now) (seen scope.now) (Some term.now) None)
         × (option_to_list b.known ≡ [])) result
         (first_of_declared (tree_at site.now) (task_at site.now) (seen scope.now) term.now) }
 {
@@ -100,18 +100,17 @@ fn check_begun(scope: &Scope, wanted: &StaticType, t: &StaticType, init: &Init) 
 }
 
 /// A variable by its declared type and its start value.
-fn both(site: &Site, scope: &Scope, term: &TypeTerm, init: &Init) -> Result<Beginning, Stop>
+fn by_both(site: &Site, scope: &Scope, term: &TypeTerm, init: &Init) -> Result<Beginning, Stop>
     requires { HoldsDeclared site.now }
-    ensures { Tells (λ b. (b.static_type ≡ variable_type (tree_at site.now) (seen scope.now) (Some term.now) (Some (start_of init.now)))
+    ensures { Tells (λ b. (b.static_type ≡ bound_type (tree_at site.now) (seen scope.now) (Some term.now) (Some (start_of init.now)))
         × (option_to_list b.known ≡ known_of_known_start (tree_at site.now) (seen scope.now) (Some (start_of init.now)))) result
         (first_of_both (tree_at site.now) (task_at site.now) (seen scope.now) term.now (start_of init.now)) }
 {
     let declared = declared_type(site, scope, term)?;
-    let begun = begun(site, scope, init)?;
-    let wanted = unless_lost(declared, &begun.static_type);
-    check_begun(scope, &wanted, &begun.static_type, init)?;
+    let begun = start_value(site, scope, init)?;
+    check_begun(scope, &declared, &begun.static_type, init)?;
     Ok(Beginning {
-        static_type: wanted,
+        static_type: unless_lost(declared, &begun.static_type),
         known: begun.known,
     })
 }
@@ -168,15 +167,15 @@ fn begun_by(
     init: &Option<Init>,
 ) -> Result<Beginning, Stop>
     requires { HoldsDeclared site.now }
-    ensures { Tells (λ b. (b.static_type ≡ variable_type (tree_at site.now) (seen scope.now) term.now (option_map start_of init.now))
+    ensures { Tells (λ b. (b.static_type ≡ bound_type (tree_at site.now) (seen scope.now) term.now (option_map start_of init.now))
         × (option_to_list b.known ≡ known_of_known_start (tree_at site.now) (seen scope.now) (option_map start_of init.now))) result
         (first_of_var (tree_at site.now) (task_at site.now) (seen scope.now) term.now (option_map start_of init.now)) }
 {
     match (term, init) {
         (None, None) => Err(Stop::Breach(Rule::Type)),
-        (None, Some(init)) => started(site, scope, init),
-        (Some(term), None) => declared(site, scope, term),
-        (Some(term), Some(init)) => both(site, scope, term, init),
+        (None, Some(init)) => by_start(site, scope, init),
+        (Some(term), None) => by_type(site, scope, term),
+        (Some(term), Some(init)) => by_both(site, scope, term, init),
     }
 }
 

@@ -1,21 +1,19 @@
 use Rattle.std.proofs.Common.{◌≡◌, None, ap, length, refl, subst, true, ◌∙◌}
-use Rattle.std.specs.Option.{option_map}
 use Rattle.std.proofs.lemmas.Result.{err_from_is_err_and}
-use Rattle.regent_tree.specs.Plain.{expression_of, expressions_in, start_of}
+use Rattle.regent_tree.specs.Plain.{expression_of}
 use Rattle.regent_tree.specs.PlainProgram.{arms_in, block_in, otherwise_of}
 use Rattle.regent_tree.specs.Scopes.{past, with_name}
 use Rattle.regent_tree.specs.Syntax.{else_block, no_else}
 use Rattle.regent_tree.specs.declared.statement.What.TheBlock.{back-What-If-1}
 use Rattle.regent_tree.proofs.Rows.{arms_of_vec, block_of_vec, otherwise_of_option}
 use Rattle.static_types.specs.Telling.{Anything}
-use Rattle.type_check.proofs.ByForm.{bounds_first, call_first, domain_first, fill_first, print_first, tests_first, while_first}
-use Rattle.type_check.proofs.Varied.{var_first}
+use Rattle.type_check.proofs.ByForm.{bounds_first, domain_first, tests_first, while_first}
 use Rattle.check_rules.specs.FirstInStatements.{first_in_arms, first_in_block}
 use Rattle.check_rules.specs.Variables.{scope_behind_arms, scope_behind_block}
 use Rattle.declaration_check.specs.Halting.{TellsAt}
 use Rattle.expression_check.specs.Seen.{seen}
 use Rattle.expression_check.specs.Sites.{task_at, tree_at}
-use Rattle.type_check.proofs.Blocks.{block_left, block_names, head_found, head_none, head_passes, head_stops, loop_names, none_of_both, stops_after, told_after, told_as, told_found, told_here}
+use Rattle.type_check.proofs.Blocks.{block_left, block_names, head_found, head_none, head_passes, head_stops, loop_names, none_of_both, stops_after, told_after, told_here}
 use Rattle.type_check.proofs.Following.{arms_on, arms_stop, behind_arms_on, behind_on, block_on, block_stop}
 use Rattle.type_check.proofs.statements.+statement.Goals as goal
 
@@ -216,36 +214,3 @@ statement-returns-in_ok-counted-in-ForTo t c =
 pub statement-returns-in-Do : goal.statement-returns-in-Do
 statement-returns-in-Do t c =
     rw (c.in-Do.is, block_of_vec c.in-Do.body, ← c.as_slice-in-Do.ensures.value) c.nested-in-Do.ensures
-
--- ---- statements without blocks
-
-pub statement-returns-in-Var : goal.statement-returns-in-Var
-statement-returns-in-Var t c =
-    rw (c.in-Var.is, c.on_line.ensures)
-    (told_as _ c.args.stmt.now.line c.variable.result _ _
-    (var_first (tree_at c.args.site.now) (task_at c.args.site.now) (seen c.args.scope.now) c.in-Var.name c.in-Var.term (option_map start_of c.in-Var.init))
-    c.variable.ensures)
-
-pub statement-returns-in-Fill : goal.statement-returns-in-Fill
-statement-returns-in-Fill t c =
-    let told = rw c.as_slice-in-Fill.ensures at c.fill.ensures in
-    rw (c.in-Fill.is, c.on_line-in-Fill.ensures)
-    (told_found _ c.args.stmt.now.line c.fill.result _ _
-    (fill_first (tree_at c.args.site.now) (task_at c.args.site.now) (seen c.args.scope.now) c.in-Fill.region c.in-Fill.fields (expression_of c.in-Fill.value))
-    (λ _. refl) told)
-
-pub statement-returns-in-Print : goal.statement-returns-in-Print
-statement-returns-in-Print t c =
-    let told = rw (c.as_slice-in-Print.ensures, c.as_slice-in-Print-2.ensures.value) at c.print.ensures in
-    rw (c.in-Print.is, c.on_line-in-Print.ensures)
-    (told_found _ c.args.stmt.now.line c.print.result _ _
-    (print_first (tree_at c.args.site.now) (task_at c.args.site.now) (seen c.args.scope.now) c.in-Print.alias c.in-Print.format (expressions_in c.in-Print.args.items))
-    (λ _. refl) told)
-
-pub statement-returns-in-Call : goal.statement-returns-in-Call
-statement-returns-in-Call t c =
-    let told = rw c.as_slice-in-Call.ensures.value at c.call_alone.ensures in
-    rw (c.in-Call.is, c.on_line-in-Call.ensures)
-    (told_found _ c.args.stmt.now.line c.call_alone.result _ _
-    (call_first (tree_at c.args.site.now) (task_at c.args.site.now) (seen c.args.scope.now) c.in-Call.task (expressions_in c.in-Call.args.items))
-    (λ _. refl) told)

@@ -1,9 +1,10 @@
 use Rattle.std.proofs.lemmas.Result.{err_from_is_err_and}
+use Rattle.std.proofs.Common.{◌∙◌}
 use Rattle.regent_tree.specs.Plain.{start_of}
 use Rattle.expression_check.specs.Seen.{seen}
 use Rattle.expression_check.specs.Sites.{task_at, tree_at}
-use Rattle.type_check.proofs.Varied.{both_none, both_stop, wanted_is}
-use Rattle.type_check.proofs.variables.both.Goals as goal
+use Rattle.type_check.proofs.Varied.{both_none, both_stop, by_both_bound}
+use Rattle.type_check.proofs.variables.by_both.Goals as goal
 
 pub returns-in_err-check_begun : goal.returns-in_err-check_begun
 returns-in_err-check_begun c =
@@ -11,12 +12,10 @@ returns-in_err-check_begun c =
     let s = seen c.args.scope.now in
     let i = start_of c.args.init.now in
     let begun = c.in_ok-begun.begun.static_type in
-    let wanted = c.unless_lost-wanted.result in
+    let declared = c.in_ok-declared.declared in
     let p = err_from_is_err_and c.from_residual-in_err-check_begun.result c.from_residual-in_err-check_begun.ensures.1 in
-    let is = wanted_is tree s c.args.term.now i c.in_ok-declared.declared begun wanted
-    c.in_ok-declared.ensures.1 c.in_ok-begun.ensures.1.0 c.unless_lost-wanted.ensures in
-    rw (p.1, p.2) (both_stop tree (task_at c.args.site.now) s c.args.term.now i begun wanted
-    c.in_err-check_begun.field-0.0 is c.in_ok-begun.ensures.1.0 c.in_ok-declared.ensures.0
+    rw (p.1, p.2) (both_stop tree (task_at c.args.site.now) s c.args.term.now i declared begun
+    c.in_err-check_begun.field-0.0 c.in_ok-declared.ensures.1 c.in_ok-begun.ensures.1.0 c.in_ok-declared.ensures.0
     c.in_ok-begun.ensures.0 c.in_err-check_begun.ensures)
 
 pub returns : goal.returns
@@ -25,10 +24,13 @@ returns c =
     let s = seen c.args.scope.now in
     let i = start_of c.args.init.now in
     let begun = c.in_ok-begun.begun.static_type in
-    let wanted = c.unless_lost-wanted.result in
-    let is = wanted_is tree s c.args.term.now i c.in_ok-declared.declared begun wanted
-    c.in_ok-declared.ensures.1 c.in_ok-begun.ensures.1.0 c.unless_lost-wanted.ensures in (
-      both_none tree (task_at c.args.site.now) s c.args.term.now i begun wanted is
+    let declared = c.in_ok-declared.declared in (
+      both_none tree (task_at c.args.site.now) s c.args.term.now i declared begun c.in_ok-declared.ensures.1
           c.in_ok-begun.ensures.1.0 c.in_ok-declared.ensures.0 c.in_ok-begun.ensures.0 c.in_ok-check_begun.ensures.0,
-      (is, c.in_ok-begun.ensures.1.1),
+      (
+        c.unless_lost.ensures
+            ∙ by_both_bound tree s c.args.term.now i declared begun c.in_ok-declared.ensures.1 c.in_ok-begun.ensures.1.0
+            c.in_ok-check_begun.ensures.0,
+        c.in_ok-begun.ensures.1.1,
+      ),
     )
