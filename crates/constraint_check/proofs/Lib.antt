@@ -3,3 +3,4 @@ pub mod Steps
 pub mod Table
 pub mod Apartness
 pub mod Widening
+pub mod Few

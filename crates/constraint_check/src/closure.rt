@@ -5,6 +5,7 @@ ghost use Rattle.regent_tree.specs.Facts.{is_subregion, are_disjoint};
 ghost use Rattle.constraint_check.specs.Derivations.{IsSubregion, IsDisjoint};
 
 use crate::question::{is_below, is_certain, parts_either};
+use crate::raising::raising;
 use crate::row::{Row, add_fact};
 use regent_tree::{Known, Term};
 use std::alloc::{AllocError, Global};
@@ -63,7 +64,10 @@ impl Facts {
         ensures computed { result ≡ are_disjoint self.now a.now b.now }
         ensures derivable { IsTrue result ↔ IsDisjoint self.now a.now b.now }
     {
-        let rows = &self.rows;
-        rows.iter().any(|row| parts_either(rows, a, b, row.known()))
+        let over_a = raising(&self.rows, a);
+        let over_b = raising(&self.rows, b);
+        self.rows
+            .iter()
+            .any(|row| parts_either(over_a, over_b, a, b, row.known()))
     }
 }

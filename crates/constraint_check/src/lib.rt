@@ -7,6 +7,7 @@
 
 mod closure;
 mod question;
+mod raising;
 mod row;
 #[cfg(test)]
 mod tests;

@@ -1,8 +1,8 @@
 //! What the rows of a table say of two terms.
 
-ghost use Rattle.std.specs.Prelude.{◌≡◌};
-ghost use Rattle.regent_tree.specs.Facts.{is_certain, raises_to, any_above, is_below, differ, is_other_child, is_earlier, has_sibling_above, parts, parts_either};
-ghost use Rattle.constraint_check.specs.Looking.{fits};
+ghost use Rattle.std.specs.Prelude.{◌≡◌, ◌||◌};
+ghost use Rattle.regent_tree.specs.Facts.{is_certain, raises_to, any_above, is_below, differ, is_other_child, is_earlier, has_sibling_above};
+ghost use Rattle.constraint_check.specs.Looking.{fits, parts_over};
 
 use crate::row::{Row, raises};
 use regent_tree::{Colour, Known, Term};
@@ -93,8 +93,8 @@ pub fn is_below(rows: &[Row], a: &Term, b: &Term) -> bool
 }
 
 /// Whether x is a child of the partition, and b lies within another one.
-fn has_sibling_above(rows: &[Row], parent: u32, b: &Term, x: &Term) -> bool
-    ensures { result ≡ has_sibling_above rows.now parent b.now x.now }
+fn has_sibling_above(over_b: &[Row], parent: u32, b: &Term, x: &Term) -> bool
+    ensures { result ≡ has_sibling_above over_b.now parent b.now x.now }
 {
     match x {
         Term::Name(_) => false,
@@ -103,49 +103,54 @@ fn has_sibling_above(rows: &[Row], parent: u32, b: &Term, x: &Term) -> bool
                 partition: parent,
                 colour: *colour,
             };
-            parent == *partition && any_above(rows, &sought, b)
+            parent == *partition && any_above(over_b, &sought, b)
         }
     }
 }
 
 /// Whether a row's fact raises a to a child of the partition, and b lies within another one.
-fn raises_to_sibling(row: &Row, rows: &[Row], parent: u32, a: &Term, b: &Term) -> bool
-    ensures { result ≡ raises_to (has_sibling_above rows.now parent b.now) a.now row.now }
+fn raises_to_sibling(row: &Row, over_b: &[Row], parent: u32, a: &Term, b: &Term) -> bool
+    ensures { result ≡ raises_to (has_sibling_above over_b.now parent b.now) a.now row.now }
 {
     let above = row.above();
-    raises(row.known(), a) && above.iter().any(|x| has_sibling_above(rows, parent, b, x))
+    raises(row.known(), a)
+        && above
+            .iter()
+            .any(|x| has_sibling_above(over_b, parent, b, x))
 }
 
 /// Whether a and b lie within two children of the partition by different numbers.
-fn are_in_siblings(rows: &[Row], parent: u32, a: &Term, b: &Term) -> bool
-    ensures { result ≡ any_above rows.now (has_sibling_above rows.now parent b.now) a.now }
+fn are_in_siblings(over_a: &[Row], over_b: &[Row], parent: u32, a: &Term, b: &Term) -> bool
+    ensures { result ≡ any_above over_a.now (has_sibling_above over_b.now parent b.now) a.now }
 {
-    has_sibling_above(rows, parent, b, a)
-        || rows
+    has_sibling_above(over_b, parent, b, a)
+        || over_a
             .iter()
-            .any(|row| raises_to_sibling(row, rows, parent, a, b))
+            .any(|row| raises_to_sibling(row, over_b, parent, a, b))
 }
 
 /// Whether a fact parts a from b, in this order.
-fn parts(rows: &[Row], a: &Term, b: &Term, known: &Known) -> bool
-    ensures { result ≡ parts rows.now a.now b.now known.now }
+fn parts(over_a: &[Row], over_b: &[Row], a: &Term, b: &Term, known: &Known) -> bool
+    ensures { result ≡ parts_over over_a.now over_b.now a.now b.now known.now }
 {
     match known {
         Known::Within(..) => false,
-        Known::Apart(x, y) => is_below(rows, a, x) && is_below(rows, b, y),
+        Known::Apart(x, y) => is_below(over_a, a, x) && is_below(over_b, b, y),
         Known::PartOf {
             partition,
             disjoint,
             ..
-        } => *disjoint && are_in_siblings(rows, *partition, a, b),
-        Known::Made(name) => is_below(rows, a, &Term::Name(*name))
-            && any_above(rows, &Sought::Earlier(*name), b),
+        } => *disjoint && are_in_siblings(over_a, over_b, *partition, a, b),
+        Known::Made(name) => is_below(over_a, a, &Term::Name(*name))
+            && any_above(over_b, &Sought::Earlier(*name), b),
     }
 }
 
-/// Whether a fact parts a and b, in one order or the other.
-pub fn parts_either(rows: &[Row], a: &Term, b: &Term, known: &Known) -> bool
-    ensures { result ≡ parts_either rows.now a.now b.now known.now }
+/// Whether a fact parts a and b, in one order or the other. Of each of them few rows are asked, which
+/// stand for all.
+pub fn parts_either(over_a: &[Row], over_b: &[Row], a: &Term, b: &Term, known: &Known) -> bool
+    ensures { result ≡ (parts_over over_a.now over_b.now a.now b.now known.now
+        || parts_over over_b.now over_a.now b.now a.now known.now) }
 {
-    parts(rows, a, b, known) || parts(rows, b, a, known)
+    parts(over_a, over_b, a, b, known) || parts(over_b, over_a, b, a, known)
 }

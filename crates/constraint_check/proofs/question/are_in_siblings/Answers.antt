@@ -8,10 +8,10 @@ use Rattle.constraint_check.proofs.question.are_in_siblings.Goals as goal
 
 pub returns-else-has_sibling_above : goal.returns-else-has_sibling_above
 returns-else-has_sibling_above c =
-    let sibling = has_sibling_above c.args.rows.now c.args.parent c.args.b.now in
+    let sibling = has_sibling_above c.args.over_b.now c.args.parent c.args.b.now in
     let test = raises_to sibling c.args.a.now in
-    let found : c.any.result ≡ list_any test c.args.rows.now =
+    let found : c.any.result ≡ list_any test c.args.over_a.now =
     any_from_yields_List test _ _ _ c.any.ensures.ran
-    (YieldsList-from_slice c.args.rows.now cc) (λ x b q k. search (rules, tests)) in
+    (YieldsList-from_slice c.args.over_a.now cc) (λ x b q k. search (rules, tests)) in
     let itself : sibling c.args.a.now ≡ false = cc in
     found ∙ or-false _ _ itself

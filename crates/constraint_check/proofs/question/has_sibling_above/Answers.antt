@@ -6,6 +6,6 @@ use Rattle.constraint_check.proofs.question.has_sibling_above.Goals as goal
 
 pub returns-then-parent-partition : goal.returns-then-parent-partition
 returns-then-parent-partition c =
-    let found : c.any_above.result ≡ any_above c.args.rows.now (is_other_child c.args.parent c.in-Child.colour) c.args.b.now = cc in
+    let found : c.any_above.result ≡ any_above c.args.over_b.now (is_other_child c.args.parent c.in-Child.colour) c.args.b.now = cc in
     found ∙ and-true (c.args.parent == c.in-Child.partition) _ (eq-eqb _ _ c.if-parent-partition.true)
-    ∙ ap (has_sibling_above c.args.rows.now c.args.parent c.args.b.now) (sym c.in-Child.is)
+    ∙ ap (has_sibling_above c.args.over_b.now c.args.parent c.args.b.now) (sym c.in-Child.is)

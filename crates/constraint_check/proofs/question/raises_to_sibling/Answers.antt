@@ -9,7 +9,7 @@ use Rattle.constraint_check.proofs.question.raises_to_sibling.Goals as goal
 pub returns-then-raises : goal.returns-then-raises
 returns-then-raises c =
     let row = c.args.row.now in
-    let test = has_sibling_above c.args.rows.now c.args.parent c.args.b.now in
+    let test = has_sibling_above c.args.over_b.now c.args.parent c.args.b.now in
     let found : c.any.result ≡ list_any test row.1 =
     any_from_yields_List test _ _ _ c.any.ensures.ran
     (YieldsList-from_slice row.1 cc) (λ x b q k. search (rules, tests)) in
