@@ -1,10 +1,12 @@
 //! The known facts, closed at each addition.
 
+ghost use Rattle.std.specs.List.{list_any};
 ghost use Rattle.std.specs.Prelude.{◌≡◌, ◌↔◌, [], ◌∷◌, ◌++◌, IsOkAnd, OnOk, OnErr, IsTrue};
 ghost use Rattle.regent_tree.specs.Facts.{is_subregion, are_disjoint};
+ghost use Rattle.regent_tree.specs.declared.facts.Term.TheVariants.{Name};
 ghost use Rattle.constraint_check.specs.Derivations.{IsSubregion, IsDisjoint};
 
-use crate::question::{is_below, is_certain, parts_either};
+use crate::question::{is_below, is_below_one, is_certain, parts_either};
 use crate::raising::raising;
 use crate::row::{Row, add_fact};
 use regent_tree::{Known, Term};
@@ -19,6 +21,7 @@ pub struct Facts {
 }
 
 impl Model for Facts {
+    ghost use Rattle.std.specs.List.{list_any};
     ghost use Rattle.std.specs.Prelude.{List};
     ghost use Rattle.regent_tree.specs.declared.facts.Known.{Known};
     ghost use Rattle.constraint_check.specs.Rows.{facts_of, IsClosed};
@@ -57,6 +60,13 @@ impl Facts {
         ensures derivable { IsTrue result ↔ IsSubregion self.now a.now b.now }
     {
         is_certain(b) && is_below(&self.rows, a, b)
+    }
+
+    /// Whether `a <= b` follows for one of these names b. It takes about as long as for one alone.
+    pub fn lies_in_one(&self, a: &Term, names: &[u32]) -> bool
+        ensures { result ≡ list_any (λ n. is_subregion self.now a.now (Name n)) names.now }
+    {
+        is_below_one(raising(&self.rows, a), a, names)
     }
 
     /// Whether `a * b` follows: a and b share no point.

@@ -1,7 +1,9 @@
 //! What the rows of a table say of two terms.
 
+ghost use Rattle.std.specs.List.{list_any};
 ghost use Rattle.std.specs.Prelude.{◌≡◌, ◌||◌};
 ghost use Rattle.regent_tree.specs.Facts.{is_certain, raises_to, any_above, is_below, differ, is_other_child, is_earlier, has_sibling_above};
+ghost use Rattle.regent_tree.specs.declared.facts.Term.TheVariants.{Name};
 ghost use Rattle.constraint_check.specs.Looking.{fits, parts_over};
 
 use crate::row::{Row, raises};
@@ -90,6 +92,18 @@ pub fn is_below(rows: &[Row], a: &Term, b: &Term) -> bool
     ensures { result ≡ is_below rows.now a.now b.now }
 {
     any_above(rows, &Sought::This(*b), a)
+}
+
+/// Whether a lies within one of these names.
+pub fn is_below_one(rows: &[Row], a: &Term, names: &[u32]) -> bool
+    ensures { result ≡ list_any (λ n. is_below rows.now a.now (Name n)) names.now }
+{
+    for name in names {
+        if is_below(rows, a, &Term::Name(*name)) {
+            return true;
+        }
+    }
+    false
 }
 
 /// Whether x is a child of the partition, and b lies within another one.

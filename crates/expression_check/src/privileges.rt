@@ -7,7 +7,6 @@ ghost use Rattle.check_rules.specs.FirstInExpressions.{first_of_reading};
 ghost use Rattle.check_rules.specs.Privileges.{lacks, made_above, may_do, regions_named, rights_declared, wanted_of_region, wanted_of_step, wanting};
 ghost use Rattle.check_rules.specs.Shapes.{field_of};
 ghost use Rattle.static_types.specs.Telling.{Anything, Tells};
-ghost use Rattle.expression_check.specs.Lying.{lies_in};
 ghost use Rattle.expression_check.specs.Seen.{seen};
 ghost use Rattle.expression_check.specs.Sites.{HoldsDeclared, task_at, tree_at};
 
@@ -15,29 +14,15 @@ use crate::rights::field_number;
 use crate::scope::Scope;
 use crate::site::Site;
 use check_rules::Rule;
-use constraint_check::Facts;
 use regent_tree::{Access, Name, Reach, StaticType, Term, Wanted};
 use static_types::{Stop, has_wild};
 use std::alloc::AllocError;
 
-/// Whether a region lies within one of those with these numbers.
-fn lies_in_one(facts: &Facts, numbers: &[u32], term: &Term) -> bool
-    ensures { result ≡ list_any (lies_in facts.now term.now) numbers.now }
-{
-    for number in numbers {
-        if facts.subregion(term, &Term::Name(*number)) {
-            return true;
-        }
-    }
-    false
-}
-
 /// Whether a region lies within one of those that the task made.
-#[tactic(auto, using(crate::proofs::Lying::made_above_any))]
 fn lies_in_made(scope: &Scope, term: &Term) -> bool
     ensures { result ≡ list_any (made_above scope.now.facts term.now) scope.now.facts }
 {
-    lies_in_one(scope.facts(), scope.made(), term)
+    scope.facts().lies_in_one(term, scope.made())
 }
 
 /// Whether the task's privileges allow this, by what is known.
