@@ -1,5 +1,5 @@
 use Rattle.std.specs.Prelude.{refl}
-use Rattle.check_examples.specs.NameExamples.{behind_unknown_breaks, beside_the_unbound_breaks, causes_alone_breaks, clause_on_nothing_breaks, missing_things_breaks, named_by_each_other_breaks, parameter_of_no_type_breaks, past_its_block_breaks, pointer_to_number_breaks, two_of_a_name_breaks, unbound_name_breaks}
+use Rattle.check_examples.specs.NameExamples.{behind_unknown_breaks, beside_the_unbound_breaks, causes_alone_breaks, clause_on_nothing_breaks, missing_things_breaks, named_by_each_other_breaks, parameter_of_no_type_breaks, past_its_block_breaks, pointer_into_unknown_breaks, pointer_to_number_breaks, two_of_a_name_breaks, unbound_name_breaks}
 
 pub unbound_name_holds : unbound_name_breaks
 unbound_name_holds = refl
@@ -33,3 +33,6 @@ named_by_each_other_holds = refl
 
 pub parameter_of_no_type_holds : parameter_of_no_type_breaks
 parameter_of_no_type_holds = refl
+
+pub pointer_into_unknown_holds : pointer_into_unknown_breaks
+pointer_into_unknown_holds = refl

@@ -6,7 +6,7 @@ use Rattle.regent_tree.specs.declared.expression.Operator.TheVariants.{And}
 use Rattle.regent_tree.specs.declared.program.Clause.TheVariants.{Within}
 use Rattle.regent_tree.specs.declared.program.Grant.TheVariants.{Reads}
 use Rattle.regent_tree.specs.declared.types.NumberTerm.TheVariants.{Int64}
-use Rattle.worked_examples.specs.Words.{access, at, both, calc, call, connect, dot, each, equal, field_space, fields, get, grants, int, item, line, new_region, number, param, partition, pointer, print, print_by, ref, region, scope, set, space, space_of, task, var, var_as, var_from, when, whole}
+use Rattle.worked_examples.specs.Words.{access, at, both, calc, call, connect, dot, each, equal, field_space, fields, get, grants, int, item, line, new_region, number, param, partition, pointer, points_into, print, print_by, ref, region, scope, set, space, space_of, task, var, var_as, var_from, when, whole}
 use Rattle.check_rules.specs.Breaches.{breaches, breaks}
 
 -- A name that isn't bound: what follows from it is no breach.
@@ -222,7 +222,7 @@ abbrev pub named_by_each_other_breaks : Type 0
 named_by_each_other_breaks =
     breaches named_by_each_other_program ≡ breaks 1 1 ∷ breaks 1 2 ∷ []
 
--- A field space's parameter whose type says none: what a use gives for it is no breach.
+-- A field space's parameter whose type says nothing: what a use gives for it is no breach.
 --     fspace f { x : int64 }
 --     task t(r : region(ispace(int1d), f), q : region(ispace(int1d), h(r))) end
 --     fspace h(s : region(ispace(int1d), nope)) { y : int64 }
@@ -243,3 +243,25 @@ parameter_of_no_type_program =
 abbrev pub parameter_of_no_type_breaks : Type 0
 parameter_of_no_type_breaks =
     breaches parameter_of_no_type_program ≡ breaks 1 3 ∷ []
+
+-- A parameter that points into one whose type says nothing: its fields are asked no privilege.
+--     fspace f { x : int64 }
+--     task t(r : region(ispace(int1d), nope), y : int1d(f, r)) where reads(r.x) do
+--       var v = y.x
+--     end
+--     task main() end
+abbrev pub pointer_into_unknown_program : Tree
+pointer_into_unknown_program =
+    item 1 (field_space "f" [] (param 1 "x" (number Int64) ∷ []))
+    ∷ item 2
+    (task "t"
+    (param 2 "r" (region (space_of "nope" []))
+    ∷ param 2 "y" (points_into (pointer (space_of "f" []) (ref "r" ∷ []))) ∷ [])
+    (grants (Reads ∷ []) (fields "r" ("x" ∷ []) ∷ []) ∷ [])
+    (line 3 (var "v" (access "y" (dot "x" ∷ []))) ∷ []))
+    ∷ item 4 (task "main" [] [] [])
+    ∷ []
+
+abbrev pub pointer_into_unknown_breaks : Type 0
+pointer_into_unknown_breaks =
+    breaches pointer_into_unknown_program ≡ breaks 1 2 ∷ []

@@ -1,12 +1,13 @@
 -- Breaches of the rules on pointers, field spaces and partitions: 13 to 15.
-use Rattle.std.specs.Prelude.{[], true, ◌∷◌, ◌≡◌}
+use Rattle.std.specs.Prelude.{[], codes, true, ◌∷◌, ◌≡◌}
 use Rattle.regent_tree.specs.Syntax.{Tree, null_expr, space_expr}
+use Rattle.regent_tree.specs.declared.program.Clause.TheVariants.{Within}
 use Rattle.regent_tree.specs.declared.program.Grant.TheVariants.{Reads}
 use Rattle.regent_tree.specs.declared.types.Kind.TheVariants.{Int1d, Ptr}
 use Rattle.regent_tree.specs.declared.types.NumberTerm.TheVariants.{Index, Int64}
 use Rattle.regent_tree.specs.declared.types.Ref.TheVariants.{Wild}
 use Rattle.regent_tree.specs.declared.types.TypeTerm.TheVariants.{Truth}
-use Rattle.worked_examples.specs.Words.{at, both, by_field, call, dot, either, equal, field_space, get, grants, image, int, item, line, new_region, number, param, partition, pointer, points_into, ref, region, set, space, space_of, task, var, var_from, whole}
+use Rattle.worked_examples.specs.Words.{access, at, both, by_field, call, dot, either, equal, field_space, get, grants, image, int, item, line, new_region, number, param, partition, pointer, points_into, ref, region, set, space, space_of, task, var, var_as, var_from, whole}
 use Rattle.check_rules.specs.Breaches.{breaches, breaks}
 
 -- A field of a pointer whose list holds `wild`.
@@ -205,3 +206,44 @@ other_arguments_program =
 abbrev pub other_arguments_breaks : Type 0
 other_arguments_breaks =
     breaches other_arguments_program ≡ breaks 14 10 ∷ []
+
+-- Behind a region and a partition that don't begin as they must, nothing is told of what names them.
+--     fspace f { x : int1d }
+--     task t(a : region(ispace(int1d), f), b : region(ispace(int1d), f)) where a <= b do end
+--     task main()
+--       var r = region(ispace(int1d, 4), f)
+--       var s = r
+--       var p = partition(equal, s, ispace(int1d, 2))
+--       var g = image(r, p, r.x)
+--       var y : int1d(f, s) = null(int1d(f, s))
+--       y.x = 1
+--       var z : int1d(f, r) = y
+--       var d = partition(equal, r, ispace(int1d, 2))
+--       var e = d
+--       t(d[0], e[0])
+--     end
+abbrev pub behind_misbegun_program : Tree
+behind_misbegun_program =
+    item 1 (field_space "f" [] (param 1 "x" (number (Index Int1d)) ∷ []))
+    ∷ item 2
+    (task "t" (param 2 "a" (region (space_of "f" [])) ∷ param 2 "b" (region (space_of "f" [])) ∷ [])
+    (Within (codes "a") (codes "b") ∷ []) [])
+    ∷ item 3
+    (task "main" [] []
+    (line 4 (var_from "r" (new_region (space (int 4)) (space_of "f" [])))
+    ∷ line 5 (var "s" (get "r"))
+    ∷ line 6 (var_from "p" (equal "s" (space (int 2))))
+    ∷ line 7 (var_from "g" (image "r" "p" "r" "x"))
+    ∷ line 8
+    (var_as "y" (points_into (pointer (space_of "f" []) (ref "s" ∷ [])))
+    (null_expr (pointer (space_of "f" []) (ref "s" ∷ []))))
+    ∷ line 9 (set "y" (dot "x" ∷ []) (int 1))
+    ∷ line 10 (var_as "z" (points_into (pointer (space_of "f" []) (ref "r" ∷ []))) (get "y"))
+    ∷ line 11 (var_from "d" (equal "r" (space (int 2))))
+    ∷ line 12 (var "e" (get "d"))
+    ∷ line 13 (call "t" (access "d" (at (int 0) ∷ []) ∷ access "e" (at (int 0) ∷ []) ∷ [])) ∷ []))
+    ∷ []
+
+abbrev pub behind_misbegun_breaks : Type 0
+behind_misbegun_breaks =
+    breaches behind_misbegun_program ≡ breaks 5 5 ∷ breaks 5 12 ∷ []

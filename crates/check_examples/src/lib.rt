@@ -6,11 +6,11 @@
 #![tactic(auto)]
 
 ghost use Rattle.check_examples.specs.Accepted.{numbers_accepted, reductions_accepted, partitions_accepted, images_accepted, statements_accepted, calls_accepted, pointers_accepted, limits_accepted};
-ghost use Rattle.check_examples.specs.NameExamples.{behind_unknown_breaks, beside_the_unbound_breaks, causes_alone_breaks, clause_on_nothing_breaks, missing_things_breaks, named_by_each_other_breaks, parameter_of_no_type_breaks, past_its_block_breaks, pointer_to_number_breaks, two_of_a_name_breaks, unbound_name_breaks};
+ghost use Rattle.check_examples.specs.NameExamples.{behind_unknown_breaks, beside_the_unbound_breaks, causes_alone_breaks, clause_on_nothing_breaks, missing_things_breaks, named_by_each_other_breaks, parameter_of_no_type_breaks, past_its_block_breaks, pointer_into_unknown_breaks, pointer_to_number_breaks, two_of_a_name_breaks, unbound_name_breaks};
 ghost use Rattle.check_examples.specs.TypeExamples.{wrong_types_breaks, integer_for_index_breaks, wrong_count_breaks, region_as_value_breaks, fixed_targets_breaks, wrong_formats_breaks, field_of_bad_type_breaks, unknown_child_breaks, differences_breaks, misbegun_regions_breaks, no_result_breaks};
 ghost use Rattle.check_examples.specs.PrivilegeExamples.{write_under_reads_breaks, read_under_writes_breaks, other_reduction_breaks, two_regions_breaks, call_without_privilege_breaks, partition_by_field_breaks, privileges_of_parts_breaks};
 ghost use Rattle.check_examples.specs.ConstraintExamples.{overlapping_children_breaks, within_the_other_breaks};
-ghost use Rattle.check_examples.specs.RegionExamples.{wild_pointer_breaks, wrong_pointers_breaks, other_space_breaks, aliased_for_disjoint_breaks, image_of_another_breaks, set_of_two_parents_breaks, other_arguments_breaks};
+ghost use Rattle.check_examples.specs.RegionExamples.{wild_pointer_breaks, wrong_pointers_breaks, other_space_breaks, aliased_for_disjoint_breaks, behind_misbegun_breaks, image_of_another_breaks, set_of_two_parents_breaks, other_arguments_breaks};
 ghost use Rattle.check_examples.specs.ItemExamples.{wrong_clauses_breaks, wrong_returns_breaks, nothing_to_start_breaks, wrong_starts_breaks, demanded_loops_breaks};
 
 // ---- accepted programs
@@ -244,7 +244,13 @@ pub fn behind_unknown()
     ensures { behind_unknown_breaks }
 {}
 
-/// A parameter of a field space whose type says none takes any region.
+/// Of a pointer into what is unknown no privilege is asked.
+#[tactic(auto, using(crate::proofs::NameExamples::pointer_into_unknown_holds))]
+pub fn pointer_into_unknown()
+    ensures { pointer_into_unknown_breaks }
+{}
+
+/// A field space's parameter whose type says nothing takes any region.
 #[tactic(auto, using(crate::proofs::NameExamples::parameter_of_no_type_holds))]
 pub fn parameter_of_no_type()
     ensures { parameter_of_no_type_breaks }
@@ -329,4 +335,10 @@ pub fn other_arguments()
 #[tactic(auto, using(crate::proofs::ItemExamples::demanded_loops_holds))]
 pub fn demanded_loops()
     ensures { demanded_loops_breaks }
+{}
+
+/// Behind a region and a partition that don't begin as they must, nothing is told of what names them.
+#[tactic(auto, using(crate::proofs::RegionExamples::behind_misbegun_holds))]
+pub fn behind_misbegun()
+    ensures { behind_misbegun_breaks }
 {}

@@ -1,6 +1,6 @@
 -- Where no declaration has a breach, parameters are bound as they are written, and fields and
 -- results are sound.
-use Rattle.std.proofs.Common.{Bool, List, None, Option, Some, [], ◌++◌, ◌∷◌, ◌<◌, ◌||◌, ◌≡◌, ℕ, arith, ap, bytes_eq, cond, false, filter, get_or, length, map, not, refl, subst, suc, sym, true, zero, ◌∙◌}
+use Rattle.std.proofs.Common.{◌&&◌, ◌⊎◌, inl, inr, Bool, List, None, Option, Some, [], ◌++◌, ◌∷◌, ◌<◌, ◌||◌, ◌≡◌, ℕ, arith, ap, bytes_eq, cond, false, filter, get_or, length, map, not, refl, subst, suc, sym, true, zero, ◌∙◌}
 use Rattle.std.specs.List.{list_any}
 use Rattle.std.specs.Option.{option_or}
 use Rattle.std.proofs.lemmas.List.{append-nil}
@@ -10,11 +10,15 @@ use Rattle.regent_tree.specs.declared.program.Item.{Item}
 use Rattle.regent_tree.specs.declared.program.ItemKind.TheVariants as kind
 use Rattle.regent_tree.specs.declared.program.Task.{Task}
 use Rattle.check_rules.specs.Sound.{IsSound, IsSoundTask, StandsIn}
-use Rattle.regent_tree.specs.Scopes.{Scope, bound_params, known_of_clauses, known_of_params, scope_of}
-use Rattle.regent_tree.specs.StaticTypes.{field_place, no_task, spaces_of, task_named}
+use Rattle.regent_tree.specs.Lookup.{has_space, is_bound, type_named}
+use Rattle.regent_tree.specs.Scopes.{Scope, bound_params, bound_to, unbound, known_of_clauses, known_of_params, scope_of}
+use Rattle.regent_tree.specs.StaticTypes.{Looking, among_params, field_place, no_task, spaces_of, task_named, type_said}
 use Rattle.regent_tree.specs.Syntax.{ItemForm, ItemTree, Name, TaskTree, Tree, alias_item, import_item, space_item, start_item, task_item}
 use Rattle.regent_tree.specs.declared.program.FieldSpace.{FieldSpace}
 use Rattle.regent_tree.specs.declared.types.Param.{Param}
+use Rattle.regent_tree.specs.declared.types.NumberTerm.TheVariants as number
+use Rattle.regent_tree.specs.declared.types.Ref.{Ref}
+use Rattle.regent_tree.specs.declared.types.Ref.TheVariants.{Named, Wild}
 use Rattle.regent_tree.specs.declared.types.TypeTerm.{TypeTerm}
 use Rattle.regent_tree.specs.declared.types.TypeTerm.TheVariants as typed
 use Rattle.regent_tree.specs.declared.typing.Bound.{Bound}
@@ -22,11 +26,13 @@ use Rattle.check_rules.specs.Clauses.{misdeclares, misdeclares_item}
 use Rattle.regent_tree.specs.declared.program.Clause.{Clause}
 use Rattle.check_rules.specs.Counts.{miscounts_in_type}
 use Rattle.check_rules.specs.Bodies.{body_scope}
-use Rattle.check_rules.specs.Declarations.{is_flawed_field, is_flawed_type, is_no_field_type, params_bound}
+use Rattle.check_rules.specs.Declarations.{is_flawed_field, is_flawed_type, is_no_field_type, is_unknown_ref, names_unknown, params_bound}
 use Rattle.check_rules.specs.Params.{params_beside, says_no_type, term_at, type_unless, types_in_order, with_unknown}
 use Rattle.check_rules.specs.FirstInItems.{first_declared, first_in_fields, first_line, first_of_field, first_of_said, first_of_saying}
 use Rattle.check_rules.specs.FirstInStatements.{told_on}
-use Rattle.check_rules.specs.Names.{misnames_in_type}
+use Rattle.check_rules.specs.Lookup.{names_a}
+use Rattle.check_rules.specs.Names.{misnames_in_type, misnames_in_use, misses_region, misses_space}
+use Rattle.check_rules.specs.Sorts.{is_region, is_unknown_type}
 use Rattle.check_rules.specs.Partitions.{miscolours_in_type}
 use Rattle.check_rules.specs.Pointers.{mispoints_in_type}
 use Rattle.check_rules.specs.Repeats.{repeats_within}
@@ -91,9 +97,77 @@ pub as_written : (flawed : TypeTerm → Bool) (params : List Param) (names : Lis
     list_any (λ (p : Param). flawed p.term) params ≡ false → with_unknown flawed params names ≡ names
 as_written flawed params names t e = nothing_unknown flawed params names (unflawed_at flawed params t e)
 
+-- ---- names whose types are written
+
+-- what a name is bound to behind others
+bound_behind : (names : List Bound) (b : Bound) (n : Name) → is_bound (names ++ b ∷ []) n ≡ true →
+    ((is_bound names n ≡ true) × (bound_to (names ++ b ∷ []) n ≡ bound_to names n)) ⊎ (bound_to (names ++ b ∷ []) n ≡ b)
+bound_behind [] b n e = here (bytes_eq b.name n) e
+  where
+    here : (is : Bool) → (is || false) ≡ true →
+        ((is_bound [] n ≡ true) × (cond is b unbound ≡ bound_to [] n)) ⊎ (cond is b unbound ≡ b)
+    here true e = inr refl
+    here false e = absurd cc
+bound_behind (x ∷ xs) b n e = here (bytes_eq x.name n) (bound_behind xs b n) e
+  where
+    here : (is : Bool) →
+        (is_bound (xs ++ b ∷ []) n ≡ true → ((is_bound xs n ≡ true) × (bound_to (xs ++ b ∷ []) n ≡ bound_to xs n)) ⊎ (bound_to (xs ++ b ∷ []) n ≡ b)) →
+        (is || is_bound (xs ++ b ∷ []) n) ≡ true →
+        (((is || is_bound xs n) ≡ true) × (cond is x (bound_to (xs ++ b ∷ []) n) ≡ cond is x (bound_to xs n))) ⊎ (cond is x (bound_to (xs ++ b ∷ []) n) ≡ b)
+    here true rest e = inl (refl, refl)
+    here false rest e = rest e
+
+said_known : (tree : Tree) (look : Looking) (own : ℕ) (t : TypeTerm) → is_unknown_type (type_said tree look own t) ≡ false
+said_known tree look own (typed.Number number.Int32) = refl
+said_known tree look own (typed.Number number.Int64) = refl
+said_known tree look own (typed.Number (number.Index k)) = refl
+said_known tree look own typed.Truth = refl
+said_known tree look own (typed.Pointer t) = refl
+said_known tree look own (typed.Ispace k) = refl
+said_known tree look own (typed.Region k u) = refl
+said_known tree look own (typed.Partition d r c) = refl
+
+pub written_known : (tree : Tree) (all : List Param) (i : ℕ) (ps : List Param) (n : Name) →
+    is_bound (bound_params tree all i ps) n ≡ true → is_unknown_type (type_named (bound_params tree all i ps) n) ≡ false
+written_known tree all i [] n e = absurd cc
+written_known tree all i (p ∷ ps) n e = elim (bound_behind (bound_params tree all (suc i) ps) _ n e) [
+  | inl h ↦ ap (λ (b : Bound). is_unknown_type b.static_type) h.1 ∙ written_known tree all (suc i) ps n h.0
+  | inr h ↦ ap (λ (b : Bound). is_unknown_type b.static_type) h ∙ said_known tree (among_params all) i p.term
+]
+
+and_left : (a b : Bool) → (a && b) ≡ true → a ≡ true
+and_left true b e = refl
+and_left false b e = absurd cc
+
+not_not : (b : Bool) → not b ≡ false → b ≡ true
+not_not true e = refl
+not_not false e = absurd cc
+
+-- a type in which each name is bound to a region, among names that are all known, names nothing unknown
+module _ (tree : Tree) (names : List Bound) (known : (n : Name) → is_bound names n ≡ true → is_unknown_type (type_named names n) ≡ false) where
+  region_known : (n : Name) → not (names_a is_region names n) ≡ false → is_unknown_type (type_named names n) ≡ false
+  region_known n e = known n (and_left (is_bound names n) _ (not_not _ e))
+
+  refs_known : (refs : List Ref) → list_any (misses_region names) refs ≡ false → list_any (is_unknown_ref names) refs ≡ false
+  refs_known [] e = refl
+  refs_known (Wild ∷ refs) e = refs_known refs e
+  refs_known (Named n ∷ refs) e =
+      let p = neither (not (names_a is_region names n)) (list_any (misses_region names) refs) e in
+      none_of_two _ _ (region_known n p.0) (refs_known refs p.1)
+
+  pub names_known : (t : TypeTerm) → misnames_in_type tree names t ≡ false → names_unknown names t ≡ false
+  names_known (typed.Number t) e = refl
+  names_known typed.Truth e = refl
+  names_known (typed.Ispace k) e = refl
+  names_known (typed.Pointer t) e =
+      let p = neither (misnames_in_use tree names t.space) (list_any (misses_region names) t.regions) e in
+      none_of_two _ _ (refs_known t.space.args (neither (not (has_space tree t.space.name)) (list_any (misses_region names) t.space.args) p.0).1) (refs_known t.regions p.1)
+  names_known (typed.Region k u) e = refs_known u.args (neither (not (has_space tree u.name)) (list_any (misses_region names) u.args) e).1
+  names_known (typed.Partition d r c) e = region_known r (neither (not (names_a is_region names r)) (misses_space names c) e).0
+
 -- ---- declarations
 
-module _ (tree : Tree) (written beside : List Bound) where
+module _ (tree : Tree) (written beside : List Bound) (known : (n : Name) → is_bound written n ≡ true → is_unknown_type (type_named written n) ≡ false) where
   abbrev declared : List Param → List Declaration
   declared all = map (λ (p : Param). record { written = written; names = beside; param = p }) all
 
@@ -116,7 +190,8 @@ module _ (tree : Tree) (written beside : List Bound) where
       let named = two_none p.line (misnames_in_type tree written p.term) (miscounts_in_type tree p.term) rule.Name rule.Count says.0 in
       let fits = three_none p.line (mispoints_in_type tree beside p.term) (misfits_in_type tree beside p.term) (miscolours_in_type beside p.term) rule.Pointer rule.Spaces rule.Partition said.0 in
       let right = ap (λ ns. misnames_in_type tree ns p.term) same ∙ named.0 in
-      none_of_two _ _ (none_of_two _ _ (none_of_two _ _ (none_of_two _ _ right named.1) fits.0) fits.1) (said_none ps same says.1 said.1)
+      let all_known = ap (λ ns. names_unknown ns p.term) same ∙ names_known tree written known p.term named.0 in
+      none_of_two _ _ (none_of_two _ _ (none_of_two _ _ (none_of_two _ _ (none_of_two _ _ right named.1) fits.0) fits.1) all_known) (said_none ps same says.1 said.1)
 
 -- names beside written types are those that are written, where each says a type
 pub beside_written : (tree : Tree) (params more : List Param) →
@@ -125,7 +200,7 @@ pub beside_written : (tree : Tree) (params more : List Param) →
 beside_written tree params more e =
     let names = bound_params tree params 0 params in
     let all = sym (list_any-append (λ (p : Param). says_no_type tree names p.term) params more)
-    ∙ saying_none tree names (params_beside tree params) (params ++ more) e in
+    ∙ saying_none tree names (params_beside tree params) (written_known tree params 0 params) (params ++ more) e in
     as_written (says_no_type tree names) params names refl (neither _ _ all).0
 
 -- no type is flawed
@@ -138,7 +213,7 @@ all_sound tree params more e f =
     let beside = params_beside tree params in
     let names = bound_params tree params 0 params in
     neither _ _ (sym (list_any-append (λ (p : Param). is_flawed_type tree beside p.term) params more)
-    ∙ said_none tree names beside (params ++ more) (beside_written tree params more e) e f)
+    ∙ said_none tree names beside (written_known tree params 0 params) (params ++ more) (beside_written tree params more e) e f)
 
 pub bound_written : (tree : Tree) (params more : List Param) →
     first_in (first_of_saying tree) (declarations_in tree params (params ++ more)) ≡ None →

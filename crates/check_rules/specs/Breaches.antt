@@ -1,10 +1,10 @@
 -- The breaches of a tree: pairs of a rule and a line, found by going through the tree once for each
 -- rule. A tree is accepted where there is none.
 --
--- A breach stands on the line of its statement, parameter or item. An unbound name, an expression, a
--- variable, a parameter or a field whose type has a breach, and a region variable that doesn't begin
--- as it must, has an unknown type: it fits everything, so the list holds causes and not what follows
--- from them.
+-- A breach stands on the line of its statement, parameter or item. What is unbound or has a breach (an
+-- expression, a start value, a declared type), and a region, partition or index space that doesn't
+-- begin as it must, has an unknown type. That fits everything, so that what follows from a breach is
+-- none.
 use Rattle.std.specs.List.{list_any}
 use Rattle.std.specs.Prelude.{Bool, List, None, [], cond, false, filter, flat_map, fold, map, option_to_list, true, ℕ, ◌&&◌, ◌++◌, ◌==◌, ◌||◌, ◌∷◌}
 use Rattle.regent_tree.specs.Scopes.{Scope}

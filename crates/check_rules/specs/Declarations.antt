@@ -1,5 +1,6 @@
 -- What parameters and fields are declared as, where there may be breaches: a type with a breach is
 -- unknown.
+use Rattle.std.specs.List.{list_any}
 use Rattle.std.specs.Prelude.{Bool, List, None, Option, Some, false, not, true, ℕ, ◌||◌}
 use Rattle.regent_tree.specs.declared.typing.Bound.{Bound}
 use Rattle.regent_tree.specs.StaticTypes.{field_place, field_type, space_at, task_named}
@@ -7,19 +8,35 @@ use Rattle.regent_tree.specs.declared.typing.StaticType.{StaticType}
 use Rattle.regent_tree.specs.declared.typing.StaticType.TheVariants.{Region as region_type, Unknown as unknown_type}
 use Rattle.regent_tree.specs.Syntax.{Name, Tree}
 use Rattle.regent_tree.specs.declared.types.Param.{Param}
+use Rattle.regent_tree.specs.declared.types.Ref.{Ref}
+use Rattle.regent_tree.specs.declared.types.Ref.TheVariants.{Named, Wild}
 use Rattle.regent_tree.specs.declared.types.TypeTerm.{TypeTerm}
 use Rattle.regent_tree.specs.declared.types.TypeTerm.TheVariants as typed
-use Rattle.regent_tree.specs.Lookup.{has_field}
+use Rattle.regent_tree.specs.Lookup.{has_field, type_named}
 use Rattle.check_rules.specs.Pointers.{mispoints_in_type}
+use Rattle.check_rules.specs.Sorts.{is_unknown_type}
 use Rattle.check_rules.specs.Spaces.{misfits_in_type}
 use Rattle.check_rules.specs.Params.{params_beside, says_no_type, term_at, type_unless, types_in_order, with_unknown}
 
 -- ---- types
 
--- the type has a breach: what it says is taken for unknown
+-- a name in the type is bound to what has an unknown type
+abbrev pub is_unknown_ref : List Bound → Ref → Bool
+is_unknown_ref names Wild = false
+is_unknown_ref names (Named n) = is_unknown_type (type_named names n)
+
+abbrev pub names_unknown : List Bound → TypeTerm → Bool
+names_unknown names (typed.Pointer t) =
+    list_any (is_unknown_ref names) t.space.args || list_any (is_unknown_ref names) t.regions
+names_unknown names (typed.Region k u) = list_any (is_unknown_ref names) u.args
+names_unknown names (typed.Partition d r c) = is_unknown_type (type_named names r)
+names_unknown names t = false
+
+-- the type has a breach, or depends on what is unknown: what it says is taken for unknown
 abbrev pub is_flawed_type : Tree → List Bound → TypeTerm → Bool
 is_flawed_type tree names t =
     says_no_type tree names t || mispoints_in_type tree names t || misfits_in_type tree names t
+    || names_unknown names t
 
 -- ---- parameters
 

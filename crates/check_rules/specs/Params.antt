@@ -1,4 +1,4 @@
--- What the parameters of a list are declared as, as far as each of their types says one.
+-- The names that a list of parameters binds; where a type says nothing, it is unknown.
 use Rattle.std.specs.Prelude.{Bool, List, cond, get_or, map, reverse, ℕ, ◌||◌}
 use Rattle.regent_tree.specs.Scopes.{bound_params}
 use Rattle.regent_tree.specs.declared.typing.Bound.{Bound}
@@ -22,7 +22,7 @@ type_unless flawed t = cond flawed unknown_type t
 abbrev pub term_at : List Param → ℕ → TypeTerm
 term_at params i = get_or (map (λ (p : Param). p.term) params) i typed.Truth
 
--- the names of a list of parameters, where the type of each that doesn't pass is unknown
+-- the names of a list of parameters, where each flawed type is unknown
 abbrev pub with_unknown : (TypeTerm → Bool) → List Param → List Bound → List Bound
 with_unknown flawed params names = map (λ (b : Bound). record b {
   static_type = type_unless (flawed (term_at params b.number)) b.static_type;

@@ -40,8 +40,8 @@ differ_in types (p ∷ ps) (t ∷ ts) = differs types p t || differ_in types ps 
 
 -- ---- types
 
--- The types that a field space's parameters say, so far as each says one. One that breaches this rule
--- itself says what is written: field spaces may name each other in circles.
+-- The types of a field space's parameters, unknown where a wrong name or count leaves none. One that
+-- breaches this rule itself says what is written: field spaces may name each other in circles.
 abbrev pub space_params : Tree → SpaceUse → List StaticType
 space_params tree u = types_in_order (params_beside tree (space_used tree u).params)
 

@@ -6,7 +6,7 @@ use Rattle.regent_tree.specs.declared.typing.Bound.{Bound}
 use Rattle.regent_tree.specs.StaticTypes.{type_said}
 use Rattle.regent_tree.specs.declared.typing.StaticType.{StaticType}
 use Rattle.regent_tree.specs.declared.typing.StaticType.TheVariants.{Unknown as unknown_type}
-use Rattle.regent_tree.specs.Syntax.{Arms, Block, Expression, Form, Name, Otherwise, Start, Tree, a_link, a_statement, an_arm, both_start, by_field_start, chain_expr, do_form, either_start, else_block, equal_start, for_in_form, for_to_form, if_form, no_arm, no_else, no_link, no_statement, plain_start, preimage_start, region_start, then_statement, var_form, while_form}
+use Rattle.regent_tree.specs.Syntax.{Arms, Block, Expression, Form, Name, Otherwise, Start, Tree, a_link, a_statement, an_arm, both_start, by_field_start, chain_expr, do_form, either_start, else_block, equal_start, for_in_form, for_to_form, if_form, image_start, no_arm, no_else, no_link, no_statement, plain_start, preimage_start, region_start, then_statement, var_form, while_form}
 use Rattle.regent_tree.specs.Typing.{arithmetic_type, known_of_start, start_type, taken_from}
 use Rattle.regent_tree.specs.declared.facts.Known.{Known}
 use Rattle.regent_tree.specs.declared.types.Kind.TheVariants.{Int1d}
@@ -18,7 +18,7 @@ use Rattle.check_rules.specs.KnownTypes.{known_type}
 use Rattle.regent_tree.specs.Lookup.{type_named}
 use Rattle.check_rules.specs.Names.{misnames_start}
 use Rattle.check_rules.specs.Partitions.{is_difference, miscolours_start, mispartitions_start}
-use Rattle.check_rules.specs.Sorts.{is_integer, is_region, is_unknown_type}
+use Rattle.check_rules.specs.Sorts.{is_collection, is_integer, is_unknown_type}
 use Rattle.check_rules.specs.Places.{misbegins}
 use Rattle.check_rules.specs.Standing.{Standing, space_spot, stands, typed_spot}
 use Rattle.check_rules.specs.Types.{misstands}
@@ -55,12 +55,15 @@ abbrev pub types_in_start : Tree → Scope → Start → List StaticType
 types_in_start tree s start =
     map (known_type tree s) (expressions_in_start s.names start)
 
--- the partitions that a set operation or a preimage is made of
-abbrev pub partitions_in_start : Start → List Name
-partitions_in_start (preimage_start parent p r f) = p ∷ []
-partitions_in_start (both_start p q) = p ∷ q ∷ []
-partitions_in_start (either_start p q) = p ∷ q ∷ []
-partitions_in_start start = []
+-- the regions and partitions on which the type of a new partition depends
+abbrev pub origins_of : Start → List Name
+origins_of (equal_start r e) = r ∷ []
+origins_of (by_field_start r f e) = r ∷ []
+origins_of (image_start parent p r f) = parent ∷ []
+origins_of (preimage_start parent p r f) = parent ∷ p ∷ []
+origins_of (both_start p q) = p ∷ q ∷ []
+origins_of (either_start p q) = p ∷ q ∷ []
+origins_of start = []
 
 -- the start value has a breach, or depends on what is unknown
 abbrev pub is_flawed_start : Tree → Scope → Start → Bool
@@ -70,7 +73,7 @@ is_flawed_start tree s start =
     || list_any (misstands s.known) (standing_in_start tree s start)
     || list_any (is_flawed_type tree s.names) (written_in_start start)
     || misnames_start tree s.names start || mispartitions_start tree s start
-    || list_any (λ n. is_unknown_type (type_named s.names n)) (partitions_in_start start)
+    || list_any (λ n. is_unknown_type (type_named s.names n)) (origins_of start)
 
 abbrev pub known_start : Tree → Scope → Start → StaticType
 known_start tree s start =
@@ -91,20 +94,20 @@ abbrev pub stands_declared : StaticType → Option TypeTerm → StaticType → L
 stands_declared t None wanted = []
 stands_declared t (Some term) wanted = stands t (typed_spot wanted) ∷ []
 
--- what a region variable begins with is missing, isn't known, doesn't fit, or isn't as it must be
-abbrev pub misleads : Tree → Scope → Option TypeTerm → Option Start → Bool
-misleads tree s t None = true
-misleads tree s t (Some start) =
+-- what a variable begins with is missing, isn't known, doesn't fit, or isn't as it must be
+abbrev pub begins_unsoundly : Tree → Scope → Option TypeTerm → Option Start → Bool
+begins_unsoundly tree s t None = true
+begins_unsoundly tree s t (Some start) =
     let begun = known_start tree s start in
     let wanted = variable_type tree s t (Some start) in
     is_unknown_type begun || list_any (misstands s.known) (stands_declared begun t wanted)
     || misbegins s.names wanted begun start
 
--- The type by which all behind it takes a new variable. What is known of a region comes from what its
--- variable begins with, so that where this misleads nothing is known of it, whatever its type.
+-- The type of a new variable for all that stands behind it. Which region, partition or index space it
+-- is comes from what it begins with; where that is unsound it is unknown, whatever its declared type.
 abbrev pub bound_type : Tree → Scope → Option TypeTerm → Option Start → StaticType
 bound_type tree s t start = let type = variable_type tree s t start in
-    type_unless (is_region type && misleads tree s t start) type
+    type_unless (is_collection type && begins_unsoundly tree s t start) type
 
 -- ---- scopes
 
@@ -126,9 +129,8 @@ abbrev pub scope_in_count : Tree → Scope → Name → Expression → Expressio
 scope_in_count tree s n from to =
     with_name s n (counted_type (known_type tree s from) (known_type tree s to)) true
 
--- The scope behind a statement: as in the meaning of programs, but that where the declared type of a
--- variable has a breach, or what it begins with has one and no other type is declared or it is a
--- region, its type is unknown.
+-- The scope behind a statement: as in the meaning of programs, but that a new variable has its
+-- `bound_type`, and a start value with a breach tells nothing.
 abbrev mutual
   pub scope_behind : Tree → Scope → Form → Scope
   scope_behind tree s (var_form n t start) =

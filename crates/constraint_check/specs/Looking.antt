@@ -1,4 +1,4 @@
--- What is looked for above a term.
+-- What is looked for above a term, and in which rows.
 use Rattle.std.specs.Prelude.{Bool, List, false, ◌&&◌, ◌≡◌}
 use Rattle.regent_tree.specs.Facts.{Row, alike, any_above, has_sibling_above, is_below, is_earlier, is_other_child}
 use Rattle.regent_tree.specs.declared.facts.Known.{Known}

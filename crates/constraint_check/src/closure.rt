@@ -6,8 +6,8 @@ ghost use Rattle.regent_tree.specs.Facts.{is_subregion, are_disjoint};
 ghost use Rattle.regent_tree.specs.declared.facts.Term.TheVariants.{Name};
 ghost use Rattle.constraint_check.specs.Derivations.{IsSubregion, IsDisjoint};
 
-use crate::question::{is_below, is_below_one, is_certain, parts_either};
-use crate::raising::raising;
+use crate::question::{is_below, is_below_any, is_certain, parts_either};
+use crate::raising::rows_raising;
 use crate::row::{Row, add_fact};
 use regent_tree::{Known, Term};
 use std::alloc::{AllocError, Global};
@@ -62,11 +62,12 @@ impl Facts {
         is_certain(b) && is_below(&self.rows, a, b)
     }
 
-    /// Whether `a <= b` follows for one of these names b. It takes about as long as for one alone.
-    pub fn lies_in_one(&self, a: &Term, names: &[u32]) -> bool
+    /// Whether `a <= b` follows for one of these names b. The rows are gone through once; the names are
+    /// then looked for in those from the first to the last that raise a.
+    pub fn lies_in_any(&self, a: &Term, names: &[u32]) -> bool
         ensures { result ≡ list_any (λ n. is_subregion self.now a.now (Name n)) names.now }
     {
-        is_below_one(raising(&self.rows, a), a, names)
+        is_below_any(rows_raising(&self.rows, a), a, names)
     }
 
     /// Whether `a * b` follows: a and b share no point.
@@ -74,8 +75,8 @@ impl Facts {
         ensures computed { result ≡ are_disjoint self.now a.now b.now }
         ensures derivable { IsTrue result ↔ IsDisjoint self.now a.now b.now }
     {
-        let over_a = raising(&self.rows, a);
-        let over_b = raising(&self.rows, b);
+        let over_a = rows_raising(&self.rows, a);
+        let over_b = rows_raising(&self.rows, b);
         self.rows
             .iter()
             .any(|row| parts_either(over_a, over_b, a, b, row.known()))

@@ -95,7 +95,7 @@ pub fn is_below(rows: &[Row], a: &Term, b: &Term) -> bool
 }
 
 /// Whether a lies within one of these names.
-pub fn is_below_one(rows: &[Row], a: &Term, names: &[u32]) -> bool
+pub fn is_below_any(rows: &[Row], a: &Term, names: &[u32]) -> bool
     ensures { result ≡ list_any (λ n. is_below rows.now a.now (Name n)) names.now }
 {
     for name in names {
@@ -160,8 +160,8 @@ fn parts(over_a: &[Row], over_b: &[Row], a: &Term, b: &Term, known: &Known) -> b
     }
 }
 
-/// Whether a fact parts a and b, in one order or the other. Of each of them few rows are asked, which
-/// stand for all.
+/// Whether a fact parts a and b, in one order or the other; `over_a` is asked what a lies within, and
+/// `over_b` what b does.
 pub fn parts_either(over_a: &[Row], over_b: &[Row], a: &Term, b: &Term, known: &Known) -> bool
     ensures { result ≡ (parts_over over_a.now over_b.now a.now b.now known.now
         || parts_over over_b.now over_a.now b.now a.now known.now) }

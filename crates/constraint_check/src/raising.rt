@@ -1,4 +1,4 @@
-//! The rows that raise a term: one or two among many, so that a question asks these alone.
+//! The rows that raise a term: mostly few among many, so that a question asks these alone.
 
 ghost use Rattle.std.specs.List.{list_any};
 ghost use Rattle.std.specs.Prelude.{◌≡◌, ◌≤◌, drop, false, length, take};
@@ -9,7 +9,7 @@ use crate::row::{Row, raises};
 use regent_tree::Term;
 
 /// How many rows there are up to the last that raises a term.
-fn raised_to(rows: &[Row], term: &Term) -> usize
+fn raising_end(rows: &[Row], term: &Term) -> usize
     ensures within { result ≤ length rows.now }
     ensures behind { list_any (λ (row : Row). raises row.0 term.now) (drop result rows.now) ≡ false }
 {
@@ -23,7 +23,7 @@ fn raised_to(rows: &[Row], term: &Term) -> usize
 }
 
 /// How many rows there are before the first that raises a term.
-fn raised_from(rows: &[Row], term: &Term) -> usize
+fn raising_start(rows: &[Row], term: &Term) -> usize
     ensures within { result ≤ length rows.now }
     ensures before { list_any (λ (row : Row). raises row.0 term.now) (take result rows.now) ≡ false }
 {
@@ -36,9 +36,9 @@ fn raised_from(rows: &[Row], term: &Term) -> usize
 }
 
 /// The rows from the first to the last that raise a term.
-pub fn raising<'a>(rows: &'a [Row], term: &Term) -> &'a [Row]
+pub fn rows_raising<'a>(rows: &'a [Row], term: &Term) -> &'a [Row]
     ensures { StandFor result.now rows.now term.now }
 {
-    let front = &rows[..raised_to(rows, term)];
-    &front[raised_from(front, term)..]
+    let front = &rows[..raising_end(rows, term)];
+    &front[raising_start(front, term)..]
 }

@@ -22,7 +22,7 @@ use std::alloc::AllocError;
 fn lies_in_made(scope: &Scope, term: &Term) -> bool
     ensures { result ≡ list_any (made_above scope.now.facts term.now) scope.now.facts }
 {
-    scope.facts().lies_in_one(term, scope.made())
+    scope.facts().lies_in_any(term, scope.made())
 }
 
 /// Whether the task's privileges allow this, by what is known.

@@ -13,7 +13,7 @@ said_from tree all i [] = []
 said_from tree all i (p ∷ ps) =
     type_said tree (among_params all) i p.term ∷ said_from tree all (suc i) ps
 
--- and where the type of a parameter is unknown whose term says none, with the list's names
+-- the same, but unknown where a term says no type among the list's names
 abbrev pub beside_from : Tree → List Bound → List Param → ℕ → List Param → List StaticType
 beside_from tree names all i [] = []
 beside_from tree names all i (p ∷ ps) =

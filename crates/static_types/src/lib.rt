@@ -28,6 +28,7 @@ pub use sorts::{
 };
 pub use stop::Stop;
 pub use type_rules::{
-    check_type, miscolours_in_type, miscounts_in_type, misfits_in_type, misnames_in_type,
-    mispoints_in_type, names_partition, names_region, said_pointer,
+    check_type, is_unknown_name, miscolours_in_type, miscounts_in_type, misfits_in_type,
+    misnames_in_type, mispoints_in_type, names_partition, names_region, names_unknown,
+    said_pointer,
 };

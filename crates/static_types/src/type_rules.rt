@@ -2,11 +2,11 @@
 
 ghost use Rattle.std.specs.Prelude.{◌≡◌, length, map, IfOk, option_to_list};
 ghost use Rattle.std.specs.Option.{option_copied};
-ghost use Rattle.regent_tree.specs.Lookup.{space_used};
+ghost use Rattle.regent_tree.specs.Lookup.{space_used, type_named};
 ghost use Rattle.std.specs.List.{list_any};
 ghost use Rattle.regent_tree.specs.PlainProgram.{tree_of};
 ghost use Rattle.regent_tree.specs.StaticTypes.{among_params, type_said, written_pointer};
-ghost use Rattle.check_rules.specs.Declarations.{is_flawed_type};
+ghost use Rattle.check_rules.specs.Declarations.{is_flawed_type, is_unknown_ref, names_unknown};
 ghost use Rattle.check_rules.specs.Params.{params_beside, says_no_type, type_unless, types_in_order};
 ghost use Rattle.static_types.specs.Scopes.{in_names};
 ghost use Rattle.regent_tree.specs.declared.types.TypeTerm.TheVariants as typed;
@@ -215,6 +215,56 @@ pub fn mispoints_in_type(tables: &Tables, names: &Names, term: &TypeTerm) -> boo
     }
 }
 
+/// Whether the type of what a name stands for is unknown, as where it isn't bound.
+#[tactic(auto, using(crate::proofs::Scopes::bound_to_none))]
+pub fn is_unknown_name(names: &Names, name: &Name) -> bool
+    ensures { result ≡ sort.is_unknown_type (type_named names.now name.now) }
+{
+    match names.bound_to(name) {
+        Some(bound) => is_unknown(&bound.static_type),
+        None => true,
+    }
+}
+
+fn is_unknown_ref(names: &Names, region: &Ref) -> bool
+    ensures { result ≡ is_unknown_ref names.now region.now }
+{
+    match region {
+        Ref::Wild => false,
+        Ref::Named(name) => is_unknown_name(names, name),
+    }
+}
+
+fn any_unknown_ref(names: &Names, regions: &[Ref]) -> bool
+    ensures { result ≡ list_any (is_unknown_ref names.now) regions.now }
+{
+    for region in regions {
+        if is_unknown_ref(names, region) {
+            return true;
+        }
+    }
+    false
+}
+
+fn pointer_names_unknown(names: &Names, pointer: &PointerTerm) -> bool
+    ensures { result ≡ names_unknown names.now (typed.Pointer pointer.now) }
+{
+    any_unknown_ref(names, pointer.space.args.as_slice())
+        || any_unknown_ref(names, pointer.regions.as_slice())
+}
+
+/// Whether a name in a type stands for what has an unknown type.
+pub fn names_unknown(names: &Names, term: &TypeTerm) -> bool
+    ensures { result ≡ names_unknown names.now term.now }
+{
+    match term {
+        TypeTerm::Pointer(pointer) => pointer_names_unknown(names, pointer),
+        TypeTerm::Region { space, .. } => any_unknown_ref(names, space.args.as_slice()),
+        TypeTerm::Partition { region, .. } => is_unknown_name(names, region),
+        TypeTerm::Number(_) | TypeTerm::Truth | TypeTerm::Ispace(_) => false,
+    }
+}
+
 /// The type of what an argument of a field space names; of `wild` it is unknown.
 #[tactic(auto, using(crate::proofs::Scopes::bound_to_none))]
 fn type_of_ref(alloc: Global, names: &Names, region: &Ref) -> Result<StaticType, AllocError>
@@ -251,7 +301,7 @@ fn says_no_type(tables: &Tables, names: &Names, term: &TypeTerm) -> bool
     misnames_in_type(tables, names, term) || miscounts_in_type(tables, term)
 }
 
-/// The type of a parameter, which is unknown where its term says none.
+/// The type of a parameter, which is unknown where its term says no type.
 fn type_of_param(
     alloc: Global,
     tables: &Tables,
@@ -269,7 +319,7 @@ fn type_of_param(
     type_said(alloc, tables, among, own, term)
 }
 
-/// The types of a field space's parameters, in their order.
+/// The types of a field space's parameters, in their order; unknown where a term says no type.
 fn types_of_params(
     alloc: Global,
     tables: &Tables,
@@ -351,7 +401,8 @@ pub fn check_type(
     Stop::at(miscolours_in_type(names, term), Rule::Partition)
 }
 
-/// The type that a pointer type in an expression says, where it has no breach.
+/// The type that a pointer type in an expression says, where it has no breach and names nothing
+/// unknown.
 pub fn said_pointer(
     alloc: Global,
     tables: &Tables,
@@ -370,5 +421,8 @@ pub fn said_pointer(
         misfits_use(alloc, tables, names, &pointer.space)?,
         Rule::Spaces,
     )?;
+    if pointer_names_unknown(names, pointer) {
+        return Ok(StaticType::Unknown);
+    }
     Ok(written_pointer(alloc, tables, names, pointer)?)
 }

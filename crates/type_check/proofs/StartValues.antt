@@ -1,5 +1,5 @@
 -- What a variable is by a start value in which no rule is breached.
-use Rattle.std.proofs.Common.{◌≡◌, inl, inr, Bool, true, false, List, [], ◌∷◌, None, Some, Option, Result, Ok, Err, cond, map, refl, ap, ◌∙◌, ◌||◌, ℕ}
+use Rattle.std.proofs.Common.{◌≡◌, inl, inr, Bool, true, false, List, [], ◌∷◌, None, Some, Option, Result, Ok, Err, cond, map, refl, ap, sym, ◌∙◌, ◌||◌, ℕ}
 use Rattle.std.specs.Option.{option_or}
 use Rattle.std.specs.Prelude.{option_to_list}
 use Rattle.regent_tree.specs.Scopes.{Scope, in_scope}
@@ -15,7 +15,7 @@ use Rattle.regent_tree.specs.declared.types.TypeTerm.TheVariants as typed
 use Rattle.regent_tree.specs.declared.typing.StaticType.{StaticType}
 use Rattle.regent_tree.specs.declared.typing.StaticType.TheVariants.{Integer as integer_type, Truth as truth_type, Index as index_type, Pointer as pointer_type, Ispace as ispace_type, Region as region_type, Partition as partition_type, Nothing as no_type, Unknown as unknown_type}
 use Rattle.check_rules.specs.Counts.{miscounts_in_type}
-use Rattle.check_rules.specs.Declarations.{is_flawed_type}
+use Rattle.check_rules.specs.Declarations.{is_flawed_type, names_unknown}
 use Rattle.check_rules.specs.Params.{type_unless}
 use Rattle.check_rules.specs.FirstInExpressions.{first_in_expression, first_in_type, first_of_standing}
 use Rattle.check_rules.specs.KnownTypes.{known_type}
@@ -70,37 +70,47 @@ by_type {A = A} tree s e nothing give = elim (types_as_meant tree s e) [
 
 -- ---- new regions
 
-sound_type : (a b c d m : Bool) → first_of (rule_if a rule.Name ∷ rule_if b rule.Count
+sound_type : (a b c d m l : Bool) → first_of (rule_if a rule.Name ∷ rule_if b rule.Count
     ∷ rule_if c rule.Pointer ∷ rule_if d rule.Spaces ∷ rule_if m rule.Partition ∷ []) ≡ None →
-    ((a || b) || c || d) ≡ false
-sound_type true b c d m e = absurd cc
-sound_type false true c d m e = absurd cc
-sound_type false false true d m e = absurd cc
-sound_type false false false true m e = absurd cc
-sound_type false false false false m e = refl
+    ((a || b) || c || d || l) ≡ l
+sound_type true b c d m l e = absurd cc
+sound_type false true c d m l e = absurd cc
+sound_type false false true d m l e = absurd cc
+sound_type false false false true m l e = absurd cc
+sound_type false false false false m l e = refl
 
 sound_space : (b : Bool) → option_or (rule_if b rule.Type) None ≡ None → b ≡ false
 sound_space true e = absurd cc
 sound_space false e = refl
 
-unknown_alone : (u st fl : Bool) → st ≡ false → fl ≡ false →
-    ((u || false) || false || (st || false) || (fl || false) || false || false || false) ≡ u
-unknown_alone true st fl e f = refl
-unknown_alone false st fl e f = rw (e, f) refl
+unknown_alone : (u st fl l : Bool) → st ≡ false → fl ≡ l →
+    ((u || false) || false || (st || false) || (fl || false) || false || false || false) ≡ (u || l)
+unknown_alone true st fl l e f = refl
+unknown_alone false st fl true e f = rw (e, f) refl
+unknown_alone false st fl false e f = rw (e, f) refl
 
 flawed_region : (tree : Tree) (s : Scope) (e : Expression) (u : SpaceUse) →
     first_in_type tree s.names (typed.Region Int1d u) ≡ None →
     first_of_standing [] (stands (known_type tree s e) space_spot) ≡ None →
-    is_flawed_start tree s (region_start e u) ≡ is_unknown_type (known_type tree s e)
+    is_flawed_start tree s (region_start e u)
+    ≡ (is_unknown_type (known_type tree s e) || names_unknown s.names (typed.Region Int1d u))
 flawed_region tree s e u type space = unknown_alone (is_unknown_type (known_type tree s e))
     (misstands s.known (stands (known_type tree s e) space_spot))
     (is_flawed_type tree s.names (typed.Region Int1d u))
+    (names_unknown s.names (typed.Region Int1d u))
     (sound_space (misstands s.known (stands (known_type tree s e) space_spot)) space)
     (sound_type (misnames_in_type tree s.names (typed.Region Int1d u))
     (miscounts_in_type tree (typed.Region Int1d u))
     (mispoints_in_type tree s.names (typed.Region Int1d u))
     (misfits_in_type tree s.names (typed.Region Int1d u))
-    (miscolours_in_type s.names (typed.Region Int1d u)) type)
+    (miscolours_in_type s.names (typed.Region Int1d u))
+    (names_unknown s.names (typed.Region Int1d u)) type)
+
+unknown_either : {A : Type 0} (u l : Bool) (nothing x : A) → cond (u || l) nothing x ≡ cond l nothing (cond u nothing x)
+unknown_either true true nothing x = refl
+unknown_either true false nothing x = refl
+unknown_either false true nothing x = refl
+unknown_either false false nothing x = refl
 
 -- what is told of a new region, behind the size
 pub first_of_region : (tree : Tree) (task : TaskTree) (s : Scope) (e : Expression) (u : SpaceUse) →
@@ -119,18 +129,24 @@ first_of_region tree task s e u none = rw none (behind (first_in_type tree s.nam
 pub region_begun : (tree : Tree) (s : Scope) (e : Expression) (u : SpaceUse) (b : Beginning) →
     option_or (first_in_type tree s.names (typed.Region Int1d u))
     (first_of_standing [] (stands (known_type tree s e) space_spot)) ≡ None →
-    b.static_type ≡ type_unless (is_unknown_type (known_type tree s e))
+    b.static_type ≡ type_unless (is_unknown_type (known_type tree s e) || names_unknown s.names (typed.Region Int1d u))
     (region_type (kind_of_ispace (known_type tree s e)) (place_of_space tree u.name)
     (map (looked_up (in_scope s)) u.args) (term.Name s.next)) →
-    option_to_list b.known ≡ cond (is_unknown_type (known_type tree s e)) [] (Made s.next ∷ []) →
+    option_to_list b.known
+    ≡ cond (is_unknown_type (known_type tree s e) || names_unknown s.names (typed.Region Int1d u)) [] (Made s.next ∷ []) →
     IsBegun tree s (region_start e u) b
 region_begun tree s e u b told type known =
     let parts = or_parts (first_in_type tree s.names (typed.Region Int1d u))
     (first_of_standing [] (stands (known_type tree s e) space_spot)) told in
     let flawed = flawed_region tree s e u parts.0 parts.1 in
+    let give : StaticType → StaticType = λ t. region_type (kind_of_ispace t)
+    (place_of_space tree u.name) (map (looked_up (in_scope s)) u.args) (term.Name s.next) in
+    let unknown = is_unknown_type (known_type tree s e) in
+    let lost = names_unknown s.names (typed.Region Int1d u) in
     rw flawed (
-      type ∙ by_type tree s e unknown_type (λ t. region_type (kind_of_ispace t)
-          (place_of_space tree u.name) (map (looked_up (in_scope s)) u.args) (term.Name s.next)),
+      type ∙ unknown_either unknown lost unknown_type (give (known_type tree s e))
+          ∙ ap (λ t. cond lost unknown_type t) (by_type tree s e unknown_type give)
+          ∙ sym (unknown_either unknown lost unknown_type (give (type_of tree s e))),
       known,
     )
 

@@ -11,6 +11,7 @@ use Rattle.regent_tree.specs.Syntax.{Name, Start, TaskTree, Tree, var_form}
 use Rattle.regent_tree.specs.declared.typing.StaticType.{StaticType}
 use Rattle.regent_tree.specs.declared.typing.StaticType.TheVariants.{Integer as integer_type, Truth as truth_type, Index as index_type, Pointer as pointer_type, Ispace as ispace_type, Region as region_type, Partition as partition_type, Nothing as no_type, Unknown as unknown_type}
 use Rattle.check_rules.specs.Counts.{miscounts_in_type}
+use Rattle.check_rules.specs.Declarations.{names_unknown}
 use Rattle.check_rules.specs.Params.{type_unless}
 use Rattle.check_rules.specs.FirstInExpressions.{first_in_expression, first_in_type, first_of_standing}
 use Rattle.check_rules.specs.FirstInStatements.{first_of_form, first_of_start}
@@ -26,29 +27,29 @@ use Rattle.check_rules.specs.declared.rule.Rule.TheVariants as rule
 use Rattle.static_types.specs.Telling.{IsTold}
 use Rattle.static_types.specs.declared.stop.Stop.{Stop}
 use Rattle.type_check.specs.Beginning.{first_in_start}
-use Rattle.type_check.specs.Variables.{first_of_begun, first_of_both, first_of_declared, first_of_started, first_of_var}
+use Rattle.type_check.specs.Variables.{first_of_begun, first_by_both, first_by_type, first_by_start, first_of_var}
 use Rattle.check_rules.specs.Partitions.{miscolours_in_type}
-use Rattle.check_rules.specs.Sorts.{is_collection, is_region, is_unknown_type}
+use Rattle.check_rules.specs.Sorts.{is_collection, is_unknown_type}
 use Rattle.check_rules.specs.Variables.{bound_type, declared_type, expressions_in_start, known_start, standing_in_start}
 
 -- ---- declared types
 
-unflawed : (a b c d e : Bool) (q r t u v : Rule) →
+unflawed : (a b c d e l : Bool) (q r t u v : Rule) →
     option_or (rule_if a q) (option_or (rule_if b r) (option_or (rule_if c t) (option_or (rule_if d u) (option_or (rule_if e v) None)))) ≡ None →
-    (a || b || c || d) ≡ false
-unflawed true b c d e q r t u v h = absurd cc
-unflawed false true c d e q r t u v h = absurd cc
-unflawed false false true d e q r t u v h = absurd cc
-unflawed false false false true e q r t u v h = absurd cc
-unflawed false false false false e q r t u v h = refl
+    (a || b || c || d || l) ≡ l
+unflawed true b c d e l q r t u v h = absurd cc
+unflawed false true c d e l q r t u v h = absurd cc
+unflawed false false true d e l q r t u v h = absurd cc
+unflawed false false false true e l q r t u v h = absurd cc
+unflawed false false false false e l q r t u v h = refl
 
--- a type of which nothing is told is what it says
+-- a type of which nothing is told is what it says, unless it names what is unknown
 pub said_soundly : (tree : Tree) (s : Scope) (t : TypeTerm) → first_in_type tree s.names t ≡ None →
-    type_said tree (in_scope s) s.next t ≡ declared_type tree s t
+    type_unless (names_unknown s.names t) (type_said tree (in_scope s) s.next t) ≡ declared_type tree s t
 said_soundly tree s t none =
     ap (λ b. type_unless b (type_said tree (in_scope s) s.next t))
     (sym (unflawed (misnames_in_type tree s.names t) (miscounts_in_type tree t) (mispoints_in_type tree s.names t)
-    (misfits_in_type tree s.names t) (miscolours_in_type s.names t) rule.Name rule.Count rule.Pointer rule.Spaces rule.Partition none))
+    (misfits_in_type tree s.names t) (miscolours_in_type s.names t) (names_unknown s.names t) rule.Name rule.Count rule.Pointer rule.Spaces rule.Partition none))
 
 -- ---- what is told of a `var`
 
@@ -69,7 +70,7 @@ one_by_one None (Some x) st m = refl
 one_by_one (Some x) fs st m = refl
 
 started_first : (tree : Tree) (task : TaskTree) (s : Scope) (n : Name) (i : Start) →
-    first_of_form tree task s (var_form n None (Some i)) ≡ first_of_started tree task s i
+    first_of_form tree task s (var_form n None (Some i)) ≡ first_by_start tree task s i
 started_first tree task s n i =
     let t = known_start tree s i in
     let heads = first_in (first_in_expression tree task s) (expressions_in_start s.names i) in
@@ -82,7 +83,7 @@ started_first tree task s n i =
     ∙ one_by_one heads start stand (rule_if (misbegins s.names t t i) rule.Place)
 
 declared_first : (tree : Tree) (task : TaskTree) (s : Scope) (n : Name) (t : TypeTerm) →
-    first_of_form tree task s (var_form n (Some t) None) ≡ first_of_declared tree task s t
+    first_of_form tree task s (var_form n (Some t) None) ≡ first_by_type tree task s t
 declared_first tree task s n t =
     ap (λ o. option_or o (option_or (rule_if (is_collection (declared_type tree s t) || false) rule.Place) None))
     (or_nothing (first_in_type tree s.names t))
@@ -110,7 +111,7 @@ all_by_one None (Some x) fs st w m = refl
 all_by_one (Some x) h fs st w m = refl
 
 both_first : (tree : Tree) (task : TaskTree) (s : Scope) (n : Name) (t : TypeTerm) (i : Start) →
-    first_of_form tree task s (var_form n (Some t) (Some i)) ≡ first_of_both tree task s t i
+    first_of_form tree task s (var_form n (Some t) (Some i)) ≡ first_by_both tree task s t i
 both_first tree task s n t i =
     let wanted = declared_type tree s t in
     let known = known_start tree s i in
@@ -143,7 +144,7 @@ unbroken false r e = refl
 -- with a start value alone
 pub by_start_none : (tree : Tree) (task : TaskTree) (s : Scope) (i : Start) (t : StaticType) →
     first_in_start tree task s i ≡ None → t ≡ known_start tree s i → rule_if (misbegins s.names t t i) rule.Place ≡ None →
-    first_of_started tree task s i ≡ None
+    first_by_start tree task s i ≡ None
 by_start_none tree task s i t started begun right =
     (λ j. option_or (started j) (option_or (rule_if (misbegins s.names (sym begun j) (sym begun j) i) rule.Place) None))
     ∙ ap (λ r. option_or r None) right
@@ -152,23 +153,23 @@ pub by_start_bound : (tree : Tree) (s : Scope) (i : Start) (t : StaticType) → 
     rule_if (misbegins s.names t t i) rule.Place ≡ None → t ≡ bound_type tree s None (Some i)
 by_start_bound tree s i t begun right =
     told t (misbegins s.names t t i) (unbroken (misbegins s.names t t i) rule.Place right)
-    ∙ (λ j. type_unless (is_region (begun j) && (is_unknown_type (begun j) || false || misbegins s.names (begun j) (begun j) i)) (begun j))
+    ∙ (λ j. type_unless (is_collection (begun j) && (is_unknown_type (begun j) || false || misbegins s.names (begun j) (begun j) i)) (begun j))
   where
-    told : (t : StaticType) (m : Bool) → m ≡ false → t ≡ type_unless (is_region t && (is_unknown_type t || false || m)) t
+    told : (t : StaticType) (m : Bool) → m ≡ false → t ≡ type_unless (is_collection t && (is_unknown_type t || false || m)) t
     told (region_type k s args r) m e = λ j. type_unless (sym e j) (region_type k s args r)
-    told (partition_type d r p) m e = refl
+    told (partition_type d r p) m e = λ j. type_unless (sym e j) (partition_type d r p)
     told (integer_type w) m e = refl
     told truth_type m e = refl
     told (index_type k) m e = refl
     told (pointer_type k s args regions) m e = refl
-    told (ispace_type k) m e = refl
+    told (ispace_type k) m e = λ j. type_unless (sym e j) (ispace_type k)
     told no_type m e = refl
     told unknown_type m e = refl
 
 -- with a declared type alone
 pub by_type_none : (tree : Tree) (task : TaskTree) (s : Scope) (t : TypeTerm) (d : StaticType) →
     first_in_type tree s.names t ≡ None → d ≡ declared_type tree s t → rule_if (is_collection d) rule.Place ≡ None →
-    first_of_declared tree task s t ≡ None
+    first_by_type tree task s t ≡ None
 by_type_none tree task s t d typed declared right =
     (λ j. option_or (typed j) (option_or (rule_if (is_collection (sym declared j)) rule.Place) None))
     ∙ ap (λ r. option_or r None) right
@@ -176,24 +177,14 @@ by_type_none tree task s t d typed declared right =
 pub by_type_bound : (tree : Tree) (s : Scope) (t : TypeTerm) (d : StaticType) → d ≡ declared_type tree s t →
     rule_if (is_collection d) rule.Place ≡ None → d ≡ bound_type tree s (Some t) None
 by_type_bound tree s t d declared right =
-    told d (unbroken (is_collection d) rule.Place right) ∙ (λ j. type_unless (is_region (declared j) && true) (declared j))
-  where
-    told : (t : StaticType) → is_collection t ≡ false → t ≡ type_unless (is_region t && true) t
-    told (region_type k s args r) e = absurd cc
-    told (partition_type d r p) e = refl
-    told (integer_type w) e = refl
-    told truth_type e = refl
-    told (index_type k) e = refl
-    told (pointer_type k s args regions) e = refl
-    told (ispace_type k) e = refl
-    told no_type e = refl
-    told unknown_type e = refl
+    (λ j. type_unless (sym (unbroken (is_collection d) rule.Place right) j && true) d)
+    ∙ (λ j. type_unless (is_collection (declared j) && true) (declared j))
 
 -- with both
-leads : (misplaced misstanding misbegun region unknown : Bool) →
+leads : (misplaced misstanding misbegun collection unknown : Bool) →
     option_or (option_or (rule_if misplaced rule.Place) (option_or (rule_if misstanding rule.Type) None))
     (option_or (rule_if misbegun rule.Place) None) ≡ None →
-    (region && unknown) ≡ (region && (unknown || (misstanding || false) || misbegun))
+    (collection && unknown) ≡ (collection && (unknown || (misstanding || false) || misbegun))
 leads true ms mb r u e = absurd cc
 leads false true mb r u e = absurd cc
 leads false false true r u e = absurd cc
@@ -201,18 +192,18 @@ leads false false false r u e = ap (λ b. r && b) (sym (or_false u) ∙ sym (or_
 
 pub by_both_bound : (tree : Tree) (s : Scope) (t : TypeTerm) (i : Start) (declared begun : StaticType) →
     declared ≡ declared_type tree s t → begun ≡ known_start tree s i → first_of_begun s declared begun i ≡ None →
-    type_unless (is_region declared && is_unknown_type begun) declared ≡ bound_type tree s (Some t) (Some i)
+    type_unless (is_collection declared && is_unknown_type begun) declared ≡ bound_type tree s (Some t) (Some i)
 by_both_bound tree s t i declared begun d b none =
     let stands_there : StaticType → StaticType → Standing = λ u w. stands u (typed_spot w) in
     ap (λ x. type_unless x declared) (leads (misplaces (stands_there begun declared)) (misstands s.known (stands_there begun declared))
-    (misbegins s.names declared begun i) (is_region declared) (is_unknown_type begun) none)
-    ∙ (λ j. type_unless (is_region (d j) && (is_unknown_type (b j) || list_any (misstands s.known) (stands_there (b j) (d j) ∷ [])
+    (misbegins s.names declared begun i) (is_collection declared) (is_unknown_type begun) none)
+    ∙ (λ j. type_unless (is_collection (d j) && (is_unknown_type (b j) || list_any (misstands s.known) (stands_there (b j) (d j) ∷ [])
     || misbegins s.names (d j) (b j) i)) (d j))
 
 both_parts : (tree : Tree) (task : TaskTree) (s : Scope) (t : TypeTerm) (i : Start) (declared begun : StaticType) →
     declared ≡ declared_type tree s t → begun ≡ known_start tree s i →
     first_in_type tree s.names t ≡ None → first_in_start tree task s i ≡ None →
-    first_of_begun s declared begun i ≡ first_of_both tree task s t i
+    first_of_begun s declared begun i ≡ first_by_both tree task s t i
 both_parts tree task s t i declared begun d b typed started =
     sym (or_nothing (first_of_begun s declared begun i))
     ∙ (λ j. option_or (sym typed j) (option_or (sym started j) (option_or (first_of_begun s (d j) (b j) i) None)))
@@ -220,13 +211,13 @@ both_parts tree task s t i declared begun d b typed started =
 pub both_stop : (tree : Tree) (task : TaskTree) (s : Scope) (t : TypeTerm) (i : Start) (declared begun : StaticType) (stop : Stop) →
     declared ≡ declared_type tree s t → begun ≡ known_start tree s i →
     first_in_type tree s.names t ≡ None → first_in_start tree task s i ≡ None →
-    IsTold stop (first_of_begun s declared begun i) → IsTold stop (first_of_both tree task s t i)
+    IsTold stop (first_of_begun s declared begun i) → IsTold stop (first_by_both tree task s t i)
 both_stop tree task s t i declared begun stop d b typed started told =
     subst (IsTold stop) (both_parts tree task s t i declared begun d b typed started) told
 
 pub both_none : (tree : Tree) (task : TaskTree) (s : Scope) (t : TypeTerm) (i : Start) (declared begun : StaticType) →
     declared ≡ declared_type tree s t → begun ≡ known_start tree s i →
     first_in_type tree s.names t ≡ None → first_in_start tree task s i ≡ None →
-    first_of_begun s declared begun i ≡ None → first_of_both tree task s t i ≡ None
+    first_of_begun s declared begun i ≡ None → first_by_both tree task s t i ≡ None
 both_none tree task s t i declared begun d b typed started none =
     sym (both_parts tree task s t i declared begun d b typed started) ∙ none

@@ -1,15 +1,18 @@
 -- Start values of variables, as the checker goes through them.
 use Rattle.std.specs.Option.{option_or}
-use Rattle.std.specs.Prelude.{Option, Some, [], cond, map, option_to_list, ◌≡◌, ◌∷◌}
+use Rattle.std.specs.Prelude.{Option, Some, [], cond, map, option_to_list, ◌||◌, ◌≡◌, ◌∷◌}
 use Rattle.regent_tree.specs.Scopes.{Scope, in_scope}
 use Rattle.regent_tree.specs.StaticTypes.{looked_up, place_of_space}
 use Rattle.regent_tree.specs.Syntax.{Start, TaskTree, Tree}
 use Rattle.regent_tree.specs.Typing.{kind_of_ispace, known_of_child, owned}
 use Rattle.regent_tree.specs.declared.facts.Known.TheVariants.{Made}
 use Rattle.regent_tree.specs.declared.facts.Term.TheVariants as term
+use Rattle.regent_tree.specs.declared.types.Kind.TheVariants.{Int1d}
 use Rattle.regent_tree.specs.declared.types.SpaceUse.{SpaceUse}
+use Rattle.regent_tree.specs.declared.types.TypeTerm.TheVariants as typed
 use Rattle.regent_tree.specs.declared.typing.StaticType.{StaticType}
 use Rattle.regent_tree.specs.declared.typing.StaticType.TheVariants.{Region as region_type}
+use Rattle.check_rules.specs.Declarations.{names_unknown}
 use Rattle.check_rules.specs.Params.{type_unless}
 use Rattle.check_rules.specs.FirstInExpressions.{first_in_expression, first_of_standing}
 use Rattle.check_rules.specs.FirstInStatements.{first_of_start}
@@ -26,12 +29,14 @@ first_in_start tree task s i =
     (option_or (first_of_start tree task s i)
     (first_in (first_of_standing s.known) (standing_in_start tree s i)))
 
--- what a variable is by a new region over an index space of a type, where neither has a breach
+-- what a variable is by a new region over an index space of a type, where neither has a breach; the
+-- field space's arguments may be unknown
 abbrev pub IsOver : Tree → Scope → StaticType → SpaceUse → Beginning → Type 0
-IsOver tree s t u b = (b.static_type ≡ type_unless (is_unknown_type t)
-    (region_type (kind_of_ispace t) (place_of_space tree u.name)
+IsOver tree s t u b =
+    let lost = is_unknown_type t || names_unknown s.names (typed.Region Int1d u) in
+    (b.static_type ≡ type_unless lost (region_type (kind_of_ispace t) (place_of_space tree u.name)
     (map (looked_up (in_scope s)) u.args) (term.Name s.next)))
-    × (option_to_list b.known ≡ cond (is_unknown_type t) [] (Made s.next ∷ []))
+    × (option_to_list b.known ≡ cond lost [] (Made s.next ∷ []))
 
 -- what it is by an expression of a type
 abbrev pub IsOfType : Scope → StaticType → Beginning → Type 0

@@ -16,13 +16,13 @@ use Rattle.check_rules.specs.declared.rule.Rule.TheVariants as rule
 use Rattle.type_check.specs.Beginning.{first_in_start}
 
 -- with a start value alone
-abbrev pub first_of_started : Tree → TaskTree → Scope → Start → Option Rule
-first_of_started tree task s i = let t = known_start tree s i in
+abbrev pub first_by_start : Tree → TaskTree → Scope → Start → Option Rule
+first_by_start tree task s i = let t = known_start tree s i in
     first_of (first_in_start tree task s i ∷ rule_if (misbegins s.names t t i) rule.Place ∷ [])
 
 -- with a declared type alone
-abbrev pub first_of_declared : Tree → TaskTree → Scope → TypeTerm → Option Rule
-first_of_declared tree task s t = first_of (first_in_type tree s.names t
+abbrev pub first_by_type : Tree → TaskTree → Scope → TypeTerm → Option Rule
+first_by_type tree task s t = first_of (first_in_type tree s.names t
     ∷ rule_if (is_collection (declared_type tree s t)) rule.Place
     ∷ [])
 
@@ -33,8 +33,8 @@ first_of_begun s wanted t i = first_of (first_of_standing s.known (stands t (typ
     ∷ [])
 
 -- with both
-abbrev pub first_of_both : Tree → TaskTree → Scope → TypeTerm → Start → Option Rule
-first_of_both tree task s t i = let wanted = declared_type tree s t in
+abbrev pub first_by_both : Tree → TaskTree → Scope → TypeTerm → Start → Option Rule
+first_by_both tree task s t i = let wanted = declared_type tree s t in
     first_of (first_in_type tree s.names t
     ∷ first_in_start tree task s i
     ∷ first_of_begun s wanted (known_start tree s i) i
@@ -43,6 +43,6 @@ first_of_both tree task s t i = let wanted = declared_type tree s t in
 -- whatever it has
 abbrev pub first_of_var : Tree → TaskTree → Scope → Option TypeTerm → Option Start → Option Rule
 first_of_var tree task s None None = Some rule.Type
-first_of_var tree task s None (Some i) = first_of_started tree task s i
-first_of_var tree task s (Some t) None = first_of_declared tree task s t
-first_of_var tree task s (Some t) (Some i) = first_of_both tree task s t i
+first_of_var tree task s None (Some i) = first_by_start tree task s i
+first_of_var tree task s (Some t) None = first_by_type tree task s t
+first_of_var tree task s (Some t) (Some i) = first_by_both tree task s t i

@@ -104,7 +104,7 @@ fn is_one_place(steps: &[Step]) -> bool
 }
 
 /// Whether an expression is a name with one place behind it.
-fn is_child(e: &Expr) -> bool
+fn is_name_at_place(e: &Expr) -> bool
     ensures { result ≡ begins_region (plain_start (expression_of e.now)) }
 {
     match e {
@@ -119,7 +119,7 @@ pub fn begins_region(init: &Init) -> bool
 {
     match init {
         Init::Region { .. } => true,
-        Init::Plain(e) => is_child(e),
+        Init::Plain(e) => is_name_at_place(e),
         _ => false,
     }
 }

@@ -30,16 +30,6 @@ use static_types::{
 };
 use std::alloc::AllocError;
 
-/// Whether the type of what a name stands for is unknown, as where it isn't bound.
-pub fn is_unknown_name(names: &Names, name: &Name) -> bool
-    ensures { result ≡ is_unknown_type (type_named names.now name.now) }
-{
-    match names.bound_to(name) {
-        Some(bound) => is_unknown(&bound.static_type),
-        None => true,
-    }
-}
-
 /// The type of the field of the region that a name stands for.
 pub fn named_field(
     site: &Site,

@@ -20,14 +20,16 @@ ghost use Rattle.type_check.specs.Beginning.{first_in_start};
 
 use crate::fields::misnames_region_field;
 use crate::named::{
-    is_disjoint_named, is_unknown_name, misnames_operation, named_field, named_have_other_parents,
+    is_disjoint_named, misnames_operation, named_field, named_have_other_parents,
     named_parent_is_outside, operands, parent_named, reads_named_field, region_is_outside,
     tells_colours, tells_points,
 };
 use check_rules::Rule;
 use expression_check::{Scope, Site, expression, spots};
 use regent_tree::{Expr, Name, StaticType};
-use static_types::{Stop, is_unknown, is_unstructured, names_region, number_bound};
+use static_types::{
+    Stop, is_unknown, is_unknown_name, is_unstructured, names_region, number_bound,
+};
 
 /// A partition into parts of equal size.
 pub fn equal(site: &Site, scope: &Scope, region: &Name, colours: &Expr) -> Result<StaticType, Stop>
@@ -41,7 +43,7 @@ pub fn equal(site: &Site, scope: &Scope, region: &Name, colours: &Expr) -> Resul
     Stop::at(!names_region(scope.names(), region), Rule::Name)?;
     Stop::at(is_unstructured(&t), Rule::Partition)?;
     spots::space(&t)?;
-    if is_unknown(&t) {
+    if is_unknown(&t) || is_unknown_name(scope.names(), region) {
         return Ok(StaticType::Unknown);
     }
     Ok(StaticType::Partition {
@@ -74,7 +76,7 @@ pub fn by_field(
     Stop::at(is_unstructured(&t), Rule::Partition)?;
     reads_named_field(site, scope, region, field)?;
     spots::space(&t)?;
-    if is_unknown(&t) {
+    if is_unknown(&t) || is_unknown_name(names, region) {
         return Ok(StaticType::Unknown);
     }
     Ok(StaticType::Partition {
@@ -106,6 +108,9 @@ pub fn image(
     let outside = named_parent_is_outside(scope, partition, region);
     Stop::at(outside || !tells_points(&told), Rule::Partition)?;
     reads_named_field(site, scope, region, field)?;
+    if is_unknown_name(names, parent) {
+        return Ok(StaticType::Unknown);
+    }
     Ok(StaticType::Partition {
         disjoint: false,
         parent: number_bound(names, parent),
@@ -135,7 +140,7 @@ pub fn preimage(
     let outside = region_is_outside(scope, parent, region);
     Stop::at(outside || !tells_points(&told), Rule::Partition)?;
     reads_named_field(site, scope, region, field)?;
-    if is_unknown_name(names, partition) {
+    if is_unknown_name(names, parent) || is_unknown_name(names, partition) {
         return Ok(StaticType::Unknown);
     }
     Ok(StaticType::Partition {

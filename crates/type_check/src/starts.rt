@@ -7,10 +7,12 @@ ghost use Rattle.regent_tree.specs.Syntax.{plain_start, region_start};
 ghost use Rattle.regent_tree.specs.Typing.{known_of_child, owned};
 ghost use Rattle.regent_tree.specs.declared.types.Kind.TheVariants.{Int1d};
 ghost use Rattle.regent_tree.specs.declared.types.TypeTerm.TheVariants as typed;
+ghost use Rattle.regent_tree.specs.declared.typing.StaticType.TheVariants.{Unknown as unknown_type};
+ghost use Rattle.check_rules.specs.Declarations.{names_unknown};
 ghost use Rattle.check_rules.specs.FirstInExpressions.{first_in_expression, first_in_type, first_of_standing};
 ghost use Rattle.check_rules.specs.KnownTypes.{known_type};
 ghost use Rattle.check_rules.specs.Standing.{space_spot, stands};
-ghost use Rattle.static_types.specs.Telling.{Anything, Tells};
+ghost use Rattle.static_types.specs.Telling.{Tells};
 ghost use Rattle.expression_check.specs.Seen.{seen};
 ghost use Rattle.expression_check.specs.Sites.{HoldsDeclared, task_at, tree_at};
 ghost use Rattle.type_check.specs.Beginning.{IsBegun, IsOfType, IsOver, first_in_start};
@@ -21,7 +23,7 @@ use expression_check::{Scope, Site, expression, spots};
 use plain_values::Sequence;
 use program_tables::copy_name;
 use regent_tree::{Expr, Init, Kind, Known, Name, Ref, SpaceUse, StaticType, Term, TypeTerm};
-use static_types::{Stop, all_looked_up, check_type};
+use static_types::{Stop, all_looked_up, check_type, names_unknown};
 use std::alloc::{AllocError, Global};
 
 /// A start value: the type that a variable has by it, and what it tells of regions.
@@ -106,13 +108,25 @@ fn region_term(alloc: Global, fields: &SpaceUse) -> Result<TypeTerm, AllocError>
     })
 }
 
-/// The first rule that the type of a new region breaches.
-fn check_region(site: &Site, scope: &Scope, fields: &SpaceUse) -> Result<(), Stop>
-    ensures { Tells Anything result
+/// The first rule that the type of a new region breaches, or whether it names what is unknown.
+fn check_region(site: &Site, scope: &Scope, fields: &SpaceUse) -> Result<bool, Stop>
+    ensures { Tells (λ lost. lost ≡ names_unknown (seen scope.now).names (typed.Region Int1d fields.now)) result
         (first_in_type (tree_at site.now) (seen scope.now).names (typed.Region Int1d fields.now)) }
 {
     let term = region_term(site.alloc, fields)?;
-    check_type(site.alloc, site.declared.tables(), scope.names(), &term)
+    check_type(site.alloc, site.declared.tables(), scope.names(), &term)?;
+    Ok(names_unknown(scope.names(), &term))
+}
+
+/// A variable of which nothing is known.
+fn unknown() -> Beginning
+    ensures typed { result.static_type ≡ unknown_type }
+    ensures known { option_to_list result.known ≡ [] }
+{
+    Beginning {
+        static_type: StaticType::Unknown,
+        known: None,
+    }
 }
 
 /// A new region, over an index space of a type.
@@ -126,13 +140,13 @@ fn region_over(
         (option_or (first_in_type (tree_at site.now) (seen scope.now).names (typed.Region Int1d fields.now))
         (first_of_standing [] (stands t.now space_spot))) }
 {
-    check_region(site, scope, fields)?;
+    let lost = check_region(site, scope, fields)?;
     spots::space(t)?;
+    if lost {
+        return Ok(unknown());
+    }
     let StaticType::Ispace(kind) = t else {
-        return Ok(Beginning {
-            static_type: StaticType::Unknown,
-            known: None,
-        });
+        return Ok(unknown());
     };
     Ok(Beginning {
         static_type: StaticType::Region {

@@ -37,9 +37,9 @@ pub fn block(site: &Site, scope: &mut Scope, body: &[Stmt]) -> Result<(), Halt>
 }
 
 /// A statement in which no block stands.
-fn alone(site: &Site, scope: &mut Scope, what: &What) -> Result<(), Stop>
+fn without_block(site: &Site, scope: &mut Scope, what: &What) -> Result<(), Stop>
     requires declared { HoldsDeclared site.now }
-    requires alone { has_block (form_of what.now) ≡ false }
+    requires plain { has_block (form_of what.now) ≡ false }
     ensures { Tells (λ _. seen scope.new ≡ scope_behind (tree_at site.now) (seen scope.old) (form_of what.now)) result
         (first_of_form (tree_at site.now) (task_at site.now) (seen scope.old) (form_of what.now)) }
 {
@@ -114,7 +114,7 @@ fn statement(site: &Site, scope: &mut Scope, stmt: &Stmt) -> Result<(), Halt>
             loop_body(site, scope, name, counted, body.as_slice())
         }
         What::Do { body } => nested(site, scope, body.as_slice()),
-        what => on_line(line, alone(site, scope, what)),
+        what => on_line(line, without_block(site, scope, what)),
     }
 }
 

@@ -9,13 +9,13 @@ ghost use Rattle.check_rules.specs.Params.{type_unless};
 ghost use Rattle.check_rules.specs.FirstInExpressions.{first_in_type};
 ghost use Rattle.check_rules.specs.Places.{misbegins};
 ghost use Rattle.check_rules.specs.Rules.{rule_if};
-ghost use Rattle.check_rules.specs.Sorts.{is_region, is_unknown_type};
+ghost use Rattle.check_rules.specs.Sorts.{is_collection, is_unknown_type};
 ghost use Rattle.check_rules.specs.Variables.{bound_type, declared_type, known_of_known_start, scope_behind};
 ghost use Rattle.check_rules.specs.declared.rule.Rule.TheVariants as rule;
 ghost use Rattle.expression_check.specs.Seen.{seen};
 ghost use Rattle.expression_check.specs.Sites.{HoldsDeclared, task_at, tree_at};
 ghost use Rattle.static_types.specs.Telling.{Anything, Tells};
-ghost use Rattle.type_check.specs.Variables.{first_of_begun, first_of_both, first_of_declared, first_of_started, first_of_var};
+ghost use Rattle.type_check.specs.Variables.{first_of_begun, first_by_both, first_by_type, first_by_start, first_of_var};
 
 use crate::beginnings::{begins_partition, begins_region};
 use crate::starts::{Beginning, start_value};
@@ -24,11 +24,11 @@ use expression_check::{Scope, Site, spots};
 use program_tables::{Names, copy_name};
 use regent_tree::{Init, Known, Name, StaticType, TypeTerm};
 use static_types::{
-    Stop, check_type, is_collection, is_partition, is_region, is_unknown, type_said,
+    Stop, check_type, is_collection, is_partition, is_region, is_unknown, names_unknown, type_said,
 };
 use std::alloc::AllocError;
 
-/// The type that is declared.
+/// The type that is declared, where it names nothing unknown.
 fn declared_type(site: &Site, scope: &Scope, term: &TypeTerm) -> Result<StaticType, Stop>
     ensures { Tells (λ t. t ≡ declared_type (tree_at site.now) (seen scope.now) term.now) result
         (first_in_type (tree_at site.now) (seen scope.now).names term.now) }
@@ -36,6 +36,9 @@ fn declared_type(site: &Site, scope: &Scope, term: &TypeTerm) -> Result<StaticTy
     let tables = site.declared.tables();
     let names = scope.names();
     check_type(site.alloc, tables, names, term)?;
+    if names_unknown(names, term) {
+        return Ok(StaticType::Unknown);
+    }
     let said = type_said(site.alloc, tables, names, scope.next(), term)?;
     Ok(said)
 }
@@ -56,7 +59,7 @@ fn by_start(site: &Site, scope: &Scope, init: &Init) -> Result<Beginning, Stop>
     requires { HoldsDeclared site.now }
     ensures { Tells (λ b. (b.static_type ≡ bound_type (tree_at site.now) (seen scope.now) None (Some (start_of init.now)))
         × (option_to_list b.known ≡ known_of_known_start (tree_at site.now) (seen scope.now) (Some (start_of init.now)))) result
-        (first_of_started (tree_at site.now) (task_at site.now) (seen scope.now) (start_of init.now)) }
+        (first_by_start (tree_at site.now) (task_at site.now) (seen scope.now) (start_of init.now)) }
 {
     let begun = start_value(site, scope, init)?;
     let t = &begun.static_type;
@@ -68,7 +71,7 @@ fn by_start(site: &Site, scope: &Scope, init: &Init) -> Result<Beginning, Stop>
 fn by_type(site: &Site, scope: &Scope, term: &TypeTerm) -> Result<Beginning, Stop>
     ensures { Tells (λ b. (b.static_type ≡ bound_type (tree_at site.now) (seen scope.now) (Some term.now) None)
         × (option_to_list b.known ≡ [])) result
-        (first_of_declared (tree_at site.now) (task_at site.now) (seen scope.now) term.now) }
+        (first_by_type (tree_at site.now) (task_at site.now) (seen scope.now) term.now) }
 {
     let static_type = declared_type(site, scope, term)?;
     Stop::at(is_collection(&static_type), Rule::Place)?;
@@ -78,12 +81,12 @@ fn by_type(site: &Site, scope: &Scope, term: &TypeTerm) -> Result<Beginning, Sto
     })
 }
 
-/// The declared type, unless it is a region's and the start value is unknown: what is known of a
-/// region comes from its start value.
-fn unless_lost(declared: StaticType, begun: &StaticType) -> StaticType
-    ensures { result ≡ type_unless (is_region declared && is_unknown_type begun.now) declared }
+/// The declared type, unless it is a collection's and the start value is unknown: which collection it is
+/// comes from that.
+fn unless_begun_unknown(declared: StaticType, begun: &StaticType) -> StaticType
+    ensures { result ≡ type_unless (is_collection declared && is_unknown_type begun.now) declared }
 {
-    if is_region(&declared) && is_unknown(begun) {
+    if is_collection(&declared) && is_unknown(begun) {
         StaticType::Unknown
     } else {
         declared
@@ -104,13 +107,13 @@ fn by_both(site: &Site, scope: &Scope, term: &TypeTerm, init: &Init) -> Result<B
     requires { HoldsDeclared site.now }
     ensures { Tells (λ b. (b.static_type ≡ bound_type (tree_at site.now) (seen scope.now) (Some term.now) (Some (start_of init.now)))
         × (option_to_list b.known ≡ known_of_known_start (tree_at site.now) (seen scope.now) (Some (start_of init.now)))) result
-        (first_of_both (tree_at site.now) (task_at site.now) (seen scope.now) term.now (start_of init.now)) }
+        (first_by_both (tree_at site.now) (task_at site.now) (seen scope.now) term.now (start_of init.now)) }
 {
     let declared = declared_type(site, scope, term)?;
     let begun = start_value(site, scope, init)?;
     check_begun(scope, &declared, &begun.static_type, init)?;
     Ok(Beginning {
-        static_type: unless_lost(declared, &begun.static_type),
+        static_type: unless_begun_unknown(declared, &begun.static_type),
         known: begun.known,
     })
 }

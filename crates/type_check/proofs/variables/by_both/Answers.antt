@@ -28,7 +28,7 @@ returns c =
       both_none tree (task_at c.args.site.now) s c.args.term.now i declared begun c.in_ok-declared.ensures.1
           c.in_ok-begun.ensures.1.0 c.in_ok-declared.ensures.0 c.in_ok-begun.ensures.0 c.in_ok-check_begun.ensures.0,
       (
-        c.unless_lost.ensures
+        c.unless_begun_unknown.ensures
             ∙ by_both_bound tree s c.args.term.now i declared begun c.in_ok-declared.ensures.1 c.in_ok-begun.ensures.1.0
             c.in_ok-check_begun.ensures.0,
         c.in_ok-begun.ensures.1.1,

@@ -16,12 +16,12 @@ returns-clause-computed c =
     let a = c.args.a.now in
     let b = c.args.b.now in
     let rows : List Row = c.self.inside.rows.items in
-    let over_a : List Row = c.raising-over_a.result.now in
-    let over_b : List Row = c.raising-over_b.result.now in
+    let over_a : List Row = c.rows_raising-over_a.result.now in
+    let over_b : List Row = c.rows_raising-over_b.result.now in
     let few : Known → Bool = λ k. parts_over over_a over_b a b k || parts_over over_b over_a b a k in
     let test = parts_either rows a b in
-    let few_a : StandFor over_a rows a = subst (λ (r : List Row). StandFor over_a r a) c.deref.ensures.value c.raising-over_a.ensures in
-    let few_b : StandFor over_b rows b = subst (λ (r : List Row). StandFor over_b r b) c.deref-2.ensures.value c.raising-over_b.ensures in
+    let few_a : StandFor over_a rows a = subst (λ (r : List Row). StandFor over_a r a) c.deref.ensures.value c.rows_raising-over_a.ensures in
+    let few_b : StandFor over_b rows b = subst (λ (r : List Row). StandFor over_b r b) c.deref-2.ensures.value c.rows_raising-over_b.ensures in
     let found : c.any.result ≡ list_any (λ (row : Row). few row.0) rows =
     any_from_yields_List (λ (row : Row). few row.0) _ _ _ c.any.ensures.ran
     (YieldsList-from_slice rows cc) (λ x d q k. search (rules, tests)) in

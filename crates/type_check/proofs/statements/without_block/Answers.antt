@@ -6,7 +6,7 @@ use Rattle.expression_check.specs.Sites.{task_at, tree_at}
 use Rattle.type_check.proofs.Blocks.{found_by, told_by}
 use Rattle.type_check.proofs.ByForm.{call_first, fill_first, print_first}
 use Rattle.type_check.proofs.Varied.{var_first}
-use Rattle.type_check.proofs.statements.alone.Goals as goal
+use Rattle.type_check.proofs.statements.without_block.Goals as goal
 
 pub returns-in-Var : goal.returns-in-Var
 returns-in-Var c =

@@ -2,7 +2,7 @@ use Rattle.std.proofs.Common.{◌∙◌}
 use Rattle.regent_tree.specs.Plain.{steps_in}
 use Rattle.regent_tree.proofs.Rows.{steps_of_vec}
 use Rattle.type_check.proofs.Alone.{one_place}
-use Rattle.type_check.proofs.beginnings.is_child.Goals as goal
+use Rattle.type_check.proofs.beginnings.is_name_at_place.Goals as goal
 
 pub returns-in-Access : goal.returns-in-Access
 returns-in-Access c =

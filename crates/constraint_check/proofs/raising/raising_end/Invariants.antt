@@ -1,7 +1,7 @@
 use Rattle.std.proofs.Common.{◌≡◌, ◌≤◌, drop, false, take}
 use Rattle.std.specs.List.{list_any}
 use Rattle.regent_tree.specs.Facts.{Row, raises}
-use Rattle.constraint_check.proofs.raising.raised_to.Given as goal
+use Rattle.constraint_check.proofs.raising.raising_end.Given as goal
 
 abbrev pub invariant-loop-place : goal.invariant-loop-place
 invariant-loop-place l = record {
