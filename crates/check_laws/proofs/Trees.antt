@@ -1,0 +1,199 @@
+-- Whole trees without a breach.
+use Rattle.std.proofs.Common.{List, None, Option, [], ◌∷◌, ◌||◌, ◌≡◌, ap, false, flat_map, inl, inr, map, refl, subst, sym, ◌∙◌, ℕ}
+use Rattle.std.specs.List.{Contains, list_any}
+use Rattle.std.proofs.lemmas.List.{append-nil}
+use Rattle.regent_tree.specs.Scopes.{Scope, bound_params, past, scope_of}
+use Rattle.regent_tree.specs.Syntax.{Arms, Block, Expression, Form, ItemForm, ItemTree, Otherwise, TaskTree, Tree, a_statement, alias_item, an_arm, assert_form, assign_form, call_form, do_form, else_block, fill_form, for_in_form, for_to_form, if_form, import_item, no_arm, no_else, no_statement, print_form, return_form, space_item, start_item, task_item, then_statement, var_form, while_form}
+use Rattle.regent_tree.specs.Typing.{scope_after_block, type_of}
+use Rattle.regent_tree.specs.declared.types.Param.{Param}
+use Rattle.regent_tree.proofs.Members.{Contains-from_Has, Has, Has-append_cases, Has-from_Contains, Has-map, Has-map_cases}
+use Rattle.check_rules.specs.Bodies.{body_scope}
+use Rattle.check_rules.specs.Breaches.{breaches}
+use Rattle.check_rules.specs.Declarations.{is_flawed_type}
+use Rattle.check_rules.specs.FirstInExpressions.{first_in_expression}
+use Rattle.check_rules.specs.FirstInItems.{first_breach, first_declared, first_in_body, first_line, first_of_said, first_of_saying}
+use Rattle.check_rules.specs.FirstInStatements.{first_in_arms, first_in_block, first_in_else, first_of_form, first_within, told_on}
+use Rattle.check_rules.specs.KnownTypes.{known_type}
+use Rattle.check_rules.specs.Names.{misnames_in_type}
+use Rattle.check_rules.specs.Repeats.{given_by, repeats}
+use Rattle.check_rules.specs.Rules.{first_in}
+use Rattle.check_rules.specs.Sound.{IsSound}
+use Rattle.check_rules.specs.Variables.{scope_behind, scope_behind_arms, scope_behind_block, scope_in_count, scope_in_loop}
+use Rattle.check_rules.specs.Visits.{Visit, declarations_in, heads_of, visits, visits_in, visits_in_arms, visits_in_else, visits_of_item, visits_within}
+use Rattle.check_rules.specs.declared.rule.Rule.{Rule}
+use Rattle.check_rules.specs.declared.rule.Rule.TheVariants as rule
+use Rattle.check_rules.proofs.FirstInItems.{none_without_first}
+use Rattle.check_rules.proofs.Written.{all_is_sound, all_sound, beside_written, body_scope_written, standing_sound, untold}
+use Rattle.check_laws.specs.Laws.{AllIsKnown, BodiesAreMeant}
+use Rattle.check_laws.specs.SoundScopes.{IsKnown, IsSoundScope}
+use Rattle.check_laws.proofs.Blocks.{arms_known, block_known, count_scope, form_known, head_known, loop_scope, nested, told_none}
+use Rattle.check_laws.proofs.Parameters.{begins_soundly}
+use Rattle.check_laws.proofs.Parts.{neither, or_none}
+use Rattle.check_laws.proofs.Variables.{parts_of_form}
+
+-- ---- lists of which nothing is told
+
+none_of : {A B : Type 0} (f : A → Option B) (xs : List A) (x : A) → first_in f xs ≡ None → Has xs x → f x ≡ None
+none_of f [] x e h = absurd h
+none_of f (y ∷ ys) x e (inl is) = ap f (sym is) ∙ (or_none (f y) _ e).0
+none_of f (y ∷ ys) x e (inr h) = none_of f ys x (or_none (f y) _ e).1 h
+
+no_lines : (r : Rule) (lines : List ℕ) → first_line r lines ≡ None → lines ≡ []
+no_lines r [] e = refl
+no_lines r (l ∷ ls) e = absurd cc
+
+-- ---- visits
+
+module _ (tree : Tree) (task : TaskTree) (sound : IsSound tree) where
+  abbrev IsAllKnown : Visit → Type 0
+  IsAllKnown v = IsSoundScope v.scope × ((e : Expression) → Contains (heads_of v.scope.names v.form) e →
+      IsKnown v.scope (known_type tree v.scope e) × (known_type tree v.scope e ≡ type_of tree v.scope e))
+
+  at_form : (s : Scope) (line : ℕ) (form : Form) → IsSoundScope s → first_of_form tree task s form ≡ None →
+      IsAllKnown (record { task = task; scope = s; line = line; form = form })
+  at_form s line form scope e = (
+    scope,
+    λ x has.
+        head_known tree task sound s scope x
+        (none_of (first_in_expression tree task s) (heads_of s.names form) x (parts_of_form tree task s sound scope form e).2
+        (Has-from_Contains (heads_of s.names form) x has)),
+  )
+
+  mutual
+    visit_block : (s : Scope) (b : Block) → IsSoundScope s → first_in_block tree task s b ≡ None → (v : Visit) → Has (visits_in tree task s b) v → IsAllKnown v
+    visit_block s no_statement scope e v h = absurd h
+    visit_block s (then_statement (a_statement line form) rest) scope e v h =
+        let parts = or_none (told_on line (first_of_form tree task s form)) _ e in
+        let more = or_none (first_within tree task s form) _ parts.1 in
+        let here = told_none line _ parts.0 in
+        let behind = form_known tree task sound s form scope here more.0 in
+        elim (Has-append_cases (record { task = task; scope = s; line = line; form = form } ∷ visits_within tree task s form)
+        (visits_in tree task (scope_behind tree s form) rest) v h) [
+          | inl g ↦ elim g [
+            | inl is ↦ subst IsAllKnown is (at_form s line form scope here)
+            | inr k ↦ visit_within s form scope here more.0 v k
+          ]
+          | inr g ↦ visit_block (scope_behind tree s form) rest behind.1 more.1 v g
+        ]
+
+    visit_within : (s : Scope) (form : Form) → IsSoundScope s → first_of_form tree task s form ≡ None → first_within tree task s form ≡ None →
+        (v : Visit) → Has (visits_within tree task s form) v → IsAllKnown v
+    visit_within s (if_form arms other) scope e w v h =
+        let parts = or_none (first_in_arms tree task s arms) _ w in
+        elim (Has-append_cases (visits_in_arms tree task s arms) (visits_in_else tree task (scope_behind_arms tree s arms) other) v h) [
+          | inl g ↦ visit_arms s arms scope parts.0 v g
+          | inr g ↦ visit_else (scope_behind_arms tree s arms) other (arms_known tree task sound s arms scope parts.0).1 parts.1 v g
+        ]
+    visit_within s (while_form test body) scope e w v h = visit_block s body scope w v h
+    visit_within s (for_in_form demanded n domain body) scope e w v h =
+        visit_block (scope_in_loop tree s n domain) body (loop_scope tree task sound s demanded n domain body scope e).1 w v h
+    visit_within s (for_to_form demanded n from to body) scope e w v h =
+        visit_block (scope_in_count tree s n from to) body (count_scope tree task sound s demanded n from to body scope e).1 w v h
+    visit_within s (do_form body) scope e w v h = visit_block s body scope w v h
+    visit_within s (var_form n t start) scope e w v h = absurd h
+    visit_within s (fill_form r fields x) scope e w v h = absurd h
+    visit_within s (assert_form x) scope e w v h = absurd h
+    visit_within s (print_form alias format args) scope e w v h = absurd h
+    visit_within s (call_form t args) scope e w v h = absurd h
+    visit_within s (assign_form n steps how x) scope e w v h = absurd h
+    visit_within s (return_form x) scope e w v h = absurd h
+
+    visit_arms : (s : Scope) (arms : Arms) → IsSoundScope s → first_in_arms tree task s arms ≡ None → (v : Visit) → Has (visits_in_arms tree task s arms) v → IsAllKnown v
+    visit_arms s no_arm scope e v h = absurd h
+    visit_arms s (an_arm test body rest) scope e v h =
+        let parts = or_none (first_in_block tree task s body) _ e in
+        let inner = nested tree task sound s body scope (block_known tree task sound s body scope parts.0) in
+        elim (Has-append_cases (visits_in tree task s body) (visits_in_arms tree task (past s (scope_behind_block tree s body)) rest) v h) [
+          | inl g ↦ visit_block s body scope parts.0 v g
+          | inr g ↦ visit_arms (past s (scope_behind_block tree s body)) rest inner.1 parts.1 v g
+        ]
+
+    visit_else : (s : Scope) (other : Otherwise) → IsSoundScope s → first_in_else tree task s other ≡ None → (v : Visit) → Has (visits_in_else tree task s other) v → IsAllKnown v
+    visit_else s no_else scope e v h = absurd h
+    visit_else s (else_block body) scope e v h = visit_block s body scope e v h
+
+-- ---- tasks
+
+-- a task of which nothing is told
+module _ (tree : Tree) (declared : first_in (first_declared tree) tree ≡ None) where
+  misnames_none : (ps : List Param) (names : _) → list_any (λ (p : Param). is_flawed_type tree names p.term) ps ≡ false →
+      list_any (λ (p : Param). misnames_in_type tree names p.term) ps ≡ false
+  misnames_none [] names e = refl
+  misnames_none (p ∷ ps) names e =
+      let parts = neither (is_flawed_type tree names p.term) (list_any (λ (q : Param). is_flawed_type tree names q.term) ps) e in
+      let a = neither _ _ parts.0 in
+      let b = neither _ _ a.0 in
+      let c = neither _ _ b.0 in
+      let d = neither (misnames_in_type tree names p.term) _ c.0 in
+      λ j. d.0 j || misnames_none ps names parts.1 j
+
+  scope_sound : (line : ℕ) (t : TaskTree) → Has tree (record { line = line; form = task_item t }) → IsSoundScope (scope_of tree t)
+  scope_sound line t h =
+      let of = untold tree (record { line = line; form = task_item t }) (none_of (first_declared tree) tree (record { line = line; form = task_item t }) declared h) in
+      let once = no_lines rule.Twice (repeats (given_by t.params)) of.twice in
+      let same = sym (append-nil t.params) in
+      let saying = subst (λ all. first_in (first_of_saying tree) (declarations_in tree t.params all) ≡ None) same of.saying in
+      let said = subst (λ all. first_in (first_of_said tree) (declarations_in tree t.params all) ≡ None) same of.said in
+      let flawless = (all_sound tree t.params [] saying said).0 in
+      let written = beside_written tree t.params [] saying in
+      let named = misnames_none t.params (bound_params tree t.params 0 t.params)
+      (subst (λ names. list_any (λ (p : Param). is_flawed_type tree names p.term) t.params ≡ false) written flawless) in
+      begins_soundly tree t.params (scope_of tree t) refl refl once named
+
+first_none : (tree : Tree) → breaches tree ≡ [] → first_breach tree ≡ None
+first_none tree none = (none_without_first tree).1 none
+
+declared_none : (tree : Tree) → breaches tree ≡ [] → first_in (first_declared tree) tree ≡ None
+declared_none tree none =
+    let a = or_none _ _ (first_none tree none) in
+    let b = or_none _ _ a.1 in
+    (or_none (first_in (first_declared tree) tree) _ b.1).0
+
+bodies_none : (tree : Tree) → breaches tree ≡ [] → first_in (λ (i : ItemTree). first_in_body tree i.form) tree ≡ None
+bodies_none tree none =
+    let a = or_none _ _ (first_none tree none) in
+    let b = or_none _ _ a.1 in
+    let c = or_none (first_in (first_declared tree) tree) _ b.1 in
+    (or_none (first_in (λ (i : ItemTree). first_in_body tree i.form) tree) _ c.1).0
+
+-- the body of a task among the items
+body_known : (tree : Tree) (none : breaches tree ≡ []) (line : ℕ) (t : TaskTree) → Has tree (record { line = line; form = task_item t }) →
+    (body_scope tree t ≡ scope_of tree t) × IsSoundScope (body_scope tree t) × (first_in_block tree t (body_scope tree t) t.body ≡ None)
+body_known tree none line t h =
+    let declared = declared_none tree none in
+    let stands = Contains-from_Has (map (λ (i : ItemTree). i.form) tree) (task_item t) (Has-map (λ (i : ItemTree). i.form) tree (record { line = line; form = task_item t }) h) in
+    let same = body_scope_written tree t (standing_sound tree declared t stands) in
+    let body = none_of (λ (i : ItemTree). first_in_body tree i.form) tree (record { line = line; form = task_item t }) (bodies_none tree none) h in
+    (same, subst IsSoundScope (sym same) (scope_sound tree declared line t h), body)
+
+pub bodies_are_meant : BodiesAreMeant
+bodies_are_meant tree t none stands =
+    let sound = all_is_sound tree (declared_none tree none) in
+    let found = Has-map_cases (λ (i : ItemTree). i.form) tree (task_item t) (Has-from_Contains (map (λ (i : ItemTree). i.form) tree) (task_item t) stands) in
+    let item = found.0 in
+    let here = body_known tree none item.line t (subst (λ form. Has tree (record { line = item.line; form = form })) found.2 found.1) in
+    (here.0, (block_known tree t sound (body_scope tree t) t.body here.1 here.2).0 ∙ ap (λ x. scope_after_block tree x t.body) here.0)
+
+has_flat : {A B : Type 0} (f : A → List B) (xs : List A) (y : B) → Has (flat_map f xs) y → (x : A) × Has xs x × Has (f x) y
+has_flat f [] y h = absurd h
+has_flat f (x ∷ xs) y h = elim (Has-append_cases (f x) (flat_map f xs) y h) [
+  | inl g ↦ (x, inl refl, g)
+  | inr g ↦ let r = has_flat f xs y g in (r.0, inr r.1, r.2)
+]
+
+item_known : (tree : Tree) (none : breaches tree ≡ []) (line : ℕ) (form : ItemForm) → Has tree (record { line = line; form = form }) →
+    (v : Visit) → Has (visits_of_item tree form) v →
+    IsSoundScope v.scope × ((e : Expression) → Contains (heads_of v.scope.names v.form) e →
+    IsKnown v.scope (known_type tree v.scope e) × (known_type tree v.scope e ≡ type_of tree v.scope e))
+item_known tree none line (task_item t) h v k =
+    let here = body_known tree none line t h in
+    visit_block tree t (all_is_sound tree (declared_none tree none)) (body_scope tree t) t.body here.1 here.2 v k
+item_known tree none line import_item h v k = absurd k
+item_known tree none line (alias_item n) h v k = absurd k
+item_known tree none line (space_item s) h v k = absurd k
+item_known tree none line (start_item n) h v k = absurd k
+
+pub all_is_known : AllIsKnown
+all_is_known tree v none stands =
+    let found = has_flat (λ (i : ItemTree). visits_of_item tree i.form) tree v (Has-from_Contains (visits tree) v stands) in
+    item_known tree none found.0.line found.0.form found.1 v found.2

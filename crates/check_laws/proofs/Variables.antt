@@ -1,0 +1,309 @@
+-- Variables of which nothing is told.
+use Rattle.std.proofs.Common.{Bool, List, None, Option, Some, [], ◌∷◌, ◌&&◌, ◌||◌, ◌≡◌, ◌<◌, ap, cond, false, inl, inr, map, not, refl, subst, sym, true, ◌∙◌, ◌⊎◌}
+use Rattle.std.specs.List.{list_any}
+use Rattle.std.proofs.lemmas.List.Folds.{list_any-append}
+use Rattle.regent_tree.specs.Lookup.{is_bound, type_named}
+use Rattle.regent_tree.specs.Scopes.{Scope, bound_as, bound_to, in_scope}
+use Rattle.regent_tree.specs.StaticTypes.{type_said}
+use Rattle.regent_tree.specs.Syntax.{Expression, Form, Name, Start, TaskTree, Tree, a_link, access_expr, both_start, by_field_start, chain_expr, either_start, equal_start, image_start, no_link, no_step, plain_start, preimage_start, region_start, var_form}
+use Rattle.regent_tree.specs.Typing.{arithmetic_type, counting_as, known_of_start, owned, parent_of, start_type, type_of, var_type}
+use Rattle.regent_tree.specs.declared.expression.Arithmetic.TheVariants.{Subtract}
+use Rattle.regent_tree.specs.declared.expression.Operator.TheVariants.{Compute}
+use Rattle.regent_tree.specs.declared.types.TypeTerm.{TypeTerm}
+use Rattle.regent_tree.specs.declared.types.TypeTerm.TheVariants as typed
+use Rattle.regent_tree.specs.declared.typing.Bound.{Bound}
+use Rattle.regent_tree.specs.declared.typing.StaticType.{StaticType}
+use Rattle.regent_tree.specs.declared.typing.StaticType.TheVariants.{Integer as integer_type, Truth as truth_type, Index as index_type, Pointer as pointer_type, Ispace as ispace_type, Region as region_type, Partition as partition_type, Nothing as no_type, Unknown as unknown_type}
+use Rattle.check_rules.specs.Breaches.{has_no_type, misbegins_at}
+use Rattle.check_rules.specs.Counts.{miscounts_in_type}
+use Rattle.check_rules.specs.Declarations.{is_flawed_type}
+use Rattle.check_rules.specs.FirstInExpressions.{first_in_expression, first_in_type, first_of_call, first_of_standing}
+use Rattle.check_rules.specs.FirstInStatements.{first_in_targets, first_of_form, first_of_start}
+use Rattle.check_rules.specs.KnownTypes.{known_type}
+use Rattle.check_rules.specs.Lookup.{names_a}
+use Rattle.check_rules.specs.Names.{are_partitions, misnames_form, misnames_in_type, misnames_region_field, misnames_start, misses_space}
+use Rattle.check_rules.specs.Partitions.{is_difference, miscolours_start, mispartitions_start}
+use Rattle.check_rules.specs.Places.{misbegins}
+use Rattle.check_rules.specs.Pointers.{mispoints_in_type}
+use Rattle.check_rules.specs.Rules.{first_in, rule_if}
+use Rattle.check_rules.specs.Sorts.{is_collection, is_partition, is_region, is_unknown_type, may_be}
+use Rattle.check_rules.specs.Sound.{IsSound}
+use Rattle.check_rules.specs.Spaces.{misfits_in_type}
+use Rattle.check_rules.specs.Statements.{standing_in_form}
+use Rattle.check_rules.specs.Types.{misstands}
+use Rattle.check_rules.specs.Variables.{begins_unsoundly, bound_type, declared_type, expressions_in_start, is_flawed_start, known_of_known_start, known_start, members_of, origins_of, standing_in_start, stands_declared, types_in_start, variable_type, written_in_start}
+use Rattle.check_rules.specs.Visits.{call_of_form, declared_at, heads_of, start_at}
+use Rattle.check_rules.specs.declared.rule.Rule.TheVariants as rule
+use Rattle.check_rules.proofs.Laws.{types_as_meant}
+use Rattle.check_rules.proofs.Written.{names_known}
+use Rattle.check_laws.specs.SoundScopes.{IsKnown, IsSoundScope}
+use Rattle.check_laws.proofs.Expressions.{known_expression}
+use Rattle.check_laws.proofs.Parts.{contrary, neither, not_false, number_known, or_none, rule_none, stand_none, surely, unless_false, value_known}
+use Rattle.check_laws.proofs.Scopes.{found_by_number}
+
+pub and_both : (a b : Bool) → (a && b) ≡ true → (a ≡ true) × (b ≡ true)
+and_both true b e = (refl, e)
+and_both false b e = absurd (contrary (sym e))
+
+and_false : (b : Bool) → (b && false) ≡ false
+and_false true = refl
+and_false false = refl
+
+pub meant : (t m : StaticType) → is_unknown_type t ≡ false → (t ≡ m) ⊎ (t ≡ unknown_type) → t ≡ m
+meant t m k (inl e) = e
+meant t m k (inr e) = absurd (contrary (sym (ap is_unknown_type e) ∙ k))
+
+module _ (tree : Tree) (task : TaskTree) (s : Scope) (sound : IsSound tree) (scope : IsSoundScope s) where
+  -- ---- names
+
+  -- a name that is bound to a thing of a sort, as far as is known, is bound to one
+  pub named : (sort : StaticType → Bool) (n : Name) → not (names_a sort s.names n) ≡ false →
+      (is_bound s.names n ≡ true) × (sort (type_named s.names n) ≡ true)
+  named sort n e =
+      let both = and_both (is_bound s.names n) (may_be sort (type_named s.names n)) (not_false _ e) in
+      (both.0, surely sort (type_named s.names n) (scope.types n both.0).known both.1)
+
+  -- a region's name, by the number of its binding
+  region_placed : (n : Name) → not (names_a is_region s.names n) ≡ false →
+      (is_region (bound_as s.names (bound_to s.names n).number).static_type ≡ true) × ((bound_to s.names n).number < s.next)
+  region_placed n e =
+      let is = named is_region n e in
+      let found = found_by_number s.next s.names n scope.numbers is.0 in
+      (ap (λ (b : Bound). is_region b.static_type) found.0 ∙ is.1, found.1)
+
+  -- ---- written types
+
+  type_sound : (t : TypeTerm) → first_in_type tree s.names t ≡ None → is_flawed_type tree s.names t ≡ false
+  type_sound t e =
+      let a = or_none _ _ e in
+      let b = or_none _ _ a.1 in
+      let c = or_none _ _ b.1 in
+      let d = or_none _ _ c.1 in
+      let named = rule_none (misnames_in_type tree s.names t) rule.Name a.0 in
+      let counted = rule_none (miscounts_in_type tree t) rule.Count b.0 in
+      let points = rule_none (mispoints_in_type tree s.names t) rule.Pointer c.0 in
+      let fits = rule_none (misfits_in_type tree s.names t) rule.Spaces d.0 in
+      let known = names_known tree s.names (λ n b. (scope.types n b).known) t named in
+      λ j. named j || counted j || points j || fits j || known j
+
+  types_sound : (ts : List TypeTerm) → first_in (first_in_type tree s.names) ts ≡ None → list_any (is_flawed_type tree s.names) ts ≡ false
+  types_sound [] e = refl
+  types_sound (t ∷ ts) e =
+      let parts = or_none (first_in_type tree s.names t) _ e in
+      λ j. type_sound t parts.0 j || types_sound ts parts.1 j
+
+  said_known : (t : TypeTerm) → misnames_in_type tree s.names t ≡ false → IsKnown s (type_said tree (in_scope s) s.next t)
+  said_known (typed.Number t) e = number_known s t
+  said_known typed.Truth e = value_known s _ refl tt
+  said_known (typed.Pointer p) e = value_known s _ refl tt
+  said_known (typed.Ispace k) e = value_known s _ refl tt
+  said_known (typed.Region k u) e = value_known s _ refl tt
+  said_known (typed.Partition d r c) e = record {
+    known = refl;
+    placed = region_placed r (neither (not (names_a is_region s.names r)) (misses_space s.names c) e).0;
+  }
+
+  -- ---- start values
+
+  heads_known : (es : List Expression) → first_in (first_in_expression tree task s) es ≡ None →
+      list_any is_unknown_type (map (known_type tree s) es) ≡ false
+  heads_known [] e = refl
+  heads_known (x ∷ xs) e =
+      let parts = or_none (first_in_expression tree task s x) _ e in
+      λ j. (known_expression tree task s sound scope x parts.0).known j || heads_known xs parts.1 j
+
+  origin : (sort : StaticType → Bool) (n : Name) → not (names_a sort s.names n) ≡ false → is_unknown_type (type_named s.names n) ≡ false
+  origin sort n e = (scope.types n (named sort n e).0).known
+
+  both_named : (p q : Name) → not (are_partitions s.names p q) ≡ false →
+      (not (names_a is_partition s.names p) ≡ false) × (not (names_a is_partition s.names q) ≡ false)
+  both_named p q e =
+      let both = and_both (names_a is_partition s.names p) (names_a is_partition s.names q) (not_false _ e) in
+      (ap not both.0, ap not both.1)
+
+  origins_known : (i : Start) → misnames_start tree s.names i ≡ false →
+      list_any (λ n. is_unknown_type (type_named s.names n)) (origins_of i) ≡ false
+  origins_known (region_start e u) m = refl
+  origins_known (equal_start r e) m = λ j. origin is_region r m j || false
+  origins_known (by_field_start r f e) m =
+      λ j. origin is_region r (neither (not (names_a is_region s.names r)) _ m).0 j || false
+  origins_known (image_start parent p r f) m =
+      let a = neither (not (names_a is_region s.names parent) || not (names_a is_partition s.names p)) (misnames_region_field tree s.names r f) m in
+      let b = neither (not (names_a is_region s.names parent)) (not (names_a is_partition s.names p)) a.0 in
+      λ j. origin is_region parent b.0 j || false
+  origins_known (preimage_start parent p r f) m =
+      let a = neither (not (names_a is_region s.names parent) || not (names_a is_partition s.names p)) (misnames_region_field tree s.names r f) m in
+      let b = neither (not (names_a is_region s.names parent)) (not (names_a is_partition s.names p)) a.0 in
+      λ j. origin is_region parent b.0 j || (origin is_partition p b.1 j || false)
+  origins_known (both_start p q) m =
+      let b = both_named p q m in λ j. origin is_partition p b.0 j || (origin is_partition q b.1 j || false)
+  origins_known (either_start p q) m =
+      let b = both_named p q m in λ j. origin is_partition p b.0 j || (origin is_partition q b.1 j || false)
+  origins_known (plain_start e) m = refl
+
+  -- a start value of which nothing is told
+  pub start_sound : (i : Start) → first_in (first_in_expression tree task s) (expressions_in_start s.names i) ≡ None →
+      first_of_start tree task s i ≡ None → list_any (misstands s.known) (standing_in_start tree s i) ≡ false →
+      is_flawed_start tree s i ≡ false
+  start_sound i heads start stand =
+      let a = or_none _ _ start in
+      let b = or_none _ _ a.1 in
+      let c = or_none _ _ b.1 in
+      let d = or_none _ _ c.1 in
+      let written = types_sound (written_in_start i) a.0 in
+      let names = rule_none (misnames_start tree s.names i) rule.Name b.0 in
+      let parts = rule_none (mispartitions_start tree s i) rule.Partition c.0 in
+      let colours = rule_none (miscolours_start i (types_in_start tree s i)) rule.Partition d.0 in
+      let types = heads_known (expressions_in_start s.names i) heads in
+      let origins = origins_known i names in
+      λ j. types j || colours j || stand j || written j || names j || parts j || origins j
+
+  owned_known : (t : StaticType) → IsKnown s t → IsKnown s (owned s.next t)
+  owned_known (region_type k sp args r) h = value_known s _ refl tt
+  owned_known (partition_type d r p) h = record { known = refl; placed = h.placed }
+  owned_known (integer_type w) h = h
+  owned_known truth_type h = h
+  owned_known (index_type k) h = h
+  owned_known (pointer_type k sp args regions) h = h
+  owned_known (ispace_type k) h = h
+  owned_known no_type h = h
+  owned_known unknown_type h = h
+
+  parent_placed : (flag : Bool) (t : StaticType) → is_partition t ≡ true → IsKnown s t → IsKnown s (partition_type flag (parent_of t) s.next)
+  parent_placed flag (partition_type d r p) is h = record { known = refl; placed = h.placed }
+  parent_placed flag (region_type k sp args r) is h = absurd (contrary (sym is))
+  parent_placed flag (integer_type w) is h = absurd (contrary (sym is))
+  parent_placed flag truth_type is h = absurd (contrary (sym is))
+  parent_placed flag (index_type k) is h = absurd (contrary (sym is))
+  parent_placed flag (pointer_type k sp args regions) is h = absurd (contrary (sym is))
+  parent_placed flag (ispace_type k) is h = absurd (contrary (sym is))
+  parent_placed flag no_type is h = absurd (contrary (sym is))
+  parent_placed flag unknown_type is h = absurd (contrary (sym is))
+
+  difference_known : (t u : StaticType) → is_partition t ≡ true → IsKnown s t → IsKnown s (owned s.next (arithmetic_type (counting_as t) (counting_as u)))
+  difference_known (partition_type d r p) u is h = record { known = refl; placed = h.placed }
+  difference_known (region_type k sp args r) u is h = absurd (contrary (sym is))
+  difference_known (integer_type w) u is h = absurd (contrary (sym is))
+  difference_known truth_type u is h = absurd (contrary (sym is))
+  difference_known (index_type k) u is h = absurd (contrary (sym is))
+  difference_known (pointer_type k sp args regions) u is h = absurd (contrary (sym is))
+  difference_known (ispace_type k) u is h = absurd (contrary (sym is))
+  difference_known no_type u is h = absurd (contrary (sym is))
+  difference_known unknown_type u is h = absurd (contrary (sym is))
+
+  plain_type : (e : Expression) (is : Bool) → is_difference s.names e ≡ is →
+      first_in (first_in_expression tree task s) (cond is (members_of e) (e ∷ [])) ≡ None → IsKnown s (owned s.next (type_of tree s e))
+  plain_type e false d heads =
+      let known = known_expression tree task s sound scope e (or_none (first_in_expression tree task s e) _ heads).0 in
+      owned_known (type_of tree s e)
+      (subst (IsKnown s) (meant (known_type tree s e) (type_of tree s e) known.known (types_as_meant tree s e)) known)
+  plain_type (chain_expr (access_expr p no_step) (a_link (Compute Subtract) (access_expr q no_step) no_link)) true d heads =
+      let first = or_none (first_in_expression tree task s (access_expr p no_step)) _ heads in
+      let known = known_expression tree task s sound scope (access_expr p no_step) first.0 in
+      let is = and_both (may_be is_partition (type_named s.names p)) (may_be is_partition (type_named s.names q)) d in
+      difference_known (type_named s.names p) (type_named s.names q)
+      (surely is_partition (type_named s.names p) known.known is.0) known
+  plain_type e true d heads = absurd (contrary (sym d))
+
+  start_known : (i : Start) → first_in (first_in_expression tree task s) (expressions_in_start s.names i) ≡ None →
+      misnames_start tree s.names i ≡ false → IsKnown s (start_type tree s s.next i)
+  start_known (region_start e u) heads m = value_known s _ refl tt
+  start_known (equal_start r e) heads m = record { known = refl; placed = region_placed r m }
+  start_known (by_field_start r f e) heads m = record {
+    known = refl;
+    placed = region_placed r (neither (not (names_a is_region s.names r)) _ m).0;
+  }
+  start_known (image_start parent p r f) heads m =
+      let a = neither (not (names_a is_region s.names parent) || not (names_a is_partition s.names p)) (misnames_region_field tree s.names r f) m in
+      let b = neither (not (names_a is_region s.names parent)) (not (names_a is_partition s.names p)) a.0 in
+      record { known = refl; placed = region_placed parent b.0 }
+  start_known (preimage_start parent p r f) heads m =
+      let a = neither (not (names_a is_region s.names parent) || not (names_a is_partition s.names p)) (misnames_region_field tree s.names r f) m in
+      let b = neither (not (names_a is_region s.names parent)) (not (names_a is_partition s.names p)) a.0 in
+      record { known = refl; placed = region_placed parent b.0 }
+  start_known (both_start p q) heads m =
+      let is = named is_partition p (both_named p q m).0 in
+      parent_placed _ (type_named s.names p) is.1 (scope.types p is.0)
+  start_known (either_start p q) heads m =
+      let is = named is_partition p (both_named p q m).0 in
+      parent_placed _ (type_named s.names p) is.1 (scope.types p is.0)
+  start_known (plain_start e) heads m = plain_type e (is_difference s.names e) refl heads
+
+  -- ---- statements
+
+  pub parts_of_form : (form : Form) → first_of_form tree task s form ≡ None →
+      (first_in (first_in_type tree s.names) (declared_at form) ≡ None)
+      × (has_no_type form ≡ false)
+      × (first_in (first_in_expression tree task s) (heads_of s.names form) ≡ None)
+      × (first_in (first_of_start tree task s) (start_at form) ≡ None)
+      × (list_any (misstands s.known) (standing_in_form tree task s form) ≡ false)
+      × (misbegins_at tree s form ≡ false)
+  parts_of_form form e =
+      let a = or_none (first_in (first_in_type tree s.names) (declared_at form)) _ e in
+      let b = or_none (rule_if (has_no_type form) rule.Type) _ a.1 in
+      let c = or_none (first_in (first_in_expression tree task s) (heads_of s.names form)) _ b.1 in
+      let d = or_none (first_in_targets tree task s form) _ c.1 in
+      let f = or_none (rule_if (misnames_form tree s.names form) rule.Name) _ d.1 in
+      let g = or_none (first_in (first_of_start tree task s) (start_at form)) _ f.1 in
+      let h = or_none (first_in (first_of_call tree task s) (call_of_form tree s form)) _ g.1 in
+      let i = or_none (first_in (first_of_standing s.known) (standing_in_form tree task s form)) _ h.1 in
+      let k = or_none (rule_if (misbegins_at tree s form) rule.Place) _ i.1 in (
+        a.0,
+        rule_none (has_no_type form) rule.Type b.0,
+        c.0,
+        g.0,
+        stand_none s.known (standing_in_form tree task s form) i.0,
+        rule_none (misbegins_at tree s form) rule.Place k.0,
+      )
+
+  -- what begins soundly is bound with its type
+  bound_soundly : (t : Option TypeTerm) (start : Option Start) →
+      (is_collection (variable_type tree s t start) ≡ false) ⊎ (begins_unsoundly tree s t start ≡ false) →
+      bound_type tree s t start ≡ variable_type tree s t start
+  bound_soundly t start (inl e) = unless_false _ (variable_type tree s t start) (ap (λ b. b && begins_unsoundly tree s t start) e)
+  bound_soundly t start (inr e) =
+      unless_false _ (variable_type tree s t start)
+      (ap (λ b. is_collection (variable_type tree s t start) && b) e ∙ and_false (is_collection (variable_type tree s t start)))
+
+  -- a variable is what the meaning of programs says
+  abbrev IsMeantVariable : Option TypeTerm → Option Start → Type 0
+  IsMeantVariable t start = (bound_type tree s t start ≡ var_type tree s t start) × IsKnown s (var_type tree s t start)
+      × (known_of_known_start tree s start ≡ known_of_start tree s s.next start)
+
+  -- a start value, in a variable
+  begun_sound : (n : Name) (t : Option TypeTerm) (i : Start) → first_of_form tree task s (var_form n t (Some i)) ≡ None →
+      (is_flawed_start tree s i ≡ false) × IsKnown s (start_type tree s s.next i) × (begins_unsoundly tree s t (Some i) ≡ false)
+  begun_sound n t i e =
+      let parts = parts_of_form (var_form n t (Some i)) e in
+      let start = (or_none (first_of_start tree task s i) _ parts.3).0 in
+      let begun = known_start tree s i in
+      let wanted = variable_type tree s t (Some i) in
+      let stand = neither (list_any (misstands s.known) (standing_in_start tree s i)) (list_any (misstands s.known) (stands_declared begun t wanted))
+      (sym (list_any-append (misstands s.known) (standing_in_start tree s i) (stands_declared begun t wanted)) ∙ parts.4) in
+      let flawless = start_sound i parts.2 start stand.0 in
+      let names = rule_none (misnames_start tree s.names i) rule.Name (or_none _ _ (or_none _ _ start).1).0 in
+      let known = start_known i parts.2 names in
+      let is = unless_false (is_flawed_start tree s i) (start_type tree s s.next i) flawless in
+      let begins = neither (misbegins s.names wanted begun i) false parts.5 in
+      (flawless, known, λ j. (ap is_unknown_type is ∙ known.known) j || stand.1 j || begins.0 j)
+
+  pub variable_known : (n : Name) (t : Option TypeTerm) (start : Option Start) → first_of_form tree task s (var_form n t start) ≡ None →
+      IsMeantVariable t start
+  variable_known n None None e = absurd (contrary (parts_of_form (var_form n None None) e).1)
+  variable_known n None (Some i) e =
+      let b = begun_sound n None i e in
+      let is = unless_false (is_flawed_start tree s i) (start_type tree s s.next i) b.0 in
+      (bound_soundly None (Some i) (inr b.2) ∙ is, b.1, ap (λ x. cond x [] (known_of_start tree s s.next (Some i))) b.0)
+  variable_known n (Some t) None e =
+      let parts = parts_of_form (var_form n (Some t) None) e in
+      let typed_none = (or_none (first_in_type tree s.names t) _ parts.0).0 in
+      let is = unless_false (is_flawed_type tree s.names t) (type_said tree (in_scope s) s.next t) (type_sound t typed_none) in
+      let names = rule_none (misnames_in_type tree s.names t) rule.Name (or_none _ _ typed_none).0 in
+      (bound_soundly (Some t) None (inl (neither (is_collection (declared_type tree s t)) false parts.5).0) ∙ is, said_known t names, refl)
+  variable_known n (Some t) (Some i) e =
+      let parts = parts_of_form (var_form n (Some t) (Some i)) e in
+      let b = begun_sound n (Some t) i e in
+      let typed_none = (or_none (first_in_type tree s.names t) _ parts.0).0 in
+      let is = unless_false (is_flawed_type tree s.names t) (type_said tree (in_scope s) s.next t) (type_sound t typed_none) in
+      let names = rule_none (misnames_in_type tree s.names t) rule.Name (or_none _ _ typed_none).0 in
+      (bound_soundly (Some t) (Some i) (inr b.2) ∙ is, said_known t names, ap (λ x. cond x [] (known_of_start tree s s.next (Some i))) b.0)

@@ -1,0 +1,2 @@
+pub mod SoundScopes
+pub mod Laws

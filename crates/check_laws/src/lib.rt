@@ -1,0 +1,25 @@
+//! Laws of programs without a breach: what the checker takes for known is what the meaning of programs
+//! says.
+//!
+//! The laws are stated under specs/. Each function has an empty body; its contract is a law.
+#![tactic(auto)]
+
+ghost use Rattle.check_laws.specs.Laws.{AllIsKnown, BodiesAreMeant, ExpressionsAreKnown};
+
+/// In a scope of which all is known, an expression of which no breach is told has the type that the
+/// meaning gives it.
+#[tactic(auto, using(crate::proofs::Expressions::expressions_are_known))]
+pub fn expressions_are_known()
+    ensures { ExpressionsAreKnown }
+{}
+
+/// In a program without a breach the scopes of bodies are those of the meaning.
+#[tactic(auto, using(crate::proofs::Trees::bodies_are_meant))]
+pub fn bodies_are_meant()
+    ensures { BodiesAreMeant }
+{}
+
+/// In a program without a breach no type is unknown.
+pub fn all_is_known()
+    ensures { AllIsKnown }
+{}
