@@ -1,5 +1,4 @@
--- Rule 16, Declared: a clause names what isn't a region parameter, or a field that its space
--- hasn't.
+-- Rule 16, Declared: what a clause names is no parameter that is a region, or no field of that region.
 use Rattle.std.specs.List.{list_all, list_any}
 use Rattle.std.specs.Prelude.{Bool, List, None, Option, Some, false, not, ◌||◌}
 use Rattle.regent_tree.specs.declared.typing.Bound.{Bound}

@@ -1,4 +1,5 @@
--- Rule 12, CallConstraint: a constraint of the called task isn't derivable on its arguments.
+-- Rule 12, CallConstraint: what a called task says of its regions doesn't follow, for the arguments,
+-- from what is known.
 use Rattle.std.specs.List.{list_any}
 use Rattle.std.specs.Prelude.{Bool, List, false, not}
 use Rattle.regent_tree.specs.Facts.{are_disjoint, is_subregion}

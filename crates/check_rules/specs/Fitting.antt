@@ -48,9 +48,9 @@ is_partition_like disjoint parent t = false
 abbrev pub has_position : List Known → List Reach → Reach → Bool
 has_position known targets a = nat_lt 0 (position_of known targets a)
 
--- a pointer into these regions fits its index kind, and each pointer type with its kind and field
--- space whose list holds `wild`, or for each of its regions one within which it derivably lies;
--- `wild` in its own list has no such region
+-- A pointer into these regions fits an index of its kind. It fits a pointer type of its kind and field
+-- space that has `wild` among its regions, or one for each region of the pointer that this derivably
+-- lies in; `wild` lies in none.
 abbrev pub pointer_fits : List Known → Kind → ℕ → List Reach → StaticType → Bool
 pointer_fits known k s regions (index_type j) = same_kind k j
 pointer_fits known k s regions (pointer_type j u args targets) =

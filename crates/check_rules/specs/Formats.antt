@@ -1,5 +1,5 @@
--- Rule 7, Format: a `printf` text has a `%` not followed by `d`, `ld`, `lld` or `%`, or its count
--- of numbers differs from the arguments, or an argument isn't an integer.
+-- Rule 7, Format: in the text of a `printf` a `%` leads to something else than `d`, `ld`, `lld` or
+-- another `%`; it prints more or fewer numbers than there are arguments; or one of these is no integer.
 use Rattle.std.specs.List.{list_any}
 use Rattle.std.specs.Prelude.{Bool, List, None, Option, Some, [], false, length, not, option_map, suc, true, ℕ, ◌==◌, ◌||◌, ◌∷◌}
 use Rattle.regent_tree.specs.Scopes.{Scope}

@@ -1,4 +1,4 @@
--- Rule 1, Name: a used name isn't bound to a thing of the kind that its place needs.
+-- Rule 1, Name: a name is used that stands for nothing, or for something else than is needed there.
 use Rattle.std.specs.List.{list_any}
 use Rattle.std.specs.Prelude.{Bool, List, None, Option, Some, false, not, ◌&&◌, ◌||◌}
 use Rattle.regent_tree.specs.declared.typing.Bound.{Bound}
@@ -30,7 +30,7 @@ abbrev pub misses_space : List Bound → Option Name → Bool
 misses_space names None = false
 misses_space names (Some n) = not (names_a is_space names n)
 
--- a name in the type isn't bound to a thing of the kind that its place needs
+-- a name in the type stands for nothing of the kind that is needed there
 abbrev pub misnames_in_type : Tree → List Bound → TypeTerm → Bool
 misnames_in_type tree names (typed.Pointer t) =
     misnames_in_use tree names t.space || list_any (misses_region names) t.regions

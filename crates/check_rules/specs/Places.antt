@@ -1,5 +1,5 @@
--- Rule 5, Place: a region, partition or index space stands where only a number, truth or pointer
--- may, or a variable of such a type doesn't begin as it must.
+-- Rule 5, Place: where a value has to stand there is a region, a partition or an index space; or a
+-- variable of one of these types doesn't begin as it must.
 use Rattle.std.specs.List.{list_any}
 use Rattle.std.specs.Prelude.{Bool, List, None, Option, Some, false, not, true, ◌&&◌, ◌||◌}
 use Rattle.regent_tree.specs.declared.typing.Bound.{Bound}

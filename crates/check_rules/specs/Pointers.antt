@@ -1,6 +1,5 @@
--- Rule 13, Pointer: a field is taken of a pointer whose list holds `wild`; a name after the space
--- in a pointer type is no region with that field space and kind; `wild` is in a written type's own
--- list.
+-- Rule 13, Pointer: `x.f` where `wild` is among the regions of x; a written pointer type with `wild`
+-- among its regions, or with a name there of what is no region of its field space and kind.
 use Rattle.std.specs.List.{list_any}
 use Rattle.std.specs.Prelude.{Bool, List, false, not, true, ℕ, ◌&&◌, ◌==◌}
 use Rattle.regent_tree.specs.declared.typing.Bound.{Bound}

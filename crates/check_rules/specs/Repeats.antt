@@ -1,5 +1,5 @@
--- Rule 2, Twice: two tasks, field spaces, aliases, fields of a space or parameters of a list share
--- a name. It is told at each that has the name of an earlier one.
+-- Rule 2, Twice: a name is given again among the tasks, the field spaces or the aliases of a text, or
+-- within a list of parameters or fields. It is told at each that has the name of an earlier one.
 use Rattle.std.specs.List.{list_any}
 use Rattle.std.specs.Prelude.{Bool, List, [], bytes_eq, cond, map, ℕ, ◌++◌, ◌∷◌}
 use Rattle.regent_tree.specs.Syntax.{ItemForm, ItemTree, Name, alias_item, space_item, task_item}

@@ -1,5 +1,5 @@
--- Rule 17, Return: a value is returned by a task with no result type, or none by one that has it; a
--- result type is none of the number types and `bool`.
+-- Rule 17, Return: a task returns a value and declares no result, or returns none and declares one;
+-- the result that it declares is neither a number nor a truth.
 use Rattle.std.specs.Prelude.{Bool, None, Some, false, is_none, is_some}
 use Rattle.regent_tree.specs.Syntax.{Form, ItemForm, TaskTree, return_form, task_item}
 use Rattle.check_rules.specs.Declarations.{is_no_result_type}

@@ -1,5 +1,5 @@
--- Rule 18, Start: there is more than one start; the started task, or without one `main`, isn't
--- there; one of its parameters isn't an integer type.
+-- Rule 18, Start: a second start; no task to be started, be it the one that a start names or else
+-- `main`; or one that takes something else than integers.
 use Rattle.std.specs.Prelude.{Bool, List, [], cond, false, filter, flat_map, map, not, true, ℕ, ◌++◌, ◌∷◌}
 use Rattle.regent_tree.specs.StaticTypes.{started, task_named}
 use Rattle.regent_tree.specs.Syntax.{ItemForm, ItemTree, Tree, start_item}

@@ -1,6 +1,5 @@
--- Rule 6, Target: an assignment's target is a loop variable, a parameter, a region, a partition,
--- an index space, or an access that doesn't end in a field or a variable; a reduction's target
--- isn't an integer.
+-- Rule 6, Target: what is assigned can't be. It is neither a field nor a variable that may change,
+-- which a loop's, a parameter and a collection may not. What is reduced is no integer.
 use Rattle.std.specs.Prelude.{Bool, List, false, length, nat_lt, not, true, ◌&&◌, ◌||◌}
 use Rattle.regent_tree.specs.Scopes.{Scope, bound_to}
 use Rattle.regent_tree.specs.declared.typing.Bound.{Bound}

@@ -6,7 +6,7 @@ ghost use Rattle.check_rules.specs.Rules.{number_of};
 /// A rule of the checker. A breach of it is told by its number.
 #[derive(Clone, Copy, Debug, PartialEq, Eq)]
 pub enum Rule {
-    /// A used name isn't bound to a thing of the kind that its place needs.
+    /// A name stands for nothing of the kind that is needed.
     Name,
     /// Two things of one scope share a name.
     Twice,

@@ -58,7 +58,7 @@ fn misdeclares(tables: &Tables, names: &Names, clause: &Clause) -> bool
     }
 }
 
-/// Whether a clause names what isn't a region parameter, or a field that its region lacks.
+/// Whether what a clause names is no parameter that is a region, or no field of that region.
 pub fn any_misdeclares(tables: &Tables, names: &Names, clauses: &[Clause]) -> bool
     ensures { result ≡ list_any (misdeclares (tree_of tables.now) names.now) clauses.now }
 {

@@ -17,8 +17,8 @@ pub enum ReadFault {
     /// Nesting passes 64 on this line.
     #[error("line {line}: nested too deeply")]
     TooDeep { line: u32 },
-    /// The tokens are no program. The line is that of the first token that no production takes, or
-    /// of the text's end.
+    /// The tokens are no program. The line is where the grammar can't go on: that of a token, or that of
+    /// the text's end.
     #[error("line {line}: no program goes on here")]
     NoProgram { line: u32 },
     /// There are too many of something. The first such place in the text is told, and how many there

@@ -18,8 +18,8 @@ pub record Requirement : Type 0 where
 
 -- ---- interference
 
--- Two requirements conflict where they share a root, a field and a point, unless both read or both
--- reduce with the same operator.
+-- Two requirements conflict where a point of one root is needed in one field by both, and their modes
+-- conflict: all do but two readings, and two reductions by one operator.
 abbrev pub conflict : Requirement → Requirement → Bool
 conflict a b =
     (a.root == b.root) && (a.field == b.field) && in_conflict a.mode b.mode

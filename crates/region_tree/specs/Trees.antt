@@ -90,8 +90,8 @@ abbrev pub parts_disjoint : RegionTree → Option Node → Bool
 parts_disjoint t None = false
 parts_disjoint t (Some p) = is_disjoint t p.0
 
--- Whether two nodes are separated: whether their paths from one root first part at different
--- colours of one disjoint partition.
+-- Whether two nodes are separated: their paths begin at one root, and where they part they go on to two
+-- colours of a partition that is disjoint.
 abbrev pub separated : RegionTree → ℕ → ℕ → Bool
 separated t a b =
     (root_at t a == root_at t b) && parts_disjoint t (parting (path_at t a) (path_at t b))
@@ -134,7 +134,7 @@ partition_of divided region disjoint colours = record {
   content = Partition (record { 0 = region }) disjoint colours;
 }
 
--- a partition brings its own node, and then its children by colour
+-- the nodes that a partition brings: itself, and behind it a child for each colour
 abbrev pub partition_nodes : TreeNode → ℕ → ℕ → List (List ℕ) → Bool → List TreeNode
 partition_nodes divided region p sets disjoint =
     partition_of divided region disjoint (length sets) ∷ children divided p 0 sets

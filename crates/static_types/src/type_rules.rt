@@ -102,7 +102,7 @@ fn misnames_in_pointer(tables: &Tables, names: &Names, pointer: &PointerTerm) ->
         || any_misses_region(names, pointer.regions.as_slice())
 }
 
-/// Whether a name in a type isn't bound to a thing of the kind that its place needs.
+/// Whether a name in a type stands for nothing of the kind that is needed there.
 pub fn misnames_in_type(tables: &Tables, names: &Names, term: &TypeTerm) -> bool
     ensures { result ≡ misnames_in_type (tree_of tables.now) names.now term.now }
 {
