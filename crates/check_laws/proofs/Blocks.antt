@@ -1,5 +1,6 @@
 -- Statements of which nothing is told.
 use Rattle.std.proofs.Common.{◌≡◌, ◌∙◌, ◌++◌, ◌&&◌, ◌||◌, Bool, None, Option, Some, ap, arith, false, not, refl, subst, sym, true, ℕ}
+use Rattle.std.proofs.lemmas.Bool.{or_parts}
 use Rattle.regent_tree.specs.Scopes.{Scope, knowing, known_of_type, past, with_name}
 use Rattle.regent_tree.specs.Syntax.{Arms, Block, Expression, Form, Name, Otherwise, TaskTree, Tree, a_statement, an_arm, assert_form, assign_form, call_form, do_form, else_block, fill_form, for_in_form, for_to_form, if_form, no_arm, no_else, no_statement, print_form, return_form, then_statement, var_form, while_form}
 use Rattle.regent_tree.specs.Typing.{arithmetic_type, scope_after, scope_after_arms, scope_after_block, scope_after_else, taken_from, type_of}
@@ -14,10 +15,10 @@ use Rattle.check_rules.specs.Variables.{counted_type, scope_behind, scope_behind
 use Rattle.check_rules.specs.declared.rule.Rule.{Rule}
 use Rattle.check_rules.proofs.Laws.{types_as_meant}
 use Rattle.check_laws.specs.SoundScopes.{IsKnown, IsSoundScope}
-use Rattle.check_laws.proofs.Expressions.{known_expression}
-use Rattle.check_laws.proofs.Parts.{contrary, neither, not_false, or_none, surely, unless_false, value_known}
+use Rattle.check_laws.proofs.Expressions.{known_expression, meant}
+use Rattle.check_laws.proofs.Parts.{contrary, not_false, or_none, surely, unless_false, value_known}
 use Rattle.check_laws.proofs.Scopes.{next_block, one_more, past_sound}
-use Rattle.check_laws.proofs.Variables.{meant, parts_of_form, variable_known}
+use Rattle.check_laws.proofs.Variables.{parts_of_form, variable_known}
 
 pub told_none : (line : ℕ) (r : Option Rule) → told_on line r ≡ None → r ≡ None
 told_none line None e = refl
@@ -70,7 +71,7 @@ module _ (tree : Tree) (task : TaskTree) (sound : IsSound tree) where
   loop_scope s demanded n domain body scope e =
       let parts = parts_of_form tree task s sound scope (for_in_form demanded n domain body) e in
       let head = head_known s scope domain (or_none (first_in_expression tree task s domain) _ parts.2).0 in
-      let is = surely (λ u. is_region u || is_space u) (known_type tree s domain) head.0.known (not_false _ (neither _ false parts.4).0) in (
+      let is = surely (λ u. is_region u || is_space u) (known_type tree s domain) head.0.known (not_false _ (or_parts _ false parts.4).0) in (
         ap (λ t. with_name s n (taken_from t) true) head.1,
         one_more s n (taken_from (known_type tree s domain)) true s.known scope (taken_known s (known_type tree s domain) is),
       )
@@ -84,9 +85,9 @@ module _ (tree : Tree) (task : TaskTree) (sound : IsSound tree) where
       let heads = or_none (first_in_expression tree task s from) _ parts.2 in
       let first = head_known s scope from heads.0 in
       let last = head_known s scope to (or_none (first_in_expression tree task s to) _ heads.1).0 in
-      let stand = neither _ _ parts.4 in
+      let stand = or_parts _ _ parts.4 in
       let a = surely is_integer (known_type tree s from) first.0.known (not_false _ stand.0) in
-      let b = surely is_integer (known_type tree s to) last.0.known (not_false _ (neither _ false stand.1).0) in
+      let b = surely is_integer (known_type tree s to) last.0.known (not_false _ (or_parts _ false stand.1).0) in
       let whole : not (is_integer (known_type tree s from) && is_integer (known_type tree s to)) ≡ false = λ j. not (a j && b j) in
       let counted = unless_false _ (arithmetic_type (known_type tree s from) (known_type tree s to)) whole in (
         ap (λ t. with_name s n t true) (counted ∙ (λ j. arithmetic_type (first.1 j) (last.1 j))),

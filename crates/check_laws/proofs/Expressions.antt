@@ -129,7 +129,8 @@ module _ (tree : Tree) (task : TaskTree) (s : Scope) (sound : IsSound tree) (sco
         known_steps (type_behind_step tree (element_of t u) (type_of_element s t x)) rest
         (element_known tree s t u x k (known_expression x parts.0).known here.0) more.1
 
-meant : (t m : StaticType) → is_unknown_type t ≡ false → (t ≡ m) ⊎ (t ≡ unknown_type) → t ≡ m
+-- a type that is as it is meant, or else unknown, is as it is meant where it is known
+pub meant : (t m : StaticType) → is_unknown_type t ≡ false → (t ≡ m) ⊎ (t ≡ unknown_type) → t ≡ m
 meant t m k (inl e) = e
 meant t m k (inr e) = absurd (contrary (sym (ap is_unknown_type e) ∙ k))
 

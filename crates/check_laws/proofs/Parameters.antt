@@ -1,5 +1,6 @@
 -- The parameters of a task of which nothing is told.
 use Rattle.std.proofs.Common.{Bool, List, [], ◌++◌, ◌+◌, ◌<◌, ◌≤◌, ◌∷◌, ◌||◌, ◌≡◌, ◌⊎◌, ap, arith, bytes_eq, cond, false, inl, inr, length, not, refl, subst, suc, sym, true, ◌∙◌, ℕ}
+use Rattle.std.proofs.lemmas.Bool.{and_parts, or_parts}
 use Rattle.std.specs.List.{list_any}
 use Rattle.std.proofs.lemmas.Bool.Decides.{same_from_decides}
 use Rattle.std.proofs.lemmas.Slice.Eq.{bytes_eq-Decides}
@@ -17,9 +18,8 @@ use Rattle.check_rules.specs.Repeats.{Given, given_by, repeats_after, was_given}
 use Rattle.check_rules.specs.Sorts.{is_region, may_be}
 use Rattle.check_rules.proofs.Written.{written_known}
 use Rattle.check_laws.specs.SoundScopes.{Falls, IsKnown, IsSoundScope}
-use Rattle.check_laws.proofs.Parts.{contrary, neither, not_false, number_known, surely, value_known}
+use Rattle.check_laws.proofs.Parts.{contrary, not_false, number_known, surely, value_known}
 use Rattle.check_laws.proofs.Scopes.{found_by_number}
-use Rattle.check_laws.proofs.Variables.{and_both}
 
 -- ---- names of bindings
 
@@ -168,7 +168,7 @@ module _ (tree : Tree) (all : List Param) (s : Scope) (names_are : s.names ≡ b
   region_placed : (r : Name) → not (names_a is_region names r) ≡ false →
       (is_region (bound_as names (place_in all r)).static_type ≡ true) × (place_in all r < length all)
   region_placed r e =
-      let both = and_both (is_bound names r) (may_be is_region (type_named names r)) (not_false _ e) in
+      let both = and_parts (is_bound names r) (may_be is_region (type_named names r)) (not_false _ e) in
       let is = surely is_region (type_named names r) (written_known tree all 0 all r both.0) both.1 in
       let found = found_by_number (length all) names r falls both.0 in
       let place : (bound_to names r).number ≡ place_in all r = number_is_place tree all 0 all [] once r both.0 ∙ from_zero (place_in all r) in
@@ -184,14 +184,14 @@ module _ (tree : Tree) (all : List Param) (s : Scope) (names_are : s.names ≡ b
   said_placed own (typed.Partition d r c) e = record {
     known = refl;
     placed = subst (λ (p : List Bound × ℕ). (is_region (bound_as p.0 (place_in all r)).static_type ≡ true) × (place_in all r < p.1))
-        (λ j. (sym names_are j, sym next_is j)) (region_placed r (neither (not (names_a is_region names r)) (misses_space names c) e).0);
+        (λ j. (sym names_are j, sym next_is j)) (region_placed r (or_parts (not (names_a is_region names r)) (misses_space names c) e).0);
   }
 
   params_known : (i : ℕ) (ps : List Param) → list_any (λ (p : Param). misnames_in_type tree names p.term) ps ≡ false → (n : Name) →
       is_bound (bound_params tree all i ps) n ≡ true → IsKnown s (type_named (bound_params tree all i ps) n)
   params_known i [] e n b = absurd cc
   params_known i (p ∷ ps) e n b =
-      let parts = neither (misnames_in_type tree names p.term) (list_any (λ (q : Param). misnames_in_type tree names q.term) ps) e in
+      let parts = or_parts (misnames_in_type tree names p.term) (list_any (λ (q : Param). misnames_in_type tree names q.term) ps) e in
       elim (bound_behind (bound_params tree all (suc i) ps) (bound tree all i p) n b) [
         | inl h ↦ subst (λ (x : Bound). IsKnown s x.static_type) (sym h.1) (params_known (suc i) ps parts.1 n h.0)
         | inr h ↦ subst (λ (x : Bound). IsKnown s x.static_type) (sym h.1) (said_placed i p.term parts.0)

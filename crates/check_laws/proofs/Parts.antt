@@ -1,5 +1,6 @@
 -- The types behind operators, prefixes and steps of which nothing is told.
 use Rattle.std.proofs.Common.{Bool, List, None, Option, Some, [], ◌∷◌, ◌&&◌, ◌||◌, ◌≡◌, ap, cond, false, not, refl, subst, sym, true, ◌∙◌, ℕ}
+use Rattle.std.proofs.lemmas.Bool.{or_parts}
 use Rattle.std.specs.List.{list_any}
 use Rattle.std.specs.Option.{option_or}
 use Rattle.std.specs.Prelude.{is_none}
@@ -49,10 +50,6 @@ pub rule_none : (b : Bool) (r : Rule) → rule_if b r ≡ None → b ≡ false
 rule_none true r e = absurd cc
 rule_none false r e = refl
 
-pub neither : (a b : Bool) → (a || b) ≡ false → (a ≡ false) × (b ≡ false)
-neither true b e = absurd cc
-neither false b e = (refl, e)
-
 pub contrary : true ≡ false → ⊥
 contrary e = absurd cc
 
@@ -94,7 +91,7 @@ value_known s unknown_type known v = absurd cc
 
 no_collection : (a b c : StaticType → Bool) (t : StaticType) → (a t || b t || c t) ≡ false → (a t ≡ false) × (b t ≡ false)
 no_collection a b c t e =
-    let ab = neither (a t || b t) (c t) e in neither (a t) (b t) ab.0
+    let ab = or_parts (a t || b t) (c t) e in or_parts (a t) (b t) ab.0
 
 pub operated_known : (s : Scope) (o : Operator) (t u : StaticType) → is_unknown_type t ≡ false → is_unknown_type u ≡ false →
     is_collection t ≡ false → is_collection u ≡ false → IsKnown s (operated o t u)
@@ -131,7 +128,7 @@ pub behind_operator : (s : Scope) (o : Operator) (t u : StaticType) → is_unkno
     first_of_operator (computing o t u) ≡ None → IsKnown s (type_behind_operator (computing o t u))
 behind_operator s o t u k l e =
     let parts = or_none _ _ e in
-    let none = neither (is_collection t) (is_collection u) (rule_none (is_collection t || is_collection u) rule.Place parts.0) in
+    let none = or_parts (is_collection t) (is_collection u) (rule_none (is_collection t || is_collection u) rule.Place parts.0) in
     let right = rule_none (misoperates (computing o t u)) rule.Type (or_none _ _ parts.1).0 in
     let flawless : (is_unknown_type t || is_unknown_type u || misoperates (computing o t u)) ≡ false = λ j. k j || l j || right j in
     subst (IsKnown s) (sym (unless_false _ (operated o t u) flawless)) (operated_known s o t u k l none.0 none.1)
@@ -220,7 +217,7 @@ pub field_known : (tree : Tree) (s : Scope) (t : StaticType) (f : Name) → IsSo
 field_known tree s (pointer_type k sp args regions) f sound known e =
     let none = taking_none tree (field_of (pointer_type k sp args regions) f) e in
     let flawless = sound.fields sp f (not_false _ none.0) in
-    let declared = (neither (is_no_field_type (term_at (space_at tree sp).fields (field_place tree sp f))) _ flawless).0 in
+    let declared = (or_parts (is_no_field_type (term_at (space_at tree sp).fields (field_place tree sp f))) _ flawless).0 in
     step_type tree s (field_of (pointer_type k sp args regions) f) (field_type tree sp args f) flawless e
     (said_known tree s (among_args (space_at tree sp).params args) 0 (field_term tree sp (field_place tree sp f)) declared)
 field_known tree s (partition_type d r p) f sound known e =

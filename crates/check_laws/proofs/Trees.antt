@@ -1,5 +1,6 @@
 -- Whole trees without a breach.
 use Rattle.std.proofs.Common.{List, None, Option, [], ◌∷◌, ◌||◌, ◌≡◌, ap, false, flat_map, inl, inr, map, refl, subst, sym, ◌∙◌, ℕ}
+use Rattle.std.proofs.lemmas.Bool.{or_parts}
 use Rattle.std.specs.List.{Contains, list_any}
 use Rattle.std.proofs.lemmas.List.{append-nil}
 use Rattle.regent_tree.specs.Scopes.{Scope, bound_params, past, scope_of}
@@ -28,7 +29,7 @@ use Rattle.check_laws.specs.Laws.{AllIsKnown, BodiesAreMeant}
 use Rattle.check_laws.specs.SoundScopes.{IsKnown, IsSoundScope}
 use Rattle.check_laws.proofs.Blocks.{arms_known, block_known, count_scope, form_known, head_known, loop_scope, nested, told_none}
 use Rattle.check_laws.proofs.Parameters.{begins_soundly}
-use Rattle.check_laws.proofs.Parts.{neither, or_none}
+use Rattle.check_laws.proofs.Parts.{or_none}
 use Rattle.check_laws.proofs.Variables.{parts_of_form}
 
 -- ---- lists of which nothing is told
@@ -120,11 +121,11 @@ module _ (tree : Tree) (declared : first_in (first_declared tree) tree ≡ None)
       list_any (λ (p : Param). misnames_in_type tree names p.term) ps ≡ false
   misnames_none [] names e = refl
   misnames_none (p ∷ ps) names e =
-      let parts = neither (is_flawed_type tree names p.term) (list_any (λ (q : Param). is_flawed_type tree names q.term) ps) e in
-      let a = neither _ _ parts.0 in
-      let b = neither _ _ a.0 in
-      let c = neither _ _ b.0 in
-      let d = neither (misnames_in_type tree names p.term) _ c.0 in
+      let parts = or_parts (is_flawed_type tree names p.term) (list_any (λ (q : Param). is_flawed_type tree names q.term) ps) e in
+      let a = or_parts _ _ parts.0 in
+      let b = or_parts _ _ a.0 in
+      let c = or_parts _ _ b.0 in
+      let d = or_parts (misnames_in_type tree names p.term) _ c.0 in
       λ j. d.0 j || misnames_none ps names parts.1 j
 
   scope_sound : (line : ℕ) (t : TaskTree) → Has tree (record { line = line; form = task_item t }) → IsSoundScope (scope_of tree t)

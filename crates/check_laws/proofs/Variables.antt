@@ -1,5 +1,6 @@
 -- Variables of which nothing is told.
 use Rattle.std.proofs.Common.{Bool, List, None, Option, Some, [], ◌∷◌, ◌&&◌, ◌||◌, ◌≡◌, ◌<◌, ap, cond, false, inl, inr, map, not, refl, subst, sym, true, ◌∙◌, ◌⊎◌}
+use Rattle.std.proofs.lemmas.Bool.{and_parts, or_parts}
 use Rattle.std.specs.List.{list_any}
 use Rattle.std.proofs.lemmas.List.Folds.{list_any-append}
 use Rattle.regent_tree.specs.Lookup.{is_bound, type_named}
@@ -37,21 +38,13 @@ use Rattle.check_rules.specs.declared.rule.Rule.TheVariants as rule
 use Rattle.check_rules.proofs.Laws.{types_as_meant}
 use Rattle.check_rules.proofs.Written.{names_known}
 use Rattle.check_laws.specs.SoundScopes.{IsKnown, IsSoundScope}
-use Rattle.check_laws.proofs.Expressions.{known_expression}
-use Rattle.check_laws.proofs.Parts.{contrary, neither, not_false, number_known, or_none, rule_none, stand_none, surely, unless_false, value_known}
+use Rattle.check_laws.proofs.Expressions.{known_expression, meant}
+use Rattle.check_laws.proofs.Parts.{contrary, not_false, number_known, or_none, rule_none, stand_none, surely, unless_false, value_known}
 use Rattle.check_laws.proofs.Scopes.{found_by_number}
-
-pub and_both : (a b : Bool) → (a && b) ≡ true → (a ≡ true) × (b ≡ true)
-and_both true b e = (refl, e)
-and_both false b e = absurd (contrary (sym e))
 
 and_false : (b : Bool) → (b && false) ≡ false
 and_false true = refl
 and_false false = refl
-
-pub meant : (t m : StaticType) → is_unknown_type t ≡ false → (t ≡ m) ⊎ (t ≡ unknown_type) → t ≡ m
-meant t m k (inl e) = e
-meant t m k (inr e) = absurd (contrary (sym (ap is_unknown_type e) ∙ k))
 
 module _ (tree : Tree) (task : TaskTree) (s : Scope) (sound : IsSound tree) (scope : IsSoundScope s) where
   -- ---- names
@@ -60,7 +53,7 @@ module _ (tree : Tree) (task : TaskTree) (s : Scope) (sound : IsSound tree) (sco
   pub named : (sort : StaticType → Bool) (n : Name) → not (names_a sort s.names n) ≡ false →
       (is_bound s.names n ≡ true) × (sort (type_named s.names n) ≡ true)
   named sort n e =
-      let both = and_both (is_bound s.names n) (may_be sort (type_named s.names n)) (not_false _ e) in
+      let both = and_parts (is_bound s.names n) (may_be sort (type_named s.names n)) (not_false _ e) in
       (both.0, surely sort (type_named s.names n) (scope.types n both.0).known both.1)
 
   -- a region's name, by the number of its binding
@@ -100,7 +93,7 @@ module _ (tree : Tree) (task : TaskTree) (s : Scope) (sound : IsSound tree) (sco
   said_known (typed.Region k u) e = value_known s _ refl tt
   said_known (typed.Partition d r c) e = record {
     known = refl;
-    placed = region_placed r (neither (not (names_a is_region s.names r)) (misses_space s.names c) e).0;
+    placed = region_placed r (or_parts (not (names_a is_region s.names r)) (misses_space s.names c) e).0;
   }
 
   -- ---- start values
@@ -118,7 +111,7 @@ module _ (tree : Tree) (task : TaskTree) (s : Scope) (sound : IsSound tree) (sco
   both_named : (p q : Name) → not (are_partitions s.names p q) ≡ false →
       (not (names_a is_partition s.names p) ≡ false) × (not (names_a is_partition s.names q) ≡ false)
   both_named p q e =
-      let both = and_both (names_a is_partition s.names p) (names_a is_partition s.names q) (not_false _ e) in
+      let both = and_parts (names_a is_partition s.names p) (names_a is_partition s.names q) (not_false _ e) in
       (ap not both.0, ap not both.1)
 
   origins_known : (i : Start) → misnames_start tree s.names i ≡ false →
@@ -126,14 +119,14 @@ module _ (tree : Tree) (task : TaskTree) (s : Scope) (sound : IsSound tree) (sco
   origins_known (region_start e u) m = refl
   origins_known (equal_start r e) m = λ j. origin is_region r m j || false
   origins_known (by_field_start r f e) m =
-      λ j. origin is_region r (neither (not (names_a is_region s.names r)) _ m).0 j || false
+      λ j. origin is_region r (or_parts (not (names_a is_region s.names r)) _ m).0 j || false
   origins_known (image_start parent p r f) m =
-      let a = neither (not (names_a is_region s.names parent) || not (names_a is_partition s.names p)) (misnames_region_field tree s.names r f) m in
-      let b = neither (not (names_a is_region s.names parent)) (not (names_a is_partition s.names p)) a.0 in
+      let a = or_parts (not (names_a is_region s.names parent) || not (names_a is_partition s.names p)) (misnames_region_field tree s.names r f) m in
+      let b = or_parts (not (names_a is_region s.names parent)) (not (names_a is_partition s.names p)) a.0 in
       λ j. origin is_region parent b.0 j || false
   origins_known (preimage_start parent p r f) m =
-      let a = neither (not (names_a is_region s.names parent) || not (names_a is_partition s.names p)) (misnames_region_field tree s.names r f) m in
-      let b = neither (not (names_a is_region s.names parent)) (not (names_a is_partition s.names p)) a.0 in
+      let a = or_parts (not (names_a is_region s.names parent) || not (names_a is_partition s.names p)) (misnames_region_field tree s.names r f) m in
+      let b = or_parts (not (names_a is_region s.names parent)) (not (names_a is_partition s.names p)) a.0 in
       λ j. origin is_region parent b.0 j || (origin is_partition p b.1 j || false)
   origins_known (both_start p q) m =
       let b = both_named p q m in λ j. origin is_partition p b.0 j || (origin is_partition q b.1 j || false)
@@ -200,7 +193,7 @@ module _ (tree : Tree) (task : TaskTree) (s : Scope) (sound : IsSound tree) (sco
   plain_type (chain_expr (access_expr p no_step) (a_link (Compute Subtract) (access_expr q no_step) no_link)) true d heads =
       let first = or_none (first_in_expression tree task s (access_expr p no_step)) _ heads in
       let known = known_expression tree task s sound scope (access_expr p no_step) first.0 in
-      let is = and_both (may_be is_partition (type_named s.names p)) (may_be is_partition (type_named s.names q)) d in
+      let is = and_parts (may_be is_partition (type_named s.names p)) (may_be is_partition (type_named s.names q)) d in
       difference_known (type_named s.names p) (type_named s.names q)
       (surely is_partition (type_named s.names p) known.known is.0) known
   plain_type e true d heads = absurd (contrary (sym d))
@@ -211,15 +204,15 @@ module _ (tree : Tree) (task : TaskTree) (s : Scope) (sound : IsSound tree) (sco
   start_known (equal_start r e) heads m = record { known = refl; placed = region_placed r m }
   start_known (by_field_start r f e) heads m = record {
     known = refl;
-    placed = region_placed r (neither (not (names_a is_region s.names r)) _ m).0;
+    placed = region_placed r (or_parts (not (names_a is_region s.names r)) _ m).0;
   }
   start_known (image_start parent p r f) heads m =
-      let a = neither (not (names_a is_region s.names parent) || not (names_a is_partition s.names p)) (misnames_region_field tree s.names r f) m in
-      let b = neither (not (names_a is_region s.names parent)) (not (names_a is_partition s.names p)) a.0 in
+      let a = or_parts (not (names_a is_region s.names parent) || not (names_a is_partition s.names p)) (misnames_region_field tree s.names r f) m in
+      let b = or_parts (not (names_a is_region s.names parent)) (not (names_a is_partition s.names p)) a.0 in
       record { known = refl; placed = region_placed parent b.0 }
   start_known (preimage_start parent p r f) heads m =
-      let a = neither (not (names_a is_region s.names parent) || not (names_a is_partition s.names p)) (misnames_region_field tree s.names r f) m in
-      let b = neither (not (names_a is_region s.names parent)) (not (names_a is_partition s.names p)) a.0 in
+      let a = or_parts (not (names_a is_region s.names parent) || not (names_a is_partition s.names p)) (misnames_region_field tree s.names r f) m in
+      let b = or_parts (not (names_a is_region s.names parent)) (not (names_a is_partition s.names p)) a.0 in
       record { known = refl; placed = region_placed parent b.0 }
   start_known (both_start p q) heads m =
       let is = named is_partition p (both_named p q m).0 in
@@ -278,13 +271,13 @@ module _ (tree : Tree) (task : TaskTree) (s : Scope) (sound : IsSound tree) (sco
       let start = (or_none (first_of_start tree task s i) _ parts.3).0 in
       let begun = known_start tree s i in
       let wanted = variable_type tree s t (Some i) in
-      let stand = neither (list_any (misstands s.known) (standing_in_start tree s i)) (list_any (misstands s.known) (stands_declared begun t wanted))
+      let stand = or_parts (list_any (misstands s.known) (standing_in_start tree s i)) (list_any (misstands s.known) (stands_declared begun t wanted))
       (sym (list_any-append (misstands s.known) (standing_in_start tree s i) (stands_declared begun t wanted)) ∙ parts.4) in
       let flawless = start_sound i parts.2 start stand.0 in
       let names = rule_none (misnames_start tree s.names i) rule.Name (or_none _ _ (or_none _ _ start).1).0 in
       let known = start_known i parts.2 names in
       let is = unless_false (is_flawed_start tree s i) (start_type tree s s.next i) flawless in
-      let begins = neither (misbegins s.names wanted begun i) false parts.5 in
+      let begins = or_parts (misbegins s.names wanted begun i) false parts.5 in
       (flawless, known, λ j. (ap is_unknown_type is ∙ known.known) j || stand.1 j || begins.0 j)
 
   pub variable_known : (n : Name) (t : Option TypeTerm) (start : Option Start) → first_of_form tree task s (var_form n t start) ≡ None →
@@ -299,7 +292,7 @@ module _ (tree : Tree) (task : TaskTree) (s : Scope) (sound : IsSound tree) (sco
       let typed_none = (or_none (first_in_type tree s.names t) _ parts.0).0 in
       let is = unless_false (is_flawed_type tree s.names t) (type_said tree (in_scope s) s.next t) (type_sound t typed_none) in
       let names = rule_none (misnames_in_type tree s.names t) rule.Name (or_none _ _ typed_none).0 in
-      (bound_soundly (Some t) None (inl (neither (is_collection (declared_type tree s t)) false parts.5).0) ∙ is, said_known t names, refl)
+      (bound_soundly (Some t) None (inl (or_parts (is_collection (declared_type tree s t)) false parts.5).0) ∙ is, said_known t names, refl)
   variable_known n (Some t) (Some i) e =
       let parts = parts_of_form (var_form n (Some t) (Some i)) e in
       let b = begun_sound n (Some t) i e in
