@@ -1,5 +1,5 @@
 use Rattle.std.specs.Prelude.{refl}
-use Rattle.check_examples.specs.NameExamples.{behind_unknown_breaks, beside_the_unbound_breaks, causes_alone_breaks, clause_on_nothing_breaks, missing_things_breaks, named_by_each_other_breaks, parameter_of_no_type_breaks, past_its_block_breaks, pointer_into_unknown_breaks, pointer_to_number_breaks, two_of_a_name_breaks, unbound_name_breaks}
+use Rattle.check_examples.specs.NameExamples.{after_unknown_breaks, beside_the_unbound_breaks, causes_alone_breaks, clause_on_nothing_breaks, missing_things_breaks, named_by_each_other_breaks, parameter_of_no_type_breaks, past_its_block_breaks, pointer_into_unknown_breaks, pointer_to_number_breaks, two_of_a_name_breaks, unbound_name_breaks}
 
 pub unbound_name_holds : unbound_name_breaks
 unbound_name_holds = refl
@@ -22,8 +22,8 @@ pointer_to_number_holds = refl
 pub beside_the_unbound_holds : beside_the_unbound_breaks
 beside_the_unbound_holds = refl
 
-pub behind_unknown_holds : behind_unknown_breaks
-behind_unknown_holds = refl
+pub after_unknown_holds : after_unknown_breaks
+after_unknown_holds = refl
 
 pub clause_on_nothing_holds : clause_on_nothing_breaks
 clause_on_nothing_holds = refl

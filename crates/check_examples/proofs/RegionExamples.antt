@@ -1,5 +1,5 @@
 use Rattle.std.specs.Prelude.{refl}
-use Rattle.check_examples.specs.RegionExamples.{wild_pointer_breaks, wrong_pointers_breaks, other_space_breaks, aliased_for_disjoint_breaks, behind_misbegun_breaks, image_of_another_breaks, set_of_two_parents_breaks, other_arguments_breaks}
+use Rattle.check_examples.specs.RegionExamples.{wild_pointer_breaks, wrong_pointers_breaks, other_space_breaks, aliased_for_disjoint_breaks, after_misbegun_breaks, image_of_another_breaks, set_of_two_parents_breaks, other_arguments_breaks}
 
 pub wild_pointer_holds : wild_pointer_breaks
 wild_pointer_holds = refl
@@ -22,5 +22,5 @@ set_of_two_parents_holds = refl
 pub other_arguments_holds : other_arguments_breaks
 other_arguments_holds = refl
 
-pub behind_misbegun_holds : behind_misbegun_breaks
-behind_misbegun_holds = refl
+pub after_misbegun_holds : after_misbegun_breaks
+after_misbegun_holds = refl

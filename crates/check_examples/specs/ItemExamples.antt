@@ -59,7 +59,7 @@ abbrev pub nothing_to_start_breaks : Type 0
 nothing_to_start_breaks =
     breaches nothing_to_start_program ≡ breaks 18 1 ∷ []
 
--- Two starts, one of a task that isn't there; and a started task with a truth as its parameter.
+-- Two starts, one of a task that isn't there; and a entry task with a truth as its parameter.
 --     task go(b : bool) end
 --     regentlib.start(go)
 --     regentlib.start(come)

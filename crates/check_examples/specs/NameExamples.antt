@@ -168,8 +168,8 @@ beside_the_unbound_breaks =
 --       var s : region(ispace(int1d), f) = z[0]
 --       t(s)
 --     end
-abbrev pub behind_unknown_program : Tree
-behind_unknown_program =
+abbrev pub after_unknown_program : Tree
+after_unknown_program =
     item 1 (field_space "f" [] (param 1 "x" (number Int64) ∷ []))
     ∷ item 2
     (task "t" (param 2 "r" (region (space_of "f" [])) ∷ [])
@@ -183,9 +183,9 @@ behind_unknown_program =
     ∷ line 8 (call "t" (get "s" ∷ [])) ∷ []))
     ∷ []
 
-abbrev pub behind_unknown_breaks : Type 0
-behind_unknown_breaks =
-    breaches behind_unknown_program ≡ breaks 1 4 ∷ breaks 1 7 ∷ []
+abbrev pub after_unknown_breaks : Type 0
+after_unknown_breaks =
+    breaches after_unknown_program ≡ breaks 1 4 ∷ breaks 1 7 ∷ []
 
 -- A clause on a name that is no parameter tells nothing of the regions that are made.
 --     fspace f { x : int64 }

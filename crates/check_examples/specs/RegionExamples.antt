@@ -222,8 +222,8 @@ other_arguments_breaks =
 --       var e = d
 --       t(d[0], e[0])
 --     end
-abbrev pub behind_misbegun_program : Tree
-behind_misbegun_program =
+abbrev pub after_misbegun_program : Tree
+after_misbegun_program =
     item 1 (field_space "f" [] (param 1 "x" (number (Index Int1d)) ∷ []))
     ∷ item 2
     (task "t" (param 2 "a" (region (space_of "f" [])) ∷ param 2 "b" (region (space_of "f" [])) ∷ [])
@@ -244,6 +244,6 @@ behind_misbegun_program =
     ∷ line 13 (call "t" (access "d" (at (int 0) ∷ []) ∷ access "e" (at (int 0) ∷ []) ∷ [])) ∷ []))
     ∷ []
 
-abbrev pub behind_misbegun_breaks : Type 0
-behind_misbegun_breaks =
-    breaches behind_misbegun_program ≡ breaks 5 5 ∷ breaks 5 12 ∷ []
+abbrev pub after_misbegun_breaks : Type 0
+after_misbegun_breaks =
+    breaches after_misbegun_program ≡ breaks 5 5 ∷ breaks 5 12 ∷ []

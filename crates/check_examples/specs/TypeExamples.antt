@@ -75,7 +75,7 @@ abbrev pub wrong_count_breaks : Type 0
 wrong_count_breaks =
     breaches wrong_count_program ≡ breaks 4 5 ∷ breaks 4 6 ∷ []
 
--- A region in a sum, and as a start value.
+-- A region in a sum, and as an initializer.
 --     fspace f { x : int64 }
 --     task main()
 --       var r = region(ispace(int1d, 4), f)
@@ -191,7 +191,7 @@ abbrev pub unknown_child_breaks : Type 0
 unknown_child_breaks =
     breaches unknown_child_program ≡ breaks 3 9 ∷ []
 
--- A difference of partitions is the whole of a start value, of two names.
+-- A difference of partitions is the whole of an initializer, of two names.
 --     fspace f { x : int64 }
 --     task main()
 --       var r = region(ispace(int1d, 4), f)
@@ -225,7 +225,7 @@ differences_breaks =
     ∷ breaks 5 7
     ∷ breaks 5 8 ∷ []
 
--- A call without a result in an expression, and a region without a start value.
+-- A call without a result in an expression, and a region without an initializer.
 --     fspace f { x : int64 }
 --     task t() end
 --     task main()

@@ -6,11 +6,11 @@
 #![tactic(auto)]
 
 ghost use Rattle.check_examples.specs.Accepted.{numbers_accepted, reductions_accepted, partitions_accepted, images_accepted, statements_accepted, calls_accepted, pointers_accepted, limits_accepted};
-ghost use Rattle.check_examples.specs.NameExamples.{behind_unknown_breaks, beside_the_unbound_breaks, causes_alone_breaks, clause_on_nothing_breaks, missing_things_breaks, named_by_each_other_breaks, parameter_of_no_type_breaks, past_its_block_breaks, pointer_into_unknown_breaks, pointer_to_number_breaks, two_of_a_name_breaks, unbound_name_breaks};
+ghost use Rattle.check_examples.specs.NameExamples.{after_unknown_breaks, beside_the_unbound_breaks, causes_alone_breaks, clause_on_nothing_breaks, missing_things_breaks, named_by_each_other_breaks, parameter_of_no_type_breaks, past_its_block_breaks, pointer_into_unknown_breaks, pointer_to_number_breaks, two_of_a_name_breaks, unbound_name_breaks};
 ghost use Rattle.check_examples.specs.TypeExamples.{wrong_types_breaks, integer_for_index_breaks, wrong_count_breaks, region_as_value_breaks, fixed_targets_breaks, wrong_formats_breaks, field_of_bad_type_breaks, unknown_child_breaks, differences_breaks, misbegun_regions_breaks, no_result_breaks};
 ghost use Rattle.check_examples.specs.PrivilegeExamples.{write_under_reads_breaks, read_under_writes_breaks, other_reduction_breaks, two_regions_breaks, call_without_privilege_breaks, partition_by_field_breaks, privileges_of_parts_breaks};
 ghost use Rattle.check_examples.specs.ConstraintExamples.{overlapping_children_breaks, within_the_other_breaks};
-ghost use Rattle.check_examples.specs.RegionExamples.{wild_pointer_breaks, wrong_pointers_breaks, other_space_breaks, aliased_for_disjoint_breaks, behind_misbegun_breaks, image_of_another_breaks, set_of_two_parents_breaks, other_arguments_breaks};
+ghost use Rattle.check_examples.specs.RegionExamples.{wild_pointer_breaks, wrong_pointers_breaks, other_space_breaks, aliased_for_disjoint_breaks, after_misbegun_breaks, image_of_another_breaks, set_of_two_parents_breaks, other_arguments_breaks};
 ghost use Rattle.check_examples.specs.ItemExamples.{wrong_clauses_breaks, wrong_returns_breaks, nothing_to_start_breaks, wrong_starts_breaks, demanded_loops_breaks};
 
 // ---- accepted programs
@@ -108,7 +108,7 @@ pub fn wrong_count()
     ensures { wrong_count_breaks }
 {}
 
-/// A region in a sum, and as a start value.
+/// A region in a sum, and as an initializer.
 #[tactic(auto, using(crate::proofs::TypeExamples::region_as_value_holds))]
 pub fn region_as_value()
     ensures { region_as_value_breaks }
@@ -217,7 +217,7 @@ pub fn nothing_to_start()
     ensures { nothing_to_start_breaks }
 {}
 
-/// Two starts, one of a task that isn't there; and a started task with a truth as its parameter.
+/// Two starts, one of a task that isn't there; and a entry task with a truth as its parameter.
 #[tactic(auto, using(crate::proofs::ItemExamples::wrong_starts_holds))]
 pub fn wrong_starts()
     ensures { wrong_starts_breaks }
@@ -239,9 +239,9 @@ pub fn pointer_to_number()
 
 /// What follows from an unknown partition or region is none: a set operation, a value, a region
 /// variable with a declared type, and a call with it.
-#[tactic(auto, using(crate::proofs::NameExamples::behind_unknown_holds))]
-pub fn behind_unknown()
-    ensures { behind_unknown_breaks }
+#[tactic(auto, using(crate::proofs::NameExamples::after_unknown_holds))]
+pub fn after_unknown()
+    ensures { after_unknown_breaks }
 {}
 
 /// Of a pointer into what is unknown no privilege is asked.
@@ -287,13 +287,13 @@ pub fn unknown_child()
     ensures { unknown_child_breaks }
 {}
 
-/// A difference of partitions is the whole of a start value, of two names.
+/// A difference of partitions is the whole of an initializer, of two names.
 #[tactic(auto, using(crate::proofs::TypeExamples::differences_holds))]
 pub fn differences()
     ensures { differences_breaks }
 {}
 
-/// A call without a result in an expression, and a region without a start value.
+/// A call without a result in an expression, and a region without an initializer.
 #[tactic(auto, using(crate::proofs::TypeExamples::no_result_holds))]
 pub fn no_result()
     ensures { no_result_breaks }
@@ -338,7 +338,7 @@ pub fn demanded_loops()
 {}
 
 /// Behind a region and a partition that don't begin as they must, nothing is told of what names them.
-#[tactic(auto, using(crate::proofs::RegionExamples::behind_misbegun_holds))]
-pub fn behind_misbegun()
-    ensures { behind_misbegun_breaks }
+#[tactic(auto, using(crate::proofs::RegionExamples::after_misbegun_holds))]
+pub fn after_misbegun()
+    ensures { after_misbegun_breaks }
 {}

@@ -11,7 +11,7 @@ use Rattle.check_rules.specs.FirstInStatements.{first_in_arms, first_in_block, f
 use Rattle.check_rules.specs.KnownTypes.{known_type}
 use Rattle.check_rules.specs.Sorts.{is_integer, is_region, is_space}
 use Rattle.check_rules.specs.Sound.{IsSound}
-use Rattle.check_rules.specs.Variables.{counted_type, scope_behind, scope_behind_arms, scope_behind_block, scope_behind_else, scope_in_count, scope_in_loop}
+use Rattle.check_rules.specs.Variables.{counted_type, known_scope_after, known_scope_after_arms, known_scope_after_block, known_scope_after_else, scope_in_count, scope_in_loop}
 use Rattle.check_rules.specs.declared.rule.Rule.{Rule}
 use Rattle.check_rules.proofs.Laws.{types_as_meant}
 use Rattle.check_laws.specs.SoundScopes.{IsKnown, IsSoundScope}
@@ -69,9 +69,9 @@ module _ (tree : Tree) (task : TaskTree) (sound : IsSound tree) where
       first_of_form tree task s (for_in_form demanded n domain body) ≡ None →
       (scope_in_loop tree s n domain ≡ with_name s n (taken_from (type_of tree s domain)) true) × IsSoundScope (scope_in_loop tree s n domain)
   loop_scope s demanded n domain body scope e =
-      let parts = parts_of_form tree task s sound scope (for_in_form demanded n domain body) e in
-      let head = head_known s scope domain (or_none (first_in_expression tree task s domain) _ parts.2).0 in
-      let is = surely (λ u. is_region u || is_space u) (known_type tree s domain) head.0.known (not_false _ (or_parts _ false parts.4).0) in (
+      let subexpressions = parts_of_form tree task s sound scope (for_in_form demanded n domain body) e in
+      let head = head_known s scope domain (or_none (first_in_expression tree task s domain) _ subexpressions.2).0 in
+      let is = surely (λ u. is_region u || is_space u) (known_type tree s domain) head.0.known (not_false _ (or_parts _ false subexpressions.4).0) in (
         ap (λ t. with_name s n (taken_from t) true) head.1,
         one_more s n (taken_from (known_type tree s domain)) true s.known scope (taken_known s (known_type tree s domain) is),
       )
@@ -81,11 +81,11 @@ module _ (tree : Tree) (task : TaskTree) (sound : IsSound tree) where
       (scope_in_count tree s n from to ≡ with_name s n (arithmetic_type (type_of tree s from) (type_of tree s to)) true)
       × IsSoundScope (scope_in_count tree s n from to)
   count_scope s demanded n from to body scope e =
-      let parts = parts_of_form tree task s sound scope (for_to_form demanded n from to body) e in
-      let heads = or_none (first_in_expression tree task s from) _ parts.2 in
+      let subexpressions = parts_of_form tree task s sound scope (for_to_form demanded n from to body) e in
+      let heads = or_none (first_in_expression tree task s from) _ subexpressions.2 in
       let first = head_known s scope from heads.0 in
       let last = head_known s scope to (or_none (first_in_expression tree task s to) _ heads.1).0 in
-      let stand = or_parts _ _ parts.4 in
+      let stand = or_parts _ _ subexpressions.4 in
       let a = surely is_integer (known_type tree s from) first.0.known (not_false _ stand.0) in
       let b = surely is_integer (known_type tree s to) last.0.known (not_false _ (or_parts _ false stand.1).0) in
       let whole : not (is_integer (known_type tree s from) && is_integer (known_type tree s to)) ≡ false = λ j. not (a j && b j) in
@@ -95,25 +95,25 @@ module _ (tree : Tree) (task : TaskTree) (sound : IsSound tree) where
             (subst (IsKnown s) (sym counted) (counted_known s (known_type tree s from) (known_type tree s to) a b)),
       )
 
-  -- behind a block within a block
+  -- after a block within a block
   pub nested : (s : Scope) (b : Block) → IsSoundScope s →
-      (scope_behind_block tree s b ≡ scope_after_block tree s b) × IsSoundScope (scope_behind_block tree s b) →
-      (past s (scope_behind_block tree s b) ≡ past s (scope_after_block tree s b)) × IsSoundScope (past s (scope_behind_block tree s b))
-  nested s b scope inner = (ap (past s) inner.0, past_sound s (scope_behind_block tree s b) (next_block tree s b) scope)
+      (known_scope_after_block tree s b ≡ scope_after_block tree s b) × IsSoundScope (known_scope_after_block tree s b) →
+      (past s (known_scope_after_block tree s b) ≡ past s (scope_after_block tree s b)) × IsSoundScope (past s (known_scope_after_block tree s b))
+  nested s b scope inner = (ap (past s) inner.0, past_sound s (known_scope_after_block tree s b) (next_block tree s b) scope)
 
-  -- the scope behind is that of the meaning, and all is known in it
+  -- the scope after is that of the meaning, and all is known in it
   mutual
     pub form_known : (s : Scope) (form : Form) → IsSoundScope s → first_of_form tree task s form ≡ None → first_within tree task s form ≡ None →
-        (scope_behind tree s form ≡ scope_after tree s form) × IsSoundScope (scope_behind tree s form)
-    form_known s (var_form n t start) scope e w =
-        let v = variable_known tree task s sound scope n t start e in (
+        (known_scope_after tree s form ≡ scope_after tree s form) × IsSoundScope (known_scope_after tree s form)
+    form_known s (var_form n t initializer) scope e w =
+        let v = variable_known tree task s sound scope n t initializer e in (
           λ j. knowing (with_name s n (v.0 j) false) (v.2 j ++ known_of_type (v.0 j)),
           one_more s n _ false _ scope (subst (IsKnown s) (sym v.0) v.1),
         )
     form_known s (if_form arms other) scope e w =
-        let parts = or_none (first_in_arms tree task s arms) _ w in
-        let a = arms_known s arms scope parts.0 in
-        let b = else_known (scope_behind_arms tree s arms) other a.1 parts.1 in
+        let subexpressions = or_none (first_in_arms tree task s arms) _ w in
+        let a = arms_known s arms scope subexpressions.0 in
+        let b = else_known (known_scope_after_arms tree s arms) other a.1 subexpressions.1 in
         (b.0 ∙ ap (λ x. scope_after_else tree x other) a.0, b.1)
     form_known s (while_form test body) scope e w = nested s body scope (block_known s body scope w)
     form_known s (for_in_form demanded n domain body) scope e w =
@@ -121,14 +121,14 @@ module _ (tree : Tree) (task : TaskTree) (sound : IsSound tree) where
         let inner = block_known (scope_in_loop tree s n domain) body here.1 w in
         let more = next_block tree (scope_in_loop tree s n domain) body in (
           ap (past s) (inner.0 ∙ ap (λ x. scope_after_block tree x body) here.0),
-          past_sound s (scope_behind_block tree (scope_in_loop tree s n domain) body) (omega (arith, more)) scope,
+          past_sound s (known_scope_after_block tree (scope_in_loop tree s n domain) body) (omega (arith, more)) scope,
         )
     form_known s (for_to_form demanded n from to body) scope e w =
         let here = count_scope s demanded n from to body scope e in
         let inner = block_known (scope_in_count tree s n from to) body here.1 w in
         let more = next_block tree (scope_in_count tree s n from to) body in (
           ap (past s) (inner.0 ∙ ap (λ x. scope_after_block tree x body) here.0),
-          past_sound s (scope_behind_block tree (scope_in_count tree s n from to) body) (omega (arith, more)) scope,
+          past_sound s (known_scope_after_block tree (scope_in_count tree s n from to) body) (omega (arith, more)) scope,
         )
     form_known s (do_form body) scope e w = nested s body scope (block_known s body scope w)
     form_known s (fill_form r fields x) scope e w = (refl, scope)
@@ -139,25 +139,25 @@ module _ (tree : Tree) (task : TaskTree) (sound : IsSound tree) where
     form_known s (return_form x) scope e w = (refl, scope)
 
     pub block_known : (s : Scope) (b : Block) → IsSoundScope s → first_in_block tree task s b ≡ None →
-        (scope_behind_block tree s b ≡ scope_after_block tree s b) × IsSoundScope (scope_behind_block tree s b)
+        (known_scope_after_block tree s b ≡ scope_after_block tree s b) × IsSoundScope (known_scope_after_block tree s b)
     block_known s no_statement scope e = (refl, scope)
     block_known s (then_statement (a_statement line form) rest) scope e =
-        let parts = or_none (told_on line (first_of_form tree task s form)) _ e in
-        let more = or_none (first_within tree task s form) _ parts.1 in
-        let here = form_known s form scope (told_none line _ parts.0) more.0 in
-        let behind = block_known (scope_behind tree s form) rest here.1 more.1 in
-        (behind.0 ∙ ap (λ x. scope_after_block tree x rest) here.0, behind.1)
+        let subexpressions = or_none (told_on line (first_of_form tree task s form)) _ e in
+        let more = or_none (first_within tree task s form) _ subexpressions.1 in
+        let here = form_known s form scope (told_none line _ subexpressions.0) more.0 in
+        let after = block_known (known_scope_after tree s form) rest here.1 more.1 in
+        (after.0 ∙ ap (λ x. scope_after_block tree x rest) here.0, after.1)
 
     pub arms_known : (s : Scope) (arms : Arms) → IsSoundScope s → first_in_arms tree task s arms ≡ None →
-        (scope_behind_arms tree s arms ≡ scope_after_arms tree s arms) × IsSoundScope (scope_behind_arms tree s arms)
+        (known_scope_after_arms tree s arms ≡ scope_after_arms tree s arms) × IsSoundScope (known_scope_after_arms tree s arms)
     arms_known s no_arm scope e = (refl, scope)
     arms_known s (an_arm test body rest) scope e =
-        let parts = or_none (first_in_block tree task s body) _ e in
-        let inner = nested s body scope (block_known s body scope parts.0) in
-        let behind = arms_known (past s (scope_behind_block tree s body)) rest inner.1 parts.1 in
-        (behind.0 ∙ ap (λ x. scope_after_arms tree x rest) inner.0, behind.1)
+        let subexpressions = or_none (first_in_block tree task s body) _ e in
+        let inner = nested s body scope (block_known s body scope subexpressions.0) in
+        let after = arms_known (past s (known_scope_after_block tree s body)) rest inner.1 subexpressions.1 in
+        (after.0 ∙ ap (λ x. scope_after_arms tree x rest) inner.0, after.1)
 
     pub else_known : (s : Scope) (other : Otherwise) → IsSoundScope s → first_in_else tree task s other ≡ None →
-        (scope_behind_else tree s other ≡ scope_after_else tree s other) × IsSoundScope (scope_behind_else tree s other)
+        (known_scope_after_else tree s other ≡ scope_after_else tree s other) × IsSoundScope (known_scope_after_else tree s other)
     else_known s no_else scope e = (refl, scope)
     else_known s (else_block body) scope e = nested s body scope (block_known s body scope e)

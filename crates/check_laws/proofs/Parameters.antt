@@ -13,7 +13,7 @@ use Rattle.regent_tree.specs.declared.types.TypeTerm.{TypeTerm}
 use Rattle.regent_tree.specs.declared.types.TypeTerm.TheVariants as typed
 use Rattle.regent_tree.specs.declared.typing.Bound.{Bound}
 use Rattle.check_rules.specs.Lookup.{names_a}
-use Rattle.check_rules.specs.Names.{misnames_in_type, misses_space}
+use Rattle.check_rules.specs.Names.{unbound_name_in_type, misses_space}
 use Rattle.check_rules.specs.Repeats.{Given, given_by, repeats_after, was_given}
 use Rattle.check_rules.specs.Sorts.{is_region, may_be}
 use Rattle.check_rules.proofs.Written.{written_known}
@@ -31,16 +31,16 @@ abbrev bound : Tree → List Param → ℕ → Param → Bound
 bound tree all i p = record { name = p.name; number = i; place = i; static_type = type_said tree (among_params all) i p.term; by_loop = false }
 
 -- what a name is bound to behind others
-bound_behind : (names : List Bound) (b : Bound) (n : Name) → is_bound (names ++ b ∷ []) n ≡ true →
+bound_after : (names : List Bound) (b : Bound) (n : Name) → is_bound (names ++ b ∷ []) n ≡ true →
     ((is_bound names n ≡ true) × (bound_to (names ++ b ∷ []) n ≡ bound_to names n))
     ⊎ ((bytes_eq b.name n ≡ true) × (bound_to (names ++ b ∷ []) n ≡ b))
-bound_behind [] b n e = here (bytes_eq b.name n) e
+bound_after [] b n e = here (bytes_eq b.name n) e
   where
     here : (is : Bool) → (is || false) ≡ true →
         ((is_bound [] n ≡ true) × (cond is b unbound ≡ bound_to [] n)) ⊎ ((is ≡ true) × (cond is b unbound ≡ b))
     here true e = inr (refl, refl)
     here false e = absurd cc
-bound_behind (x ∷ xs) b n e = here (bytes_eq x.name n) (bound_behind xs b n) e
+bound_after (x ∷ xs) b n e = here (bytes_eq x.name n) (bound_after xs b n) e
   where
     here : (is : Bool) →
         (is_bound (xs ++ b ∷ []) n ≡ true → ((is_bound xs n ≡ true) × (bound_to (xs ++ b ∷ []) n ≡ bound_to xs n)) ⊎ ((bytes_eq b.name n ≡ true) × (bound_to (xs ++ b ∷ []) n ≡ b))) →
@@ -102,7 +102,7 @@ or_right false b e = e
 bound_given : (tree : Tree) (all : List Param) (i : ℕ) (ps : List Param) (n : Name) → is_bound (bound_params tree all i ps) n ≡ true →
     list_any (λ (g : Given). bytes_eq n g.name) (given_by ps) ≡ true
 bound_given tree all i [] n e = absurd cc
-bound_given tree all i (p ∷ ps) n e = elim (bound_behind (bound_params tree all (suc i) ps) (bound tree all i p) n e) [
+bound_given tree all i (p ∷ ps) n e = elim (bound_after (bound_params tree all (suc i) ps) (bound tree all i p) n e) [
   | inl h ↦ or_right (bytes_eq n p.name) _ (bound_given tree all (suc i) ps n h.0)
   | inr h ↦ ap (λ b. b || list_any (λ (g : Given). bytes_eq n g.name) (given_by ps)) (equal_back n p.name ∙ h.0)
 ]
@@ -119,7 +119,7 @@ place_step p ps n false e = ap (λ b. cond (not b) (1 + place_in ps n) 0) e
 number_is_place : (tree : Tree) (all : List Param) (i : ℕ) (ps : List Param) (earlier : List Given) → repeats_after earlier (given_by ps) ≡ [] →
     (n : Name) → is_bound (bound_params tree all i ps) n ≡ true → (bound_to (bound_params tree all i ps) n).number ≡ i + place_in ps n
 number_is_place tree all i [] earlier none n e = absurd cc
-number_is_place tree all i (p ∷ ps) earlier none n e = elim (bound_behind (bound_params tree all (suc i) ps) (bound tree all i p) n e) [
+number_is_place tree all i (p ∷ ps) earlier none n e = elim (bound_after (bound_params tree all (suc i) ps) (bound tree all i p) n e) [
   | inl h ↦ ap (λ (b : Bound). b.number) h.1 ∙ number_is_place tree all (suc i) ps (given ∷ earlier) rest n h.0
       ∙ further (place_step p ps n false (other (bytes_eq p.name n) refl h.0))
   | inr h ↦ ap (λ (b : Bound). b.number) h.1 ∙ first (place_step p ps n true h.0)
@@ -158,7 +158,7 @@ from_zero n = omega (arith)
 
 module _ (tree : Tree) (all : List Param) (s : Scope) (names_are : s.names ≡ bound_params tree all 0 all) (next_is : s.next ≡ length all)
     (once : repeats_after [] (given_by all) ≡ [])
-    (named : list_any (λ (p : Param). misnames_in_type tree (bound_params tree all 0 all) p.term) all ≡ false) where
+    (named : list_any (λ (p : Param). unbound_name_in_type tree (bound_params tree all 0 all) p.term) all ≡ false) where
   abbrev names : List Bound
   names = bound_params tree all 0 all
 
@@ -175,7 +175,7 @@ module _ (tree : Tree) (all : List Param) (s : Scope) (names_are : s.names ≡ b
       subst (λ k. (is_region (bound_as names k).static_type ≡ true) × (k < length all)) place
       (ap (λ (b : Bound). is_region b.static_type) found.0 ∙ is, found.1)
 
-  said_placed : (own : ℕ) (t : TypeTerm) → misnames_in_type tree names t ≡ false → IsKnown s (type_said tree (among_params all) own t)
+  said_placed : (own : ℕ) (t : TypeTerm) → unbound_name_in_type tree names t ≡ false → IsKnown s (type_said tree (among_params all) own t)
   said_placed own (typed.Number n) e = number_known s n
   said_placed own typed.Truth e = value_known s _ refl tt
   said_placed own (typed.Pointer p) e = value_known s _ refl tt
@@ -187,14 +187,14 @@ module _ (tree : Tree) (all : List Param) (s : Scope) (names_are : s.names ≡ b
         (λ j. (sym names_are j, sym next_is j)) (region_placed r (or_parts (not (names_a is_region names r)) (misses_space names c) e).0);
   }
 
-  params_known : (i : ℕ) (ps : List Param) → list_any (λ (p : Param). misnames_in_type tree names p.term) ps ≡ false → (n : Name) →
+  params_known : (i : ℕ) (ps : List Param) → list_any (λ (p : Param). unbound_name_in_type tree names p.term) ps ≡ false → (n : Name) →
       is_bound (bound_params tree all i ps) n ≡ true → IsKnown s (type_named (bound_params tree all i ps) n)
   params_known i [] e n b = absurd cc
   params_known i (p ∷ ps) e n b =
-      let parts = or_parts (misnames_in_type tree names p.term) (list_any (λ (q : Param). misnames_in_type tree names q.term) ps) e in
-      elim (bound_behind (bound_params tree all (suc i) ps) (bound tree all i p) n b) [
-        | inl h ↦ subst (λ (x : Bound). IsKnown s x.static_type) (sym h.1) (params_known (suc i) ps parts.1 n h.0)
-        | inr h ↦ subst (λ (x : Bound). IsKnown s x.static_type) (sym h.1) (said_placed i p.term parts.0)
+      let subexpressions = or_parts (unbound_name_in_type tree names p.term) (list_any (λ (q : Param). unbound_name_in_type tree names q.term) ps) e in
+      elim (bound_after (bound_params tree all (suc i) ps) (bound tree all i p) n b) [
+        | inl h ↦ subst (λ (x : Bound). IsKnown s x.static_type) (sym h.1) (params_known (suc i) ps subexpressions.1 n h.0)
+        | inr h ↦ subst (λ (x : Bound). IsKnown s x.static_type) (sym h.1) (said_placed i p.term subexpressions.0)
       ]
 
   -- in the scope in which a body begins, all is known

@@ -1,4 +1,4 @@
--- The types behind operators, prefixes and steps of which nothing is told.
+-- The types after operators, prefixes and steps of which nothing is told.
 use Rattle.std.proofs.Common.{Bool, List, None, Option, Some, [], ◌∷◌, ◌&&◌, ◌||◌, ◌≡◌, ap, cond, false, not, refl, subst, sym, true, ◌∙◌, ℕ}
 use Rattle.std.proofs.lemmas.Bool.{or_parts}
 use Rattle.std.specs.List.{list_any}
@@ -22,20 +22,20 @@ use Rattle.regent_tree.specs.declared.typing.StaticType.{StaticType}
 use Rattle.regent_tree.specs.declared.typing.StaticType.TheVariants.{Integer as integer_type, Truth as truth_type, Index as index_type, Pointer as pointer_type, Ispace as ispace_type, Region as region_type, Partition as partition_type, Nothing as no_type, Unknown as unknown_type}
 use Rattle.check_rules.specs.Declarations.{is_no_field_type, is_no_result_type, params_of}
 use Rattle.check_rules.specs.FirstInExpressions.{first_of_call, first_of_operator, first_of_signs, first_of_standing, first_of_taking}
-use Rattle.check_rules.specs.KnownTypes.{is_flawed_call, takes_unknown, type_of_call, type_behind_operator, type_behind_sign, type_behind_signs, type_behind_step}
+use Rattle.check_rules.specs.KnownTypes.{is_flawed_call, takes_unknown, type_of_call, known_type_after_operator, known_type_after_sign, known_type_after_signs, known_type_after_step}
 use Rattle.check_rules.specs.Counts.{miscounts_call}
-use Rattle.check_rules.specs.Names.{misnames_field, misnames_task}
+use Rattle.check_rules.specs.Names.{is_unknown_field, is_unknown_task}
 use Rattle.check_rules.specs.Partitions.{mispartitions_call}
 use Rattle.check_rules.specs.Spaces.{misfits_call}
 use Rattle.check_rules.specs.Params.{term_at}
 use Rattle.check_rules.specs.Places.{misplaces}
 use Rattle.check_rules.specs.Pointers.{takes_of_wild}
 use Rattle.check_rules.specs.Rules.{first_in, rule_if}
-use Rattle.check_rules.specs.Shapes.{Calling, Taking, computing, element_of, field_of}
+use Rattle.check_rules.specs.TypedForms.{Calling, Taking, computing, element_of, field_of}
 use Rattle.check_rules.specs.Sorts.{is_collection, is_number, is_region, is_truth, is_unknown_type, may_be}
 use Rattle.check_rules.specs.Sound.{IsSound}
 use Rattle.check_rules.specs.Standing.{Standing, number_spot, spot_of_sign, standing_in_call, standing_in_step, stands, truth_spot}
-use Rattle.check_rules.specs.Types.{has_no_result, misoperates, misstands, mistakes}
+use Rattle.check_rules.specs.Types.{has_no_result, is_ill_typed_operation, is_ill_typed_at_place, is_ill_typed_step}
 use Rattle.check_rules.specs.declared.rule.Rule.{Rule}
 use Rattle.check_rules.specs.declared.rule.Rule.TheVariants as rule
 use Rattle.check_laws.specs.SoundScopes.{IsKnown}
@@ -62,10 +62,10 @@ pub surely : (sort : StaticType → Bool) (t : StaticType) → is_unknown_type t
 surely sort t known e = sym (ap (λ b. b || sort t) known) ∙ e
 
 -- what stands where it may
-pub standing_none : (known : _) (s : Standing) → first_of_standing known s ≡ None → (misplaces s ≡ false) × (misstands known s ≡ false)
+pub standing_none : (known : _) (s : Standing) → first_of_standing known s ≡ None → (misplaces s ≡ false) × (is_ill_typed_at_place known s ≡ false)
 standing_none known s e =
-    let parts = or_none _ _ e in
-    (rule_none (misplaces s) rule.Place parts.0, rule_none (misstands known s) rule.Type (or_none _ _ parts.1).0)
+    let subexpressions = or_none _ _ e in
+    (rule_none (misplaces s) rule.Place subexpressions.0, rule_none (is_ill_typed_at_place known s) rule.Type (or_none _ _ subexpressions.1).0)
 
 pub unless_false : (b : Bool) (t : StaticType) → b ≡ false → cond b unknown_type t ≡ t
 unless_false b t e = ap (λ x. cond x unknown_type t) e
@@ -124,13 +124,13 @@ operated_known s (Compare o) t u k l c d = value_known s _ refl tt
 operated_known s And t u k l c d = value_known s _ refl tt
 operated_known s Or t u k l c d = value_known s _ refl tt
 
-pub behind_operator : (s : Scope) (o : Operator) (t u : StaticType) → is_unknown_type t ≡ false → is_unknown_type u ≡ false →
-    first_of_operator (computing o t u) ≡ None → IsKnown s (type_behind_operator (computing o t u))
-behind_operator s o t u k l e =
-    let parts = or_none _ _ e in
-    let none = or_parts (is_collection t) (is_collection u) (rule_none (is_collection t || is_collection u) rule.Place parts.0) in
-    let right = rule_none (misoperates (computing o t u)) rule.Type (or_none _ _ parts.1).0 in
-    let flawless : (is_unknown_type t || is_unknown_type u || misoperates (computing o t u)) ≡ false = λ j. k j || l j || right j in
+pub after_operator : (s : Scope) (o : Operator) (t u : StaticType) → is_unknown_type t ≡ false → is_unknown_type u ≡ false →
+    first_of_operator (computing o t u) ≡ None → IsKnown s (known_type_after_operator (computing o t u))
+after_operator s o t u k l e =
+    let subexpressions = or_none _ _ e in
+    let none = or_parts (is_collection t) (is_collection u) (rule_none (is_collection t || is_collection u) rule.Place subexpressions.0) in
+    let right = rule_none (is_ill_typed_operation (computing o t u)) rule.Type (or_none _ _ subexpressions.1).0 in
+    let flawless : (is_unknown_type t || is_unknown_type u || is_ill_typed_operation (computing o t u)) ≡ false = λ j. k j || l j || right j in
     subst (IsKnown s) (sym (unless_false _ (operated o t u) flawless)) (operated_known s o t u k l none.0 none.1)
 
 -- ---- prefixes
@@ -146,21 +146,21 @@ counted_known s (partition_type e r p) k n = absurd cc
 counted_known s no_type k n = absurd cc
 counted_known s unknown_type k n = absurd cc
 
-behind_sign : (s : Scope) (sign : Sign) (t : StaticType) → is_unknown_type t ≡ false →
-    first_of_standing [] (stands t (spot_of_sign sign)) ≡ None → IsKnown s (type_behind_sign sign t)
-behind_sign s Not t k e =
+after_sign : (s : Scope) (sign : Sign) (t : StaticType) → is_unknown_type t ≡ false →
+    first_of_standing [] (stands t (spot_of_sign sign)) ≡ None → IsKnown s (known_type_after_sign sign t)
+after_sign s Not t k e =
     let is = surely is_truth t k (not_false _ (standing_none [] (stands t truth_spot) e).1) in
     subst (IsKnown s) (sym (unless_false (not (is_truth t)) truth_type (ap not is))) (value_known s truth_type refl tt)
-behind_sign s Minus t k e =
+after_sign s Minus t k e =
     let is = surely is_number t k (not_false _ (standing_none [] (stands t number_spot) e).1) in
     subst (IsKnown s) (sym (unless_false (not (is_number t)) (counting_as t) (ap not is))) (counted_known s t k is)
 
-pub behind_signs : (s : Scope) (signs : List Sign) (t : StaticType) → IsKnown s t → first_of_signs signs t ≡ None →
-    IsKnown s (type_behind_signs signs t)
-behind_signs s [] t k e = k
-behind_signs s (sign ∷ signs) t k e =
-    let parts = or_none (first_of_signs signs t) _ e in
-    behind_sign s sign (type_behind_signs signs t) (behind_signs s signs t k parts.0).known parts.1
+pub after_signs : (s : Scope) (signs : List Sign) (t : StaticType) → IsKnown s t → first_of_signs signs t ≡ None →
+    IsKnown s (known_type_after_signs signs t)
+after_signs s [] t k e = k
+after_signs s (sign ∷ signs) t k e =
+    let subexpressions = or_none (first_of_signs signs t) _ e in
+    after_sign s sign (known_type_after_signs signs t) (after_signs s signs t k subexpressions.0).known subexpressions.1
 
 -- ---- steps
 
@@ -192,28 +192,28 @@ child_known s unknown_type t e = absurd cc
 
 -- what isn't told of a step
 taking_none : (tree : Tree) (taking : Taking) → first_of_taking tree taking ≡ None →
-    (misnames_field tree taking ≡ false) × (mistakes taking ≡ false)
+    (is_unknown_field tree taking ≡ false) × (is_ill_typed_step taking ≡ false)
     × (first_in (first_of_standing []) (standing_in_step taking) ≡ None) × (takes_of_wild taking ≡ false)
 taking_none tree taking e =
     let a = or_none _ _ e in
     let b = or_none _ _ a.1 in
     let c = or_none _ _ b.1 in (
-      rule_none (misnames_field tree taking) rule.Name a.0,
-      rule_none (mistakes taking) rule.Type b.0,
+      rule_none (is_unknown_field tree taking) rule.Name a.0,
+      rule_none (is_ill_typed_step taking) rule.Type b.0,
       c.0,
       rule_none (takes_of_wild taking) rule.Pointer (or_none _ _ c.1).0,
     )
 
 step_type : (tree : Tree) (s : Scope) (taking : Taking) (u : StaticType) → takes_unknown tree taking ≡ false →
-    first_of_taking tree taking ≡ None → IsKnown s u → IsKnown s (type_behind_step tree taking u)
+    first_of_taking tree taking ≡ None → IsKnown s u → IsKnown s (known_type_after_step tree taking u)
 step_type tree s taking u known e k =
     let n = taking_none tree taking e in
-    let flawless : (takes_unknown tree taking || misnames_field tree taking || mistakes taking || takes_of_wild taking) ≡ false =
+    let flawless : (takes_unknown tree taking || is_unknown_field tree taking || is_ill_typed_step taking || takes_of_wild taking) ≡ false =
     λ j. known j || n.0 j || n.1 j || n.3 j in
     subst (IsKnown s) (sym (unless_false _ u flawless)) k
 
 pub field_known : (tree : Tree) (s : Scope) (t : StaticType) (f : Name) → IsSound tree → IsKnown s t →
-    first_of_taking tree (field_of t f) ≡ None → IsKnown s (type_behind_step tree (field_of t f) (type_of_field tree t f))
+    first_of_taking tree (field_of t f) ≡ None → IsKnown s (known_type_after_step tree (field_of t f) (type_of_field tree t f))
 field_known tree s (pointer_type k sp args regions) f sound known e =
     let none = taking_none tree (field_of (pointer_type k sp args regions) f) e in
     let flawless = sound.fields sp f (not_false _ none.0) in
@@ -231,14 +231,14 @@ field_known tree s no_type f sound known e = absurd (contrary (taking_none tree 
 field_known tree s unknown_type f sound known e = absurd (contrary known.known)
 
 pub element_known : (tree : Tree) (s : Scope) (t u : StaticType) (e : Expression) → IsKnown s t → is_unknown_type u ≡ false →
-    first_of_taking tree (element_of t u) ≡ None → IsKnown s (type_behind_step tree (element_of t u) (type_of_element s t e))
+    first_of_taking tree (element_of t u) ≡ None → IsKnown s (known_type_after_step tree (element_of t u) (type_of_element s t e))
 element_known tree s t u e known place none =
-    let parts = taking_none tree (element_of t u) none in
-    let stands_there = standing_none [] (stands u number_spot) (or_none _ _ parts.2).0 in
+    let subexpressions = taking_none tree (element_of t u) none in
+    let stands_there = standing_none [] (stands u number_spot) (or_none _ _ subexpressions.2).0 in
     let is = surely is_number u place (not_false _ stands_there.1) in
-    step_type tree s (element_of t u) (type_of_element s t e) (λ j. known.known j || not (is j)) none (of_type t known parts.1)
+    step_type tree s (element_of t u) (type_of_element s t e) (λ j. known.known j || not (is j)) none (of_type t known subexpressions.1)
   where
-    of_type : (t : StaticType) → IsKnown s t → mistakes (element_of t u) ≡ false → IsKnown s (type_of_element s t e)
+    of_type : (t : StaticType) → IsKnown s t → is_ill_typed_step (element_of t u) ≡ false → IsKnown s (type_of_element s t e)
     of_type (region_type k sp args r) known m = value_known s _ refl tt
     of_type (partition_type d r p) known m = child_known s (bound_as s.names r).static_type _ known.placed.0
     of_type (integer_type w) known m = absurd (contrary m)
@@ -261,11 +261,11 @@ result_known tree s (Some (typed.Ispace k)) e f = absurd (contrary e)
 result_known tree s (Some (typed.Region k u)) e f = absurd (contrary e)
 result_known tree s (Some (typed.Partition d r c)) e f = absurd (contrary e)
 
-pub stand_none : (known : List Known) (ss : List Standing) → first_in (first_of_standing known) ss ≡ None → list_any (misstands known) ss ≡ false
+pub stand_none : (known : List Known) (ss : List Standing) → first_in (first_of_standing known) ss ≡ None → list_any (is_ill_typed_at_place known) ss ≡ false
 stand_none known [] e = refl
 stand_none known (x ∷ ss) e =
-    let parts = or_none (first_of_standing known x) _ e in
-    λ j. (standing_none known x parts.0).1 j || stand_none known ss parts.1 j
+    let subexpressions = or_none (first_of_standing known x) _ e in
+    λ j. (standing_none known x subexpressions.0).1 j || stand_none known ss subexpressions.1 j
 
 pub call_known : (tree : Tree) (task : TaskTree) (s : Scope) (c : Calling) → IsSound tree → first_of_call tree task s c ≡ None →
     has_no_result tree c ≡ false → list_any is_unknown_type c.args ≡ false → IsKnown s (type_of_call tree s.known c)
@@ -275,7 +275,7 @@ call_known tree task s c sound e result args =
     let d = or_none _ _ b.1 in
     let f = or_none _ _ d.1 in
     let g = or_none _ _ f.1 in
-    let named = rule_none (misnames_task tree c) rule.Name a.0 in
+    let named = rule_none (is_unknown_task tree c) rule.Name a.0 in
     let counted = rule_none (miscounts_call tree c) rule.Count b.0 in
     let stand = stand_none s.known (standing_in_call tree c) d.0 in
     let fits = rule_none (misfits_call (params_of tree c.task) c) rule.Spaces f.0 in

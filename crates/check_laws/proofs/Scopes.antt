@@ -1,4 +1,4 @@
--- Scopes with one more name, and behind a block.
+-- Scopes with one more name, and after a block.
 use Rattle.std.proofs.Common.{arith, Bool, List, [], ◌∷◌, ◌<◌, ◌≤◌, ◌==◌, ◌||◌, ◌≡◌, ap, bytes_eq, cond, false, length, refl, true, ◌∙◌, ℕ}
 use Rattle.regent_tree.specs.Lookup.{is_bound, type_named}
 use Rattle.regent_tree.specs.declared.facts.Known.{Known}
@@ -9,7 +9,7 @@ use Rattle.regent_tree.specs.Scopes.{Scope, bound_as, bound_to, past, with_name}
 use Rattle.check_laws.specs.SoundScopes.{Falls, IsKnown, IsPlaced, IsSoundScope}
 use Rattle.regent_tree.specs.Syntax.{Arms, Block, Form, Name, Otherwise, Tree, a_statement, an_arm, do_form, else_block, for_in_form, for_to_form, if_form, no_arm, no_else, no_statement, then_statement, var_form, while_form}
 use Rattle.regent_tree.specs.declared.typing.Bound.{Bound}
-use Rattle.check_rules.specs.Variables.{scope_behind, scope_behind_arms, scope_behind_block, scope_behind_else, scope_in_count, scope_in_loop}
+use Rattle.check_rules.specs.Variables.{known_scope_after, known_scope_after_arms, known_scope_after_block, known_scope_after_else, scope_in_count, scope_in_loop}
 
 differ : (a b : ℕ) → b < a → (a == b) ≡ false
 differ a b lt = search (arith)
@@ -73,7 +73,7 @@ one_more s n t by_loop known sound is = record {
     here m true e = known_too s more (omega (arith)) (fresh_number s n t by_loop) t is
     here m false e = known_too s more (omega (arith)) (fresh_number s n t by_loop) (type_named s.names m) (sound.types m e)
 
--- ---- behind a block
+-- ---- after a block
 
 falls_too : (next more : ℕ) (names : List Bound) → next ≤ more → Falls next names → Falls more names
 falls_too next more [] less h = tt
@@ -87,36 +87,36 @@ past_sound s inner less sound = record {
 
 -- no number of a binding is used again
 mutual
-  pub next_behind : (tree : Tree) (s : Scope) (form : Form) → s.next ≤ (scope_behind tree s form).next
-  next_behind tree s (var_form n t start) = omega (arith)
-  next_behind tree s (if_form arms other) =
+  pub next_after : (tree : Tree) (s : Scope) (form : Form) → s.next ≤ (known_scope_after tree s form).next
+  next_after tree s (var_form n t initializer) = omega (arith)
+  next_after tree s (if_form arms other) =
       let a = next_arms tree s arms in
-      let b = next_else tree (scope_behind_arms tree s arms) other in
+      let b = next_else tree (known_scope_after_arms tree s arms) other in
       omega (arith, a, b)
-  next_behind tree s (while_form test body) = next_block tree s body
-  next_behind tree s (for_in_form demanded n domain body) =
+  next_after tree s (while_form test body) = next_block tree s body
+  next_after tree s (for_in_form demanded n domain body) =
       let a = next_block tree (scope_in_loop tree s n domain) body in
       omega (arith, a)
-  next_behind tree s (for_to_form demanded n from to body) =
+  next_after tree s (for_to_form demanded n from to body) =
       let a = next_block tree (scope_in_count tree s n from to) body in
       omega (arith, a)
-  next_behind tree s (do_form body) = next_block tree s body
-  next_behind tree s form = omega (arith)
+  next_after tree s (do_form body) = next_block tree s body
+  next_after tree s form = omega (arith)
 
-  pub next_block : (tree : Tree) (s : Scope) (b : Block) → s.next ≤ (scope_behind_block tree s b).next
+  pub next_block : (tree : Tree) (s : Scope) (b : Block) → s.next ≤ (known_scope_after_block tree s b).next
   next_block tree s no_statement = omega (arith)
   next_block tree s (then_statement (a_statement line form) rest) =
-      let a = next_behind tree s form in
-      let b = next_block tree (scope_behind tree s form) rest in
+      let a = next_after tree s form in
+      let b = next_block tree (known_scope_after tree s form) rest in
       omega (arith, a, b)
 
-  pub next_arms : (tree : Tree) (s : Scope) (arms : Arms) → s.next ≤ (scope_behind_arms tree s arms).next
+  pub next_arms : (tree : Tree) (s : Scope) (arms : Arms) → s.next ≤ (known_scope_after_arms tree s arms).next
   next_arms tree s no_arm = omega (arith)
   next_arms tree s (an_arm test body rest) =
       let a = next_block tree s body in
-      let b = next_arms tree (past s (scope_behind_block tree s body)) rest in
+      let b = next_arms tree (past s (known_scope_after_block tree s body)) rest in
       omega (arith, a, b)
 
-  pub next_else : (tree : Tree) (s : Scope) (other : Otherwise) → s.next ≤ (scope_behind_else tree s other).next
+  pub next_else : (tree : Tree) (s : Scope) (other : Otherwise) → s.next ≤ (known_scope_after_else tree s other).next
   next_else tree s no_else = omega (arith)
   next_else tree s (else_block body) = next_block tree s body

@@ -15,11 +15,11 @@ use Rattle.check_rules.specs.FirstInExpressions.{first_in_expression}
 use Rattle.check_rules.specs.FirstInItems.{first_breach, first_declared, first_in_body, first_line, first_of_said, first_of_saying}
 use Rattle.check_rules.specs.FirstInStatements.{first_in_arms, first_in_block, first_in_else, first_of_form, first_within, told_on}
 use Rattle.check_rules.specs.KnownTypes.{known_type}
-use Rattle.check_rules.specs.Names.{misnames_in_type}
+use Rattle.check_rules.specs.Names.{unbound_name_in_type}
 use Rattle.check_rules.specs.Repeats.{given_by, repeats}
 use Rattle.check_rules.specs.Rules.{first_in}
 use Rattle.check_rules.specs.Sound.{IsSound}
-use Rattle.check_rules.specs.Variables.{scope_behind, scope_behind_arms, scope_behind_block, scope_in_count, scope_in_loop}
+use Rattle.check_rules.specs.Variables.{known_scope_after, known_scope_after_arms, known_scope_after_block, scope_in_count, scope_in_loop}
 use Rattle.check_rules.specs.Visits.{Visit, declarations_in, heads_of, visits, visits_in, visits_in_arms, visits_in_else, visits_of_item, visits_within}
 use Rattle.check_rules.specs.declared.rule.Rule.{Rule}
 use Rattle.check_rules.specs.declared.rule.Rule.TheVariants as rule
@@ -64,26 +64,26 @@ module _ (tree : Tree) (task : TaskTree) (sound : IsSound tree) where
     visit_block : (s : Scope) (b : Block) → IsSoundScope s → first_in_block tree task s b ≡ None → (v : Visit) → Has (visits_in tree task s b) v → IsAllKnown v
     visit_block s no_statement scope e v h = absurd h
     visit_block s (then_statement (a_statement line form) rest) scope e v h =
-        let parts = or_none (told_on line (first_of_form tree task s form)) _ e in
-        let more = or_none (first_within tree task s form) _ parts.1 in
-        let here = told_none line _ parts.0 in
-        let behind = form_known tree task sound s form scope here more.0 in
+        let subexpressions = or_none (told_on line (first_of_form tree task s form)) _ e in
+        let more = or_none (first_within tree task s form) _ subexpressions.1 in
+        let here = told_none line _ subexpressions.0 in
+        let after = form_known tree task sound s form scope here more.0 in
         elim (Has-append_cases (record { task = task; scope = s; line = line; form = form } ∷ visits_within tree task s form)
-        (visits_in tree task (scope_behind tree s form) rest) v h) [
+        (visits_in tree task (known_scope_after tree s form) rest) v h) [
           | inl g ↦ elim g [
             | inl is ↦ subst IsAllKnown is (at_form s line form scope here)
             | inr k ↦ visit_within s form scope here more.0 v k
           ]
-          | inr g ↦ visit_block (scope_behind tree s form) rest behind.1 more.1 v g
+          | inr g ↦ visit_block (known_scope_after tree s form) rest after.1 more.1 v g
         ]
 
     visit_within : (s : Scope) (form : Form) → IsSoundScope s → first_of_form tree task s form ≡ None → first_within tree task s form ≡ None →
         (v : Visit) → Has (visits_within tree task s form) v → IsAllKnown v
     visit_within s (if_form arms other) scope e w v h =
-        let parts = or_none (first_in_arms tree task s arms) _ w in
-        elim (Has-append_cases (visits_in_arms tree task s arms) (visits_in_else tree task (scope_behind_arms tree s arms) other) v h) [
-          | inl g ↦ visit_arms s arms scope parts.0 v g
-          | inr g ↦ visit_else (scope_behind_arms tree s arms) other (arms_known tree task sound s arms scope parts.0).1 parts.1 v g
+        let subexpressions = or_none (first_in_arms tree task s arms) _ w in
+        elim (Has-append_cases (visits_in_arms tree task s arms) (visits_in_else tree task (known_scope_after_arms tree s arms) other) v h) [
+          | inl g ↦ visit_arms s arms scope subexpressions.0 v g
+          | inr g ↦ visit_else (known_scope_after_arms tree s arms) other (arms_known tree task sound s arms scope subexpressions.0).1 subexpressions.1 v g
         ]
     visit_within s (while_form test body) scope e w v h = visit_block s body scope w v h
     visit_within s (for_in_form demanded n domain body) scope e w v h =
@@ -91,7 +91,7 @@ module _ (tree : Tree) (task : TaskTree) (sound : IsSound tree) where
     visit_within s (for_to_form demanded n from to body) scope e w v h =
         visit_block (scope_in_count tree s n from to) body (count_scope tree task sound s demanded n from to body scope e).1 w v h
     visit_within s (do_form body) scope e w v h = visit_block s body scope w v h
-    visit_within s (var_form n t start) scope e w v h = absurd h
+    visit_within s (var_form n t initializer) scope e w v h = absurd h
     visit_within s (fill_form r fields x) scope e w v h = absurd h
     visit_within s (assert_form x) scope e w v h = absurd h
     visit_within s (print_form alias format args) scope e w v h = absurd h
@@ -102,11 +102,11 @@ module _ (tree : Tree) (task : TaskTree) (sound : IsSound tree) where
     visit_arms : (s : Scope) (arms : Arms) → IsSoundScope s → first_in_arms tree task s arms ≡ None → (v : Visit) → Has (visits_in_arms tree task s arms) v → IsAllKnown v
     visit_arms s no_arm scope e v h = absurd h
     visit_arms s (an_arm test body rest) scope e v h =
-        let parts = or_none (first_in_block tree task s body) _ e in
-        let inner = nested tree task sound s body scope (block_known tree task sound s body scope parts.0) in
-        elim (Has-append_cases (visits_in tree task s body) (visits_in_arms tree task (past s (scope_behind_block tree s body)) rest) v h) [
-          | inl g ↦ visit_block s body scope parts.0 v g
-          | inr g ↦ visit_arms (past s (scope_behind_block tree s body)) rest inner.1 parts.1 v g
+        let subexpressions = or_none (first_in_block tree task s body) _ e in
+        let inner = nested tree task sound s body scope (block_known tree task sound s body scope subexpressions.0) in
+        elim (Has-append_cases (visits_in tree task s body) (visits_in_arms tree task (past s (known_scope_after_block tree s body)) rest) v h) [
+          | inl g ↦ visit_block s body scope subexpressions.0 v g
+          | inr g ↦ visit_arms (past s (known_scope_after_block tree s body)) rest inner.1 subexpressions.1 v g
         ]
 
     visit_else : (s : Scope) (other : Otherwise) → IsSoundScope s → first_in_else tree task s other ≡ None → (v : Visit) → Has (visits_in_else tree task s other) v → IsAllKnown v
@@ -118,15 +118,15 @@ module _ (tree : Tree) (task : TaskTree) (sound : IsSound tree) where
 -- a task of which nothing is told
 module _ (tree : Tree) (declared : first_in (first_declared tree) tree ≡ None) where
   misnames_none : (ps : List Param) (names : _) → list_any (λ (p : Param). is_flawed_type tree names p.term) ps ≡ false →
-      list_any (λ (p : Param). misnames_in_type tree names p.term) ps ≡ false
+      list_any (λ (p : Param). unbound_name_in_type tree names p.term) ps ≡ false
   misnames_none [] names e = refl
   misnames_none (p ∷ ps) names e =
-      let parts = or_parts (is_flawed_type tree names p.term) (list_any (λ (q : Param). is_flawed_type tree names q.term) ps) e in
-      let a = or_parts _ _ parts.0 in
+      let subexpressions = or_parts (is_flawed_type tree names p.term) (list_any (λ (q : Param). is_flawed_type tree names q.term) ps) e in
+      let a = or_parts _ _ subexpressions.0 in
       let b = or_parts _ _ a.0 in
       let c = or_parts _ _ b.0 in
-      let d = or_parts (misnames_in_type tree names p.term) _ c.0 in
-      λ j. d.0 j || misnames_none ps names parts.1 j
+      let d = or_parts (unbound_name_in_type tree names p.term) _ c.0 in
+      λ j. d.0 j || misnames_none ps names subexpressions.1 j
 
   scope_sound : (line : ℕ) (t : TaskTree) → Has tree (record { line = line; form = task_item t }) → IsSoundScope (scope_of tree t)
   scope_sound line t h =

@@ -6,8 +6,8 @@ use Rattle.std.proofs.lemmas.List.Folds.{list_any-append}
 use Rattle.regent_tree.specs.Lookup.{is_bound, type_named}
 use Rattle.regent_tree.specs.Scopes.{Scope, bound_as, bound_to, in_scope}
 use Rattle.regent_tree.specs.StaticTypes.{type_said}
-use Rattle.regent_tree.specs.Syntax.{Expression, Form, Name, Start, TaskTree, Tree, a_link, access_expr, both_start, by_field_start, chain_expr, either_start, equal_start, image_start, no_link, no_step, plain_start, preimage_start, region_start, var_form}
-use Rattle.regent_tree.specs.Typing.{arithmetic_type, counting_as, known_of_start, owned, parent_of, start_type, type_of, var_type}
+use Rattle.regent_tree.specs.Syntax.{Expression, Form, Name, Initializer, TaskTree, Tree, a_link, access_expr, both_initializer, by_field_initializer, chain_expr, either_initializer, equal_initializer, image_initializer, no_link, no_step, plain_initializer, preimage_initializer, region_initializer, var_form}
+use Rattle.regent_tree.specs.Typing.{arithmetic_type, counting_as, known_of_initializer, owned, parent_of, initializer_type, type_of, var_type}
 use Rattle.regent_tree.specs.declared.expression.Arithmetic.TheVariants.{Subtract}
 use Rattle.regent_tree.specs.declared.expression.Operator.TheVariants.{Compute}
 use Rattle.regent_tree.specs.declared.types.TypeTerm.{TypeTerm}
@@ -15,25 +15,25 @@ use Rattle.regent_tree.specs.declared.types.TypeTerm.TheVariants as typed
 use Rattle.regent_tree.specs.declared.typing.Bound.{Bound}
 use Rattle.regent_tree.specs.declared.typing.StaticType.{StaticType}
 use Rattle.regent_tree.specs.declared.typing.StaticType.TheVariants.{Integer as integer_type, Truth as truth_type, Index as index_type, Pointer as pointer_type, Ispace as ispace_type, Region as region_type, Partition as partition_type, Nothing as no_type, Unknown as unknown_type}
-use Rattle.check_rules.specs.Breaches.{has_no_type, misbegins_at}
+use Rattle.check_rules.specs.Breaches.{has_no_type, wrong_initializer_at}
 use Rattle.check_rules.specs.Counts.{miscounts_in_type}
 use Rattle.check_rules.specs.Declarations.{is_flawed_type}
 use Rattle.check_rules.specs.FirstInExpressions.{first_in_expression, first_in_type, first_of_call, first_of_standing}
-use Rattle.check_rules.specs.FirstInStatements.{first_in_targets, first_of_form, first_of_start}
+use Rattle.check_rules.specs.FirstInStatements.{first_in_targets, first_of_form, first_of_initializer}
 use Rattle.check_rules.specs.KnownTypes.{known_type}
 use Rattle.check_rules.specs.Lookup.{names_a}
-use Rattle.check_rules.specs.Names.{are_partitions, misnames_form, misnames_in_type, misnames_region_field, misnames_start, misses_space}
-use Rattle.check_rules.specs.Partitions.{is_difference, miscolours_start, mispartitions_start}
-use Rattle.check_rules.specs.Places.{misbegins}
-use Rattle.check_rules.specs.Pointers.{mispoints_in_type}
+use Rattle.check_rules.specs.Names.{are_partitions, unbound_name_in_form, unbound_name_in_type, is_unknown_region_field, unbound_name_in_initializer, misses_space}
+use Rattle.check_rules.specs.Partitions.{is_difference, miscolours_initializer, mispartitions_initializer}
+use Rattle.check_rules.specs.Places.{has_wrong_initializer}
+use Rattle.check_rules.specs.Pointers.{wrong_region_in_type}
 use Rattle.check_rules.specs.Rules.{first_in, rule_if}
 use Rattle.check_rules.specs.Sorts.{is_collection, is_partition, is_region, is_unknown_type, may_be}
 use Rattle.check_rules.specs.Sound.{IsSound}
 use Rattle.check_rules.specs.Spaces.{misfits_in_type}
 use Rattle.check_rules.specs.Statements.{standing_in_form}
-use Rattle.check_rules.specs.Types.{misstands}
-use Rattle.check_rules.specs.Variables.{begins_unsoundly, bound_type, declared_type, expressions_in_start, is_flawed_start, known_of_known_start, known_start, members_of, origins_of, standing_in_start, stands_declared, types_in_start, variable_type, written_in_start}
-use Rattle.check_rules.specs.Visits.{call_of_form, declared_at, heads_of, start_at}
+use Rattle.check_rules.specs.Types.{is_ill_typed_at_place}
+use Rattle.check_rules.specs.Variables.{begins_unsoundly, bound_type, declared_type, expressions_in_initializer, is_flawed_initializer, known_of_known_initializer, known_initializer, members_of, origins_of, standing_in_initializer, stands_declared, types_in_initializer, variable_type, written_in_initializer}
+use Rattle.check_rules.specs.Visits.{call_of_form, declared_at, heads_of, initializer_at}
 use Rattle.check_rules.specs.declared.rule.Rule.TheVariants as rule
 use Rattle.check_rules.proofs.Laws.{types_as_meant}
 use Rattle.check_rules.proofs.Written.{names_known}
@@ -72,9 +72,9 @@ module _ (tree : Tree) (task : TaskTree) (s : Scope) (sound : IsSound tree) (sco
       let b = or_none _ _ a.1 in
       let c = or_none _ _ b.1 in
       let d = or_none _ _ c.1 in
-      let named = rule_none (misnames_in_type tree s.names t) rule.Name a.0 in
+      let named = rule_none (unbound_name_in_type tree s.names t) rule.Name a.0 in
       let counted = rule_none (miscounts_in_type tree t) rule.Count b.0 in
-      let points = rule_none (mispoints_in_type tree s.names t) rule.Pointer c.0 in
+      let points = rule_none (wrong_region_in_type tree s.names t) rule.Pointer c.0 in
       let fits = rule_none (misfits_in_type tree s.names t) rule.Spaces d.0 in
       let known = names_known tree s.names (λ n b. (scope.types n b).known) t named in
       λ j. named j || counted j || points j || fits j || known j
@@ -82,10 +82,10 @@ module _ (tree : Tree) (task : TaskTree) (s : Scope) (sound : IsSound tree) (sco
   types_sound : (ts : List TypeTerm) → first_in (first_in_type tree s.names) ts ≡ None → list_any (is_flawed_type tree s.names) ts ≡ false
   types_sound [] e = refl
   types_sound (t ∷ ts) e =
-      let parts = or_none (first_in_type tree s.names t) _ e in
-      λ j. type_sound t parts.0 j || types_sound ts parts.1 j
+      let subexpressions = or_none (first_in_type tree s.names t) _ e in
+      λ j. type_sound t subexpressions.0 j || types_sound ts subexpressions.1 j
 
-  said_known : (t : TypeTerm) → misnames_in_type tree s.names t ≡ false → IsKnown s (type_said tree (in_scope s) s.next t)
+  said_known : (t : TypeTerm) → unbound_name_in_type tree s.names t ≡ false → IsKnown s (type_said tree (in_scope s) s.next t)
   said_known (typed.Number t) e = number_known s t
   said_known typed.Truth e = value_known s _ refl tt
   said_known (typed.Pointer p) e = value_known s _ refl tt
@@ -96,14 +96,14 @@ module _ (tree : Tree) (task : TaskTree) (s : Scope) (sound : IsSound tree) (sco
     placed = region_placed r (or_parts (not (names_a is_region s.names r)) (misses_space s.names c) e).0;
   }
 
-  -- ---- start values
+  -- ---- initializers
 
   heads_known : (es : List Expression) → first_in (first_in_expression tree task s) es ≡ None →
       list_any is_unknown_type (map (known_type tree s) es) ≡ false
   heads_known [] e = refl
   heads_known (x ∷ xs) e =
-      let parts = or_none (first_in_expression tree task s x) _ e in
-      λ j. (known_expression tree task s sound scope x parts.0).known j || heads_known xs parts.1 j
+      let subexpressions = or_none (first_in_expression tree task s x) _ e in
+      λ j. (known_expression tree task s sound scope x subexpressions.0).known j || heads_known xs subexpressions.1 j
 
   origin : (sort : StaticType → Bool) (n : Name) → not (names_a sort s.names n) ≡ false → is_unknown_type (type_named s.names n) ≡ false
   origin sort n e = (scope.types n (named sort n e).0).known
@@ -114,42 +114,42 @@ module _ (tree : Tree) (task : TaskTree) (s : Scope) (sound : IsSound tree) (sco
       let both = and_parts (names_a is_partition s.names p) (names_a is_partition s.names q) (not_false _ e) in
       (ap not both.0, ap not both.1)
 
-  origins_known : (i : Start) → misnames_start tree s.names i ≡ false →
+  origins_known : (i : Initializer) → unbound_name_in_initializer tree s.names i ≡ false →
       list_any (λ n. is_unknown_type (type_named s.names n)) (origins_of i) ≡ false
-  origins_known (region_start e u) m = refl
-  origins_known (equal_start r e) m = λ j. origin is_region r m j || false
-  origins_known (by_field_start r f e) m =
+  origins_known (region_initializer e u) m = refl
+  origins_known (equal_initializer r e) m = λ j. origin is_region r m j || false
+  origins_known (by_field_initializer r f e) m =
       λ j. origin is_region r (or_parts (not (names_a is_region s.names r)) _ m).0 j || false
-  origins_known (image_start parent p r f) m =
-      let a = or_parts (not (names_a is_region s.names parent) || not (names_a is_partition s.names p)) (misnames_region_field tree s.names r f) m in
+  origins_known (image_initializer parent p r f) m =
+      let a = or_parts (not (names_a is_region s.names parent) || not (names_a is_partition s.names p)) (is_unknown_region_field tree s.names r f) m in
       let b = or_parts (not (names_a is_region s.names parent)) (not (names_a is_partition s.names p)) a.0 in
       λ j. origin is_region parent b.0 j || false
-  origins_known (preimage_start parent p r f) m =
-      let a = or_parts (not (names_a is_region s.names parent) || not (names_a is_partition s.names p)) (misnames_region_field tree s.names r f) m in
+  origins_known (preimage_initializer parent p r f) m =
+      let a = or_parts (not (names_a is_region s.names parent) || not (names_a is_partition s.names p)) (is_unknown_region_field tree s.names r f) m in
       let b = or_parts (not (names_a is_region s.names parent)) (not (names_a is_partition s.names p)) a.0 in
       λ j. origin is_region parent b.0 j || (origin is_partition p b.1 j || false)
-  origins_known (both_start p q) m =
+  origins_known (both_initializer p q) m =
       let b = both_named p q m in λ j. origin is_partition p b.0 j || (origin is_partition q b.1 j || false)
-  origins_known (either_start p q) m =
+  origins_known (either_initializer p q) m =
       let b = both_named p q m in λ j. origin is_partition p b.0 j || (origin is_partition q b.1 j || false)
-  origins_known (plain_start e) m = refl
+  origins_known (plain_initializer e) m = refl
 
-  -- a start value of which nothing is told
-  pub start_sound : (i : Start) → first_in (first_in_expression tree task s) (expressions_in_start s.names i) ≡ None →
-      first_of_start tree task s i ≡ None → list_any (misstands s.known) (standing_in_start tree s i) ≡ false →
-      is_flawed_start tree s i ≡ false
-  start_sound i heads start stand =
-      let a = or_none _ _ start in
+  -- an initializer of which nothing is told
+  pub initializer_sound : (i : Initializer) → first_in (first_in_expression tree task s) (expressions_in_initializer s.names i) ≡ None →
+      first_of_initializer tree task s i ≡ None → list_any (is_ill_typed_at_place s.known) (standing_in_initializer tree s i) ≡ false →
+      is_flawed_initializer tree s i ≡ false
+  initializer_sound i heads initializer stand =
+      let a = or_none _ _ initializer in
       let b = or_none _ _ a.1 in
       let c = or_none _ _ b.1 in
       let d = or_none _ _ c.1 in
-      let written = types_sound (written_in_start i) a.0 in
-      let names = rule_none (misnames_start tree s.names i) rule.Name b.0 in
-      let parts = rule_none (mispartitions_start tree s i) rule.Partition c.0 in
-      let colours = rule_none (miscolours_start i (types_in_start tree s i)) rule.Partition d.0 in
-      let types = heads_known (expressions_in_start s.names i) heads in
+      let written = types_sound (written_in_initializer i) a.0 in
+      let names = rule_none (unbound_name_in_initializer tree s.names i) rule.Name b.0 in
+      let subexpressions = rule_none (mispartitions_initializer tree s i) rule.Partition c.0 in
+      let colours = rule_none (miscolours_initializer i (types_in_initializer tree s i)) rule.Partition d.0 in
+      let types = heads_known (expressions_in_initializer s.names i) heads in
       let origins = origins_known i names in
-      λ j. types j || colours j || stand j || written j || names j || parts j || origins j
+      λ j. types j || colours j || stand j || written j || names j || subexpressions j || origins j
 
   owned_known : (t : StaticType) → IsKnown s t → IsKnown s (owned s.next t)
   owned_known (region_type k sp args r) h = value_known s _ refl tt
@@ -198,29 +198,29 @@ module _ (tree : Tree) (task : TaskTree) (s : Scope) (sound : IsSound tree) (sco
       (surely is_partition (type_named s.names p) known.known is.0) known
   plain_type e true d heads = absurd (contrary (sym d))
 
-  start_known : (i : Start) → first_in (first_in_expression tree task s) (expressions_in_start s.names i) ≡ None →
-      misnames_start tree s.names i ≡ false → IsKnown s (start_type tree s s.next i)
-  start_known (region_start e u) heads m = value_known s _ refl tt
-  start_known (equal_start r e) heads m = record { known = refl; placed = region_placed r m }
-  start_known (by_field_start r f e) heads m = record {
+  initializer_known : (i : Initializer) → first_in (first_in_expression tree task s) (expressions_in_initializer s.names i) ≡ None →
+      unbound_name_in_initializer tree s.names i ≡ false → IsKnown s (initializer_type tree s s.next i)
+  initializer_known (region_initializer e u) heads m = value_known s _ refl tt
+  initializer_known (equal_initializer r e) heads m = record { known = refl; placed = region_placed r m }
+  initializer_known (by_field_initializer r f e) heads m = record {
     known = refl;
     placed = region_placed r (or_parts (not (names_a is_region s.names r)) _ m).0;
   }
-  start_known (image_start parent p r f) heads m =
-      let a = or_parts (not (names_a is_region s.names parent) || not (names_a is_partition s.names p)) (misnames_region_field tree s.names r f) m in
+  initializer_known (image_initializer parent p r f) heads m =
+      let a = or_parts (not (names_a is_region s.names parent) || not (names_a is_partition s.names p)) (is_unknown_region_field tree s.names r f) m in
       let b = or_parts (not (names_a is_region s.names parent)) (not (names_a is_partition s.names p)) a.0 in
       record { known = refl; placed = region_placed parent b.0 }
-  start_known (preimage_start parent p r f) heads m =
-      let a = or_parts (not (names_a is_region s.names parent) || not (names_a is_partition s.names p)) (misnames_region_field tree s.names r f) m in
+  initializer_known (preimage_initializer parent p r f) heads m =
+      let a = or_parts (not (names_a is_region s.names parent) || not (names_a is_partition s.names p)) (is_unknown_region_field tree s.names r f) m in
       let b = or_parts (not (names_a is_region s.names parent)) (not (names_a is_partition s.names p)) a.0 in
       record { known = refl; placed = region_placed parent b.0 }
-  start_known (both_start p q) heads m =
+  initializer_known (both_initializer p q) heads m =
       let is = named is_partition p (both_named p q m).0 in
       parent_placed _ (type_named s.names p) is.1 (scope.types p is.0)
-  start_known (either_start p q) heads m =
+  initializer_known (either_initializer p q) heads m =
       let is = named is_partition p (both_named p q m).0 in
       parent_placed _ (type_named s.names p) is.1 (scope.types p is.0)
-  start_known (plain_start e) heads m = plain_type e (is_difference s.names e) refl heads
+  initializer_known (plain_initializer e) heads m = plain_type e (is_difference s.names e) refl heads
 
   -- ---- statements
 
@@ -228,75 +228,75 @@ module _ (tree : Tree) (task : TaskTree) (s : Scope) (sound : IsSound tree) (sco
       (first_in (first_in_type tree s.names) (declared_at form) ≡ None)
       × (has_no_type form ≡ false)
       × (first_in (first_in_expression tree task s) (heads_of s.names form) ≡ None)
-      × (first_in (first_of_start tree task s) (start_at form) ≡ None)
-      × (list_any (misstands s.known) (standing_in_form tree task s form) ≡ false)
-      × (misbegins_at tree s form ≡ false)
+      × (first_in (first_of_initializer tree task s) (initializer_at form) ≡ None)
+      × (list_any (is_ill_typed_at_place s.known) (standing_in_form tree task s form) ≡ false)
+      × (wrong_initializer_at tree s form ≡ false)
   parts_of_form form e =
       let a = or_none (first_in (first_in_type tree s.names) (declared_at form)) _ e in
       let b = or_none (rule_if (has_no_type form) rule.Type) _ a.1 in
       let c = or_none (first_in (first_in_expression tree task s) (heads_of s.names form)) _ b.1 in
       let d = or_none (first_in_targets tree task s form) _ c.1 in
-      let f = or_none (rule_if (misnames_form tree s.names form) rule.Name) _ d.1 in
-      let g = or_none (first_in (first_of_start tree task s) (start_at form)) _ f.1 in
+      let f = or_none (rule_if (unbound_name_in_form tree s.names form) rule.Name) _ d.1 in
+      let g = or_none (first_in (first_of_initializer tree task s) (initializer_at form)) _ f.1 in
       let h = or_none (first_in (first_of_call tree task s) (call_of_form tree s form)) _ g.1 in
       let i = or_none (first_in (first_of_standing s.known) (standing_in_form tree task s form)) _ h.1 in
-      let k = or_none (rule_if (misbegins_at tree s form) rule.Place) _ i.1 in (
+      let k = or_none (rule_if (wrong_initializer_at tree s form) rule.Place) _ i.1 in (
         a.0,
         rule_none (has_no_type form) rule.Type b.0,
         c.0,
         g.0,
         stand_none s.known (standing_in_form tree task s form) i.0,
-        rule_none (misbegins_at tree s form) rule.Place k.0,
+        rule_none (wrong_initializer_at tree s form) rule.Place k.0,
       )
 
   -- what begins soundly is bound with its type
-  bound_soundly : (t : Option TypeTerm) (start : Option Start) →
-      (is_collection (variable_type tree s t start) ≡ false) ⊎ (begins_unsoundly tree s t start ≡ false) →
-      bound_type tree s t start ≡ variable_type tree s t start
-  bound_soundly t start (inl e) = unless_false _ (variable_type tree s t start) (ap (λ b. b && begins_unsoundly tree s t start) e)
-  bound_soundly t start (inr e) =
-      unless_false _ (variable_type tree s t start)
-      (ap (λ b. is_collection (variable_type tree s t start) && b) e ∙ and_false (is_collection (variable_type tree s t start)))
+  bound_soundly : (t : Option TypeTerm) (initializer : Option Initializer) →
+      (is_collection (variable_type tree s t initializer) ≡ false) ⊎ (begins_unsoundly tree s t initializer ≡ false) →
+      bound_type tree s t initializer ≡ variable_type tree s t initializer
+  bound_soundly t initializer (inl e) = unless_false _ (variable_type tree s t initializer) (ap (λ b. b && begins_unsoundly tree s t initializer) e)
+  bound_soundly t initializer (inr e) =
+      unless_false _ (variable_type tree s t initializer)
+      (ap (λ b. is_collection (variable_type tree s t initializer) && b) e ∙ and_false (is_collection (variable_type tree s t initializer)))
 
   -- a variable is what the meaning of programs says
-  abbrev IsMeantVariable : Option TypeTerm → Option Start → Type 0
-  IsMeantVariable t start = (bound_type tree s t start ≡ var_type tree s t start) × IsKnown s (var_type tree s t start)
-      × (known_of_known_start tree s start ≡ known_of_start tree s s.next start)
+  abbrev IsMeantVariable : Option TypeTerm → Option Initializer → Type 0
+  IsMeantVariable t initializer = (bound_type tree s t initializer ≡ var_type tree s t initializer) × IsKnown s (var_type tree s t initializer)
+      × (known_of_known_initializer tree s initializer ≡ known_of_initializer tree s s.next initializer)
 
-  -- a start value, in a variable
-  begun_sound : (n : Name) (t : Option TypeTerm) (i : Start) → first_of_form tree task s (var_form n t (Some i)) ≡ None →
-      (is_flawed_start tree s i ≡ false) × IsKnown s (start_type tree s s.next i) × (begins_unsoundly tree s t (Some i) ≡ false)
+  -- an initializer, in a variable
+  begun_sound : (n : Name) (t : Option TypeTerm) (i : Initializer) → first_of_form tree task s (var_form n t (Some i)) ≡ None →
+      (is_flawed_initializer tree s i ≡ false) × IsKnown s (initializer_type tree s s.next i) × (begins_unsoundly tree s t (Some i) ≡ false)
   begun_sound n t i e =
-      let parts = parts_of_form (var_form n t (Some i)) e in
-      let start = (or_none (first_of_start tree task s i) _ parts.3).0 in
-      let begun = known_start tree s i in
+      let subexpressions = parts_of_form (var_form n t (Some i)) e in
+      let initializer = (or_none (first_of_initializer tree task s i) _ subexpressions.3).0 in
+      let begun = known_initializer tree s i in
       let wanted = variable_type tree s t (Some i) in
-      let stand = or_parts (list_any (misstands s.known) (standing_in_start tree s i)) (list_any (misstands s.known) (stands_declared begun t wanted))
-      (sym (list_any-append (misstands s.known) (standing_in_start tree s i) (stands_declared begun t wanted)) ∙ parts.4) in
-      let flawless = start_sound i parts.2 start stand.0 in
-      let names = rule_none (misnames_start tree s.names i) rule.Name (or_none _ _ (or_none _ _ start).1).0 in
-      let known = start_known i parts.2 names in
-      let is = unless_false (is_flawed_start tree s i) (start_type tree s s.next i) flawless in
-      let begins = or_parts (misbegins s.names wanted begun i) false parts.5 in
+      let stand = or_parts (list_any (is_ill_typed_at_place s.known) (standing_in_initializer tree s i)) (list_any (is_ill_typed_at_place s.known) (stands_declared begun t wanted))
+      (sym (list_any-append (is_ill_typed_at_place s.known) (standing_in_initializer tree s i) (stands_declared begun t wanted)) ∙ subexpressions.4) in
+      let flawless = initializer_sound i subexpressions.2 initializer stand.0 in
+      let names = rule_none (unbound_name_in_initializer tree s.names i) rule.Name (or_none _ _ (or_none _ _ initializer).1).0 in
+      let known = initializer_known i subexpressions.2 names in
+      let is = unless_false (is_flawed_initializer tree s i) (initializer_type tree s s.next i) flawless in
+      let begins = or_parts (has_wrong_initializer s.names wanted begun i) false subexpressions.5 in
       (flawless, known, λ j. (ap is_unknown_type is ∙ known.known) j || stand.1 j || begins.0 j)
 
-  pub variable_known : (n : Name) (t : Option TypeTerm) (start : Option Start) → first_of_form tree task s (var_form n t start) ≡ None →
-      IsMeantVariable t start
+  pub variable_known : (n : Name) (t : Option TypeTerm) (initializer : Option Initializer) → first_of_form tree task s (var_form n t initializer) ≡ None →
+      IsMeantVariable t initializer
   variable_known n None None e = absurd (contrary (parts_of_form (var_form n None None) e).1)
   variable_known n None (Some i) e =
       let b = begun_sound n None i e in
-      let is = unless_false (is_flawed_start tree s i) (start_type tree s s.next i) b.0 in
-      (bound_soundly None (Some i) (inr b.2) ∙ is, b.1, ap (λ x. cond x [] (known_of_start tree s s.next (Some i))) b.0)
+      let is = unless_false (is_flawed_initializer tree s i) (initializer_type tree s s.next i) b.0 in
+      (bound_soundly None (Some i) (inr b.2) ∙ is, b.1, ap (λ x. cond x [] (known_of_initializer tree s s.next (Some i))) b.0)
   variable_known n (Some t) None e =
-      let parts = parts_of_form (var_form n (Some t) None) e in
-      let typed_none = (or_none (first_in_type tree s.names t) _ parts.0).0 in
+      let subexpressions = parts_of_form (var_form n (Some t) None) e in
+      let typed_none = (or_none (first_in_type tree s.names t) _ subexpressions.0).0 in
       let is = unless_false (is_flawed_type tree s.names t) (type_said tree (in_scope s) s.next t) (type_sound t typed_none) in
-      let names = rule_none (misnames_in_type tree s.names t) rule.Name (or_none _ _ typed_none).0 in
-      (bound_soundly (Some t) None (inl (or_parts (is_collection (declared_type tree s t)) false parts.5).0) ∙ is, said_known t names, refl)
+      let names = rule_none (unbound_name_in_type tree s.names t) rule.Name (or_none _ _ typed_none).0 in
+      (bound_soundly (Some t) None (inl (or_parts (is_collection (declared_type tree s t)) false subexpressions.5).0) ∙ is, said_known t names, refl)
   variable_known n (Some t) (Some i) e =
-      let parts = parts_of_form (var_form n (Some t) (Some i)) e in
+      let subexpressions = parts_of_form (var_form n (Some t) (Some i)) e in
       let b = begun_sound n (Some t) i e in
-      let typed_none = (or_none (first_in_type tree s.names t) _ parts.0).0 in
+      let typed_none = (or_none (first_in_type tree s.names t) _ subexpressions.0).0 in
       let is = unless_false (is_flawed_type tree s.names t) (type_said tree (in_scope s) s.next t) (type_sound t typed_none) in
-      let names = rule_none (misnames_in_type tree s.names t) rule.Name (or_none _ _ typed_none).0 in
-      (bound_soundly (Some t) (Some i) (inr b.2) ∙ is, said_known t names, ap (λ x. cond x [] (known_of_start tree s s.next (Some i))) b.0)
+      let names = rule_none (unbound_name_in_type tree s.names t) rule.Name (or_none _ _ typed_none).0 in
+      (bound_soundly (Some t) (Some i) (inr b.2) ∙ is, said_known t names, ap (λ x. cond x [] (known_of_initializer tree s s.next (Some i))) b.0)

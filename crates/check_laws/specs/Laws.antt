@@ -8,7 +8,7 @@ use Rattle.check_rules.specs.Breaches.{breaches}
 use Rattle.check_rules.specs.FirstInExpressions.{first_in_expression}
 use Rattle.check_rules.specs.KnownTypes.{known_type}
 use Rattle.check_rules.specs.Sound.{IsSound, StandsIn}
-use Rattle.check_rules.specs.Variables.{scope_behind_block}
+use Rattle.check_rules.specs.Variables.{known_scope_after_block}
 use Rattle.check_rules.specs.Visits.{Visit, heads_of, visits}
 use Rattle.check_laws.specs.SoundScopes.{IsKnown, IsSoundScope}
 
@@ -19,12 +19,12 @@ ExpressionsAreKnown = (tree : Tree) (task : TaskTree) (s : Scope) (e : Expressio
     IsSound tree → IsSoundScope s → first_in_expression tree task s e ≡ None →
     IsKnown s (known_type tree s e) × (known_type tree s e ≡ type_of tree s e)
 
--- In a program without a breach the scope in which a body begins, and the one behind it, are those of
+-- In a program without a breach the scope in which a body begins, and the one after it, are those of
 -- the meaning.
 abbrev pub BodiesAreMeant : Type 0
 BodiesAreMeant = (tree : Tree) (t : TaskTree) → breaches tree ≡ [] → StandsIn tree t →
     (body_scope tree t ≡ scope_of tree t)
-    × (scope_behind_block tree (body_scope tree t) t.body ≡ scope_after_block tree (scope_of tree t) t.body)
+    × (known_scope_after_block tree (body_scope tree t) t.body ≡ scope_after_block tree (scope_of tree t) t.body)
 
 -- In the scope at each of its statements all is known, and so is the type of each expression that
 -- stands in one.

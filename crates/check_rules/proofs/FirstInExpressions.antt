@@ -23,19 +23,19 @@ use Rattle.check_rules.specs.Constraints.{breaks_constraint}
 use Rattle.check_rules.specs.Counts.{miscounts_call, miscounts_in_type}
 use Rattle.check_rules.specs.Declarations.{params_of}
 use Rattle.check_rules.specs.FirstInExpressions.{first_in_args, first_in_expression, first_in_links, first_in_steps, first_in_target, first_in_target_steps, first_in_type, first_of_call, first_of_operator, first_of_signs, first_of_standing, first_of_step, first_of_taking}
-use Rattle.check_rules.specs.KnownTypes.{computings, known_type, known_types, shape_of, signings, takings, type_behind_operator, type_behind_signs, type_behind_step}
-use Rattle.check_rules.specs.Names.{misnames, misnames_field, misnames_in_type, misnames_task}
+use Rattle.check_rules.specs.KnownTypes.{computings, known_type, known_types, typed_form_of, signings, takings, known_type_after_operator, known_type_after_signs, known_type_after_step}
+use Rattle.check_rules.specs.Names.{has_unbound_name, is_unknown_field, unbound_name_in_type, is_unknown_task}
 use Rattle.check_rules.specs.Partitions.{miscolours_in_type, mispartitions_call}
-use Rattle.check_rules.specs.Parts.{parts, parts_of_args, parts_of_links, parts_of_steps}
+use Rattle.check_rules.specs.Parts.{subexpressions, parts_of_args, parts_of_links, parts_of_steps}
 use Rattle.check_rules.specs.Places.{misplaces, misplaces_in}
-use Rattle.check_rules.specs.Pointers.{mispoints_in, mispoints_in_type, takes_of_wild}
+use Rattle.check_rules.specs.Pointers.{takes_of_wild_in, wrong_region_in_type, takes_of_wild}
 use Rattle.check_rules.specs.Privileges.{lacks, may_do, read_steps, reads_in, rights_declared, wanted_by_call, wanted_of_step}
 use Rattle.check_rules.specs.Rules.{rule_if}
-use Rattle.check_rules.specs.Shapes.{Calling, Computing, Shape, Signing, Taking, access_shape, call_in, call_shape, calling, cast_shape, chain_shape, computing, constant_shape, convert_shape, element_of, field_of, is_null_shape, null_shape, prefix_shape, space_shape, written_in}
+use Rattle.check_rules.specs.TypedForms.{Calling, Computing, TypedForm, Signing, Taking, typed_access, call_in, typed_call, calling, typed_cast, typed_chain, computing, typed_constant, typed_convert, element_of, field_of, typed_is_null, typed_null, typed_prefix, typed_space, written_in}
 use Rattle.check_rules.specs.Sorts.{is_collection}
 use Rattle.check_rules.specs.Spaces.{misfits_call, misfits_in_type}
 use Rattle.check_rules.specs.Standing.{Standing, integer_spot, number_spot, pointer_spot, spot_of_sign, standing_in_call, standing_in_chain, standing_in_step, stands}
-use Rattle.check_rules.specs.Types.{has_no_result, misoperates, misstands, mistakes, mistypes}
+use Rattle.check_rules.specs.Types.{has_no_result, is_ill_typed_operation, is_ill_typed_at_place, is_ill_typed_step, mistypes}
 use Rattle.check_rules.specs.declared.rule.Rule.{Rule}
 use Rattle.check_rules.specs.declared.rule.Rule.TheVariants as rule
 use Rattle.check_rules.proofs.Exchange.{Finding, Tells, any_finding, asked, asked_of_all, by_test, list_any_either, list_any_flat, list_any_mapped, list_any_never, list_any_same, not_all, only, or_crossed, or_nothing, or_regrouped, or_swapped, or_turned, tells_if, or_placed, or_same, tells_or, tells_same, tells_two}
@@ -53,17 +53,17 @@ lacks_flat tree task s f xs =
 -- ---- written types, and what stands somewhere
 
 abbrev pub type_test : Tree → List Bound → TypeTerm → Rule → Bool
-type_test tree names t rule.Name = misnames_in_type tree names t
+type_test tree names t rule.Name = unbound_name_in_type tree names t
 type_test tree names t rule.Count = miscounts_in_type tree t
-type_test tree names t rule.Pointer = mispoints_in_type tree names t
+type_test tree names t rule.Pointer = wrong_region_in_type tree names t
 type_test tree names t rule.Spaces = misfits_in_type tree names t
 type_test tree names t rule.Partition = miscolours_in_type names t
 type_test tree names t q = false
 
 abbrev pub type_findings : Tree → List Bound → TypeTerm → List Finding
-type_findings tree names t = asked (misnames_in_type tree names t) rule.Name
+type_findings tree names t = asked (unbound_name_in_type tree names t) rule.Name
     ∷ asked (miscounts_in_type tree t) rule.Count
-    ∷ asked (mispoints_in_type tree names t) rule.Pointer
+    ∷ asked (wrong_region_in_type tree names t) rule.Pointer
     ∷ asked (misfits_in_type tree names t) rule.Spaces
     ∷ asked (miscolours_in_type names t) rule.Partition
     ∷ []
@@ -83,12 +83,12 @@ of_type tree names t = by_test (first_in_type tree names t) (type_test tree name
 
 abbrev pub standing_test : List Known → Standing → Rule → Bool
 standing_test known t rule.Place = misplaces t
-standing_test known t rule.Type = misstands known t
+standing_test known t rule.Type = is_ill_typed_at_place known t
 standing_test known t q = false
 
 abbrev pub standing_findings : List Known → Standing → List Finding
 standing_findings known t =
-    asked (misplaces t) rule.Place ∷ asked (misstands known t) rule.Type ∷ []
+    asked (misplaces t) rule.Place ∷ asked (is_ill_typed_at_place known t) rule.Type ∷ []
 
 pub standing_parts : (known : List Known) (t : Standing) (q : Rule) →
     any_finding (standing_findings known t) q ≡ standing_test known t q
@@ -104,12 +104,12 @@ of_standing known t = by_test (first_of_standing known t) (standing_test known t
 
 abbrev operator_test : Computing → Rule → Bool
 operator_test c rule.Place = is_collection c.left || is_collection c.right
-operator_test c rule.Type = misoperates c
+operator_test c rule.Type = is_ill_typed_operation c
 operator_test c q = false
 
 abbrev operator_findings : Computing → List Finding
 operator_findings c = asked (is_collection c.left || is_collection c.right) rule.Place
-    ∷ asked (misoperates c) rule.Type ∷ []
+    ∷ asked (is_ill_typed_operation c) rule.Type ∷ []
 
 operator_parts : (c : Computing) (q : Rule) →
     any_finding (operator_findings c) q ≡ operator_test c q
@@ -129,7 +129,7 @@ tells_signs : (signs : List Sign) (t : StaticType) →
     Tells (first_of_signs signs t) (λ q. list_any (λ g. sign_test g q) (signings signs t))
 tells_signs [] t = λ q. refl
 tells_signs (sign ∷ signs) t =
-    let inner = stands (type_behind_signs signs t) (spot_of_sign sign) in
+    let inner = stands (known_type_after_signs signs t) (spot_of_sign sign) in
     let test : Rule → Bool = λ q. list_any (λ g. sign_test g q) (signings signs t) in
     tells_two (first_of_signs signs t) (first_of_standing [] inner) test (standing_test [] inner)
     (λ q. standing_test [] inner q || test q)
@@ -138,25 +138,25 @@ tells_signs (sign ∷ signs) t =
 
 -- a step, but for the reading of a field
 abbrev pub taking_test : Tree → Taking → Rule → Bool
-taking_test tree taking rule.Name = misnames_field tree taking
+taking_test tree taking rule.Name = is_unknown_field tree taking
 taking_test tree taking rule.Type =
-    mistakes taking || list_any (misstands []) (standing_in_step taking)
+    is_ill_typed_step taking || list_any (is_ill_typed_at_place []) (standing_in_step taking)
 taking_test tree taking rule.Place = list_any misplaces (standing_in_step taking)
 taking_test tree taking rule.Pointer = takes_of_wild taking
 taking_test tree taking q = false
 
 abbrev pub taking_findings : Tree → Taking → List Finding
-taking_findings tree taking = asked (misnames_field tree taking) rule.Name
-    ∷ asked (mistakes taking) rule.Type
+taking_findings tree taking = asked (is_unknown_field tree taking) rule.Name
+    ∷ asked (is_ill_typed_step taking) rule.Type
     ∷ asked_of_all (of_standing []) (standing_in_step taking)
     ∷ asked (takes_of_wild taking) rule.Pointer
     ∷ []
 
 pub taking_parts : (tree : Tree) (taking : Taking) (q : Rule) →
     any_finding (taking_findings tree taking) q ≡ taking_test tree taking q
-taking_parts tree taking rule.Name = ap (λ b. misnames_field tree taking || (b || false))
+taking_parts tree taking rule.Name = ap (λ b. is_unknown_field tree taking || (b || false))
     (list_any_never (standing_in_step taking)) ∙ or_nothing _
-taking_parts tree taking rule.Type = ap (λ b. mistakes taking || b) (or_nothing _)
+taking_parts tree taking rule.Type = ap (λ b. is_ill_typed_step taking || b) (or_nothing _)
 taking_parts tree taking rule.Place = or_nothing _
 taking_parts tree taking rule.Pointer =
     ap (λ b. b || (takes_of_wild taking || false)) (list_any_never (standing_in_step taking))
@@ -180,10 +180,10 @@ module _ (tree : Tree) (task : TaskTree) (s : Scope) where
       (reading_test taking) (of_taking tree taking).tells (tells_if _ rule.Read)
 
   abbrev pub call_test : Calling → Rule → Bool
-  call_test c rule.Name = misnames_task tree c
+  call_test c rule.Name = is_unknown_task tree c
   call_test c rule.Count = miscounts_call tree c
   call_test c rule.Place = list_any misplaces (standing_in_call tree c)
-  call_test c rule.Type = list_any (misstands s.known) (standing_in_call tree c)
+  call_test c rule.Type = list_any (is_ill_typed_at_place s.known) (standing_in_call tree c)
   call_test c rule.Spaces = misfits_call (params_of tree c.task) c
   call_test c rule.Partition = mispartitions_call (params_of tree c.task) c
   call_test c rule.CallPrivilege = lacks tree task s (wanted_by_call tree c)
@@ -191,7 +191,7 @@ module _ (tree : Tree) (task : TaskTree) (s : Scope) where
   call_test c q = false
 
   abbrev pub call_findings : Calling → List Finding
-  call_findings c = asked (misnames_task tree c) rule.Name
+  call_findings c = asked (is_unknown_task tree c) rule.Name
       ∷ asked (miscounts_call tree c) rule.Count
       ∷ asked_of_all (of_standing s.known) (standing_in_call tree c)
       ∷ asked (misfits_call (params_of tree c.task) c) rule.Spaces
@@ -206,9 +206,9 @@ module _ (tree : Tree) (task : TaskTree) (s : Scope) where
   alone_before c b = ap (λ n. b || (n || false)) (list_any_never (standing_in_call tree c))
       ∙ or_nothing b
 
-  alone_behind : (c : Calling) (b : Bool) →
+  alone_after : (c : Calling) (b : Bool) →
       (list_any (λ t. false) (standing_in_call tree c) || (b || false)) ≡ b
-  alone_behind c b = ap (λ n. n || (b || false)) (list_any_never (standing_in_call tree c))
+  alone_after c b = ap (λ n. n || (b || false)) (list_any_never (standing_in_call tree c))
       ∙ or_nothing b
 
   pub call_parts : (c : Calling) (q : Rule) → any_finding (call_findings c) q ≡ call_test c q
@@ -216,10 +216,10 @@ module _ (tree : Tree) (task : TaskTree) (s : Scope) where
   call_parts c rule.Count = alone_before c _
   call_parts c rule.Place = or_nothing _
   call_parts c rule.Type = or_nothing _
-  call_parts c rule.Spaces = alone_behind c _
-  call_parts c rule.Partition = alone_behind c _
-  call_parts c rule.CallPrivilege = alone_behind c _
-  call_parts c rule.CallConstraint = alone_behind c _
+  call_parts c rule.Spaces = alone_after c _
+  call_parts c rule.Partition = alone_after c _
+  call_parts c rule.CallPrivilege = alone_after c _
+  call_parts c rule.CallConstraint = alone_after c _
   call_parts c q = or_nothing _ ∙ list_any_never (standing_in_call tree c)
 
   abbrev pub of_call : Calling → Finding
@@ -229,33 +229,33 @@ module _ (tree : Tree) (task : TaskTree) (s : Scope) where
   -- ---- shapes
 
   -- the test of each rule on an expression alone
-  abbrev pub shape_test : Shape → Rule → Bool
-  shape_test shape rule.Name = misnames tree s.names shape
-      || list_any (misnames_in_type tree s.names) (written_in shape)
-  shape_test shape rule.Type = mistypes tree s.known shape
-  shape_test shape rule.Count = list_any (miscounts_call tree) (call_in shape)
-      || list_any (miscounts_in_type tree) (written_in shape)
-  shape_test shape rule.Place = misplaces_in tree shape
-  shape_test shape rule.Read = lacks tree task s (reads_in tree shape)
-  shape_test shape rule.CallPrivilege =
-      lacks tree task s (flat_map (wanted_by_call tree) (call_in shape))
-  shape_test shape rule.CallConstraint =
-      list_any (breaks_constraint tree s.known) (call_in shape)
-  shape_test shape rule.Pointer =
-      mispoints_in shape || list_any (mispoints_in_type tree s.names) (written_in shape)
-  shape_test shape rule.Spaces =
-      list_any (λ (c : Calling). misfits_call (params_of tree c.task) c) (call_in shape)
-      || list_any (misfits_in_type tree s.names) (written_in shape)
-  shape_test shape rule.Partition =
-      list_any (λ (c : Calling). mispartitions_call (params_of tree c.task) c) (call_in shape)
-      || list_any (miscolours_in_type s.names) (written_in shape)
-  shape_test shape q = false
+  abbrev pub typed_form_test : TypedForm → Rule → Bool
+  typed_form_test typed_form rule.Name = has_unbound_name tree s.names typed_form
+      || list_any (unbound_name_in_type tree s.names) (written_in typed_form)
+  typed_form_test typed_form rule.Type = mistypes tree s.known typed_form
+  typed_form_test typed_form rule.Count = list_any (miscounts_call tree) (call_in typed_form)
+      || list_any (miscounts_in_type tree) (written_in typed_form)
+  typed_form_test typed_form rule.Place = misplaces_in tree typed_form
+  typed_form_test typed_form rule.Read = lacks tree task s (reads_in tree typed_form)
+  typed_form_test typed_form rule.CallPrivilege =
+      lacks tree task s (flat_map (wanted_by_call tree) (call_in typed_form))
+  typed_form_test typed_form rule.CallConstraint =
+      list_any (breaks_constraint tree s.known) (call_in typed_form)
+  typed_form_test typed_form rule.Pointer =
+      takes_of_wild_in typed_form || list_any (wrong_region_in_type tree s.names) (written_in typed_form)
+  typed_form_test typed_form rule.Spaces =
+      list_any (λ (c : Calling). misfits_call (params_of tree c.task) c) (call_in typed_form)
+      || list_any (misfits_in_type tree s.names) (written_in typed_form)
+  typed_form_test typed_form rule.Partition =
+      list_any (λ (c : Calling). mispartitions_call (params_of tree c.task) c) (call_in typed_form)
+      || list_any (miscolours_in_type s.names) (written_in typed_form)
+  typed_form_test typed_form q = false
 
   chain_parts : (cs : List Computing) (q : Rule) →
-      shape_test (chain_shape cs) q ≡ list_any (λ c. operator_test c q) cs
-  chain_parts cs rule.Type = ap (λ b. list_any misoperates cs || b)
-      (list_any_flat (misstands s.known) standing_in_chain cs ∙ list_any_never cs)
-      ∙ or_nothing (list_any misoperates cs)
+      typed_form_test (typed_chain cs) q ≡ list_any (λ c. operator_test c q) cs
+  chain_parts cs rule.Type = ap (λ b. list_any is_ill_typed_operation cs || b)
+      (list_any_flat (is_ill_typed_at_place s.known) standing_in_chain cs ∙ list_any_never cs)
+      ∙ or_nothing (list_any is_ill_typed_operation cs)
   chain_parts cs rule.Place = list_any_flat misplaces standing_in_chain cs
       ∙ list_any_same (λ c. list_any misplaces (standing_in_chain c))
       (λ (c : Computing). is_collection c.left || is_collection c.right)
@@ -264,52 +264,52 @@ module _ (tree : Tree) (task : TaskTree) (s : Scope) where
   chain_parts cs q = sym (list_any_never cs)
 
   prefix_parts : (gs : List Signing) (q : Rule) →
-      shape_test (prefix_shape gs) q ≡ list_any (λ g. sign_test g q) gs
+      typed_form_test (typed_prefix gs) q ≡ list_any (λ g. sign_test g q) gs
   prefix_parts gs rule.Type =
       let put : Signing → Standing = λ (g : Signing). stands g.operand (spot_of_sign g.sign) in
-      list_any_mapped (misstands s.known) put gs
-      ∙ list_any_same (λ g. misstands s.known (put g)) (λ g. misstands [] (put g))
+      list_any_mapped (is_ill_typed_at_place s.known) put gs
+      ∙ list_any_same (λ g. is_ill_typed_at_place s.known (put g)) (λ g. is_ill_typed_at_place [] (put g))
       (λ (g : Signing). looks_at_none g.sign g.operand) gs
     where
       looks_at_none : (sign : Sign) (t : StaticType) →
-          misstands s.known (stands t (spot_of_sign sign))
-          ≡ misstands [] (stands t (spot_of_sign sign))
+          is_ill_typed_at_place s.known (stands t (spot_of_sign sign))
+          ≡ is_ill_typed_at_place [] (stands t (spot_of_sign sign))
       looks_at_none Not t = refl
       looks_at_none Minus t = refl
   prefix_parts gs rule.Place = list_any_mapped misplaces
       (λ (g : Signing). stands g.operand (spot_of_sign g.sign)) gs
   prefix_parts gs q = sym (list_any_never gs)
 
-  call_shape_parts : (c : Calling) (q : Rule) → shape_test (call_shape c) q
+  typed_call_parts : (c : Calling) (q : Rule) → typed_form_test (typed_call c) q
       ≡ (call_test c q || only rule.Type (has_no_result tree c) q)
-  call_shape_parts c rule.Count = or_nothing _
-  call_shape_parts c rule.Type =
-      or_swapped (has_no_result tree c) (list_any (misstands s.known) (standing_in_call tree c))
-  call_shape_parts c rule.Place = sym (or_nothing _)
-  call_shape_parts c rule.CallPrivilege =
+  typed_call_parts c rule.Count = or_nothing _
+  typed_call_parts c rule.Type =
+      or_swapped (has_no_result tree c) (list_any (is_ill_typed_at_place s.known) (standing_in_call tree c))
+  typed_call_parts c rule.Place = sym (or_nothing _)
+  typed_call_parts c rule.CallPrivilege =
       ap (lacks tree task s) (append-nil (wanted_by_call tree c)) ∙ sym (or_nothing _)
-  call_shape_parts c rule.Spaces = or_nothing _
-  call_shape_parts c rule.Partition = or_nothing _
-  call_shape_parts c q = refl
+  typed_call_parts c rule.Spaces = or_nothing _
+  typed_call_parts c rule.Partition = or_nothing _
+  typed_call_parts c q = refl
 
   -- a test of each step that no step's reading is for
   unread : (ts : List Taking) (b : Bool) → b ≡ (b || list_any (λ (t : Taking). false) ts)
   unread ts b = sym (ap (λ n. b || n) (list_any_never ts) ∙ or_nothing b)
 
-  access_parts : (n : Name) (ts : List Taking) (q : Rule) → shape_test (access_shape n ts) q
+  access_parts : (n : Name) (ts : List Taking) (q : Rule) → typed_form_test (typed_access n ts) q
       ≡ (only rule.Name (not (is_bound s.names n)) q
       || (list_any (λ t. taking_test tree t q) ts || list_any (λ t. reading_test t q) ts))
   access_parts n ts rule.Name = or_nothing _
-      ∙ ap (λ b. not (is_bound s.names n) || b) (unread ts (list_any (misnames_field tree) ts))
-  access_parts n ts rule.Type = ap (λ b. list_any mistakes ts || b)
-      (list_any_flat (misstands s.known) standing_in_step ts
-      ∙ list_any_same (λ t. list_any (misstands s.known) (standing_in_step t))
-      (λ t. list_any (misstands []) (standing_in_step t)) looks_at_none ts)
-      ∙ sym (list_any_either mistakes (λ t. list_any (misstands []) (standing_in_step t)) ts)
+      ∙ ap (λ b. not (is_bound s.names n) || b) (unread ts (list_any (is_unknown_field tree) ts))
+  access_parts n ts rule.Type = ap (λ b. list_any is_ill_typed_step ts || b)
+      (list_any_flat (is_ill_typed_at_place s.known) standing_in_step ts
+      ∙ list_any_same (λ t. list_any (is_ill_typed_at_place s.known) (standing_in_step t))
+      (λ t. list_any (is_ill_typed_at_place []) (standing_in_step t)) looks_at_none ts)
+      ∙ sym (list_any_either is_ill_typed_step (λ t. list_any (is_ill_typed_at_place []) (standing_in_step t)) ts)
       ∙ unread ts _
     where
-      looks_at_none : (t : Taking) → list_any (misstands s.known) (standing_in_step t)
-          ≡ list_any (misstands []) (standing_in_step t)
+      looks_at_none : (t : Taking) → list_any (is_ill_typed_at_place s.known) (standing_in_step t)
+          ≡ list_any (is_ill_typed_at_place []) (standing_in_step t)
       looks_at_none (field_of t f) = refl
       looks_at_none (element_of t e) = refl
   access_parts n ts rule.Place =
@@ -321,32 +321,32 @@ module _ (tree : Tree) (task : TaskTree) (s : Scope) where
   access_parts n ts q = sym (ap (λ b. b || b) (list_any_never ts))
 
   convert_parts : (t : StaticType) (q : Rule) →
-      shape_test (convert_shape t) q ≡ standing_test [] (stands t number_spot) q
+      typed_form_test (typed_convert t) q ≡ standing_test [] (stands t number_spot) q
   convert_parts t rule.Type = or_nothing _
   convert_parts t rule.Place = or_nothing _
   convert_parts t q = refl
 
   is_null_parts : (t : StaticType) (q : Rule) →
-      shape_test (is_null_shape t) q ≡ standing_test [] (stands t pointer_spot) q
+      typed_form_test (typed_is_null t) q ≡ standing_test [] (stands t pointer_spot) q
   is_null_parts t rule.Type = or_nothing _
   is_null_parts t rule.Place = or_nothing _
   is_null_parts t q = refl
 
   space_parts : (t : StaticType) (q : Rule) →
-      shape_test (space_shape t) q ≡ standing_test [] (stands t integer_spot) q
+      typed_form_test (typed_space t) q ≡ standing_test [] (stands t integer_spot) q
   space_parts t rule.Type = or_nothing _
   space_parts t rule.Place = or_nothing _
   space_parts t q = refl
 
   null_parts : (p : PointerTerm) (q : Rule) →
-      shape_test (null_shape p) q ≡ type_test tree s.names (typed.Pointer p) q
+      typed_form_test (typed_null p) q ≡ type_test tree s.names (typed.Pointer p) q
   null_parts p rule.Name = or_nothing _
   null_parts p rule.Count = or_nothing _
   null_parts p rule.Pointer = or_nothing _
   null_parts p rule.Spaces = or_nothing _
   null_parts p q = refl
 
-  cast_parts : (p : PointerTerm) (t : StaticType) (q : Rule) → shape_test (cast_shape p t) q
+  cast_parts : (p : PointerTerm) (t : StaticType) (q : Rule) → typed_form_test (typed_cast p t) q
       ≡ (standing_test [] (stands t number_spot) q || type_test tree s.names (typed.Pointer p) q)
   cast_parts p t rule.Name = or_nothing _
   cast_parts p t rule.Count = or_nothing _
@@ -358,23 +358,23 @@ module _ (tree : Tree) (task : TaskTree) (s : Scope) where
 
   -- the test of each rule on any of these expressions alone
   abbrev pub found : List Expression → Rule → Bool
-  found es q = list_any (λ shape. shape_test shape q) (map (shape_of tree s) es)
+  found es q = list_any (λ typed_form. typed_form_test typed_form q) (map (typed_form_of tree s) es)
 
   pub found-append : (es others : List Expression) (q : Rule) →
       found (es ++ others) q ≡ (found es q || found others q)
-  found-append es others q = ap (list_any (λ shape. shape_test shape q))
-      (map-append (shape_of tree s) es others)
-      ∙ list_any-append (λ shape. shape_test shape q) (map (shape_of tree s) es)
-      (map (shape_of tree s) others)
+  found-append es others q = ap (list_any (λ typed_form. typed_form_test typed_form q))
+      (map-append (typed_form_of tree s) es others)
+      ∙ list_any-append (λ typed_form. typed_form_test typed_form q) (map (typed_form_of tree s) es)
+      (map (typed_form_of tree s) others)
 
   -- an expression whose own test comes behind those of its parts
   headed : (e : Expression) (inner : List Expression) (own : Rule → Bool) →
-      ((q : Rule) → shape_test (shape_of tree s e) q ≡ own q) → (q : Rule) →
+      ((q : Rule) → typed_form_test (typed_form_of tree s e) q ≡ own q) → (q : Rule) →
       (found inner q || own q) ≡ found (e ∷ inner) q
   headed e inner own h q = or_swapped (found inner q) (own q)
       ∙ ap (λ b. b || found inner q) (sym (h q))
 
-  constant_parts : (q : Rule) → false ≡ (shape_test constant_shape q || false)
+  constant_parts : (q : Rule) → false ≡ (typed_form_test typed_constant q || false)
   constant_parts rule.Name = refl
   constant_parts q = refl
 
@@ -387,37 +387,37 @@ module _ (tree : Tree) (task : TaskTree) (s : Scope) where
       || found (parts_of_steps steps) q
 
   chain_whole : (first : Expression) (rest : Links) (q : Rule) →
-      (found (parts first) q || links_test (known_type tree s first) rest q)
-      ≡ found (parts (chain_expr first rest)) q
+      (found (subexpressions first) q || links_test (known_type tree s first) rest q)
+      ≡ found (subexpressions (chain_expr first rest)) q
   chain_whole first rest q = let cs = computings tree s (known_type tree s first) rest in
-      or_turned (found (parts first) q) (list_any (λ c. operator_test c q) cs)
+      or_turned (found (subexpressions first) q) (list_any (λ c. operator_test c q) cs)
       (found (parts_of_links rest) q)
-      ∙ or_same (list_any (λ c. operator_test c q) cs) _ (shape_test (chain_shape cs) q) _
-      (sym (chain_parts cs q)) (sym (found-append (parts first) (parts_of_links rest) q))
+      ∙ or_same (list_any (λ c. operator_test c q) cs) _ (typed_form_test (typed_chain cs) q) _
+      (sym (chain_parts cs q)) (sym (found-append (subexpressions first) (parts_of_links rest) q))
 
   link_whole : (o : Operator) (t : StaticType) (e : Expression) (rest : Links) (q : Rule) →
       let c = computing o t (known_type tree s e) in
-      (found (parts e) q || (operator_test c q || links_test (type_behind_operator c) rest q))
+      (found (subexpressions e) q || (operator_test c q || links_test (known_type_after_operator c) rest q))
       ≡ links_test t (a_link o e rest) q
   link_whole o t e rest q = let c = computing o t (known_type tree s e) in
       let more = list_any (λ d. operator_test d q)
-      (computings tree s (type_behind_operator c) rest) in
-      or_placed (found (parts e) q) (operator_test c q) more (found (parts_of_links rest) q)
+      (computings tree s (known_type_after_operator c) rest) in
+      or_placed (found (subexpressions e) q) (operator_test c q) more (found (parts_of_links rest) q)
       ∙ ap (λ b. operator_test c q || more || b)
-      (sym (found-append (parts e) (parts_of_links rest) q))
+      (sym (found-append (subexpressions e) (parts_of_links rest) q))
 
   step_whole : (e : Expression) (k : Taking) (t : StaticType) (rest : Steps) (q : Rule) →
-      (found (parts e) q || (step_test k q || steps_test t rest q))
+      (found (subexpressions e) q || (step_test k q || steps_test t rest q))
       ≡ (step_test k q || list_any (λ j. step_test j q) (takings tree s t rest)
-      || found (parts e ++ parts_of_steps rest) q)
+      || found (subexpressions e ++ parts_of_steps rest) q)
   step_whole e k t rest q = let more = list_any (λ j. step_test j q) (takings tree s t rest) in
-      or_placed (found (parts e) q) (step_test k q) more (found (parts_of_steps rest) q)
+      or_placed (found (subexpressions e) q) (step_test k q) more (found (parts_of_steps rest) q)
       ∙ ap (λ b. step_test k q || more || b)
-      (sym (found-append (parts e) (parts_of_steps rest) q))
+      (sym (found-append (subexpressions e) (parts_of_steps rest) q))
 
   access_whole : (n : Name) (steps : Steps) (q : Rule) →
       (only rule.Name (not (is_bound s.names n)) q || steps_test (type_named s.names n) steps q)
-      ≡ found (parts (access_expr n steps)) q
+      ≡ found (subexpressions (access_expr n steps)) q
   access_whole n steps q =
       let ks = takings tree s (type_named s.names n) steps in
       let bound = only rule.Name (not (is_bound s.names n)) q in
@@ -429,26 +429,26 @@ module _ (tree : Tree) (task : TaskTree) (s : Scope) where
 
   mutual
     pub tells_expression : (e : Expression) →
-        Tells (first_in_expression tree task s e) (found (parts e))
+        Tells (first_in_expression tree task s e) (found (subexpressions e))
     tells_expression (number_expr z w) = λ q. sym (constant_parts q)
     tells_expression (truth_expr b) = λ q. sym (constant_parts q)
     tells_expression (chain_expr first rest) = let t = known_type tree s first in
         tells_two (first_in_expression tree task s first) (first_in_links tree task s t rest)
-        (found (parts first)) (links_test t rest) (found (parts (chain_expr first rest)))
+        (found (subexpressions first)) (links_test t rest) (found (subexpressions (chain_expr first rest)))
         (chain_whole first rest) (tells_expression first) (tells_links t rest)
     tells_expression (prefix_expr signs e) = let t = known_type tree s e in
         let own : Rule → Bool = λ q. list_any (λ g. sign_test g q) (signings signs t) in
-        tells_two (first_in_expression tree task s e) (first_of_signs signs t) (found (parts e)) own
-        (found (parts (prefix_expr signs e)))
-        (headed (prefix_expr signs e) (parts e) own (prefix_parts (signings signs t)))
+        tells_two (first_in_expression tree task s e) (first_of_signs signs t) (found (subexpressions e)) own
+        (found (subexpressions (prefix_expr signs e)))
+        (headed (prefix_expr signs e) (subexpressions e) own (prefix_parts (signings signs t)))
         (tells_expression e) (tells_signs signs t)
     tells_expression (call_expr name args) =
         let c = calling name (known_types tree s args) in
         let own : Rule → Bool = λ q. call_test c q || only rule.Type (has_no_result tree c) q in
         tells_two (first_in_args tree task s args)
         (option_or (first_of_call tree task s c) (rule_if (has_no_result tree c) rule.Type))
-        (found (parts_of_args args)) own (found (parts (call_expr name args)))
-        (headed (call_expr name args) (parts_of_args args) own (call_shape_parts c))
+        (found (parts_of_args args)) own (found (subexpressions (call_expr name args)))
+        (headed (call_expr name args) (parts_of_args args) own (typed_call_parts c))
         (tells_args args)
         (tells_or (first_of_call tree task s c) (rule_if (has_no_result tree c) rule.Type)
         (call_test c) (only rule.Type (has_no_result tree c)) (of_call c).tells
@@ -457,40 +457,40 @@ module _ (tree : Tree) (task : TaskTree) (s : Scope) where
         tells_two (rule_if (not (is_bound s.names n)) rule.Name)
         (first_in_steps tree task s t steps)
         (only rule.Name (not (is_bound s.names n))) (steps_test t steps)
-        (found (parts (access_expr n steps))) (access_whole n steps)
+        (found (subexpressions (access_expr n steps))) (access_whole n steps)
         (tells_if (not (is_bound s.names n)) rule.Name) (tells_steps t steps)
     tells_expression (convert_expr to e) = let t = stands (known_type tree s e) number_spot in
-        tells_two (first_in_expression tree task s e) (first_of_standing [] t) (found (parts e))
-        (standing_test [] t) (found (parts (convert_expr to e)))
-        (headed (convert_expr to e) (parts e) (standing_test [] t)
+        tells_two (first_in_expression tree task s e) (first_of_standing [] t) (found (subexpressions e))
+        (standing_test [] t) (found (subexpressions (convert_expr to e)))
+        (headed (convert_expr to e) (subexpressions e) (standing_test [] t)
         (convert_parts (known_type tree s e)))
         (tells_expression e) (of_standing [] t).tells
     tells_expression (is_null_expr e) = let t = stands (known_type tree s e) pointer_spot in
-        tells_two (first_in_expression tree task s e) (first_of_standing [] t) (found (parts e))
-        (standing_test [] t) (found (parts (is_null_expr e)))
-        (headed (is_null_expr e) (parts e) (standing_test [] t)
+        tells_two (first_in_expression tree task s e) (first_of_standing [] t) (found (subexpressions e))
+        (standing_test [] t) (found (subexpressions (is_null_expr e)))
+        (headed (is_null_expr e) (subexpressions e) (standing_test [] t)
         (is_null_parts (known_type tree s e)))
         (tells_expression e) (of_standing [] t).tells
     tells_expression (null_expr p) =
         let test = type_test tree s.names (typed.Pointer p) in
         tells_same (first_in_type tree s.names (typed.Pointer p)) test
-        (found (parts (null_expr p))) (headed (null_expr p) [] test (null_parts p))
+        (found (subexpressions (null_expr p))) (headed (null_expr p) [] test (null_parts p))
         (of_type tree s.names (typed.Pointer p)).tells
     tells_expression (cast_expr p e) = let t = stands (known_type tree s e) number_spot in
         let written = type_test tree s.names (typed.Pointer p) in
         let own : Rule → Bool = λ q. standing_test [] t q || written q in
         tells_two (first_in_expression tree task s e)
         (option_or (first_of_standing [] t) (first_in_type tree s.names (typed.Pointer p)))
-        (found (parts e)) own (found (parts (cast_expr p e)))
-        (headed (cast_expr p e) (parts e) own (cast_parts p (known_type tree s e)))
+        (found (subexpressions e)) own (found (subexpressions (cast_expr p e)))
+        (headed (cast_expr p e) (subexpressions e) own (cast_parts p (known_type tree s e)))
         (tells_expression e)
         (tells_or (first_of_standing [] t) (first_in_type tree s.names (typed.Pointer p))
         (standing_test [] t) written (of_standing [] t).tells
         (of_type tree s.names (typed.Pointer p)).tells)
     tells_expression (space_expr k e) = let t = stands (known_type tree s e) integer_spot in
-        tells_two (first_in_expression tree task s e) (first_of_standing [] t) (found (parts e))
-        (standing_test [] t) (found (parts (space_expr k e)))
-        (headed (space_expr k e) (parts e) (standing_test [] t)
+        tells_two (first_in_expression tree task s e) (first_of_standing [] t) (found (subexpressions e))
+        (standing_test [] t) (found (subexpressions (space_expr k e)))
+        (headed (space_expr k e) (subexpressions e) (standing_test [] t)
         (space_parts (known_type tree s e)))
         (tells_expression e) (of_standing [] t).tells
 
@@ -498,43 +498,43 @@ module _ (tree : Tree) (task : TaskTree) (s : Scope) where
         Tells (first_in_links tree task s t rest) (links_test t rest)
     tells_links t no_link = λ q. refl
     tells_links t (a_link o e rest) = let c = computing o t (known_type tree s e) in
-        let behind = type_behind_operator c in
-        let rest_told = first_in_links tree task s behind rest in
+        let after = known_type_after_operator c in
+        let rest_told = first_in_links tree task s after rest in
         tells_two (first_in_expression tree task s e) (option_or (first_of_operator c) rest_told)
-        (found (parts e)) (λ q. operator_test c q || links_test behind rest q)
+        (found (subexpressions e)) (λ q. operator_test c q || links_test after rest q)
         (links_test t (a_link o e rest)) (link_whole o t e rest) (tells_expression e)
-        (tells_or (first_of_operator c) rest_told (operator_test c) (links_test behind rest)
-        (of_operator c).tells (tells_links behind rest))
+        (tells_or (first_of_operator c) rest_told (operator_test c) (links_test after rest)
+        (of_operator c).tells (tells_links after rest))
 
     tells_args : (args : Expressions) →
         Tells (first_in_args tree task s args) (found (parts_of_args args))
     tells_args no_expr = λ q. refl
     tells_args (an_expr e es) =
         tells_two (first_in_expression tree task s e) (first_in_args tree task s es)
-        (found (parts e)) (found (parts_of_args es)) (found (parts_of_args (an_expr e es)))
-        (λ q. sym (found-append (parts e) (parts_of_args es) q))
+        (found (subexpressions e)) (found (parts_of_args es)) (found (parts_of_args (an_expr e es)))
+        (λ q. sym (found-append (subexpressions e) (parts_of_args es) q))
         (tells_expression e) (tells_args es)
 
     tells_steps : (t : StaticType) (steps : Steps) →
         Tells (first_in_steps tree task s t steps) (steps_test t steps)
     tells_steps t no_step = λ q. refl
     tells_steps t (field_step f rest) = let k = field_of t f in
-        let behind = type_behind_step tree k (type_of_field tree t f) in
-        tells_two (first_of_step tree task s k) (first_in_steps tree task s behind rest)
-        (step_test k) (steps_test behind rest) (steps_test t (field_step f rest))
+        let after = known_type_after_step tree k (type_of_field tree t f) in
+        tells_two (first_of_step tree task s k) (first_in_steps tree task s after rest)
+        (step_test k) (steps_test after rest) (steps_test t (field_step f rest))
         (λ q. sym (or_regrouped (step_test k q)
-        (list_any (λ j. step_test j q) (takings tree s behind rest))
+        (list_any (λ j. step_test j q) (takings tree s after rest))
         (found (parts_of_steps rest) q)))
-        (tells_step k) (tells_steps behind rest)
+        (tells_step k) (tells_steps after rest)
     tells_steps t (at_step e rest) = let k = element_of t (known_type tree s e) in
-        let behind = type_behind_step tree k (type_of_element s t e) in
-        let rest_told = first_in_steps tree task s behind rest in
+        let after = known_type_after_step tree k (type_of_element s t e) in
+        let rest_told = first_in_steps tree task s after rest in
         tells_two (first_in_expression tree task s e)
         (option_or (first_of_step tree task s k) rest_told)
-        (found (parts e)) (λ q. step_test k q || steps_test behind rest q)
-        (steps_test t (at_step e rest)) (step_whole e k behind rest) (tells_expression e)
-        (tells_or (first_of_step tree task s k) rest_told (step_test k) (steps_test behind rest)
-        (tells_step k) (tells_steps behind rest))
+        (found (subexpressions e)) (λ q. step_test k q || steps_test after rest q)
+        (steps_test t (at_step e rest)) (step_whole e k after rest) (tells_expression e)
+        (tells_or (first_of_step tree task s k) rest_told (step_test k) (steps_test after rest)
+        (tells_step k) (tells_steps after rest))
 
   -- ---- the target of an assignment
 
@@ -552,23 +552,23 @@ module _ (tree : Tree) (task : TaskTree) (s : Scope) where
       ∙ ap (λ b. b || t) (or_crossed (taking_test tree k q) (reading_test k q) u v)
 
   element_whole : (e : Expression) (k : Taking) (u v : Bool) (rest : Steps) (q : Rule) →
-      (found (parts e) q || (step_test k q || (u || v || found (parts_of_steps rest) q)))
+      (found (subexpressions e) q || (step_test k q || (u || v || found (parts_of_steps rest) q)))
       ≡ (taking_test tree k q || u || (reading_test k q || v)
-      || found (parts e ++ parts_of_steps rest) q)
+      || found (subexpressions e ++ parts_of_steps rest) q)
   element_whole e k u v rest q =
-      or_placed (found (parts e) q) (step_test k q) (u || v) (found (parts_of_steps rest) q)
-      ∙ or_same (step_test k q || (u || v)) (found (parts e) q || found (parts_of_steps rest) q)
+      or_placed (found (subexpressions e) q) (step_test k q) (u || v) (found (parts_of_steps rest) q)
+      ∙ or_same (step_test k q || (u || v)) (found (subexpressions e) q || found (parts_of_steps rest) q)
       (taking_test tree k q || u || (reading_test k q || v))
-      (found (parts e ++ parts_of_steps rest) q)
+      (found (subexpressions e ++ parts_of_steps rest) q)
       (or_crossed (taking_test tree k q) (reading_test k q) u v)
-      (sym (found-append (parts e) (parts_of_steps rest) q))
+      (sym (found-append (subexpressions e) (parts_of_steps rest) q))
 
   last_whole : (a : Bool) → a ≡ (a || false || false || false)
   last_whole a = sym (or_nothing (a || false || false) ∙ or_nothing (a || false) ∙ or_nothing a)
 
   target_field : (t : StaticType) (f : Name) (rest : Steps) →
-      let behind = type_behind_step tree (field_of t f) (type_of_field tree t f) in
-      Tells (first_in_target_steps tree task s behind rest) (target_steps_test behind rest) →
+      let after = known_type_after_step tree (field_of t f) (type_of_field tree t f) in
+      Tells (first_in_target_steps tree task s after rest) (target_steps_test after rest) →
       Tells (first_in_target_steps tree task s t (field_step f rest))
       (target_steps_test t (field_step f rest))
   target_field t f no_step h = tells_same (first_of_taking tree (field_of t f))
@@ -576,20 +576,20 @@ module _ (tree : Tree) (task : TaskTree) (s : Scope) where
       (λ q. last_whole (taking_test tree (field_of t f) q)) (of_taking tree (field_of t f)).tells
   target_field t f (field_step g more) h = let k = field_of t f in
       let rest = field_step g more in
-      let behind = type_behind_step tree k (type_of_field tree t f) in
-      tells_two (first_of_step tree task s k) (first_in_target_steps tree task s behind rest)
-      (step_test k) (target_steps_test behind rest) (target_steps_test t (field_step f rest))
-      (λ q. field_whole k (list_any (λ j. taking_test tree j q) (takings tree s behind rest))
-      (list_any (λ j. reading_test j q) (takings tree s behind (read_steps rest)))
+      let after = known_type_after_step tree k (type_of_field tree t f) in
+      tells_two (first_of_step tree task s k) (first_in_target_steps tree task s after rest)
+      (step_test k) (target_steps_test after rest) (target_steps_test t (field_step f rest))
+      (λ q. field_whole k (list_any (λ j. taking_test tree j q) (takings tree s after rest))
+      (list_any (λ j. reading_test j q) (takings tree s after (read_steps rest)))
       (found (parts_of_steps rest) q) q)
       (tells_step k) h
   target_field t f (at_step e more) h = let k = field_of t f in
       let rest = at_step e more in
-      let behind = type_behind_step tree k (type_of_field tree t f) in
-      tells_two (first_of_step tree task s k) (first_in_target_steps tree task s behind rest)
-      (step_test k) (target_steps_test behind rest) (target_steps_test t (field_step f rest))
-      (λ q. field_whole k (list_any (λ j. taking_test tree j q) (takings tree s behind rest))
-      (list_any (λ j. reading_test j q) (takings tree s behind (read_steps rest)))
+      let after = known_type_after_step tree k (type_of_field tree t f) in
+      tells_two (first_of_step tree task s k) (first_in_target_steps tree task s after rest)
+      (step_test k) (target_steps_test after rest) (target_steps_test t (field_step f rest))
+      (λ q. field_whole k (list_any (λ j. taking_test tree j q) (takings tree s after rest))
+      (list_any (λ j. reading_test j q) (takings tree s after (read_steps rest)))
       (found (parts_of_steps rest) q) q)
       (tells_step k) h
 
@@ -597,20 +597,20 @@ module _ (tree : Tree) (task : TaskTree) (s : Scope) where
       Tells (first_in_target_steps tree task s t steps) (target_steps_test t steps)
   tells_target_steps t no_step = λ q. refl
   tells_target_steps t (field_step f rest) = target_field t f rest
-      (tells_target_steps (type_behind_step tree (field_of t f) (type_of_field tree t f)) rest)
+      (tells_target_steps (known_type_after_step tree (field_of t f) (type_of_field tree t f)) rest)
   tells_target_steps t (at_step e rest) = let k = element_of t (known_type tree s e) in
-      let behind = type_behind_step tree k (type_of_element s t e) in
-      let rest_told = first_in_target_steps tree task s behind rest in
+      let after = known_type_after_step tree k (type_of_element s t e) in
+      let rest_told = first_in_target_steps tree task s after rest in
       tells_two (first_in_expression tree task s e)
       (option_or (first_of_step tree task s k) rest_told)
-      (found (parts e)) (λ q. step_test k q || target_steps_test behind rest q)
+      (found (subexpressions e)) (λ q. step_test k q || target_steps_test after rest q)
       (target_steps_test t (at_step e rest))
       (λ q. element_whole e k
-      (list_any (λ j. taking_test tree j q) (takings tree s behind rest))
-      (list_any (λ j. reading_test j q) (takings tree s behind (read_steps rest))) rest q)
+      (list_any (λ j. taking_test tree j q) (takings tree s after rest))
+      (list_any (λ j. reading_test j q) (takings tree s after (read_steps rest))) rest q)
       (tells_expression e)
       (tells_or (first_of_step tree task s k) rest_told (step_test k)
-      (target_steps_test behind rest) (tells_step k) (tells_target_steps behind rest))
+      (target_steps_test after rest) (tells_step k) (tells_target_steps after rest))
 
   -- what stands in the steps stands in those that are read
   read_field_parts : (f : Name) (rest : Steps) →
@@ -623,19 +623,19 @@ module _ (tree : Tree) (task : TaskTree) (s : Scope) where
   read_parts : (steps : Steps) → parts_of_steps (read_steps steps) ≡ parts_of_steps steps
   read_parts no_step = refl
   read_parts (field_step f rest) = read_field_parts f rest (read_parts rest)
-  read_parts (at_step e rest) = ap (λ es. parts e ++ es) (read_parts rest)
+  read_parts (at_step e rest) = ap (λ es. subexpressions e ++ es) (read_parts rest)
 
   -- a target's fields are read but for the last
   abbrev pub target_test : Name → Steps → Rule → Bool
-  target_test n steps rule.Read = found (parts (access_expr n (read_steps steps))) rule.Read
-  target_test n steps q = found (parts (access_expr n steps)) q
+  target_test n steps rule.Read = found (subexpressions (access_expr n (read_steps steps))) rule.Read
+  target_test n steps q = found (subexpressions (access_expr n steps)) q
 
   -- a rule by which nothing is read
   not_of_reading : (n : Name) (steps : Steps) (q : Rule) →
       ((ks : List Taking) → list_any (λ k. reading_test k q) ks ≡ false) →
       (only rule.Name (not (is_bound s.names n)) q
       || target_steps_test (type_named s.names n) steps q)
-      ≡ found (parts (access_expr n steps)) q
+      ≡ found (subexpressions (access_expr n steps)) q
   not_of_reading n steps q h = let t = type_named s.names n in
       let bound = only rule.Name (not (is_bound s.names n)) q in
       let taken = list_any (λ k. taking_test tree k q) (takings tree s t steps) in
@@ -656,7 +656,7 @@ module _ (tree : Tree) (task : TaskTree) (s : Scope) where
       (list_any_never (takings tree s t steps) ∙ sym (list_any_never read))
       ∙ or_same (list_any (λ (k : Taking). false) read || reads)
       (found (parts_of_steps steps) rule.Read)
-      (shape_test (access_shape n read) rule.Read)
+      (typed_form_test (typed_access n read) rule.Read)
       (found (parts_of_steps (read_steps steps)) rule.Read)
       (sym (access_parts n read rule.Read))
       (ap (λ es. found es rule.Read) (sym (read_parts steps)))

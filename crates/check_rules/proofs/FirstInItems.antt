@@ -7,7 +7,7 @@ use Rattle.regent_tree.proofs.Members.{Contains-from_Has, Has, Has-append_left, 
 use Rattle.regent_tree.specs.Syntax.{ItemForm, ItemTree, Tree, space_item, task_item, import_item}
 use Rattle.regent_tree.specs.declared.program.FieldSpace.{FieldSpace}
 use Rattle.regent_tree.specs.declared.types.Param.{Param}
-use Rattle.check_rules.specs.Breaches.{Breach, breaches, breaks, broken, each_once, field_lines, lines_of_items, misnames_declared, constraint_lines, count_lines, declared_lines, format_lines, interference_lines, launch_lines, name_lines, partition_lines, place_lines, pointer_lines, privilege_lines, read_lines, reduce_lines, return_lines, space_lines, start_lines, target_lines, twice_lines, type_lines, write_lines}
+use Rattle.check_rules.specs.Breaches.{Breach, breaches, breaks, broken, each_once, field_lines, lines_of_items, unbound_name_in_declaration, constraint_lines, count_lines, declared_lines, format_lines, interference_lines, launch_lines, name_lines, partition_lines, place_lines, pointer_lines, privilege_lines, read_lines, reduce_lines, return_lines, space_lines, entry_lines, target_lines, twice_lines, type_lines, write_lines}
 use Rattle.check_rules.specs.Clauses.{misdeclares_item}
 use Rattle.check_rules.specs.Counts.{miscounts_in_type}
 use Rattle.check_rules.specs.Bodies.{body_scope}
@@ -15,12 +15,12 @@ use Rattle.check_rules.specs.Declarations.{is_no_field_type}
 use Rattle.check_rules.specs.FirstInItems.{first_breach, first_declared, first_in_body, first_in_fields, first_of_field}
 use Rattle.check_rules.specs.Laws.{FirstIsOne, NoneWithoutFirst}
 use Rattle.check_rules.specs.Partitions.{miscolours_in_type}
-use Rattle.check_rules.specs.Pointers.{mispoints_in_type}
+use Rattle.check_rules.specs.Pointers.{wrong_region_in_type}
 use Rattle.check_rules.specs.Repeats.{alias_given, repeats, repeats_within, space_given, task_given}
 use Rattle.check_rules.specs.Results.{misdeclares_result}
 use Rattle.check_rules.specs.Rules.{first_in, number_of}
 use Rattle.check_rules.specs.Spaces.{misfits_in_type}
-use Rattle.check_rules.specs.Starting.{misstarts}
+use Rattle.check_rules.specs.Entries.{wrong_entry_lines}
 use Rattle.check_rules.specs.Visits.{Declaration, Visit, declarations_of_item, lines_of_declarations, lines_where, visits, visits_of_item}
 use Rattle.check_rules.specs.declared.rule.Rule.{Rule}
 use Rattle.check_rules.specs.declared.rule.Rule.TheVariants as rule
@@ -48,7 +48,7 @@ rule_lines tree rule.Spaces = space_lines tree
 rule_lines tree rule.Partition = partition_lines tree
 rule_lines tree rule.Declared = declared_lines tree
 rule_lines tree rule.Return = return_lines tree
-rule_lines tree rule.Start = start_lines tree
+rule_lines tree rule.Start = entry_lines tree
 rule_lines tree rule.NotLaunch = launch_lines tree
 rule_lines tree rule.Interferes = interference_lines tree
 
@@ -56,22 +56,22 @@ rule_lines tree rule.Interferes = interference_lines tree
 
 -- that a declared type says one, and what it says
 abbrev saying_test : Tree → Declaration → Rule → Bool
-saying_test tree d rule.Name = misnames_declared tree d
+saying_test tree d rule.Name = unbound_name_in_declaration tree d
 saying_test tree d rule.Count = miscounts_in_type tree d.param.term
 saying_test tree d q = false
 
 abbrev said_test : Tree → Declaration → Rule → Bool
-said_test tree d rule.Pointer = mispoints_in_type tree d.names d.param.term
+said_test tree d rule.Pointer = wrong_region_in_type tree d.names d.param.term
 said_test tree d rule.Spaces = misfits_in_type tree d.names d.param.term
 said_test tree d rule.Partition = miscolours_in_type d.names d.param.term
 said_test tree d q = false
 
 abbrev saying_asked : Tree → Declaration → List Finding
-saying_asked tree d = asked (misnames_declared tree d) rule.Name
+saying_asked tree d = asked (unbound_name_in_declaration tree d) rule.Name
     ∷ asked (miscounts_in_type tree d.param.term) rule.Count ∷ []
 
 abbrev said_asked : Tree → Declaration → List Finding
-said_asked tree d = asked (mispoints_in_type tree d.names d.param.term) rule.Pointer
+said_asked tree d = asked (wrong_region_in_type tree d.names d.param.term) rule.Pointer
     ∷ asked (misfits_in_type tree d.names d.param.term) rule.Spaces
     ∷ asked (miscolours_in_type d.names d.param.term) rule.Partition ∷ []
 
@@ -131,13 +131,13 @@ module _ (tree : Tree) where
 
   -- the lines on which an item's declarations breach a rule
   abbrev declared_at : ItemTree → Rule → List ℕ
-  declared_at i rule.Name = declared_passing (misnames_declared tree) i
+  declared_at i rule.Name = declared_passing (unbound_name_in_declaration tree) i
   declared_at i rule.Twice = repeats_within i.form
   declared_at i rule.Type = field_lines i.form
   declared_at i rule.Count =
       declared_passing (λ (d : Declaration). miscounts_in_type tree d.param.term) i
   declared_at i rule.Pointer =
-      declared_passing (λ (d : Declaration). mispoints_in_type tree d.names d.param.term) i
+      declared_passing (λ (d : Declaration). wrong_region_in_type tree d.names d.param.term) i
   declared_at i rule.Spaces =
       declared_passing (λ (d : Declaration). misfits_in_type tree d.names d.param.term) i
   declared_at i rule.Partition =
@@ -184,7 +184,7 @@ module _ (tree : Tree) where
   declared_whole : (i : ItemTree) (q : Rule) → part_lines (declared_parts i) q ≡ declared_at i q
   declared_whole i rule.Name = let ds = declarations_of_item tree i.form in
       first_alone ds (flat_map (λ d. (saying_part tree d).lines rule.Name) ds)
-      ∙ each_declared (misnames_declared tree) i
+      ∙ each_declared (unbound_name_in_declaration tree) i
   declared_whole i rule.Twice = ap (λ ls. repeats_within i.form ++ ls)
       (both_alone (declarations_of_item tree i.form) []) ∙ append-nil (repeats_within i.form)
   declared_whole i rule.Type = both_alone (declarations_of_item tree i.form) (field_lines i.form)
@@ -193,7 +193,7 @@ module _ (tree : Tree) where
       ∙ each_declared (λ (d : Declaration). miscounts_in_type tree d.param.term) i
   declared_whole i rule.Pointer = let ds = declarations_of_item tree i.form in
       last_alone ds (flat_map (λ d. (said_part tree d).lines rule.Pointer) ds)
-      ∙ each_declared (λ (d : Declaration). mispoints_in_type tree d.names d.param.term) i
+      ∙ each_declared (λ (d : Declaration). wrong_region_in_type tree d.names d.param.term) i
   declared_whole i rule.Spaces = let ds = declarations_of_item tree i.form in
       last_alone ds (flat_map (λ d. (said_part tree d).lines rule.Spaces) ds)
       ∙ each_declared (λ (d : Declaration). misfits_in_type tree d.names d.param.term) i
@@ -247,7 +247,7 @@ module _ (tree : Tree) where
 
   abbrev text_parts : List Part
   text_parts = repeated_part
-      ∷ part_of_lines rule.Start (misstarts tree)
+      ∷ part_of_lines rule.Start (wrong_entry_lines tree)
       ∷ part_of_all declared_part tree
       ∷ part_of_all body_part tree
       ∷ []
@@ -289,9 +289,9 @@ module _ (tree : Tree) where
   repeated_whole a b c = ap (λ ls. a ++ (b ++ ls)) (append-nil c) ∙ sym (append_assoc a b c)
 
   joined_whole : (q : Rule) →
-      repeated_part.lines q ++ (lines_of_rule rule.Start (misstarts tree) q
+      repeated_part.lines q ++ (lines_of_rule rule.Start (wrong_entry_lines tree) q
       ++ (all_declared q ++ all_stated q)) ≡ rule_lines tree q
-  joined_whole rule.Name = by_declarations (misnames_declared tree) (all_stated rule.Name)
+  joined_whole rule.Name = by_declarations (unbound_name_in_declaration tree) (all_stated rule.Name)
   joined_whole rule.Twice =
       ap (λ ls. repeated_part.lines rule.Twice ++ ls) (unstated (all_declared rule.Twice))
       ∙ ap (λ ls. ls ++ all_declared rule.Twice)
@@ -301,7 +301,7 @@ module _ (tree : Tree) where
   joined_whole rule.Count = by_declarations
       (λ (d : Declaration). miscounts_in_type tree d.param.term) (all_stated rule.Count)
   joined_whole rule.Pointer = by_declarations
-      (λ (d : Declaration). mispoints_in_type tree d.names d.param.term) (all_stated rule.Pointer)
+      (λ (d : Declaration). wrong_region_in_type tree d.names d.param.term) (all_stated rule.Pointer)
   joined_whole rule.Spaces = by_declarations
       (λ (d : Declaration). misfits_in_type tree d.names d.param.term) (all_stated rule.Spaces)
   joined_whole rule.Partition = by_declarations
@@ -311,13 +311,13 @@ module _ (tree : Tree) where
   joined_whole rule.Return =
       ap (λ ls. ls ++ all_stated rule.Return) (by_items misdeclares_result)
   joined_whole rule.Start =
-      ap (λ ls. misstarts tree ++ ls) (undeclared (all_stated rule.Start))
-      ∙ unstated (misstarts tree)
+      ap (λ ls. wrong_entry_lines tree ++ ls) (undeclared (all_stated rule.Start))
+      ∙ unstated (wrong_entry_lines tree)
   joined_whole rule.Interferes = undeclared (all_stated rule.Interferes) ∙ unstated []
   joined_whole q = undeclared (all_stated q)
 
   text_whole : (q : Rule) → part_lines text_parts q ≡ rule_lines tree q
-  text_whole q = ap (λ ls. repeated_part.lines q ++ (lines_of_rule rule.Start (misstarts tree) q
+  text_whole q = ap (λ ls. repeated_part.lines q ++ (lines_of_rule rule.Start (wrong_entry_lines tree) q
       ++ (all_declared q ++ ls))) (stated_whole q) ∙ joined_whole q
 
   pub tells_breach : TellsLine (first_breach tree) (rule_lines tree)

@@ -8,38 +8,38 @@ use Rattle.std.proofs.lemmas.List.Concat.{flat_map-append}
 use Rattle.std.proofs.lemmas.List.Folds.{list_any-append}
 use Rattle.regent_tree.specs.Lookup.{has_task}
 use Rattle.regent_tree.specs.Scopes.{Scope, past}
-use Rattle.regent_tree.specs.Syntax.{Arms, Block, Expression, Form, Otherwise, Start, TaskTree, Tree, a_statement, an_arm, assert_form, assign_form, call_form, do_form, else_block, for_in_form, for_to_form, if_form, no_arm, no_else, no_statement, then_statement, var_form, while_form, access_expr}
+use Rattle.regent_tree.specs.Syntax.{Arms, Block, Expression, Form, Otherwise, Initializer, TaskTree, Tree, a_statement, an_arm, assert_form, assign_form, call_form, do_form, else_block, for_in_form, for_to_form, if_form, no_arm, no_else, no_statement, then_statement, var_form, while_form, access_expr}
 use Rattle.regent_tree.specs.declared.rights.Wanted.{Wanted}
 use Rattle.regent_tree.specs.declared.types.TypeTerm.{TypeTerm}
 use Rattle.regent_tree.specs.declared.typing.Bound.{Bound}
-use Rattle.check_rules.specs.Breaches.{has_no_type, misbegins_at, miscounts_at, misfits_at, misnames_at, mispartitions_at, misplaces_at, mispoints_at, mistypes_at, reads_at}
+use Rattle.check_rules.specs.Breaches.{has_no_type, wrong_initializer_at, miscounts_at, misfits_at, unbound_name_at, mispartitions_at, misplaces_at, wrong_pointer_at, mistypes_at, reads_at}
 use Rattle.check_rules.specs.Constraints.{breaks_constraint}
 use Rattle.check_rules.specs.Counts.{miscounts_call, miscounts_in_type}
 use Rattle.check_rules.specs.Declarations.{params_of}
 use Rattle.check_rules.specs.FirstInExpressions.{first_in_expression}
-use Rattle.check_rules.specs.FirstInStatements.{first_in_arms, first_in_block, first_in_else, first_in_targets, first_of_form, first_of_start, first_within, told_on}
+use Rattle.check_rules.specs.FirstInStatements.{first_in_arms, first_in_block, first_in_else, first_in_targets, first_of_form, first_of_initializer, first_within, told_on}
 use Rattle.check_rules.specs.Formats.{misprints_form}
 use Rattle.check_rules.specs.KnownTypes.{known_types}
 use Rattle.check_rules.specs.Launches.{is_demanded}
-use Rattle.check_rules.specs.Names.{misnames, misnames_form, misnames_in_type, misnames_start, misnames_task}
-use Rattle.check_rules.specs.Partitions.{miscolours_in_type, miscolours_start, mispartitions_call, mispartitions_start}
-use Rattle.check_rules.specs.Parts.{parts}
+use Rattle.check_rules.specs.Names.{has_unbound_name, unbound_name_in_form, unbound_name_in_type, unbound_name_in_initializer, is_unknown_task}
+use Rattle.check_rules.specs.Partitions.{miscolours_in_type, miscolours_initializer, mispartitions_call, mispartitions_initializer}
+use Rattle.check_rules.specs.Parts.{subexpressions}
 use Rattle.check_rules.specs.Places.{misplaces}
-use Rattle.check_rules.specs.Pointers.{mispoints_in, mispoints_in_type}
-use Rattle.check_rules.specs.Privileges.{lacks, may_do, read_steps, read_targets, reads_in, reads_in_start, reductions_by, rights_declared, wanted_by_call, writes_by}
+use Rattle.check_rules.specs.Pointers.{takes_of_wild_in, wrong_region_in_type}
+use Rattle.check_rules.specs.Privileges.{lacks, may_do, read_steps, read_targets, reads_in, reads_in_initializer, reductions_by, rights_declared, wanted_by_call, writes_by}
 use Rattle.check_rules.specs.Results.{misreturns}
-use Rattle.check_rules.specs.Shapes.{Calling, Shape, call_in, calling, written_in}
+use Rattle.check_rules.specs.TypedForms.{Calling, TypedForm, call_in, calling, written_in}
 use Rattle.check_rules.specs.Spaces.{misfits_call, misfits_in_type}
 use Rattle.check_rules.specs.Standing.{Standing, standing_in_call}
 use Rattle.check_rules.specs.Statements.{standing_in_form}
 use Rattle.check_rules.specs.Targets.{mistargets_form}
-use Rattle.check_rules.specs.Types.{misstands}
-use Rattle.check_rules.specs.Variables.{scope_behind, scope_behind_arms, scope_behind_block, scope_in_count, scope_in_loop, types_in_start, written_in_start}
-use Rattle.check_rules.specs.Visits.{Visit, any_written, call_of_form, calls_at, declared_at, heads_of, shapes_at, shapes_in, start_at, targets_of, visits_in, visits_in_arms, visits_in_else, visits_within}
+use Rattle.check_rules.specs.Types.{is_ill_typed_at_place}
+use Rattle.check_rules.specs.Variables.{known_scope_after, known_scope_after_arms, known_scope_after_block, scope_in_count, scope_in_loop, types_in_initializer, written_in_initializer}
+use Rattle.check_rules.specs.Visits.{Visit, any_written, call_of_form, calls_at, declared_at, heads_of, typed_forms_at, typed_forms_in, initializer_at, targets_of, visits_in, visits_in_arms, visits_in_else, visits_within}
 use Rattle.check_rules.specs.declared.rule.Rule.{Rule}
 use Rattle.check_rules.specs.declared.rule.Rule.TheVariants as rule
 use Rattle.check_rules.proofs.Exchange.{Finding, Tells, any_finding, asked, asked_of_all, by_test, list_any_either, list_any_flat, list_any_never, list_any_same, not_all, only, or_nothing, or_regrouped, or_same, tells_all, tells_same}
-use Rattle.check_rules.proofs.FirstInExpressions.{call_test, found, found-append, lacks_flat, of_call, of_standing, of_type, shape_test, standing_test, target_test, tells_expression, tells_target, type_test}
+use Rattle.check_rules.proofs.FirstInExpressions.{call_test, found, found-append, lacks_flat, of_call, of_standing, of_type, typed_form_test, standing_test, target_test, tells_expression, tells_target, type_test}
 use Rattle.check_rules.proofs.Lines.{TellsLine, line_if, line_or, line_told, line_two, lines_passing, lines_passing-append, lines_passing-cons}
 use Rattle.check_rules.proofs.Joined.{join_alone, join_calls, join_names, join_partitions, join_places, join_reads, join_types, join_written}
 
@@ -54,53 +54,53 @@ lacks-append tree task s ws others =
     (not (list_all may others)) (sym (not_all may ws)) (sym (not_all may others))
 
 module _ (tree : Tree) (task : TaskTree) (s : Scope) where
-  -- ---- start values
+  -- ---- initializers
 
-  abbrev pub start_test : Start → Rule → Bool
-  start_test i rule.Name = list_any (misnames_in_type tree s.names) (written_in_start i)
-      || misnames_start tree s.names i
-  start_test i rule.Count = list_any (miscounts_in_type tree) (written_in_start i)
-  start_test i rule.Read = lacks tree task s (reads_in_start tree s.names i)
-  start_test i rule.Pointer = list_any (mispoints_in_type tree s.names) (written_in_start i)
-  start_test i rule.Spaces = list_any (misfits_in_type tree s.names) (written_in_start i)
-  start_test i rule.Partition = list_any (miscolours_in_type s.names) (written_in_start i)
-      || mispartitions_start tree s i || miscolours_start i (types_in_start tree s i)
-  start_test i q = false
+  abbrev pub initializer_test : Initializer → Rule → Bool
+  initializer_test i rule.Name = list_any (unbound_name_in_type tree s.names) (written_in_initializer i)
+      || unbound_name_in_initializer tree s.names i
+  initializer_test i rule.Count = list_any (miscounts_in_type tree) (written_in_initializer i)
+  initializer_test i rule.Read = lacks tree task s (reads_in_initializer tree s.names i)
+  initializer_test i rule.Pointer = list_any (wrong_region_in_type tree s.names) (written_in_initializer i)
+  initializer_test i rule.Spaces = list_any (misfits_in_type tree s.names) (written_in_initializer i)
+  initializer_test i rule.Partition = list_any (miscolours_in_type s.names) (written_in_initializer i)
+      || mispartitions_initializer tree s i || miscolours_initializer i (types_in_initializer tree s i)
+  initializer_test i q = false
 
-  abbrev pub start_findings : Start → List Finding
-  start_findings i = asked_of_all (of_type tree s.names) (written_in_start i)
-      ∷ asked (misnames_start tree s.names i) rule.Name
-      ∷ asked (mispartitions_start tree s i) rule.Partition
-      ∷ asked (miscolours_start i (types_in_start tree s i)) rule.Partition
-      ∷ asked (lacks tree task s (reads_in_start tree s.names i)) rule.Read
+  abbrev pub initializer_findings : Initializer → List Finding
+  initializer_findings i = asked_of_all (of_type tree s.names) (written_in_initializer i)
+      ∷ asked (unbound_name_in_initializer tree s.names i) rule.Name
+      ∷ asked (mispartitions_initializer tree s i) rule.Partition
+      ∷ asked (miscolours_initializer i (types_in_initializer tree s i)) rule.Partition
+      ∷ asked (lacks tree task s (reads_in_initializer tree s.names i)) rule.Read
       ∷ []
 
-  pub start_parts : (i : Start) (q : Rule) → any_finding (start_findings i) q ≡ start_test i q
-  start_parts i rule.Name =
-      ap (λ b. list_any (misnames_in_type tree s.names) (written_in_start i) || b) (or_nothing _)
-  start_parts i rule.Count = or_nothing _
-  start_parts i rule.Pointer = or_nothing _
-  start_parts i rule.Spaces = or_nothing _
-  start_parts i rule.Partition =
-      let written = list_any (miscolours_in_type s.names) (written_in_start i) in
-      ap (λ b. written || (mispartitions_start tree s i || b)) (or_nothing _)
-      ∙ sym (or_regrouped written (mispartitions_start tree s i)
-      (miscolours_start i (types_in_start tree s i)))
-  start_parts i rule.Read =
-      ap (λ b. b || (lacks tree task s (reads_in_start tree s.names i) || false))
-      (list_any_never (written_in_start i)) ∙ or_nothing _
-  start_parts i q = or_nothing _ ∙ list_any_never (written_in_start i)
+  pub initializer_parts : (i : Initializer) (q : Rule) → any_finding (initializer_findings i) q ≡ initializer_test i q
+  initializer_parts i rule.Name =
+      ap (λ b. list_any (unbound_name_in_type tree s.names) (written_in_initializer i) || b) (or_nothing _)
+  initializer_parts i rule.Count = or_nothing _
+  initializer_parts i rule.Pointer = or_nothing _
+  initializer_parts i rule.Spaces = or_nothing _
+  initializer_parts i rule.Partition =
+      let written = list_any (miscolours_in_type s.names) (written_in_initializer i) in
+      ap (λ b. written || (mispartitions_initializer tree s i || b)) (or_nothing _)
+      ∙ sym (or_regrouped written (mispartitions_initializer tree s i)
+      (miscolours_initializer i (types_in_initializer tree s i)))
+  initializer_parts i rule.Read =
+      ap (λ b. b || (lacks tree task s (reads_in_initializer tree s.names i) || false))
+      (list_any_never (written_in_initializer i)) ∙ or_nothing _
+  initializer_parts i q = or_nothing _ ∙ list_any_never (written_in_initializer i)
 
-  abbrev pub of_start : Start → Finding
-  of_start i = by_test (first_of_start tree task s i) (start_test i) (start_findings i) refl
-      (start_parts i)
+  abbrev pub of_initializer : Initializer → Finding
+  of_initializer i = by_test (first_of_initializer tree task s i) (initializer_test i) (initializer_findings i) refl
+      (initializer_parts i)
 
   -- ---- expressions and targets
 
   abbrev pub of_expression : Expression → Finding
   of_expression e = record {
     told = first_in_expression tree task s e;
-    test = found tree task s (parts e);
+    test = found tree task s (subexpressions e);
     tells = tells_expression tree task s e;
   }
 
@@ -111,7 +111,7 @@ module _ (tree : Tree) (task : TaskTree) (s : Scope) where
   pub tells_targets : (form : Form) →
       Tells (first_in_targets tree task s form) (targets_test form)
   tells_targets (assign_form n steps how e) = tells_target tree task s n steps
-  tells_targets (var_form n t start) = λ q. refl
+  tells_targets (var_form n t initializer) = λ q. refl
   tells_targets form = λ q. refl
 
   abbrev pub of_targets : Form → Finding
@@ -127,17 +127,17 @@ module _ (tree : Tree) (task : TaskTree) (s : Scope) where
   targets_asked form q = targets_of form
 
   abbrev found_at : List Expression → Rule → Bool
-  found_at es q = found tree task s (flat_map parts es) q
+  found_at es q = found tree task s (flat_map subexpressions es) q
 
   found_heads : (es : List Expression) (q : Rule) →
-      list_any (λ e. found tree task s (parts e) q) es ≡ found_at es q
+      list_any (λ e. found tree task s (subexpressions e) q) es ≡ found_at es q
   found_heads [] q = refl
-  found_heads (e ∷ es) q = ap (λ b. found tree task s (parts e) q || b) (found_heads es q)
-      ∙ sym (found-append tree task s (parts e) (flat_map parts es) q)
+  found_heads (e ∷ es) q = ap (λ b. found tree task s (subexpressions e) q || b) (found_heads es q)
+      ∙ sym (found-append tree task s (subexpressions e) (flat_map subexpressions es) q)
 
   assigned : (e : Expression) (q : Rule) →
-      found tree task s (parts e) q ≡ found_at (e ∷ []) q
-  assigned e q = ap (λ es. found tree task s es q) (sym (append-nil (parts e)))
+      found tree task s (subexpressions e) q ≡ found_at (e ∷ []) q
+  assigned e q = ap (λ es. found tree task s es q) (sym (append-nil (subexpressions e)))
 
   found_targets : (form : Form) (q : Rule) →
       targets_test form q ≡ found_at (targets_asked form q) q
@@ -149,14 +149,14 @@ module _ (tree : Tree) (task : TaskTree) (s : Scope) where
   found_targets form q = refl
 
   pub found_in_all : (form : Form) (q : Rule) →
-      (list_any (λ e. found tree task s (parts e) q) (heads_of s.names form)
+      (list_any (λ e. found tree task s (subexpressions e) q) (heads_of s.names form)
       || targets_test form q) ≡ found_at (heads_of s.names form ++ targets_asked form q) q
   found_in_all form q = let heads = heads_of s.names form in
       let targets = targets_asked form q in
-      or_same (list_any (λ e. found tree task s (parts e) q) heads) (targets_test form q)
+      or_same (list_any (λ e. found tree task s (subexpressions e) q) heads) (targets_test form q)
       (found_at heads q) (found_at targets q) (found_heads heads q) (found_targets form q)
-      ∙ sym (found-append tree task s (flat_map parts heads) (flat_map parts targets) q)
-      ∙ ap (λ es. found tree task s es q) (sym (flat_map-append parts heads targets))
+      ∙ sym (found-append tree task s (flat_map subexpressions heads) (flat_map subexpressions targets) q)
+      ∙ ap (λ es. found tree task s es q) (sym (flat_map-append subexpressions heads targets))
 
 -- ---- a call that is a statement
 
@@ -165,10 +165,10 @@ or_twice true = refl
 or_twice false = refl
 
 called_named : (tree : Tree) (s : Scope) (form : Form) →
-    (list_any (misnames_task tree) (call_of_form tree s form) || misnames_form tree s.names form)
-    ≡ misnames_form tree s.names form
+    (list_any (is_unknown_task tree) (call_of_form tree s form) || unbound_name_in_form tree s.names form)
+    ≡ unbound_name_in_form tree s.names form
 called_named tree s (call_form name args) = or_twice (not (has_task tree name))
-called_named tree s (var_form n t start) = refl
+called_named tree s (var_form n t initializer) = refl
 called_named tree s form = refl
 
 called_stands : (tree : Tree) (task : TaskTree) (s : Scope) (test : Standing → Bool) →
@@ -185,7 +185,7 @@ called_stands tree task s test form = refl
 module _ (tree : Tree) (v : Visit) where
   -- the test of each rule on a statement
   abbrev pub form_test : Rule → Bool
-  form_test rule.Name = misnames_at tree v
+  form_test rule.Name = unbound_name_at tree v
   form_test rule.Type = mistypes_at tree v
   form_test rule.Count = miscounts_at tree v
   form_test rule.Place = misplaces_at tree v
@@ -198,7 +198,7 @@ module _ (tree : Tree) (v : Visit) where
       lacks tree v.task v.scope (flat_map (wanted_by_call tree) (calls_at tree v))
   form_test rule.CallConstraint =
       list_any (breaks_constraint tree v.scope.known) (calls_at tree v)
-  form_test rule.Pointer = mispoints_at tree v
+  form_test rule.Pointer = wrong_pointer_at tree v
   form_test rule.Spaces = misfits_at tree v
   form_test rule.Partition = mispartitions_at tree v
   form_test rule.Return = misreturns v.task v.form
@@ -207,11 +207,11 @@ module _ (tree : Tree) (v : Visit) where
 
   -- what is asked of a statement beside its expressions and targets
   abbrev form_tail : List Finding
-  form_tail = asked (misnames_form tree v.scope.names v.form) rule.Name
-      ∷ asked_of_all (of_start tree v.task v.scope) (start_at v.form)
+  form_tail = asked (unbound_name_in_form tree v.scope.names v.form) rule.Name
+      ∷ asked_of_all (of_initializer tree v.task v.scope) (initializer_at v.form)
       ∷ asked_of_all (of_call tree v.task v.scope) (call_of_form tree v.scope v.form)
       ∷ asked_of_all (of_standing v.scope.known) (standing_in_form tree v.task v.scope v.form)
-      ∷ asked (misbegins_at tree v.scope v.form) rule.Place
+      ∷ asked (wrong_initializer_at tree v.scope v.form) rule.Place
       ∷ asked (mistargets_form tree v.task v.scope v.form) rule.Target
       ∷ asked (misprints_form tree v.scope v.form) rule.Format
       ∷ asked (lacks tree v.task v.scope (writes_by tree v.scope v.form)) rule.Write
@@ -228,19 +228,19 @@ module _ (tree : Tree) (v : Visit) where
       ∷ form_tail
 
   -- what a rule asks of expressions, targets among them
-  abbrev asked_at : Rule → List Shape
-  asked_at q = shapes_in tree v.scope
+  abbrev asked_at : Rule → List TypedForm
+  asked_at q = typed_forms_in tree v.scope
       (heads_of v.scope.names v.form ++ targets_asked tree v.task v.scope v.form q)
 
-  abbrev shapes_test : Rule → Bool
-  shapes_test q = list_any (λ shape. shape_test tree v.task v.scope shape q) (asked_at q)
+  abbrev typed_forms_test : Rule → Bool
+  typed_forms_test q = list_any (λ typed_form. typed_form_test tree v.task v.scope typed_form q) (asked_at q)
 
   abbrev declared_test : Rule → Bool
   declared_test q =
       list_any (λ t. type_test tree v.scope.names t q) (declared_at v.form)
 
-  abbrev starts_test : Rule → Bool
-  starts_test q = list_any (λ i. start_test tree v.task v.scope i q) (start_at v.form)
+  abbrev initializers_test : Rule → Bool
+  initializers_test q = list_any (λ i. initializer_test tree v.task v.scope i q) (initializer_at v.form)
 
   abbrev called_test : Rule → Bool
   called_test q =
@@ -252,94 +252,94 @@ module _ (tree : Tree) (v : Visit) where
 
   written_joined : (test : List Bound → TypeTerm → Bool) → any_written tree v test
       ≡ (list_any (test v.scope.names) (declared_at v.form)
-      || (list_any (λ i. list_any (test v.scope.names) (written_in_start i)) (start_at v.form)
-      || list_any (λ shape. list_any (test v.scope.names) (written_in shape)) (shapes_at tree v)))
+      || (list_any (λ i. list_any (test v.scope.names) (written_in_initializer i)) (initializer_at v.form)
+      || list_any (λ typed_form. list_any (test v.scope.names) (written_in typed_form)) (typed_forms_at tree v)))
   written_joined test = let p = test v.scope.names in
       let declared = declared_at v.form in
-      let started = flat_map written_in_start (start_at v.form) in
-      let within = flat_map written_in (shapes_at tree v) in
-      list_any-append p (declared ++ started) within
-      ∙ ap (λ b. b || list_any p within) (list_any-append p declared started)
-      ∙ or_regrouped (list_any p declared) (list_any p started) (list_any p within)
-      ∙ ap (λ b. list_any p declared || b) (or_same (list_any p started) (list_any p within)
-      (list_any (λ i. list_any p (written_in_start i)) (start_at v.form))
-      (list_any (λ shape. list_any p (written_in shape)) (shapes_at tree v))
-      (list_any_flat p written_in_start (start_at v.form))
-      (list_any_flat p written_in (shapes_at tree v)))
+      let entry_name = flat_map written_in_initializer (initializer_at v.form) in
+      let within = flat_map written_in (typed_forms_at tree v) in
+      list_any-append p (declared ++ entry_name) within
+      ∙ ap (λ b. b || list_any p within) (list_any-append p declared entry_name)
+      ∙ or_regrouped (list_any p declared) (list_any p entry_name) (list_any p within)
+      ∙ ap (λ b. list_any p declared || b) (or_same (list_any p entry_name) (list_any p within)
+      (list_any (λ i. list_any p (written_in_initializer i)) (initializer_at v.form))
+      (list_any (λ typed_form. list_any p (written_in typed_form)) (typed_forms_at tree v))
+      (list_any_flat p written_in_initializer (initializer_at v.form))
+      (list_any_flat p written_in (typed_forms_at tree v)))
 
   calls_joined : (test : Calling → Bool) → list_any test (calls_at tree v)
       ≡ (list_any test (call_of_form tree v.scope v.form)
-      || list_any (λ shape. list_any test (call_in shape)) (shapes_at tree v))
+      || list_any (λ typed_form. list_any test (call_in typed_form)) (typed_forms_at tree v))
   calls_joined test = list_any-append test (call_of_form tree v.scope v.form)
-      (flat_map call_in (shapes_at tree v))
+      (flat_map call_in (typed_forms_at tree v))
       ∙ ap (λ b. list_any test (call_of_form tree v.scope v.form) || b)
-      (list_any_flat test call_in (shapes_at tree v))
+      (list_any_flat test call_in (typed_forms_at tree v))
 
   -- the tests of a rule at a statement, where expressions and targets are one list
   abbrev joined_test : Rule → Bool
   joined_test q = declared_test q || (only rule.Type (has_no_type v.form) q
-      || (shapes_test q || any_finding form_tail q))
+      || (typed_forms_test q || any_finding form_tail q))
 
   -- a rule that is asked of the statement alone
-  alone : (shapes : List Shape) (b : Bool) →
+  alone : (typed_forms : List TypedForm) (b : Bool) →
       (list_any (λ (t : TypeTerm). false) (declared_at v.form)
-      || (list_any (λ (shape : Shape). false) shapes
-      || (list_any (λ (i : Start). false) (start_at v.form)
+      || (list_any (λ (typed_form : TypedForm). false) typed_forms
+      || (list_any (λ (i : Initializer). false) (initializer_at v.form)
       || (list_any (λ (c : Calling). false) (call_of_form tree v.scope v.form)
       || (list_any (λ (t : Standing). false) (standing_in_form tree v.task v.scope v.form)
       || (b || false)))))) ≡ b
-  alone shapes b = join_alone (list_any (λ (t : TypeTerm). false) (declared_at v.form))
-      (list_any (λ (shape : Shape). false) shapes)
-      (list_any (λ (i : Start). false) (start_at v.form))
+  alone typed_forms b = join_alone (list_any (λ (t : TypeTerm). false) (declared_at v.form))
+      (list_any (λ (typed_form : TypedForm). false) typed_forms)
+      (list_any (λ (i : Initializer). false) (initializer_at v.form))
       (list_any (λ (c : Calling). false) (call_of_form tree v.scope v.form))
       (list_any (λ (t : Standing). false) (standing_in_form tree v.task v.scope v.form)) b
-      (list_any_never (declared_at v.form)) (list_any_never shapes)
-      (list_any_never (start_at v.form)) (list_any_never (call_of_form tree v.scope v.form))
+      (list_any_never (declared_at v.form)) (list_any_never typed_forms)
+      (list_any_never (initializer_at v.form)) (list_any_never (call_of_form tree v.scope v.form))
       (list_any_never (standing_in_form tree v.task v.scope v.form))
 
   joined_parts : (q : Rule) → joined_test q ≡ form_test q
   joined_parts rule.Name = let names = v.scope.names in
-      join_names (declared_test rule.Name) (shapes_test rule.Name)
-      (misnames_form tree names v.form) (starts_test rule.Name) (called_test rule.Name)
+      join_names (declared_test rule.Name) (typed_forms_test rule.Name)
+      (unbound_name_in_form tree names v.form) (initializers_test rule.Name) (called_test rule.Name)
       (stands_test rule.Name)
-      (list_any (misnames tree names) (shapes_at tree v))
-      (list_any (λ shape. list_any (misnames_in_type tree names) (written_in shape))
-      (shapes_at tree v))
-      (list_any (λ i. list_any (misnames_in_type tree names) (written_in_start i))
-      (start_at v.form))
-      (list_any (misnames_start tree names) (start_at v.form))
-      (any_written tree v (misnames_in_type tree))
-      (list_any_either (misnames tree names)
-      (λ shape. list_any (misnames_in_type tree names) (written_in shape)) (shapes_at tree v))
-      (list_any_either (λ i. list_any (misnames_in_type tree names) (written_in_start i))
-      (misnames_start tree names) (start_at v.form))
+      (list_any (has_unbound_name tree names) (typed_forms_at tree v))
+      (list_any (λ typed_form. list_any (unbound_name_in_type tree names) (written_in typed_form))
+      (typed_forms_at tree v))
+      (list_any (λ i. list_any (unbound_name_in_type tree names) (written_in_initializer i))
+      (initializer_at v.form))
+      (list_any (unbound_name_in_initializer tree names) (initializer_at v.form))
+      (any_written tree v (unbound_name_in_type tree))
+      (list_any_either (has_unbound_name tree names)
+      (λ typed_form. list_any (unbound_name_in_type tree names) (written_in typed_form)) (typed_forms_at tree v))
+      (list_any_either (λ i. list_any (unbound_name_in_type tree names) (written_in_initializer i))
+      (unbound_name_in_initializer tree names) (initializer_at v.form))
       (called_named tree v.scope v.form)
       (list_any_never (standing_in_form tree v.task v.scope v.form))
-      (written_joined (misnames_in_type tree))
+      (written_joined (unbound_name_in_type tree))
   joined_parts rule.Type = join_types (declared_test rule.Type) (has_no_type v.form)
-      (shapes_test rule.Type) (starts_test rule.Type) (called_test rule.Type)
+      (typed_forms_test rule.Type) (initializers_test rule.Type) (called_test rule.Type)
       (stands_test rule.Type) (list_any_never (declared_at v.form))
-      (list_any_never (start_at v.form))
-      (called_stands tree v.task v.scope (misstands v.scope.known) v.form)
-  joined_parts rule.Count = join_written (declared_test rule.Count) (shapes_test rule.Count)
-      (starts_test rule.Count) (called_test rule.Count) (stands_test rule.Count)
-      (list_any (λ shape. list_any (miscounts_call tree) (call_in shape)) (shapes_at tree v))
-      (list_any (λ shape. list_any (miscounts_in_type tree) (written_in shape))
-      (shapes_at tree v))
+      (list_any_never (initializer_at v.form))
+      (called_stands tree v.task v.scope (is_ill_typed_at_place v.scope.known) v.form)
+  joined_parts rule.Count = join_written (declared_test rule.Count) (typed_forms_test rule.Count)
+      (initializers_test rule.Count) (called_test rule.Count) (stands_test rule.Count)
+      (list_any (λ typed_form. list_any (miscounts_call tree) (call_in typed_form)) (typed_forms_at tree v))
+      (list_any (λ typed_form. list_any (miscounts_in_type tree) (written_in typed_form))
+      (typed_forms_at tree v))
       (any_written tree v (λ names. miscounts_in_type tree))
       (list_any (miscounts_call tree) (calls_at tree v))
-      (list_any_either (λ shape. list_any (miscounts_call tree) (call_in shape))
-      (λ shape. list_any (miscounts_in_type tree) (written_in shape)) (shapes_at tree v))
+      (list_any_either (λ typed_form. list_any (miscounts_call tree) (call_in typed_form))
+      (λ typed_form. list_any (miscounts_in_type tree) (written_in typed_form)) (typed_forms_at tree v))
       (list_any_never (standing_in_form tree v.task v.scope v.form))
       (written_joined (λ names. miscounts_in_type tree))
       (calls_joined (miscounts_call tree))
-  joined_parts rule.Place = join_places (declared_test rule.Place) (shapes_test rule.Place)
-      (starts_test rule.Place) (called_test rule.Place) (stands_test rule.Place)
-      (misbegins_at tree v.scope v.form)
-      (list_any_never (declared_at v.form)) (list_any_never (start_at v.form))
+  joined_parts rule.Place = join_places (declared_test rule.Place) (typed_forms_test rule.Place)
+      (initializers_test rule.Place) (called_test rule.Place) (stands_test rule.Place)
+      (wrong_initializer_at tree v.scope v.form)
+      (list_any_never (declared_at v.form)) (list_any_never (initializer_at v.form))
       (called_stands tree v.task v.scope misplaces v.form)
-  joined_parts rule.Read = join_reads (declared_test rule.Read) (shapes_test rule.Read)
-      (starts_test rule.Read) (called_test rule.Read) (stands_test rule.Read)
+  joined_parts rule.Read = join_reads (declared_test rule.Read) (typed_forms_test rule.Read)
+      (initializers_test rule.Read) (called_test rule.Read) (stands_test rule.Read)
       (lacks tree v.task v.scope (reads_at tree v))
       (list_any_never (declared_at v.form))
       (list_any_never (call_of_form tree v.scope v.form))
@@ -347,85 +347,85 @@ module _ (tree : Tree) (v : Visit) where
       reads_joined
     where
       reads_joined : lacks tree v.task v.scope (reads_at tree v)
-          ≡ (shapes_test rule.Read || starts_test rule.Read)
-      reads_joined = let starts = reads_in_start tree v.scope.names in
+          ≡ (typed_forms_test rule.Read || initializers_test rule.Read)
+      reads_joined = let initializers = reads_in_initializer tree v.scope.names in
           lacks-append tree v.task v.scope (flat_map (reads_in tree) (asked_at rule.Read))
-          (flat_map starts (start_at v.form))
+          (flat_map initializers (initializer_at v.form))
           ∙ or_same (lacks tree v.task v.scope (flat_map (reads_in tree) (asked_at rule.Read)))
-          (lacks tree v.task v.scope (flat_map starts (start_at v.form)))
-          (shapes_test rule.Read) (starts_test rule.Read)
+          (lacks tree v.task v.scope (flat_map initializers (initializer_at v.form)))
+          (typed_forms_test rule.Read) (initializers_test rule.Read)
           (lacks_flat tree v.task v.scope (reads_in tree) (asked_at rule.Read))
-          (lacks_flat tree v.task v.scope starts (start_at v.form))
+          (lacks_flat tree v.task v.scope initializers (initializer_at v.form))
   joined_parts rule.CallPrivilege = join_calls (declared_test rule.CallPrivilege)
-      (shapes_test rule.CallPrivilege) (starts_test rule.CallPrivilege)
+      (typed_forms_test rule.CallPrivilege) (initializers_test rule.CallPrivilege)
       (called_test rule.CallPrivilege) (stands_test rule.CallPrivilege)
       (lacks tree v.task v.scope (flat_map (wanted_by_call tree) (calls_at tree v)))
-      (list_any_never (declared_at v.form)) (list_any_never (start_at v.form))
+      (list_any_never (declared_at v.form)) (list_any_never (initializer_at v.form))
       (list_any_never (standing_in_form tree v.task v.scope v.form)) wanted_joined
     where
       wanted_joined : lacks tree v.task v.scope (flat_map (wanted_by_call tree) (calls_at tree v))
-          ≡ (called_test rule.CallPrivilege || shapes_test rule.CallPrivilege)
+          ≡ (called_test rule.CallPrivilege || typed_forms_test rule.CallPrivilege)
       wanted_joined = let lacking : Calling → Bool = λ c. lacks tree v.task v.scope (wanted_by_call tree c) in
           lacks_flat tree v.task v.scope (wanted_by_call tree) (calls_at tree v)
           ∙ calls_joined lacking
           ∙ ap (λ b. called_test rule.CallPrivilege || b)
-          (list_any_same (λ shape. list_any lacking (call_in shape))
-          (λ shape. lacks tree v.task v.scope (flat_map (wanted_by_call tree) (call_in shape)))
-          (λ shape. sym (lacks_flat tree v.task v.scope (wanted_by_call tree) (call_in shape)))
-          (shapes_at tree v))
+          (list_any_same (λ typed_form. list_any lacking (call_in typed_form))
+          (λ typed_form. lacks tree v.task v.scope (flat_map (wanted_by_call tree) (call_in typed_form)))
+          (λ typed_form. sym (lacks_flat tree v.task v.scope (wanted_by_call tree) (call_in typed_form)))
+          (typed_forms_at tree v))
   joined_parts rule.CallConstraint = join_calls (declared_test rule.CallConstraint)
-      (shapes_test rule.CallConstraint) (starts_test rule.CallConstraint)
+      (typed_forms_test rule.CallConstraint) (initializers_test rule.CallConstraint)
       (called_test rule.CallConstraint) (stands_test rule.CallConstraint)
       (list_any (breaks_constraint tree v.scope.known) (calls_at tree v))
-      (list_any_never (declared_at v.form)) (list_any_never (start_at v.form))
+      (list_any_never (declared_at v.form)) (list_any_never (initializer_at v.form))
       (list_any_never (standing_in_form tree v.task v.scope v.form))
       (calls_joined (breaks_constraint tree v.scope.known))
   joined_parts rule.Pointer = let names = v.scope.names in
-      join_written (declared_test rule.Pointer) (shapes_test rule.Pointer)
-      (starts_test rule.Pointer) (called_test rule.Pointer) (stands_test rule.Pointer)
-      (list_any mispoints_in (shapes_at tree v))
-      (list_any (λ shape. list_any (mispoints_in_type tree names) (written_in shape))
-      (shapes_at tree v))
-      (any_written tree v (mispoints_in_type tree))
-      (list_any mispoints_in (shapes_at tree v))
-      (list_any_either mispoints_in
-      (λ shape. list_any (mispoints_in_type tree names) (written_in shape)) (shapes_at tree v))
+      join_written (declared_test rule.Pointer) (typed_forms_test rule.Pointer)
+      (initializers_test rule.Pointer) (called_test rule.Pointer) (stands_test rule.Pointer)
+      (list_any takes_of_wild_in (typed_forms_at tree v))
+      (list_any (λ typed_form. list_any (wrong_region_in_type tree names) (written_in typed_form))
+      (typed_forms_at tree v))
+      (any_written tree v (wrong_region_in_type tree))
+      (list_any takes_of_wild_in (typed_forms_at tree v))
+      (list_any_either takes_of_wild_in
+      (λ typed_form. list_any (wrong_region_in_type tree names) (written_in typed_form)) (typed_forms_at tree v))
       (list_any_never (standing_in_form tree v.task v.scope v.form))
-      (written_joined (mispoints_in_type tree))
-      (sym (ap (λ b. b || list_any mispoints_in (shapes_at tree v))
+      (written_joined (wrong_region_in_type tree))
+      (sym (ap (λ b. b || list_any takes_of_wild_in (typed_forms_at tree v))
       (list_any_never (call_of_form tree v.scope v.form))))
   joined_parts rule.Spaces =
       let misfits : Calling → Bool = λ (c : Calling). misfits_call (params_of tree c.task) c in
-      join_written (declared_test rule.Spaces) (shapes_test rule.Spaces)
-      (starts_test rule.Spaces) (called_test rule.Spaces) (stands_test rule.Spaces)
-      (list_any (λ shape. list_any misfits (call_in shape)) (shapes_at tree v))
-      (list_any (λ shape. list_any (misfits_in_type tree v.scope.names) (written_in shape))
-      (shapes_at tree v))
+      join_written (declared_test rule.Spaces) (typed_forms_test rule.Spaces)
+      (initializers_test rule.Spaces) (called_test rule.Spaces) (stands_test rule.Spaces)
+      (list_any (λ typed_form. list_any misfits (call_in typed_form)) (typed_forms_at tree v))
+      (list_any (λ typed_form. list_any (misfits_in_type tree v.scope.names) (written_in typed_form))
+      (typed_forms_at tree v))
       (any_written tree v (misfits_in_type tree)) (list_any misfits (calls_at tree v))
-      (list_any_either (λ shape. list_any misfits (call_in shape))
-      (λ shape. list_any (misfits_in_type tree v.scope.names) (written_in shape))
-      (shapes_at tree v))
+      (list_any_either (λ typed_form. list_any misfits (call_in typed_form))
+      (λ typed_form. list_any (misfits_in_type tree v.scope.names) (written_in typed_form))
+      (typed_forms_at tree v))
       (list_any_never (standing_in_form tree v.task v.scope v.form))
       (written_joined (misfits_in_type tree)) (calls_joined misfits)
   joined_parts rule.Partition = let names = v.scope.names in
       let misfits : Calling → Bool =
       λ (c : Calling). mispartitions_call (params_of tree c.task) c in
-      let coloured : Start → Bool = λ i. list_any (miscolours_in_type names) (written_in_start i) in
-      let parted : Start → Bool = λ i. mispartitions_start tree v.scope i in
-      let colours : Start → Bool = λ i. miscolours_start i (types_in_start tree v.scope i) in
-      join_partitions (declared_test rule.Partition) (shapes_test rule.Partition)
-      (starts_test rule.Partition) (called_test rule.Partition) (stands_test rule.Partition)
-      (list_any (λ shape. list_any misfits (call_in shape)) (shapes_at tree v))
-      (list_any (λ shape. list_any (miscolours_in_type names) (written_in shape))
-      (shapes_at tree v))
-      (list_any coloured (start_at v.form)) (list_any parted (start_at v.form))
-      (list_any colours (start_at v.form))
+      let coloured : Initializer → Bool = λ i. list_any (miscolours_in_type names) (written_in_initializer i) in
+      let parted : Initializer → Bool = λ i. mispartitions_initializer tree v.scope i in
+      let colours : Initializer → Bool = λ i. miscolours_initializer i (types_in_initializer tree v.scope i) in
+      join_partitions (declared_test rule.Partition) (typed_forms_test rule.Partition)
+      (initializers_test rule.Partition) (called_test rule.Partition) (stands_test rule.Partition)
+      (list_any (λ typed_form. list_any misfits (call_in typed_form)) (typed_forms_at tree v))
+      (list_any (λ typed_form. list_any (miscolours_in_type names) (written_in typed_form))
+      (typed_forms_at tree v))
+      (list_any coloured (initializer_at v.form)) (list_any parted (initializer_at v.form))
+      (list_any colours (initializer_at v.form))
       (any_written tree v miscolours_in_type) (list_any misfits (calls_at tree v))
-      (list_any_either (λ shape. list_any misfits (call_in shape))
-      (λ shape. list_any (miscolours_in_type names) (written_in shape)) (shapes_at tree v))
-      (list_any_either (λ i. coloured i || parted i) colours (start_at v.form)
-      ∙ ap (λ b. b || list_any colours (start_at v.form))
-      (list_any_either coloured parted (start_at v.form)))
+      (list_any_either (λ typed_form. list_any misfits (call_in typed_form))
+      (λ typed_form. list_any (miscolours_in_type names) (written_in typed_form)) (typed_forms_at tree v))
+      (list_any_either (λ i. coloured i || parted i) colours (initializer_at v.form)
+      ∙ ap (λ b. b || list_any colours (initializer_at v.form))
+      (list_any_either coloured parted (initializer_at v.form)))
       (list_any_never (standing_in_form tree v.task v.scope v.form))
       (written_joined miscolours_in_type) (calls_joined misfits)
   joined_parts rule.Target = alone (asked_at rule.Target)
@@ -443,7 +443,7 @@ module _ (tree : Tree) (v : Visit) where
   form_parts : (q : Rule) → any_finding form_findings q ≡ form_test q
   form_parts q = ap (λ b. declared_test q || (only rule.Type (has_no_type v.form) q || b))
       (sym (or_regrouped
-      (list_any (λ e. found tree v.task v.scope (parts e) q) (heads_of v.scope.names v.form))
+      (list_any (λ e. found tree v.task v.scope (subexpressions e) q) (heads_of v.scope.names v.form))
       (targets_test tree v.task v.scope v.form q) (any_finding form_tail q))
       ∙ ap (λ b. b || any_finding form_tail q) (found_in_all tree v.task v.scope v.form q))
       ∙ joined_parts q
@@ -478,27 +478,27 @@ module _ (tree : Tree) where
     tells_block task s (then_statement (a_statement line form) rest) =
         let v : Visit = record { task = task; scope = s; line = line; form = form } in
         let within = visits_within tree task s form in
-        let behind = visits_in tree task (scope_behind tree s form) rest in
-        let rest_told = first_in_block tree task (scope_behind tree s form) rest in
+        let after = visits_in tree task (known_scope_after tree s form) rest in
+        let rest_told = first_in_block tree task (known_scope_after tree s form) rest in
         line_two (told_on line (first_of_form tree task s form))
         (option_or (first_within tree task s form) rest_told)
-        (λ q. line_if (form_test tree v q) line) (λ q. lines_at within q ++ lines_at behind q)
-        (lines_at ((v ∷ within) ++ behind)) (statement_whole v within behind)
+        (λ q. line_if (form_test tree v q) line) (λ q. lines_at within q ++ lines_at after q)
+        (lines_at ((v ∷ within) ++ after)) (statement_whole v within after)
         (line_told line (first_of_form tree task s form) (form_test tree v) (tells_form tree v))
-        (line_or (first_within tree task s form) rest_told (lines_at within) (lines_at behind)
-        (tells_within task s form) (tells_block task (scope_behind tree s form) rest))
+        (line_or (first_within tree task s form) rest_told (lines_at within) (lines_at after)
+        (tells_within task s form) (tells_block task (known_scope_after tree s form) rest))
 
     tells_within : (task : TaskTree) (s : Scope) (form : Form) →
         TellsLine (first_within tree task s form) (lines_at (visits_within tree task s form))
     tells_within task s (if_form arms other) =
-        let behind = scope_behind_arms tree s arms in
-        line_two (first_in_arms tree task s arms) (first_in_else tree task behind other)
+        let after = known_scope_after_arms tree s arms in
+        line_two (first_in_arms tree task s arms) (first_in_else tree task after other)
         (lines_at (visits_in_arms tree task s arms))
-        (lines_at (visits_in_else tree task behind other))
+        (lines_at (visits_in_else tree task after other))
         (lines_at (visits_within tree task s (if_form arms other)))
         (lines_at-append (visits_in_arms tree task s arms)
-        (visits_in_else tree task behind other))
-        (tells_arms task s arms) (tells_else task behind other)
+        (visits_in_else tree task after other))
+        (tells_arms task s arms) (tells_else task after other)
     tells_within task s (while_form test body) = tells_block task s body
     tells_within task s (for_in_form demanded n domain body) =
         tells_block task (scope_in_loop tree s n domain) body
@@ -511,12 +511,12 @@ module _ (tree : Tree) where
         TellsLine (first_in_arms tree task s arms) (lines_at (visits_in_arms tree task s arms))
     tells_arms task s no_arm = λ q. refl
     tells_arms task s (an_arm test body rest) =
-        let behind = past s (scope_behind_block tree s body) in
-        line_two (first_in_block tree task s body) (first_in_arms tree task behind rest)
-        (lines_at (visits_in tree task s body)) (lines_at (visits_in_arms tree task behind rest))
+        let after = past s (known_scope_after_block tree s body) in
+        line_two (first_in_block tree task s body) (first_in_arms tree task after rest)
+        (lines_at (visits_in tree task s body)) (lines_at (visits_in_arms tree task after rest))
         (lines_at (visits_in_arms tree task s (an_arm test body rest)))
-        (lines_at-append (visits_in tree task s body) (visits_in_arms tree task behind rest))
-        (tells_block task s body) (tells_arms task behind rest)
+        (lines_at-append (visits_in tree task s body) (visits_in_arms tree task after rest))
+        (tells_block task s body) (tells_arms task after rest)
 
     tells_else : (task : TaskTree) (s : Scope) (other : Otherwise) →
         TellsLine (first_in_else tree task s other) (lines_at (visits_in_else tree task s other))

@@ -1,6 +1,6 @@
 -- Tests that are joined in another order: what a rule is told by at a statement, in the order in
 -- which the checker goes, and as the rule says it. `d` is of declared types, `f` of expressions,
--- `st` of start values, `c` of a call that is the statement, `s` of what stands in the statement.
+-- `st` of initializers, `c` of a call that is the statement, `s` of what stands in the statement.
 use Rattle.std.proofs.Common.{◌≡◌, Bool, false, ◌||◌, ap, sym, ◌∙◌}
 use Rattle.check_rules.proofs.Exchange.{or_nothing, or_regrouped, or_swapped, or_turned}
 

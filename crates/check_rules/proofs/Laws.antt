@@ -14,12 +14,12 @@ use Rattle.regent_tree.specs.Lookup.{type_named}
 use Rattle.regent_tree.specs.Typing.{counting_as, linked_type, operated, signed_type, stepped_type, type_of, type_of_element, type_of_field}
 use Rattle.check_rules.specs.Breaches.{Breach, same_breach, with_breach, each_once}
 use Rattle.check_rules.specs.Params.{type_unless}
-use Rattle.check_rules.specs.KnownTypes.{known_type, takes_unknown, type_behind_links, type_behind_operator, type_behind_sign, type_behind_signs, type_behind_step, type_behind_steps}
-use Rattle.check_rules.specs.Names.{misnames_field}
+use Rattle.check_rules.specs.KnownTypes.{known_type, takes_unknown, known_type_after_links, known_type_after_operator, known_type_after_sign, known_type_after_signs, known_type_after_step, known_type_after_steps}
+use Rattle.check_rules.specs.Names.{is_unknown_field}
 use Rattle.check_rules.specs.Pointers.{takes_of_wild}
-use Rattle.check_rules.specs.Shapes.{Taking, computing, element_of, field_of}
+use Rattle.check_rules.specs.TypedForms.{Taking, computing, element_of, field_of}
 use Rattle.check_rules.specs.Sorts.{is_number, is_truth, is_unknown_type}
-use Rattle.check_rules.specs.Types.{misoperates, mistakes}
+use Rattle.check_rules.specs.Types.{is_ill_typed_operation, is_ill_typed_step}
 use Rattle.check_rules.specs.Laws.{TypesAsMeant, PairsKept}
 
 -- ---- types
@@ -38,19 +38,19 @@ type_unless-true true t e = refl
 type_unless-true false t e = absurd cc
 
 operator-meant : (o : Operator) (t meant u meant_u : StaticType) → IsMeant t meant →
-    IsMeant u meant_u → IsMeant (type_behind_operator (computing o t u)) (operated o meant meant_u)
+    IsMeant u meant_u → IsMeant (known_type_after_operator (computing o t u)) (operated o meant meant_u)
 operator-meant o t meant u meant_u (inl e) (inl f) = subst
-    (λ a. IsMeant (type_behind_operator (computing o t u)) (operated o a meant_u)) e
-    (subst (λ b. IsMeant (type_behind_operator (computing o t u)) (operated o t b)) f
-    (type_unless-meant (is_unknown_type t || is_unknown_type u || misoperates (computing o t u))
+    (λ a. IsMeant (known_type_after_operator (computing o t u)) (operated o a meant_u)) e
+    (subst (λ b. IsMeant (known_type_after_operator (computing o t u)) (operated o t b)) f
+    (type_unless-meant (is_unknown_type t || is_unknown_type u || is_ill_typed_operation (computing o t u))
     (operated o t u)))
 operator-meant o t meant u meant_u (inl e) (inr f) = inr (type_unless-true
-    (is_unknown_type t || is_unknown_type u || misoperates (computing o t u)) (operated o t u)
-    (or_left (is_unknown_type t || is_unknown_type u) (misoperates (computing o t u))
+    (is_unknown_type t || is_unknown_type u || is_ill_typed_operation (computing o t u)) (operated o t u)
+    (or_left (is_unknown_type t || is_unknown_type u) (is_ill_typed_operation (computing o t u))
     (or_right (is_unknown_type t) (is_unknown_type u) (ap is_unknown_type f))))
 operator-meant o t meant u meant_u (inr e) h = inr (type_unless-true
-    (is_unknown_type t || is_unknown_type u || misoperates (computing o t u)) (operated o t u)
-    (or_left (is_unknown_type t || is_unknown_type u) (misoperates (computing o t u))
+    (is_unknown_type t || is_unknown_type u || is_ill_typed_operation (computing o t u)) (operated o t u)
+    (or_left (is_unknown_type t || is_unknown_type u) (is_ill_typed_operation (computing o t u))
     (or_left (is_unknown_type t) (is_unknown_type u) (ap is_unknown_type e))))
 
 -- counting a pointer as an index, twice
@@ -67,42 +67,42 @@ counted-twice unknown_type = refl
 
 minus-meant : (signs : List Sign) (t meant : StaticType) →
     IsMeant t (signed_type signs meant) →
-    IsMeant (type_behind_sign Minus t) (counting_as meant)
-minus-meant signs t meant (inr e) = inr (ap (type_behind_sign Minus) e)
+    IsMeant (known_type_after_sign Minus t) (counting_as meant)
+minus-meant signs t meant (inr e) = inr (ap (known_type_after_sign Minus) e)
 minus-meant [] t meant (inl e) = subst
-    (λ a. IsMeant (type_behind_sign Minus t) (counting_as a)) e
+    (λ a. IsMeant (known_type_after_sign Minus t) (counting_as a)) e
     (type_unless-meant (not (is_number t)) (counting_as t))
-minus-meant (Not ∷ signs) t meant (inl e) = inr (ap (type_behind_sign Minus) e)
+minus-meant (Not ∷ signs) t meant (inl e) = inr (ap (known_type_after_sign Minus) e)
 minus-meant (Minus ∷ signs) t meant (inl e) = subst
-    (λ a. IsMeant (type_behind_sign Minus t) a) (ap counting_as e ∙ counted-twice meant)
+    (λ a. IsMeant (known_type_after_sign Minus t) a) (ap counting_as e ∙ counted-twice meant)
     (type_unless-meant (not (is_number t)) (counting_as t))
 
 signs-meant : (signs : List Sign) (t meant : StaticType) → IsMeant t meant →
-    IsMeant (type_behind_signs signs t) (signed_type signs meant)
+    IsMeant (known_type_after_signs signs t) (signed_type signs meant)
 signs-meant [] t meant h = h
 signs-meant (Not ∷ signs) t meant h =
-    type_unless-meant (not (is_truth (type_behind_signs signs t))) truth_type
+    type_unless-meant (not (is_truth (known_type_after_signs signs t))) truth_type
 signs-meant (Minus ∷ signs) t meant h =
-    minus-meant signs (type_behind_signs signs t) meant (signs-meant signs t meant h)
+    minus-meant signs (known_type_after_signs signs t) meant (signs-meant signs t meant h)
 
 -- behind a step, from something whose type is as meant
 step-meant : (tree : Tree) (taking : Taking) (t meant : StaticType) →
     (t ≡ meant) ⊎ (takes_unknown tree taking ≡ true) →
-    IsMeant (type_behind_step tree taking t) meant
+    IsMeant (known_type_after_step tree taking t) meant
 step-meant tree taking t meant (inl e) = subst
-    (λ a. IsMeant (type_behind_step tree taking t) a) e
-    (type_unless-meant (takes_unknown tree taking || misnames_field tree taking
-    || mistakes taking || takes_of_wild taking) t)
+    (λ a. IsMeant (known_type_after_step tree taking t) a) e
+    (type_unless-meant (takes_unknown tree taking || is_unknown_field tree taking
+    || is_ill_typed_step taking || takes_of_wild taking) t)
 step-meant tree taking t meant (inr e) = inr (type_unless-true
-    (takes_unknown tree taking || misnames_field tree taking || mistakes taking
+    (takes_unknown tree taking || is_unknown_field tree taking || is_ill_typed_step taking
     || takes_of_wild taking) t
-    (or_left (takes_unknown tree taking || misnames_field tree taking || mistakes taking)
+    (or_left (takes_unknown tree taking || is_unknown_field tree taking || is_ill_typed_step taking)
     (takes_of_wild taking)
-    (or_left (takes_unknown tree taking || misnames_field tree taking) (mistakes taking)
-    (or_left (takes_unknown tree taking) (misnames_field tree taking) e))))
+    (or_left (takes_unknown tree taking || is_unknown_field tree taking) (is_ill_typed_step taking)
+    (or_left (takes_unknown tree taking) (is_unknown_field tree taking) e))))
 
 field-meant : (tree : Tree) (t meant : StaticType) (f : Name) → IsMeant t meant →
-    IsMeant (type_behind_step tree (field_of t f) (type_of_field tree t f))
+    IsMeant (known_type_after_step tree (field_of t f) (type_of_field tree t f))
     (type_of_field tree meant f)
 field-meant tree t meant f (inl e) = step-meant tree (field_of t f) (type_of_field tree t f)
     (type_of_field tree meant f) (inl (ap (λ u. type_of_field tree u f) e))
@@ -111,7 +111,7 @@ field-meant tree t meant f (inr e) = step-meant tree (field_of t f) (type_of_fie
 
 element-meant : (tree : Tree) (s : Scope) (t meant : StaticType) (e : Expression) →
     IsMeant t meant →
-    IsMeant (type_behind_step tree (element_of t (known_type tree s e)) (type_of_element s t e))
+    IsMeant (known_type_after_step tree (element_of t (known_type tree s e)) (type_of_element s t e))
     (type_of_element s meant e)
 element-meant tree s t meant e (inl h) = step-meant tree (element_of t (known_type tree s e))
     (type_of_element s t e) (type_of_element s meant e) (inl (ap (λ u. type_of_element s u e) h))
@@ -121,13 +121,13 @@ element-meant tree s t meant e (inr h) = step-meant tree (element_of t (known_ty
 
 steps-meant : (tree : Tree) (s : Scope) (t meant : StaticType) (steps : Steps) →
     IsMeant t meant →
-    IsMeant (type_behind_steps tree s t steps) (stepped_type tree s meant steps)
+    IsMeant (known_type_after_steps tree s t steps) (stepped_type tree s meant steps)
 steps-meant tree s t meant no_step h = h
 steps-meant tree s t meant (field_step f rest) h = steps-meant tree s
-    (type_behind_step tree (field_of t f) (type_of_field tree t f)) (type_of_field tree meant f)
+    (known_type_after_step tree (field_of t f) (type_of_field tree t f)) (type_of_field tree meant f)
     rest (field-meant tree t meant f h)
 steps-meant tree s t meant (at_step e rest) h = steps-meant tree s
-    (type_behind_step tree (element_of t (known_type tree s e)) (type_of_element s t e))
+    (known_type_after_step tree (element_of t (known_type tree s e)) (type_of_element s t e))
     (type_of_element s meant e) rest (element-meant tree s t meant e h)
 
 mutual
@@ -149,10 +149,10 @@ mutual
 
   links-meant : (tree : Tree) (s : Scope) (t meant : StaticType) (rest : Links) →
       IsMeant t meant →
-      IsMeant (type_behind_links tree s t rest) (linked_type tree s meant rest)
+      IsMeant (known_type_after_links tree s t rest) (linked_type tree s meant rest)
   links-meant tree s t meant no_link h = h
   links-meant tree s t meant (a_link o e rest) h = links-meant tree s
-      (type_behind_operator (computing o t (known_type tree s e)))
+      (known_type_after_operator (computing o t (known_type tree s e)))
       (operated o meant (type_of tree s e)) rest
       (operator-meant o t meant (known_type tree s e) (type_of tree s e) h
       (types_as_meant tree s e))

@@ -31,10 +31,10 @@ use Rattle.check_rules.specs.Params.{params_beside, says_no_type, term_at, type_
 use Rattle.check_rules.specs.FirstInItems.{first_declared, first_in_fields, first_line, first_of_field, first_of_said, first_of_saying}
 use Rattle.check_rules.specs.FirstInStatements.{told_on}
 use Rattle.check_rules.specs.Lookup.{names_a}
-use Rattle.check_rules.specs.Names.{misnames_in_type, misnames_in_use, misses_region, misses_space}
+use Rattle.check_rules.specs.Names.{unbound_name_in_type, unbound_name_in_use, misses_region, misses_space}
 use Rattle.check_rules.specs.Sorts.{is_region, is_unknown_type}
 use Rattle.check_rules.specs.Partitions.{miscolours_in_type}
-use Rattle.check_rules.specs.Pointers.{mispoints_in_type}
+use Rattle.check_rules.specs.Pointers.{wrong_region_in_type}
 use Rattle.check_rules.specs.Repeats.{repeats_within}
 use Rattle.check_rules.specs.Results.{misdeclares_result}
 use Rattle.check_rules.specs.Rules.{first_in, rule_if}
@@ -100,15 +100,15 @@ as_written flawed params names t e = nothing_unknown flawed params names (unflaw
 -- ---- names whose types are written
 
 -- what a name is bound to behind others
-bound_behind : (names : List Bound) (b : Bound) (n : Name) → is_bound (names ++ b ∷ []) n ≡ true →
+bound_after : (names : List Bound) (b : Bound) (n : Name) → is_bound (names ++ b ∷ []) n ≡ true →
     ((is_bound names n ≡ true) × (bound_to (names ++ b ∷ []) n ≡ bound_to names n)) ⊎ (bound_to (names ++ b ∷ []) n ≡ b)
-bound_behind [] b n e = here (bytes_eq b.name n) e
+bound_after [] b n e = here (bytes_eq b.name n) e
   where
     here : (is : Bool) → (is || false) ≡ true →
         ((is_bound [] n ≡ true) × (cond is b unbound ≡ bound_to [] n)) ⊎ (cond is b unbound ≡ b)
     here true e = inr refl
     here false e = absurd cc
-bound_behind (x ∷ xs) b n e = here (bytes_eq x.name n) (bound_behind xs b n) e
+bound_after (x ∷ xs) b n e = here (bytes_eq x.name n) (bound_after xs b n) e
   where
     here : (is : Bool) →
         (is_bound (xs ++ b ∷ []) n ≡ true → ((is_bound xs n ≡ true) × (bound_to (xs ++ b ∷ []) n ≡ bound_to xs n)) ⊎ (bound_to (xs ++ b ∷ []) n ≡ b)) →
@@ -130,7 +130,7 @@ said_known tree look own (typed.Partition d r c) = refl
 pub written_known : (tree : Tree) (all : List Param) (i : ℕ) (ps : List Param) (n : Name) →
     is_bound (bound_params tree all i ps) n ≡ true → is_unknown_type (type_named (bound_params tree all i ps) n) ≡ false
 written_known tree all i [] n e = absurd cc
-written_known tree all i (p ∷ ps) n e = elim (bound_behind (bound_params tree all (suc i) ps) _ n e) [
+written_known tree all i (p ∷ ps) n e = elim (bound_after (bound_params tree all (suc i) ps) _ n e) [
   | inl h ↦ ap (λ (b : Bound). is_unknown_type b.static_type) h.1 ∙ written_known tree all (suc i) ps n h.0
   | inr h ↦ ap (λ (b : Bound). is_unknown_type b.static_type) h ∙ said_known tree (among_params all) i p.term
 ]
@@ -155,12 +155,12 @@ module _ (tree : Tree) (names : List Bound) (known : (n : Name) → is_bound nam
       let p = neither (not (names_a is_region names n)) (list_any (misses_region names) refs) e in
       none_of_two _ _ (region_known n p.0) (refs_known refs p.1)
 
-  pub names_known : (t : TypeTerm) → misnames_in_type tree names t ≡ false → names_unknown names t ≡ false
+  pub names_known : (t : TypeTerm) → unbound_name_in_type tree names t ≡ false → names_unknown names t ≡ false
   names_known (typed.Number t) e = refl
   names_known typed.Truth e = refl
   names_known (typed.Ispace k) e = refl
   names_known (typed.Pointer t) e =
-      let p = neither (misnames_in_use tree names t.space) (list_any (misses_region names) t.regions) e in
+      let p = neither (unbound_name_in_use tree names t.space) (list_any (misses_region names) t.regions) e in
       none_of_two _ _ (refs_known t.space.args (neither (not (has_space tree t.space.name)) (list_any (misses_region names) t.space.args) p.0).1) (refs_known t.regions p.1)
   names_known (typed.Region k u) e = refs_known u.args (neither (not (has_space tree u.name)) (list_any (misses_region names) u.args) e).1
   names_known (typed.Partition d r c) e = region_known r (neither (not (names_a is_region names r)) (misses_space names c) e).0
@@ -175,9 +175,9 @@ module _ (tree : Tree) (written beside : List Bound) (known : (n : Name) → is_
       list_any (λ (p : Param). says_no_type tree written p.term) all ≡ false
   saying_none [] e = refl
   saying_none (p ∷ ps) e =
-      let parts = or_none (first_of_saying tree (record { written = written; names = beside; param = p })) (first_in (first_of_saying tree) (declared ps)) e in
-      let here = two_none p.line (misnames_in_type tree written p.term) (miscounts_in_type tree p.term) rule.Name rule.Count parts.0 in
-      none_of_two _ _ (none_of_two _ _ here.0 here.1) (saying_none ps parts.1)
+      let subexpressions = or_none (first_of_saying tree (record { written = written; names = beside; param = p })) (first_in (first_of_saying tree) (declared ps)) e in
+      let here = two_none p.line (unbound_name_in_type tree written p.term) (miscounts_in_type tree p.term) rule.Name rule.Count subexpressions.0 in
+      none_of_two _ _ (none_of_two _ _ here.0 here.1) (saying_none ps subexpressions.1)
 
   said_none : (all : List Param) → beside ≡ written → first_in (first_of_saying tree) (declared all) ≡ None →
       first_in (first_of_said tree) (declared all) ≡ None →
@@ -187,9 +187,9 @@ module _ (tree : Tree) (written beside : List Bound) (known : (n : Name) → is_
       let d : Declaration = record { written = written; names = beside; param = p } in
       let says = or_none (first_of_saying tree d) (first_in (first_of_saying tree) (declared ps)) e in
       let said = or_none (first_of_said tree d) (first_in (first_of_said tree) (declared ps)) f in
-      let named = two_none p.line (misnames_in_type tree written p.term) (miscounts_in_type tree p.term) rule.Name rule.Count says.0 in
-      let fits = three_none p.line (mispoints_in_type tree beside p.term) (misfits_in_type tree beside p.term) (miscolours_in_type beside p.term) rule.Pointer rule.Spaces rule.Partition said.0 in
-      let right = ap (λ ns. misnames_in_type tree ns p.term) same ∙ named.0 in
+      let named = two_none p.line (unbound_name_in_type tree written p.term) (miscounts_in_type tree p.term) rule.Name rule.Count says.0 in
+      let fits = three_none p.line (wrong_region_in_type tree beside p.term) (misfits_in_type tree beside p.term) (miscolours_in_type beside p.term) rule.Pointer rule.Spaces rule.Partition said.0 in
+      let right = ap (λ ns. unbound_name_in_type tree ns p.term) same ∙ named.0 in
       let all_known = ap (λ ns. names_unknown ns p.term) same ∙ names_known tree written known p.term named.0 in
       none_of_two _ _ (none_of_two _ _ (none_of_two _ _ (none_of_two _ _ (none_of_two _ _ right named.1) fits.0) fits.1) all_known) (said_none ps same says.1 said.1)
 
@@ -255,8 +255,8 @@ fields_none : (fields : List Param) → first_in first_of_field fields ≡ None 
     list_any (λ (p : Param). is_no_field_type p.term) fields ≡ false
 fields_none [] e = refl
 fields_none (p ∷ ps) e =
-    let parts = or_none (first_of_field p) (first_in first_of_field ps) e in
-    none_of_two _ _ (rule_none _ _ (told_none p.line _ parts.0)) (fields_none ps parts.1)
+    let subexpressions = or_none (first_of_field p) (first_in first_of_field ps) e in
+    none_of_two _ _ (rule_none _ _ (told_none p.line _ subexpressions.0)) (fields_none ps subexpressions.1)
 
 abbrev flaw : Tree → FieldSpace → TypeTerm → Bool
 flaw tree s t = is_no_field_type t || is_flawed_type tree (params_beside tree s.params) t
@@ -312,8 +312,8 @@ spaces_sound : (tree items : Tree) → first_in (first_declared tree) items ≡ 
     (k i : ℕ) → flaw tree (get_or (spaces_of items) k nothing) (term_at (get_or (spaces_of items) k nothing).fields i) ≡ false
 spaces_sound tree [] e k i = refl
 spaces_sound tree (item ∷ items) e k i =
-    let parts = or_none (first_declared tree item) (first_in (first_declared tree) items) e in
-    more_spaces tree item.line item.form items parts.0 (spaces_sound tree items parts.1) k i
+    let subexpressions = or_none (first_declared tree item) (first_in (first_declared tree) items) e in
+    more_spaces tree item.line item.form items subexpressions.0 (spaces_sound tree items subexpressions.1) k i
 
 -- no field's declaration has a breach
 pub field_sound : (tree : Tree) → first_in (first_declared tree) tree ≡ None → (s : ℕ) (f : Name) →
@@ -340,8 +340,8 @@ more_tasks tree line (task_item t) items n e h =
 tasks_sound : (tree items : Tree) → first_in (first_declared tree) items ≡ None → (n : Name) → IsSoundTask tree (task_named items n)
 tasks_sound tree [] e n = no_task_sound tree
 tasks_sound tree (item ∷ items) e n =
-    let parts = or_none (first_declared tree item) (first_in (first_declared tree) items) e in
-    more_tasks tree item.line item.form items n parts.0 (tasks_sound tree items parts.1 n)
+    let subexpressions = or_none (first_declared tree item) (first_in (first_declared tree) items) e in
+    more_tasks tree item.line item.form items n subexpressions.0 (tasks_sound tree items subexpressions.1 n)
 
 -- the task of a name, also where there is none
 pub named_sound : (tree : Tree) → first_in (first_declared tree) tree ≡ None → (n : Name) → IsSoundTask tree (task_named tree n)
@@ -385,8 +385,8 @@ all_told : (misdeclared : Clause → Bool) (cs : List Clause) → list_any misde
     filter (λ c. not (misdeclared c)) cs ≡ cs
 all_told misdeclared [] e = refl
 all_told misdeclared (c ∷ cs) e =
-    let parts = neither (misdeclared c) (list_any misdeclared cs) e in
-    kept (misdeclared c) c (filter (λ c. not (misdeclared c)) cs) cs parts.0 (all_told misdeclared cs parts.1)
+    let subexpressions = neither (misdeclared c) (list_any misdeclared cs) e in
+    kept (misdeclared c) c (filter (λ c. not (misdeclared c)) cs) cs subexpressions.0 (all_told misdeclared cs subexpressions.1)
 
 abbrev scope_with : List Param → List Bound → List Clause → Scope
 scope_with params names clauses = record {

@@ -2,7 +2,7 @@
 -- rule. A tree is accepted where there is none.
 --
 -- A breach stands on the line of its statement, parameter or item. What is unbound or has a breach (an
--- expression, a start value, a declared type), and a region, partition or index space that doesn't
+-- expression, an initializer, a declared type), and a region, partition or index space that doesn't
 -- begin as it must, has an unknown type. That fits everything, so that what follows from a breach is
 -- none.
 use Rattle.std.specs.List.{list_any}
@@ -17,21 +17,21 @@ use Rattle.check_rules.specs.Counts.{miscounts_call, miscounts_in_type}
 use Rattle.check_rules.specs.Declarations.{is_no_field_type, params_of}
 use Rattle.check_rules.specs.Formats.{misprints_form}
 use Rattle.check_rules.specs.Launches.{is_demanded}
-use Rattle.check_rules.specs.Names.{misnames, misnames_form, misnames_in_type, misnames_start}
-use Rattle.check_rules.specs.Partitions.{miscolours_in_type, miscolours_start, mispartitions_call, mispartitions_start}
-use Rattle.check_rules.specs.Places.{lacks_start, misbegins, misplaces, misplaces_in}
-use Rattle.check_rules.specs.Pointers.{mispoints_in, mispoints_in_type}
-use Rattle.check_rules.specs.Privileges.{lacks, read_targets, reads_in, reads_in_start, reductions_by, wanted_by_call, writes_by}
+use Rattle.check_rules.specs.Names.{has_unbound_name, unbound_name_in_form, unbound_name_in_type, unbound_name_in_initializer}
+use Rattle.check_rules.specs.Partitions.{miscolours_in_type, miscolours_initializer, mispartitions_call, mispartitions_initializer}
+use Rattle.check_rules.specs.Places.{lacks_initializer, has_wrong_initializer, misplaces, misplaces_in}
+use Rattle.check_rules.specs.Pointers.{takes_of_wild_in, wrong_region_in_type}
+use Rattle.check_rules.specs.Privileges.{lacks, read_targets, reads_in, reads_in_initializer, reductions_by, wanted_by_call, writes_by}
 use Rattle.check_rules.specs.Repeats.{alias_given, repeats, repeats_within, space_given, task_given}
 use Rattle.check_rules.specs.Results.{misdeclares_result, misreturns}
-use Rattle.check_rules.specs.Shapes.{Calling}
+use Rattle.check_rules.specs.TypedForms.{Calling}
 use Rattle.check_rules.specs.Spaces.{misfits_call, misfits_in_type}
-use Rattle.check_rules.specs.Starting.{misstarts}
+use Rattle.check_rules.specs.Entries.{wrong_entry_lines}
 use Rattle.check_rules.specs.Statements.{standing_in_form}
 use Rattle.check_rules.specs.Targets.{mistargets_form}
-use Rattle.check_rules.specs.Types.{misstands, mistypes}
-use Rattle.check_rules.specs.Variables.{known_start, types_in_start, variable_type}
-use Rattle.check_rules.specs.Visits.{Declaration, Visit, any_written, calls_at, heads_of, lines_declaring, lines_of_declarations, lines_where, shapes_at, shapes_in, start_at}
+use Rattle.check_rules.specs.Types.{is_ill_typed_at_place, mistypes}
+use Rattle.check_rules.specs.Variables.{known_initializer, types_in_initializer, variable_type}
+use Rattle.check_rules.specs.Visits.{Declaration, Visit, any_written, calls_at, heads_of, lines_declaring, lines_of_declarations, lines_where, typed_forms_at, typed_forms_in, initializer_at}
 
 pub record Breach : Type 0 where
   pub rule : ℕ
@@ -39,21 +39,21 @@ pub record Breach : Type 0 where
 
 -- ---- where each rule is looked for
 
--- 1: in written types, expressions, start values, `fill`, `printf` and calls. Parameters are what
+-- 1: in written types, expressions, initializers, `fill`, `printf` and calls. Parameters are what
 -- they are written as, whether or not their own types have a breach.
-abbrev pub misnames_declared : Tree → Declaration → Bool
-misnames_declared tree d = misnames_in_type tree d.written d.param.term
+abbrev pub unbound_name_in_declaration : Tree → Declaration → Bool
+unbound_name_in_declaration tree d = unbound_name_in_type tree d.written d.param.term
 
-abbrev pub misnames_at : Tree → Visit → Bool
-misnames_at tree v = let names = v.scope.names in
-    any_written tree v (misnames_in_type tree)
-    || list_any (misnames tree names) (shapes_at tree v)
-    || list_any (misnames_start tree names) (start_at v.form)
-    || misnames_form tree names v.form
+abbrev pub unbound_name_at : Tree → Visit → Bool
+unbound_name_at tree v = let names = v.scope.names in
+    any_written tree v (unbound_name_in_type tree)
+    || list_any (has_unbound_name tree names) (typed_forms_at tree v)
+    || list_any (unbound_name_in_initializer tree names) (initializer_at v.form)
+    || unbound_name_in_form tree names v.form
 
 abbrev pub name_lines : Tree → List ℕ
 name_lines tree =
-    lines_of_declarations tree (misnames_declared tree) ++ lines_where tree (misnames_at tree)
+    lines_of_declarations tree (unbound_name_in_declaration tree) ++ lines_where tree (unbound_name_at tree)
 
 -- 2: in the whole text, and in each list
 abbrev pub twice_lines : Tree → List ℕ
@@ -68,8 +68,8 @@ has_no_type form = false
 
 abbrev pub mistypes_at : Tree → Visit → Bool
 mistypes_at tree v = has_no_type v.form
-    || list_any (misstands v.scope.known) (standing_in_form tree v.task v.scope v.form)
-    || list_any (mistypes tree v.scope.known) (shapes_at tree v)
+    || list_any (is_ill_typed_at_place v.scope.known) (standing_in_form tree v.task v.scope v.form)
+    || list_any (mistypes tree v.scope.known) (typed_forms_at tree v)
 
 abbrev pub field_lines : ItemForm → List ℕ
 field_lines (space_item s) = map (λ (p : Param). p.line)
@@ -90,17 +90,17 @@ count_lines tree =
     lines_declaring tree (λ names. miscounts_in_type tree) ++ lines_where tree (miscounts_at tree)
 
 -- 5: in statements and expressions, and how variables begin
-abbrev pub misbegins_at : Tree → Scope → Form → Bool
-misbegins_at tree s (var_form n t start) =
-    let wanted = variable_type tree s t start in
-    lacks_start wanted start
-    || list_any (λ i. misbegins s.names wanted (known_start tree s i) i) (option_to_list start)
-misbegins_at tree s form = false
+abbrev pub wrong_initializer_at : Tree → Scope → Form → Bool
+wrong_initializer_at tree s (var_form n t initializer) =
+    let wanted = variable_type tree s t initializer in
+    lacks_initializer wanted initializer
+    || list_any (λ i. has_wrong_initializer s.names wanted (known_initializer tree s i) i) (option_to_list initializer)
+wrong_initializer_at tree s form = false
 
 abbrev pub misplaces_at : Tree → Visit → Bool
 misplaces_at tree v =
     list_any misplaces (standing_in_form tree v.task v.scope v.form)
-    || list_any (misplaces_in tree) (shapes_at tree v) || misbegins_at tree v.scope v.form
+    || list_any (misplaces_in tree) (typed_forms_at tree v) || wrong_initializer_at tree v.scope v.form
 
 abbrev pub place_lines : Tree → List ℕ
 place_lines tree = lines_where tree (misplaces_at tree)
@@ -114,12 +114,12 @@ target_lines tree =
 abbrev pub format_lines : Tree → List ℕ
 format_lines tree = lines_where tree (λ (v : Visit). misprints_form tree v.scope v.form)
 
--- 8: in expressions, targets and start values
+-- 8: in expressions, targets and initializers
 abbrev pub reads_at : Tree → Visit → List Wanted
 reads_at tree v = let s = v.scope in
     flat_map (reads_in tree)
-    (shapes_in tree s (heads_of s.names v.form ++ read_targets v.form))
-    ++ flat_map (reads_in_start tree s.names) (start_at v.form)
+    (typed_forms_in tree s (heads_of s.names v.form ++ read_targets v.form))
+    ++ flat_map (reads_in_initializer tree s.names) (initializer_at v.form)
 
 abbrev pub read_lines : Tree → List ℕ
 read_lines tree =
@@ -146,13 +146,13 @@ constraint_lines tree = lines_where tree
     (λ (v : Visit). list_any (breaks_constraint tree v.scope.known) (calls_at tree v))
 
 -- 13: in written types, and in expressions and targets
-abbrev pub mispoints_at : Tree → Visit → Bool
-mispoints_at tree v = any_written tree v (mispoints_in_type tree)
-    || list_any mispoints_in (shapes_at tree v)
+abbrev pub wrong_pointer_at : Tree → Visit → Bool
+wrong_pointer_at tree v = any_written tree v (wrong_region_in_type tree)
+    || list_any takes_of_wild_in (typed_forms_at tree v)
 
 abbrev pub pointer_lines : Tree → List ℕ
 pointer_lines tree =
-    lines_declaring tree (mispoints_in_type tree) ++ lines_where tree (mispoints_at tree)
+    lines_declaring tree (wrong_region_in_type tree) ++ lines_where tree (wrong_pointer_at tree)
 
 -- 14: in written types and calls
 abbrev pub misfits_at : Tree → Visit → Bool
@@ -163,12 +163,12 @@ abbrev pub space_lines : Tree → List ℕ
 space_lines tree =
     lines_declaring tree (misfits_in_type tree) ++ lines_where tree (misfits_at tree)
 
--- 15: in written types, calls and start values
+-- 15: in written types, calls and initializers
 abbrev pub mispartitions_at : Tree → Visit → Bool
 mispartitions_at tree v = any_written tree v miscolours_in_type
     || list_any (λ (c : Calling). mispartitions_call (params_of tree c.task) c) (calls_at tree v)
-    || list_any (mispartitions_start tree v.scope) (start_at v.form)
-    || list_any (λ i. miscolours_start i (types_in_start tree v.scope i)) (start_at v.form)
+    || list_any (mispartitions_initializer tree v.scope) (initializer_at v.form)
+    || list_any (λ i. miscolours_initializer i (types_in_initializer tree v.scope i)) (initializer_at v.form)
 
 abbrev pub partition_lines : Tree → List ℕ
 partition_lines tree =
@@ -187,8 +187,8 @@ return_lines tree = lines_of_items tree misdeclares_result
     ++ lines_where tree (λ (v : Visit). misreturns v.task v.form)
 
 -- 18: in the whole text
-abbrev pub start_lines : Tree → List ℕ
-start_lines tree = misstarts tree
+abbrev pub entry_lines : Tree → List ℕ
+entry_lines tree = wrong_entry_lines tree
 
 -- 19: in loops
 abbrev pub launch_lines : Tree → List ℕ
@@ -234,6 +234,6 @@ breaches tree = each_once (broken 1 (name_lines tree)
     ++ broken 15 (partition_lines tree)
     ++ broken 16 (declared_lines tree)
     ++ broken 17 (return_lines tree)
-    ++ broken 18 (start_lines tree)
+    ++ broken 18 (entry_lines tree)
     ++ broken 19 (launch_lines tree)
     ++ broken 20 (interference_lines tree))

@@ -11,7 +11,7 @@ use Rattle.regent_tree.specs.declared.facts.Known.{Known}
 use Rattle.regent_tree.specs.declared.program.Clause.{Clause}
 use Rattle.regent_tree.specs.declared.program.Clause.TheVariants as clause
 use Rattle.regent_tree.specs.declared.types.Param.{Param}
-use Rattle.check_rules.specs.Shapes.{Calling}
+use Rattle.check_rules.specs.TypedForms.{Calling}
 use Rattle.check_rules.specs.Sorts.{type_at}
 
 -- of two regions; what isn't a region is told elsewhere

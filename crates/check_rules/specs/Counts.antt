@@ -7,7 +7,7 @@ use Rattle.regent_tree.specs.declared.types.SpaceUse.{SpaceUse}
 use Rattle.regent_tree.specs.declared.types.TypeTerm.{TypeTerm}
 use Rattle.regent_tree.specs.declared.types.TypeTerm.TheVariants as typed
 use Rattle.regent_tree.specs.Lookup.{has_space, has_task, space_used}
-use Rattle.check_rules.specs.Shapes.{Calling, Shape, call_in}
+use Rattle.check_rules.specs.TypedForms.{Calling, TypedForm, call_in}
 
 -- what a written type names
 abbrev pub uses_of : TypeTerm → List SpaceUse
@@ -27,5 +27,5 @@ abbrev pub miscounts_call : Tree → Calling → Bool
 miscounts_call tree c = has_task tree c.task
     && not (length c.args == length (task_named tree c.task).params)
 
-abbrev pub miscounts : Tree → Shape → Bool
-miscounts tree shape = list_any (miscounts_call tree) (call_in shape)
+abbrev pub miscounts : Tree → TypedForm → Bool
+miscounts tree typed_form = list_any (miscounts_call tree) (call_in typed_form)

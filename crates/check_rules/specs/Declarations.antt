@@ -13,7 +13,7 @@ use Rattle.regent_tree.specs.declared.types.Ref.TheVariants.{Named, Wild}
 use Rattle.regent_tree.specs.declared.types.TypeTerm.{TypeTerm}
 use Rattle.regent_tree.specs.declared.types.TypeTerm.TheVariants as typed
 use Rattle.regent_tree.specs.Lookup.{has_field, type_named}
-use Rattle.check_rules.specs.Pointers.{mispoints_in_type}
+use Rattle.check_rules.specs.Pointers.{wrong_region_in_type}
 use Rattle.check_rules.specs.Sorts.{is_unknown_type}
 use Rattle.check_rules.specs.Spaces.{misfits_in_type}
 use Rattle.check_rules.specs.Params.{params_beside, says_no_type, term_at, type_unless, types_in_order, with_unknown}
@@ -35,7 +35,7 @@ names_unknown names t = false
 -- the type has a breach, or depends on what is unknown: what it says is taken for unknown
 abbrev pub is_flawed_type : Tree → List Bound → TypeTerm → Bool
 is_flawed_type tree names t =
-    says_no_type tree names t || mispoints_in_type tree names t || misfits_in_type tree names t
+    says_no_type tree names t || wrong_region_in_type tree names t || misfits_in_type tree names t
     || names_unknown names t
 
 -- ---- parameters

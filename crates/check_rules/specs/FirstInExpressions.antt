@@ -17,53 +17,53 @@ use Rattle.regent_tree.specs.declared.typing.StaticType.{StaticType}
 use Rattle.check_rules.specs.Constraints.{breaks_constraint}
 use Rattle.check_rules.specs.Counts.{miscounts_call, miscounts_in_type}
 use Rattle.check_rules.specs.Declarations.{params_of}
-use Rattle.check_rules.specs.KnownTypes.{known_type, known_types, type_behind_operator, type_behind_signs, type_behind_step}
-use Rattle.check_rules.specs.Names.{misnames_field, misnames_in_type, misnames_task}
+use Rattle.check_rules.specs.KnownTypes.{known_type, known_types, known_type_after_operator, known_type_after_signs, known_type_after_step}
+use Rattle.check_rules.specs.Names.{is_unknown_field, unbound_name_in_type, is_unknown_task}
 use Rattle.check_rules.specs.Partitions.{miscolours_in_type, mispartitions_call}
 use Rattle.check_rules.specs.Places.{misplaces}
-use Rattle.check_rules.specs.Pointers.{mispoints_in_type, takes_of_wild}
+use Rattle.check_rules.specs.Pointers.{wrong_region_in_type, takes_of_wild}
 use Rattle.check_rules.specs.Privileges.{lacks, wanted_by_call, wanted_of_step}
 use Rattle.check_rules.specs.Rules.{first_in, first_of, rule_if}
-use Rattle.check_rules.specs.Shapes.{Calling, Computing, Taking, calling, computing, element_of, field_of}
+use Rattle.check_rules.specs.TypedForms.{Calling, Computing, Taking, calling, computing, element_of, field_of}
 use Rattle.check_rules.specs.Sorts.{is_collection}
 use Rattle.check_rules.specs.Spaces.{misfits_call, misfits_in_type}
 use Rattle.check_rules.specs.Standing.{Standing, integer_spot, number_spot, pointer_spot, spot_of_sign, standing_in_call, standing_in_step, stands}
-use Rattle.check_rules.specs.Types.{has_no_result, misoperates, misstands, mistakes}
+use Rattle.check_rules.specs.Types.{has_no_result, is_ill_typed_operation, is_ill_typed_at_place, is_ill_typed_step}
 use Rattle.check_rules.specs.declared.rule.Rule.{Rule}
 use Rattle.check_rules.specs.declared.rule.Rule.TheVariants as rule
 
 -- ---- a written type, and what stands somewhere
 
 abbrev pub first_in_type : Tree → List Bound → TypeTerm → Option Rule
-first_in_type tree names t = first_of (rule_if (misnames_in_type tree names t) rule.Name
+first_in_type tree names t = first_of (rule_if (unbound_name_in_type tree names t) rule.Name
     ∷ rule_if (miscounts_in_type tree t) rule.Count
-    ∷ rule_if (mispoints_in_type tree names t) rule.Pointer
+    ∷ rule_if (wrong_region_in_type tree names t) rule.Pointer
     ∷ rule_if (misfits_in_type tree names t) rule.Spaces
     ∷ rule_if (miscolours_in_type names t) rule.Partition
     ∷ [])
 
 abbrev pub first_of_standing : List Known → Standing → Option Rule
 first_of_standing known s =
-    first_of (rule_if (misplaces s) rule.Place ∷ rule_if (misstands known s) rule.Type ∷ [])
+    first_of (rule_if (misplaces s) rule.Place ∷ rule_if (is_ill_typed_at_place known s) rule.Type ∷ [])
 
 -- ---- parts of expressions
 
 abbrev pub first_of_operator : Computing → Option Rule
 first_of_operator c =
     first_of (rule_if (is_collection c.left || is_collection c.right) rule.Place
-    ∷ rule_if (misoperates c) rule.Type
+    ∷ rule_if (is_ill_typed_operation c) rule.Type
     ∷ [])
 
 -- prefixes, the outermost first; the innermost is looked at first
 abbrev pub first_of_signs : List Sign → StaticType → Option Rule
 first_of_signs [] t = None
 first_of_signs (sign ∷ signs) t = option_or (first_of_signs signs t)
-    (first_of_standing [] (stands (type_behind_signs signs t) (spot_of_sign sign)))
+    (first_of_standing [] (stands (known_type_after_signs signs t) (spot_of_sign sign)))
 
 -- a step of an access, but for the reading of a field
 abbrev pub first_of_taking : Tree → Taking → Option Rule
-first_of_taking tree taking = first_of (rule_if (misnames_field tree taking) rule.Name
-    ∷ rule_if (mistakes taking) rule.Type
+first_of_taking tree taking = first_of (rule_if (is_unknown_field tree taking) rule.Name
+    ∷ rule_if (is_ill_typed_step taking) rule.Type
     ∷ first_in (first_of_standing []) (standing_in_step taking)
     ∷ rule_if (takes_of_wild taking) rule.Pointer
     ∷ [])
@@ -79,7 +79,7 @@ first_of_step tree task s taking =
 -- a call, whether it stands alone or in an expression
 abbrev pub first_of_call : Tree → TaskTree → Scope → Calling → Option Rule
 first_of_call tree task s c = let params = params_of tree c.task in
-    first_of (rule_if (misnames_task tree c) rule.Name
+    first_of (rule_if (is_unknown_task tree c) rule.Name
     ∷ rule_if (miscounts_call tree c) rule.Count
     ∷ first_in (first_of_standing s.known) (standing_in_call tree c)
     ∷ rule_if (misfits_call params c) rule.Spaces
@@ -127,7 +127,7 @@ abbrev mutual
   first_in_links tree task s t (a_link o e rest) =
       let c = computing o t (known_type tree s e) in
       option_or (first_in_expression tree task s e) (option_or (first_of_operator c)
-      (first_in_links tree task s (type_behind_operator c) rest))
+      (first_in_links tree task s (known_type_after_operator c) rest))
 
   pub first_in_args : Tree → TaskTree → Scope → Expressions → Option Rule
   first_in_args tree task s no_expr = None
@@ -140,11 +140,11 @@ abbrev mutual
   first_in_steps tree task s t (field_step f rest) =
       let taking = field_of t f in
       option_or (first_of_step tree task s taking) (first_in_steps tree task s
-      (type_behind_step tree taking (type_of_field tree t f)) rest)
+      (known_type_after_step tree taking (type_of_field tree t f)) rest)
   first_in_steps tree task s t (at_step e rest) =
       let taking = element_of t (known_type tree s e) in
       option_or (first_in_expression tree task s e) (option_or (first_of_step tree task s taking)
-      (first_in_steps tree task s (type_behind_step tree taking (type_of_element s t e)) rest))
+      (first_in_steps tree task s (known_type_after_step tree taking (type_of_element s t e)) rest))
 
 -- the steps of a target: a field that is assigned or reduced is not read
 abbrev pub first_in_target_steps : Tree → TaskTree → Scope → StaticType → Steps → Option Rule
@@ -153,12 +153,12 @@ first_in_target_steps tree task s t (field_step f no_step) = first_of_taking tre
 first_in_target_steps tree task s t (field_step f rest) =
     let taking = field_of t f in
     option_or (first_of_step tree task s taking) (first_in_target_steps tree task s
-    (type_behind_step tree taking (type_of_field tree t f)) rest)
+    (known_type_after_step tree taking (type_of_field tree t f)) rest)
 first_in_target_steps tree task s t (at_step e rest) =
     let taking = element_of t (known_type tree s e) in
     option_or (first_in_expression tree task s e) (option_or (first_of_step tree task s taking)
     (first_in_target_steps tree task s
-    (type_behind_step tree taking (type_of_element s t e)) rest))
+    (known_type_after_step tree taking (type_of_element s t e)) rest))
 
 abbrev pub first_in_target : Tree → TaskTree → Scope → Name → Steps → Option Rule
 first_in_target tree task s n steps = option_or (rule_if (not (is_bound s.names n)) rule.Name)

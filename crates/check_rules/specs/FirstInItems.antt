@@ -9,14 +9,14 @@ use Rattle.check_rules.specs.Counts.{miscounts_in_type}
 use Rattle.check_rules.specs.Bodies.{body_scope}
 use Rattle.check_rules.specs.Declarations.{is_no_field_type}
 use Rattle.check_rules.specs.FirstInStatements.{first_in_block, told_on}
-use Rattle.check_rules.specs.Names.{misnames_in_type}
+use Rattle.check_rules.specs.Names.{unbound_name_in_type}
 use Rattle.check_rules.specs.Partitions.{miscolours_in_type}
-use Rattle.check_rules.specs.Pointers.{mispoints_in_type}
+use Rattle.check_rules.specs.Pointers.{wrong_region_in_type}
 use Rattle.check_rules.specs.Repeats.{alias_given, repeats, repeats_within, space_given, task_given}
 use Rattle.check_rules.specs.Results.{misdeclares_result}
 use Rattle.check_rules.specs.Rules.{first_in, first_of, number_of, rule_if}
 use Rattle.check_rules.specs.Spaces.{misfits_in_type}
-use Rattle.check_rules.specs.Starting.{misstarts}
+use Rattle.check_rules.specs.Entries.{wrong_entry_lines}
 use Rattle.check_rules.specs.Visits.{Declaration, declarations_of_item}
 use Rattle.check_rules.specs.declared.rule.Rule.{Rule}
 use Rattle.check_rules.specs.declared.rule.Rule.TheVariants as rule
@@ -38,13 +38,13 @@ first_repeated tree =
 -- the list do, what it says.
 abbrev pub first_of_saying : Tree → Declaration → Option Breach
 first_of_saying tree d = told_on d.param.line
-    (first_of (rule_if (misnames_in_type tree d.written d.param.term) rule.Name
+    (first_of (rule_if (unbound_name_in_type tree d.written d.param.term) rule.Name
     ∷ rule_if (miscounts_in_type tree d.param.term) rule.Count
     ∷ []))
 
 abbrev pub first_of_said : Tree → Declaration → Option Breach
 first_of_said tree d = told_on d.param.line
-    (first_of (rule_if (mispoints_in_type tree d.names d.param.term) rule.Pointer
+    (first_of (rule_if (wrong_region_in_type tree d.names d.param.term) rule.Pointer
     ∷ rule_if (misfits_in_type tree d.names d.param.term) rule.Spaces
     ∷ rule_if (miscolours_in_type d.names d.param.term) rule.Partition
     ∷ []))
@@ -74,7 +74,7 @@ first_in_body tree form = None
 
 abbrev pub first_breach : Tree → Option Breach
 first_breach tree = first_of (first_repeated tree
-    ∷ first_line rule.Start (misstarts tree)
+    ∷ first_line rule.Start (wrong_entry_lines tree)
     ∷ first_in (first_declared tree) tree
     ∷ first_in (λ (i : ItemTree). first_in_body tree i.form) tree
     ∷ [])

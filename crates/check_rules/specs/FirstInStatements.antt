@@ -3,30 +3,30 @@
 use Rattle.std.specs.Option.{option_map, option_or}
 use Rattle.std.specs.Prelude.{None, Option, [], ℕ, ◌∷◌}
 use Rattle.regent_tree.specs.Scopes.{Scope, past}
-use Rattle.regent_tree.specs.Syntax.{Arms, Block, Form, Otherwise, Start, TaskTree, Tree, a_statement, an_arm, assign_form, do_form, else_block, for_in_form, for_to_form, if_form, no_arm, no_else, no_statement, then_statement, while_form}
-use Rattle.check_rules.specs.Breaches.{Breach, breaks, has_no_type, misbegins_at}
+use Rattle.regent_tree.specs.Syntax.{Arms, Block, Form, Otherwise, Initializer, TaskTree, Tree, a_statement, an_arm, assign_form, do_form, else_block, for_in_form, for_to_form, if_form, no_arm, no_else, no_statement, then_statement, while_form}
+use Rattle.check_rules.specs.Breaches.{Breach, breaks, has_no_type, wrong_initializer_at}
 use Rattle.check_rules.specs.FirstInExpressions.{first_in_expression, first_in_target, first_in_type, first_of_call, first_of_standing}
 use Rattle.check_rules.specs.Formats.{misprints_form}
 use Rattle.check_rules.specs.Launches.{is_demanded}
-use Rattle.check_rules.specs.Names.{misnames_form, misnames_start}
-use Rattle.check_rules.specs.Partitions.{miscolours_start, mispartitions_start}
-use Rattle.check_rules.specs.Privileges.{lacks, reads_in_start, reductions_by, writes_by}
+use Rattle.check_rules.specs.Names.{unbound_name_in_form, unbound_name_in_initializer}
+use Rattle.check_rules.specs.Partitions.{miscolours_initializer, mispartitions_initializer}
+use Rattle.check_rules.specs.Privileges.{lacks, reads_in_initializer, reductions_by, writes_by}
 use Rattle.check_rules.specs.Results.{misreturns}
 use Rattle.check_rules.specs.Rules.{first_in, first_of, number_of, rule_if}
 use Rattle.check_rules.specs.Statements.{standing_in_form}
 use Rattle.check_rules.specs.Targets.{mistargets_form}
-use Rattle.check_rules.specs.Variables.{scope_behind, scope_behind_arms, scope_behind_block, scope_in_count, scope_in_loop, types_in_start, written_in_start}
-use Rattle.check_rules.specs.Visits.{call_of_form, declared_at, heads_of, start_at}
+use Rattle.check_rules.specs.Variables.{known_scope_after, known_scope_after_arms, known_scope_after_block, scope_in_count, scope_in_loop, types_in_initializer, written_in_initializer}
+use Rattle.check_rules.specs.Visits.{call_of_form, declared_at, heads_of, initializer_at}
 use Rattle.check_rules.specs.declared.rule.Rule.{Rule}
 use Rattle.check_rules.specs.declared.rule.Rule.TheVariants as rule
 
--- a start value, but for the expressions in it
-abbrev pub first_of_start : Tree → TaskTree → Scope → Start → Option Rule
-first_of_start tree task s i = first_of (first_in (first_in_type tree s.names) (written_in_start i)
-    ∷ rule_if (misnames_start tree s.names i) rule.Name
-    ∷ rule_if (mispartitions_start tree s i) rule.Partition
-    ∷ rule_if (miscolours_start i (types_in_start tree s i)) rule.Partition
-    ∷ rule_if (lacks tree task s (reads_in_start tree s.names i)) rule.Read
+-- an initializer, but for the expressions in it
+abbrev pub first_of_initializer : Tree → TaskTree → Scope → Initializer → Option Rule
+first_of_initializer tree task s i = first_of (first_in (first_in_type tree s.names) (written_in_initializer i)
+    ∷ rule_if (unbound_name_in_initializer tree s.names i) rule.Name
+    ∷ rule_if (mispartitions_initializer tree s i) rule.Partition
+    ∷ rule_if (miscolours_initializer i (types_in_initializer tree s i)) rule.Partition
+    ∷ rule_if (lacks tree task s (reads_in_initializer tree s.names i)) rule.Read
     ∷ [])
 
 abbrev pub first_in_targets : Tree → TaskTree → Scope → Form → Option Rule
@@ -40,11 +40,11 @@ first_of_form tree task s form =
     ∷ rule_if (has_no_type form) rule.Type
     ∷ first_in (first_in_expression tree task s) (heads_of s.names form)
     ∷ first_in_targets tree task s form
-    ∷ rule_if (misnames_form tree s.names form) rule.Name
-    ∷ first_in (first_of_start tree task s) (start_at form)
+    ∷ rule_if (unbound_name_in_form tree s.names form) rule.Name
+    ∷ first_in (first_of_initializer tree task s) (initializer_at form)
     ∷ first_in (first_of_call tree task s) (call_of_form tree s form)
     ∷ first_in (first_of_standing s.known) (standing_in_form tree task s form)
-    ∷ rule_if (misbegins_at tree s form) rule.Place
+    ∷ rule_if (wrong_initializer_at tree s form) rule.Place
     ∷ rule_if (mistargets_form tree task s form) rule.Target
     ∷ rule_if (misprints_form tree s form) rule.Format
     ∷ rule_if (lacks tree task s (writes_by tree s form)) rule.Write
@@ -64,12 +64,12 @@ abbrev mutual
   first_in_block tree task s (then_statement (a_statement line form) rest) =
       option_or (told_on line (first_of_form tree task s form))
       (option_or (first_within tree task s form)
-      (first_in_block tree task (scope_behind tree s form) rest))
+      (first_in_block tree task (known_scope_after tree s form) rest))
 
   -- in the blocks of a statement
   pub first_within : Tree → TaskTree → Scope → Form → Option Breach
   first_within tree task s (if_form arms other) = option_or (first_in_arms tree task s arms)
-      (first_in_else tree task (scope_behind_arms tree s arms) other)
+      (first_in_else tree task (known_scope_after_arms tree s arms) other)
   first_within tree task s (while_form test body) = first_in_block tree task s body
   first_within tree task s (for_in_form demanded n domain body) =
       first_in_block tree task (scope_in_loop tree s n domain) body
@@ -82,7 +82,7 @@ abbrev mutual
   first_in_arms tree task s no_arm = None
   first_in_arms tree task s (an_arm test body rest) =
       option_or (first_in_block tree task s body)
-      (first_in_arms tree task (past s (scope_behind_block tree s body)) rest)
+      (first_in_arms tree task (past s (known_scope_after_block tree s body)) rest)
 
   pub first_in_else : Tree → TaskTree → Scope → Otherwise → Option Breach
   first_in_else tree task s no_else = None

@@ -17,28 +17,28 @@ abbrev mutual
   pub numbers_in : List ℕ → Option ℕ
   numbers_in [] = Some 0
   numbers_in (c ∷ cs) =
-      elim (c == 37) [ true ↦ behind_percent cs | false ↦ numbers_in cs ]
+      elim (c == 37) [ true ↦ after_percent cs | false ↦ numbers_in cs ]
 
-  pub behind_percent : List ℕ → Option ℕ
-  behind_percent [] = None
-  behind_percent (c ∷ cs) = elim (c == 37) [
+  pub after_percent : List ℕ → Option ℕ
+  after_percent [] = None
+  after_percent (c ∷ cs) = elim (c == 37) [
     | true ↦ numbers_in cs
     | false ↦ elim (c == 108) [
-      | true ↦ behind_l cs
+      | true ↦ after_l cs
       | false ↦ elim (c == 100) [ true ↦ one_more (numbers_in cs) | false ↦ None ]
     ]
   ]
 
-  pub behind_l : List ℕ → Option ℕ
-  behind_l [] = None
-  behind_l (c ∷ cs) = elim (c == 108) [
-    | true ↦ behind_two_l cs
+  pub after_l : List ℕ → Option ℕ
+  after_l [] = None
+  after_l (c ∷ cs) = elim (c == 108) [
+    | true ↦ after_two_l cs
     | false ↦ elim (c == 100) [ true ↦ one_more (numbers_in cs) | false ↦ None ]
   ]
 
-  pub behind_two_l : List ℕ → Option ℕ
-  behind_two_l [] = None
-  behind_two_l (c ∷ cs) =
+  pub after_two_l : List ℕ → Option ℕ
+  after_two_l [] = None
+  after_two_l (c ∷ cs) =
       elim (c == 100) [ true ↦ one_more (numbers_in cs) | false ↦ None ]
 
 abbrev pub is_count : ℕ → Option ℕ → Bool

@@ -2,7 +2,7 @@ pub mod Sorts
 pub mod Fitting
 pub mod Lookup
 pub mod Parts
-pub mod Shapes
+pub mod TypedForms
 pub mod Names
 pub mod Counts
 pub mod Pointers
@@ -25,7 +25,7 @@ pub mod Clauses
 pub mod Bodies
 pub mod Results
 pub mod Repeats
-pub mod Starting
+pub mod Entries
 pub mod Launches
 pub mod Breaches
 pub mod Laws

@@ -9,11 +9,11 @@ use Rattle.regent_tree.specs.declared.types.Param.{Param}
 use Rattle.regent_tree.specs.declared.types.TypeTerm.{TypeTerm}
 use Rattle.regent_tree.specs.declared.types.TypeTerm.TheVariants as typed
 use Rattle.check_rules.specs.Counts.{miscounts_in_type}
-use Rattle.check_rules.specs.Names.{misnames_in_type}
+use Rattle.check_rules.specs.Names.{unbound_name_in_type}
 
 -- a name or a count in the type is wrong, so that it says no type
 abbrev pub says_no_type : Tree → List Bound → TypeTerm → Bool
-says_no_type tree names t = misnames_in_type tree names t || miscounts_in_type tree t
+says_no_type tree names t = unbound_name_in_type tree names t || miscounts_in_type tree t
 
 abbrev pub type_unless : Bool → StaticType → StaticType
 type_unless flawed t = cond flawed unknown_type t

@@ -5,10 +5,10 @@ use Rattle.std.specs.Prelude.{Bool, List, None, Option, Some, [], cond, false, n
 use Rattle.regent_tree.specs.Facts.{is_name, is_subregion}
 use Rattle.regent_tree.specs.Scopes.{Scope, bound_to}
 use Rattle.regent_tree.specs.declared.typing.Bound.{Bound}
-use Rattle.regent_tree.specs.Starting.{colours}
+use Rattle.regent_tree.specs.Initializers.{colours}
 use Rattle.regent_tree.specs.declared.typing.StaticType.{StaticType}
 use Rattle.regent_tree.specs.declared.typing.StaticType.TheVariants.{Partition as partition_type, Region as region_type}
-use Rattle.regent_tree.specs.Syntax.{Expression, Name, Start, Tree, a_link, access_expr, both_start, by_field_start, chain_expr, either_start, equal_start, image_start, no_link, no_step, plain_start, preimage_start}
+use Rattle.regent_tree.specs.Syntax.{Expression, Name, Initializer, Tree, a_link, access_expr, both_initializer, by_field_initializer, chain_expr, either_initializer, equal_initializer, image_initializer, no_link, no_step, plain_initializer, preimage_initializer}
 use Rattle.regent_tree.specs.Typing.{is_pointer}
 use Rattle.regent_tree.specs.declared.expression.Arithmetic.TheVariants.{Subtract}
 use Rattle.regent_tree.specs.declared.expression.Operator.TheVariants.{Compute}
@@ -19,7 +19,7 @@ use Rattle.regent_tree.specs.declared.types.TypeTerm.TheVariants as typed
 use Rattle.check_rules.specs.Declarations.{known_field}
 use Rattle.regent_tree.specs.Lookup.{type_named}
 use Rattle.check_rules.specs.Lookup.{names_a}
-use Rattle.check_rules.specs.Shapes.{Calling}
+use Rattle.check_rules.specs.TypedForms.{Calling}
 use Rattle.check_rules.specs.Sorts.{is_index, is_integer, is_partition, is_region, is_unknown_type, is_unstructured, may_be, type_at}
 
 -- ---- types
@@ -56,27 +56,27 @@ mispartition_in types (p ∷ ps) (t ∷ ts) =
 abbrev pub mispartitions_call : List StaticType → Calling → Bool
 mispartitions_call params c = mispartition_in c.args params c.args
 
--- ---- start values
+-- ---- initializers
 
 -- two names of partitions, as far as is known; a name that isn't bound may be one
 abbrev pub may_be_partitions : List Bound → Name → Name → Bool
 may_be_partitions names p q =
     may_be is_partition (type_named names p) && may_be is_partition (type_named names q)
 
--- the difference of two partitions: two bare names with one `-`, as the whole of a start value
+-- the difference of two partitions: two bare names with one `-`, as the whole of an initializer
 abbrev pub is_difference : List Bound → Expression → Bool
 is_difference names (chain_expr (access_expr p no_step)
     (a_link (Compute Subtract) (access_expr q no_step) no_link)) = may_be_partitions names p q
 is_difference names e = false
 
 -- the two partitions of a set operation
-abbrev pub operands_of : List Bound → Start → List (Name × Name)
-operands_of names (both_start p q) = (p, q) ∷ []
-operands_of names (either_start p q) = (p, q) ∷ []
-operands_of names (plain_start (chain_expr (access_expr p no_step)
+abbrev pub operands_of : List Bound → Initializer → List (Name × Name)
+operands_of names (both_initializer p q) = (p, q) ∷ []
+operands_of names (either_initializer p q) = (p, q) ∷ []
+operands_of names (plain_initializer (chain_expr (access_expr p no_step)
     (a_link (Compute Subtract) (access_expr q no_step) no_link))) =
     cond (may_be_partitions names p q) ((p, q) ∷ []) []
-operands_of names start = []
+operands_of names initializer = []
 
 -- a field that tells colours is an integer or index, one that tells points an index or pointer
 abbrev pub tells_colours : StaticType → Bool
@@ -101,26 +101,26 @@ have_other_parents t u = false
 -- an `image` where the partition's parent isn't within the field's region, a `preimage` where the
 -- new partition's isn't, a set operation of partitions with different parents, a field of another
 -- type
-abbrev pub mispartitions_start : Tree → Scope → Start → Bool
-mispartitions_start tree s (by_field_start r f e) =
+abbrev pub mispartitions_initializer : Tree → Scope → Initializer → Bool
+mispartitions_initializer tree s (by_field_initializer r f e) =
     not (tells_colours (known_field tree (type_named s.names r) f))
-mispartitions_start tree s (image_start parent p r f) =
+mispartitions_initializer tree s (image_initializer parent p r f) =
     parent_is_outside s.known (type_named s.names p) (type_named s.names r)
     || not (tells_points (known_field tree (type_named s.names r) f))
-mispartitions_start tree s (preimage_start parent p r f) =
+mispartitions_initializer tree s (preimage_initializer parent p r f) =
     (names_a is_region s.names parent && not (is_unknown_type (type_named s.names parent))
     && is_outside s.known (bound_to s.names parent).number (type_named s.names r))
     || not (tells_points (known_field tree (type_named s.names r) f))
-mispartitions_start tree s start = list_any
+mispartitions_initializer tree s initializer = list_any
     (λ (pq : Name × Name).
     have_other_parents (type_named s.names pq.0) (type_named s.names pq.1))
-    (operands_of s.names start)
+    (operands_of s.names initializer)
 
 -- the colours of a partition, whose type is among these, are an index space of kind `ptr`
-abbrev pub has_colours : Start → Bool
-has_colours (equal_start r e) = true
-has_colours (by_field_start r f e) = true
-has_colours start = false
+abbrev pub has_colours : Initializer → Bool
+has_colours (equal_initializer r e) = true
+has_colours (by_field_initializer r f e) = true
+has_colours initializer = false
 
-abbrev pub miscolours_start : Start → List StaticType → Bool
-miscolours_start start types = has_colours start && list_any is_unstructured types
+abbrev pub miscolours_initializer : Initializer → List StaticType → Bool
+miscolours_initializer initializer types = has_colours initializer && list_any is_unstructured types

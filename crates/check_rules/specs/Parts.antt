@@ -4,31 +4,31 @@ use Rattle.regent_tree.specs.Syntax.{Arms, Expression, Expressions, Links, Steps
 
 -- an expression and all expressions in it
 abbrev mutual
-  pub parts : Expression → List Expression
-  parts (number_expr z w) = number_expr z w ∷ []
-  parts (truth_expr b) = truth_expr b ∷ []
-  parts (chain_expr first rest) = chain_expr first rest ∷ parts first ++ parts_of_links rest
-  parts (prefix_expr signs e) = prefix_expr signs e ∷ parts e
-  parts (call_expr task args) = call_expr task args ∷ parts_of_args args
-  parts (access_expr n steps) = access_expr n steps ∷ parts_of_steps steps
-  parts (convert_expr t e) = convert_expr t e ∷ parts e
-  parts (is_null_expr e) = is_null_expr e ∷ parts e
-  parts (null_expr p) = null_expr p ∷ []
-  parts (cast_expr p e) = cast_expr p e ∷ parts e
-  parts (space_expr k e) = space_expr k e ∷ parts e
+  pub subexpressions : Expression → List Expression
+  subexpressions (number_expr z w) = number_expr z w ∷ []
+  subexpressions (truth_expr b) = truth_expr b ∷ []
+  subexpressions (chain_expr first rest) = chain_expr first rest ∷ subexpressions first ++ parts_of_links rest
+  subexpressions (prefix_expr signs e) = prefix_expr signs e ∷ subexpressions e
+  subexpressions (call_expr task args) = call_expr task args ∷ parts_of_args args
+  subexpressions (access_expr n steps) = access_expr n steps ∷ parts_of_steps steps
+  subexpressions (convert_expr t e) = convert_expr t e ∷ subexpressions e
+  subexpressions (is_null_expr e) = is_null_expr e ∷ subexpressions e
+  subexpressions (null_expr p) = null_expr p ∷ []
+  subexpressions (cast_expr p e) = cast_expr p e ∷ subexpressions e
+  subexpressions (space_expr k e) = space_expr k e ∷ subexpressions e
 
   pub parts_of_links : Links → List Expression
   parts_of_links no_link = []
-  parts_of_links (a_link o e rest) = parts e ++ parts_of_links rest
+  parts_of_links (a_link o e rest) = subexpressions e ++ parts_of_links rest
 
   pub parts_of_args : Expressions → List Expression
   parts_of_args no_expr = []
-  parts_of_args (an_expr e es) = parts e ++ parts_of_args es
+  parts_of_args (an_expr e es) = subexpressions e ++ parts_of_args es
 
   pub parts_of_steps : Steps → List Expression
   parts_of_steps no_step = []
   parts_of_steps (field_step f rest) = parts_of_steps rest
-  parts_of_steps (at_step e rest) = parts e ++ parts_of_steps rest
+  parts_of_steps (at_step e rest) = subexpressions e ++ parts_of_steps rest
 
 abbrev pub listed : Expressions → List Expression
 listed no_expr = []

@@ -4,9 +4,9 @@ use Rattle.std.specs.List.{list_any}
 use Rattle.std.specs.Prelude.{Bool, List, None, Option, Some, false, not, true, ◌&&◌, ◌||◌}
 use Rattle.regent_tree.specs.declared.typing.Bound.{Bound}
 use Rattle.regent_tree.specs.declared.typing.StaticType.{StaticType}
-use Rattle.regent_tree.specs.Syntax.{Start, Tree, access_expr, at_step, no_step, plain_start, region_start}
+use Rattle.regent_tree.specs.Syntax.{Initializer, Tree, access_expr, at_step, no_step, plain_initializer, region_initializer}
 use Rattle.check_rules.specs.Partitions.{is_difference}
-use Rattle.check_rules.specs.Shapes.{Shape}
+use Rattle.check_rules.specs.TypedForms.{TypedForm}
 use Rattle.check_rules.specs.Sorts.{is_collection, is_number, is_partition, is_region, is_truth, is_unknown_type}
 use Rattle.check_rules.specs.Standing.{Spot, Standing, domain_spot, param_spot, space_spot, standing_in, typed_spot}
 
@@ -25,30 +25,30 @@ is_value_spot spot = true
 abbrev pub misplaces : Standing → Bool
 misplaces s = is_value_spot s.spot && is_collection s.type
 
-abbrev pub misplaces_in : Tree → Shape → Bool
-misplaces_in tree shape = list_any misplaces (standing_in tree shape)
+abbrev pub misplaces_in : Tree → TypedForm → Bool
+misplaces_in tree typed_form = list_any misplaces (standing_in tree typed_form)
 
 -- ---- variables
 
 -- how a variable that is a region begins: with a new region, or with a child of a partition
-abbrev pub begins_region : Start → Bool
-begins_region (region_start e u) = true
-begins_region (plain_start (access_expr p (at_step e no_step))) = true
-begins_region start = false
+abbrev pub begins_region : Initializer → Bool
+begins_region (region_initializer e u) = true
+begins_region (plain_initializer (access_expr p (at_step e no_step))) = true
+begins_region initializer = false
 
 -- how one that is a partition begins: with a partition operation
-abbrev pub begins_partition : List Bound → Start → Bool
-begins_partition names (region_start e u) = false
-begins_partition names (plain_start e) = is_difference names e
-begins_partition names start = true
+abbrev pub begins_partition : List Bound → Initializer → Bool
+begins_partition names (region_initializer e u) = false
+begins_partition names (plain_initializer e) = is_difference names e
+begins_partition names initializer = true
 
 -- a variable of a type begins with something else, whose type is known
-abbrev pub misbegins : List Bound → StaticType → StaticType → Start → Bool
-misbegins names wanted t start = not (is_unknown_type t)
-    && ((is_region wanted && not (is_region t && begins_region start))
-    || (is_partition wanted && not (begins_partition names start)))
+abbrev pub has_wrong_initializer : List Bound → StaticType → StaticType → Initializer → Bool
+has_wrong_initializer names wanted t initializer = not (is_unknown_type t)
+    && ((is_region wanted && not (is_region t && begins_region initializer))
+    || (is_partition wanted && not (begins_partition names initializer)))
 
--- a collection has no start value
-abbrev pub lacks_start : StaticType → Option Start → Bool
-lacks_start wanted None = is_collection wanted
-lacks_start wanted (Some start) = false
+-- a collection has no initializer
+abbrev pub lacks_initializer : StaticType → Option Initializer → Bool
+lacks_initializer wanted None = is_collection wanted
+lacks_initializer wanted (Some initializer) = false

@@ -14,7 +14,7 @@ use Rattle.regent_tree.specs.declared.types.Ref.TheVariants.{Named, Wild}
 use Rattle.regent_tree.specs.declared.types.TypeTerm.{TypeTerm}
 use Rattle.regent_tree.specs.declared.types.TypeTerm.TheVariants as typed
 use Rattle.regent_tree.specs.Lookup.{has_space, type_named}
-use Rattle.check_rules.specs.Shapes.{Shape, Taking, access_shape, field_of}
+use Rattle.check_rules.specs.TypedForms.{TypedForm, Taking, typed_access, field_of}
 use Rattle.check_rules.specs.Sorts.{may_be, same_kind}
 
 -- ---- types
@@ -26,14 +26,14 @@ is_region_in k s t = false
 
 -- `wild` stands in a pointer type's own list, or the name of what is no region of its field space
 -- and kind
-abbrev pub mispoints : List Bound → Kind → ℕ → Ref → Bool
-mispoints names k s Wild = true
-mispoints names k s (Named n) = not (may_be (is_region_in k s) (type_named names n))
+abbrev pub is_wrong_region_of_pointer : List Bound → Kind → ℕ → Ref → Bool
+is_wrong_region_of_pointer names k s Wild = true
+is_wrong_region_of_pointer names k s (Named n) = not (may_be (is_region_in k s) (type_named names n))
 
-abbrev pub mispoints_in_type : Tree → List Bound → TypeTerm → Bool
-mispoints_in_type tree names (typed.Pointer t) = has_space tree t.space.name
-    && list_any (mispoints names t.kind (place_of_space tree t.space.name)) t.regions
-mispoints_in_type tree names t = false
+abbrev pub wrong_region_in_type : Tree → List Bound → TypeTerm → Bool
+wrong_region_in_type tree names (typed.Pointer t) = has_space tree t.space.name
+    && list_any (is_wrong_region_of_pointer names t.kind (place_of_space tree t.space.name)) t.regions
+wrong_region_in_type tree names t = false
 
 -- ---- expressions
 
@@ -42,6 +42,6 @@ abbrev pub takes_of_wild : Taking → Bool
 takes_of_wild (field_of t f) = has_wild (reaches_of t)
 takes_of_wild taking = false
 
-abbrev pub mispoints_in : Shape → Bool
-mispoints_in (access_shape n taken) = list_any takes_of_wild taken
-mispoints_in shape = false
+abbrev pub takes_of_wild_in : TypedForm → Bool
+takes_of_wild_in (typed_access n taken) = list_any takes_of_wild taken
+takes_of_wild_in typed_form = false

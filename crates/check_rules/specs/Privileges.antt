@@ -7,7 +7,7 @@ use Rattle.regent_tree.specs.declared.typing.Bound.{Bound}
 use Rattle.regent_tree.specs.StaticTypes.{Reach, field_place, place_in, space_at, task_named}
 use Rattle.regent_tree.specs.declared.typing.StaticType.{StaticType}
 use Rattle.regent_tree.specs.declared.typing.StaticType.TheVariants.{Pointer as pointer_type, Region as region_type}
-use Rattle.regent_tree.specs.Syntax.{Expression, Form, Name, Start, Steps, TaskTree, Tree, access_expr, assign_form, at_step, by_field_start, field_step, fill_form, image_start, no_step, preimage_start}
+use Rattle.regent_tree.specs.Syntax.{Expression, Form, Name, Initializer, Steps, TaskTree, Tree, access_expr, assign_form, at_step, by_field_initializer, field_step, fill_form, image_initializer, no_step, preimage_initializer}
 use Rattle.regent_tree.specs.Typing.{has_wild}
 use Rattle.regent_tree.specs.declared.facts.Known.{Known}
 use Rattle.regent_tree.specs.declared.facts.Known.TheVariants.{Made}
@@ -27,9 +27,9 @@ use Rattle.regent_tree.specs.declared.rights.Access.TheVariants as access
 use Rattle.regent_tree.specs.declared.rights.Right.{Right}
 use Rattle.regent_tree.specs.declared.rights.Wanted.{Wanted}
 use Rattle.check_rules.specs.Declarations.{params_bound, params_of}
-use Rattle.check_rules.specs.KnownTypes.{shape_of}
+use Rattle.check_rules.specs.KnownTypes.{typed_form_of}
 use Rattle.regent_tree.specs.Lookup.{has_field, type_named}
-use Rattle.check_rules.specs.Shapes.{Calling, Shape, Taking, access_shape, field_of}
+use Rattle.check_rules.specs.TypedForms.{Calling, TypedForm, Taking, typed_access, field_of}
 use Rattle.check_rules.specs.Sorts.{type_at}
 use Rattle.check_rules.specs.Params.{types_in_order}
 
@@ -112,9 +112,9 @@ wanted_of_region tree a t f = []
 -- ---- rule 8: reading
 
 -- each field in an access is read
-abbrev pub reads_in : Tree → Shape → List Wanted
-reads_in tree (access_shape n taken) = flat_map (wanted_of_step tree access.Read) taken
-reads_in tree shape = []
+abbrev pub reads_in : Tree → TypedForm → List Wanted
+reads_in tree (typed_access n taken) = flat_map (wanted_of_step tree access.Read) taken
+reads_in tree typed_form = []
 
 -- but for a field that is assigned or reduced
 abbrev pub read_steps : Steps → Steps
@@ -128,14 +128,14 @@ read_targets (assign_form n steps h e) = access_expr n (read_steps steps) ∷ []
 read_targets form = []
 
 -- a partition operation reads the field of the region that it names
-abbrev pub reads_in_start : Tree → List Bound → Start → List Wanted
-reads_in_start tree names (by_field_start r f e) =
+abbrev pub reads_in_initializer : Tree → List Bound → Initializer → List Wanted
+reads_in_initializer tree names (by_field_initializer r f e) =
     wanted_of_region tree access.Read (type_named names r) f
-reads_in_start tree names (image_start parent p r f) =
+reads_in_initializer tree names (image_initializer parent p r f) =
     wanted_of_region tree access.Read (type_named names r) f
-reads_in_start tree names (preimage_start parent p r f) =
+reads_in_initializer tree names (preimage_initializer parent p r f) =
     wanted_of_region tree access.Read (type_named names r) f
-reads_in_start tree names start = []
+reads_in_initializer tree names initializer = []
 
 -- ---- rules 9 and 10: writing and reducing
 
@@ -145,20 +145,20 @@ wanted_of_last tree a [] = []
 wanted_of_last tree a (taking ∷ []) = wanted_of_step tree a taking
 wanted_of_last tree a (taking ∷ rest) = wanted_of_last tree a rest
 
-abbrev pub wanted_of_target : Tree → Access → Shape → List Wanted
-wanted_of_target tree a (access_shape n taken) = wanted_of_last tree a taken
-wanted_of_target tree a shape = []
+abbrev pub wanted_of_target : Tree → Access → TypedForm → List Wanted
+wanted_of_target tree a (typed_access n taken) = wanted_of_last tree a taken
+wanted_of_target tree a typed_form = []
 
 abbrev pub writes_by : Tree → Scope → Form → List Wanted
 writes_by tree s (assign_form n steps how.Set e) =
-    wanted_of_target tree access.Write (shape_of tree s (access_expr n steps))
+    wanted_of_target tree access.Write (typed_form_of tree s (access_expr n steps))
 writes_by tree s (fill_form r fields e) =
     flat_map (wanted_of_region tree access.Write (type_named s.names r)) fields
 writes_by tree s form = []
 
 abbrev pub reductions_by : Tree → Scope → Form → List Wanted
 reductions_by tree s (assign_form n steps (how.Reduce o) e) =
-    wanted_of_target tree (access.Reduce o) (shape_of tree s (access_expr n steps))
+    wanted_of_target tree (access.Reduce o) (typed_form_of tree s (access_expr n steps))
 reductions_by tree s form = []
 
 -- ---- rule 11: calling

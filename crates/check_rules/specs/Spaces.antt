@@ -15,7 +15,7 @@ use Rattle.check_rules.specs.Counts.{uses_of}
 use Rattle.check_rules.specs.Fitting.{is_region_like}
 use Rattle.regent_tree.specs.Lookup.{space_used, type_named}
 use Rattle.check_rules.specs.Params.{params_beside, types_in_order}
-use Rattle.check_rules.specs.Shapes.{Calling}
+use Rattle.check_rules.specs.TypedForms.{Calling}
 use Rattle.check_rules.specs.Sorts.{is_region, is_unknown_type}
 
 -- the type of what a field space argument or a pointer's region names; of `wild` it is unknown

@@ -6,7 +6,7 @@ use Rattle.regent_tree.specs.Typing.{put_in}
 use Rattle.regent_tree.specs.declared.expression.Sign.{Sign}
 use Rattle.regent_tree.specs.declared.expression.Sign.TheVariants.{Minus, Not}
 use Rattle.check_rules.specs.Declarations.{params_of}
-use Rattle.check_rules.specs.Shapes.{Calling, Computing, Shape, Signing, Taking, access_shape, call_shape, cast_shape, chain_shape, constant_shape, convert_shape, element_of, field_of, is_null_shape, null_shape, prefix_shape, space_shape}
+use Rattle.check_rules.specs.TypedForms.{Calling, Computing, TypedForm, Signing, Taking, typed_access, typed_call, typed_cast, typed_chain, typed_constant, typed_convert, element_of, field_of, typed_is_null, typed_null, typed_prefix, typed_space}
 
 -- What may stand at a place: an integer; a truth; a number, that is an integer, index or pointer; a
 -- pointer; any number, truth or pointer; an index space; a region or index space, which a loop goes
@@ -50,15 +50,15 @@ standing_in_step (element_of t e) = stands e number_spot ∷ []
 abbrev pub standing_in_chain : Computing → List Standing
 standing_in_chain c = stands c.left value_spot ∷ stands c.right value_spot ∷ []
 
-abbrev pub standing_in : Tree → Shape → List Standing
-standing_in tree constant_shape = []
-standing_in tree (chain_shape cs) = flat_map standing_in_chain cs
-standing_in tree (prefix_shape ss) =
+abbrev pub standing_in : Tree → TypedForm → List Standing
+standing_in tree typed_constant = []
+standing_in tree (typed_chain cs) = flat_map standing_in_chain cs
+standing_in tree (typed_prefix ss) =
     map (λ (s : Signing). stands s.operand (spot_of_sign s.sign)) ss
-standing_in tree (call_shape c) = standing_in_call tree c
-standing_in tree (access_shape n ts) = flat_map standing_in_step ts
-standing_in tree (convert_shape t) = stands t number_spot ∷ []
-standing_in tree (is_null_shape t) = stands t pointer_spot ∷ []
-standing_in tree (null_shape p) = []
-standing_in tree (cast_shape p t) = stands t number_spot ∷ []
-standing_in tree (space_shape t) = stands t integer_spot ∷ []
+standing_in tree (typed_call c) = standing_in_call tree c
+standing_in tree (typed_access n ts) = flat_map standing_in_step ts
+standing_in tree (typed_convert t) = stands t number_spot ∷ []
+standing_in tree (typed_is_null t) = stands t pointer_spot ∷ []
+standing_in tree (typed_null p) = []
+standing_in tree (typed_cast p t) = stands t number_spot ∷ []
+standing_in tree (typed_space t) = stands t integer_spot ∷ []

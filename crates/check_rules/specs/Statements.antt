@@ -13,10 +13,10 @@ use Rattle.check_rules.specs.Params.{type_unless}
 use Rattle.check_rules.specs.KnownTypes.{known_type, known_types}
 use Rattle.regent_tree.specs.Lookup.{type_named}
 use Rattle.check_rules.specs.Parts.{listed, tests_of}
-use Rattle.check_rules.specs.Shapes.{calling}
+use Rattle.check_rules.specs.TypedForms.{calling}
 use Rattle.check_rules.specs.Standing.{Spot, Standing, domain_spot, integer_spot, standing_in_call, stands, truth_spot, typed_spot, value_spot}
 use Rattle.check_rules.specs.Targets.{mistargets}
-use Rattle.check_rules.specs.Variables.{known_start, standing_in_start, stands_declared, variable_type}
+use Rattle.check_rules.specs.Variables.{known_initializer, standing_in_initializer, stands_declared, variable_type}
 
 -- the type of a task's results; without one, and where it has a breach, it is unknown
 abbrev pub known_result : Tree → Option TypeTerm → StaticType
@@ -33,8 +33,8 @@ abbrev pub all_stand : Tree → Scope → Spot → List Expression → List Stan
 all_stand tree s spot es = map (λ e. stands (known_type tree s e) spot) es
 
 abbrev pub standing_in_form : Tree → TaskTree → Scope → Form → List Standing
-standing_in_form tree task s (var_form n t (Some start)) = standing_in_start tree s start
-    ++ stands_declared (known_start tree s start) t (variable_type tree s t (Some start))
+standing_in_form tree task s (var_form n t (Some initializer)) = standing_in_initializer tree s initializer
+    ++ stands_declared (known_initializer tree s initializer) t (variable_type tree s t (Some initializer))
 standing_in_form tree task s (if_form arms other) = all_stand tree s truth_spot (tests_of arms)
 standing_in_form tree task s (while_form test body) =
     stands (known_type tree s test) truth_spot ∷ []

@@ -23,12 +23,12 @@ ends_in_element (field_step f rest) = ends_in_element rest
 ends_in_element (at_step e rest) = ends_in_element rest
 
 -- an access of a type that is known ends in an element, or in the colours of a partition
-abbrev pub misends : Steps → StaticType → Bool
-misends steps t = not (is_unknown_type t) && (ends_in_element steps || is_space t)
+abbrev pub ends_in_no_place : Steps → StaticType → Bool
+ends_in_no_place steps t = not (is_unknown_type t) && (ends_in_element steps || is_space t)
 
 abbrev pub is_no_target : TaskTree → List Bound → Name → Steps → StaticType → Bool
 is_no_target task names n no_step t = is_bound names n && is_fixed task (bound_to names n)
-is_no_target task names n steps t = misends steps t
+is_no_target task names n steps t = ends_in_no_place steps t
 
 abbrev pub is_no_integer : How → StaticType → Bool
 is_no_integer how.Set t = false

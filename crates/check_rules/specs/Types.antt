@@ -15,7 +15,7 @@ use Rattle.regent_tree.specs.declared.expression.Operator.TheVariants.{Compare, 
 use Rattle.regent_tree.specs.declared.facts.Known.{Known}
 use Rattle.check_rules.specs.Fitting.{fits, fits_param}
 use Rattle.regent_tree.specs.Lookup.{has_task}
-use Rattle.check_rules.specs.Shapes.{Calling, Computing, Shape, Taking, access_shape, call_shape, chain_shape, element_of, field_of}
+use Rattle.check_rules.specs.TypedForms.{Calling, Computing, TypedForm, Taking, typed_access, typed_call, typed_chain, element_of, field_of}
 use Rattle.check_rules.specs.Sorts.{is_integer, is_number, is_partition, is_region, is_space, is_truth, may_be, same_kind}
 use Rattle.check_rules.specs.Standing.{Spot, Standing, domain_spot, integer_spot, number_spot, param_spot, pointer_spot, space_spot, standing_in, truth_spot, typed_spot, value_spot}
 
@@ -48,16 +48,16 @@ operates_on (Compare c) t u = compares_with c t u
 operates_on connective t u = may_be is_truth t && may_be is_truth u
 
 -- the operands aren't as the operator takes them
-abbrev pub misoperates : Computing → Bool
-misoperates c = not (operates_on c.operator c.left c.right)
+abbrev pub is_ill_typed_operation : Computing → Bool
+is_ill_typed_operation c = not (operates_on c.operator c.left c.right)
 
 -- ---- accesses
 
 -- a field is taken of what is no pointer and no partition, an element of what is no region and no
 -- partition
-abbrev pub mistakes : Taking → Bool
-mistakes (field_of t f) = not (may_be (λ u. is_pointer u || is_partition u) t)
-mistakes (element_of t e) = not (may_be (λ u. is_region u || is_partition u) t)
+abbrev pub is_ill_typed_step : Taking → Bool
+is_ill_typed_step (field_of t f) = not (may_be (λ u. is_pointer u || is_partition u) t)
+is_ill_typed_step (element_of t e) = not (may_be (λ u. is_region u || is_partition u) t)
 
 -- ---- places
 
@@ -76,21 +76,21 @@ may_stand known s = may_stand_at known s.type s.spot
     may_stand_at known t (typed_spot wanted) = fits known t wanted
     may_stand_at known t (param_spot wanted) = fits_param known t wanted
 
-abbrev pub misstands : List Known → Standing → Bool
-misstands known s = not (may_stand known s)
+abbrev pub is_ill_typed_at_place : List Known → Standing → Bool
+is_ill_typed_at_place known s = not (may_stand known s)
 
 -- ---- expressions
 
 abbrev pub has_no_result : Tree → Calling → Bool
 has_no_result tree c = has_task tree c.task && is_none (task_named tree c.task).result
 
-abbrev pub mistypes_itself : Tree → Shape → Bool
-mistypes_itself tree (chain_shape cs) = list_any misoperates cs
-mistypes_itself tree (call_shape c) = has_no_result tree c
-mistypes_itself tree (access_shape n taken) = list_any mistakes taken
-mistypes_itself tree shape = false
+abbrev pub mistypes_itself : Tree → TypedForm → Bool
+mistypes_itself tree (typed_chain cs) = list_any is_ill_typed_operation cs
+mistypes_itself tree (typed_call c) = has_no_result tree c
+mistypes_itself tree (typed_access n taken) = list_any is_ill_typed_step taken
+mistypes_itself tree typed_form = false
 
 -- an operator's operands aren't as it takes them, or a part doesn't fit its place
-abbrev pub mistypes : Tree → List Known → Shape → Bool
-mistypes tree known shape =
-    mistypes_itself tree shape || list_any (misstands known) (standing_in tree shape)
+abbrev pub mistypes : Tree → List Known → TypedForm → Bool
+mistypes tree known typed_form =
+    mistypes_itself tree typed_form || list_any (is_ill_typed_at_place known) (standing_in tree typed_form)

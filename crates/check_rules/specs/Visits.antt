@@ -4,15 +4,15 @@ use Rattle.std.specs.List.{list_any}
 use Rattle.std.specs.Prelude.{Bool, List, Some, [], filter, flat_map, map, ℕ, ◌++◌, ◌∷◌}
 use Rattle.regent_tree.specs.Scopes.{Scope, bound_params, past}
 use Rattle.regent_tree.specs.declared.typing.Bound.{Bound}
-use Rattle.regent_tree.specs.Syntax.{Arms, Block, Expression, Form, ItemForm, ItemTree, Otherwise, Start, TaskTree, Tree, a_statement, access_expr, an_arm, assert_form, assign_form, call_form, do_form, else_block, fill_form, for_in_form, for_to_form, if_form, no_arm, no_else, no_statement, print_form, return_form, space_item, task_item, then_statement, var_form, while_form}
+use Rattle.regent_tree.specs.Syntax.{Arms, Block, Expression, Form, ItemForm, ItemTree, Otherwise, Initializer, TaskTree, Tree, a_statement, access_expr, an_arm, assert_form, assign_form, call_form, do_form, else_block, fill_form, for_in_form, for_to_form, if_form, no_arm, no_else, no_statement, print_form, return_form, space_item, task_item, then_statement, var_form, while_form}
 use Rattle.regent_tree.specs.declared.types.Param.{Param}
 use Rattle.regent_tree.specs.declared.types.TypeTerm.{TypeTerm}
 use Rattle.check_rules.specs.Bodies.{body_scope}
 use Rattle.check_rules.specs.Params.{params_beside}
-use Rattle.check_rules.specs.KnownTypes.{known_types, shape_of}
-use Rattle.check_rules.specs.Parts.{listed, parts, tests_of}
-use Rattle.check_rules.specs.Shapes.{Calling, Shape, call_in, calling, written_in}
-use Rattle.check_rules.specs.Variables.{expressions_in_start, scope_behind, scope_behind_arms, scope_behind_block, scope_in_count, scope_in_loop, written_in_start}
+use Rattle.check_rules.specs.KnownTypes.{known_types, typed_form_of}
+use Rattle.check_rules.specs.Parts.{listed, subexpressions, tests_of}
+use Rattle.check_rules.specs.TypedForms.{Calling, TypedForm, call_in, calling, written_in}
+use Rattle.check_rules.specs.Variables.{expressions_in_initializer, known_scope_after, known_scope_after_arms, known_scope_after_block, scope_in_count, scope_in_loop, written_in_initializer}
 
 -- a statement with the task in which it stands, its line and the scope before it
 pub record Visit : Type 0 where
@@ -28,12 +28,12 @@ abbrev mutual
   visits_in tree t s no_statement = []
   visits_in tree t s (then_statement (a_statement line form) rest) =
       (record { task = t; scope = s; line = line; form = form }
-      ∷ visits_within tree t s form) ++ visits_in tree t (scope_behind tree s form) rest
+      ∷ visits_within tree t s form) ++ visits_in tree t (known_scope_after tree s form) rest
 
   -- the statements in the blocks of a statement
   pub visits_within : Tree → TaskTree → Scope → Form → List Visit
   visits_within tree t s (if_form arms other) =
-      visits_in_arms tree t s arms ++ visits_in_else tree t (scope_behind_arms tree s arms) other
+      visits_in_arms tree t s arms ++ visits_in_else tree t (known_scope_after_arms tree s arms) other
   visits_within tree t s (while_form test body) = visits_in tree t s body
   visits_within tree t s (for_in_form demanded n domain body) =
       visits_in tree t (scope_in_loop tree s n domain) body
@@ -45,7 +45,7 @@ abbrev mutual
   pub visits_in_arms : Tree → TaskTree → Scope → Arms → List Visit
   visits_in_arms tree t s no_arm = []
   visits_in_arms tree t s (an_arm test body rest) = visits_in tree t s body
-      ++ visits_in_arms tree t (past s (scope_behind_block tree s body)) rest
+      ++ visits_in_arms tree t (past s (known_scope_after_block tree s body)) rest
 
   pub visits_in_else : Tree → TaskTree → Scope → Otherwise → List Visit
   visits_in_else tree t s no_else = []
@@ -67,7 +67,7 @@ lines_where tree test = map (λ (v : Visit). v.line) (filter test (visits tree))
 
 -- the expressions that stand in a statement itself, but for the target of an assignment
 abbrev pub heads_of : List Bound → Form → List Expression
-heads_of names (var_form n t (Some start)) = expressions_in_start names start
+heads_of names (var_form n t (Some initializer)) = expressions_in_initializer names initializer
 heads_of names (if_form arms other) = tests_of arms
 heads_of names (while_form test body) = test ∷ []
 heads_of names (for_in_form demanded n domain body) = domain ∷ []
@@ -85,12 +85,12 @@ targets_of (assign_form n steps how e) = access_expr n steps ∷ []
 targets_of form = []
 
 -- the shapes of these expressions, and of all expressions in them
-abbrev pub shapes_in : Tree → Scope → List Expression → List Shape
-shapes_in tree s es = map (shape_of tree s) (flat_map parts es)
+abbrev pub typed_forms_in : Tree → Scope → List Expression → List TypedForm
+typed_forms_in tree s es = map (typed_form_of tree s) (flat_map subexpressions es)
 
-abbrev pub shapes_at : Tree → Visit → List Shape
-shapes_at tree v =
-    shapes_in tree v.scope (heads_of v.scope.names v.form ++ targets_of v.form)
+abbrev pub typed_forms_at : Tree → Visit → List TypedForm
+typed_forms_at tree v =
+    typed_forms_in tree v.scope (heads_of v.scope.names v.form ++ targets_of v.form)
 
 -- the calls at a statement: the statement itself, or expressions in it
 abbrev pub call_of_form : Tree → Scope → Form → List Calling
@@ -99,23 +99,23 @@ call_of_form tree s form = []
 
 abbrev pub calls_at : Tree → Visit → List Calling
 calls_at tree v =
-    call_of_form tree v.scope v.form ++ flat_map call_in (shapes_at tree v)
+    call_of_form tree v.scope v.form ++ flat_map call_in (typed_forms_at tree v)
 
--- the start value of a variable
-abbrev pub start_at : Form → List Start
-start_at (var_form n t (Some start)) = start ∷ []
-start_at form = []
+-- the initializer of a variable
+abbrev pub initializer_at : Form → List Initializer
+initializer_at (var_form n t (Some initializer)) = initializer ∷ []
+initializer_at form = []
 
 -- ---- written types
 
 abbrev pub declared_at : Form → List TypeTerm
-declared_at (var_form n (Some t) start) = t ∷ []
+declared_at (var_form n (Some t) initializer) = t ∷ []
 declared_at form = []
 
 -- the types that are written in a statement
 abbrev pub written_at : Tree → Visit → List TypeTerm
-written_at tree v = declared_at v.form ++ flat_map written_in_start (start_at v.form)
-    ++ flat_map written_in (shapes_at tree v)
+written_at tree v = declared_at v.form ++ flat_map written_in_initializer (initializer_at v.form)
+    ++ flat_map written_in (typed_forms_at tree v)
 
 -- A parameter or field, with the names that its type may use: as their types are written, and with
 -- the types of those that say none unknown.

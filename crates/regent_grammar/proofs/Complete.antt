@@ -1,6 +1,6 @@
 -- What a rule spells is read, and where the rule stops reading does.
 use Rattle.std.proofs.Common.{◌≡◌, ℕ, zero, suc, ◌≤◌, ◌<◌, true, ◌&&◌, not, List, length, refl, sym, subst, arith}
-use Rattle.regent_grammar.specs.declared.symbol.Lexeme.{Lexeme}
+use Rattle.regent_grammar.specs.declared.symbol.Terminal.{Terminal}
 use Rattle.regent_grammar.specs.Symbols.{Test}
 use Rattle.regent_grammar.specs.Rules.{Sort, Value, Nonterminal, spelt_by, Rule}
 use Rattle.regent_grammar.specs.Grammar.{rule_of}
@@ -14,15 +14,15 @@ use Rattle.regent_grammar.proofs.Sound.{Within, within_any, within_first, within
 -- the named productions read all that they spell in texts that are short enough, and stop as they
 -- do
 pub record Full (later : Later) (n : ℕ) : Type 0 where
-  pub reads : (m : Nonterminal) (ts : List Lexeme) (x : Value (spelt_by m)) (rest : List Lexeme) →
+  pub reads : (m : Nonterminal) (ts : List Terminal) (x : Value (spelt_by m)) (rest : List Terminal) →
       Spells (spelt_by m) (rule_of m) ts x rest → length ts < n → later m ts ≡ read x rest
-  pub sticks : (m : Nonterminal) (ts at : List Lexeme) → Stops (spelt_by m) (rule_of m) ts at →
+  pub sticks : (m : Nonterminal) (ts at : List Terminal) → Stops (spelt_by m) (rule_of m) ts at →
       length ts < n → later m ts ≡ stuck at
 
 mutual
   unfolding reading_with many_upto then_read leads is_sound
 
-  pub reads_with : {s : Sort} {r : Rule s} {ts : List Lexeme} {x : Value s} {rest : List Lexeme} → Spells s r ts x rest →
+  pub reads_with : {s : Sort} {r : Rule s} {ts : List Terminal} {x : Value s} {rest : List Terminal} → Spells s r ts x rest →
       (later : Later) (n : ℕ) → Full later n → is_sound r ≡ true → Within (leads r) n ts →
       reading_with later r ts ≡ read x rest
   reads_with is_given later n full h w = refl
@@ -43,7 +43,7 @@ mutual
   reads_with (is_used {n =
       m} {ts = ts} {rest = rest} {x = x} p) later n full h w = full.reads m ts x rest p w
 
-  pub many_reads_with : {s : Sort} {test : Test} {r : Rule s} {ts : List Lexeme} {xs : List (Value s)} {rest : List Lexeme} → SpellsMany s test r ts xs rest →
+  pub many_reads_with : {s : Sort} {test : Test} {r : Rule s} {ts : List Terminal} {xs : List (Value s)} {rest : List Terminal} → SpellsMany s test r ts xs rest →
       (later : Later) (n : ℕ) → Full later n → takes r ≡ true → is_sound r ≡ true →
       Within (leads r) n ts →
       (c : ℕ) → length ts < c → many_upto test (reading_with later r) c ts ≡ read xs rest
@@ -60,7 +60,7 @@ mutual
 mutual
   unfolding reading_with many_upto then_read leads is_sound
 
-  pub sticks_with : {s : Sort} {r : Rule s} {ts at : List Lexeme} → Stops s r ts at →
+  pub sticks_with : {s : Sort} {r : Rule s} {ts at : List Terminal} → Stops s r ts at →
       (later : Later) (n : ℕ) → Full later n → is_sound r ≡ true → Within (leads r) n ts →
       reading_with later r ts ≡ stuck at
   sticks_with stops_at_end later n full h w = refl
@@ -83,7 +83,7 @@ mutual
   sticks_with (stops_in_use {n =
       m} {ts = ts} {at = at} p) later n full h w = full.sticks m ts at p w
 
-  pub many_sticks_with : {s : Sort} {test : Test} {r : Rule s} {ts at : List Lexeme} →
+  pub many_sticks_with : {s : Sort} {test : Test} {r : Rule s} {ts at : List Terminal} →
       ManyStop s test r ts at →
       (later : Later) (n : ℕ) → Full later n → takes r ≡ true → is_sound r ≡ true →
       Within (leads r) n ts →
@@ -117,13 +117,13 @@ full_now n = record {
   sticks = λ m ts at p lt. (full_upto (suc (length ts))).sticks m ts at p (omega arith);
 }
 
-pub reads : {s : Sort} {r : Rule s} {ts : List Lexeme} {x : Value s} {rest : List Lexeme} →
+pub reads : {s : Sort} {r : Rule s} {ts : List Terminal} {x : Value s} {rest : List Terminal} →
     Spells s r ts x rest → is_sound r ≡ true → reading r ts ≡ read x rest
 unfolding reading
 reads {r = r} {ts = ts} p h = let lt : length ts < suc (length ts) = omega arith in
     reads_with p now (suc (length ts)) (full_now (suc (length ts))) h (within_any (leads r) (suc (length ts)) ts lt)
 
-pub sticks : {s : Sort} {r : Rule s} {ts at : List Lexeme} → Stops s r ts at →
+pub sticks : {s : Sort} {r : Rule s} {ts at : List Terminal} → Stops s r ts at →
     is_sound r ≡ true → reading r ts ≡ stuck at
 unfolding reading
 sticks {r = r} {ts = ts} p h = let lt : length ts < suc (length ts) = omega arith in

@@ -12,8 +12,8 @@ use Rattle.regent_tree.specs.declared.types.Kind.TheVariants.{Int1d, Ptr}
 use Rattle.regent_tree.specs.declared.types.NumberTerm.TheVariants.{Int32, Index}
 use Rattle.regent_tree.specs.declared.types.Ref.TheVariants.{Named, Wild}
 use Rattle.regent_tree.specs.declared.types.TypeTerm.TheVariants as term
-use Rattle.regent_tree.specs.Syntax.{Expression, number_expr, chain_expr, prefix_expr, access_expr, convert_expr, no_link, a_link, no_expr, an_expr, no_step, field_step, at_step, both_start, a_statement, var_form, if_form, for_in_form, assert_form, print_form, call_form, assign_form, return_form, no_statement, then_statement, no_arm, an_arm, else_block, space_item}
-use Rattle.regent_grammar.specs.declared.symbol.Lexeme.{Lexeme}
+use Rattle.regent_tree.specs.Syntax.{Expression, number_expr, chain_expr, prefix_expr, access_expr, convert_expr, no_link, a_link, no_expr, an_expr, no_step, field_step, at_step, both_initializer, a_statement, var_form, if_form, for_in_form, assert_form, print_form, call_form, assign_form, return_form, no_statement, then_statement, no_arm, an_arm, else_block, space_item}
+use Rattle.regent_grammar.specs.declared.symbol.Terminal.{Terminal}
 use Rattle.regent_grammar.specs.declared.symbol.Mark.{Mark}
 use Rattle.regent_grammar.specs.declared.symbol.Mark.TheVariants as mark
 use Rattle.regent_grammar.specs.declared.symbol.Symbol.{Symbol}
@@ -27,8 +27,8 @@ use Rattle.regent_grammar.specs.Items.{field_space, clause, program}
 use Rattle.regent_grammar.specs.Reading.{stuck, read, then_read, many_upto, reading_with, later_upto, now, reading}
 use Rattle.regent_grammar.proofs.Facts.{all_rules}
 
--- lexemes of one line
-abbrev on_line : ℕ → List Symbol → List Lexeme
+-- terminals of one line
+abbrev on_line : ℕ → List Symbol → List Terminal
 on_line line [] = []
 on_line line (s ∷ ss) = record { symbol = s; line = line } ∷ on_line line ss
 
@@ -104,7 +104,7 @@ unfolding computing
 least_is_reduced = refl
 
 -- a name before `&` is a partition
-partitions_meet : reading statement (on_line 1 (word_of word.Var ∷ a ∷ sign_of mark.Assign ∷ b ∷ sign_of mark.Ampersand ∷ c ∷ [])) ≡ read (a_statement 1 (var_form (codes "a") None (Some (both_start (codes "b") (codes "c"))))) []
+partitions_meet : reading statement (on_line 1 (word_of word.Var ∷ a ∷ sign_of mark.Assign ∷ b ∷ sign_of mark.Ampersand ∷ c ∷ [])) ≡ read (a_statement 1 (var_form (codes "a") None (Some (both_initializer (codes "b") (codes "c"))))) []
 unfolding computing
 partitions_meet = refl
 
@@ -143,8 +143,8 @@ grants_share_places : reading clause (on_line 1 (word_of word.Reads ∷ word_of 
 unfolding computing
 grants_share_places = refl
 
--- a text that stops has the lexemes at which it stops
-unfinished_text : reading program (on_line 1 (word_of word.Import ∷ symbol.Text (codes "regent") ∷ []) ++ on_line 2 (word_of word.Regentlib ∷ sign_of mark.Dot ∷ symbol.Name (codes "start") ∷ sign_of mark.Open ∷ one ∷ sign_of mark.Close ∷ [])) ≡ stuck (on_line 2 (one ∷ sign_of mark.Close ∷ []))
+-- a text that stops has the terminals at which it stops
+unfinished_text : reading program (on_line 1 (word_of word.Import ∷ symbol.Text (codes "regent") ∷ []) ++ on_line 2 (word_of word.Regentlib ∷ sign_of mark.Dot ∷ symbol.Name (codes "initializer") ∷ sign_of mark.Open ∷ one ∷ sign_of mark.Close ∷ [])) ≡ stuck (on_line 2 (one ∷ sign_of mark.Close ∷ []))
 unfolding computing
 unfinished_text = refl
 

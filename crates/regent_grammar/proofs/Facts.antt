@@ -1,4 +1,4 @@
--- Each rule is sound, and most take a lexeme.
+-- Each rule is sound, and most take a terminal.
 use Rattle.std.proofs.Common.{◌≡◌, true, Option, ℕ, List, refl}
 use Rattle.regent_tree.specs.declared.expression.Operator.{Operator}
 use Rattle.regent_grammar.specs.declared.symbol.Symbol.{Symbol}
@@ -23,7 +23,7 @@ unfolding single.a_mark single.a_word single.named single.the_text single.name s
     expr.new_space expr.primary expr.a_sign expr.prefix expr.an_operator expr.link expr.chain
     expr.product expr.sum expr.compare expr.conjunction expr.disjunction stmt.block stmt.new_region
     stmt.equal_partition stmt.field_partition stmt.mapping stmt.mapped_partition
-    stmt.both_partitions stmt.either_partition stmt.start_value stmt.variable stmt.fields
+    stmt.both_partitions stmt.either_partition stmt.initializer stmt.variable stmt.fields
     stmt.filling stmt.assertion stmt.further_arguments stmt.printing stmt.printing_by stmt.task_call
     stmt.assign_sign stmt.extremum stmt.assign stmt.assignment stmt.body stmt.plain_block
     stmt.while_loop stmt.arm stmt.conditional stmt.loop_in stmt.loop_to stmt.for_loop stmt.demand
@@ -374,13 +374,13 @@ pub either_partition_takes : takes stmt.either_partition ≡ true
 unfolding all_rules takes
 either_partition_takes = refl
 
-pub start_value_sound : is_sound stmt.start_value ≡ true
+pub initializer_sound : is_sound stmt.initializer ≡ true
 unfolding all_rules is_sound takes
-start_value_sound = refl
+initializer_sound = refl
 
-pub start_value_takes : takes stmt.start_value ≡ true
+pub initializer_takes : takes stmt.initializer ≡ true
 unfolding all_rules takes
-start_value_takes = refl
+initializer_takes = refl
 
 pub variable_sound : is_sound stmt.variable ≡ true
 unfolding all_rules is_sound takes

@@ -1,6 +1,6 @@
 -- The laws of the grammar.
 use Rattle.std.proofs.Common.{◌≡◌, false, List, [], ◌∷◌, ◌++◌, refl, sym, ap, ◌∙◌, append_assoc}
-use Rattle.regent_grammar.specs.declared.symbol.Lexeme.{Lexeme}
+use Rattle.regent_grammar.specs.declared.symbol.Terminal.{Terminal}
 use Rattle.regent_grammar.specs.Symbols.{Test, goes_on}
 use Rattle.regent_grammar.specs.Rules.{Sort, Value, Rule, gives, here, one, both, when◌then◌else◌, many, use'}
 use Rattle.regent_grammar.specs.Items.{program}
@@ -27,8 +27,8 @@ reading_is_exact s r h ts =
 
 -- ---- where a rule ends
 
--- what holds of the lexemes behind a rule
-abbrev Ends : {s : Sort} → Rule s → List Lexeme → Type 0
+-- what holds of the terminals behind a rule
+abbrev Ends : {s : Sort} → Rule s → List Terminal → Type 0
 Ends (gives x) rest = Unit {0}
 Ends here rest = Unit {0}
 Ends (one table) rest = Unit {0}
@@ -38,7 +38,7 @@ Ends (many test r) rest = test rest ≡ false
 Ends (use' n) rest = Unit {0}
 
 mutual
-  ends : {s : Sort} {r : Rule s} {ts : List Lexeme} {x : Value s} {rest : List Lexeme} →
+  ends : {s : Sort} {r : Rule s} {ts : List Terminal} {x : Value s} {rest : List Terminal} →
       Spells s r ts x rest → Ends r rest
   ends is_given = tt
   ends is_here = tt
@@ -49,15 +49,15 @@ mutual
   ends (is_many p) = many_ends p
   ends (is_used p) = tt
 
-  many_ends : {s : Sort} {test : Test} {r : Rule s} {ts : List Lexeme} {xs : List (Value s)} {rest : List Lexeme} → SpellsMany s test r ts xs rest → test rest ≡ false
+  many_ends : {s : Sort} {test : Test} {r : Rule s} {ts : List Terminal} {xs : List (Value s)} {rest : List Terminal} → SpellsMany s test r ts xs rest → test rest ≡ false
   many_ends (no_more h) = h
   many_ends (one_more h p q) = many_ends q
 
-none_left : (rest : List Lexeme) → goes_on rest ≡ false → rest ≡ []
+none_left : (rest : List Terminal) → goes_on rest ≡ false → rest ≡ []
 none_left [] h = refl
 none_left (t ∷ ts) h = absurd cc
 
-program_ends : {s : Sort} {r : Rule s} {ts : List Lexeme} {x : Value s} {rest : List Lexeme} →
+program_ends : {s : Sort} {r : Rule s} {ts : List Terminal} {x : Value s} {rest : List Terminal} →
     Spells s r ts x rest → Ends r rest
 program_ends p = ends p
 
@@ -65,7 +65,7 @@ pub none_behind : law.NoneBehind
 none_behind ts rest tree p =
     let h : goes_on rest ≡ false = unfold program in ends p in none_left rest h
 
-decided_by : (ts : List Lexeme) (o : Read (List _)) → Tells program ts o → law.Decided ts
+decided_by : (ts : List Terminal) (o : Read (List _)) → Tells program ts o → law.Decided ts
 decided_by ts (stuck at) p = law.no_program at p
 decided_by ts (read tree []) p = law.a_program tree p
 decided_by ts (read tree (t ∷ rest)) p =
@@ -76,18 +76,18 @@ all_decided ts = decided_by ts (reading program ts) (tells program program_sound
 
 -- ---- what is left is the end of the text
 
-abbrev Behind : List Lexeme → List Lexeme → Type 0
-Behind ts rest = (front : List Lexeme) × (ts ≡ front ++ rest)
+abbrev Behind : List Terminal → List Terminal → Type 0
+Behind ts rest = (front : List Terminal) × (ts ≡ front ++ rest)
 
-all_behind : (ts : List Lexeme) → Behind ts ts
+all_behind : (ts : List Terminal) → Behind ts ts
 all_behind ts = ([], refl)
 
-further_behind : {ts mid rest : List Lexeme} → Behind ts mid → Behind mid rest → Behind ts rest
+further_behind : {ts mid rest : List Terminal} → Behind ts mid → Behind mid rest → Behind ts rest
 further_behind {ts} {mid} {rest} p q =
     (p.0 ++ q.0, p.1 ∙ ap (λ us. p.0 ++ us) q.1 ∙ sym (append_assoc p.0 q.0 rest))
 
 mutual
-  behind : {s : Sort} {r : Rule s} {ts : List Lexeme} {x : Value s} {rest : List Lexeme} →
+  behind : {s : Sort} {r : Rule s} {ts : List Terminal} {x : Value s} {rest : List Terminal} →
       Spells s r ts x rest → Behind ts rest
   behind (is_given {ts = ts}) = all_behind ts
   behind (is_here {ts = ts}) = all_behind ts
@@ -98,12 +98,12 @@ mutual
   behind (is_many p) = many_behind p
   behind (is_used p) = behind p
 
-  many_behind : {s : Sort} {test : Test} {r : Rule s} {ts : List Lexeme} {xs : List (Value s)} {rest : List Lexeme} → SpellsMany s test r ts xs rest → Behind ts rest
+  many_behind : {s : Sort} {test : Test} {r : Rule s} {ts : List Terminal} {xs : List (Value s)} {rest : List Terminal} → SpellsMany s test r ts xs rest → Behind ts rest
   many_behind (no_more {ts = ts} h) = all_behind ts
   many_behind (one_more h p q) = further_behind (behind p) (many_behind q)
 
 mutual
-  place_behind : {s : Sort} {r : Rule s} {ts at : List Lexeme} → Stops s r ts at → Behind ts at
+  place_behind : {s : Sort} {r : Rule s} {ts at : List Terminal} → Stops s r ts at → Behind ts at
   place_behind stops_at_end = all_behind []
   place_behind (stops_at {t = t} {ts = ts} h) = all_behind (t ∷ ts)
   place_behind (stops_before p) = place_behind p
@@ -113,7 +113,7 @@ mutual
   place_behind (stops_in_many p) = many_place_behind p
   place_behind (stops_in_use p) = place_behind p
 
-  many_place_behind : {s : Sort} {test : Test} {r : Rule s} {ts at : List Lexeme} →
+  many_place_behind : {s : Sort} {test : Test} {r : Rule s} {ts at : List Terminal} →
       ManyStop s test r ts at → Behind ts at
   many_place_behind (this_stops h p) = place_behind p
   many_place_behind (later_stops h p q) = further_behind (behind p) (many_place_behind q)

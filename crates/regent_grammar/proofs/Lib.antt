@@ -1,4 +1,4 @@
-pub mod LexemeLaws
+pub mod TerminalLaws
 pub mod Rulings
 pub mod Lengths
 pub mod Sound

@@ -1,4 +1,4 @@
--- A program has two nodes at most for each lexeme, and its literals are those of its lexemes.
+-- A program has two nodes at most for each terminal, and its literals are those of its terminals.
 use Rattle.std.proofs.Common.{◌≡◌, ℕ, ◌*◌, ◌^◌, ◌<◌, ◌≤◌, Bool, true, false}
 use Rattle.std.proofs.Common.{nat_le, if◌then◌else◌, List, [], ◌∷◌, Option, Some, None, All, length}
 use Rattle.std.proofs.Common.{refl, arith, ◌+◌, ◌++◌, Ok, Err}
@@ -25,11 +25,11 @@ use Rattle.regent_lex.proofs.Spelt.{number_small}
 use Rattle.regent_tree.specs.Syntax.{Tree}
 use Rattle.regent_tree.specs.Limits.{Part, parts_of_items}
 use Rattle.regent_tree.specs.Limits.{parts_of_program, greatest_literal}
-use Rattle.regent_grammar.specs.declared.symbol.Lexeme.{Lexeme}
+use Rattle.regent_grammar.specs.declared.symbol.Terminal.{Terminal}
 use Rattle.regent_grammar.specs.declared.symbol.Mark.{Mark}
 use Rattle.regent_grammar.specs.declared.symbol.Word.{Word}
-use Rattle.regent_grammar.specs.Lexemes.{lexemes, lexeme_of, symbol_of, word_symbol, mark_symbol}
-use Rattle.regent_grammar.specs.Lexemes.{number_width, looked_up, word_table, mark_table}
+use Rattle.regent_grammar.specs.Terminals.{terminals, terminal_of, symbol_of, word_symbol, mark_symbol}
+use Rattle.regent_grammar.specs.Terminals.{number_width, looked_up, word_table, mark_table}
 use Rattle.regent_grammar.specs.Derivations.{IsProgram}
 use Rattle.regent_grammar.specs.Laws as law
 use Rattle.regent_grammar.specs.Laws.{NumberFits, LiteralFits}
@@ -37,20 +37,20 @@ use Rattle.regent_grammar.proofs.Sizes.{Counts, tasks_counted, spaces_counted, K
 use Rattle.regent_grammar.proofs.Prices.{AllNumbersFit, sized}
 use Rattle.regent_grammar.proofs.PricedStatements.{named_priced, program'}
 
-numbers_fit : (ts : List Lexeme) → All (λ t. NumberFits t.symbol) ts → AllNumbersFit ts
+numbers_fit : (ts : List Terminal) → All (λ t. NumberFits t.symbol) ts → AllNumbersFit ts
 numbers_fit [] h = tt
 numbers_fit (t ∷ ts)
     h = (
-      All-head (λ (u : Lexeme). NumberFits u.symbol) t ts h,
+      All-head (λ (u : Terminal). NumberFits u.symbol) t ts h,
       numbers_fit ts
-          (All-tail (λ (u : Lexeme). NumberFits u.symbol) t ts h),
+          (All-tail (λ (u : Terminal). NumberFits u.symbol) t ts h),
     )
 
 all_fit : (ps : List Part) → AllFit ps → All LiteralFits ps
 all_fit [] h = All-nil LiteralFits
 all_fit (p ∷ ps) h = All-cons LiteralFits p ps h.0 (all_fit ps h.1)
 
-program_kept : (ts : List Lexeme) (tree : Tree) → AllNumbersFit ts → IsProgram ts tree →
+program_kept : (ts : List Terminal) (tree : Tree) → AllNumbersFit ts → IsProgram ts tree →
     Keeps 0 (parts_of_items tree) (2 * length ts)
 program_kept ts tree h p = items_kept tree (2 * length ts)
     (sized p named_priced h program' (2 * length ts) (omega arith))
@@ -59,8 +59,8 @@ pub literals_fit : law.LiteralsFit
 literals_fit ts tree h p = all_fit (parts_of_program tree)
     (tt, (tt, (program_kept ts tree (numbers_fit ts h) p).1))
 
-pub nodes_by_lexemes : law.NodesByLexemes
-nodes_by_lexemes ts tree h p =
+pub nodes_by_terminals : law.NodesByTerminals
+nodes_by_terminals ts tree h p =
     let k = (program_kept ts tree (numbers_fit ts h) p).0 in omega arith
 
 -- ---- within the limits
@@ -113,8 +113,8 @@ excess_counted (counted what c ∷ ps) n e k h =
     excess_on what c n (first_excess ps) e (nat_lt (most what) c) k.0
     (λ g. excess_counted ps n e k.1 g) h
 
-pub excess_by_lexemes : law.ExcessByLexemes
-excess_by_lexemes ts tree e h p x =
+pub excess_by_terminals : law.ExcessByTerminals
+excess_by_terminals ts tree e h p x =
     let size = sized p named_priced (numbers_fit ts h) program' (2 * length ts) (omega arith) in
     let kept = items_kept tree (2 * length ts) size in
     excess_counted (parts_of_program tree) (2 * length ts) e
@@ -153,9 +153,9 @@ symbol_fits kind.Quoted bytes h = tt
 symbol_fits kind.Sign bytes h = mark_fits (looked_up mark_table bytes)
 
 pub numbers_of_text : law.NumbersOfText
-numbers_of_text text [] h = All-nil (λ (t : Lexeme). NumberFits t.symbol)
+numbers_of_text text [] h = All-nil (λ (t : Terminal). NumberFits t.symbol)
 numbers_of_text text (t ∷ ts) h =
-    All-cons (λ (u : Lexeme). NumberFits u.symbol) (lexeme_of text t) (lexemes text ts)
+    All-cons (λ (u : Terminal). NumberFits u.symbol) (terminal_of text t) (terminals text ts)
     (symbol_fits t.kind (spelling text t) (All-head
     (λ (u : Token). place.Spells u.kind (spelling text u)) t ts h))
     (numbers_of_text text

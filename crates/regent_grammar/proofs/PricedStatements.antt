@@ -5,7 +5,7 @@ use Rattle.regent_tree.specs.declared.types.TypeTerm.{TypeTerm}
 use Rattle.regent_tree.specs.declared.types.Kind.{Kind}
 use Rattle.regent_tree.specs.declared.types.SpaceUse.{SpaceUse}
 use Rattle.regent_tree.specs.Limits.{parts_of_term}
-use Rattle.regent_tree.specs.Syntax.{Expression, Start, Block}
+use Rattle.regent_tree.specs.Syntax.{Expression, Initializer, Block}
 use Rattle.regent_tree.specs.Limits.{Part, node, nodes, parts_of_expression, parts_of_expressions, parts_of_steps, parts_of_init, parts_of_value, parts_of_form, parts_of_block, parts_of_arms, parts_of_otherwise, parts_of_params, parts_of_type, parts_of_item}
 use Rattle.regent_grammar.specs.declared.symbol.Mark.TheVariants as mark
 use Rattle.regent_grammar.specs.declared.symbol.Symbol.{Symbol}
@@ -54,15 +54,15 @@ unfolding type.parameter
 parameter' =
     price_gives (λ x n h y m k t j l. let two : 2 ≤ m = k in (omega arith, keeps_more 0 (parts_of_term t) j (0 + n + m + j) l (omega arith))) ⊛' price_here ⊛' name' ⊛' mark' mark.Colon ⊳' type_term'
 
--- ---- start values
+-- ---- initializers
 
 -- an expression alone
 expression_kept : (e : Expression) (m k : ℕ) → Size Sort.expression e m → m ≤ k → Keeps 0 (parts_of_expression e) k
 expression_kept e m k h l = let p = h.0 in (omega arith, h.1, counts_more (parts_of_expression e) m k h.2 l)
 
-pub start_value' : Priced Sort.start stmt.start_value
-unfolding stmt.start_value stmt.new_region stmt.equal_partition stmt.field_partition stmt.mapped_partition stmt.mapping stmt.both_partitions stmt.either_partition
-start_value' =
+pub initializer' : Priced Sort.initializer stmt.initializer
+unfolding stmt.initializer stmt.new_region stmt.equal_partition stmt.field_partition stmt.mapped_partition stmt.mapping stmt.both_partitions stmt.either_partition
+initializer' =
     price_when
     (price_gives (λ e n h s m k. expression_kept e n (0 + n + m) h (omega arith))
     ⊛' word' word.Region ⊳' mark' mark.Open ⊳' expression'
@@ -100,11 +100,11 @@ start_value' =
 
 -- ---- statements of one line
 
-init_kept : (i : Option Start) (n : ℕ) → Size (Sort.optional Sort.start) i n → Keeps 0 (parts_of_init i) n
+init_kept : (i : Option Initializer) (n : ℕ) → Size (Sort.optional Sort.initializer) i n → Keeps 0 (parts_of_init i) n
 init_kept None n h = (omega arith, tt, tt)
 init_kept (Some s) n h = h
 
--- the node of a statement, paid by a name or another lexeme before what is kept
+-- the node of a statement, paid by a name or another terminal before what is kept
 stated : (ps : List Part) (n m k : ℕ) → 2 ≤ n → Keeps 0 ps m → n + m ≤ k → Keeps 1 ps k
 stated ps n m k two h l = let p = h.0 in (omega arith, h.1, counts_more ps m k h.2 (omega arith))
 
@@ -116,7 +116,7 @@ variable' =
     (keeps_append 0 0 0 (parts_of_type t) (parts_of_init i) m j (m + j) (type_kept t m k) (init_kept i j l) (omega arith) (omega arith))
     (omega arith))
     ⊛' word' word.Var ⊳' name' ⊛' maybe' (mark' mark.Colon ⊳' type_term')
-    ⊛' maybe' (mark' mark.Assign ⊳' start_value')
+    ⊛' maybe' (mark' mark.Assign ⊳' initializer')
 
 pub fields' : Priced (Sort.listed Sort.bytes) stmt.fields
 unfolding stmt.fields
@@ -354,7 +354,7 @@ item_form' =
     ⊲' word' word.Regentlib ⊲' mark' mark.Dot ⊲' named' (codes "c"))
     (price_when field_space' (price_when task'
     (price_gives (λ x n h. let two : 2 ≤ n = h in (omega arith, (omega arith, tt, tt)))
-    ⊛' word' word.Regentlib ⊳' mark' mark.Dot ⊳' named' (codes "start") ⊳' in_parentheses' name'))))
+    ⊛' word' word.Regentlib ⊳' mark' mark.Dot ⊳' named' (codes "initializer") ⊳' in_parentheses' name'))))
 
 pub item' : Priced Sort.item item.item
 unfolding item.item

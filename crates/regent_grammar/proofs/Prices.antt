@@ -1,9 +1,9 @@
--- A rule is priced where what it spells costs no more than its lexemes pay; and each rule that is
+-- A rule is priced where what it spells costs no more than its terminals pay; and each rule that is
 -- made of priced rules by a function that costs nothing itself.
 use Rattle.std.proofs.Common.{◌≡◌, ℕ, ◌+◌, ◌*◌, ◌-◌, ◌≤◌, List, [], ◌∷◌, Option, Some, length, arith}
 use Rattle.regent_grammar.specs.contracts.symbol.Mark as mark_contract
 use Rattle.regent_grammar.specs.contracts.symbol.Word as word_contract
-use Rattle.regent_grammar.specs.declared.symbol.Lexeme.{Lexeme}
+use Rattle.regent_grammar.specs.declared.symbol.Terminal.{Terminal}
 use Rattle.regent_grammar.specs.declared.symbol.Mark.TheVariants as mark
 use Rattle.regent_grammar.specs.declared.symbol.Symbol.{Symbol}
 use Rattle.regent_grammar.specs.Symbols.{Test}
@@ -55,12 +55,12 @@ parts price_use = tt
 abbrev pub NamedPriced : Type 0
 NamedPriced = (n : Nonterminal) → Priced (spelt_by n) (rule_of n)
 
-abbrev pub AllNumbersFit : List Lexeme → Type 0
+abbrev pub AllNumbersFit : List Terminal → Type 0
 AllNumbersFit [] = Unit {0}
 AllNumbersFit (t ∷ ts) = NumberFits t.symbol × AllNumbersFit ts
 
 mutual
-  fit_behind : {s : Sort} {r : Rule s} {ts : List Lexeme} {x : Value s} {rest : List Lexeme} → Spells s r ts x rest → AllNumbersFit ts → AllNumbersFit rest
+  fit_behind : {s : Sort} {r : Rule s} {ts : List Terminal} {x : Value s} {rest : List Terminal} → Spells s r ts x rest → AllNumbersFit ts → AllNumbersFit rest
   fit_behind is_given h = h
   fit_behind is_here h = h
   fit_behind (is_one e) h = h.1
@@ -70,12 +70,12 @@ mutual
   fit_behind (is_many p) h = many_fit_behind p h
   fit_behind (is_used p) h = fit_behind p h
 
-  many_fit_behind : {s : Sort} {test : Test} {r : Rule s} {ts : List Lexeme} {xs : List (Value s)} {rest : List Lexeme} → SpellsMany s test r ts xs rest → AllNumbersFit ts → AllNumbersFit rest
+  many_fit_behind : {s : Sort} {test : Test} {r : Rule s} {ts : List Terminal} {xs : List (Value s)} {rest : List Terminal} → SpellsMany s test r ts xs rest → AllNumbersFit ts → AllNumbersFit rest
   many_fit_behind (no_more e) h = h
   many_fit_behind (one_more e p q) h = many_fit_behind q (fit_behind p h)
 
 mutual
-  pub sized : {s : Sort} {r : Rule s} {ts : List Lexeme} {x : Value s} {rest : List Lexeme} → Spells s r ts x rest →
+  pub sized : {s : Sort} {r : Rule s} {ts : List Terminal} {x : Value s} {rest : List Terminal} → Spells s r ts x rest →
       NamedPriced → AllNumbersFit ts → Priced s r → (n : ℕ) → 2 * length ts ≤ n + 2 * length rest → Size s x n
   sized (is_given {s = s} {x = x}) all h p n l = more s x 0 n (parts p) (omega arith)
   sized is_here all h p n l = tt
@@ -93,7 +93,7 @@ mutual
   sized (is_many d) all h p n l = many_sized d all h (parts p) n l
   sized (is_used {n = m} d) all h p n l = sized d all h (all m) n l
 
-  pub many_sized : {s : Sort} {test : Test} {r : Rule s} {ts : List Lexeme} {xs : List (Value s)} {rest : List Lexeme} → SpellsMany s test r ts xs rest →
+  pub many_sized : {s : Sort} {test : Test} {r : Rule s} {ts : List Terminal} {xs : List (Value s)} {rest : List Terminal} → SpellsMany s test r ts xs rest →
       NamedPriced → AllNumbersFit ts → Priced s r → (n : ℕ) → 2 * length ts ≤ n + 2 * length rest → Size (Sort.listed s) xs n
   many_sized (no_more e) all h p n l = tt
   many_sized (one_more {r = r} {ts = ts} {mid = mid} {rest = rest} e d k) all h p n l =

@@ -1,4 +1,4 @@
--- How many nodes a value has by the lexemes that it was read of: each lexeme pays for two.
+-- How many nodes a value has by the terminals that it was read of: each terminal pays for two.
 use Rattle.std.proofs.Common.{◌≡◌, ℕ, suc, ◌+◌, ◌≤◌, List, [], ◌∷◌, ◌++◌}
 use Rattle.std.proofs.Common.{Option, Some, None, length, append_assoc, subst}
 use Rattle.std.proofs.Common.{arith}
@@ -12,7 +12,7 @@ use Rattle.regent_tree.specs.Syntax.{Expression, Statement, a_statement, Block, 
 use Rattle.regent_tree.specs.Limits.{Part, node, literal, counted, nodes, number_of_nodes}
 use Rattle.regent_tree.specs.Limits.{parts_of_term, parts_of_type, parts_of_params}
 use Rattle.regent_tree.specs.Limits.{parts_of_expression, parts_of_links, parts_of_expressions}
-use Rattle.regent_tree.specs.Limits.{parts_of_steps, parts_of_start, parts_of_form, parts_of_block}
+use Rattle.regent_tree.specs.Limits.{parts_of_steps, parts_of_initializer, parts_of_form, parts_of_block}
 use Rattle.regent_tree.specs.Limits.{parts_of_arms, parts_of_otherwise, parts_of_item}
 use Rattle.regent_tree.specs.Limits.{parts_of_items}
 use Rattle.regent_grammar.specs.Nodes.{Joined, links_from, expressions_from, Stepped, by_field}
@@ -82,7 +82,7 @@ Size Sort.joined x n = Keeps 1 (parts_of_expression x.operand) n
 Size Sort.step x n = Keeps 0 (parts_of_stepped x) n
 Size Sort.accessed x n = Keeps 2 (parts_of_steps x.steps) n
 Size Sort.expression x n = Keeps 1 (parts_of_expression x) n
-Size Sort.start x n = Keeps 0 (parts_of_start x) n
+Size Sort.initializer x n = Keeps 0 (parts_of_initializer x) n
 Size Sort.how x n = Unit {0}
 Size Sort.arm x n = Keeps 1 (parts_of_expression x.test ++ parts_of_block x.body) n
 Size Sort.form x n = Keeps 1 (parts_of_form x) n
@@ -148,7 +148,7 @@ more Sort.joined x n m k h = keeps_more 1 (parts_of_expression x.operand) n m k 
 more Sort.step x n m k h = keeps_more 0 (parts_of_stepped x) n m k h
 more Sort.accessed x n m k h = keeps_more 2 (parts_of_steps x.steps) n m k h
 more Sort.expression x n m k h = keeps_more 1 (parts_of_expression x) n m k h
-more Sort.start x n m k h = keeps_more 0 (parts_of_start x) n m k h
+more Sort.initializer x n m k h = keeps_more 0 (parts_of_initializer x) n m k h
 more Sort.how x n m k h = tt
 more Sort.arm x n m k h = keeps_more 1 (parts_of_expression x.test ++ parts_of_block x.body) n m k h
 more Sort.form x n m k h = keeps_more 1 (parts_of_form x) n m k h

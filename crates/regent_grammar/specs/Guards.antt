@@ -1,16 +1,16 @@
--- When a rule surely takes a lexeme, and when it comes to a named production before it has taken
+-- When a rule surely takes a terminal, and when it comes to a named production before it has taken
 -- one.
 -- Reading ends by this: each further time of a `many`, and each production inside itself, is behind
--- a lexeme.
+-- a terminal.
 use Rattle.std.specs.Prelude.{Bool, true, false, ◌&&◌, ◌||◌, not}
 use Rattle.regent_grammar.specs.Rules.{Sort, Nonterminal, an_expression, a_block, Rule, gives, here, one, both, when◌then◌else◌, many, use'}
 
--- an expression takes a lexeme, a block may be empty
+-- an expression takes a terminal, a block may be empty
 abbrev pub takes_named : Nonterminal → Bool
 takes_named an_expression = true
 takes_named a_block = false
 
--- each text that the rule spells has a lexeme
+-- each text that the rule spells has a terminal
 unfoldable pub takes : {s : Sort} → Rule s → Bool
 takes (gives x) = false
 takes here = false
@@ -30,7 +30,7 @@ leads (when test then r else q) = leads r || leads q
 leads (many test r) = leads r
 leads (use' n) = true
 
--- what is repeated takes a lexeme each time
+-- what is repeated takes a terminal each time
 unfoldable pub is_sound : {s : Sort} → Rule s → Bool
 is_sound (gives x) = true
 is_sound here = true

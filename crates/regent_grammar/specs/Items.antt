@@ -156,7 +156,7 @@ alias =
 unfoldable pub start_call : Rule Sort.item_form
 start_call =
     gives (λ n. start_item n)
-    ⊛ a_word word.Regentlib ⊳ a_mark mark.Dot ⊳ named (codes "start") ⊳ in_parentheses name
+    ⊛ a_word word.Regentlib ⊳ a_mark mark.Dot ⊳ named (codes "initializer") ⊳ in_parentheses name
 
 unfoldable pub item_form : Rule Sort.item_form
 item_form =
@@ -166,7 +166,7 @@ item_form =
     else when comes (is_word word.Task) then task
     else start_call
 
--- an item has the line of its first lexeme
+-- an item has the line of its first terminal
 abbrev pub an_item : ℕ → ItemForm → ItemTree
 an_item line form = record { line = line; form = form }
 

@@ -7,52 +7,52 @@ use Rattle.regent_lex.specs.Texts.{Lexes}
 use Rattle.regent_tree.specs.Limits.{Part, literal, KeepsLimit, number_of_nodes, parts_of_program, first_excess, WithinLimits}
 use Rattle.regent_tree.specs.declared.limits.Excess.{Excess}
 use Rattle.regent_tree.specs.Syntax.{Tree}
-use Rattle.regent_grammar.specs.declared.symbol.Lexeme.{Lexeme}
+use Rattle.regent_grammar.specs.declared.symbol.Terminal.{Terminal}
 use Rattle.regent_grammar.specs.declared.symbol.Symbol.{Symbol}
 use Rattle.regent_grammar.specs.declared.symbol.Symbol.TheVariants as symbol
-use Rattle.regent_grammar.specs.Lexemes.{lexemes}
+use Rattle.regent_grammar.specs.Terminals.{terminals}
 use Rattle.regent_grammar.specs.Rules.{Sort, Value, Rule}
 use Rattle.regent_grammar.specs.Items.{program}
 use Rattle.regent_grammar.specs.Guards.{is_sound}
 use Rattle.regent_grammar.specs.Derivations.{Spells, Stops, IsProgram, IsNoProgram}
 use Rattle.regent_grammar.specs.Reading.{stuck, read, reading}
 
--- lexemes are one program at most
+-- terminals are one program at most
 abbrev pub OneTree : Type 0
 OneTree =
-    (ts : List Lexeme) (tree other : Tree) → IsProgram ts tree → IsProgram ts other → tree ≡ other
+    (ts : List Terminal) (tree other : Tree) → IsProgram ts tree → IsProgram ts other → tree ≡ other
 
 -- they are a program, or stop somewhere
-pub data Decided (ts : List Lexeme) : Type 0 where
+pub data Decided (ts : List Terminal) : Type 0 where
   a_program : (tree : Tree) → IsProgram ts tree → Decided ts
-  no_program : (at : List Lexeme) → IsNoProgram ts at → Decided ts
+  no_program : (at : List Terminal) → IsNoProgram ts at → Decided ts
 
 abbrev pub AllDecided : Type 0
-AllDecided = (ts : List Lexeme) → Decided ts
+AllDecided = (ts : List Terminal) → Decided ts
 
 -- but not both
 abbrev pub NeverBoth : Type 0
-NeverBoth = (ts at : List Lexeme) (tree : Tree) → IsProgram ts tree → IsNoProgram ts at → ⊥
+NeverBoth = (ts at : List Terminal) (tree : Tree) → IsProgram ts tree → IsNoProgram ts at → ⊥
 
 -- and they stop at one place, which is in the text
 abbrev pub OnePlace : Type 0
-OnePlace = (ts at other : List Lexeme) → IsNoProgram ts at → IsNoProgram ts other → at ≡ other
+OnePlace = (ts at other : List Terminal) → IsNoProgram ts at → IsNoProgram ts other → at ≡ other
 
 abbrev pub PlaceInText : Type 0
-PlaceInText = (ts at : List Lexeme) → IsNoProgram ts at → (front : List Lexeme) × (ts ≡ front ++ at)
+PlaceInText = (ts at : List Terminal) → IsNoProgram ts at → (front : List Terminal) × (ts ≡ front ++ at)
 
 -- a program is a whole text
 abbrev pub NoneBehind : Type 0
 NoneBehind =
-    (ts rest : List Lexeme) (tree : Tree) → Spells (Sort.listed Sort.item) program ts tree rest →
+    (ts rest : List Terminal) (tree : Tree) → Spells (Sort.listed Sort.item) program ts tree rest →
     rest ≡ []
 
 -- Reading by a rule reads what the rule spells, and stops where the rule does.
 abbrev pub ReadsExactly : {s : Sort} → Rule s → Type 0
 ReadsExactly {s} r =
-    (ts : List Lexeme)
-    → ((x : Value s) (rest : List Lexeme) → reading r ts ≡ read x rest ↔ Spells s r ts x rest)
-    × ((at : List Lexeme) → reading r ts ≡ stuck at ↔ Stops s r ts at)
+    (ts : List Terminal)
+    → ((x : Value s) (rest : List Terminal) → reading r ts ≡ read x rest ↔ Spells s r ts x rest)
+    × ((at : List Terminal) → reading r ts ≡ stuck at ↔ Stops s r ts at)
 
 abbrev pub ReadingIsExact : Type 0
 ReadingIsExact = (s : Sort) (r : Rule s) → is_sound r ≡ true → ReadsExactly r
@@ -68,15 +68,15 @@ abbrev pub LiteralFits : Part → Type 0
 LiteralFits (literal value width) = KeepsLimit (literal value width)
 LiteralFits _ = Unit {0}
 
--- A program has two nodes at most for each of its lexemes, and its literals fit where its numbers do.
-abbrev pub NodesByLexemes : Type 0
-NodesByLexemes =
-    (ts : List Lexeme) (tree : Tree) → All (λ t. NumberFits t.symbol) ts → IsProgram ts tree →
+-- A program has two nodes at most for each of its terminals, and its literals fit where its numbers do.
+abbrev pub NodesByTerminals : Type 0
+NodesByTerminals =
+    (ts : List Terminal) (tree : Tree) → All (λ t. NumberFits t.symbol) ts → IsProgram ts tree →
     number_of_nodes (parts_of_program tree) ≤ 2 * length ts
 
 abbrev pub LiteralsFit : Type 0
 LiteralsFit =
-    (ts : List Lexeme) (tree : Tree) → All (λ t. NumberFits t.symbol) ts → IsProgram ts tree →
+    (ts : List Terminal) (tree : Tree) → All (λ t. NumberFits t.symbol) ts → IsProgram ts tree →
     All LiteralFits (parts_of_program tree)
 
 -- the numbers of a text do
@@ -84,7 +84,7 @@ abbrev pub NumbersOfText : Type 0
 NumbersOfText =
     (text : List ℕ) (tokens : List Token) → All
     (λ t. place.Spells t.kind (spelling text t)) tokens →
-    All (λ t. NumberFits t.symbol) (lexemes text tokens)
+    All (λ t. NumberFits t.symbol) (terminals text tokens)
 
 -- a text has no more tokens than bytes
 abbrev pub TokensByBytes : Type 0
@@ -94,11 +94,11 @@ TokensByBytes =
 -- A program of a text that isn't too long is within the limits, but for what it may have too many of.
 abbrev pub LimitsButCounts : Type 0
 LimitsButCounts =
-    (ts : List Lexeme) (tree : Tree) → IsProgram ts tree → All (λ t. NumberFits t.symbol) ts →
+    (ts : List Terminal) (tree : Tree) → IsProgram ts tree → All (λ t. NumberFits t.symbol) ts →
     length ts ≤ 1048576 → first_excess (parts_of_program tree) ≡ None → WithinLimits tree
 
--- What a program has too many of is counted by its lexemes: two at most for each.
-abbrev pub ExcessByLexemes : Type 0
-ExcessByLexemes =
-    (ts : List Lexeme) (tree : Tree) (e : Excess) → All (λ t. NumberFits t.symbol) ts →
+-- What a program has too many of is counted by its terminals: two at most for each.
+abbrev pub ExcessByTerminals : Type 0
+ExcessByTerminals =
+    (ts : List Terminal) (tree : Tree) (e : Excess) → All (λ t. NumberFits t.symbol) ts →
     IsProgram ts tree → first_excess (parts_of_program tree) ≡ Some e → e.count ≤ 2 * length ts

@@ -1,4 +1,4 @@
-pub mod Lexemes
+pub mod Terminals
 pub mod Symbols
 pub mod Nodes
 pub mod Rules

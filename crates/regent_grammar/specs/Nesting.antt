@@ -1,6 +1,6 @@
--- Nesting, counted over the lexemes from the left.
+-- Nesting, counted over the terminals from the left.
 use Rattle.std.specs.Prelude.{ℕ, ◌+◌, ◌-◌, List, [], ◌∷◌, Option, Some, None, nat_lt, if◌then◌else◌}
-use Rattle.regent_grammar.specs.declared.symbol.Lexeme.{Lexeme}
+use Rattle.regent_grammar.specs.declared.symbol.Terminal.{Terminal}
 use Rattle.regent_grammar.specs.declared.symbol.Mark.TheVariants as mark
 use Rattle.regent_grammar.specs.declared.symbol.Symbol.{Symbol}
 use Rattle.regent_grammar.specs.declared.symbol.Symbol.TheVariants as symbol
@@ -24,12 +24,12 @@ depth_behind n (symbol.Word word.End) = n - 1
 depth_behind n (symbol.Word word.Elseif) = n - 1
 depth_behind n _ = n
 
--- the line of the first lexeme behind which more is open, where n is open before the lexemes
-abbrev pub too_deep_from : ℕ → List Lexeme → Option ℕ
+-- the line of the first terminal behind which more is open, where n is open before the terminals
+abbrev pub too_deep_from : ℕ → List Terminal → Option ℕ
 too_deep_from n [] = None
 too_deep_from n (t ∷ ts) =
     if nat_lt most_open (depth_behind n t.symbol) then Some t.line
     else too_deep_from (depth_behind n t.symbol) ts
 
-abbrev pub too_deep : List Lexeme → Option ℕ
+abbrev pub too_deep : List Terminal → Option ℕ
 too_deep ts = too_deep_from 0 ts

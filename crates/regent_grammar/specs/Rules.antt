@@ -14,7 +14,7 @@ use Rattle.regent_tree.specs.declared.types.PointerTerm.{PointerTerm}
 use Rattle.regent_tree.specs.declared.types.Ref.{Ref}
 use Rattle.regent_tree.specs.declared.types.SpaceUse.{SpaceUse}
 use Rattle.regent_tree.specs.declared.types.TypeTerm.{TypeTerm}
-use Rattle.regent_tree.specs.Syntax.{Expression, Start, Statement, Form, Block, ItemForm, ItemTree}
+use Rattle.regent_tree.specs.Syntax.{Expression, Initializer, Statement, Form, Block, ItemForm, ItemTree}
 use Rattle.regent_grammar.specs.declared.symbol.Symbol.{Symbol}
 use Rattle.regent_grammar.specs.Nodes.{Joined, Stepped, Accessed, Armed}
 use Rattle.regent_grammar.specs.Symbols.{Test}
@@ -43,7 +43,7 @@ pub data Sort : Type 0 where
   step : Sort
   accessed : Sort
   expression : Sort
-  start : Sort
+  initializer : Sort
   how : Sort
   arm : Sort
   form : Sort
@@ -77,7 +77,7 @@ Value Sort.joined = Joined
 Value Sort.step = Stepped
 Value Sort.accessed = Accessed
 Value Sort.expression = Expression
-Value Sort.start = Start
+Value Sort.initializer = Initializer
 Value Sort.how = How
 Value Sort.arm = Armed
 Value Sort.form = Form
@@ -100,11 +100,11 @@ spelt_by a_block = Sort.block
 
 infixr 5 when◌then◌else◌
 pub data Rule : Sort → Type 0 where
-  -- no lexeme, and this value
+  -- no terminal, and this value
   gives : {s : Sort} → Value s → Rule s
-  -- no lexeme, and the line of the next one
+  -- no terminal, and the line of the next one
   here : Rule Sort.line
-  -- one lexeme for whose symbol the table has a value
+  -- one terminal for whose symbol the table has a value
   one : {s : Sort} → (Symbol → Option (Value s)) → Rule s
   -- the one and then the other
   both : {r s t : Sort} → (Value r → Value s → Value t) → Rule r → Rule s → Rule t

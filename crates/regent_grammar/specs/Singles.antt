@@ -1,4 +1,4 @@
--- Rules of a single lexeme, and lists with separators.
+-- Rules of a single terminal, and lists with separators.
 use Rattle.std.specs.Prelude.{ℕ, Bool, false, cond, List, [], ◌∷◌, Option, Some, None, bytes_eq}
 use Rattle.regent_grammar.specs.contracts.symbol.Mark as mark_contract
 use Rattle.regent_grammar.specs.contracts.symbol.Word as word_contract

@@ -3,7 +3,7 @@ use Rattle.std.specs.Prelude.{ℕ, Bool, true, false, ◌||◌, List, [], ◌∷
 use Rattle.lane_kernels.specs.declared.numbers.Op.TheVariants.{Sum, Product, Least, Greatest}
 use Rattle.regent_tree.specs.declared.statement.How.{How}
 use Rattle.regent_tree.specs.declared.statement.How.TheVariants.{Set, Reduce}
-use Rattle.regent_tree.specs.Syntax.{Expression, Start, region_start, equal_start, by_field_start, image_start, preimage_start, both_start, either_start, plain_start, Statement, a_statement, Form, var_form, if_form, while_form, for_in_form, for_to_form, do_form, fill_form, assert_form, print_form, call_form, assign_form, return_form, Block}
+use Rattle.regent_tree.specs.Syntax.{Expression, Initializer, region_initializer, equal_initializer, by_field_initializer, image_initializer, preimage_initializer, both_initializer, either_initializer, plain_initializer, Statement, a_statement, Form, var_form, if_form, while_form, for_in_form, for_to_form, do_form, fill_form, assert_form, print_form, call_form, assign_form, return_form, Block}
 use Rattle.regent_grammar.specs.declared.symbol.Mark.TheVariants as mark
 use Rattle.regent_grammar.specs.declared.symbol.Symbol.{Symbol}
 use Rattle.regent_grammar.specs.declared.symbol.Symbol.TheVariants as symbol
@@ -18,57 +18,57 @@ use Rattle.regent_grammar.specs.Expressions.{expression, access}
 unfoldable pub block : Rule Sort.block
 block = use' a_block
 
--- ---- start values
+-- ---- initializers
 
 -- `region` `(` expr `,` spaceuse `)`
-unfoldable pub new_region : Rule Sort.start
+unfoldable pub new_region : Rule Sort.initializer
 new_region =
-    gives (λ e s. region_start e s) ⊛ a_word word.Region ⊳ a_mark mark.Open ⊳ expression
+    gives (λ e s. region_initializer e s) ⊛ a_word word.Region ⊳ a_mark mark.Open ⊳ expression
     ⊛ a_mark mark.Comma ⊳ space_use ⊲ a_mark mark.Close
 
 -- `partition` `(` `equal` `,` Name `,` expr `)`
-unfoldable pub equal_partition : Rule Sort.start
+unfoldable pub equal_partition : Rule Sort.initializer
 equal_partition =
-    gives (λ r e. equal_start r e)
+    gives (λ r e. equal_initializer r e)
     ⊛ a_word word.Partition ⊳ a_mark mark.Open ⊳ a_word word.Equal ⊳ a_mark mark.Comma ⊳ name
     ⊛ a_mark mark.Comma ⊳ expression ⊲ a_mark mark.Close
 
 -- `partition` `(` Name `.` Name `,` expr `)`
-unfoldable pub field_partition : Rule Sort.start
+unfoldable pub field_partition : Rule Sort.initializer
 field_partition =
-    gives (λ r f e. by_field_start r f e) ⊛ a_word word.Partition ⊳ a_mark mark.Open ⊳ name
+    gives (λ r f e. by_field_initializer r f e) ⊛ a_word word.Partition ⊳ a_mark mark.Open ⊳ name
     ⊛ a_mark mark.Dot ⊳ name ⊛ a_mark mark.Comma ⊳ expression ⊲ a_mark mark.Close
 
 -- ( `image` | `preimage` ) `(` Name `,` Name `,` Name `.` Name `)`
-abbrev pub mapping_of : Symbol → Option (List ℕ → List ℕ → List ℕ → List ℕ → Start)
-mapping_of (symbol.Word word.Image) = Some (λ s p r f. image_start s p r f)
-mapping_of (symbol.Word word.Preimage) = Some (λ s p r f. preimage_start s p r f)
+abbrev pub mapping_of : Symbol → Option (List ℕ → List ℕ → List ℕ → List ℕ → Initializer)
+mapping_of (symbol.Word word.Image) = Some (λ s p r f. image_initializer s p r f)
+mapping_of (symbol.Word word.Preimage) = Some (λ s p r f. preimage_initializer s p r f)
 mapping_of _ = None
 
 abbrev pub is_mapping : Symbol → Bool
 is_mapping s = is_word word.Image s || is_word word.Preimage s
 
 abbrev pub Mapping : Sort
-Mapping = Sort.bytes ⇒ Sort.bytes ⇒ Sort.bytes ⇒ Sort.bytes ⇒ Sort.start
+Mapping = Sort.bytes ⇒ Sort.bytes ⇒ Sort.bytes ⇒ Sort.bytes ⇒ Sort.initializer
 
 unfoldable pub mapping : Rule Mapping
 mapping = one mapping_of
 
-unfoldable pub mapped_partition : Rule Sort.start
+unfoldable pub mapped_partition : Rule Sort.initializer
 mapped_partition =
     mapping ⊛ a_mark mark.Open ⊳ name ⊛ a_mark mark.Comma ⊳ name
     ⊛ a_mark mark.Comma ⊳ name ⊛ a_mark mark.Dot ⊳ name ⊲ a_mark mark.Close
 
 -- Name `&` Name | Name `|` Name
-unfoldable pub both_partitions : Rule Sort.start
-both_partitions = gives (λ p q. both_start p q) ⊛ name ⊛ a_mark mark.Ampersand ⊳ name
+unfoldable pub both_partitions : Rule Sort.initializer
+both_partitions = gives (λ p q. both_initializer p q) ⊛ name ⊛ a_mark mark.Ampersand ⊳ name
 
-unfoldable pub either_partition : Rule Sort.start
-either_partition = gives (λ p q. either_start p q) ⊛ name ⊛ a_mark mark.Bar ⊳ name
+unfoldable pub either_partition : Rule Sort.initializer
+either_partition = gives (λ p q. either_initializer p q) ⊛ name ⊛ a_mark mark.Bar ⊳ name
 
 -- A name before `&` or `|` is a partition's.
-unfoldable pub start_value : Rule Sort.start
-start_value =
+unfoldable pub initializer : Rule Sort.initializer
+initializer =
     when comes (is_word word.Region) then new_region
     else when come (is_word word.Partition ∷ is_mark mark.Open ∷ is_word word.Equal ∷ [])
     then equal_partition
@@ -76,7 +76,7 @@ start_value =
     else when comes is_mapping then mapped_partition
     else when come (is_name ∷ is_mark mark.Ampersand ∷ []) then both_partitions
     else when come (is_name ∷ is_mark mark.Bar ∷ []) then either_partition
-    else gives (λ e. plain_start e) ⊛ expression
+    else gives (λ e. plain_initializer e) ⊛ expression
 
 -- ---- statements of one line
 
@@ -85,7 +85,7 @@ unfoldable pub variable : Rule Sort.form
 variable =
     gives (λ n t i. var_form n t i) ⊛ a_word word.Var ⊳ name
     ⊛ maybe (comes (is_mark mark.Colon)) (a_mark mark.Colon ⊳ type_term)
-    ⊛ maybe (comes (is_mark mark.Assign)) (a_mark mark.Assign ⊳ start_value)
+    ⊛ maybe (comes (is_mark mark.Assign)) (a_mark mark.Assign ⊳ initializer)
 
 -- fields = Name | `{` Name { `,` Name } `}`
 abbrev pub one_field : List ℕ → List (List ℕ)
@@ -266,7 +266,7 @@ form =
     else when come (is_name ∷ is_mark mark.Open ∷ []) then task_call
     else assignment
 
--- a statement has the line of its first lexeme
+-- a statement has the line of its first terminal
 unfoldable pub statement : Rule Sort.statement
 statement = gives (λ line f. a_statement line f) ⊛ here ⊛ form
 

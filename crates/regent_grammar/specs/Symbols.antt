@@ -1,9 +1,9 @@
--- Tests of symbols, and of the lexemes that come next.
+-- Tests of symbols, and of the terminals that come next.
 use Rattle.std.specs.Prelude.{ℕ, Bool, true, false, ◌&&◌, List, [], ◌∷◌, bytes_eq}
 use denote.Enum.Bare.{sameb}
 use Rattle.regent_grammar.specs.contracts.symbol.Mark as mark_contract
 use Rattle.regent_grammar.specs.contracts.symbol.Word as word_contract
-use Rattle.regent_grammar.specs.declared.symbol.Lexeme.{Lexeme}
+use Rattle.regent_grammar.specs.declared.symbol.Terminal.{Terminal}
 use Rattle.regent_grammar.specs.declared.symbol.Symbol.{Symbol}
 use Rattle.regent_grammar.specs.declared.symbol.Symbol.TheVariants as symbol
 
@@ -24,9 +24,9 @@ abbrev pub is_name : Symbol → Bool
 is_name (symbol.Name name) = true
 is_name _ = false
 
--- a test of the lexemes that come next
+-- a test of the terminals that come next
 abbrev pub Test : Type 0
-Test = List Lexeme → Bool
+Test = List Terminal → Bool
 
 -- the text goes on
 abbrev pub goes_on : Test
@@ -44,7 +44,7 @@ come [] ts = true
 come (passes ∷ more) [] = false
 come (passes ∷ more) (t ∷ ts) = passes t.symbol && come more ts
 
--- the line on which the next lexeme stands, or 0 at the end
-abbrev pub line_of : List Lexeme → ℕ
+-- the line on which the next terminal stands, or 0 at the end
+abbrev pub line_of : List Terminal → ℕ
 line_of [] = 0
 line_of (t ∷ ts) = t.line

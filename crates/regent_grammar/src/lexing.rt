@@ -1,12 +1,12 @@
-//! From tokens to lexemes: the words and signs of the language, and what numbers and strings stand for.
+//! From tokens to terminals: the words and signs of the language, and what numbers and strings stand for.
 
 ghost use Rattle.std.specs.Prelude.{◌≡◌, ◌≤◌, IfOk, MatchOption, length, map, All};
 ghost use Rattle.regent_lex.specs.Places.{IsWithin, Spells, spelling};
-ghost use Rattle.regent_grammar.specs.Lexemes.{looked_up, word_table, mark_table, symbol_of, lexeme_of};
-ghost use Rattle.regent_grammar.specs.Lexemes.{lexemes, number_width, word_symbol, mark_symbol};
-ghost use Rattle.regent_grammar.specs.Lexemes.{words_to_equal, words_to_int64, words_to_reads, words_to_writes, marks_to_not_equal, marks_to_bar};
+ghost use Rattle.regent_grammar.specs.Terminals.{looked_up, word_table, mark_table, symbol_of, terminal_of};
+ghost use Rattle.regent_grammar.specs.Terminals.{terminals, number_width, word_symbol, mark_symbol};
+ghost use Rattle.regent_grammar.specs.Terminals.{words_to_equal, words_to_int64, words_to_reads, words_to_writes, marks_to_not_equal, marks_to_bar};
 
-use crate::symbol::{Lexeme, Mark, Symbol, Word};
+use crate::symbol::{Mark, Symbol, Terminal, Word};
 use lane_kernels::Width;
 use plain_values::Sequence;
 use regent_lex::{Token, TokenKind, has_suffix, number_value, quoted_bytes, spelling};
@@ -141,7 +141,7 @@ fn words_to_writes(bytes: &[u8]) -> Option<Word>
 }
 
 /// The reserved word of these bytes.
-#[tactic(auto, using(crate::proofs::LexemeLaws::word_rows))]
+#[tactic(auto, using(crate::proofs::TerminalLaws::word_rows))]
 fn word_of(bytes: &[u8]) -> Option<Word>
     ensures { result ≡ looked_up word_table bytes.now }
 {
@@ -220,7 +220,7 @@ fn marks_to_bar(bytes: &[u8]) -> Option<Mark>
 }
 
 /// The sign of these bytes.
-#[tactic(auto, using(crate::proofs::LexemeLaws::mark_rows))]
+#[tactic(auto, using(crate::proofs::TerminalLaws::mark_rows))]
 fn mark_of(bytes: &[u8]) -> Option<Mark>
     ensures { result ≡ looked_up mark_table bytes.now }
 {
@@ -268,26 +268,26 @@ fn symbol(alloc: Global, kind: TokenKind, bytes: &[u8]) -> Result<Symbol, AllocE
     }
 }
 
-/// The lexeme of a token.
-fn lexeme(alloc: Global, text: &[u8], token: Token) -> Result<Lexeme, AllocError>
+/// The terminal of a token.
+fn terminal(alloc: Global, text: &[u8], token: Token) -> Result<Terminal, AllocError>
     requires within { IsWithin text.now token }
     requires spells { Spells token.kind (spelling text.now token) }
-    ensures { IfOk result (λ l. l ≡ lexeme_of text.now token) }
+    ensures { IfOk result (λ l. l ≡ terminal_of text.now token) }
 {
     let symbol = symbol(alloc, token.kind, spelling(text, token))?;
     let line = token.line;
-    Ok(Lexeme { symbol, line })
+    Ok(Terminal { symbol, line })
 }
 
-/// The lexemes of a text's tokens.
-pub fn lexemes(alloc: Global, text: &[u8], tokens: &[Token]) -> Result<Vec<Lexeme>, AllocError>
+/// The terminals of a text's tokens.
+pub fn terminals(alloc: Global, text: &[u8], tokens: &[Token]) -> Result<Vec<Terminal>, AllocError>
     requires within { All (IsWithin text.now) tokens.now }
     requires spells { All (λ t. Spells t.kind (spelling text.now t)) tokens.now }
-    ensures { IfOk result (λ ls. ls.items ≡ lexemes text.now tokens.now) }
+    ensures { IfOk result (λ ls. ls.items ≡ terminals text.now tokens.now) }
 {
-    let mut lexemes = Vec::new(alloc);
+    let mut terminals = Vec::new(alloc);
     for token in tokens {
-        lexemes.push(lexeme(alloc, text, *token)?)?;
+        terminals.push(terminal(alloc, text, *token)?)?;
     }
-    Ok(lexemes)
+    Ok(terminals)
 }

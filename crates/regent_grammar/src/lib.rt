@@ -1,4 +1,4 @@
-//! The grammar of Regent texts, from the lexemes of a text to the plain tree of its program.
+//! The grammar of Regent texts, from the terminals of a text to the plain tree of its program.
 #![tactic(auto)]
 
 mod lexing;
@@ -6,9 +6,9 @@ mod nesting;
 mod symbol;
 pub mod theorems;
 
-pub use lexing::lexemes;
+pub use lexing::terminals;
 pub use nesting::first_too_deep;
-pub use symbol::{Lexeme, Mark, Symbol, Word};
+pub use symbol::{Mark, Symbol, Terminal, Word};
 
 #[cfg(test)]
 mod tests;

@@ -3,7 +3,7 @@
 ghost use Rattle.std.specs.Prelude.{◌≡◌, ◌≤◌};
 ghost use Rattle.regent_grammar.specs.Nesting.{depth_behind, too_deep};
 
-use crate::symbol::{Lexeme, Mark, Symbol, Word};
+use crate::symbol::{Mark, Symbol, Terminal, Word};
 
 /// How deep it is behind a symbol.
 fn depth_behind(depth: u32, symbol: &Symbol) -> u32
@@ -19,15 +19,15 @@ fn depth_behind(depth: u32, symbol: &Symbol) -> u32
     }
 }
 
-/// The line of the first lexeme behind which more than 64 are open.
-pub fn first_too_deep(lexemes: &[Lexeme]) -> Option<u32>
-    ensures { result ≡ too_deep lexemes.now }
+/// The line of the first terminal behind which more than 64 are open.
+pub fn first_too_deep(terminals: &[Terminal]) -> Option<u32>
+    ensures { result ≡ too_deep terminals.now }
 {
     let mut depth = 0;
-    for lexeme in lexemes {
-        depth = depth_behind(depth, &lexeme.symbol);
+    for terminal in terminals {
+        depth = depth_behind(depth, &terminal.symbol);
         if depth > 64 {
-            return Some(lexeme.line);
+            return Some(terminal.line);
         }
     }
     None

@@ -1,4 +1,4 @@
-//! Lexemes: tokens with what they spell.
+//! Terminals: tokens with what they spell.
 
 use lane_kernels::Width;
 use plain_values::Sequence;
@@ -103,7 +103,7 @@ pub enum Symbol {
 
 /// A token with what it spells, and its line.
 #[derive(Debug, PartialEq, Eq, Drop)]
-pub struct Lexeme {
+pub struct Terminal {
     pub symbol: Symbol,
     pub line: u32,
 }

@@ -1,6 +1,6 @@
-//! Texts and their lexemes. What is expected is taken from the language's tables, by hand.
+//! Texts and their terminals. What is expected is taken from the language's tables, by hand.
 
-use crate::{Lexeme, Mark, Symbol, Word, first_too_deep, lexemes};
+use crate::{Mark, Symbol, Terminal, Word, first_too_deep, terminals};
 use lane_kernels::Width;
 use plain_values::Sequence;
 use regent_lex::tokens;
@@ -8,17 +8,17 @@ use std::alloc::Global;
 use std::process::Abort;
 use std::test::Fail;
 
-/// The text is this one lexeme, on line 2.
+/// The text is this one terminal, on line 2.
 fn assert_one(rt: &impl Abort, alloc: Global, text: &[u8], want: &Symbol) -> Result<(), Fail> {
     assert!(rt; text.len() <= 1048576);
     let tokens = tokens(alloc, text)?;
-    let found = lexemes(alloc, text, tokens.as_slice())?;
+    let found = terminals(alloc, text, tokens.as_slice())?;
     match found.as_slice() {
         [one] => {
             assert_eq!(rt; one.line, 2, "in {text:?}");
             assert!(rt; one.symbol == *want, "in {text:?}");
         }
-        _ => assert!(rt; false, "not one lexeme in {text:?}"),
+        _ => assert!(rt; false, "not one terminal in {text:?}"),
     }
     Ok(())
 }
@@ -89,11 +89,11 @@ fn names_and_strings(rt: HostRuntime) -> Result<(), Fail> {
 }
 
 /// The word, as often as told, on the lines from 0.
-fn repeated(alloc: Global, word: Word, times: u32) -> Result<Vec<Lexeme>, Fail> {
+fn repeated(alloc: Global, word: Word, times: u32) -> Result<Vec<Terminal>, Fail> {
     let mut found = Vec::new(alloc);
     for line in 0..times {
         let symbol = Symbol::Word(word);
-        found.push(Lexeme { symbol, line })?;
+        found.push(Terminal { symbol, line })?;
     }
     Ok(found)
 }

@@ -1,33 +1,33 @@
 //! Laws of the grammar. Each function does nothing; its contract is a law.
 
-ghost use Rattle.regent_grammar.specs.Laws.{ExcessByLexemes, LimitsButCounts};
+ghost use Rattle.regent_grammar.specs.Laws.{ExcessByTerminals, LimitsButCounts};
 ghost use Rattle.regent_grammar.specs.Laws.{OneTree, AllDecided, NeverBoth, OnePlace, PlaceInText, NoneBehind, ReadingIsExact};
-ghost use Rattle.regent_grammar.specs.Laws.{NodesByLexemes, LiteralsFit, NumbersOfText, TokensByBytes};
+ghost use Rattle.regent_grammar.specs.Laws.{NodesByTerminals, LiteralsFit, NumbersOfText, TokensByBytes};
 
-/// Lexemes are one program at most.
+/// Terminals are one program at most.
 #[tactic(auto, using(crate::proofs::Laws::one_tree))]
 pub fn one_tree()
     ensures { OneTree }
 {}
 
-/// Lexemes are a program, or stop somewhere.
+/// Terminals are a program, or stop somewhere.
 pub fn all_decided()
     ensures { AllDecided }
 {}
 
-/// No lexemes are a program and stop somewhere.
+/// No terminals are a program and stop somewhere.
 #[tactic(auto, using(crate::proofs::Laws::never_both))]
 pub fn never_both()
     ensures { NeverBoth }
 {}
 
-/// Lexemes that are no program stop at one place.
+/// Terminals that are no program stop at one place.
 #[tactic(auto, using(crate::proofs::Laws::one_place_each))]
 pub fn one_place()
     ensures { OnePlace }
 {}
 
-/// The place at which lexemes stop is among them, or their end.
+/// The place at which terminals stop is among them, or their end.
 #[tactic(auto, using(crate::proofs::Laws::place_in_text))]
 pub fn place_in_text()
     ensures { PlaceInText }
@@ -44,12 +44,12 @@ pub fn reading_is_exact()
     ensures { ReadingIsExact }
 {}
 
-/// A program has two nodes at most for each of its lexemes.
-pub fn nodes_by_lexemes()
-    ensures { NodesByLexemes }
+/// A program has two nodes at most for each of its terminals.
+pub fn nodes_by_terminals()
+    ensures { NodesByTerminals }
 {}
 
-/// A program's literals fit their widths where the numbers among its lexemes do.
+/// A program's literals fit their widths where the numbers among its terminals do.
 pub fn literals_fit()
     ensures { LiteralsFit }
 {}
@@ -70,7 +70,7 @@ pub fn limits_but_counts()
     ensures { LimitsButCounts }
 {}
 
-/// What a program has too many of is counted by its lexemes.
-pub fn excess_by_lexemes()
-    ensures { ExcessByLexemes }
+/// What a program has too many of is counted by its terminals.
+pub fn excess_by_terminals()
+    ensures { ExcessByTerminals }
 {}

@@ -9,7 +9,7 @@ use Rattle.std.proofs.lemmas.List.{take_at, drop_at, length-append, append-nil}
 use Rattle.std.proofs.lemmas.Bool.{eqb-true, lt-ltb, le-ltb, ne_eqb, false_from_ne_true, and_parts}
 use Rattle.std.proofs.lemmas.Bool.{or_parts}
 use Rattle.std.proofs.lemmas.Bool.Decides.{nat_tests}
-use Rattle.regent_lex.specs.declared.lexeme.Lexeme.TheVariants.{Trivia, Token, Fault}
+use Rattle.regent_lex.specs.declared.input_element.InputElement.TheVariants.{Trivia, Token, Fault}
 use Rattle.regent_lex.specs.declared.token.TokenKind.{TokenKind}
 use Rattle.regent_lex.specs.declared.token.TokenKind.TheVariants.{Quoted, Sign}
 use Rattle.regent_lex.specs.declared.fault.LexKind.{LexKind}
@@ -27,7 +27,7 @@ use Rattle.regent_lex.specs.Faults.{open_string, control_byte, unknown_escape, b
 use Rattle.regent_lex.specs.Search.{search}
 use Rattle.regent_lex.specs.Scan.{word_or_name, identifier_at, number_before, number_of_digits}
 use Rattle.regent_lex.specs.Scan.{number_at, string_with, string_at, block_with, comment_at}
-use Rattle.regent_lex.specs.Scan.{sign_at, lexeme_at, first_lexeme}
+use Rattle.regent_lex.specs.Scan.{sign_at, element_at, first_element}
 use Rattle.regent_lex.proofs.Runs.{run_is}
 use Rattle.regent_lex.proofs.Contents.{closing_over, bad_over, low_bad, unknown_bad, closed_found}
 use Rattle.regent_lex.proofs.Contents.{open_missing}
@@ -91,8 +91,8 @@ block_found bytes after none =
 
 -- blanks and comments are found
 pub trivia_found : (s after : List ℕ) → IsTrivia s after →
-    first_lexeme (s ++ after) ≡ Some (Trivia (length s))
-unfolding lexeme_at
+    first_element (s ++ after) ≡ Some (Trivia (length s))
+unfolding element_at
 trivia_found s after (blank h) = rw h refl
 trivia_found s after (line_comment {bytes} all stops no_block) =
     ap (λ l. Some l) (line_found bytes after all stops no_block ∙ ap (λ n. Trivia n) (omega arith))
@@ -111,12 +111,12 @@ identifier_is s after is =
     rw (run_is is_word_byte s after is.all is.longest, take_at s after (length s) refl) refl
 
 letter_first : (b : ℕ) (bs : List ℕ) → is_letter b ≡ true →
-    first_lexeme (b ∷ bs) ≡ Some (identifier_at (b ∷ bs))
-unfolding lexeme_at
+    first_element (b ∷ bs) ≡ Some (identifier_at (b ∷ bs))
+unfolding element_at
 letter_first b bs h = rw (blank_no_letter b h, h) refl
 
 identifier_found : (s after : List ℕ) → IsIdentifier s after →
-    first_lexeme (s ++ after) ≡ Some (word_or_name s)
+    first_element (s ++ after) ≡ Some (word_or_name s)
 identifier_found [] after is = absurd (let h = is.first in cc)
 identifier_found (b ∷ bs) after is = letter_first b (bs ++ after) is.first
     ∙ ap (λ l. Some l) (identifier_is (b ∷ bs) after is)
@@ -124,13 +124,13 @@ identifier_found (b ∷ bs) after is = letter_first b (bs ++ after) is.first
 -- ---- numbers
 
 digit_first : (b : ℕ) (bs : List ℕ) → is_digit b ≡ true →
-    first_lexeme (b ∷ bs) ≡ Some (number_at (b ∷ bs))
-unfolding lexeme_at
+    first_element (b ∷ bs) ≡ Some (number_at (b ∷ bs))
+unfolding element_at
 digit_first b bs h = rw (blank_no_digit b h, letter_no_digit b h, h) refl
 
 -- what begins with digits is read as a number
 number_first : (digits bs : List ℕ) → next_is is_digit digits ≡ true →
-    first_lexeme (digits ++ bs) ≡ Some (number_at (digits ++ bs))
+    first_element (digits ++ bs) ≡ Some (number_at (digits ++ bs))
 number_first [] bs h = absurd cc
 number_first (d ∷ ds) bs h = digit_first d (ds ++ bs) h
 
@@ -182,7 +182,7 @@ digits_end suffix after (inr p) = rw p refl
 -- a number is taken whole
 numeral_found : (digits suffix after : List ℕ) → IsNumeral digits suffix after →
     value_of digits < 2 ^ 63 →
-    first_lexeme ((digits ++ suffix) ++ after)
+    first_element ((digits ++ suffix) ++ after)
     ≡ Some (number_before (length (digits ++ suffix)) after)
 numeral_found digits suffix after numeral small =
     rw (append_assoc digits suffix after)
@@ -193,30 +193,30 @@ numeral_found digits suffix after numeral small =
 
 -- ---- strings
 
-quote_first : (bytes : List ℕ) → first_lexeme (34 ∷ bytes) ≡ Some (string_at bytes)
-unfolding lexeme_at
+quote_first : (bytes : List ℕ) → first_element (34 ∷ bytes) ≡ Some (string_at bytes)
+unfolding element_at
 quote_first bytes = refl
 
 -- what stands behind a quote is read by the two searches
 string_is : (bytes : List ℕ) (o bad : Option ℕ) → search ClosingQuote false bytes ≡ o →
     search BadContent false bytes ≡ bad →
-    first_lexeme (34 ∷ bytes) ≡ Some (string_with o bad)
+    first_element (34 ∷ bytes) ≡ Some (string_with o bad)
 unfolding string_at
 string_is bytes o bad closing is = quote_first bytes ∙ rw (closing, is) refl
 
 -- a string is taken whole
 quoted_found : (bytes after : List ℕ) → IsContent bytes →
-    first_lexeme ((34 ∷ bytes ++ 34 ∷ []) ++ after)
+    first_element ((34 ∷ bytes ++ 34 ∷ []) ++ after)
     ≡ Some (Token Quoted (length (34 ∷ bytes ++ 34 ∷ [])))
 quoted_found bytes after is =
-    ap (λ ts. first_lexeme (34 ∷ ts)) (append_assoc bytes (34 ∷ []) after)
+    ap (λ ts. first_element (34 ∷ ts)) (append_assoc bytes (34 ∷ []) after)
     ∙ string_is (bytes ++ 34 ∷ after) _ _ (closing_over bytes (34 ∷ after) is)
     (bad_over bytes (34 ∷ after) is)
     ∙ ap (λ n. Some (Token Quoted n)) (omega (arith, length-append bytes (34 ∷ [])))
 
 -- the first bad byte of a closed string is told
 bad_found : (bytes : List ℕ) (k : ℕ) → IsClosed bytes → search BadContent false bytes ≡ Some k →
-    first_lexeme (34 ∷ bytes) ≡ Some (Fault BadByte (k + 1))
+    first_element (34 ∷ bytes) ≡ Some (Fault BadByte (k + 1))
 bad_found bytes k closed bad = let found = closed_found bytes closed in
     string_is bytes _ _ found.1 bad
 
@@ -232,8 +232,8 @@ dash_is_sign b after h dashes =
 -- what is no blank, letter, digit, quote or comment is read as a sign
 sign_first : (b : ℕ) (after : List ℕ) → is_blank b ≡ false → is_letter b ≡ false →
     is_digit b ≡ false → (b == 34) ≡ false →
-    next_are 45 45 (b ∷ after) ≡ false → first_lexeme (b ∷ after) ≡ Some (sign_at b after)
-unfolding lexeme_at
+    next_are 45 45 (b ∷ after) ≡ false → first_element (b ∷ after) ≡ Some (sign_at b after)
+unfolding element_at
 sign_first b after no_blank no_letter no_digit no_quote no_comment =
     rw (no_blank, no_letter, no_digit, no_quote, no_comment) refl
 
@@ -243,14 +243,14 @@ and_false_is false = refl
 
 sign_found : (b : ℕ) (after : List ℕ) → is_sign b ≡ true → next_are 45 45 (b ∷ after) ≡ false →
     (takes_equals b && next_is (λ c. c == 61) after) ≡ false →
-    first_lexeme (b ∷ after) ≡ Some (Token Sign 1)
+    first_element (b ∷ after) ≡ Some (Token Sign 1)
 unfolding sign_at
 sign_found b after h no_comment lone =
     sign_first b after (sign_isnt is_blank b refl h) (sign_isnt is_letter b refl h)
     (sign_isnt is_digit b refl h) (sign_isnt (λ c. c == 34) b refl h) no_comment ∙ rw (lone, h) refl
 
 two_bytes_found : (b : ℕ) (after : List ℕ) → takes_equals b ≡ true →
-    first_lexeme (b ∷ 61 ∷ after) ≡ Some (Token Sign 2)
+    first_element (b ∷ 61 ∷ after) ≡ Some (Token Sign 2)
 unfolding sign_at
 two_bytes_found b after h =
     sign_first b (61 ∷ after) (equals_isnt is_blank b refl h) (equals_isnt is_letter b refl h)
@@ -260,7 +260,7 @@ two_bytes_found b after h =
 nothing_found : (b : ℕ) (after : List ℕ) → is_blank b ≡ false → is_letter b ≡ false →
     is_digit b ≡ false → b ≢ 34 → is_sign b ≡ false →
     (takes_equals b && next_is (λ c. c == 61) after) ≡ false →
-    first_lexeme (b ∷ after) ≡ Some (Fault BadByte 0)
+    first_element (b ∷ after) ≡ Some (Fault BadByte 0)
 unfolding sign_at
 nothing_found b after no_blank no_letter no_digit no_quote no_sign lone =
     sign_first b after no_blank no_letter no_digit (ne_eqb b 34 no_quote)
@@ -270,7 +270,7 @@ nothing_found b after no_blank no_letter no_digit no_quote no_sign lone =
 
 -- the tokens of the table are found
 pub token_found : (kind : TokenKind) (s after : List ℕ) → IsToken kind s after →
-    first_lexeme (s ++ after) ≡ Some (Token kind (length s))
+    first_element (s ++ after) ≡ Some (Token kind (length s))
 token_found kind s after (name is r len) = identifier_found s after is ∙ rw (r, le-ltb _ _ len) refl
 token_found kind s after (word is r) = identifier_found s after is ∙ rw r refl
 token_found kind s after (number {digits} {suffix} numeral small no_letter no_fraction) =
@@ -280,13 +280,13 @@ token_found kind s after (sign {b} h no_comment lone) = sign_found b after h no_
 token_found kind s after (two_byte_sign {b} h) = two_bytes_found b after h
 
 open_comment_found : (bytes : List ℕ) → has_brackets bytes ≡ false →
-    first_lexeme (45 ∷ 45 ∷ 91 ∷ 91 ∷ bytes) ≡ Some (Fault Unclosed 0)
-unfolding lexeme_at comment_at
+    first_element (45 ∷ 45 ∷ 91 ∷ 91 ∷ bytes) ≡ Some (Fault Unclosed 0)
+unfolding element_at comment_at
 open_comment_found bytes none = rw (endless_missing bytes none) refl
 
 -- the faults are found
 pub fault_found : (kind : LexKind) (s after : List ℕ) → IsFault kind s after →
-    first_lexeme (s ++ after) ≡ Some (Fault kind (length s))
+    first_element (s ++ after) ≡ Some (Fault kind (length s))
 fault_found kind s all (long_name {name} {after} is r long) = identifier_found name after is
     ∙ rw (r, lt-ltb _ _ long) refl
 fault_found kind s all (large_number digits after first numeral ends large) =
@@ -300,7 +300,7 @@ fault_found kind s all (control_byte {b} {bytes} {after} is lt closed) =
     bad_found (bytes ++ b ∷ after) (length bytes) closed (low_bad bytes b after is lt)
     ∙ ap (λ n. Some (Fault BadByte n)) (omega arith)
 fault_found kind s all (unknown_escape {c} {bytes} {after} is strange closed) =
-    ap (λ ts. first_lexeme (34 ∷ ts)) (append_assoc bytes (92 ∷ []) (c ∷ after))
+    ap (λ ts. first_element (34 ∷ ts)) (append_assoc bytes (92 ∷ []) (c ∷ after))
     ∙ bad_found (bytes ++ 92 ∷ c ∷ after) (length bytes + 1) closed
     (unknown_bad bytes c after is strange)
     ∙ ap (λ n. Some (Fault BadByte n)) (omega (arith, length-append bytes (92 ∷ [])))

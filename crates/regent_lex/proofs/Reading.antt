@@ -1,4 +1,4 @@
--- A text is read lexeme after lexeme, and in one way.
+-- A text is read input element after input element, and in one way.
 use Rattle.std.proofs.Common.{◌≡◌, ℕ, ◌+◌, ◌≤◌, List, [], ◌∷◌, ◌++◌, length, take, drop}
 use Rattle.std.proofs.Common.{Option, Some, None, Result, Ok, Err, refl, sym, ap, subst, ◌∙◌}
 use Rattle.std.proofs.Common.{append_assoc, drop-drop}
@@ -6,34 +6,34 @@ use Rattle.std.proofs.lemmas.List.{take-append-drop, take_at, drop_at, append-ni
 use Rattle.std.specs.Global.{Vec}
 use Rattle.regent_lex.specs.declared.token.Token.{Token}
 use Rattle.regent_lex.specs.declared.token.TokenKind.{TokenKind}
-use Rattle.regent_lex.specs.declared.lexeme.Lexeme.{Lexeme}
-use Rattle.regent_lex.specs.declared.lexeme.Lexeme.TheVariants as lexeme
+use Rattle.regent_lex.specs.declared.input_element.InputElement.{InputElement}
+use Rattle.regent_lex.specs.declared.input_element.InputElement.TheVariants as input_element
 use Rattle.regent_lex.specs.declared.fault.LexKind.{LexKind}
 use Rattle.regent_lex.specs.declared.fault.LexFault.{LexFault}
 use Rattle.regent_lex.specs.declared.fault.LexFault.TheVariants.{At, Memory}
 use Rattle.regent_lex.specs.Bytes.{feeds}
 use Rattle.regent_lex.specs.Begins.{Begins}
-use Rattle.regent_lex.specs.Scan.{first_lexeme}
+use Rattle.regent_lex.specs.Scan.{first_element}
 use Rattle.regent_lex.specs.Texts.{Lexed, with_token, Lexes, ends, skips, takes, fails}
 use Rattle.regent_lex.specs.Told.{Told}
 use Rattle.regent_lex.proofs.Complete.{trivia_found, token_found, fault_found}
 
 -- ---- a text has one outcome
 
--- what the first lexeme of a text leaves to be told
-abbrev After : Option Lexeme → List ℕ → ℕ → ℕ → Lexed → Type 0
+-- what the first input element of a text leaves to be told
+abbrev After : Option InputElement → List ℕ → ℕ → ℕ → Lexed → Type 0
 After None text place line out = out ≡ Ok []
-After (Some (lexeme.Trivia n)) text place line out =
+After (Some (input_element.Trivia n)) text place line out =
     Lexes (drop n text) (place + n) (line + feeds (take n text)) out
-After (Some (lexeme.Token kind n)) text place line out =
+After (Some (input_element.Token kind n)) text place line out =
     (later : Lexed) × Lexes (drop n text) (place + n) (line + feeds (take n text)) later
     × (out ≡ with_token (record { kind = kind; start = place; end = place + n; line = line }) later)
-After (Some (lexeme.Fault kind n)) text place line out =
+After (Some (input_element.Fault kind n)) text place line out =
     out ≡ Err (kind, line + feeds (take n text))
 
--- an outcome of a text is what its first lexeme leaves
+-- an outcome of a text is what its first input element leaves
 after_first : {text : List ℕ} {place line : ℕ} {out : Lexed} → Lexes text place line out →
-    After (first_lexeme text) text place line out
+    After (first_element text) text place line out
 after_first ends = refl
 after_first (skips {bytes} {after} is d) =
     rw (
@@ -115,7 +115,7 @@ behind text place line n out le d =
     rw (length-take-le n (drop place text) le, drop-drop n place text) d
 
 trivia_on : (ts : List Token) (text : List ℕ) (place line n : ℕ) →
-    Begins (lexeme.Trivia n) (drop place text) →
+    Begins (input_element.Trivia n) (drop place text) →
     SoFar ts text place line → SoFar ts text (place + n) (line + feeds (take n (drop place text)))
 trivia_on ts text place line n is so_far = λ out d.
     so_far out
@@ -125,13 +125,13 @@ trivia_on ts text place line n is so_far = λ out d.
 -- one more blank or comment
 pub trivia_so_far : (ts : List Token) (text here : List ℕ) (place line n : ℕ) →
     here ≡ drop place text →
-    Begins (lexeme.Trivia n) here → SoFar ts text place line →
+    Begins (input_element.Trivia n) here → SoFar ts text place line →
     SoFar ts text (place + n) (line + feeds (take n here))
 trivia_so_far ts text here place line n is begins so_far =
     rw is (trivia_on ts text place line n (rw is at begins) so_far)
 
 token_on : (ts : List Token) (text : List ℕ) (place line n : ℕ) (kind : TokenKind) →
-    Begins (lexeme.Token kind n) (drop place text) → SoFar ts text place line →
+    Begins (input_element.Token kind n) (drop place text) → SoFar ts text place line →
     SoFar (ts ++ record { kind = kind; start = place; end = place + n; line = line } ∷ []) text
     (place + n)
     (line + feeds (take n (drop place text)))
@@ -154,7 +154,7 @@ token_on ts text place line n kind is so_far = λ out d.
 
 -- one more token
 pub token_so_far : (ts : List Token) (text here : List ℕ) (place line n : ℕ) (kind : TokenKind) →
-    here ≡ drop place text → Begins (lexeme.Token kind n) here → SoFar ts text place line →
+    here ≡ drop place text → Begins (input_element.Token kind n) here → SoFar ts text place line →
     SoFar (ts ++ record { kind = kind; start = place; end = place + n; line = line } ∷ []) text
     (place + n)
     (line + feeds (take n here))
@@ -163,7 +163,7 @@ token_so_far ts text here place line n kind is begins so_far =
 
 -- a fault ends the text
 pub fault_told : (ts : List Token) (text here : List ℕ) (place line n : ℕ) (kind : LexKind) →
-    here ≡ drop place text → Begins (lexeme.Fault kind n) here → SoFar ts text place line →
+    here ≡ drop place text → Begins (input_element.Fault kind n) here → SoFar ts text place line →
     Lexes text 0 1 (Err (kind, line + feeds (take n here)))
 fault_told ts text here place line n kind is begins so_far =
     so_far (Err (kind, line + feeds (take n here)))

@@ -7,8 +7,8 @@ use Rattle.std.specs.Prelude.{◌&&◌, ◌||◌, ◌==◌, nat_lt, codes, IfSom
 use Rattle.std.proofs.lemmas.List.{take-append-drop, take_at, drop_at, length-append, append-nil}
 use Rattle.std.proofs.lemmas.List.Folds.{length-prefix_len}
 use Rattle.std.proofs.lemmas.Bool.{ltb-true, ltb-false, eqb-true, eqb-false, and_parts}
-use Rattle.regent_lex.specs.declared.lexeme.Lexeme.{Lexeme}
-use Rattle.regent_lex.specs.declared.lexeme.Lexeme.TheVariants.{Trivia, Token, Fault}
+use Rattle.regent_lex.specs.declared.input_element.InputElement.{InputElement}
+use Rattle.regent_lex.specs.declared.input_element.InputElement.TheVariants.{Trivia, Token, Fault}
 use Rattle.regent_lex.specs.declared.token.TokenKind.TheVariants.{Name, Word, Number, Quoted, Sign}
 use Rattle.regent_lex.specs.declared.fault.LexKind.TheVariants.{BadByte, NumberTooLarge}
 use Rattle.regent_lex.specs.declared.fault.LexKind.TheVariants.{NameTooLong}
@@ -26,7 +26,7 @@ use Rattle.regent_lex.specs.Begins.{Begins}
 use Rattle.regent_lex.specs.Search.{search}
 use Rattle.regent_lex.specs.Scan.{identifier_at, number_before, number_of_digits}
 use Rattle.regent_lex.specs.Scan.{number_at, string_with, string_at, block_with, comment_at}
-use Rattle.regent_lex.specs.Scan.{sign_at, lexeme_at, first_lexeme}
+use Rattle.regent_lex.specs.Scan.{sign_at, element_at, first_element}
 use Rattle.regent_lex.proofs.Runs.{run_all, run_ends, run_begins}
 use Rattle.regent_lex.proofs.Contents.{Front, closes, low, unknown, text_ends, half_escape, front}
 use Rattle.regent_lex.proofs.Contents.{closing_over, bad_over, low_bad, unknown_bad, found_closed}
@@ -319,7 +319,7 @@ quote_begins : (b : ℕ) (after : List ℕ) → b ≡ 34 → Begins (string_at a
 quote_begins b after h = rw h (string_begins after)
 
 -- any first byte
-lexeme_on : (b : ℕ) (after : List ℕ) (space letter digit quote dashes : Bool) →
+element_on : (b : ℕ) (after : List ℕ) (space letter digit quote dashes : Bool) →
     is_blank b ≡ space → is_letter b ≡ letter → is_digit b ≡ digit → (b == 34) ≡ quote →
     next_are 45 45 (b ∷ after) ≡ dashes →
     Begins (cond space (Trivia 1)
@@ -328,21 +328,21 @@ lexeme_on : (b : ℕ) (after : List ℕ) (space letter digit quote dashes : Bool
     (cond quote (string_at after) (cond dashes (comment_at (drop 1 after)) (sign_at b after))))))
     (b ∷ after)
 unfolding sign_at
-lexeme_on b after true l d q s bh lh dh qh sh = (omega arith, omega arith, blank bh)
-lexeme_on b after false true d q s bh lh dh qh sh = identifier_begins (b ∷ after) lh
-lexeme_on b after false false true q s bh lh dh qh sh = number_begins (b ∷ after) dh
-lexeme_on b after false false false true s bh lh dh qh sh = quote_begins b after (eqb-true b 34 qh)
-lexeme_on b after false false false false true bh lh dh qh sh = dashes_begin b after sh
-lexeme_on b after false false false false false bh lh dh qh sh =
+element_on b after true l d q s bh lh dh qh sh = (omega arith, omega arith, blank bh)
+element_on b after false true d q s bh lh dh qh sh = identifier_begins (b ∷ after) lh
+element_on b after false false true q s bh lh dh qh sh = number_begins (b ∷ after) dh
+element_on b after false false false true s bh lh dh qh sh = quote_begins b after (eqb-true b 34 qh)
+element_on b after false false false false true bh lh dh qh sh = dashes_begin b after sh
+element_on b after false false false false false bh lh dh qh sh =
     sign_begins b after bh lh dh (eqb-false b 34 qh) sh _ _ refl refl
 
 -- what the scanner finds at a first byte stands there
-pub lexeme_begins : (b : ℕ) (after : List ℕ) → Begins (lexeme_at b after) (b ∷ after)
-unfolding lexeme_at
-lexeme_begins b after = lexeme_on b after _ _ _ _ _ refl refl refl refl refl
+pub element_begins : (b : ℕ) (after : List ℕ) → Begins (element_at b after) (b ∷ after)
+unfolding element_at
+element_begins b after = element_on b after _ _ _ _ _ refl refl refl refl refl
 
 -- what the scanner finds stands there
-pub first_begins : (text : List ℕ) (o : Option Lexeme) → o ≡ first_lexeme text →
-    IfSome o (λ lexeme. Begins lexeme text)
+pub first_begins : (text : List ℕ) (o : Option InputElement) → o ≡ first_element text →
+    IfSome o (λ input_element. Begins input_element text)
 first_begins [] o h = rw h tt
-first_begins (b ∷ after) o h = rw h (lexeme_begins b after)
+first_begins (b ∷ after) o h = rw h (element_begins b after)

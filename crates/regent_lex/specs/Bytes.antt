@@ -19,8 +19,8 @@ dot = 46
 abbrev pub equals_sign : ℕ
 equals_sign = 61
 
-abbrev pub letter_l : ℕ
-letter_l = 76
+abbrev pub capital_l : ℕ
+capital_l = 76
 
 abbrev pub opening_bracket : ℕ
 opening_bracket = 91

@@ -2,7 +2,7 @@
 use Rattle.std.specs.Prelude.{◌≡◌, ℕ, ◌+◌, ◌*◌, ◌-◌, Bool, true, false, List, [], ◌∷◌, ◌⊎◌}
 use Rattle.std.specs.Prelude.{◌==◌, ◌&&◌, codes}
 use Rattle.std.specs.List.{list_all}
-use Rattle.regent_lex.specs.Bytes.{dot, letter_l, is_digit, next_is, next_are}
+use Rattle.regent_lex.specs.Bytes.{dot, capital_l, is_digit, next_is, next_are}
 
 -- the number that digits spell, after digits that spell n
 abbrev pub value_on : ℕ → List ℕ → ℕ
@@ -16,7 +16,7 @@ value_of digits = value_on 0 digits
 -- there is no suffix, and neither a digit nor LL comes next
 abbrev pub HasNoSuffix : List ℕ → List ℕ → Type 0
 HasNoSuffix suffix after =
-    (suffix ≡ []) × (next_is is_digit after ≡ false) × (next_are letter_l letter_l after ≡ false)
+    (suffix ≡ []) × (next_is is_digit after ≡ false) × (next_are capital_l capital_l after ≡ false)
 
 -- The digits are all that stand there, and the suffix behind them is LL where LL stands there.
 pub record IsNumeral (digits suffix after : List ℕ) : Type 0 where

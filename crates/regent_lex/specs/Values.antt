@@ -2,7 +2,7 @@
 use Rattle.std.specs.Prelude.{ℕ, ◌-◌, Bool, true, false, List, [], ◌∷◌, length, take, drop, ◌==◌}
 use Rattle.std.specs.Prelude.{if◌then◌else◌}
 use Rattle.std.specs.List.{prefix_len}
-use Rattle.regent_lex.specs.Bytes.{backslash, letter_l, line_feed, is_digit, next_are}
+use Rattle.regent_lex.specs.Bytes.{backslash, capital_l, line_feed, is_digit, next_are}
 use Rattle.regent_lex.specs.Numbers.{value_of}
 
 -- the number that the digits at the front spell
@@ -11,7 +11,7 @@ number_value spelling = value_of (take (prefix_len is_digit spelling) spelling)
 
 -- LL stands behind the digits at the front
 abbrev pub has_suffix : List ℕ → Bool
-has_suffix spelling = next_are letter_l letter_l (drop (prefix_len is_digit spelling) spelling)
+has_suffix spelling = next_are capital_l capital_l (drop (prefix_len is_digit spelling) spelling)
 
 -- what a byte stands for behind a backslash: n for a line feed, t for a tab, others for themselves
 abbrev pub escaped : ℕ → ℕ

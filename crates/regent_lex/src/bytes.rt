@@ -4,7 +4,7 @@ ghost use Rattle.std.specs.Prelude.{length, ◌≡◌, ◌≤◌};
 ghost use Rattle.std.specs.List.{prefix_len};
 ghost use Rattle.regent_lex.specs.Bytes.{in_line, is_blank, is_digit, is_letter, is_word_byte};
 ghost use Rattle.regent_lex.specs.Bytes.{is_sign, next_are, next_is, next_is_equals, takes_equals};
-ghost use Rattle.regent_lex.specs.Bytes.{dash, letter_l, opening_bracket};
+ghost use Rattle.regent_lex.specs.Bytes.{dash, capital_l, opening_bracket};
 ghost use Rattle.regent_lex.specs.Numbers.{is_fraction};
 
 pub fn is_blank(byte: u8) -> bool
@@ -135,7 +135,7 @@ pub fn begins_with_brackets(text: &[u8]) -> bool
 
 /// Whether the text begins with `LL`.
 pub fn begins_with_suffix(text: &[u8]) -> bool
-    ensures { result ≡ next_are letter_l letter_l text.now }
+    ensures { result ≡ next_are capital_l capital_l text.now }
 {
     match text {
         [first, second, ..] => *first == b'L' && *second == b'L',

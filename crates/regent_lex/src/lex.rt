@@ -7,8 +7,8 @@ ghost use Rattle.regent_lex.specs.Texts.{Lexed, Lexes};
 ghost use Rattle.regent_lex.specs.Told.{Told};
 
 use crate::fault::LexFault;
-use crate::lexeme::Lexeme;
-use crate::scan::first_lexeme;
+use crate::input_element::InputElement;
+use crate::scan::first_element;
 use crate::token::Token;
 use std::alloc::Global;
 
@@ -30,7 +30,7 @@ fn line_feeds(text: &[u8], n: usize) -> u32
     text[..n].iter().filter(|b| **b == b'\n').count() as u32
 }
 
-/// Reads lexeme after lexeme, up to the text's end or a fault.
+/// Reads input element after input element, up to the text's end or a fault.
 fn read_all(alloc: Global, text: &[u8]) -> Result<Vec<Token>, LexFault>
     requires { length text.now ≤ 1048576 }
     ensures { Told (λ out. Lexes text.now 0 1 out) result }
@@ -40,15 +40,15 @@ fn read_all(alloc: Global, text: &[u8]) -> Result<Vec<Token>, LexFault>
     let mut line: u32 = 1;
     loop {
         let rest = tail(text, place);
-        let Some(lexeme) = first_lexeme(rest) else {
+        let Some(input_element) = first_element(rest) else {
             return Ok(tokens);
         };
-        match lexeme {
-            Lexeme::Trivia(n) => {
+        match input_element {
+            InputElement::Trivia(n) => {
                 line += line_feeds(rest, n);
                 place += n;
             }
-            Lexeme::Token(kind, n) => {
+            InputElement::Token(kind, n) => {
                 tokens.push(Token {
                     kind,
                     start: place as u32,
@@ -58,7 +58,7 @@ fn read_all(alloc: Global, text: &[u8]) -> Result<Vec<Token>, LexFault>
                 line += line_feeds(rest, n);
                 place += n;
             }
-            Lexeme::Fault(kind, n) => {
+            InputElement::Fault(kind, n) => {
                 return Err(LexFault::At {
                     kind,
                     line: line + line_feeds(rest, n),

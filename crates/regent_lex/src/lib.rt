@@ -3,14 +3,14 @@
 //! `tokens` reads a text of bytes into its list of tokens, or tells its first fault and the line of
 //! that. The language's lexical rules stand in `specs/`: the table of tokens in `Tokens`, blanks
 //! and comments in `Trivia`, the faults in `Faults`, whole texts in `Texts`. The scanner finds one
-//! lexeme after the other (`Scan`); that it finds what the rules say, and that a text has one
+//! input element after the other (`Scan`); that it finds what the rules say, and that a text has one
 //! outcome at most, is proved in `proofs/`.
 #![tactic(auto)]
 
 mod bytes;
 mod fault;
+mod input_element;
 mod lex;
-mod lexeme;
 mod numbers;
 mod scan;
 mod search;

@@ -8,7 +8,7 @@ ghost use Rattle.regent_lex.specs.Scan.{number_at, number_before};
 
 use crate::bytes::{begins_with_fraction, begins_with_letter, begins_with_suffix, digits};
 use crate::fault::LexKind;
-use crate::lexeme::Lexeme;
+use crate::input_element::InputElement;
 use crate::token::TokenKind;
 
 /// The number that digits spell, where it is below 2^63.
@@ -29,27 +29,27 @@ pub fn value(digits: &[u8]) -> Option<u64>
 }
 
 /// A number of the text's first `n` bytes, or a fault right behind it.
-fn number_before(n: usize, text: &[u8]) -> Lexeme
+fn number_before(n: usize, text: &[u8]) -> InputElement
     requires { n ≤ length text.now }
     ensures { result ≡ number_before n (drop n text.now) }
 {
     let after = &text[n..];
     if begins_with_letter(after) || begins_with_fraction(after) {
-        Lexeme::Fault(LexKind::BadByte, n)
+        InputElement::Fault(LexKind::BadByte, n)
     } else {
-        Lexeme::Token(TokenKind::Number, n)
+        InputElement::Token(TokenKind::Number, n)
     }
 }
 
 /// The number at the front of a text.
 #[tactic(auto, unfolding(crate::specs::Scan::number_at))]
-pub fn number(text: &[u8]) -> Lexeme
+pub fn number(text: &[u8]) -> InputElement
     requires { length text.now < 2 ^ 60 }
     ensures { result ≡ number_at text.now }
 {
     let n = digits(text);
     if value(&text[..n]).is_none() {
-        return Lexeme::Fault(LexKind::NumberTooLarge, 0);
+        return InputElement::Fault(LexKind::NumberTooLarge, 0);
     }
     if begins_with_suffix(&text[n..]) {
         number_before(n + 2, text)

@@ -4,21 +4,21 @@ ghost use Rattle.std.specs.Prelude.{length, ◌<◌, ◌^◌, ◌≡◌};
 ghost use Rattle.regent_lex.specs.Scan.{string_at};
 
 use crate::fault::LexKind;
-use crate::lexeme::Lexeme;
+use crate::input_element::InputElement;
 use crate::search::{Wanted, search};
 use crate::token::TokenKind;
 
 /// The string whose opening quote stands right before the bytes.
 #[tactic(auto, unfolding(crate::specs::Scan::string_at))]
-pub fn string(bytes: &[u8]) -> Lexeme
+pub fn string(bytes: &[u8]) -> InputElement
     requires { length bytes.now < 2 ^ 60 }
     ensures { result ≡ string_at bytes.now }
 {
     let Some(n) = search(Wanted::ClosingQuote, bytes) else {
-        return Lexeme::Fault(LexKind::Unclosed, 0);
+        return InputElement::Fault(LexKind::Unclosed, 0);
     };
     match search(Wanted::BadContent, bytes) {
-        None => Lexeme::Token(TokenKind::Quoted, n + 2),
-        Some(bad) => Lexeme::Fault(LexKind::BadByte, bad + 1),
+        None => InputElement::Token(TokenKind::Quoted, n + 2),
+        Some(bad) => InputElement::Fault(LexKind::BadByte, bad + 1),
     }
 }

@@ -7,20 +7,20 @@ ghost use Rattle.regent_lex.specs.Search.{search};
 
 use crate::bytes::{begins_with_brackets, rest_of_line};
 use crate::fault::LexKind;
-use crate::lexeme::Lexeme;
+use crate::input_element::InputElement;
 use crate::search::{Wanted, search};
 
 /// The comment whose `--` stands right before the bytes.
 #[tactic(auto, unfolding(crate::specs::Scan::comment_at))]
-pub fn comment(bytes: &[u8]) -> Lexeme
+pub fn comment(bytes: &[u8]) -> InputElement
     requires { length bytes.now < 2 ^ 60 }
     ensures { result ≡ comment_at bytes.now }
 {
     if !begins_with_brackets(bytes) {
-        return Lexeme::Trivia(rest_of_line(bytes) + 2);
+        return InputElement::Trivia(rest_of_line(bytes) + 2);
     }
     match search(Wanted::Brackets, &bytes[2..]) {
-        None => Lexeme::Fault(LexKind::Unclosed, 0),
-        Some(n) => Lexeme::Trivia(n + 5),
+        None => InputElement::Fault(LexKind::Unclosed, 0),
+        Some(n) => InputElement::Trivia(n + 5),
     }
 }

@@ -7,7 +7,7 @@ ghost use Rattle.regent_lex.specs.Scan.{identifier_at};
 
 use crate::bytes::word_bytes;
 use crate::fault::LexKind;
-use crate::lexeme::Lexeme;
+use crate::input_element::InputElement;
 use crate::token::TokenKind;
 
 /// Whether the bytes are a reserved word.
@@ -103,15 +103,15 @@ fn is_from_reduces_to_writes(word: &[u8]) -> bool
 
 /// The word or the name at the front of a text.
 #[tactic(auto, unfolding(crate::specs::Scan::identifier_at))]
-pub fn identifier(text: &[u8]) -> Lexeme
+pub fn identifier(text: &[u8]) -> InputElement
     ensures { result ≡ identifier_at text.now }
 {
     let n = word_bytes(text);
     if is_reserved(&text[..n]) {
-        Lexeme::Token(TokenKind::Word, n)
+        InputElement::Token(TokenKind::Word, n)
     } else if n > 64 {
-        Lexeme::Fault(LexKind::NameTooLong, 0)
+        InputElement::Fault(LexKind::NameTooLong, 0)
     } else {
-        Lexeme::Token(TokenKind::Name, n)
+        InputElement::Token(TokenKind::Name, n)
     }
 }

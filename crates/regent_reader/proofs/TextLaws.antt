@@ -5,10 +5,10 @@ use Rattle.regent_lex.specs.Texts.{Lexed}
 use Rattle.regent_lex.proofs.Reading as lex
 use Rattle.regent_tree.specs.declared.program.Program.{Program}
 use Rattle.regent_tree.specs.Syntax.{Tree}
-use Rattle.regent_grammar.specs.declared.symbol.Lexeme.{Lexeme}
+use Rattle.regent_grammar.specs.declared.symbol.Terminal.{Terminal}
 use Rattle.regent_grammar.specs.Derivations.{IsProgram, IsNoProgram}
 use Rattle.regent_grammar.specs.Items as item
-use Rattle.regent_grammar.specs.Lexemes.{lexemes}
+use Rattle.regent_grammar.specs.Terminals.{terminals}
 use Rattle.regent_grammar.specs.Reading.{read, reading, stuck}
 use Rattle.regent_grammar.proofs.Facts.{program_sound}
 use Rattle.regent_grammar.proofs.Laws as grammar
@@ -17,20 +17,20 @@ use Rattle.regent_reader.specs.declared.fault.ReadFault.TheVariants.{TooLong, Le
 use Rattle.regent_grammar.specs.Nesting.{too_deep}
 use Rattle.regent_reader.specs.Texts.{Outcome, Answers, Has, IsLexed, RefusesTokens, Parses, is_tree, is_none, Nests, OfTokens, Reads, is_long, has_tokens, line_at, counted_program}
 
-one_parse : (text : List ℕ) (ls : List Lexeme) (a b : Outcome) → Parses text ls a → Parses text ls b → a ≡ b
+one_parse : (text : List ℕ) (ls : List Terminal) (a b : Outcome) → Parses text ls a → Parses text ls b → a ≡ b
 one_parse text ls a b (is_tree {tree = t} p) (is_tree {tree = u} q) = ap counted_program (grammar.one_tree ls t u p q)
 one_parse text ls a b (is_tree {tree = t} p) (is_none {at = at} q) = absurd (grammar.never_both ls at t p q)
 one_parse text ls a b (is_none {at = at} p) (is_tree {tree = u} q) = absurd (grammar.never_both ls at u q p)
 one_parse text ls a b (is_none {at = at} p) (is_none {at = other} q) =
-    ap (λ (o : List Lexeme). Err (NoProgram (line_at text o))) (grammar.one_place_each ls at other p q)
+    ap (λ (o : List Terminal). Err (NoProgram (line_at text o))) (grammar.one_place_each ls at other p q)
 
-one_nesting : (text : List ℕ) (ls : List Lexeme) (deep : Option ℕ) (a b : Outcome) →
+one_nesting : (text : List ℕ) (ls : List Terminal) (deep : Option ℕ) (a b : Outcome) →
     MatchOption deep (Parses text ls a) (λ line. a ≡ Err (TooDeep line)) → MatchOption deep (Parses text ls b) (λ line. b ≡ Err (TooDeep line)) → a ≡ b
 one_nesting text ls None a b p q = one_parse text ls a b p q
 one_nesting text ls (Some line) a b p q = p ∙ sym q
 
 of_tokens : (text : List ℕ) (lexed : Lexed) (a b : Outcome) → OfTokens text lexed a → OfTokens text lexed b → a ≡ b
-of_tokens text (Ok tokens) a b p q = one_nesting text (lexemes text tokens) (too_deep (lexemes text tokens)) a b p q
+of_tokens text (Ok tokens) a b p q = one_nesting text (terminals text tokens) (too_deep (terminals text tokens)) a b p q
 of_tokens text (Err fault) a b p q = p ∙ sym q
 
 pub one_outcome : (text : List ℕ) (a b : Outcome) → Reads text a → Reads text b → a ≡ b
@@ -62,14 +62,14 @@ answers_by (Err (NoProgram line)) by h = by _ h
 answers_by (Err (TooMany what count)) by h = by _ h
 answers_by (Err (Memory error)) by h = tt
 
-pub parses_tree : (text : List ℕ) (ls : List Lexeme) (tree : Tree) (r : Result Program ReadFault) → IsProgram ls tree →
+pub parses_tree : (text : List ℕ) (ls : List Terminal) (tree : Tree) (r : Result Program ReadFault) → IsProgram ls tree →
     Answers (λ outcome. outcome ≡ counted_program tree) r → Answers (Parses text ls) r
 parses_tree text ls tree r is h = answers_by r (λ (outcome : Outcome) e. subst (λ (o : Outcome). Parses text ls o) {y = outcome} (sym e) (is_tree is)) h
 
-pub reads_nested : (text : List ℕ) (ls : List Lexeme) (r : Result Program ReadFault) → length text ≤ 1048576 → IsLexed text ls →
+pub reads_nested : (text : List ℕ) (ls : List Terminal) (r : Result Program ReadFault) → length text ≤ 1048576 → IsLexed text ls →
     Answers (Nests text ls) r → Answers (Reads text) r
 reads_nested text ls r fits of h =
-    answers_by r (λ outcome n. has_tokens fits of.lexed (subst (λ (ms : List Lexeme). Nests text ms outcome) of.same n)) h
+    answers_by r (λ outcome n. has_tokens fits of.lexed (subst (λ (ms : List Terminal). Nests text ms outcome) of.same n)) h
 
 pub reads_no_tokens : (text : List ℕ) (fault : ReadFault) → length text ≤ 1048576 → RefusesTokens text fault → Answers (Reads text) (Err fault)
 reads_no_tokens text TooLong fits h = absurd h
@@ -79,9 +79,9 @@ reads_no_tokens text (NoProgram line) fits h = absurd h
 reads_no_tokens text (TooMany what count) fits h = absurd h
 reads_no_tokens text (Memory error) fits h = tt
 
--- reading gives the program, or the place at which the lexemes stop
-pub read_is_program : (ls : List Lexeme) (tree : Tree) → reading item.program ls ≡ read tree [] → IsProgram ls tree
+-- reading gives the program, or the place at which the terminals stop
+pub read_is_program : (ls : List Terminal) (tree : Tree) → reading item.program ls ≡ read tree [] → IsProgram ls tree
 read_is_program ls tree h = ((grammar.reading_is_exact _ item.program program_sound ls).0 tree []).0 h
 
-pub stuck_is_none : (ls at : List Lexeme) → reading item.program ls ≡ stuck at → IsNoProgram ls at
+pub stuck_is_none : (ls at : List Terminal) → reading item.program ls ≡ stuck at → IsNoProgram ls at
 stuck_is_none ls at h = ((grammar.reading_is_exact _ item.program program_sound ls).1 at).0 h

@@ -7,10 +7,10 @@ use Rattle.regent_tree.specs.declared.program.Program.{Program}
 use Rattle.regent_tree.specs.Limits.{first_excess, parts_of_program}
 use Rattle.regent_tree.specs.PlainProgram.{tree_of}
 use Rattle.regent_tree.specs.Syntax.{Tree}
-use Rattle.regent_grammar.specs.declared.symbol.Lexeme.{Lexeme}
+use Rattle.regent_grammar.specs.declared.symbol.Terminal.{Terminal}
 use Rattle.regent_grammar.specs.Laws.{NumberFits}
 use Rattle.regent_grammar.specs.Derivations.{IsProgram, IsNoProgram}
-use Rattle.regent_grammar.specs.Lexemes.{lexemes}
+use Rattle.regent_grammar.specs.Terminals.{terminals}
 use Rattle.regent_grammar.specs.Nesting.{too_deep}
 use Rattle.regent_reader.specs.declared.fault.ReadFault.{ReadFault}
 use Rattle.regent_reader.specs.declared.fault.ReadFault.TheVariants.{TooLong, Lex, TooDeep, NoProgram, TooMany, Memory}
@@ -26,8 +26,8 @@ text_limit = 1048576
 abbrev pub last_line : List ℕ → ℕ
 last_line text = suc (length (filter (λ b. b == 10) text))
 
--- the line of the first of these lexemes, or else of the text's end
-abbrev pub line_at : List ℕ → List Lexeme → ℕ
+-- the line of the first of these terminals, or else of the text's end
+abbrev pub line_at : List ℕ → List Terminal → ℕ
 line_at text [] = last_line text
 line_at text (t ∷ ts) = t.line
 
@@ -39,20 +39,20 @@ counted tree (Some e) = Err (TooMany e.what e.count)
 abbrev pub counted_program : Tree → Outcome
 counted_program tree = counted tree (first_excess (parts_of_program tree))
 
--- what lexemes come to: their tree, or the line of the first that no production takes
-pub data Parses (text : List ℕ) (ls : List Lexeme) : Outcome → Type 0 where
+-- what terminals come to: their tree, or the line of the first that no production takes
+pub data Parses (text : List ℕ) (ls : List Terminal) : Outcome → Type 0 where
   is_tree : {tree : Tree} → IsProgram ls tree → Parses text ls (counted_program tree)
-  is_none : {at : List Lexeme} → IsNoProgram ls at →
+  is_none : {at : List Terminal} → IsNoProgram ls at →
       Parses text ls (Err (NoProgram (line_at text at)))
 
 -- but first, nesting over all of them
-abbrev pub Nests : List ℕ → List Lexeme → Outcome → Type 0
+abbrev pub Nests : List ℕ → List Terminal → Outcome → Type 0
 Nests text ls outcome =
     MatchOption (too_deep ls) (Parses text ls outcome) (λ line. outcome ≡ Err (TooDeep line))
 
 -- what tokens come to, or the first fault in their place
 abbrev pub OfTokens : List ℕ → Lexed → Outcome → Type 0
-OfTokens text (Ok tokens) outcome = Nests text (lexemes text tokens) outcome
+OfTokens text (Ok tokens) outcome = Nests text (terminals text tokens) outcome
 OfTokens text (Err fault) outcome = outcome ≡ Err (Lex fault.0 fault.1)
 
 -- what a text comes to
@@ -75,15 +75,15 @@ Has outcome result = Answers (λ other. other ≡ outcome) result
 
 -- ---- on the way there
 
--- these are the lexemes of the text
-pub record IsLexed (text : List ℕ) (ls : List Lexeme) : Type 0 where
+-- these are the terminals of the text
+pub record IsLexed (text : List ℕ) (ls : List Terminal) : Type 0 where
   pub tokens : List Token
   pub lexed : Lexes text 0 1 (Ok tokens)
-  pub same : ls ≡ lexemes text tokens
+  pub same : ls ≡ terminals text tokens
 
--- so few lexemes, whose numbers are of their widths
-pub record AreWithin (ls : List Lexeme) : Type 0 where
-  pub numbers : All (λ (t : Lexeme). NumberFits t.symbol) ls
+-- so few terminals, whose numbers are of their widths
+pub record AreWithin (ls : List Terminal) : Type 0 where
+  pub numbers : All (λ (t : Terminal). NumberFits t.symbol) ls
   pub short : length ls ≤ text_limit
 
 -- what the tree has too much of can be counted in 32 bits

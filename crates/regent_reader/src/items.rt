@@ -7,16 +7,16 @@ ghost use Rattle.regent_grammar.specs.Reading.{read, reading};
 ghost use Rattle.regent_grammar.specs.Rules.{many};
 ghost use Rattle.regent_grammar.specs.Singles.{is_text, the_text};
 ghost use Rattle.regent_grammar.specs.Symbols.{goes_on};
-ghost use Rattle.regent_syntax.specs.Gives.{Gives, with_front};
+ghost use Rattle.read_terms.specs.Gives.{Gives, with_front};
 ghost use Rattle.regent_tree.specs.Syntax.{task_item};
 ghost use Rattle.regent_tree.specs.PlainProgram.{item_of, item_tree_of, task_of, tree_of};
 
-use regent_declarations::{clauses, field_space, task_parameters};
-use regent_grammar::{Lexeme, Mark, Symbol, Word};
-use regent_statements::block;
-use regent_syntax::{
+use read_items::{clauses, field_space, task_parameters};
+use read_statements::block;
+use read_terms::{
     Stop, comes_word, declared_type, line_of, take_mark, take_name, take_named, take_word,
 };
+use regent_grammar::{Mark, Symbol, Terminal, Word};
 use regent_tree::{Item, ItemKind, Program, Task};
 use std::alloc::Global;
 
@@ -31,16 +31,16 @@ fn is_text(symbol: &Symbol, text: &[u8]) -> bool
 
 /// What comes after this very string.
 #[tactic(auto, unfolding(regent_grammar::specs::Reading::reading, regent_grammar::specs::Reading::reading_with, regent_grammar::specs::Reading::then_read, regent_grammar::specs::Singles::the_text))]
-fn take_the_text<'a>(lexemes: &'a [Lexeme], text: &[u8]) -> Result<&'a [Lexeme], Stop<'a>>
-    ensures { Gives (λ rest. read tt rest.now) result (reading (the_text text.now) lexemes.now) }
+fn take_the_text<'a>(terminals: &'a [Terminal], text: &[u8]) -> Result<&'a [Terminal], Stop<'a>>
+    ensures { Gives (λ rest. read tt rest.now) result (reading (the_text text.now) terminals.now) }
 {
-    match lexemes {
-        [] => Err(Stop::At(lexemes)),
+    match terminals {
+        [] => Err(Stop::At(terminals)),
         [next, rest @ ..] => {
             if is_text(&next.symbol, text) {
                 Ok(rest)
             } else {
-                Err(Stop::At(lexemes))
+                Err(Stop::At(terminals))
             }
         }
     }
@@ -48,20 +48,20 @@ fn take_the_text<'a>(lexemes: &'a [Lexeme], text: &[u8]) -> Result<&'a [Lexeme],
 
 /// An import of `regent`.
 #[tactic(auto, unfolding(regent_grammar::specs::Reading::reading, regent_grammar::specs::Reading::reading_with, regent_grammar::specs::Reading::then_read, regent_grammar::specs::Items::the_import))]
-fn import(lexemes: &[Lexeme]) -> Result<(ItemKind, &[Lexeme]), Stop<'_>>
-    ensures { Gives (λ x. read (item_of x.0) x.1.now) result (reading the_import lexemes.now) }
+fn import(terminals: &[Terminal]) -> Result<(ItemKind, &[Terminal]), Stop<'_>>
+    ensures { Gives (λ x. read (item_of x.0) x.1.now) result (reading the_import terminals.now) }
 {
-    let rest = take_word(lexemes, Word::Import)?;
+    let rest = take_word(terminals, Word::Import)?;
     let rest = take_the_text(rest, b"regent".as_slice())?;
     Ok((ItemKind::Import, rest))
 }
 
 /// An alias for printing.
 #[tactic(auto, unfolding(regent_grammar::specs::Reading::reading, regent_grammar::specs::Reading::reading_with, regent_grammar::specs::Reading::then_read, regent_grammar::specs::Items::alias))]
-fn alias(alloc: Global, lexemes: &[Lexeme]) -> Result<(ItemKind, &[Lexeme]), Stop<'_>>
-    ensures { Gives (λ x. read (item_of x.0) x.1.now) result (reading alias lexemes.now) }
+fn alias(alloc: Global, terminals: &[Terminal]) -> Result<(ItemKind, &[Terminal]), Stop<'_>>
+    ensures { Gives (λ x. read (item_of x.0) x.1.now) result (reading alias terminals.now) }
 {
-    let rest = take_word(lexemes, Word::Local)?;
+    let rest = take_word(terminals, Word::Local)?;
     let (name, rest) = take_name(alloc, rest)?;
     let rest = take_mark(rest, Mark::Assign)?;
     let rest = take_word(rest, Word::Regentlib)?;
@@ -72,10 +72,10 @@ fn alias(alloc: Global, lexemes: &[Lexeme]) -> Result<(ItemKind, &[Lexeme]), Sto
 
 /// Which task is started.
 #[tactic(auto, unfolding(regent_grammar::specs::Reading::reading, regent_grammar::specs::Reading::reading_with, regent_grammar::specs::Reading::then_read, regent_grammar::specs::Items::start_call, regent_grammar::specs::Singles::in_parentheses))]
-fn start_call(alloc: Global, lexemes: &[Lexeme]) -> Result<(ItemKind, &[Lexeme]), Stop<'_>>
-    ensures { Gives (λ x. read (item_of x.0) x.1.now) result (reading start_call lexemes.now) }
+fn start_call(alloc: Global, terminals: &[Terminal]) -> Result<(ItemKind, &[Terminal]), Stop<'_>>
+    ensures { Gives (λ x. read (item_of x.0) x.1.now) result (reading start_call terminals.now) }
 {
-    let rest = take_word(lexemes, Word::Regentlib)?;
+    let rest = take_word(terminals, Word::Regentlib)?;
     let rest = take_mark(rest, Mark::Dot)?;
     let rest = take_named(rest, b"start".as_slice())?;
     let rest = take_mark(rest, Mark::Open)?;
@@ -86,10 +86,10 @@ fn start_call(alloc: Global, lexemes: &[Lexeme]) -> Result<(ItemKind, &[Lexeme])
 
 /// A task.
 #[tactic(auto, unfolding(regent_grammar::specs::Reading::reading, regent_grammar::specs::Reading::reading_with, regent_grammar::specs::Reading::then_read, regent_grammar::specs::Items::task))]
-fn task(alloc: Global, lexemes: &[Lexeme]) -> Result<(Task, &[Lexeme]), Stop<'_>>
-    ensures { Gives (λ x. read (task_item (task_of x.0)) x.1.now) result (reading task lexemes.now) }
+fn task(alloc: Global, terminals: &[Terminal]) -> Result<(Task, &[Terminal]), Stop<'_>>
+    ensures { Gives (λ x. read (task_item (task_of x.0)) x.1.now) result (reading task terminals.now) }
 {
-    let rest = take_word(lexemes, Word::Task)?;
+    let rest = take_word(terminals, Word::Task)?;
     let (name, rest) = take_name(alloc, rest)?;
     let (params, rest) = task_parameters(alloc, rest)?;
     let (result, rest) = declared_type(alloc, rest)?;
@@ -108,52 +108,56 @@ fn task(alloc: Global, lexemes: &[Lexeme]) -> Result<(Task, &[Lexeme]), Stop<'_>
 
 /// What an item is.
 #[tactic(auto, unfolding(regent_grammar::specs::Reading::reading, regent_grammar::specs::Reading::reading_with, regent_grammar::specs::Reading::then_read, regent_grammar::specs::Items::item_form))]
-fn item_kind(alloc: Global, lexemes: &[Lexeme]) -> Result<(ItemKind, &[Lexeme]), Stop<'_>>
-    ensures { Gives (λ x. read (item_of x.0) x.1.now) result (reading item_form lexemes.now) }
+fn item_kind(alloc: Global, terminals: &[Terminal]) -> Result<(ItemKind, &[Terminal]), Stop<'_>>
+    ensures { Gives (λ x. read (item_of x.0) x.1.now) result (reading item_form terminals.now) }
 {
-    if comes_word(lexemes, Word::Import) {
-        import(lexemes)
-    } else if comes_word(lexemes, Word::Local) {
-        alias(alloc, lexemes)
-    } else if comes_word(lexemes, Word::Fspace) {
-        let (space, rest) = field_space(alloc, lexemes)?;
+    if comes_word(terminals, Word::Import) {
+        import(terminals)
+    } else if comes_word(terminals, Word::Local) {
+        alias(alloc, terminals)
+    } else if comes_word(terminals, Word::Fspace) {
+        let (space, rest) = field_space(alloc, terminals)?;
         Ok((ItemKind::Space(space), rest))
-    } else if comes_word(lexemes, Word::Task) {
-        let (task, rest) = task(alloc, lexemes)?;
+    } else if comes_word(terminals, Word::Task) {
+        let (task, rest) = task(alloc, terminals)?;
         Ok((ItemKind::Task(task), rest))
     } else {
-        start_call(alloc, lexemes)
+        start_call(alloc, terminals)
     }
 }
 
-/// An item, on the line of its first lexeme.
+/// An item, on the line of its first terminal.
 #[tactic(auto, unfolding(regent_grammar::specs::Reading::reading, regent_grammar::specs::Reading::reading_with, regent_grammar::specs::Reading::then_read, regent_grammar::specs::Items::item))]
-fn item(alloc: Global, lexemes: &[Lexeme]) -> Result<(Item, &[Lexeme]), Stop<'_>>
-    ensures { Gives (λ x. read (item_tree_of x.0) x.1.now) result (reading item lexemes.now) }
+fn item(alloc: Global, terminals: &[Terminal]) -> Result<(Item, &[Terminal]), Stop<'_>>
+    ensures { Gives (λ x. read (item_tree_of x.0) x.1.now) result (reading item terminals.now) }
 {
-    let line = line_of(lexemes);
-    let (what, rest) = item_kind(alloc, lexemes)?;
+    let line = line_of(terminals);
+    let (what, rest) = item_kind(alloc, terminals)?;
     Ok((Item { line, what }, rest))
 }
 
-/// Whether lexemes are left.
-fn goes_on(lexemes: &[Lexeme]) -> bool
-    ensures same { result ≡ goes_on lexemes.now }
-    ensures ends { result ≡ false → lexemes.now ≡ [] }
+/// Whether terminals are left.
+fn goes_on(terminals: &[Terminal]) -> bool
+    ensures same { result ≡ goes_on terminals.now }
+    ensures ends { result ≡ false → terminals.now ≡ [] }
 {
-    match lexemes {
+    match terminals {
         [] => false,
         [_, ..] => true,
     }
 }
 
 /// Further items, up to the text's end.
-fn more_items(alloc: Global, front: Vec<Item>, lexemes: &[Lexeme]) -> Result<Vec<Item>, Stop<'_>>
+fn more_items(
+    alloc: Global,
+    front: Vec<Item>,
+    terminals: &[Terminal],
+) -> Result<Vec<Item>, Stop<'_>>
     ensures { Gives (λ x. read (map item_tree_of x.items) []) result
-        (with_front (map item_tree_of front.items) (reading (many goes_on item) lexemes.now)) }
+        (with_front (map item_tree_of front.items) (reading (many goes_on item) terminals.now)) }
 {
     let mut items = front;
-    let mut rest = lexemes;
+    let mut rest = terminals;
     while goes_on(rest) {
         let (item, after) = item(alloc, rest)?;
         items.push(item)?;
@@ -162,12 +166,12 @@ fn more_items(alloc: Global, front: Vec<Item>, lexemes: &[Lexeme]) -> Result<Vec
     Ok(items)
 }
 
-/// The program that all of the lexemes are.
+/// The program that all of the terminals are.
 #[tactic(auto, unfolding(regent_grammar::specs::Reading::reading, regent_grammar::specs::Reading::reading_with, regent_grammar::specs::Reading::then_read, regent_grammar::specs::Items::program))]
-pub fn program(alloc: Global, lexemes: &[Lexeme]) -> Result<Program, Stop<'_>>
-    ensures { Gives (λ p. read (tree_of p) []) result (reading program lexemes.now) }
+pub fn program(alloc: Global, terminals: &[Terminal]) -> Result<Program, Stop<'_>>
+    ensures { Gives (λ p. read (tree_of p) []) result (reading program terminals.now) }
 {
-    let (first, rest) = item(alloc, lexemes)?;
+    let (first, rest) = item(alloc, terminals)?;
     let items = more_items(alloc, vec![in alloc; first]?, rest)?;
     Ok(Program { items })
 }

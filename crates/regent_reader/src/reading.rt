@@ -7,22 +7,22 @@ ghost use Rattle.regent_reader.specs.Texts.{Answers, AreWithin, Has, HasSmallCou
 
 use crate::fault::ReadFault;
 use crate::items::program;
-use regent_grammar::{Lexeme, first_too_deep, lexemes};
+use read_limits::first_excess;
+use read_terms::Stop;
+use regent_grammar::{Terminal, first_too_deep, terminals};
 use regent_lex::{LexFault, tokens};
-use regent_limits::first_excess;
-use regent_syntax::Stop;
 use regent_tree::Program;
 use std::alloc::Global;
 
-/// The text's lexemes.
-fn lexed(alloc: Global, text: &[u8]) -> Result<Vec<Lexeme>, ReadFault>
+/// The text's terminals.
+fn lexed(alloc: Global, text: &[u8]) -> Result<Vec<Terminal>, ReadFault>
     requires { length text.now ≤ 1048576 }
     ensures ok { IfOk result (λ ls. IsLexed text.now ls.items) }
     ensures within { IfOk result (λ ls. AreWithin ls.items) }
     ensures err { IfErr result (RefusesTokens text.now) }
 {
     match tokens(alloc, text) {
-        Ok(tokens) => Ok(lexemes(alloc, text, tokens.as_slice())?),
+        Ok(tokens) => Ok(terminals(alloc, text, tokens.as_slice())?),
         Err(LexFault::At { kind, line }) => Err(ReadFault::Lex { kind, line }),
         Err(LexFault::Memory(error)) => Err(ReadFault::Memory(error)),
     }
@@ -42,12 +42,12 @@ fn last_line(text: &[u8]) -> u32
     line
 }
 
-/// The line of the first of these lexemes, or else of the text's end.
-fn line_at(text: &[u8], lexemes: &[Lexeme]) -> u32
+/// The line of the first of these terminals, or else of the text's end.
+fn line_at(text: &[u8], terminals: &[Terminal]) -> u32
     requires { length text.now ≤ 1048576 }
-    ensures { result ≡ line_at text.now lexemes.now }
+    ensures { result ≡ line_at text.now terminals.now }
 {
-    match lexemes {
+    match terminals {
         [] => last_line(text),
         [next, ..] => next.line,
     }
@@ -69,14 +69,14 @@ fn counted(program: Program) -> Result<Program, ReadFault>
     }
 }
 
-/// What lexemes come to that aren't nested too deeply.
-fn parsed(alloc: Global, text: &[u8], lexemes: &[Lexeme]) -> Result<Program, ReadFault>
+/// What terminals come to that aren't nested too deeply.
+fn parsed(alloc: Global, text: &[u8], terminals: &[Terminal]) -> Result<Program, ReadFault>
     requires short { length text.now ≤ 1048576 }
-    requires within { AreWithin lexemes.now }
-    ensures answers { Answers (Parses text.now lexemes.now) result }
+    requires within { AreWithin terminals.now }
+    ensures answers { Answers (Parses text.now terminals.now) result }
     ensures within { IfOk result (λ p. WithinLimits (tree_of p)) }
 {
-    match program(alloc, lexemes) {
+    match program(alloc, terminals) {
         Ok(program) => counted(program),
         Err(Stop::At(at)) => Err(ReadFault::NoProgram {
             line: line_at(text, at),
@@ -85,16 +85,16 @@ fn parsed(alloc: Global, text: &[u8], lexemes: &[Lexeme]) -> Result<Program, Rea
     }
 }
 
-/// What lexemes come to.
-fn nested(alloc: Global, text: &[u8], lexemes: &[Lexeme]) -> Result<Program, ReadFault>
+/// What terminals come to.
+fn nested(alloc: Global, text: &[u8], terminals: &[Terminal]) -> Result<Program, ReadFault>
     requires short { length text.now ≤ 1048576 }
-    requires within { AreWithin lexemes.now }
-    ensures answers { Answers (Nests text.now lexemes.now) result }
+    requires within { AreWithin terminals.now }
+    ensures answers { Answers (Nests text.now terminals.now) result }
     ensures within { IfOk result (λ p. WithinLimits (tree_of p)) }
 {
-    match first_too_deep(lexemes) {
+    match first_too_deep(terminals) {
         Some(line) => Err(ReadFault::TooDeep { line }),
-        None => parsed(alloc, text, lexemes),
+        None => parsed(alloc, text, terminals),
     }
 }
 
@@ -111,6 +111,6 @@ pub fn read(alloc: Global, text: &[u8]) -> Result<Program, ReadFault>
     if text.len() > 1_048_576 {
         return Err(ReadFault::TooLong);
     }
-    let lexemes = lexed(alloc, text)?;
-    nested(alloc, text, lexemes.as_slice())
+    let terminals = lexed(alloc, text)?;
+    nested(alloc, text, terminals.as_slice())
 }

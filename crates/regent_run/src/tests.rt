@@ -72,7 +72,7 @@ fn run_text(alloc: Global, text: &str, faults: &Faults) -> Result<String, Fail> 
     call(alloc, &["regent", "run", "first.rg"], text, faults)
 }
 
-/// A program whose start value stands in so many parentheses.
+/// A program whose initializer stands in so many parentheses.
 fn nested(alloc: Global, depth: usize) -> Result<String, AllocError> {
     let mut text = String::from_str(alloc, "task main() var x = ")?;
     for _ in 0..depth {

@@ -7,9 +7,9 @@ use Rattle.regent_tree.specs.declared.statement.How.{How}
 use Rattle.regent_tree.specs.declared.statement.How.TheVariants as how
 use Rattle.regent_tree.specs.declared.types.SpaceUse.{SpaceUse}
 use Rattle.regent_tree.specs.declared.types.TypeTerm.{TypeTerm}
-use Rattle.regent_tree.specs.Syntax.{Name, Expression, access_expr, Steps, no_step, field_step, at_step, Start, region_start, equal_start, by_field_start, image_start, preimage_start, both_start, either_start, plain_start, a_statement, Form, var_form, if_form, while_form, for_in_form, for_to_form, do_form, fill_form, assert_form, print_form, call_form, assign_form, return_form, Block, no_statement, then_statement, Arms, no_arm, an_arm, Otherwise, no_else, else_block}
+use Rattle.regent_tree.specs.Syntax.{Name, Expression, access_expr, Steps, no_step, field_step, at_step, Initializer, region_initializer, equal_initializer, by_field_initializer, image_initializer, preimage_initializer, both_initializer, either_initializer, plain_initializer, a_statement, Form, var_form, if_form, while_form, for_in_form, for_to_form, do_form, fill_form, assert_form, print_form, call_form, assign_form, return_form, Block, no_statement, then_statement, Arms, no_arm, an_arm, Otherwise, no_else, else_block}
 use Rattle.regent_tree.specs.Numbers.{distance}
-use Rattle.regent_tree.specs.Values.{Value, Region, truth_of, number_of, region_of, size_of, kept}
+use Rattle.regent_tree.specs.Values.{Value, Region, truth_of, number_of, region_of, size_of, kept_number}
 use Rattle.regent_tree.specs.Store.{Store, write_at, write_all, touch_all}
 use Rattle.regent_tree.specs.StaticTypes.{field_type, field_place, task_named}
 use Rattle.regent_tree.specs.declared.typing.StaticType.{StaticType}
@@ -17,7 +17,7 @@ use Rattle.regent_tree.specs.Typing.{stepped_type, arithmetic_type, params_at, v
 use Rattle.regent_tree.specs.Running.{State, Here, Run, Result, gives, fails, change, pay, touch}
 use Rattle.regent_tree.specs.Accesses.{converted, Aim, hits, misses, aimed, space_in, args_in}
 use Rattle.regent_tree.specs.Evaluation.{value, values, stepped, named_value, type_named, typed, called}
-use Rattle.regent_tree.specs.Starting.{start_value, started_by, make_root, colours, region_named, partition_named, read_all}
+use Rattle.regent_tree.specs.Initializers.{initial_value, initialized, make_root, colours, region_named, partition_named, read_all}
 use Rattle.regent_tree.specs.Execution.{Going, goes_on, returned, going_on, leaving, scoped, bind, round, rounds, counting, turn, turning, items_of, write_field, write_name, write_to, right_side, fill_fields, before_last, last_field, on_line, looping, after_statement, after_arm, after_arms, exec, exec_arms, exec_else, exec_block}
 use Rattle.regent_tree.specs.Laws.{Leaves, CallsAre}
 use Rattle.regent_tree.proofs.Steps.{Law, Kept, in_turn, given_kept, fault_kept, choice_kept, pay_kept, touch_kept, named_kept, converted_kept, called_kept}
@@ -78,7 +78,7 @@ module _ {Good : Store → Store → Type 0} {R : State → State → Type 0} (r
   turning_kept h (suc n) test body t k = in_turn rules.law test _ t
       (λ v. turn_kept h v body _ k (turning_kept h n test body t k))
 
-  -- start values
+  -- initializers
   pub region_kept : (h : Here) (n : Name) → Kept R (region_named h n)
   region_kept h n = record { all = λ s. rules.law.same s }
 
@@ -96,35 +96,35 @@ module _ {Good : Store → Store → Type 0} {R : State → State → Type 0} (r
   pub root_kept : (h : Here) (u : SpaceUse) (n : ℕ) → Kept R (make_root h u n)
   root_kept h u n = record { all = λ s. rules.made s _ }
 
-  pub started_kept : (h : Here) → CallsAre Good h.calls →
-      (t : Option TypeTerm) (wanted : StaticType) (start : Start) → Kept R
-      (started_by h t wanted start)
-  started_kept h g t wanted (region_start e u) =
+  pub initialized_kept : (h : Here) → CallsAre Good h.calls →
+      (t : Option TypeTerm) (wanted : StaticType) (initializer : Initializer) → Kept R
+      (initialized h t wanted initializer)
+  initialized_kept h g t wanted (region_initializer e u) =
       in_turn rules.law (value h e) _ (value_kept rules.law h g e)
       (λ v. root_kept h u (size_of v))
-  started_kept h g t wanted (equal_start r e) =
+  initialized_kept h g t wanted (equal_initializer r e) =
       in_turn rules.law (value h e) _ (value_kept rules.law h g e)
       (λ v. in_turn rules.law (colours h v) _ (colours_kept h v)
       (λ n. record { all = λ s. rules.law.same s }))
-  started_kept h g t wanted (by_field_start r f e) =
+  initialized_kept h g t wanted (by_field_initializer r f e) =
       in_turn rules.law (value h e) _ (value_kept rules.law h g e)
       (λ v. in_turn rules.law (colours h v) _ (colours_kept h v)
       (λ n. record { all = λ s. rules.law.touched s _ }))
-  started_kept h g t wanted (image_start parent p r f) = record { all = λ s. rules.law.touched s _ }
-  started_kept h g t wanted (preimage_start parent p r f) =
+  initialized_kept h g t wanted (image_initializer parent p r f) = record { all = λ s. rules.law.touched s _ }
+  initialized_kept h g t wanted (preimage_initializer parent p r f) =
       record { all = λ s. rules.law.touched s _ }
-  started_kept h g t wanted (both_start p q) = record { all = λ s. rules.law.same s }
-  started_kept h g t wanted (either_start p q) = record { all = λ s. rules.law.same s }
-  started_kept h g None wanted (plain_start e) = value_kept rules.law h g e
-  started_kept h g (Some t) wanted (plain_start e) =
+  initialized_kept h g t wanted (both_initializer p q) = record { all = λ s. rules.law.same s }
+  initialized_kept h g t wanted (either_initializer p q) = record { all = λ s. rules.law.same s }
+  initialized_kept h g None wanted (plain_initializer e) = value_kept rules.law h g e
+  initialized_kept h g (Some t) wanted (plain_initializer e) =
       in_turn rules.law (value h e) _ (value_kept rules.law h g e)
       (λ v. record { all = λ s. (converted_kept rules.law h (typed h e) wanted _ v).all s })
 
-  pub start_kept : (h : Here) → CallsAre Good h.calls →
-      (t : Option TypeTerm) (wanted : StaticType) (start : Option Start) → Kept R
-      (start_value h t wanted start)
-  start_kept h g t wanted None = record { all = λ s. rules.law.same s }
-  start_kept h g t wanted (Some start) = started_kept h g t wanted start
+  pub initial_kept : (h : Here) → CallsAre Good h.calls →
+      (t : Option TypeTerm) (wanted : StaticType) (initializer : Option Initializer) → Kept R
+      (initial_value h t wanted initializer)
+  initial_kept h g t wanted None = record { all = λ s. rules.law.same s }
+  initial_kept h g t wanted (Some initializer) = initialized_kept h g t wanted initializer
 
   -- writes
   pub write_all_kept : (root field : ℕ) (xs : List ℕ) (z : ℤ) (s : State) →
@@ -181,14 +181,14 @@ module _ {Good : Store → Store → Type 0} {R : State → State → Type 0} (r
       in_turn rules.law (touch (touch_all r.root place Write r.points)) _ (touch_kept rules.law _)
       (λ a.
       in_turn rules.law (change
-      (λ s. record s { store = write_all s.store r.root place r.points (kept u) })) _
-      (record { all = λ s. write_all_kept r.root place r.points (kept u) s }) (λ b.
+      (λ s. record s { store = write_all s.store r.root place r.points (kept_number u) })) _
+      (record { all = λ s. write_all_kept r.root place r.points (kept_number u) s }) (λ b.
       fill_kept h from v t r fs)))
 
   mutual
     pub exec_kept : (h : Here) → CallsAre Good h.calls → (form : Form) → Kept R (exec h form)
-    exec_kept h g (var_form n t start) =
-        in_turn rules.law _ _ (start_kept h g t (var_type h.tree h.scope t start) start)
+    exec_kept h g (var_form n t initializer) =
+        in_turn rules.law _ _ (initial_kept h g t (var_type h.tree h.scope t initializer) initializer)
         (λ v. bind_kept v)
     exec_kept h g (if_form arms other) =
         arms_kept h g arms _ (else_kept (after_arms h arms) g other)

@@ -10,7 +10,7 @@ use Rattle.regent_tree.specs.declared.statement.How.TheVariants as how
 use Rattle.regent_tree.specs.Syntax.{Name, Expression, access_expr, Steps, no_step, field_step, at_step, a_statement, Form, var_form, if_form, while_form, for_in_form, for_to_form, do_form, fill_form, assert_form, print_form, call_form, assign_form, return_form, Block, no_statement, then_statement, Arms, no_arm, an_arm, Otherwise, no_else, else_block}
 use Rattle.lane_kernels.specs.Numbers.{wrapped, applied}
 use Rattle.regent_tree.specs.Numbers.{distance}
-use Rattle.regent_tree.specs.Values.{Value, a_number, a_truth, an_index, a_pointer, a_space, a_region, point_target, Region, truth_of, number_of, region_of, regions_of, width_of, kept, meant}
+use Rattle.regent_tree.specs.Values.{Value, a_number, a_truth, an_index, a_pointer, a_space, a_region, point_target, Region, truth_of, number_of, region_of, regions_of, width_of, kept_number, meant}
 use Rattle.regent_tree.specs.Store.{read_at, write_at, write_all, touch_all}
 use Rattle.regent_tree.specs.StaticTypes.{field_type, field_place, field_kind, task_named}
 use Rattle.regent_tree.specs.declared.typing.StaticType.{StaticType}
@@ -19,7 +19,7 @@ use Rattle.regent_tree.specs.Typing.{stepped_type, arithmetic_type, params_at, v
 use Rattle.regent_tree.specs.Running.{State, Here, Run, Result, gives, given, ◌>>=◌, and_then, state, change, fault, if_true, pay, touch, touch_at}
 use Rattle.regent_tree.specs.Accesses.{converted, Aim, hits, misses, aimed, space_in, args_in}
 use Rattle.regent_tree.specs.Evaluation.{value, values, stepped, named_value, type_named, typed, called}
-use Rattle.regent_tree.specs.Starting.{start_value}
+use Rattle.regent_tree.specs.Initializers.{initial_value}
 use Rattle.regent_tree.specs.Printing.{printed}
 
 -- whether a run goes on after a statement, or has returned a value
@@ -132,7 +132,7 @@ write_field h t f how v (hits root n) = do
   s ← state
   let old = meant (field_kind h.tree (space_in t) place) [] (read_at s.store root place n)
   changing (λ u. record u {
-    store = write_at u.store root place n (kept (updated how old v));
+    store = write_at u.store root place n (kept_number (updated how old v));
   })
 
 -- a value is written to a variable
@@ -167,12 +167,12 @@ fill_fields h from v t r (f ∷ fs) = do
   let place = field_place h.tree (space_in t) f
   u ← converted h from (field_type h.tree (space_in t) (args_in t) f) [] v
   _ ← touch (touch_all r.root place Write r.points)
-  _ ← change (λ s. record s { store = write_all s.store r.root place r.points (kept u) })
+  _ ← change (λ s. record s { store = write_all s.store r.root place r.points (kept_number u) })
   fill_fields h from v t r fs
 
 -- ---- statements
 
--- the same place on another line, with a name that a loop binds, behind a statement, and behind the
+-- the same place on another line, with a name that a loop binds, after a statement, and behind the
 -- first arm of an `if` or all of them
 abbrev pub on_line : Here → ℕ → Here
 on_line h line = record h { line = line }
@@ -191,8 +191,8 @@ after_arms h arms = record h { scope = scope_after_arms h.tree h.scope arms }
 
 abbrev mutual
   pub exec : Here → Form → Run Going
-  exec h (var_form n t start) = do
-    v ← start_value h t (var_type h.tree h.scope t start) start
+  exec h (var_form n t initializer) = do
+    v ← initial_value h t (var_type h.tree h.scope t initializer) initializer
     bind v
   exec h (if_form arms other) = exec_arms h arms (exec_else (after_arms h arms) other)
   exec h (while_form test body) = do

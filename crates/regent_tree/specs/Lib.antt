@@ -13,7 +13,7 @@ pub mod Running
 pub mod Accesses
 pub mod Operators
 pub mod Evaluation
-pub mod Starting
+pub mod Initializers
 pub mod Printing
 pub mod Execution
 pub mod Meaning

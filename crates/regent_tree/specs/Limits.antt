@@ -10,7 +10,7 @@ use Rattle.regent_tree.specs.declared.types.PointerTerm.{PointerTerm}
 use Rattle.regent_tree.specs.declared.types.TypeTerm.{TypeTerm}
 use Rattle.regent_tree.specs.declared.types.TypeTerm.TheVariants as term
 use Rattle.regent_tree.specs.declared.types.Param.{Param}
-use Rattle.regent_tree.specs.Syntax.{Expression, number_expr, truth_expr, chain_expr, prefix_expr, call_expr, access_expr, convert_expr, is_null_expr, null_expr, cast_expr, space_expr, Links, no_link, a_link, Expressions, no_expr, an_expr, Steps, no_step, field_step, at_step, Start, region_start, equal_start, by_field_start, image_start, preimage_start, both_start, either_start, plain_start, a_statement, Form, var_form, if_form, while_form, for_in_form, for_to_form, do_form, fill_form, assert_form, print_form, call_form, assign_form, return_form, Block, no_statement, then_statement, Arms, no_arm, an_arm, Otherwise, no_else, else_block, ItemForm, import_item, alias_item, space_item, task_item, start_item, Tree}
+use Rattle.regent_tree.specs.Syntax.{Expression, number_expr, truth_expr, chain_expr, prefix_expr, call_expr, access_expr, convert_expr, is_null_expr, null_expr, cast_expr, space_expr, Links, no_link, a_link, Expressions, no_expr, an_expr, Steps, no_step, field_step, at_step, Initializer, region_initializer, equal_initializer, by_field_initializer, image_initializer, preimage_initializer, both_initializer, either_initializer, plain_initializer, a_statement, Form, var_form, if_form, while_form, for_in_form, for_to_form, do_form, fill_form, assert_form, print_form, call_form, assign_form, return_form, Block, no_statement, then_statement, Arms, no_arm, an_arm, Otherwise, no_else, else_block, ItemForm, import_item, alias_item, space_item, task_item, start_item, Tree}
 
 -- ---- what the limits look at
 
@@ -70,19 +70,19 @@ abbrev mutual
   parts_of_steps (field_step name rest) = node ∷ parts_of_steps rest
   parts_of_steps (at_step e rest) = node ∷ (parts_of_expression e ++ parts_of_steps rest)
 
-abbrev pub parts_of_start : Start → List Part
-parts_of_start (region_start space fields) = parts_of_expression space
-parts_of_start (equal_start region colours) = parts_of_expression colours
-parts_of_start (by_field_start region field colours) = parts_of_expression colours
-parts_of_start (image_start parent partition region field) = []
-parts_of_start (preimage_start parent partition region field) = []
-parts_of_start (both_start p q) = []
-parts_of_start (either_start p q) = []
-parts_of_start (plain_start e) = parts_of_expression e
+abbrev pub parts_of_initializer : Initializer → List Part
+parts_of_initializer (region_initializer space fields) = parts_of_expression space
+parts_of_initializer (equal_initializer region colours) = parts_of_expression colours
+parts_of_initializer (by_field_initializer region field colours) = parts_of_expression colours
+parts_of_initializer (image_initializer parent partition region field) = []
+parts_of_initializer (preimage_initializer parent partition region field) = []
+parts_of_initializer (both_initializer p q) = []
+parts_of_initializer (either_initializer p q) = []
+parts_of_initializer (plain_initializer e) = parts_of_expression e
 
-abbrev pub parts_of_init : Option Start → List Part
+abbrev pub parts_of_init : Option Initializer → List Part
 parts_of_init None = []
-parts_of_init (Some s) = parts_of_start s
+parts_of_init (Some s) = parts_of_initializer s
 
 abbrev pub parts_of_value : Option Expression → List Part
 parts_of_value None = []

@@ -6,14 +6,14 @@ use Rattle.regent_tree.specs.declared.outcome.Outcome.{Outcome}
 use Rattle.regent_tree.specs.Syntax.{Tree, TaskTree}
 use Rattle.regent_tree.specs.Values.{Value, a_number, a_pointer}
 use Rattle.regent_tree.specs.Store.{Store}
-use Rattle.regent_tree.specs.StaticTypes.{started, task_named}
+use Rattle.regent_tree.specs.StaticTypes.{entry_name, task_named}
 use Rattle.regent_tree.specs.declared.typing.StaticType.{StaticType}
 use Rattle.regent_tree.specs.declared.typing.StaticType.TheVariants.{Pointer as pointer_type}
 use Rattle.regent_tree.specs.Scopes.{Scope, scope_of}
 use Rattle.regent_tree.specs.Typing.{result_type, param_types, width_of_type}
 use Rattle.regent_tree.specs.Running.{State, Here, Result, gives, fails, Called, came_back, broke, Calls}
 use Rattle.regent_tree.specs.Accesses.{regions_reached}
-use Rattle.regent_tree.specs.Starting.{zero_of}
+use Rattle.regent_tree.specs.Initializers.{zero_of}
 use Rattle.regent_tree.specs.Execution.{Going, goes_on, returned, exec_block}
 
 -- an argument as the task has it: a pointer goes with the regions of its parameter's type
@@ -69,21 +69,21 @@ calls_at tree turns (suc more) line task vs store =
     ended (length store) (scope_of tree t) (result_type tree t.result)
     (run_task tree turns (calls_at tree turns more) t vs store)
 
--- what is told of a whole run: its text with the contents of the started task's roots, or its text
+-- what is told of a whole run: its text with the contents of the entry task's roots, or its text
 -- up to the first fault with that fault
 abbrev pub outcome : Result Going → Outcome
 outcome (gives g s) = record { text = s.text; ending = Finished s.store }
 outcome (fails f s) = record { text = s.text; ending = Faulted f }
 
--- the numbers that are given to the started task, at the widths of its parameters
+-- the numbers that are given to the entry task, at the widths of its parameters
 abbrev pub inputs_of : List StaticType → List ℤ → List Value
 inputs_of (t ∷ ts) (z ∷ zs) = a_number (width_of_type t) z ∷ inputs_of ts zs
 inputs_of _ _ = []
 
--- The meaning of a program: the started task runs at depth 1 on the empty store. No run is deeper
+-- The meaning of a program: the entry task runs at depth 1 on the empty store. No run is deeper
 -- than 64, so 63 calls may nest below it.
 abbrev pub meaning : Tree → List ℤ → ℕ → Outcome
 meaning tree inputs turns =
-    let t = task_named tree (started tree) in
+    let t = task_named tree (entry_name tree) in
     outcome (run_task tree turns (calls_at tree turns 63) t
     (inputs_of (param_types tree t) inputs) [])

@@ -15,7 +15,7 @@ use Rattle.regent_tree.specs.declared.types.NumberTerm.TheVariants as number
 use Rattle.regent_tree.specs.Partitions.{minus_sets, minus_flag}
 use Rattle.lane_kernels.specs.Numbers.{wrapped}
 use Rattle.regent_tree.specs.Numbers.{wider, computed, compared}
-use Rattle.regent_tree.specs.Values.{Value, a_number, a_truth, an_index, a_pointer, a_space, a_partition, Target, null_target, point_target, Region, Partition, truth_of, number_of, partition_of, target_of, same_target, first_holding, kept}
+use Rattle.regent_tree.specs.Values.{Value, a_number, a_truth, an_index, a_pointer, a_space, a_partition, Target, null_target, point_target, Region, Partition, truth_of, number_of, partition_of, target_of, same_target, first_holding, kept_number}
 use Rattle.regent_tree.specs.Running.{Here, Run, given, fault, if_true}
 use Rattle.regent_tree.specs.Accesses.{standing}
 
@@ -47,7 +47,7 @@ abbrev pub unless_divided : Here → (ℤ → Value) → Option ℤ → Run Valu
 unless_divided h made (Some z) = given (made z)
 unless_divided h made None = fault h DivideByZero
 
--- the difference of two partitions, which a checked program has as a whole start value alone
+-- the difference of two partitions, which a checked program has as a whole initializer alone
 abbrev pub difference : Partition → Partition → Value
 difference p q = a_partition (record {
   root = p.root;
@@ -69,7 +69,7 @@ comparison_of_targets _ t u = false
 
 abbrev pub comparison : Comparison → Value → Value → Bool
 comparison c (a_pointer t regions) b = comparison_of_targets c t (target_of b)
-comparison c a b = compared c (kept a) (kept b)
+comparison c a b = compared c (kept_number a) (kept_number b)
 
 -- the result of an operator that evaluates both operands
 abbrev pub combined : Here → Operator → Value → Value → Run Value

@@ -5,7 +5,7 @@ use Rattle.regent_tree.specs.declared.expression.Link.{Link}
 use Rattle.regent_tree.specs.declared.expression.Step.{Step, Field, At}
 use Rattle.regent_tree.specs.declared.statement.Init.{Init}
 use Rattle.regent_tree.specs.declared.statement.Init.TheVariants as init
-use Rattle.regent_tree.specs.Syntax.{Expression, number_expr, truth_expr, chain_expr, prefix_expr, call_expr, access_expr, convert_expr, is_null_expr, null_expr, cast_expr, space_expr, Links, no_link, a_link, Expressions, no_expr, an_expr, Steps, no_step, field_step, at_step, Start, region_start, equal_start, by_field_start, image_start, preimage_start, both_start, either_start, plain_start}
+use Rattle.regent_tree.specs.Syntax.{Expression, number_expr, truth_expr, chain_expr, prefix_expr, call_expr, access_expr, convert_expr, is_null_expr, null_expr, cast_expr, space_expr, Links, no_link, a_link, Expressions, no_expr, an_expr, Steps, no_step, field_step, at_step, Initializer, region_initializer, equal_initializer, by_field_initializer, image_initializer, preimage_initializer, both_initializer, either_initializer, plain_initializer}
 
 abbrev mutual
   pub expression_of : Expr → Expression
@@ -52,13 +52,13 @@ abbrev pub steps_in : List Step → Steps
 steps_in [] = no_step
 steps_in (s ∷ ss) = step_before s (steps_in ss)
 
-abbrev pub start_of : Init → Start
-start_of (init.Region space fields) = region_start (expression_of space) fields
-start_of (init.Equal region colours) = equal_start region (expression_of colours)
-start_of (init.ByField region field colours) = by_field_start region field (expression_of colours)
-start_of (init.Image parent partition region field) = image_start parent partition region field
-start_of (init.Preimage parent partition region field) =
-    preimage_start parent partition region field
-start_of (init.Both p q) = both_start p q
-start_of (init.Either p q) = either_start p q
-start_of (init.Plain e) = plain_start (expression_of e)
+abbrev pub initializer_of : Init → Initializer
+initializer_of (init.Region space fields) = region_initializer (expression_of space) fields
+initializer_of (init.Equal region colours) = equal_initializer region (expression_of colours)
+initializer_of (init.ByField region field colours) = by_field_initializer region field (expression_of colours)
+initializer_of (init.Image parent partition region field) = image_initializer parent partition region field
+initializer_of (init.Preimage parent partition region field) =
+    preimage_initializer parent partition region field
+initializer_of (init.Both p q) = both_initializer p q
+initializer_of (init.Either p q) = either_initializer p q
+initializer_of (init.Plain e) = plain_initializer (expression_of e)

@@ -12,11 +12,11 @@ use Rattle.regent_tree.specs.declared.program.ItemKind.{ItemKind}
 use Rattle.regent_tree.specs.declared.program.ItemKind.TheVariants as kind
 use Rattle.regent_tree.specs.declared.program.Program.{Program}
 use Rattle.regent_tree.specs.Syntax.{a_statement, Form, var_form, if_form, while_form, for_in_form, for_to_form, do_form, fill_form, assert_form, print_form, call_form, assign_form, return_form, Block, no_statement, then_statement, Arms, no_arm, an_arm, Otherwise, no_else, else_block, TaskTree, ItemForm, import_item, alias_item, space_item, task_item, start_item, ItemTree, Tree}
-use Rattle.regent_tree.specs.Plain.{expression_of, expressions_in, steps_in, start_of}
+use Rattle.regent_tree.specs.Plain.{expression_of, expressions_in, steps_in, initializer_of}
 
 abbrev mutual
   pub form_of : What → Form
-  form_of (Var name term init) = var_form name term (option_map start_of init)
+  form_of (Var name term init) = var_form name term (option_map initializer_of init)
   form_of (If' shape arms other) = if_form (arms_of arms) (otherwise_of other)
   form_of (While' test shape body) = while_form (expression_of test) (block_of body)
   form_of (ForIn' demanded name domain shape body) =

@@ -2,7 +2,7 @@
 use Rattle.std.specs.Prelude.{ℕ, ℤ, List, [], ◌∷◌, ◌++◌, true, false, ◌==◌}
 use Rattle.std.specs.Fmt.{signed_decimal}
 
--- the next number in decimal, and the numbers behind it
+-- the next number in decimal, and the numbers after it
 abbrev pub first_number : List ℤ → List ℕ
 first_number [] = []
 first_number (z ∷ zs) = signed_decimal z

@@ -68,14 +68,14 @@ task_named (i ∷ items) n = unless_named i.form (task_named items n)
     unless_named (task_item t) rest = cond (bytes_eq t.name n) t rest
     unless_named _ rest = rest
 
--- the name of the task that is started: `main` where no item says one
-abbrev pub started : Tree → Name
-started [] = 109 ∷ 97 ∷ 105 ∷ 110 ∷ []
-started (i ∷ items) = unless_start i.form (started items)
+-- the name of the entry task: `main` where no item says one
+abbrev pub entry_name : Tree → Name
+entry_name [] = 109 ∷ 97 ∷ 105 ∷ 110 ∷ []
+entry_name (i ∷ items) = unless_start_item i.form (entry_name items)
   where
-    unless_start : ItemForm → Name → Name
-    unless_start (start_item n) rest = n
-    unless_start _ rest = rest
+    unless_start_item : ItemForm → Name → Name
+    unless_start_item (start_item n) rest = n
+    unless_start_item _ rest = rest
 
 -- ---- the types that type terms say
 

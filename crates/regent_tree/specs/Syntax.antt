@@ -49,16 +49,16 @@ mutual
     field_step : Name → Steps → Steps
     at_step : Expression → Steps → Steps
 
--- the start value of a variable
-pub data Start : Type 0 where
-  region_start : Expression → SpaceUse → Start
-  equal_start : Name → Expression → Start
-  by_field_start : Name → Name → Expression → Start
-  image_start : Name → Name → Name → Name → Start
-  preimage_start : Name → Name → Name → Name → Start
-  both_start : Name → Name → Start
-  either_start : Name → Name → Start
-  plain_start : Expression → Start
+-- the initializer of a variable
+pub data Initializer : Type 0 where
+  region_initializer : Expression → SpaceUse → Initializer
+  equal_initializer : Name → Expression → Initializer
+  by_field_initializer : Name → Name → Expression → Initializer
+  image_initializer : Name → Name → Name → Name → Initializer
+  preimage_initializer : Name → Name → Name → Name → Initializer
+  both_initializer : Name → Name → Initializer
+  either_initializer : Name → Name → Initializer
+  plain_initializer : Expression → Initializer
 
 mutual
   -- a statement, and the line on which it begins
@@ -66,7 +66,7 @@ mutual
     a_statement : ℕ → Form → Statement
 
   pub data Form : Type 0 where
-    var_form : Name → Option TypeTerm → Option Start → Form
+    var_form : Name → Option TypeTerm → Option Initializer → Form
     if_form : Arms → Otherwise → Form
     while_form : Expression → Block → Form
     for_in_form : Bool → Name → Expression → Block → Form

@@ -15,7 +15,7 @@ use Rattle.regent_tree.specs.declared.facts.Term.TheVariants as term
 use Rattle.regent_tree.specs.declared.types.Kind.{Kind}
 use Rattle.regent_tree.specs.declared.types.Kind.TheVariants.{Int1d}
 use Rattle.regent_tree.specs.declared.types.TypeTerm.{TypeTerm}
-use Rattle.regent_tree.specs.Syntax.{Name, Expression, number_expr, truth_expr, chain_expr, prefix_expr, call_expr, access_expr, convert_expr, is_null_expr, null_expr, cast_expr, space_expr, Links, no_link, a_link, Expressions, no_expr, an_expr, Steps, no_step, field_step, at_step, Start, region_start, equal_start, by_field_start, image_start, preimage_start, both_start, either_start, plain_start, a_statement, Form, var_form, if_form, while_form, for_in_form, for_to_form, do_form, Block, no_statement, then_statement, Arms, no_arm, an_arm, Otherwise, no_else, else_block, Tree, TaskTree}
+use Rattle.regent_tree.specs.Syntax.{Name, Expression, number_expr, truth_expr, chain_expr, prefix_expr, call_expr, access_expr, convert_expr, is_null_expr, null_expr, cast_expr, space_expr, Links, no_link, a_link, Expressions, no_expr, an_expr, Steps, no_step, field_step, at_step, Initializer, region_initializer, equal_initializer, by_field_initializer, image_initializer, preimage_initializer, both_initializer, either_initializer, plain_initializer, a_statement, Form, var_form, if_form, while_form, for_in_form, for_to_form, do_form, Block, no_statement, then_statement, Arms, no_arm, an_arm, Otherwise, no_else, else_block, Tree, TaskTree}
 use Rattle.regent_tree.specs.Numbers.{wider}
 use Rattle.regent_tree.specs.Facts.{is_subregion}
 use Rattle.regent_tree.specs.Partitions.{equal_flag, by_field_flag, image_flag, preimage_flag, both_flag, either_flag}
@@ -178,33 +178,33 @@ owned own (region_type k s args r) = region_type k s args (term.Name own)
 owned own (partition_type d r p) = partition_type d r own
 owned own t = t
 
--- the type that a start value gives the binding with a number
-abbrev pub start_type : Tree → Scope → ℕ → Start → StaticType
-start_type tree s own (region_start e u) = region_type (kind_of_ispace (type_of tree s e))
+-- the type that an initializer gives the binding with a number
+abbrev pub initializer_type : Tree → Scope → ℕ → Initializer → StaticType
+initializer_type tree s own (region_initializer e u) = region_type (kind_of_ispace (type_of tree s e))
     (place_of_space tree u.name) (map (looked_up (in_scope s)) u.args) (term.Name own)
-start_type tree s own (equal_start r e) =
+initializer_type tree s own (equal_initializer r e) =
     partition_type equal_flag (bound_to s.names r).number own
-start_type tree s own (by_field_start r f e) =
+initializer_type tree s own (by_field_initializer r f e) =
     partition_type by_field_flag (bound_to s.names r).number own
-start_type tree s own (image_start parent p r f) =
+initializer_type tree s own (image_initializer parent p r f) =
     partition_type image_flag (bound_to s.names parent).number own
-start_type tree s own (preimage_start parent p r f) = partition_type
+initializer_type tree s own (preimage_initializer parent p r f) = partition_type
     (preimage_flag (is_disjoint (bound_to s.names p).static_type)) (bound_to s.names parent).number own
-start_type tree s own (both_start p q) =
+initializer_type tree s own (both_initializer p q) =
     let t = (bound_to s.names p).static_type in
     partition_type (both_flag (is_disjoint t) (is_disjoint (bound_to s.names q).static_type))
     (parent_of t) own
-start_type tree s own (either_start p q) =
+initializer_type tree s own (either_initializer p q) =
     partition_type either_flag (parent_of (bound_to s.names p).static_type) own
-start_type tree s own (plain_start e) = owned own (type_of tree s e)
+initializer_type tree s own (plain_initializer e) = owned own (type_of tree s e)
 
--- the type of a new variable: as it is declared, or else as its start value's
-abbrev pub var_type : Tree → Scope → Option TypeTerm → Option Start → StaticType
-var_type tree s (Some t) start = type_said tree (in_scope s) s.next t
-var_type tree s None (Some start) = start_type tree s s.next start
+-- the type of a new variable: as it is declared, or else as its initializer's
+abbrev pub var_type : Tree → Scope → Option TypeTerm → Option Initializer → StaticType
+var_type tree s (Some t) initializer = type_said tree (in_scope s) s.next t
+var_type tree s None (Some initializer) = initializer_type tree s s.next initializer
 var_type tree s None None = unknown_type
 
--- what a start value tells: `var s = p[k]` lies within p[k], and `var r = region(..)` was made
+-- what an initializer tells: `var s = p[k]` lies within p[k], and `var r = region(..)` was made
 abbrev pub known_of_child_term : ℕ → Term → List Known
 known_of_child_term own (term.Child p c) = Within (term.Name own) (term.Child p c) ∷ []
 known_of_child_term own (term.Name r) = []
@@ -213,10 +213,10 @@ abbrev pub known_of_child : ℕ → StaticType → List Known
 known_of_child own (region_type k s args t) = known_of_child_term own t
 known_of_child own _ = []
 
-abbrev pub known_of_start : Tree → Scope → ℕ → Option Start → List Known
-known_of_start tree s own (Some (region_start e u)) = Made own ∷ []
-known_of_start tree s own (Some (plain_start e)) = known_of_child own (type_of tree s e)
-known_of_start tree s own _ = []
+abbrev pub known_of_initializer : Tree → Scope → ℕ → Option Initializer → List Known
+known_of_initializer tree s own (Some (region_initializer e u)) = Made own ∷ []
+known_of_initializer tree s own (Some (plain_initializer e)) = known_of_child own (type_of tree s e)
+known_of_initializer tree s own _ = []
 
 -- what a loop over a region or an index space takes: pointers into it, or its indices
 abbrev pub taken_from : StaticType → StaticType
@@ -228,9 +228,9 @@ taken_from _ = unknown_type
 
 abbrev mutual
   pub scope_after : Tree → Scope → Form → Scope
-  scope_after tree s (var_form n t start) =
-      let type = var_type tree s t start in
-      knowing (with_name s n type false) (known_of_start tree s s.next start ++ known_of_type type)
+  scope_after tree s (var_form n t initializer) =
+      let type = var_type tree s t initializer in
+      knowing (with_name s n type false) (known_of_initializer tree s s.next initializer ++ known_of_type type)
   scope_after tree s (if_form arms other) =
       scope_after_else tree (scope_after_arms tree s arms) other
   scope_after tree s (while_form test body) = past s (scope_after_block tree s body)

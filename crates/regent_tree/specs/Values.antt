@@ -119,12 +119,12 @@ kept_truth true = pos 1
 kept_truth false = pos 0
 
 -- the number that a field keeps of a value
-abbrev pub kept : Value → ℤ
-kept (a_number w z) = z
-kept (a_truth b) = kept_truth b
-kept (an_index z) = z
-kept (a_pointer t regions) = kept_target t
-kept _ = pos 0
+abbrev pub kept_number : Value → ℤ
+kept_number (a_number w z) = z
+kept_number (a_truth b) = kept_truth b
+kept_number (an_index z) = z
+kept_number (a_pointer t regions) = kept_target t
+kept_number _ = pos 0
 
 -- the pointer that a kept number means
 abbrev pub target_kept : ℤ → Target

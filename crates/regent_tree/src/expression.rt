@@ -118,7 +118,7 @@ impl Expr {
         Expr::Call { task, args }
     }
 
-    /// A name with steps behind it.
+    /// A name with steps after it.
     pub fn access(name: Name, steps: Vec<Step>) -> Expr
         ensures { expression_of result ≡ access_expr name (steps_in steps.items) }
     {

@@ -22,7 +22,7 @@ pub struct Fault {
     pub line: u32,
 }
 
-/// The final contents of a region that the started task made: the place of its field space among
+/// The final contents of a region that the entry task made: the place of its field space among
 /// those of the text, how many points it has, and for each field a number for each point.
 #[derive(Debug, PartialEq, Eq, Drop)]
 pub struct RootImage {

@@ -12,7 +12,7 @@ pub enum How {
     Reduce(Op),
 }
 
-/// The start value of a variable: a new region, a partition (Dependent Partitioning, OOPSLA 2016),
+/// The initializer of a variable: a new region, a partition (Dependent Partitioning, OOPSLA 2016),
 /// or an expression.
 #[derive(Drop)]
 pub enum Init {

@@ -12,6 +12,6 @@ told_here (Breach r) a b e = rw e refl
 told_here (Memory error) a b e = tt
 
 -- where nothing is told of the first, it is what is told of the second
-pub tells_behind : {A : Type 0} (Found : A → Type 0) (result : Result A Stop) (a b : Option Rule) →
+pub tells_after : {A : Type 0} (Found : A → Type 0) (result : Result A Stop) (a b : Option Rule) →
     a ≡ None → Tells Found result b → Tells Found result (option_or a b)
-tells_behind Found result a b e h = rw e h
+tells_after Found result a b e h = rw e h

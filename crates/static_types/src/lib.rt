@@ -19,7 +19,9 @@ pub use looking::{
     Among, Arguments, Looking, all_looked_up, binding_of, has_param, number_at, number_bound,
     place_in,
 };
-pub use operators::{arithmetic_type, behind_operator, behind_sign, counting_as, misoperates};
+pub use operators::{
+    after_operator, after_sign, arithmetic_type, counting_as, is_ill_typed_operation,
+};
 pub use params::{bind_written, differ_in, mispartition_in, put_in, said_params};
 pub use said::{number_type, type_said, written_pointer};
 pub use sorts::{
@@ -29,6 +31,6 @@ pub use sorts::{
 pub use stop::Stop;
 pub use type_rules::{
     check_type, is_unknown_name, miscolours_in_type, miscounts_in_type, misfits_in_type,
-    misnames_in_type, mispoints_in_type, names_partition, names_region, names_unknown,
-    said_pointer,
+    names_partition, names_region, names_unknown, said_pointer, unbound_name_in_type,
+    wrong_region_in_type,
 };

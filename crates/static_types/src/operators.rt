@@ -3,11 +3,11 @@
 ghost use Rattle.std.specs.Prelude.{◌≡◌};
 ghost use Rattle.regent_tree.specs.Numbers.{wider};
 ghost use Rattle.regent_tree.specs.Typing.{are_pointers, counting_as, arithmetic_type, operated};
-ghost use Rattle.check_rules.specs.KnownTypes.{type_behind_operator, type_behind_sign};
+ghost use Rattle.check_rules.specs.KnownTypes.{known_type_after_operator, known_type_after_sign};
 ghost use Rattle.check_rules.specs.Sorts as sort;
-ghost use Rattle.check_rules.specs.Types.{computes_with, has_order_with, has_equality_with, operates_on, misoperates};
+ghost use Rattle.check_rules.specs.Types.{computes_with, has_order_with, has_equality_with, operates_on, is_ill_typed_operation};
 ghost use Rattle.static_types.specs.Counting.{kind_counted};
-ghost use Rattle.check_rules.specs.Shapes.{computing};
+ghost use Rattle.check_rules.specs.TypedForms.{computing};
 
 use crate::sorts::{is_number, is_pointer, is_truth, is_unknown};
 use regent_tree::{Comparison, Kind, Operator, Sign, StaticType, Width};
@@ -116,25 +116,25 @@ fn operates_on(operator: Operator, left: &StaticType, right: &StaticType) -> boo
 }
 
 /// Whether an operator's operands aren't as it takes them.
-pub fn misoperates(operator: Operator, left: &StaticType, right: &StaticType) -> bool
-    ensures { result ≡ misoperates (computing operator left.now right.now) }
+pub fn is_ill_typed_operation(operator: Operator, left: &StaticType, right: &StaticType) -> bool
+    ensures { result ≡ is_ill_typed_operation (computing operator left.now right.now) }
 {
     !operates_on(operator, left, right)
 }
 
-/// The type behind an operator with its operands; what depends on what is unknown is unknown.
-pub fn behind_operator(operator: Operator, left: StaticType, right: StaticType) -> StaticType
-    ensures { result ≡ type_behind_operator (computing operator left right) }
+/// The type after an operator with its operands; what depends on what is unknown is unknown.
+pub fn after_operator(operator: Operator, left: StaticType, right: StaticType) -> StaticType
+    ensures { result ≡ known_type_after_operator (computing operator left right) }
 {
-    if is_unknown(&left) || is_unknown(&right) || misoperates(operator, &left, &right) {
+    if is_unknown(&left) || is_unknown(&right) || is_ill_typed_operation(operator, &left, &right) {
         return StaticType::Unknown;
     }
     operated(operator, left, right)
 }
 
-/// The type behind a prefix.
-pub fn behind_sign(sign: Sign, t: StaticType) -> StaticType
-    ensures { result ≡ type_behind_sign sign t }
+/// The type after a prefix.
+pub fn after_sign(sign: Sign, t: StaticType) -> StaticType
+    ensures { result ≡ known_type_after_sign sign t }
 {
     match sign {
         Sign::Not if is_truth(&t) => StaticType::Truth,

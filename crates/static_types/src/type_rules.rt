@@ -13,9 +13,9 @@ ghost use Rattle.regent_tree.specs.declared.types.TypeTerm.TheVariants as typed;
 ghost use Rattle.check_rules.specs.Counts.{miscounts_use, miscounts_in_type, uses_of};
 ghost use Rattle.check_rules.specs.FirstInExpressions.{first_in_type};
 ghost use Rattle.check_rules.specs.Lookup.{names_a};
-ghost use Rattle.check_rules.specs.Names.{misses_region, misnames_in_use, misses_space, misnames_in_type};
+ghost use Rattle.check_rules.specs.Names.{misses_region, unbound_name_in_use, misses_space, unbound_name_in_type};
 ghost use Rattle.check_rules.specs.Partitions.{is_unstructured_name, miscolours_in_type};
-ghost use Rattle.check_rules.specs.Pointers.{is_region_in, mispoints, mispoints_in_type};
+ghost use Rattle.check_rules.specs.Pointers.{is_region_in, is_wrong_region_of_pointer, wrong_region_in_type};
 ghost use Rattle.check_rules.specs.Sorts as sort;
 ghost use Rattle.check_rules.specs.Spaces.{misfits_use, misfits_in_type};
 ghost use Rattle.check_rules.specs.Spaces as spaces;
@@ -80,8 +80,8 @@ fn any_misses_region(names: &Names, regions: &[Ref]) -> bool
     false
 }
 
-fn misnames_in_use(tables: &Tables, names: &Names, used: &SpaceUse) -> bool
-    ensures { result ≡ misnames_in_use (tree_of tables.now) names.now used.now }
+fn unbound_name_in_use(tables: &Tables, names: &Names, used: &SpaceUse) -> bool
+    ensures { result ≡ unbound_name_in_use (tree_of tables.now) names.now used.now }
 {
     tables.space(&used.name).is_none() || any_misses_region(names, used.args.as_slice())
 }
@@ -96,19 +96,19 @@ fn misses_space(names: &Names, space: &Option<Name>) -> bool
 }
 
 fn misnames_in_pointer(tables: &Tables, names: &Names, pointer: &PointerTerm) -> bool
-    ensures { result ≡ misnames_in_type (tree_of tables.now) names.now (typed.Pointer pointer.now) }
+    ensures { result ≡ unbound_name_in_type (tree_of tables.now) names.now (typed.Pointer pointer.now) }
 {
-    misnames_in_use(tables, names, &pointer.space)
+    unbound_name_in_use(tables, names, &pointer.space)
         || any_misses_region(names, pointer.regions.as_slice())
 }
 
 /// Whether a name in a type stands for nothing of the kind that is needed there.
-pub fn misnames_in_type(tables: &Tables, names: &Names, term: &TypeTerm) -> bool
-    ensures { result ≡ misnames_in_type (tree_of tables.now) names.now term.now }
+pub fn unbound_name_in_type(tables: &Tables, names: &Names, term: &TypeTerm) -> bool
+    ensures { result ≡ unbound_name_in_type (tree_of tables.now) names.now term.now }
 {
     match term {
         TypeTerm::Pointer(pointer) => misnames_in_pointer(tables, names, pointer),
-        TypeTerm::Region { space, .. } => misnames_in_use(tables, names, space),
+        TypeTerm::Region { space, .. } => unbound_name_in_use(tables, names, space),
         TypeTerm::Partition {
             region,
             colours,
@@ -173,8 +173,8 @@ fn may_be_region_in(kind: Kind, space: u32, t: &StaticType) -> bool
 
 /// Whether a pointer type of a kind and field space can't lead into this region.
 #[tactic(auto, using(crate::proofs::Scopes::bound_to_none))]
-fn mispoints(names: &Names, kind: Kind, space: u32, region: &Ref) -> bool
-    ensures { result ≡ mispoints names.now kind space region.now }
+fn is_wrong_region_of_pointer(names: &Names, kind: Kind, space: u32, region: &Ref) -> bool
+    ensures { result ≡ is_wrong_region_of_pointer names.now kind space region.now }
 {
     match region {
         Ref::Wild => true,
@@ -186,10 +186,10 @@ fn mispoints(names: &Names, kind: Kind, space: u32, region: &Ref) -> bool
 }
 
 fn any_mispoints(names: &Names, kind: Kind, space: u32, regions: &[Ref]) -> bool
-    ensures { result ≡ list_any (mispoints names.now kind space) regions.now }
+    ensures { result ≡ list_any (is_wrong_region_of_pointer names.now kind space) regions.now }
 {
     for region in regions {
-        if mispoints(names, kind, space, region) {
+        if is_wrong_region_of_pointer(names, kind, space, region) {
             return true;
         }
     }
@@ -197,7 +197,7 @@ fn any_mispoints(names: &Names, kind: Kind, space: u32, regions: &[Ref]) -> bool
 }
 
 fn mispoints_in_pointer(tables: &Tables, names: &Names, pointer: &PointerTerm) -> bool
-    ensures { result ≡ mispoints_in_type (tree_of tables.now) names.now (typed.Pointer pointer.now) }
+    ensures { result ≡ wrong_region_in_type (tree_of tables.now) names.now (typed.Pointer pointer.now) }
 {
     match tables.space(&pointer.space.name) {
         Some(space) => any_mispoints(names, pointer.kind, space, pointer.regions.as_slice()),
@@ -206,8 +206,8 @@ fn mispoints_in_pointer(tables: &Tables, names: &Names, pointer: &PointerTerm) -
 }
 
 /// Whether a pointer type names what it can't lead into, or has `wild` in its own list.
-pub fn mispoints_in_type(tables: &Tables, names: &Names, term: &TypeTerm) -> bool
-    ensures { result ≡ mispoints_in_type (tree_of tables.now) names.now term.now }
+pub fn wrong_region_in_type(tables: &Tables, names: &Names, term: &TypeTerm) -> bool
+    ensures { result ≡ wrong_region_in_type (tree_of tables.now) names.now term.now }
 {
     match term {
         TypeTerm::Pointer(pointer) => mispoints_in_pointer(tables, names, pointer),
@@ -298,7 +298,7 @@ fn types_of_refs(
 fn says_no_type(tables: &Tables, names: &Names, term: &TypeTerm) -> bool
     ensures { result ≡ says_no_type (tree_of tables.now) names.now term.now }
 {
-    misnames_in_type(tables, names, term) || miscounts_in_type(tables, term)
+    unbound_name_in_type(tables, names, term) || miscounts_in_type(tables, term)
 }
 
 /// The type of a parameter, which is unknown where its term says no type.
@@ -394,9 +394,9 @@ pub fn check_type(
 ) -> Result<(), Stop>
     ensures { Tells Anything result (first_in_type (tree_of tables.now) names.now term.now) }
 {
-    Stop::at(misnames_in_type(tables, names, term), Rule::Name)?;
+    Stop::at(unbound_name_in_type(tables, names, term), Rule::Name)?;
     Stop::at(miscounts_in_type(tables, term), Rule::Count)?;
-    Stop::at(mispoints_in_type(tables, names, term), Rule::Pointer)?;
+    Stop::at(wrong_region_in_type(tables, names, term), Rule::Pointer)?;
     Stop::at(misfits_in_type(alloc, tables, names, term)?, Rule::Spaces)?;
     Stop::at(miscolours_in_type(names, term), Rule::Partition)
 }

@@ -8,9 +8,9 @@ use Rattle.std.proofs.lemmas.List.Filters.{length-filter_more}
 use Rattle.std.proofs.lemmas.Slice.Eq.{bytes_eq-Decides}
 use Rattle.regent_tree.specs.declared.program.Item.{Item}
 use Rattle.regent_tree.specs.PlainProgram.{item_of, item_tree_of}
-use Rattle.regent_tree.specs.StaticTypes.{no_task, started, task_named}
+use Rattle.regent_tree.specs.StaticTypes.{no_task, entry_name, task_named}
 use Rattle.regent_tree.specs.Syntax.{Name, ItemForm, import_item, alias_item, space_item, task_item, start_item, ItemTree, TaskTree, Tree}
-use Rattle.straight_run.specs.RunningForm.{are_running_items, count_items, is_main, is_running_item, is_start, is_task}
+use Rattle.straight_run.specs.RunningForm.{are_running_items, count_items, is_main, is_running_item, is_start_item, is_task}
 use Rattle.straight_run.proofs.ChainLaws.{both_left, both_right}
 
 -- one more item
@@ -26,19 +26,19 @@ one_more test items i x h is =
 abbrev main : Name
 main = 109 ∷ 97 ∷ 105 ∷ 110 ∷ []
 
-start_on : (l : ℕ) (f : ItemForm) (items : Tree) → is_running_item f ≡ true → started items ≡ main → started (record { line = l; form = f } ∷ items) ≡ main
-start_on l import_item items h rest = rest
-start_on l (alias_item n) items h rest = absurd cc
-start_on l (space_item s) items h rest = absurd cc
-start_on l (task_item t) items h rest = rest
-start_on l (start_item n) items h rest = (bytes_eq-Decides n main).0 h
+start_item_on : (l : ℕ) (f : ItemForm) (items : Tree) → is_running_item f ≡ true → entry_name items ≡ main → entry_name (record { line = l; form = f } ∷ items) ≡ main
+start_item_on l import_item items h rest = rest
+start_item_on l (alias_item n) items h rest = absurd cc
+start_item_on l (space_item s) items h rest = absurd cc
+start_item_on l (task_item t) items h rest = rest
+start_item_on l (start_item n) items h rest = (bytes_eq-Decides n main).0 h
 
 -- the task `main` is started
-pub starts_main : (tree : Tree) → list_all (λ (i : ItemTree). is_running_item i.form) tree ≡ true → started tree ≡ main
-starts_main [] h = refl
-starts_main (i ∷ items) h =
-    start_on i.line i.form items (both_left (is_running_item i.form) (list_all (λ (j : ItemTree). is_running_item j.form) items) h)
-    (starts_main items (both_right (is_running_item i.form) (list_all (λ (j : ItemTree). is_running_item j.form) items) h))
+pub start_items_main : (tree : Tree) → list_all (λ (i : ItemTree). is_running_item i.form) tree ≡ true → entry_name tree ≡ main
+start_items_main [] h = refl
+start_items_main (i ∷ items) h =
+    start_item_on i.line i.form items (both_left (is_running_item i.form) (list_all (λ (j : ItemTree). is_running_item j.form) items) h)
+    (start_items_main items (both_right (is_running_item i.form) (list_all (λ (j : ItemTree). is_running_item j.form) items) h))
 
 named_on : (l : ℕ) (f : ItemForm) (items : Tree) → is_running_item f ≡ true → (0 < count_items is_task items → is_main (task_named items main).name ≡ true) →
     0 < count_items is_task (record { line = l; form = f } ∷ items) → is_main (task_named (record { line = l; form = f } ∷ items) main).name ≡ true
@@ -56,12 +56,12 @@ has_main (i ∷ items) h some =
     named_on i.line i.form items (both_left (is_running_item i.form) (list_all (λ (j : ItemTree). is_running_item j.form) items) h)
     (has_main items (both_right (is_running_item i.form) (list_all (λ (j : ItemTree). is_running_item j.form) items) h)) some
 
--- so the started task is there
-pub main_is_there : (tree : Tree) → true ≡ are_running_items tree → task_named tree (started tree) ≡ no_task → ⊥
+-- so the entry task is there
+pub main_is_there : (tree : Tree) → true ≡ are_running_items tree → task_named tree (entry_name tree) ≡ no_task → ⊥
 main_is_there tree items none =
     let all = list_all (λ (i : ItemTree). is_running_item i.form) tree in
-    let counts = (count_items is_task tree == 1) && nat_le (count_items is_start tree) 1 in
+    let counts = (count_items is_task tree == 1) && nat_le (count_items is_start_item tree) 1 in
     let running : all ≡ true = both_left all counts (sym items) in
-    let one : count_items is_task tree ≡ 1 = (unsigned_Decides (count_items is_task tree) 1).0 (both_left (count_items is_task tree == 1) (nat_le (count_items is_start tree) 1) (both_right all counts (sym items))) in
-    let e : false ≡ true = ap (λ (t : TaskTree). is_main t.name) (sym (ap (task_named tree) (sym (starts_main tree running)) ∙ none)) ∙ has_main tree running (rw one (omega arith)) in
+    let one : count_items is_task tree ≡ 1 = (unsigned_Decides (count_items is_task tree) 1).0 (both_left (count_items is_task tree == 1) (nat_le (count_items is_start_item tree) 1) (both_right all counts (sym items))) in
+    let e : false ≡ true = ap (λ (t : TaskTree). is_main t.name) (sym (ap (task_named tree) (sym (start_items_main tree running)) ∙ none)) ∙ has_main tree running (rw one (omega arith)) in
     absurd cc

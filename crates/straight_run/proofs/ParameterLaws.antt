@@ -1,4 +1,4 @@
--- The parameters of the started task, and the numbers that it is given.
+-- The parameters of the entry task, and the numbers that it is given.
 use Rattle.std.proofs.Common.{◌≡◌, ◌≢◌, ℕ, ℤ, suc, ◌+◌, ◌<◌, List, [], ◌∷◌, ◌++◌, length, get_or, drop, refl, ap, ◌∙◌, sym, Bool, true, false, Option, append_assoc}
 use Rattle.std.specs.Prelude.{◌&&◌, not}
 use Rattle.std.proofs.lemmas.List.{drop-drop, drop_more}

@@ -82,15 +82,15 @@ module _ (tree : Tree) (all : List Param) where
       ∙ ap (λ t. t ∷ map (λ (b : Bound). b.static_type) (reverse (bound_params tree all (suc i) ps))) (type_at bs i p ps h)
       ∙ ap (λ ts. integer_of p ∷ ts) (types_are (bound_by p ∷ bs) (suc i) ps (others_in_order bs p ps h))
 
-  known_behind : (xs : List Bound) (b : Bound) → known_of_type b.static_type ≡ [] → known_of_params (xs ++ b ∷ []) ≡ known_of_params xs
-  known_behind [] b h = h
-  known_behind (x ∷ xs) b h = ap (λ ks. ks ++ known_of_type x.static_type) (known_behind xs b h)
+  known_after : (xs : List Bound) (b : Bound) → known_of_type b.static_type ≡ [] → known_of_params (xs ++ b ∷ []) ≡ known_of_params xs
+  known_after [] b h = h
+  known_after (x ∷ xs) b h = ap (λ ks. ks ++ known_of_type x.static_type) (known_after xs b h)
 
   -- they tell nothing of regions
   nothing_known : (bs : List Binding) (i : ℕ) (ps : List Param) → are_parameters bs ps ≡ true → known_of_params (bound_params tree all i ps) ≡ []
   nothing_known bs i [] h = refl
   nothing_known bs i (p ∷ ps) h =
-      known_behind (bound_params tree all (suc i) ps) (bound_at i p) (ap known_of_type (type_at bs i p ps h))
+      known_after (bound_params tree all (suc i) ps) (bound_at i p) (ap known_of_type (type_at bs i p ps h))
       ∙ nothing_known (bound_by p ∷ bs) (suc i) ps (others_in_order bs p ps h)
 
   -- the scope with the parameters as variables

@@ -12,7 +12,7 @@ use Rattle.regent_tree.specs.declared.statement.How.TheVariants.{Set, Reduce}
 use Rattle.regent_tree.specs.declared.types.NumberTerm.TheVariants.{Int32, Int64, Index}
 use Rattle.regent_tree.specs.declared.types.TypeTerm.TheVariants as term
 use Rattle.regent_tree.specs.declared.types.TypeTerm.{TypeTerm}
-use Rattle.regent_tree.specs.Syntax.{Form, Block, no_statement, then_statement, a_statement, Name, Expression, Expressions, no_expr, an_expr, Start, plain_start, var_form, assign_form, print_form, no_step, Tree}
+use Rattle.regent_tree.specs.Syntax.{Form, Block, no_statement, then_statement, a_statement, Name, Expression, Expressions, no_expr, an_expr, Initializer, plain_initializer, var_form, assign_form, print_form, no_step, Tree}
 use Rattle.regent_tree.specs.Plain.{expression_of, expressions_in}
 use Rattle.regent_tree.specs.PlainProgram.{form_of, block_in}
 use Rattle.regent_tree.specs.Execution.{on_line}
@@ -30,7 +30,7 @@ use Rattle.straight_run.specs.Inputs.{width_said}
 use Rattle.straight_run.specs.RunningForm.{Binding, is_sum, is_plain_sum, is_integer, is_set, is_in_order, are_in_order, bound_after}
 use Rattle.straight_run.specs.Formats.{numbers_of}
 use Rattle.straight_run.specs.Values.{value_of}
-use Rattle.straight_run.specs.Variables.{newest, binding_of, bound_before, bindings_of, scope_with, no_scope, knowing, having, Means, StartMeans, Begins, AllMean, Steps, Executes}
+use Rattle.straight_run.specs.Variables.{newest, binding_of, bound_before, bindings_of, scope_with, no_scope, knowing, having, Means, InitializerMeans, Begins, AllMean, Steps, Executes}
 use Rattle.straight_run.proofs.ChainLaws.{and_true, and_false}
 use Rattle.straight_run.proofs.VariableLaws.{bound_newest, get_or-any, no_variable}
 
@@ -65,22 +65,22 @@ pub bound_before-snoc : (bs : List Binding) (vs : List Variable) (v : Variable) 
 bound_before-snoc bs [] v = refl
 bound_before-snoc bs (u ∷ us) v = bound_before-snoc (binding_of u ∷ bs) us v
 
--- a start value that is an expression
-pub start_means : {vs : List Variable} (e : Expression) (n : Number) → Means vs e n → StartMeans vs (plain_start e) n
-start_means {vs} e n means = record {
+-- an initializer that is an expression
+pub initializer_means : {vs : List Variable} (e : Expression) (n : Number) → Means vs e n → InitializerMeans vs (plain_initializer e) n
+initializer_means {vs} e n means = record {
   type = λ h own. rw (means.type h) refl;
   known = λ h own. rw (means.type h) refl;
   number = λ h s wanted. means.number h s;
   taken = λ h s t w. rw (means.number h s) refl;
 }
 
-pub starts : (vs : List Variable) (start : Start) (e : Expression) (r : Option Number) → start ≡ plain_start e →
-    IfSome r (λ n. Means vs e n) → IfSome r (λ n. StartMeans vs start n)
-starts vs start e None is means = tt
-starts vs start e (Some n) is means = subst (λ (t : Start). StartMeans vs t n) (sym is) (start_means e n means)
+pub starts : (vs : List Variable) (initializer : Initializer) (e : Expression) (r : Option Number) → initializer ≡ plain_initializer e →
+    IfSome r (λ n. Means vs e n) → IfSome r (λ n. InitializerMeans vs initializer n)
+starts vs initializer e None is means = tt
+starts vs initializer e (Some n) is means = subst (λ (t : Initializer). InitializerMeans vs t n) (sym is) (initializer_means e n means)
 
-pub sum_starts : (bs : List Binding) (start : Start) (e : Expression) → start ≡ plain_start e → is_sum bs e ≡ is_plain_sum bs start
-sum_starts bs start e is = ap (is_plain_sum bs) (sym is)
+pub sum_initializers : (bs : List Binding) (initializer : Initializer) (e : Expression) → initializer ≡ plain_initializer e → is_sum bs e ≡ is_plain_sum bs initializer
+sum_initializers bs initializer e is = ap (is_plain_sum bs) (sym is)
 
 -- ---- the first number of a variable
 
@@ -95,18 +95,18 @@ integer_said tree look own (term.Ispace k) is = absurd cc
 integer_said tree look own (term.Region k s) is = absurd cc
 integer_said tree look own (term.Partition d r c) is = absurd cc
 
--- with a start value alone
-pub begins_plain : (vs : List Variable) (start : Start) (n : Number) → StartMeans vs start n → Begins vs None (Some start) n
-begins_plain vs start n means = record {
+-- with an initializer alone
+pub begins_plain : (vs : List Variable) (initializer : Initializer) (n : Number) → InitializerMeans vs initializer n → Begins vs None (Some initializer) n
+begins_plain vs initializer n means = record {
   type = λ h. means.type h (knowing h vs).scope.next;
   known = λ h own. means.known h own;
   number = λ h s. means.number h s (integer_type n.width);
 }
 
-pub begins_start : (vs : List Variable) (start : Start) (r : Option Number) → IfSome r (λ n. StartMeans vs start n) →
-    IfSome r (λ n. Begins vs None (Some start) n)
-begins_start vs start None means = tt
-begins_start vs start (Some n) means = begins_plain vs start n means
+pub begins_initializer : (vs : List Variable) (initializer : Initializer) (r : Option Number) → IfSome r (λ n. InitializerMeans vs initializer n) →
+    IfSome r (λ n. Begins vs None (Some initializer) n)
+begins_initializer vs initializer None means = tt
+begins_initializer vs initializer (Some n) means = begins_plain vs initializer n means
 
 number_eta : (n : Number) (w : Width) (z : ℤ) → value_of n ≡ a_number w z → w ≡ n.width
 number_eta n w z h = sym (ap width_of h)
@@ -127,9 +127,9 @@ begins_zero vs t w n integer said is =
     zero_number W64 = ap (a_number W64) (sym (int_wrap_fits w64 (pos 0) (search rules)))
 
 -- with both
-pub begins_wrapped : (vs : List Variable) (t : TypeTerm) (start : Start) (w : Width) (m n : Number) → is_integer t ≡ true → w ≡ width_said t →
-    StartMeans vs start m → value_of n ≡ a_number w (wrapped w m.value) → Begins vs (Some t) (Some start) n
-begins_wrapped vs t start w m n integer said means is =
+pub begins_wrapped : (vs : List Variable) (t : TypeTerm) (initializer : Initializer) (w : Width) (m n : Number) → is_integer t ≡ true → w ≡ width_said t →
+    InitializerMeans vs initializer m → value_of n ≡ a_number w (wrapped w m.value) → Begins vs (Some t) (Some initializer) n
+begins_wrapped vs t initializer w m n integer said means is =
     let width : w ≡ n.width = number_eta n w (wrapped w m.value) is in
     record {
       type = λ h. integer_said h.tree (in_scope (knowing h vs).scope) (knowing h vs).scope.next t integer ∙ ap integer_type (sym said ∙ width);
@@ -139,10 +139,10 @@ begins_wrapped vs t start w m n integer said means is =
 
 -- ---- one more variable
 
-pub declares : (old new : Machine) (n : Name) (t : Option TypeTerm) (start : Option Start) (v : Variable) → Begins old.variables.items t start v.number →
+pub declares : (old new : Machine) (n : Name) (t : Option TypeTerm) (initializer : Option Initializer) (v : Variable) → Begins old.variables.items t initializer v.number →
     v.name ≡ n → v.assignable ≡ true → new.variables.items ≡ old.variables.items ++ v ∷ [] → new.text.items ≡ old.text.items →
-    Steps old (var_form n t start) new
-declares old new n t start v begins named assignable more text = record {
+    Steps old (var_form n t initializer) new
+declares old new n t initializer v begins named assignable more text = record {
   scope = λ h. rw (begins.type h, begins.known h, more, scope_with-snoc no_scope old.variables.items v, scope_with-known no_scope old.variables.items, named) refl;
   run = λ h s. rw (begins.type h, begins.number h (record s { text = old.text.items }), more, map-append (λ (u : Variable). value_of u.number) old.variables.items (v ∷ []), text) refl;
   names = rw (more, bound_before-snoc [] old.variables.items v, named, assignable) refl;

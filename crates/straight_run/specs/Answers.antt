@@ -25,7 +25,7 @@ Answers tree inputs OtherInputs =
     (is_running tree ≡ true) × (are_inputs (main_task tree).params inputs ≡ false)
 Answers tree inputs (Printed text) = Prints tree inputs text.items
 
--- the same of the task that is started
+-- the same of the entry task
 abbrev pub TaskAnswers : TaskTree → List (Option ℤ) → Answer → Type 0
 TaskAnswers t inputs NotRunning = is_running_task t ≡ false
 TaskAnswers t inputs OtherInputs =

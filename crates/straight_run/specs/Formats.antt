@@ -33,7 +33,7 @@ printed_at false cs zs = printed cs zs
 
 -- what is printed by a byte and what follows it
 abbrev pub printed_by : Piece → List ℕ → List ℤ → List ℕ
-printed_by (piece.Silent behind) cs zs = printed_at behind cs zs
+printed_by (piece.Silent after) cs zs = printed_at after cs zs
 printed_by (piece.Byte c) cs zs = c ∷ printed cs zs
 printed_by piece.Number cs zs = first_number zs ++ printed cs (other_numbers zs)
 

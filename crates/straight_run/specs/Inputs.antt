@@ -1,4 +1,4 @@
--- The numbers that are given to the started task.
+-- The numbers that are given to the entry task.
 use Rattle.std.specs.Prelude.{◌&&◌, ℤ, List, [], ◌∷◌, Option, Some, None, Bool, true, false, int_le}
 use Rattle.lane_kernels.specs.Numbers.{greatest_number, least_number}
 use Rattle.lane_kernels.specs.declared.numbers.Width.{Width}

@@ -1,4 +1,4 @@
--- The parameters of the started task as the first variables.
+-- The parameters of the entry task as the first variables.
 use Rattle.std.specs.Prelude.{ℤ, pos, List, [], ◌∷◌, Option, Some, None, false, cond, drop}
 use Rattle.lane_kernels.specs.declared.numbers.Width.{Width}
 use Rattle.regent_tree.specs.declared.types.Param.{Param}

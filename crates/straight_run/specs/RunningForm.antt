@@ -14,8 +14,8 @@ use Rattle.regent_tree.specs.declared.types.NumberTerm.TheVariants.{Int32, Int64
 use Rattle.regent_tree.specs.declared.types.Param.{Param}
 use Rattle.regent_tree.specs.declared.types.TypeTerm.{TypeTerm}
 use Rattle.regent_tree.specs.declared.types.TypeTerm.TheVariants.{Number}
-use Rattle.regent_tree.specs.Syntax.{Start, TaskTree, Name, Expression, number_expr, prefix_expr, chain_expr, access_expr, Links, no_link, a_link, Expressions, no_expr, an_expr, Steps, no_step, field_step, at_step, plain_start, Form, var_form, print_form, assign_form, Block, no_statement, then_statement, a_statement, ItemForm, import_item, task_item, start_item, ItemTree, Tree}
-use Rattle.regent_tree.specs.StaticTypes.{started, task_named}
+use Rattle.regent_tree.specs.Syntax.{Initializer, TaskTree, Name, Expression, number_expr, prefix_expr, chain_expr, access_expr, Links, no_link, a_link, Expressions, no_expr, an_expr, Steps, no_step, field_step, at_step, plain_initializer, Form, var_form, print_form, assign_form, Block, no_statement, then_statement, a_statement, ItemForm, import_item, task_item, start_item, ItemTree, Tree}
+use Rattle.regent_tree.specs.StaticTypes.{entry_name, task_named}
 
 -- ---- names
 
@@ -121,17 +121,17 @@ is_integer (Number Int32) = true
 is_integer (Number Int64) = true
 is_integer _ = false
 
--- the start value is a sum over these names
-abbrev pub is_plain_sum : List Binding → Start → Bool
-is_plain_sum bs (plain_start e) = is_sum bs e
+-- the initializer is a sum over these names
+abbrev pub is_plain_sum : List Binding → Initializer → Bool
+is_plain_sum bs (plain_initializer e) = is_sum bs e
 is_plain_sum bs _ = false
 
--- a variable has an integer type or a start value, or both
-abbrev pub begins : List Binding → Option TypeTerm → Option Start → Bool
+-- a variable has an integer type or an initializer, or both
+abbrev pub begins : List Binding → Option TypeTerm → Option Initializer → Bool
 begins bs None None = false
-begins bs None (Some start) = is_plain_sum bs start
+begins bs None (Some initializer) = is_plain_sum bs initializer
 begins bs (Some t) None = is_integer t
-begins bs (Some t) (Some start) = is_integer t && is_plain_sum bs start
+begins bs (Some t) (Some initializer) = is_integer t && is_plain_sum bs initializer
 
 abbrev pub is_set : How → Bool
 is_set Set = true
@@ -139,7 +139,7 @@ is_set (Reduce o) = false
 
 -- the statement is in order where these names are bound
 abbrev pub is_in_order : List Binding → Form → Bool
-is_in_order bs (var_form n term start) = begins bs term start
+is_in_order bs (var_form n term initializer) = begins bs term initializer
 is_in_order bs (assign_form n steps how e) =
     is_set how && (is_bare steps && (is_variable bs n && is_sum bs e))
 is_in_order bs (print_form alias format args) =
@@ -148,7 +148,7 @@ is_in_order bs _ = false
 
 -- the names that are bound after it, the newest first
 abbrev pub bound_after : List Binding → Form → List Binding
-bound_after bs (var_form n term start) = record { name = n; variable = true } ∷ bs
+bound_after bs (var_form n term initializer) = record { name = n; variable = true } ∷ bs
 bound_after bs _ = bs
 
 -- the statements are in order, one after the other
@@ -200,9 +200,9 @@ abbrev pub is_task : ItemForm → Bool
 is_task (task_item t) = true
 is_task _ = false
 
-abbrev pub is_start : ItemForm → Bool
-is_start (start_item n) = true
-is_start _ = false
+abbrev pub is_start_item : ItemForm → Bool
+is_start_item (start_item n) = true
+is_start_item _ = false
 
 -- how many items are such
 abbrev pub count_items : (ItemForm → Bool) → Tree → ℕ
@@ -211,11 +211,11 @@ count_items test tree = length (filter (λ (i : ItemTree). test i.form) tree)
 -- the items are those of the running form
 abbrev pub are_running_items : Tree → Bool
 are_running_items tree = list_all (λ (i : ItemTree). is_running_item i.form) tree
-    && ((count_items is_task tree == 1) && nat_le (count_items is_start tree) 1)
+    && ((count_items is_task tree == 1) && nat_le (count_items is_start_item tree) 1)
 
--- the task that is started
+-- the entry task
 abbrev pub main_task : Tree → TaskTree
-main_task tree = task_named tree (started tree)
+main_task tree = task_named tree (entry_name tree)
 
 -- the tree is of the running form
 abbrev pub is_running : Tree → Bool

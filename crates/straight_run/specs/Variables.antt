@@ -3,15 +3,15 @@ use Rattle.lane_kernels.specs.Numbers.{wrapped}
 use Rattle.lane_kernels.specs.declared.numbers.Width.{Width}
 use Rattle.std.specs.Prelude.{ℕ, ◌≡◌, ◌+◌, List, [], ◌∷◌, map, Option, Some, None, cond, bytes_eq, false}
 use Rattle.regent_tree.specs.declared.types.TypeTerm.{TypeTerm}
-use Rattle.regent_tree.specs.Syntax.{Name, Expression, Links, Expressions, Start, Form, Block}
+use Rattle.regent_tree.specs.Syntax.{Name, Expression, Links, Expressions, Initializer, Form, Block}
 use Rattle.regent_tree.specs.Values.{Value, a_number}
 use Rattle.regent_tree.specs.declared.typing.StaticType.{StaticType}
 use Rattle.regent_tree.specs.declared.typing.StaticType.TheVariants.{Integer as integer_type}
 use Rattle.regent_tree.specs.Scopes.{Scope, with_name}
-use Rattle.regent_tree.specs.Typing.{known_of_start, linked_type, start_type, var_type}
+use Rattle.regent_tree.specs.Typing.{known_of_initializer, linked_type, initializer_type, var_type}
 use Rattle.regent_tree.specs.Running.{Here, State, gives}
 use Rattle.regent_tree.specs.Evaluation.{value, values, linked, typed}
-use Rattle.regent_tree.specs.Starting.{start_value}
+use Rattle.regent_tree.specs.Initializers.{initial_value}
 use Rattle.regent_tree.specs.Execution.{exec, exec_block, after_statement, goes_on}
 use Rattle.straight_run.specs.declared.numbers.Number.{Number}
 use Rattle.straight_run.specs.declared.machine.Variable.{Variable}
@@ -73,27 +73,27 @@ pub record AllMean (vs : List Variable) (es : Expressions) (ns : List Number) : 
   pub numbers : (h : Here) (s : State) →
       values (knowing h vs) [] es (having s vs) ≡ gives (map value_of ns) (having s vs)
 
--- the start value has this number, and its width as its type
-pub record StartMeans (vs : List Variable) (start : Start) (n : Number) : Type 0 where
+-- the initializer has this number, and its width as its type
+pub record InitializerMeans (vs : List Variable) (initializer : Initializer) (n : Number) : Type 0 where
   pub type : (h : Here) (own : ℕ) →
-      start_type h.tree (knowing h vs).scope own start ≡ integer_type n.width
+      initializer_type h.tree (knowing h vs).scope own initializer ≡ integer_type n.width
   pub known : (h : Here) (own : ℕ) →
-      known_of_start h.tree (knowing h vs).scope own (Some start) ≡ []
+      known_of_initializer h.tree (knowing h vs).scope own (Some initializer) ≡ []
   pub number : (h : Here) (s : State) (wanted : StaticType) →
-      start_value (knowing h vs) None wanted (Some start) (having s vs)
+      initial_value (knowing h vs) None wanted (Some initializer) (having s vs)
       ≡ gives (value_of n) (having s vs)
   pub taken : (h : Here) (s : State) (t : TypeTerm) (w : Width) →
-      start_value (knowing h vs) (Some t) (integer_type w) (Some start) (having s vs)
+      initial_value (knowing h vs) (Some t) (integer_type w) (Some initializer) (having s vs)
       ≡ gives (a_number w (wrapped w n.value)) (having s vs)
 
 -- a variable that is declared so begins with this number, of this width
-pub record Begins (vs : List Variable) (term : Option TypeTerm) (start : Option Start) (n : Number) : Type 0 where
+pub record Begins (vs : List Variable) (term : Option TypeTerm) (initializer : Option Initializer) (n : Number) : Type 0 where
   pub type : (h : Here) →
-      var_type h.tree (knowing h vs).scope term start ≡ integer_type n.width
+      var_type h.tree (knowing h vs).scope term initializer ≡ integer_type n.width
   pub known : (h : Here) (own : ℕ) →
-      known_of_start h.tree (knowing h vs).scope own start ≡ []
+      known_of_initializer h.tree (knowing h vs).scope own initializer ≡ []
   pub number : (h : Here) (s : State) →
-      start_value (knowing h vs) term (integer_type n.width) start (having s vs)
+      initial_value (knowing h vs) term (integer_type n.width) initializer (having s vs)
       ≡ gives (value_of n) (having s vs)
 
 -- the machine as a state of the meaning: its variables and what it has printed

@@ -4,14 +4,14 @@ ghost use Rattle.std.specs.Prelude.{◌≡◌, ◌<◌, ◌&&◌, List, Some, No
 ghost use Rattle.std.specs.Option.{option_map};
 ghost use Rattle.lane_kernels.specs.Numbers.{wrapped};
 ghost use Rattle.regent_tree.specs.declared.statement.How.TheVariants.{Set};
-ghost use Rattle.regent_tree.specs.Plain.{expression_of, expressions_in, start_of, steps_in};
+ghost use Rattle.regent_tree.specs.Plain.{expression_of, expressions_in, initializer_of, steps_in};
 ghost use Rattle.regent_tree.specs.PlainProgram.{block_in, form_of};
-ghost use Rattle.regent_tree.specs.Syntax.{Name, assign_form, no_step, plain_start, print_form, var_form};
+ghost use Rattle.regent_tree.specs.Syntax.{Name, assign_form, no_step, plain_initializer, print_form, var_form};
 ghost use Rattle.regent_tree.specs.Values.{a_number};
 ghost use Rattle.straight_run.specs.Inputs.{width_said};
 ghost use Rattle.straight_run.specs.RunningForm.{Binding, are_in_order, are_sums, begins, count_of, is_bare, is_in_order, is_integer, is_plain_sum, is_set, is_sum, is_variable, prints};
 ghost use Rattle.straight_run.specs.Values.{value_of};
-ghost use Rattle.straight_run.specs.Variables.{AllMean, Begins, Executes, StartMeans, Steps, bindings_of, newest};
+ghost use Rattle.straight_run.specs.Variables.{AllMean, Begins, Executes, InitializerMeans, Steps, bindings_of, newest};
 
 use crate::evaluate::{evaluate, is_bare};
 use crate::format::{print, prints};
@@ -47,8 +47,8 @@ fn arguments(
 /// The expression with which a variable begins.
 fn plain_expression(init: &Init) -> Option<&Expr>
     ensures { MatchOption result
-        ((bs : List Binding) → is_plain_sum bs (start_of init.now) ≡ false)
-        (λ e. start_of init.now ≡ plain_start (expression_of e.now)) }
+        ((bs : List Binding) → is_plain_sum bs (initializer_of init.now) ≡ false)
+        (λ e. initializer_of init.now ≡ plain_initializer (expression_of e.now)) }
 {
     match init {
         Init::Plain(e) => Some(e),
@@ -56,10 +56,10 @@ fn plain_expression(init: &Init) -> Option<&Expr>
     }
 }
 
-/// The number of a start value.
-fn started(init: &Init, variables: &[Variable]) -> Option<Number>
-    ensures means { IfSome result (λ n. StartMeans variables.now (start_of init.now) n) }
-    ensures sum { is_some result ≡ is_plain_sum (bindings_of variables.now) (start_of init.now) }
+/// The number of an initializer.
+fn entry_name(init: &Init, variables: &[Variable]) -> Option<Number>
+    ensures means { IfSome result (λ n. InitializerMeans variables.now (initializer_of init.now) n) }
+    ensures sum { is_some result ≡ is_plain_sum (bindings_of variables.now) (initializer_of init.now) }
 {
     evaluate(plain_expression(init)?, variables)
 }
@@ -74,23 +74,23 @@ fn is_set(how: How) -> bool
     }
 }
 
-/// The first number of a variable: its start value, which wraps where a type is written, or 0.
+/// The first number of a variable: its initializer, which wraps where a type is written, or 0.
 fn first_number(
     term: &Option<TypeTerm>,
     init: &Option<Init>,
     variables: &[Variable],
 ) -> Option<Number>
-    ensures means { IfSome result (λ n. Begins variables.now term.now (option_map start_of init.now) n) }
+    ensures means { IfSome result (λ n. Begins variables.now term.now (option_map initializer_of init.now) n) }
     ensures order { is_some result
-        ≡ begins (bindings_of variables.now) term.now (option_map start_of init.now) }
+        ≡ begins (bindings_of variables.now) term.now (option_map initializer_of init.now) }
 {
     match (term, init) {
         (None, None) => None,
-        (None, Some(init)) => started(init, variables),
+        (None, Some(init)) => entry_name(init, variables),
         (Some(term), None) => Some(wrapped_at(integer_width(term)?, 0)),
         (Some(term), Some(init)) => {
             let width = integer_width(term)?;
-            Some(wrapped_at(width, started(init, variables)?.value))
+            Some(wrapped_at(width, entry_name(init, variables)?.value))
         }
     }
 }
@@ -104,9 +104,9 @@ fn declare(
     machine: &mut Machine,
 ) -> Result<bool, AllocError>
     ensures order { IfOk result (λ ok. ok
-        ≡ begins (bindings_of machine.old.variables.items) term.now (option_map start_of init.now)) }
+        ≡ begins (bindings_of machine.old.variables.items) term.now (option_map initializer_of init.now)) }
     ensures steps { IfOk result (λ ok. IsTrue ok →
-        Steps machine.old (var_form name.now term.now (option_map start_of init.now)) machine.new) }
+        Steps machine.old (var_form name.now term.now (option_map initializer_of init.now)) machine.new) }
 {
     match first_number(term, init, &machine.variables) {
         None => Ok(false),

@@ -109,11 +109,11 @@ pub fn prints(format: &[u8], count: usize) -> bool
     }
 }
 
-fn piece_of(behind: bool, byte: u8) -> Piece
+fn piece_of(after: bool, byte: u8) -> Piece
     ensures { (rest : List ℕ) (zs : List ℤ) →
-        printed_at behind (byte ∷ rest) zs ≡ printed_by result rest zs }
+        printed_at after (byte ∷ rest) zs ≡ printed_by result rest zs }
 {
-    if behind {
+    if after {
         if byte == b'%' {
             Piece::Byte(b'%')
         } else if byte == b'l' {
@@ -166,19 +166,19 @@ pub fn print(
     ensures { OnOk result
         (text.new.items ≡ text.old.items ++ printed format.now (numbers_of numbers.now)) }
 {
-    let mut behind = false;
+    let mut after = false;
     let mut place: usize = 0;
     for byte in format {
-        match piece_of(behind, *byte) {
-            Piece::Silent(next) => behind = next,
+        match piece_of(after, *byte) {
+            Piece::Silent(next) => after = next,
             Piece::Byte(shown) => {
                 text.push(shown)?;
-                behind = false;
+                after = false;
             }
             Piece::Number => {
                 print_number(alloc, numbers, place, text)?;
                 place += 1;
-                behind = false;
+                after = false;
             }
         }
     }

@@ -10,21 +10,21 @@ ghost use Rattle.straight_run.specs.Parameters.{with_inputs};
 ghost use Rattle.straight_run.specs.RunningForm.{are_in_order, is_running_task};
 ghost use Rattle.straight_run.specs.Variables.{Prints, bindings_of};
 
+mod entry_name;
 mod evaluate;
 mod execute;
 mod format;
 mod machine;
 mod numbers;
 mod parameters;
-mod started;
 #[cfg(test)]
 mod tests;
 
+use entry_name::{are_running_items, entry_name, task_named};
 use execute::execute_all;
 use machine::{Machine, Variable};
 use parameters::{are_inputs, parameters};
 use regent_tree::{Program, Stmt, Task};
-use started::{are_running_items, started, task_named};
 use std::alloc::{AllocError, Global};
 
 /// What a program and the numbers that it is given come to.
@@ -106,7 +106,7 @@ pub fn run(alloc: Global, program: &Program, inputs: &[Option<i64>]) -> Result<A
     if !are_running_items(&program.items) {
         return Ok(Answer::NotRunning);
     }
-    match task_named(&program.items, started(&program.items)) {
+    match task_named(&program.items, entry_name(&program.items)) {
         None => Ok(Answer::NotRunning),
         Some(task) => answer_of(alloc, task, inputs),
     }

@@ -1,4 +1,4 @@
-//! The parameters of the started task, and the numbers that it is given.
+//! The parameters of the entry task, and the numbers that it is given.
 
 ghost use Rattle.std.specs.Prelude.{◌≡◌, ◌&&◌, [], IfOk, IfSome, drop, is_some, not};
 ghost use Rattle.straight_run.specs.Inputs.{are_inputs, is_input, width_said};

@@ -35,11 +35,11 @@ fn pair(
     Ok(Expr::chain(Box::new(alloc, first)?, rest))
 }
 
-fn var_x(alloc: Global, start: Expr) -> Result<What, AllocError> {
+fn var_x(alloc: Global, initializer: Expr) -> Result<What, AllocError> {
     Ok(What::Var {
         name: Name::from_slice(alloc, b"x".as_slice())?,
         term: Some(TypeTerm::Number(NumberTerm::Int64)),
-        init: Some(Init::Plain(start)),
+        init: Some(Init::Plain(initializer)),
     })
 }
 

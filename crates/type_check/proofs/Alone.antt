@@ -1,7 +1,7 @@
 -- What stands behind a name, and behind the first member of a chain.
 use Rattle.std.proofs.Common.{◌≡◌, false, List, [], ◌∷◌, None, Some, get_or, length, refl, ap, sym}
 use Rattle.regent_tree.specs.Plain.{expression_of, links_in, steps_in}
-use Rattle.regent_tree.specs.Syntax.{Name, Steps, a_link, access_expr, at_step, field_step, no_link, no_step, plain_start}
+use Rattle.regent_tree.specs.Syntax.{Name, Steps, a_link, access_expr, at_step, field_step, no_link, no_step, plain_initializer}
 use Rattle.regent_tree.specs.declared.expression.Arithmetic.TheVariants.{Add, Divide, Multiply, Remainder, Subtract}
 use Rattle.regent_tree.specs.declared.expression.Link.{Link}
 use Rattle.regent_tree.specs.declared.expression.Operator.{Operator}
@@ -22,7 +22,7 @@ alone_with n (Field f ∷ rest) h = refl
 alone_with n (At e ∷ rest) h = refl
 
 pub one_place : (n : Name) (steps : Steps) →
-    is_one_place steps ≡ begins_region (plain_start (access_expr n steps))
+    is_one_place steps ≡ begins_region (plain_initializer (access_expr n steps))
 one_place n no_step = refl
 one_place n (field_step f rest) = refl
 one_place n (at_step e no_step) = refl
@@ -46,18 +46,18 @@ one_step (y ∷ z ∷ rest) x h e = absurd cc
 pub other_links : (links : List Link) → (length links ≡ 1 → ⊥) → name_taken_off (links_in links) ≡ None
 other_links [] h = refl
 other_links (l ∷ []) h = absurd (h refl)
-other_links (l ∷ m ∷ rest) h = behind l.operator
+other_links (l ∷ m ∷ rest) h = after l.operator
   where
-    behind : (o : Operator) → name_taken_off (a_link o (expression_of l.operand)
+    after : (o : Operator) → name_taken_off (a_link o (expression_of l.operand)
         (a_link m.operator (expression_of m.operand) (links_in rest))) ≡ None
-    behind Or = refl
-    behind And = refl
-    behind (Compare c) = refl
-    behind (Compute Add) = refl
-    behind (Compute Subtract) = refl
-    behind (Compute Multiply) = refl
-    behind (Compute Divide) = refl
-    behind (Compute Remainder) = refl
+    after Or = refl
+    after And = refl
+    after (Compare c) = refl
+    after (Compute Add) = refl
+    after (Compute Subtract) = refl
+    after (Compute Multiply) = refl
+    after (Compute Divide) = refl
+    after (Compute Remainder) = refl
 
 pub one_link : (links : List Link) (l : Link) → length links ≡ 1 → l ≡ get_or links 0 l →
     name_taken_off (links_in links) ≡ name_taken_off (a_link l.operator (expression_of l.operand) no_link)

@@ -14,10 +14,10 @@ use Rattle.regent_tree.specs.declared.statement.How.TheVariants as how
 use Rattle.regent_tree.specs.declared.typing.StaticType.{StaticType}
 use Rattle.check_rules.specs.FirstInExpressions.{first_in_expression, first_in_steps, first_in_target, first_in_target_steps, first_of_standing, first_of_step}
 use Rattle.check_rules.specs.FirstInStatements.{first_of_form}
-use Rattle.check_rules.specs.KnownTypes.{known_type, shape_of, takings, type_behind_steps}
+use Rattle.check_rules.specs.KnownTypes.{known_type, typed_form_of, takings, known_type_after_steps}
 use Rattle.check_rules.specs.Privileges.{lacks, reductions_by, wanted_of_last, wanted_of_target, writes_by}
 use Rattle.check_rules.specs.Rules.{rule_if}
-use Rattle.check_rules.specs.Shapes.{Taking, element_of, field_of}
+use Rattle.check_rules.specs.TypedForms.{Taking, element_of, field_of}
 use Rattle.check_rules.specs.Sorts.{is_space, is_unknown_type}
 use Rattle.check_rules.specs.Standing.{stands}
 use Rattle.check_rules.specs.Statements.{spot_of_target}
@@ -29,9 +29,9 @@ use Rattle.static_types.specs.Telling.{IsTold, Tells}
 use Rattle.static_types.proofs.Telling.{told_here}
 use Rattle.static_types.specs.declared.stop.Stop.{Stop}
 use Rattle.static_types.specs.declared.stop.Stop.TheVariants.{Breach, Memory}
-use Rattle.expression_check.specs.Steps.{first_at_step, type_behind}
+use Rattle.check_expressions.specs.Steps.{first_at_step, known_type_after}
 use Rattle.type_check.specs.Differences.{is_place}
-use Rattle.type_check.specs.Targets.{EndsIn, IsTarget, LeadsTo, behind_front, first_at_last, first_of_target, first_of_use, is_no_place, mistargets, type_of_target, wanted_by}
+use Rattle.type_check.specs.Targets.{EndsIn, IsTarget, LeadsTo, after_front, first_at_last, first_of_target, first_of_use, is_no_place, mistargets, type_of_target, wanted_by}
 use Rattle.type_check.specs.declared.assignments.Target.{Target}
 use Rattle.type_check.specs.declared.assignments.Target.TheVariants as target
 
@@ -50,13 +50,13 @@ taking_at tree s t (Field f) = field_of t f
 taking_at tree s t (At e) = element_of t (known_type tree s (expression_of e))
 
 module _ (tree : Tree) (task : TaskTree) (s : Scope) where
-  behind_last : (t : StaticType) (front : List Step) (last : Step) →
-      type_behind_steps tree s t (steps_in (front ++ last ∷ []))
-      ≡ type_behind tree s (type_behind_steps tree s t (steps_in front)) last
-  behind_last t [] (Field f) = refl
-  behind_last t [] (At e) = refl
-  behind_last t (Field f ∷ xs) last = behind_last (type_behind tree s t (Field f)) xs last
-  behind_last t (At e ∷ xs) last = behind_last (type_behind tree s t (At e)) xs last
+  after_last : (t : StaticType) (front : List Step) (last : Step) →
+      known_type_after_steps tree s t (steps_in (front ++ last ∷ []))
+      ≡ known_type_after tree s (known_type_after_steps tree s t (steps_in front)) last
+  after_last t [] (Field f) = refl
+  after_last t [] (At e) = refl
+  after_last t (Field f ∷ xs) last = after_last (known_type_after tree s t (Field f)) xs last
+  after_last t (At e ∷ xs) last = after_last (known_type_after tree s t (At e)) xs last
 
   last_alone : (t : StaticType) (last : Step) →
       first_in_target_steps tree task s t (steps_in (last ∷ [])) ≡ first_at_last tree task s t last
@@ -66,7 +66,7 @@ module _ (tree : Tree) (task : TaskTree) (s : Scope) where
 
   -- a step before others is one of an access
   abbrev told_at : StaticType → Step → Steps → Option Rule
-  told_at t x rest = option_or (first_at_step tree task s t x) (first_in_target_steps tree task s (type_behind tree s t x) rest)
+  told_at t x rest = option_or (first_at_step tree task s t x) (first_in_target_steps tree task s (known_type_after tree s t x) rest)
 
   step_then : (t : StaticType) (x y : Step) (ys : List Step) →
       first_in_target_steps tree task s t (steps_in (x ∷ y ∷ ys)) ≡ told_at t x (steps_in (y ∷ ys))
@@ -74,15 +74,15 @@ module _ (tree : Tree) (task : TaskTree) (s : Scope) where
   step_then t (Field f) (At e) ys = refl
   step_then t (At e) y ys = or_assoc (first_in_expression tree task s (expression_of e))
       (first_of_step tree task s (element_of t (known_type tree s (expression_of e))))
-      (first_in_target_steps tree task s (type_behind tree s t (At e)) (steps_in (y ∷ ys)))
+      (first_in_target_steps tree task s (known_type_after tree s t (At e)) (steps_in (y ∷ ys)))
 
   step_first : (t : StaticType) (x : Step) (xs : List Step) →
       first_in_steps tree task s t (steps_in (x ∷ xs))
-      ≡ option_or (first_at_step tree task s t x) (first_in_steps tree task s (type_behind tree s t x) (steps_in xs))
+      ≡ option_or (first_at_step tree task s t x) (first_in_steps tree task s (known_type_after tree s t x) (steps_in xs))
   step_first t (Field f) xs = refl
   step_first t (At e) xs = or_assoc (first_in_expression tree task s (expression_of e))
       (first_of_step tree task s (element_of t (known_type tree s (expression_of e))))
-      (first_in_steps tree task s (type_behind tree s t (At e)) (steps_in xs))
+      (first_in_steps tree task s (known_type_after tree s t (At e)) (steps_in xs))
 
   before_last : (t : StaticType) (x : Step) (front : List Step) (last : Step) →
       first_in_target_steps tree task s t (steps_in (x ∷ (front ++ last ∷ []))) ≡ told_at t x (steps_in (front ++ last ∷ []))
@@ -90,19 +90,19 @@ module _ (tree : Tree) (task : TaskTree) (s : Scope) where
   before_last t x (y ∷ ys) last = step_then t x y (ys ++ last ∷ [])
 
   same_last : (t : StaticType) (x : Step) (xs : List Step) (last : Step) →
-      first_at_last tree task s (type_behind_steps tree s (type_behind tree s t x) (steps_in xs)) last
-      ≡ first_at_last tree task s (type_behind_steps tree s t (steps_in (x ∷ xs))) last
+      first_at_last tree task s (known_type_after_steps tree s (known_type_after tree s t x) (steps_in xs)) last
+      ≡ first_at_last tree task s (known_type_after_steps tree s t (steps_in (x ∷ xs))) last
   same_last t (Field f) xs last = refl
   same_last t (At e) xs last = refl
 
   pub steps_with_last : (t : StaticType) (front : List Step) (last : Step) →
       first_in_target_steps tree task s t (steps_in (front ++ last ∷ []))
       ≡ option_or (first_in_steps tree task s t (steps_in front))
-      (first_at_last tree task s (type_behind_steps tree s t (steps_in front)) last)
+      (first_at_last tree task s (known_type_after_steps tree s t (steps_in front)) last)
   steps_with_last t [] last = last_alone t last
   steps_with_last t (x ∷ xs) last =
-      let next = type_behind tree s t x in
-      let ends = first_at_last tree task s (type_behind_steps tree s next (steps_in xs)) last in
+      let next = known_type_after tree s t x in
+      let ends = first_at_last tree task s (known_type_after_steps tree s next (steps_in xs)) last in
       before_last t x xs last
       ∙ ap (option_or (first_at_step tree task s t x)) (steps_with_last next xs last)
       ∙ or_assoc (first_at_step tree task s t x) (first_in_steps tree task s next (steps_in xs)) ends
@@ -118,7 +118,7 @@ module _ (tree : Tree) (task : TaskTree) (s : Scope) where
 
   taken_later : (a : Access) (t : StaticType) (x y : Step) (ys : List Step) →
       wanted_of_last tree a (takings tree s t (steps_in (x ∷ y ∷ ys)))
-      ≡ wanted_of_last tree a (takings tree s (type_behind tree s t x) (steps_in (y ∷ ys)))
+      ≡ wanted_of_last tree a (takings tree s (known_type_after tree s t x) (steps_in (y ∷ ys)))
   taken_later a t (Field f) (Field g) ys = refl
   taken_later a t (Field f) (At d) ys = refl
   taken_later a t (At e) (Field g) ys = refl
@@ -126,22 +126,22 @@ module _ (tree : Tree) (task : TaskTree) (s : Scope) where
 
   passes : (a : Access) (t : StaticType) (x : Step) (front : List Step) (last : Step) →
       wanted_of_last tree a (takings tree s t (steps_in (x ∷ (front ++ last ∷ []))))
-      ≡ wanted_of_last tree a (takings tree s (type_behind tree s t x) (steps_in (front ++ last ∷ [])))
+      ≡ wanted_of_last tree a (takings tree s (known_type_after tree s t x) (steps_in (front ++ last ∷ [])))
   passes a t x [] last = taken_later a t x last []
   passes a t x (y ∷ ys) last = taken_later a t x y (ys ++ last ∷ [])
 
   same_front : (a : Access) (t : StaticType) (x : Step) (xs : List Step) (last : Step) →
-      wanted_of_last tree a (taking_at tree s (type_behind_steps tree s (type_behind tree s t x) (steps_in xs)) last ∷ [])
-      ≡ wanted_of_last tree a (taking_at tree s (type_behind_steps tree s t (steps_in (x ∷ xs))) last ∷ [])
+      wanted_of_last tree a (taking_at tree s (known_type_after_steps tree s (known_type_after tree s t x) (steps_in xs)) last ∷ [])
+      ≡ wanted_of_last tree a (taking_at tree s (known_type_after_steps tree s t (steps_in (x ∷ xs))) last ∷ [])
   same_front a t (Field f) xs last = refl
   same_front a t (At e) xs last = refl
 
   wanted_at_last : (a : Access) (t : StaticType) (front : List Step) (last : Step) →
       wanted_of_last tree a (takings tree s t (steps_in (front ++ last ∷ [])))
-      ≡ wanted_of_last tree a (taking_at tree s (type_behind_steps tree s t (steps_in front)) last ∷ [])
+      ≡ wanted_of_last tree a (taking_at tree s (known_type_after_steps tree s t (steps_in front)) last ∷ [])
   wanted_at_last a t [] last = taken_alone a t last
   wanted_at_last a t (x ∷ xs) last =
-      passes a t x xs last ∙ wanted_at_last a (type_behind tree s t x) xs last ∙ same_front a t x xs last
+      passes a t x xs last ∙ wanted_at_last a (known_type_after tree s t x) xs last ∙ same_front a t x xs last
 
 -- ---- how an access ends
 
@@ -173,14 +173,14 @@ tells_as P Q (Err (Breach q)) a b e f h = sym e ∙ h
 tells_as P Q (Err (Memory error)) a b e f h = tt
 
 pub ends_target : (tree : Tree) (s : Scope) (n : Name) (steps front : List Step) (last : Step) (holder : StaticType) (t : Target) →
-    steps ≡ front ++ last ∷ [] → holder ≡ behind_front tree s n front → EndsIn tree s holder last t →
+    steps ≡ front ++ last ∷ [] → holder ≡ after_front tree s n front → EndsIn tree s holder last t →
     IsTarget tree s n steps t
 ends_target tree s n steps front last holder (target.Variable t) whole before h = absurd h
 ends_target tree s n steps front last holder (target.Field h f t) whole before (same, is_field, is) = record {
   front = front;
   whole = subst (λ (l : Step). steps ≡ front ++ l ∷ []) is_field whole;
   before = same ∙ before;
-  is = subst (λ (l : Step). t ≡ type_behind tree s h l) is_field (subst (λ (u : StaticType). t ≡ type_behind tree s u last) (sym same) is);
+  is = subst (λ (l : Step). t ≡ known_type_after tree s h l) is_field (subst (λ (u : StaticType). t ≡ known_type_after tree s u last) (sym same) is);
 }
 ends_target tree s n steps front last holder (target.Element t) whole before (element, is) =
     (last, holder, element, record { front = front; whole = whole; before = before; is = is })
@@ -190,12 +190,12 @@ module _ (tree : Tree) (task : TaskTree) (s : Scope) (n : Name) where
   type_led : (steps : List Step) (last : Step) (holder t : StaticType) → LeadsTo tree s n steps last holder t →
       known_type tree s (access_expr n (steps_in steps)) ≡ t
   type_led steps last holder t l =
-      ap (λ (ss : List Step). type_behind_steps tree s (type_named s.names n) (steps_in ss)) l.whole
-      ∙ behind_last tree task s (type_named s.names n) l.front last
-      ∙ ap (λ (u : StaticType). type_behind tree s u last) (sym l.before) ∙ sym l.is
+      ap (λ (ss : List Step). known_type_after_steps tree s (type_named s.names n) (steps_in ss)) l.whole
+      ∙ after_last tree task s (type_named s.names n) l.front last
+      ∙ ap (λ (u : StaticType). known_type_after tree s u last) (sym l.before) ∙ sym l.is
 
   wanted_led : (a : Access) (steps : List Step) (last : Step) (holder t : StaticType) → LeadsTo tree s n steps last holder t →
-      wanted_of_target tree a (shape_of tree s (access_expr n (steps_in steps)))
+      wanted_of_target tree a (typed_form_of tree s (access_expr n (steps_in steps)))
       ≡ wanted_of_last tree a (taking_at tree s holder last ∷ [])
   wanted_led a steps last holder t l =
       ap (λ (ss : List Step). wanted_of_last tree a (takings tree s (type_named s.names n) (steps_in ss))) l.whole
@@ -252,9 +252,9 @@ module _ (tree : Tree) (task : TaskTree) (s : Scope) (n : Name) where
   nothing_of_element a (At d) holder e = refl
 
   pub wanted_of_led : (a : Access) (steps : List Step) (t : Target) → IsTarget tree s n steps t →
-      wanted_of_target tree a (shape_of tree s (access_expr n (steps_in steps))) ≡ wanted_by tree a t
+      wanted_of_target tree a (typed_form_of tree s (access_expr n (steps_in steps))) ≡ wanted_by tree a t
   wanted_of_led a steps (target.Variable t) (none, is) =
-      ap (λ (ss : List Step). wanted_of_target tree a (shape_of tree s (access_expr n (steps_in ss)))) none
+      ap (λ (ss : List Step). wanted_of_target tree a (typed_form_of tree s (access_expr n (steps_in ss)))) none
   wanted_of_led a steps (target.Field holder f t) l = wanted_led a steps (Field f.now) holder t l
   wanted_of_led a steps (target.Element t) (last, holder, element, l) =
       wanted_led a steps last holder t l ∙ nothing_of_element a last holder element
@@ -276,8 +276,8 @@ module _ (tree : Tree) (task : TaskTree) (s : Scope) (n : Name) where
       ap (λ ws. option_or (rule_if (lacks tree task s ws) rule.Reduce) None) (wanted_of_led (access.Reduce o) steps t led)
       ∙ or_nothing (rule_if (lacks tree task s (wanted_by tree (access.Reduce o) t)) rule.Reduce)
 
-  abbrev behind : How → List Step → Expression → StaticType → Bool → Option Rule → Option Rule
-  behind h steps e t flawed last =
+  abbrev after : How → List Step → Expression → StaticType → Bool → Option Rule → Option Rule
+  after h steps e t flawed last =
       option_or (option_or (first_of_standing s.known (stands (known_type tree s e) (spot_of_target flawed h t))) None)
       (option_or (rule_if flawed rule.Target) last)
 
@@ -294,11 +294,11 @@ module _ (tree : Tree) (task : TaskTree) (s : Scope) (n : Name) where
       let old = rules_on.mistargets task s.names n (steps_in steps) h whole in
       let flawed = mistargets task s.names n t h in
       let target_told = first_in_target tree task s n (steps_in steps) in
-      let parts : behind h steps e whole old (written h steps e) ≡ first_of_target tree task s n h (known_type tree s e) t =
-      (λ j. behind h steps e (type_of_led steps t led j) (mistargets_led steps h t led j) (used h steps e t led j))
+      let parts : after h steps e whole old (written h steps e) ≡ first_of_target tree task s n h (known_type tree s e) t =
+      (λ j. after h steps e (type_of_led steps t led j) (mistargets_led steps h t led j) (used h steps e t led j))
       ∙ inner_nothing (first_of_standing s.known (stands (known_type tree s e) (spot_of_target flawed h (type_of_target t))))
       (rule_if flawed rule.Target) (first_of_use tree task s h t) in
-      ap (λ o. option_or o (option_or target_told (behind h steps e whole old (written h steps e)))) (or_nothing (first_in_expression tree task s e))
+      ap (λ o. option_or o (option_or target_told (after h steps e whole old (written h steps e)))) (or_nothing (first_in_expression tree task s e))
       ∙ ap (λ o. option_or (first_in_expression tree task s e) (option_or target_told o)) parts
 
   -- where nothing is told of the right side and of the target's steps
@@ -320,38 +320,38 @@ module _ (tree : Tree) (task : TaskTree) (s : Scope) (n : Name) where
   abbrev bound_first : Option Rule
   bound_first = rule_if (not (is_bound s.names n)) rule.Name
 
-  split_first : (steps front : List Step) (last : Step) (start : StaticType) → steps ≡ front ++ last ∷ [] →
-      bound_first ≡ None → start ≡ type_named s.names n →
-      option_or (first_in_steps tree task s start (steps_in front))
-      (first_at_last tree task s (type_behind_steps tree s start (steps_in front)) last)
+  split_first : (steps front : List Step) (last : Step) (initializer : StaticType) → steps ≡ front ++ last ∷ [] →
+      bound_first ≡ None → initializer ≡ type_named s.names n →
+      option_or (first_in_steps tree task s initializer (steps_in front))
+      (first_at_last tree task s (known_type_after_steps tree s initializer (steps_in front)) last)
       ≡ first_in_target tree task s n (steps_in steps)
-  split_first steps front last start whole bound begins =
-      sym (steps_with_last tree task s start front last)
-      ∙ ap (λ (ss : List Step). first_in_target_steps tree task s start (steps_in ss)) (sym whole)
+  split_first steps front last initializer whole bound begins =
+      sym (steps_with_last tree task s initializer front last)
+      ∙ ap (λ (ss : List Step). first_in_target_steps tree task s initializer (steps_in ss)) (sym whole)
       ∙ ap (λ (t : StaticType). first_in_target_steps tree task s t (steps_in steps)) begins
       ∙ ap (λ o. option_or o (first_in_target_steps tree task s (type_named s.names n) (steps_in steps))) (sym bound)
 
-  pub stops_before : (stop : Stop) (steps front : List Step) (last : Step) (start : StaticType) →
-      steps ≡ front ++ last ∷ [] → bound_first ≡ None → start ≡ type_named s.names n →
-      IsTold stop (first_in_steps tree task s start (steps_in front)) →
+  pub stops_before : (stop : Stop) (steps front : List Step) (last : Step) (initializer : StaticType) →
+      steps ≡ front ++ last ∷ [] → bound_first ≡ None → initializer ≡ type_named s.names n →
+      IsTold stop (first_in_steps tree task s initializer (steps_in front)) →
       IsTold stop (first_in_target tree task s n (steps_in steps))
-  stops_before stop steps front last start whole bound begins told =
-      subst (IsTold stop) (split_first steps front last start whole bound begins)
-      (told_here stop (first_in_steps tree task s start (steps_in front)) _ told)
+  stops_before stop steps front last initializer whole bound begins told =
+      subst (IsTold stop) (split_first steps front last initializer whole bound begins)
+      (told_here stop (first_in_steps tree task s initializer (steps_in front)) _ told)
 
-  pub target_ends : (r : Result Target Stop) (steps front : List Step) (last : Step) (start holder : StaticType) →
-      steps ≡ front ++ last ∷ [] → bound_first ≡ None → start ≡ type_named s.names n →
-      first_in_steps tree task s start (steps_in front) ≡ None →
-      holder ≡ type_behind_steps tree s start (steps_in front) →
+  pub target_ends : (r : Result Target Stop) (steps front : List Step) (last : Step) (initializer holder : StaticType) →
+      steps ≡ front ++ last ∷ [] → bound_first ≡ None → initializer ≡ type_named s.names n →
+      first_in_steps tree task s initializer (steps_in front) ≡ None →
+      holder ≡ known_type_after_steps tree s initializer (steps_in front) →
       Tells (EndsIn tree s holder last) r (first_at_last tree task s holder last) →
       Tells (IsTarget tree s n steps) r (first_in_target tree task s n (steps_in steps))
-  target_ends r steps front last start holder whole bound begins none before told =
+  target_ends r steps front last initializer holder whole bound begins none before told =
       let same : first_at_last tree task s holder last ≡ first_in_target tree task s n (steps_in steps) =
       ap (λ (t : StaticType). first_at_last tree task s t last) before
-      ∙ ap (λ o. option_or o (first_at_last tree task s (type_behind_steps tree s start (steps_in front)) last)) (sym none)
-      ∙ split_first steps front last start whole bound begins in
-      let from_name : holder ≡ behind_front tree s n front =
-      before ∙ ap (λ (t : StaticType). type_behind_steps tree s t (steps_in front)) begins in
+      ∙ ap (λ o. option_or o (first_at_last tree task s (known_type_after_steps tree s initializer (steps_in front)) last)) (sym none)
+      ∙ split_first steps front last initializer whole bound begins in
+      let from_name : holder ≡ after_front tree s n front =
+      before ∙ ap (λ (t : StaticType). known_type_after_steps tree s t (steps_in front)) begins in
       tells_as (EndsIn tree s holder last) (IsTarget tree s n steps) r (first_at_last tree task s holder last)
       (first_in_target tree task s n (steps_in steps)) same
       (λ t ends. ends_target tree s n steps front last holder t whole from_name ends) told

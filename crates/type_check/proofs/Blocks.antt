@@ -10,13 +10,13 @@ use Rattle.regent_tree.specs.declared.typing.Bound.{Bound}
 use Rattle.regent_tree.specs.declared.typing.StaticType.{StaticType}
 use Rattle.check_rules.specs.Breaches.{Breach}
 use Rattle.check_rules.specs.FirstInStatements.{told_on}
-use Rattle.check_rules.specs.Variables.{scope_behind, scope_behind_arms, scope_behind_block, scope_behind_else}
+use Rattle.check_rules.specs.Variables.{known_scope_after, known_scope_after_arms, known_scope_after_block, known_scope_after_else}
 use Rattle.check_rules.specs.declared.rule.Rule.{Rule}
-use Rattle.declaration_check.specs.Halting.{IsToldAt, TellsAt, halted}
-use Rattle.declaration_check.specs.declared.halt.Halt.{Halt}
-use Rattle.declaration_check.specs.declared.halt.Halt.TheVariants as halt
-use Rattle.expression_check.specs.Seen.{seen}
-use Rattle.expression_check.specs.declared.scope.Scoped.{Scoped}
+use Rattle.check_items.specs.Halting.{IsToldAt, TellsAt, halted}
+use Rattle.check_items.specs.declared.halt.Halt.{Halt}
+use Rattle.check_items.specs.declared.halt.Halt.TheVariants as halt
+use Rattle.check_expressions.specs.Seen.{seen}
+use Rattle.check_expressions.specs.declared.scope.Scoped.{Scoped}
 use Rattle.static_types.specs.Telling.{Anything, Tells}
 use Rattle.static_types.specs.declared.stop.Stop.{Stop}
 use Rattle.static_types.specs.declared.stop.Stop.TheVariants as stop
@@ -28,40 +28,40 @@ use Rattle.type_check.specs.Lines.{on_line}
 abbrev pub Extends : List Bound → List Bound → Type 0
 Extends now before = (added : List Bound) × (now ≡ added ++ before)
 
-arms_names : (tree : Tree) (s : Scope) (arms : Arms) → (scope_behind_arms tree s arms).names ≡ s.names
+arms_names : (tree : Tree) (s : Scope) (arms : Arms) → (known_scope_after_arms tree s arms).names ≡ s.names
 arms_names tree s no_arm = refl
-arms_names tree s (an_arm test body rest) = arms_names tree (past s (scope_behind_block tree s body)) rest
+arms_names tree s (an_arm test body rest) = arms_names tree (past s (known_scope_after_block tree s body)) rest
 
-else_names : (tree : Tree) (s : Scope) (other : Otherwise) → (scope_behind_else tree s other).names ≡ s.names
+else_names : (tree : Tree) (s : Scope) (other : Otherwise) → (known_scope_after_else tree s other).names ≡ s.names
 else_names tree s no_else = refl
 else_names tree s (else_block body) = refl
 
-names_behind : (tree : Tree) (s : Scope) (form : Form) → Extends (scope_behind tree s form).names s.names
-names_behind tree s (var_form n t start) = (_ ∷ [], refl)
-names_behind tree s (if_form arms other) =
-    ([], else_names tree (scope_behind_arms tree s arms) other ∙ arms_names tree s arms)
-names_behind tree s (while_form test body) = ([], refl)
-names_behind tree s (for_in_form demanded n domain body) = ([], refl)
-names_behind tree s (for_to_form demanded n from to body) = ([], refl)
-names_behind tree s (do_form body) = ([], refl)
-names_behind tree s form = ([], refl)
+names_after : (tree : Tree) (s : Scope) (form : Form) → Extends (known_scope_after tree s form).names s.names
+names_after tree s (var_form n t initializer) = (_ ∷ [], refl)
+names_after tree s (if_form arms other) =
+    ([], else_names tree (known_scope_after_arms tree s arms) other ∙ arms_names tree s arms)
+names_after tree s (while_form test body) = ([], refl)
+names_after tree s (for_in_form demanded n domain body) = ([], refl)
+names_after tree s (for_to_form demanded n from to body) = ([], refl)
+names_after tree s (do_form body) = ([], refl)
+names_after tree s form = ([], refl)
 
 append_grouped : (xs ys zs : List Bound) → xs ++ (ys ++ zs) ≡ (xs ++ ys) ++ zs
 append_grouped [] ys zs = refl
 append_grouped (x ∷ xs) ys zs = ap (λ (bs : List Bound). x ∷ bs) (append_grouped xs ys zs)
 
-pub block_names : (tree : Tree) (s : Scope) (b : Block) → Extends (scope_behind_block tree s b).names s.names
+pub block_names : (tree : Tree) (s : Scope) (b : Block) → Extends (known_scope_after_block tree s b).names s.names
 block_names tree s no_statement = ([], refl)
 block_names tree s (then_statement (a_statement line form) rest) =
-    let here = names_behind tree s form in
-    let more = block_names tree (scope_behind tree s form) rest in (
+    let here = names_after tree s form in
+    let more = block_names tree (known_scope_after tree s form) rest in (
       more.0 ++ here.0,
       more.1 ∙ ap (λ (bs : List Bound). more.0 ++ bs) here.1 ∙ append_grouped more.0 here.0 s.names,
     )
 
 -- and those behind the block of a loop, with its variable
 pub loop_names : (tree : Tree) (s : Scope) (n : Name) (t : StaticType) (b : Block) →
-    Extends (scope_behind_block tree (with_name s n t true) b).names s.names
+    Extends (known_scope_after_block tree (with_name s n t true) b).names s.names
 loop_names tree s n t b =
     let more = block_names tree (with_name s n t true) b in
     let bound : Bound = record { name = n; number = s.next; place = length s.names; static_type = t; by_loop = true } in

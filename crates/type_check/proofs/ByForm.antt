@@ -16,10 +16,10 @@ use Rattle.check_rules.specs.FirstInExpressions.{first_in_args, first_in_express
 use Rattle.check_rules.specs.FirstInStatements.{first_of_form}
 use Rattle.check_rules.specs.Formats.{misprints}
 use Rattle.check_rules.specs.KnownTypes.{known_type, known_types}
-use Rattle.check_rules.specs.Names.{misnames_task, misses_alias}
+use Rattle.check_rules.specs.Names.{is_unknown_task, misses_alias}
 use Rattle.check_rules.specs.Parts.{listed, tests_of}
 use Rattle.check_rules.specs.Rules.{first_in, rule_if}
-use Rattle.check_rules.specs.Shapes.{calling}
+use Rattle.check_rules.specs.TypedForms.{calling}
 use Rattle.check_rules.specs.Standing.{domain_spot, integer_spot, standing_in_call, stands, truth_spot, typed_spot, value_spot}
 use Rattle.check_rules.specs.Statements.{all_stand}
 use Rattle.check_rules.specs.declared.rule.Rule.{Rule}
@@ -123,10 +123,10 @@ module _ (tree : Tree) (task : TaskTree) (s : Scope) where
       ≡ first_of_call_alone tree task s n args
   call_first n args = let c = calling n (known_types tree s args) in
       (λ j. option_or (listed_args args j)
-      (option_or (rule_if (misnames_task tree c) rule.Name)
+      (option_or (rule_if (is_unknown_task tree c) rule.Name)
       (option_or (option_or (first_of_call tree task s c) None)
       (option_or (first_in (first_of_standing s.known) (standing_in_call tree c)) None))))
-      ∙ ap (option_or (first_in_args tree task s args)) (called (misnames_task tree c)
+      ∙ ap (option_or (first_in_args tree task s args)) (called (is_unknown_task tree c)
       (rule_if (miscounts_call tree c) rule.Count) (first_in (first_of_standing s.known) (standing_in_call tree c))
       (rule_if (misfits_call (params_of tree c.task) c) rule.Spaces)
       (rule_if (mispartitions_call (params_of tree c.task) c) rule.Partition)

@@ -1,6 +1,6 @@
 -- An expression as the difference of two names, or as another one.
 use Rattle.std.proofs.Common.{◌≡◌, ◌⊎◌, inl, inr, Bool, true, false, List, [], ◌∷◌, None, Some, Option, cond, refl, ap, sym, ◌∙◌}
-use Rattle.regent_tree.specs.Syntax.{Expression, Name, a_link, access_expr, at_step, call_expr, cast_expr, chain_expr, convert_expr, field_step, is_null_expr, no_link, no_step, null_expr, number_expr, plain_start, prefix_expr, space_expr, truth_expr}
+use Rattle.regent_tree.specs.Syntax.{Expression, Name, a_link, access_expr, at_step, call_expr, cast_expr, chain_expr, convert_expr, field_step, is_null_expr, no_link, no_step, null_expr, number_expr, plain_initializer, prefix_expr, space_expr, truth_expr}
 use Rattle.regent_tree.specs.declared.expression.Arithmetic.TheVariants.{Add, Divide, Multiply, Remainder, Subtract}
 use Rattle.regent_tree.specs.declared.expression.Operator.TheVariants.{And, Compare, Compute, Or}
 use Rattle.regent_tree.specs.declared.typing.Bound.{Bound}
@@ -9,7 +9,7 @@ use Rattle.type_check.specs.Differences.{names_subtracted, subtracted}
 
 abbrev IsOther : Expression → Type 0
 IsOther e = (names_subtracted e ≡ None) × ((names : List Bound) →
-    (is_difference names e ≡ false) × (operands_of names (plain_start e) ≡ []))
+    (is_difference names e ≡ false) × (operands_of names (plain_initializer e) ≡ []))
 
 seen_as : (e : Expression) → ((p : Name) × (q : Name) × (e ≡ subtracted p q)) ⊎ IsOther e
 seen_as (number_expr z w) = inr (refl, λ names. (refl, refl))
@@ -83,9 +83,9 @@ other_is_none names e h = elim (seen_as e) [
 
 -- the operands of what isn't the difference of two partitions
 pub operands_none : (names : List Bound) (e : Expression) → is_difference names e ≡ false →
-    operands_of names (plain_start e) ≡ []
+    operands_of names (plain_initializer e) ≡ []
 operands_none names e h = elim (seen_as e) [
-  | inl s ↦ ap (λ d. operands_of names (plain_start d)) s.2
+  | inl s ↦ ap (λ d. operands_of names (plain_initializer d)) s.2
       ∙ unless (may_be_partitions names s.0 s.1) ((s.0, s.1) ∷ []) (sym (ap (is_difference names) s.2) ∙ h)
   | inr s ↦ (s.1 names).1
 ]

@@ -7,30 +7,30 @@ use Rattle.std.proofs.lemmas.List.{append-nil}
 use Rattle.regent_tree.specs.Scopes.{Scope, in_scope}
 use Rattle.regent_tree.specs.StaticTypes.{type_said}
 use Rattle.regent_tree.specs.declared.types.TypeTerm.{TypeTerm}
-use Rattle.regent_tree.specs.Syntax.{Name, Start, TaskTree, Tree, var_form}
+use Rattle.regent_tree.specs.Syntax.{Name, Initializer, TaskTree, Tree, var_form}
 use Rattle.regent_tree.specs.declared.typing.StaticType.{StaticType}
 use Rattle.regent_tree.specs.declared.typing.StaticType.TheVariants.{Integer as integer_type, Truth as truth_type, Index as index_type, Pointer as pointer_type, Ispace as ispace_type, Region as region_type, Partition as partition_type, Nothing as no_type, Unknown as unknown_type}
 use Rattle.check_rules.specs.Counts.{miscounts_in_type}
 use Rattle.check_rules.specs.Declarations.{names_unknown}
 use Rattle.check_rules.specs.Params.{type_unless}
 use Rattle.check_rules.specs.FirstInExpressions.{first_in_expression, first_in_type, first_of_standing}
-use Rattle.check_rules.specs.FirstInStatements.{first_of_form, first_of_start}
-use Rattle.check_rules.specs.Names.{misnames_in_type}
-use Rattle.check_rules.specs.Places.{misbegins, misplaces}
-use Rattle.check_rules.specs.Pointers.{mispoints_in_type}
+use Rattle.check_rules.specs.FirstInStatements.{first_of_form, first_of_initializer}
+use Rattle.check_rules.specs.Names.{unbound_name_in_type}
+use Rattle.check_rules.specs.Places.{has_wrong_initializer, misplaces}
+use Rattle.check_rules.specs.Pointers.{wrong_region_in_type}
 use Rattle.check_rules.specs.Rules.{first_in, rule_if}
 use Rattle.check_rules.specs.Spaces.{misfits_in_type}
 use Rattle.check_rules.specs.Standing.{Standing, stands, typed_spot}
-use Rattle.check_rules.specs.Types.{misstands}
+use Rattle.check_rules.specs.Types.{is_ill_typed_at_place}
 use Rattle.check_rules.specs.declared.rule.Rule.{Rule}
 use Rattle.check_rules.specs.declared.rule.Rule.TheVariants as rule
 use Rattle.static_types.specs.Telling.{IsTold}
 use Rattle.static_types.specs.declared.stop.Stop.{Stop}
-use Rattle.type_check.specs.Beginning.{first_in_start}
-use Rattle.type_check.specs.Variables.{first_of_begun, first_by_both, first_by_type, first_by_start, first_of_var}
+use Rattle.type_check.specs.Beginning.{first_in_initializer}
+use Rattle.type_check.specs.Variables.{first_of_begun, first_by_both, first_by_type, first_by_initializer, first_of_var}
 use Rattle.check_rules.specs.Partitions.{miscolours_in_type}
 use Rattle.check_rules.specs.Sorts.{is_collection, is_unknown_type}
-use Rattle.check_rules.specs.Variables.{bound_type, declared_type, expressions_in_start, known_start, standing_in_start}
+use Rattle.check_rules.specs.Variables.{bound_type, declared_type, expressions_in_initializer, known_initializer, standing_in_initializer}
 
 -- ---- declared types
 
@@ -48,7 +48,7 @@ pub said_soundly : (tree : Tree) (s : Scope) (t : TypeTerm) → first_in_type tr
     type_unless (names_unknown s.names t) (type_said tree (in_scope s) s.next t) ≡ declared_type tree s t
 said_soundly tree s t none =
     ap (λ b. type_unless b (type_said tree (in_scope s) s.next t))
-    (sym (unflawed (misnames_in_type tree s.names t) (miscounts_in_type tree t) (mispoints_in_type tree s.names t)
+    (sym (unflawed (unbound_name_in_type tree s.names t) (miscounts_in_type tree t) (wrong_region_in_type tree s.names t)
     (misfits_in_type tree s.names t) (miscolours_in_type s.names t) (names_unknown s.names t) rule.Name rule.Count rule.Pointer rule.Spaces rule.Partition none))
 
 -- ---- what is told of a `var`
@@ -61,7 +61,7 @@ or_false : (b : Bool) → (b || false) ≡ b
 or_false true = refl
 or_false false = refl
 
--- of what is told in order: a type, expressions, a start value, what stands there, how it begins
+-- of what is told in order: a type, expressions, an initializer, what stands there, how it begins
 one_by_one : (h fs st m : Option Rule) →
     option_or h (option_or (option_or fs None) (option_or st (option_or m None)))
     ≡ option_or (option_or h (option_or fs st)) (option_or m None)
@@ -69,18 +69,18 @@ one_by_one None None st m = refl
 one_by_one None (Some x) st m = refl
 one_by_one (Some x) fs st m = refl
 
-started_first : (tree : Tree) (task : TaskTree) (s : Scope) (n : Name) (i : Start) →
-    first_of_form tree task s (var_form n None (Some i)) ≡ first_by_start tree task s i
-started_first tree task s n i =
-    let t = known_start tree s i in
-    let heads = first_in (first_in_expression tree task s) (expressions_in_start s.names i) in
-    let start = first_of_start tree task s i in
-    let stand = first_in (first_of_standing s.known) (standing_in_start tree s i) in
-    ap (λ ss. option_or heads (option_or (option_or start None) (option_or (first_in (first_of_standing s.known) ss)
-    (option_or (rule_if (misbegins s.names t t i || false) rule.Place) None)))) (append-nil (standing_in_start tree s i))
-    ∙ ap (λ b. option_or heads (option_or (option_or start None) (option_or stand (option_or (rule_if b rule.Place) None))))
-    (or_false (misbegins s.names t t i))
-    ∙ one_by_one heads start stand (rule_if (misbegins s.names t t i) rule.Place)
+entry_first : (tree : Tree) (task : TaskTree) (s : Scope) (n : Name) (i : Initializer) →
+    first_of_form tree task s (var_form n None (Some i)) ≡ first_by_initializer tree task s i
+entry_first tree task s n i =
+    let t = known_initializer tree s i in
+    let heads = first_in (first_in_expression tree task s) (expressions_in_initializer s.names i) in
+    let initializer = first_of_initializer tree task s i in
+    let stand = first_in (first_of_standing s.known) (standing_in_initializer tree s i) in
+    ap (λ ss. option_or heads (option_or (option_or initializer None) (option_or (first_in (first_of_standing s.known) ss)
+    (option_or (rule_if (has_wrong_initializer s.names t t i || false) rule.Place) None)))) (append-nil (standing_in_initializer tree s i))
+    ∙ ap (λ b. option_or heads (option_or (option_or initializer None) (option_or stand (option_or (rule_if b rule.Place) None))))
+    (or_false (has_wrong_initializer s.names t t i))
+    ∙ one_by_one heads initializer stand (rule_if (has_wrong_initializer s.names t t i) rule.Place)
 
 declared_first : (tree : Tree) (task : TaskTree) (s : Scope) (n : Name) (t : TypeTerm) →
     first_of_form tree task s (var_form n (Some t) None) ≡ first_by_type tree task s t
@@ -110,28 +110,28 @@ all_by_one None None (Some x) st w m = refl
 all_by_one None (Some x) fs st w m = refl
 all_by_one (Some x) h fs st w m = refl
 
-both_first : (tree : Tree) (task : TaskTree) (s : Scope) (n : Name) (t : TypeTerm) (i : Start) →
+both_first : (tree : Tree) (task : TaskTree) (s : Scope) (n : Name) (t : TypeTerm) (i : Initializer) →
     first_of_form tree task s (var_form n (Some t) (Some i)) ≡ first_by_both tree task s t i
 both_first tree task s n t i =
     let wanted = declared_type tree s t in
-    let known = known_start tree s i in
+    let known = known_initializer tree s i in
     let declared = first_in_type tree s.names t in
-    let heads = first_in (first_in_expression tree task s) (expressions_in_start s.names i) in
-    let start = first_of_start tree task s i in
-    let stand = first_in (first_of_standing s.known) (standing_in_start tree s i) in
+    let heads = first_in (first_in_expression tree task s) (expressions_in_initializer s.names i) in
+    let initializer = first_of_initializer tree task s i in
+    let stand = first_in (first_of_standing s.known) (standing_in_initializer tree s i) in
     let fits = first_of_standing s.known (stands known (typed_spot wanted)) in
-    ap (λ o. option_or (option_or declared None) (option_or heads (option_or (option_or start None) (option_or o
-    (option_or (rule_if (misbegins s.names wanted known i || false) rule.Place) None)))))
-    (first_in_append (first_of_standing s.known) (standing_in_start tree s i) (stands known (typed_spot wanted) ∷ []))
-    ∙ ap (λ b. option_or (option_or declared None) (option_or heads (option_or (option_or start None)
+    ap (λ o. option_or (option_or declared None) (option_or heads (option_or (option_or initializer None) (option_or o
+    (option_or (rule_if (has_wrong_initializer s.names wanted known i || false) rule.Place) None)))))
+    (first_in_append (first_of_standing s.known) (standing_in_initializer tree s i) (stands known (typed_spot wanted) ∷ []))
+    ∙ ap (λ b. option_or (option_or declared None) (option_or heads (option_or (option_or initializer None)
     (option_or (option_or stand (option_or fits None)) (option_or (rule_if b rule.Place) None)))))
-    (or_false (misbegins s.names wanted known i))
-    ∙ all_by_one declared heads start stand fits (rule_if (misbegins s.names wanted known i) rule.Place)
+    (or_false (has_wrong_initializer s.names wanted known i))
+    ∙ all_by_one declared heads initializer stand fits (rule_if (has_wrong_initializer s.names wanted known i) rule.Place)
 
-pub var_first : (tree : Tree) (task : TaskTree) (s : Scope) (n : Name) (t : Option TypeTerm) (i : Option Start) →
+pub var_first : (tree : Tree) (task : TaskTree) (s : Scope) (n : Name) (t : Option TypeTerm) (i : Option Initializer) →
     first_of_form tree task s (var_form n t i) ≡ first_of_var tree task s t i
 var_first tree task s n None None = refl
-var_first tree task s n None (Some i) = started_first tree task s n i
+var_first tree task s n None (Some i) = entry_first tree task s n i
 var_first tree task s n (Some t) None = declared_first tree task s n t
 var_first tree task s n (Some t) (Some i) = both_first tree task s n t i
 
@@ -141,19 +141,19 @@ unbroken : (b : Bool) (r : Rule) → rule_if b r ≡ None → b ≡ false
 unbroken true r e = absurd cc
 unbroken false r e = refl
 
--- with a start value alone
-pub by_start_none : (tree : Tree) (task : TaskTree) (s : Scope) (i : Start) (t : StaticType) →
-    first_in_start tree task s i ≡ None → t ≡ known_start tree s i → rule_if (misbegins s.names t t i) rule.Place ≡ None →
-    first_by_start tree task s i ≡ None
-by_start_none tree task s i t started begun right =
-    (λ j. option_or (started j) (option_or (rule_if (misbegins s.names (sym begun j) (sym begun j) i) rule.Place) None))
+-- with an initializer alone
+pub by_initializer_none : (tree : Tree) (task : TaskTree) (s : Scope) (i : Initializer) (t : StaticType) →
+    first_in_initializer tree task s i ≡ None → t ≡ known_initializer tree s i → rule_if (has_wrong_initializer s.names t t i) rule.Place ≡ None →
+    first_by_initializer tree task s i ≡ None
+by_initializer_none tree task s i t entry_name begun right =
+    (λ j. option_or (entry_name j) (option_or (rule_if (has_wrong_initializer s.names (sym begun j) (sym begun j) i) rule.Place) None))
     ∙ ap (λ r. option_or r None) right
 
-pub by_start_bound : (tree : Tree) (s : Scope) (i : Start) (t : StaticType) → t ≡ known_start tree s i →
-    rule_if (misbegins s.names t t i) rule.Place ≡ None → t ≡ bound_type tree s None (Some i)
-by_start_bound tree s i t begun right =
-    told t (misbegins s.names t t i) (unbroken (misbegins s.names t t i) rule.Place right)
-    ∙ (λ j. type_unless (is_collection (begun j) && (is_unknown_type (begun j) || false || misbegins s.names (begun j) (begun j) i)) (begun j))
+pub by_initializer_bound : (tree : Tree) (s : Scope) (i : Initializer) (t : StaticType) → t ≡ known_initializer tree s i →
+    rule_if (has_wrong_initializer s.names t t i) rule.Place ≡ None → t ≡ bound_type tree s None (Some i)
+by_initializer_bound tree s i t begun right =
+    told t (has_wrong_initializer s.names t t i) (unbroken (has_wrong_initializer s.names t t i) rule.Place right)
+    ∙ (λ j. type_unless (is_collection (begun j) && (is_unknown_type (begun j) || false || has_wrong_initializer s.names (begun j) (begun j) i)) (begun j))
   where
     told : (t : StaticType) (m : Bool) → m ≡ false → t ≡ type_unless (is_collection t && (is_unknown_type t || false || m)) t
     told (region_type k s args r) m e = λ j. type_unless (sym e j) (region_type k s args r)
@@ -190,34 +190,34 @@ leads false true mb r u e = absurd cc
 leads false false true r u e = absurd cc
 leads false false false r u e = ap (λ b. r && b) (sym (or_false u) ∙ sym (or_false (u || false)))
 
-pub by_both_bound : (tree : Tree) (s : Scope) (t : TypeTerm) (i : Start) (declared begun : StaticType) →
-    declared ≡ declared_type tree s t → begun ≡ known_start tree s i → first_of_begun s declared begun i ≡ None →
+pub by_both_bound : (tree : Tree) (s : Scope) (t : TypeTerm) (i : Initializer) (declared begun : StaticType) →
+    declared ≡ declared_type tree s t → begun ≡ known_initializer tree s i → first_of_begun s declared begun i ≡ None →
     type_unless (is_collection declared && is_unknown_type begun) declared ≡ bound_type tree s (Some t) (Some i)
 by_both_bound tree s t i declared begun d b none =
     let stands_there : StaticType → StaticType → Standing = λ u w. stands u (typed_spot w) in
-    ap (λ x. type_unless x declared) (leads (misplaces (stands_there begun declared)) (misstands s.known (stands_there begun declared))
-    (misbegins s.names declared begun i) (is_collection declared) (is_unknown_type begun) none)
-    ∙ (λ j. type_unless (is_collection (d j) && (is_unknown_type (b j) || list_any (misstands s.known) (stands_there (b j) (d j) ∷ [])
-    || misbegins s.names (d j) (b j) i)) (d j))
+    ap (λ x. type_unless x declared) (leads (misplaces (stands_there begun declared)) (is_ill_typed_at_place s.known (stands_there begun declared))
+    (has_wrong_initializer s.names declared begun i) (is_collection declared) (is_unknown_type begun) none)
+    ∙ (λ j. type_unless (is_collection (d j) && (is_unknown_type (b j) || list_any (is_ill_typed_at_place s.known) (stands_there (b j) (d j) ∷ [])
+    || has_wrong_initializer s.names (d j) (b j) i)) (d j))
 
-both_parts : (tree : Tree) (task : TaskTree) (s : Scope) (t : TypeTerm) (i : Start) (declared begun : StaticType) →
-    declared ≡ declared_type tree s t → begun ≡ known_start tree s i →
-    first_in_type tree s.names t ≡ None → first_in_start tree task s i ≡ None →
+both_parts : (tree : Tree) (task : TaskTree) (s : Scope) (t : TypeTerm) (i : Initializer) (declared begun : StaticType) →
+    declared ≡ declared_type tree s t → begun ≡ known_initializer tree s i →
+    first_in_type tree s.names t ≡ None → first_in_initializer tree task s i ≡ None →
     first_of_begun s declared begun i ≡ first_by_both tree task s t i
-both_parts tree task s t i declared begun d b typed started =
+both_parts tree task s t i declared begun d b typed entry_name =
     sym (or_nothing (first_of_begun s declared begun i))
-    ∙ (λ j. option_or (sym typed j) (option_or (sym started j) (option_or (first_of_begun s (d j) (b j) i) None)))
+    ∙ (λ j. option_or (sym typed j) (option_or (sym entry_name j) (option_or (first_of_begun s (d j) (b j) i) None)))
 
-pub both_stop : (tree : Tree) (task : TaskTree) (s : Scope) (t : TypeTerm) (i : Start) (declared begun : StaticType) (stop : Stop) →
-    declared ≡ declared_type tree s t → begun ≡ known_start tree s i →
-    first_in_type tree s.names t ≡ None → first_in_start tree task s i ≡ None →
+pub both_stop : (tree : Tree) (task : TaskTree) (s : Scope) (t : TypeTerm) (i : Initializer) (declared begun : StaticType) (stop : Stop) →
+    declared ≡ declared_type tree s t → begun ≡ known_initializer tree s i →
+    first_in_type tree s.names t ≡ None → first_in_initializer tree task s i ≡ None →
     IsTold stop (first_of_begun s declared begun i) → IsTold stop (first_by_both tree task s t i)
-both_stop tree task s t i declared begun stop d b typed started told =
-    subst (IsTold stop) (both_parts tree task s t i declared begun d b typed started) told
+both_stop tree task s t i declared begun stop d b typed entry_name told =
+    subst (IsTold stop) (both_parts tree task s t i declared begun d b typed entry_name) told
 
-pub both_none : (tree : Tree) (task : TaskTree) (s : Scope) (t : TypeTerm) (i : Start) (declared begun : StaticType) →
-    declared ≡ declared_type tree s t → begun ≡ known_start tree s i →
-    first_in_type tree s.names t ≡ None → first_in_start tree task s i ≡ None →
+pub both_none : (tree : Tree) (task : TaskTree) (s : Scope) (t : TypeTerm) (i : Initializer) (declared begun : StaticType) →
+    declared ≡ declared_type tree s t → begun ≡ known_initializer tree s i →
+    first_in_type tree s.names t ≡ None → first_in_initializer tree task s i ≡ None →
     first_of_begun s declared begun i ≡ None → first_by_both tree task s t i ≡ None
-both_none tree task s t i declared begun d b typed started none =
-    sym (both_parts tree task s t i declared begun d b typed started) ∙ none
+both_none tree task s t i declared begun d b typed entry_name none =
+    sym (both_parts tree task s t i declared begun d b typed entry_name) ∙ none

@@ -4,7 +4,7 @@ use Rattle.lane_kernels.specs.declared.numbers.Width.{Width}
 use Rattle.regent_tree.specs.Limits.{WithinLimits}
 use Rattle.regent_tree.specs.Syntax.{Tree}
 use Rattle.check_rules.specs.Breaches.{breaches}
-use Rattle.declaration_check.specs.Starts.{input_widths}
+use Rattle.check_items.specs.Entries.{input_widths}
 
 -- it is within the limits, it breaches no rule, and these are the widths of its inputs
 pub record IsAccepted (tree : Tree) (inputs : List Width) : Type 0 where

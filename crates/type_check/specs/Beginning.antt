@@ -1,9 +1,9 @@
--- Start values of variables, as the checker goes through them.
+-- Initializers of variables, as the checker goes through them.
 use Rattle.std.specs.Option.{option_or}
 use Rattle.std.specs.Prelude.{Option, Some, [], cond, map, option_to_list, ◌||◌, ◌≡◌, ◌∷◌}
 use Rattle.regent_tree.specs.Scopes.{Scope, in_scope}
 use Rattle.regent_tree.specs.StaticTypes.{looked_up, place_of_space}
-use Rattle.regent_tree.specs.Syntax.{Start, TaskTree, Tree}
+use Rattle.regent_tree.specs.Syntax.{Initializer, TaskTree, Tree}
 use Rattle.regent_tree.specs.Typing.{kind_of_ispace, known_of_child, owned}
 use Rattle.regent_tree.specs.declared.facts.Known.TheVariants.{Made}
 use Rattle.regent_tree.specs.declared.facts.Term.TheVariants as term
@@ -15,19 +15,19 @@ use Rattle.regent_tree.specs.declared.typing.StaticType.TheVariants.{Region as r
 use Rattle.check_rules.specs.Declarations.{names_unknown}
 use Rattle.check_rules.specs.Params.{type_unless}
 use Rattle.check_rules.specs.FirstInExpressions.{first_in_expression, first_of_standing}
-use Rattle.check_rules.specs.FirstInStatements.{first_of_start}
+use Rattle.check_rules.specs.FirstInStatements.{first_of_initializer}
 use Rattle.check_rules.specs.Rules.{first_in}
 use Rattle.check_rules.specs.Sorts.{is_unknown_type}
-use Rattle.check_rules.specs.Variables.{expressions_in_start, known_of_known_start, known_start, standing_in_start}
+use Rattle.check_rules.specs.Variables.{expressions_in_initializer, known_of_known_initializer, known_initializer, standing_in_initializer}
 use Rattle.check_rules.specs.declared.rule.Rule.{Rule}
-use Rattle.type_check.specs.declared.starts.Beginning.{Beginning}
+use Rattle.type_check.specs.declared.initializers.Beginning.{Beginning}
 
--- a start value with the expressions in it, in the order of the checker
-abbrev pub first_in_start : Tree → TaskTree → Scope → Start → Option Rule
-first_in_start tree task s i =
-    option_or (first_in (first_in_expression tree task s) (expressions_in_start s.names i))
-    (option_or (first_of_start tree task s i)
-    (first_in (first_of_standing s.known) (standing_in_start tree s i)))
+-- an initializer with the expressions in it, in the order of the checker
+abbrev pub first_in_initializer : Tree → TaskTree → Scope → Initializer → Option Rule
+first_in_initializer tree task s i =
+    option_or (first_in (first_in_expression tree task s) (expressions_in_initializer s.names i))
+    (option_or (first_of_initializer tree task s i)
+    (first_in (first_of_standing s.known) (standing_in_initializer tree s i)))
 
 -- what a variable is by a new region over an index space of a type, where neither has a breach; the
 -- field space's arguments may be unknown
@@ -42,7 +42,7 @@ IsOver tree s t u b =
 abbrev pub IsOfType : Scope → StaticType → Beginning → Type 0
 IsOfType s t b = (b.static_type ≡ owned s.next t) × (option_to_list b.known ≡ known_of_child s.next t)
 
--- what a variable is by its start value, where that has no breach
-abbrev pub IsBegun : Tree → Scope → Start → Beginning → Type 0
-IsBegun tree s i b = (b.static_type ≡ known_start tree s i)
-    × (option_to_list b.known ≡ known_of_known_start tree s (Some i))
+-- what a variable is by its initializer, where that has no breach
+abbrev pub IsBegun : Tree → Scope → Initializer → Beginning → Type 0
+IsBegun tree s i b = (b.static_type ≡ known_initializer tree s i)
+    × (option_to_list b.known ≡ known_of_known_initializer tree s (Some i))

@@ -12,10 +12,10 @@ use Rattle.check_rules.specs.FirstInExpressions.{first_in_args, first_in_express
 use Rattle.check_rules.specs.Formats.{misprints}
 use Rattle.check_rules.specs.KnownTypes.{known_type, known_types}
 use Rattle.check_rules.specs.Lookup.{names_a}
-use Rattle.check_rules.specs.Names.{misnames_region_field, misses_alias}
+use Rattle.check_rules.specs.Names.{is_unknown_region_field, misses_alias}
 use Rattle.check_rules.specs.Privileges.{lacks, wanted_of_region}
 use Rattle.check_rules.specs.Rules.{first_in, first_of, rule_if}
-use Rattle.check_rules.specs.Shapes.{calling}
+use Rattle.check_rules.specs.TypedForms.{calling}
 use Rattle.check_rules.specs.Sorts.{is_region}
 use Rattle.check_rules.specs.Standing.{domain_spot, integer_spot, stands, truth_spot, typed_spot, value_spot}
 use Rattle.check_rules.specs.declared.rule.Rule.{Rule}
@@ -54,7 +54,7 @@ first_of_bounds tree task s demanded from to = first_of (first_in_expression tre
 -- the region and the fields of a `fill`
 abbrev pub first_of_filled : Tree → List Bound → Name → List Name → Option Rule
 first_of_filled tree names r fields =
-    rule_if (not (names_a is_region names r) || list_any (misnames_region_field tree names r) fields) rule.Name
+    rule_if (not (names_a is_region names r) || list_any (is_unknown_region_field tree names r) fields) rule.Name
 
 abbrev pub first_of_fill : Tree → TaskTree → Scope → Name → List Name → Expression → Option Rule
 first_of_fill tree task s r fields e = let t = type_named s.names r in

@@ -13,33 +13,33 @@ use Rattle.regent_tree.specs.declared.statement.How.TheVariants as how
 use Rattle.regent_tree.specs.declared.typing.Bound.{Bound}
 use Rattle.regent_tree.specs.declared.typing.StaticType.{StaticType}
 use Rattle.check_rules.specs.FirstInExpressions.{first_of_standing, first_of_taking}
-use Rattle.check_rules.specs.KnownTypes.{type_behind_steps}
+use Rattle.check_rules.specs.KnownTypes.{known_type_after_steps}
 use Rattle.check_rules.specs.Privileges.{lacks, wanted_of_step}
 use Rattle.check_rules.specs.Rules.{first_of, rule_if}
-use Rattle.check_rules.specs.Shapes.{field_of}
+use Rattle.check_rules.specs.TypedForms.{field_of}
 use Rattle.check_rules.specs.Sorts.{is_space, is_unknown_type}
 use Rattle.check_rules.specs.Standing.{stands}
 use Rattle.check_rules.specs.Statements.{spot_of_target}
 use Rattle.check_rules.specs.Targets.{is_fixed, is_no_integer}
 use Rattle.check_rules.specs.declared.rule.Rule.{Rule}
 use Rattle.check_rules.specs.declared.rule.Rule.TheVariants as rule
-use Rattle.expression_check.specs.Steps.{first_at_step, type_behind}
+use Rattle.check_expressions.specs.Steps.{first_at_step, known_type_after}
 use Rattle.type_check.specs.Differences.{is_place}
 use Rattle.type_check.specs.declared.assignments.Target.{Target}
 use Rattle.type_check.specs.declared.assignments.Target.TheVariants as target
 
 -- the type of what stands before the last step
-abbrev pub behind_front : Tree → Scope → Name → List Step → StaticType
-behind_front tree s n front = type_behind_steps tree s (type_named s.names n) (steps_in front)
+abbrev pub after_front : Tree → Scope → Name → List Step → StaticType
+after_front tree s n front = known_type_after_steps tree s (type_named s.names n) (steps_in front)
 
 -- a name leads to what has a type by some steps, the last of which is taken of what has another
 pub record LeadsTo (tree : Tree) (s : Scope) (n : Name) (steps : List Step) (last : Step) (holder t : StaticType) : Type 0 where
   pub front : List Step
   pub whole : steps ≡ front ++ last ∷ []
-  pub before : holder ≡ behind_front tree s n front
-  pub is : t ≡ type_behind tree s holder last
+  pub before : holder ≡ after_front tree s n front
+  pub is : t ≡ known_type_after tree s holder last
 
--- what a name with steps behind it is as a target
+-- what a name with steps after it is as a target
 abbrev pub IsTarget : Tree → Scope → Name → List Step → Target → Type 0
 IsTarget tree s n steps (target.Variable t) = (steps ≡ []) × (t ≡ type_named s.names n)
 IsTarget tree s n steps (target.Field holder f t) = LeadsTo tree s n steps (Field f.now) holder t
@@ -50,9 +50,9 @@ IsTarget tree s n steps (target.Element t) =
 abbrev pub EndsIn : Tree → Scope → StaticType → Step → Target → Type 0
 EndsIn tree s holder last (target.Variable t) = ⊥
 EndsIn tree s holder last (target.Field h f t) =
-    (h ≡ holder) × (last ≡ Field f.now) × (t ≡ type_behind tree s holder last)
+    (h ≡ holder) × (last ≡ Field f.now) × (t ≡ known_type_after tree s holder last)
 EndsIn tree s holder last (target.Element t) =
-    (is_place last ≡ true) × (t ≡ type_behind tree s holder last)
+    (is_place last ≡ true) × (t ≡ known_type_after tree s holder last)
 
 abbrev pub type_of_target : Target → StaticType
 type_of_target (target.Variable t) = t

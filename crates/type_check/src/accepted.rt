@@ -2,7 +2,7 @@
 
 ghost use Rattle.std.specs.Prelude.{◌≡◌};
 ghost use Rattle.regent_tree.specs.PlainProgram.{tree_of};
-ghost use Rattle.declaration_check.specs.Starts.{input_widths};
+ghost use Rattle.check_items.specs.Entries.{input_widths};
 ghost use Rattle.type_check.specs.Acceptance.{IsAccepted};
 
 use lane_kernels::Width;
@@ -49,7 +49,7 @@ impl Accepted {
         &self.program
     }
 
-    /// The widths of the numbers that the started task takes, in the order of its parameters.
+    /// The widths of the numbers that the entry task takes, in the order of its parameters.
     pub fn inputs(&self) -> &[Width]
         ensures { result.now ≡ input_widths (tree_of self.now) }
     {

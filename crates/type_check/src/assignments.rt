@@ -9,16 +9,16 @@ ghost use Rattle.check_rules.specs.Privileges.{lacks};
 ghost use Rattle.check_rules.specs.Standing.{stands};
 ghost use Rattle.check_rules.specs.Statements.{spot_of_target};
 ghost use Rattle.check_rules.specs.Targets.{is_fixed, is_no_integer};
-ghost use Rattle.expression_check.specs.Seen.{seen};
-ghost use Rattle.expression_check.specs.Sites.{HoldsDeclared, task_at, tree_at};
+ghost use Rattle.check_expressions.specs.Seen.{seen};
+ghost use Rattle.check_expressions.specs.Sites.{HoldsDeclared, task_at, tree_at};
 ghost use Rattle.static_types.specs.Telling.{Anything, Tells};
 ghost use Rattle.type_check.specs.Targets.{EndsIn, IsTarget, first_at_last, first_of_target, first_of_use, is_no_place, mistargets, type_of_target, wanted_by};
 
-use check_rules::Rule;
-use constraint_check::Facts;
-use expression_check::{
+use check_expressions::{
     Scope, Site, element_step, expression, field_step, misuses_field, spots, type_of_name, walk,
 };
+use check_rules::Rule;
+use constraint_check::Facts;
 use program_tables::Names;
 use regent_tree::{Access, Bound, Expr, How, Name, StaticType, Step};
 use static_types::{Stop, is_collection, is_integer, is_space, is_unknown};
@@ -84,7 +84,7 @@ fn split_last(steps: &[Step]) -> Option<(&Step, &[Step])>
     steps.split_last()
 }
 
-/// What a name with steps behind it is as a target.
+/// What a name with steps after it is as a target.
 fn target_of<'a>(
     site: &Site,
     scope: &Scope,
@@ -95,11 +95,11 @@ fn target_of<'a>(
     ensures { Tells (IsTarget (tree_at site.now) (seen scope.now) name.now steps.now) result
         (first_in_target (tree_at site.now) (task_at site.now) (seen scope.now) name.now (steps_in steps.now)) }
 {
-    let start = type_of_name(site, scope, name)?;
+    let initializer = type_of_name(site, scope, name)?;
     let Some((last, front)) = split_last(steps) else {
-        return Ok(Target::Variable(start));
+        return Ok(Target::Variable(initializer));
     };
-    let holder = walk(site, scope, start, front)?;
+    let holder = walk(site, scope, initializer, front)?;
     at_last(site, scope, holder, last)
 }
 

@@ -3,8 +3,8 @@
 ghost use Rattle.std.specs.Option.{option_copied};
 ghost use Rattle.std.specs.Prelude.{◌≡◌, IfNone, IfSome, is_some, None, Some};
 ghost use Rattle.regent_tree.specs.Lookup.{type_named};
-ghost use Rattle.regent_tree.specs.Plain.{expression_of, links_in, start_of, steps_in};
-ghost use Rattle.regent_tree.specs.Syntax.{plain_start};
+ghost use Rattle.regent_tree.specs.Plain.{expression_of, links_in, initializer_of, steps_in};
+ghost use Rattle.regent_tree.specs.Syntax.{plain_initializer};
 ghost use Rattle.check_rules.specs.Partitions.{is_difference};
 ghost use Rattle.check_rules.specs.Places.{begins_partition, begins_region};
 ghost use Rattle.check_rules.specs.Sorts.{is_partition, may_be};
@@ -103,9 +103,9 @@ fn is_one_place(steps: &[Step]) -> bool
     steps.len() == 1 && is_place(&steps[0])
 }
 
-/// Whether an expression is a name with one place behind it.
+/// Whether an expression is a name with one place after it.
 fn is_name_at_place(e: &Expr) -> bool
-    ensures { result ≡ begins_region (plain_start (expression_of e.now)) }
+    ensures { result ≡ begins_region (plain_initializer (expression_of e.now)) }
 {
     match e {
         Expr::Access { steps, .. } => is_one_place(steps.as_slice()),
@@ -113,9 +113,9 @@ fn is_name_at_place(e: &Expr) -> bool
     }
 }
 
-/// Whether a start value is one with which a region may begin: a new region, or a child.
+/// Whether an initializer is one with which a region may begin: a new region, or a child.
 pub fn begins_region(init: &Init) -> bool
-    ensures { result ≡ begins_region (start_of init.now) }
+    ensures { result ≡ begins_region (initializer_of init.now) }
 {
     match init {
         Init::Region { .. } => true,
@@ -124,9 +124,9 @@ pub fn begins_region(init: &Init) -> bool
     }
 }
 
-/// Whether a start value is one with which a partition may begin: a partition operation.
+/// Whether an initializer is one with which a partition may begin: a partition operation.
 pub fn begins_partition(names: &Names, init: &Init) -> bool
-    ensures { result ≡ begins_partition names.now (start_of init.now) }
+    ensures { result ≡ begins_partition names.now (initializer_of init.now) }
 {
     match init {
         Init::Region { .. } => false,

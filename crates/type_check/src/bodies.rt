@@ -9,14 +9,14 @@ ghost use Rattle.check_rules.specs.FirstInItems.{first_in_body};
 ghost use Rattle.check_rules.specs.FirstInStatements.{first_in_block};
 ghost use Rattle.check_rules.specs.Rules.{first_in};
 ghost use Rattle.check_rules.specs.Sound.{StandsIn};
-ghost use Rattle.declaration_check.specs.Halting.{TellsAt};
-ghost use Rattle.expression_check.specs.Seen.{seen};
+ghost use Rattle.check_items.specs.Halting.{TellsAt};
+ghost use Rattle.check_expressions.specs.Seen.{seen};
 ghost use Rattle.static_types.specs.Telling.{Anything};
 
 use crate::statements::block;
 use crate::variables::{bind, know};
-use declaration_check::Halt;
-use expression_check::{Declared, Scope, Site, held_by, rights_declared};
+use check_expressions::{Declared, Scope, Site, held_by, rights_declared};
+use check_items::Halt;
 use program_tables::{Tables, copy_name};
 use regent_tree::{Clause, ItemKind, Known, Name, Param, Task, Term};
 use static_types::{Among, number_at, place_in, type_said};

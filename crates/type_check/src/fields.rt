@@ -7,10 +7,10 @@ ghost use Rattle.regent_tree.specs.StaticTypes.{field_type, space_at};
 ghost use Rattle.check_rules.specs.Declarations.{is_flawed_field, known_field};
 ghost use Rattle.check_rules.specs.Params.{type_unless};
 ghost use Rattle.check_rules.specs.Lookup.{region_has};
-ghost use Rattle.check_rules.specs.Names.{misnames_region_field};
-ghost use Rattle.expression_check.specs.Sites.{tree_at};
+ghost use Rattle.check_rules.specs.Names.{is_unknown_region_field};
+ghost use Rattle.check_expressions.specs.Sites.{tree_at};
 
-use expression_check::{Declared, Site};
+use check_expressions::{Declared, Site};
 use program_tables::Names;
 use regent_tree::{Name, Reach, StaticType};
 use static_types::{names_region, region_has};
@@ -48,13 +48,13 @@ pub fn known_field(site: &Site, t: &StaticType, field: &Name) -> Result<StaticTy
 }
 
 /// Whether a name is bound to no region, or to one whose field space hasn't a field.
-pub fn misnames_region_field(
+pub fn is_unknown_region_field(
     declared: &Declared,
     names: &Names,
     region: &Name,
     field: &Name,
 ) -> bool
-    ensures { result ≡ misnames_region_field (tree_of declared.now) names.now region.now field.now }
+    ensures { result ≡ is_unknown_region_field (tree_of declared.now) names.now region.now field.now }
 {
     match names.bound_to(region) {
         Some(bound) => {

@@ -12,22 +12,22 @@ ghost use Rattle.check_rules.specs.Declarations.{known_field};
 ghost use Rattle.check_rules.specs.FirstInExpressions.{first_of_standing};
 ghost use Rattle.check_rules.specs.FirstInStatements.{first_of_form};
 ghost use Rattle.check_rules.specs.Formats.{misprints};
-ghost use Rattle.check_rules.specs.Names.{misnames_region_field, misses_alias};
+ghost use Rattle.check_rules.specs.Names.{is_unknown_region_field, misses_alias};
 ghost use Rattle.check_rules.specs.Privileges.{lacks, wanted_of_region};
 ghost use Rattle.check_rules.specs.Rules.{first_in};
 ghost use Rattle.check_rules.specs.Sorts.{is_integer, may_be};
 ghost use Rattle.check_rules.specs.Standing.{stands, typed_spot, value_spot};
 ghost use Rattle.check_rules.specs.Statements.{known_result};
-ghost use Rattle.expression_check.specs.Seen.{seen};
-ghost use Rattle.expression_check.specs.Sites.{HoldsDeclared, task_at, tree_at};
+ghost use Rattle.check_expressions.specs.Seen.{seen};
+ghost use Rattle.check_expressions.specs.Sites.{HoldsDeclared, task_at, tree_at};
 ghost use Rattle.static_types.specs.Telling.{Anything, Tells};
 ghost use Rattle.type_check.specs.Heads.{first_of_call_alone, first_of_fill, first_of_filled, first_of_print};
 
-use crate::fields::{known_field, misnames_region_field};
-use check_rules::Rule;
-use expression_check::{
+use crate::fields::{is_unknown_region_field, known_field};
+use check_expressions::{
     Declared, Scope, Site, arguments, call, expression, misuses_region_field, spots,
 };
+use check_rules::Rule;
 use program_tables::Names;
 use regent_tree::{Access, Expr, Name, StaticType, TypeTerm};
 use static_types::{Stop, is_integer, is_unknown, names_region, number_type, prints};
@@ -37,10 +37,10 @@ use std::alloc::AllocError;
 
 fn any_misnames(declared: &Declared, names: &Names, region: &Name, fields: &[Name]) -> bool
     ensures { result
-        ≡ list_any (misnames_region_field (tree_of declared.now) names.now region.now) fields.now }
+        ≡ list_any (is_unknown_region_field (tree_of declared.now) names.now region.now) fields.now }
 {
     for field in fields {
-        if misnames_region_field(declared, names, region, field) {
+        if is_unknown_region_field(declared, names, region, field) {
             return true;
         }
     }
@@ -97,8 +97,8 @@ fn filled<'a>(
     let Some(bound) = names.bound_to(region) else {
         return Err(Stop::Breach(Rule::Name));
     };
-    let misnames = any_misnames(declared, names, region, fields);
-    Stop::at(!names_region(names, region) || misnames, Rule::Name)?;
+    let has_unbound_name = any_misnames(declared, names, region, fields);
+    Stop::at(!names_region(names, region) || has_unbound_name, Rule::Name)?;
     Ok(&bound.static_type)
 }
 

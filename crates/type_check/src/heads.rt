@@ -10,13 +10,13 @@ ghost use Rattle.check_rules.specs.Parts.{tests_of};
 ghost use Rattle.check_rules.specs.Rules.{first_in};
 ghost use Rattle.check_rules.specs.Standing.{stands, truth_spot};
 ghost use Rattle.check_rules.specs.Variables.{counted_type};
-ghost use Rattle.expression_check.specs.Seen.{seen};
-ghost use Rattle.expression_check.specs.Sites.{HoldsDeclared, task_at, tree_at};
+ghost use Rattle.check_expressions.specs.Seen.{seen};
+ghost use Rattle.check_expressions.specs.Sites.{HoldsDeclared, task_at, tree_at};
 ghost use Rattle.static_types.specs.Telling.{Anything, Tells};
 ghost use Rattle.type_check.specs.Heads.{first_of_bounds, first_of_domain, first_of_test, first_of_tests};
 
+use check_expressions::{Scope, Site, expression, spots};
 use check_rules::Rule;
-use expression_check::{Scope, Site, expression, spots};
 use plain_values::Sequence;
 use regent_tree::{Arm, Expr, StaticType};
 use static_types::{Stop, arithmetic_type, is_integer};

@@ -6,8 +6,8 @@ ghost use Rattle.regent_tree.specs.Limits.{WithinLimits};
 ghost use Rattle.regent_tree.specs.PlainProgram.{tree_of};
 ghost use Rattle.check_rules.specs.Breaches.{breaches};
 ghost use Rattle.check_rules.specs.FirstInItems.{first_breach};
-ghost use Rattle.declaration_check.specs.Halting.{TellsAt};
-ghost use Rattle.declaration_check.specs.Starts.{input_widths};
+ghost use Rattle.check_items.specs.Halting.{TellsAt};
+ghost use Rattle.check_items.specs.Entries.{input_widths};
 ghost use Rattle.type_check.specs.Refusals.{Refuses};
 
 mod accepted;
@@ -17,17 +17,17 @@ mod bodies;
 mod fields;
 mod forms;
 mod heads;
+mod initializers;
 mod lines;
 mod named;
-mod partition_starts;
-mod starts;
+mod partition_initializers;
 mod statements;
 mod variables;
 
 pub use accepted::{Accepted, CheckFault};
 use bodies::check_bodies;
-use declaration_check::{Halt, check_items, check_names, check_start, input_widths};
-use expression_check::Declared;
+use check_expressions::Declared;
+use check_items::{Halt, check_declarations, check_entry, check_names, input_widths};
 use lane_kernels::Width;
 use program_tables::Tables;
 use regent_tree::Program;
@@ -42,8 +42,8 @@ fn checked(alloc: Global, program: &Program) -> Result<Vec<Width>, Halt>
 {
     let tables = Tables::new(alloc, program)?;
     check_names(alloc, program)?;
-    check_start(alloc, &tables)?;
-    check_items(alloc, &tables)?;
+    check_entry(alloc, &tables)?;
+    check_declarations(alloc, &tables)?;
     let inputs = input_widths(alloc, &tables)?;
     let declared = Declared::new(tables);
     check_bodies(alloc, &declared)?;

@@ -3,7 +3,7 @@
 ghost use Rattle.std.specs.Prelude.{◌≡◌};
 ghost use Rattle.type_check.specs.Lines.{on_line};
 
-use declaration_check::{Halt, halt_on};
+use check_items::{Halt, halt_on};
 use static_types::Stop;
 
 /// What is told, on a line.

@@ -4,25 +4,25 @@ ghost use Rattle.std.specs.Prelude.{◌≡◌, ◌&&◌, not, IfOk};
 ghost use Rattle.std.specs.Option.{option_or};
 ghost use Rattle.regent_tree.specs.Lookup.{type_named};
 ghost use Rattle.regent_tree.specs.Scopes.{bound_to};
-ghost use Rattle.regent_tree.specs.Syntax.{image_start};
+ghost use Rattle.regent_tree.specs.Syntax.{image_initializer};
 ghost use Rattle.regent_tree.specs.Typing.{is_disjoint, parent_of};
 ghost use Rattle.regent_tree.specs.declared.rights.Access.TheVariants.{Read};
 ghost use Rattle.check_rules.specs.Declarations.{known_field};
 ghost use Rattle.check_rules.specs.Lookup.{names_a};
-ghost use Rattle.check_rules.specs.Names.{are_partitions, misnames_start};
+ghost use Rattle.check_rules.specs.Names.{are_partitions, unbound_name_in_initializer};
 ghost use Rattle.check_rules.specs.Partitions.{have_other_parents, is_outside, parent_is_outside, tells_colours, tells_points};
 ghost use Rattle.check_rules.specs.Privileges.{lacks, wanted_of_region};
 ghost use Rattle.check_rules.specs.Rules.{rule_if};
 ghost use Rattle.check_rules.specs.Sorts.{is_region, is_unknown_type};
 ghost use Rattle.check_rules.specs.declared.rule.Rule.TheVariants as rule;
 ghost use Rattle.static_types.specs.Telling.{Anything, Tells};
-ghost use Rattle.expression_check.specs.Seen.{seen};
-ghost use Rattle.expression_check.specs.Sites.{HoldsDeclared, task_at, tree_at};
+ghost use Rattle.check_expressions.specs.Seen.{seen};
+ghost use Rattle.check_expressions.specs.Sites.{HoldsDeclared, task_at, tree_at};
 
-use crate::fields::{known_field, misnames_region_field};
+use crate::fields::{is_unknown_region_field, known_field};
+use check_expressions::{Scope, Site, misuses_region_field};
 use check_rules::Rule;
 use constraint_check::Facts;
-use expression_check::{Scope, Site, misuses_region_field};
 use program_tables::Names;
 use regent_tree::{Access, Name, StaticType, Term};
 use static_types::{
@@ -133,12 +133,12 @@ pub fn misnames_operation(
     region: &Name,
     field: &Name,
 ) -> bool
-    ensures { result ≡ misnames_start (tree_at site.now) names.now
-        (image_start parent.now partition.now region.now field.now) }
+    ensures { result ≡ unbound_name_in_initializer (tree_at site.now) names.now
+        (image_initializer parent.now partition.now region.now field.now) }
 {
     !names_region(names, parent)
         || !names_partition(names, partition)
-        || misnames_region_field(site.declared, names, region, field)
+        || is_unknown_region_field(site.declared, names, region, field)
 }
 
 /// Whether the partition that a name stands for has a parent that isn't within a region.

@@ -5,10 +5,10 @@ ghost use Rattle.std.specs.Prelude.{◌≡◌, false, true};
 ghost use Rattle.regent_tree.specs.PlainProgram.{arms_in, block_in, form_of, otherwise_in};
 ghost use Rattle.regent_tree.specs.Scopes.{past, with_name};
 ghost use Rattle.check_rules.specs.FirstInStatements.{first_in_arms, first_in_block, first_in_else, first_of_form, first_within, told_on};
-ghost use Rattle.check_rules.specs.Variables.{scope_behind, scope_behind_arms, scope_behind_block, scope_behind_else};
-ghost use Rattle.declaration_check.specs.Halting.{TellsAt};
-ghost use Rattle.expression_check.specs.Seen.{seen};
-ghost use Rattle.expression_check.specs.Sites.{HoldsDeclared, task_at, tree_at};
+ghost use Rattle.check_rules.specs.Variables.{known_scope_after, known_scope_after_arms, known_scope_after_block, known_scope_after_else};
+ghost use Rattle.check_items.specs.Halting.{TellsAt};
+ghost use Rattle.check_expressions.specs.Seen.{seen};
+ghost use Rattle.check_expressions.specs.Sites.{HoldsDeclared, task_at, tree_at};
 ghost use Rattle.static_types.specs.Telling.{Tells};
 ghost use Rattle.type_check.specs.Heads.{has_block};
 
@@ -17,8 +17,8 @@ use crate::forms::{call_alone, fill, print, return_any};
 use crate::heads::{bounds, domain, test, tests};
 use crate::lines::on_line;
 use crate::variables::variable;
-use declaration_check::Halt;
-use expression_check::{Scope, Site};
+use check_expressions::{Scope, Site};
+use check_items::Halt;
 use program_tables::copy_name;
 use regent_tree::{Arm, Name, StaticType, Stmt, What};
 use static_types::Stop;
@@ -27,7 +27,7 @@ use static_types::Stop;
 #[cycle(statement)]
 pub fn block(site: &Site, scope: &mut Scope, body: &[Stmt]) -> Result<(), Halt>
     requires { HoldsDeclared site.now }
-    ensures { TellsAt (λ _. seen scope.new ≡ scope_behind_block (tree_at site.now) (seen scope.old) (block_in body.now)) result
+    ensures { TellsAt (λ _. seen scope.new ≡ known_scope_after_block (tree_at site.now) (seen scope.old) (block_in body.now)) result
         (first_in_block (tree_at site.now) (task_at site.now) (seen scope.old) (block_in body.now)) }
 {
     for stmt in body {
@@ -40,7 +40,7 @@ pub fn block(site: &Site, scope: &mut Scope, body: &[Stmt]) -> Result<(), Halt>
 fn without_block(site: &Site, scope: &mut Scope, what: &What) -> Result<(), Stop>
     requires declared { HoldsDeclared site.now }
     requires plain { has_block (form_of what.now) ≡ false }
-    ensures { Tells (λ _. seen scope.new ≡ scope_behind (tree_at site.now) (seen scope.old) (form_of what.now)) result
+    ensures { Tells (λ _. seen scope.new ≡ known_scope_after (tree_at site.now) (seen scope.old) (form_of what.now)) result
         (first_of_form (tree_at site.now) (task_at site.now) (seen scope.old) (form_of what.now)) }
 {
     match what {
@@ -76,7 +76,7 @@ fn without_block(site: &Site, scope: &mut Scope, what: &What) -> Result<(), Stop
 #[cycle(statement)]
 fn statement(site: &Site, scope: &mut Scope, stmt: &Stmt) -> Result<(), Halt>
     requires { HoldsDeclared site.now }
-    ensures { TellsAt (λ _. seen scope.new ≡ scope_behind (tree_at site.now) (seen scope.old) (form_of stmt.now.what)) result
+    ensures { TellsAt (λ _. seen scope.new ≡ known_scope_after (tree_at site.now) (seen scope.old) (form_of stmt.now.what)) result
         (option_or (told_on stmt.now.line (first_of_form (tree_at site.now) (task_at site.now) (seen scope.old) (form_of stmt.now.what)))
         (first_within (tree_at site.now) (task_at site.now) (seen scope.old) (form_of stmt.now.what))) }
 {
@@ -122,7 +122,7 @@ fn statement(site: &Site, scope: &mut Scope, stmt: &Stmt) -> Result<(), Halt>
 #[cycle(statement)]
 fn arm_blocks(site: &Site, scope: &mut Scope, arms: &[Arm]) -> Result<(), Halt>
     requires { HoldsDeclared site.now }
-    ensures { TellsAt (λ _. seen scope.new ≡ scope_behind_arms (tree_at site.now) (seen scope.old) (arms_in arms.now)) result
+    ensures { TellsAt (λ _. seen scope.new ≡ known_scope_after_arms (tree_at site.now) (seen scope.old) (arms_in arms.now)) result
         (first_in_arms (tree_at site.now) (task_at site.now) (seen scope.old) (arms_in arms.now)) }
 {
     for arm in arms {
@@ -136,7 +136,7 @@ fn arm_blocks(site: &Site, scope: &mut Scope, arms: &[Arm]) -> Result<(), Halt>
 fn nested(site: &Site, scope: &mut Scope, body: &[Stmt]) -> Result<(), Halt>
     requires { HoldsDeclared site.now }
     ensures { TellsAt (λ _. seen scope.new ≡ past (seen scope.old)
-        (scope_behind_block (tree_at site.now) (seen scope.old) (block_in body.now))) result
+        (known_scope_after_block (tree_at site.now) (seen scope.old) (block_in body.now))) result
         (first_in_block (tree_at site.now) (task_at site.now) (seen scope.old) (block_in body.now)) }
 {
     let len = scope.names().len();
@@ -156,7 +156,7 @@ fn loop_body(
 ) -> Result<(), Halt>
     requires { HoldsDeclared site.now }
     ensures { TellsAt (λ _. seen scope.new ≡ past (seen scope.old)
-        (scope_behind_block (tree_at site.now) (with_name (seen scope.old) name.now taken true) (block_in body.now))) result
+        (known_scope_after_block (tree_at site.now) (with_name (seen scope.old) name.now taken true) (block_in body.now))) result
         (first_in_block (tree_at site.now) (task_at site.now) (with_name (seen scope.old) name.now taken true) (block_in body.now)) }
 {
     let outer = scope.names().len();

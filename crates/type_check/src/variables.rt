@@ -2,25 +2,25 @@
 
 ghost use Rattle.std.specs.Option.{option_map};
 ghost use Rattle.std.specs.Prelude.{◌≡◌, ◌&&◌, ◌++◌, [], false, None, OnOk, Some, option_to_list};
-ghost use Rattle.regent_tree.specs.Plain.{start_of};
+ghost use Rattle.regent_tree.specs.Plain.{initializer_of};
 ghost use Rattle.regent_tree.specs.Scopes.{knowing, known_of_type, with_name};
 ghost use Rattle.regent_tree.specs.Syntax.{var_form};
 ghost use Rattle.check_rules.specs.Params.{type_unless};
 ghost use Rattle.check_rules.specs.FirstInExpressions.{first_in_type};
-ghost use Rattle.check_rules.specs.Places.{misbegins};
+ghost use Rattle.check_rules.specs.Places.{has_wrong_initializer};
 ghost use Rattle.check_rules.specs.Rules.{rule_if};
 ghost use Rattle.check_rules.specs.Sorts.{is_collection, is_unknown_type};
-ghost use Rattle.check_rules.specs.Variables.{bound_type, declared_type, known_of_known_start, scope_behind};
+ghost use Rattle.check_rules.specs.Variables.{bound_type, declared_type, known_of_known_initializer, known_scope_after};
 ghost use Rattle.check_rules.specs.declared.rule.Rule.TheVariants as rule;
-ghost use Rattle.expression_check.specs.Seen.{seen};
-ghost use Rattle.expression_check.specs.Sites.{HoldsDeclared, task_at, tree_at};
+ghost use Rattle.check_expressions.specs.Seen.{seen};
+ghost use Rattle.check_expressions.specs.Sites.{HoldsDeclared, task_at, tree_at};
 ghost use Rattle.static_types.specs.Telling.{Anything, Tells};
-ghost use Rattle.type_check.specs.Variables.{first_of_begun, first_by_both, first_by_type, first_by_start, first_of_var};
+ghost use Rattle.type_check.specs.Variables.{first_of_begun, first_by_both, first_by_type, first_by_initializer, first_of_var};
 
 use crate::beginnings::{begins_partition, begins_region};
-use crate::starts::{Beginning, start_value};
+use crate::initializers::{Beginning, initial_value};
+use check_expressions::{Scope, Site, spots};
 use check_rules::Rule;
-use expression_check::{Scope, Site, spots};
 use program_tables::{Names, copy_name};
 use regent_tree::{Init, Known, Name, StaticType, TypeTerm};
 use static_types::{
@@ -44,8 +44,8 @@ fn declared_type(site: &Site, scope: &Scope, term: &TypeTerm) -> Result<StaticTy
 }
 
 /// Whether a variable of a type doesn't begin as it must.
-fn misbegins(names: &Names, wanted: &StaticType, t: &StaticType, init: &Init) -> bool
-    ensures { result ≡ misbegins names.now wanted.now t.now (start_of init.now) }
+fn has_wrong_initializer(names: &Names, wanted: &StaticType, t: &StaticType, init: &Init) -> bool
+    ensures { result ≡ has_wrong_initializer names.now wanted.now t.now (initializer_of init.now) }
 {
     if is_unknown(t) {
         return false;
@@ -54,16 +54,19 @@ fn misbegins(names: &Names, wanted: &StaticType, t: &StaticType, init: &Init) ->
         || is_partition(wanted) && !begins_partition(names, init)
 }
 
-/// A variable by its start value alone.
-fn by_start(site: &Site, scope: &Scope, init: &Init) -> Result<Beginning, Stop>
+/// A variable by its initializer alone.
+fn by_initializer(site: &Site, scope: &Scope, init: &Init) -> Result<Beginning, Stop>
     requires { HoldsDeclared site.now }
-    ensures { Tells (λ b. (b.static_type ≡ bound_type (tree_at site.now) (seen scope.now) None (Some (start_of init.now)))
-        × (option_to_list b.known ≡ known_of_known_start (tree_at site.now) (seen scope.now) (Some (start_of init.now)))) result
-        (first_by_start (tree_at site.now) (task_at site.now) (seen scope.now) (start_of init.now)) }
+    ensures { Tells (λ b. (b.static_type ≡ bound_type (tree_at site.now) (seen scope.now) None (Some (initializer_of init.now)))
+        × (option_to_list b.known ≡ known_of_known_initializer (tree_at site.now) (seen scope.now) (Some (initializer_of init.now)))) result
+        (first_by_initializer (tree_at site.now) (task_at site.now) (seen scope.now) (initializer_of init.now)) }
 {
-    let begun = start_value(site, scope, init)?;
+    let begun = initial_value(site, scope, init)?;
     let t = &begun.static_type;
-    Stop::at(misbegins(scope.names(), t, t, init), Rule::Place)?;
+    Stop::at(
+        has_wrong_initializer(scope.names(), t, t, init),
+        Rule::Place,
+    )?;
     Ok(begun)
 }
 
@@ -81,7 +84,7 @@ fn by_type(site: &Site, scope: &Scope, term: &TypeTerm) -> Result<Beginning, Sto
     })
 }
 
-/// The declared type, unless it is a collection's and the start value is unknown: which collection it is
+/// The declared type, unless it is a collection's and the initializer is unknown: which collection it is
 /// comes from that.
 fn unless_begun_unknown(declared: StaticType, begun: &StaticType) -> StaticType
     ensures { result ≡ type_unless (is_collection declared && is_unknown_type begun.now) declared }
@@ -96,21 +99,24 @@ fn unless_begun_unknown(declared: StaticType, begun: &StaticType) -> StaticType
 /// Whether what a variable of a type begins with fits, and whether it begins as it must.
 fn check_begun(scope: &Scope, wanted: &StaticType, t: &StaticType, init: &Init) -> Result<(), Stop>
     ensures { Tells Anything result
-        (first_of_begun (seen scope.now) wanted.now t.now (start_of init.now)) }
+        (first_of_begun (seen scope.now) wanted.now t.now (initializer_of init.now)) }
 {
     spots::typed(scope.facts(), t, wanted)?;
-    Stop::at(misbegins(scope.names(), wanted, t, init), Rule::Place)
+    Stop::at(
+        has_wrong_initializer(scope.names(), wanted, t, init),
+        Rule::Place,
+    )
 }
 
-/// A variable by its declared type and its start value.
+/// A variable by its declared type and its initializer.
 fn by_both(site: &Site, scope: &Scope, term: &TypeTerm, init: &Init) -> Result<Beginning, Stop>
     requires { HoldsDeclared site.now }
-    ensures { Tells (λ b. (b.static_type ≡ bound_type (tree_at site.now) (seen scope.now) (Some term.now) (Some (start_of init.now)))
-        × (option_to_list b.known ≡ known_of_known_start (tree_at site.now) (seen scope.now) (Some (start_of init.now)))) result
-        (first_by_both (tree_at site.now) (task_at site.now) (seen scope.now) term.now (start_of init.now)) }
+    ensures { Tells (λ b. (b.static_type ≡ bound_type (tree_at site.now) (seen scope.now) (Some term.now) (Some (initializer_of init.now)))
+        × (option_to_list b.known ≡ known_of_known_initializer (tree_at site.now) (seen scope.now) (Some (initializer_of init.now)))) result
+        (first_by_both (tree_at site.now) (task_at site.now) (seen scope.now) term.now (initializer_of init.now)) }
 {
     let declared = declared_type(site, scope, term)?;
-    let begun = start_value(site, scope, init)?;
+    let begun = initial_value(site, scope, init)?;
     check_begun(scope, &declared, &begun.static_type, init)?;
     Ok(Beginning {
         static_type: unless_begun_unknown(declared, &begun.static_type),
@@ -170,13 +176,13 @@ fn begun_by(
     init: &Option<Init>,
 ) -> Result<Beginning, Stop>
     requires { HoldsDeclared site.now }
-    ensures { Tells (λ b. (b.static_type ≡ bound_type (tree_at site.now) (seen scope.now) term.now (option_map start_of init.now))
-        × (option_to_list b.known ≡ known_of_known_start (tree_at site.now) (seen scope.now) (option_map start_of init.now))) result
-        (first_of_var (tree_at site.now) (task_at site.now) (seen scope.now) term.now (option_map start_of init.now)) }
+    ensures { Tells (λ b. (b.static_type ≡ bound_type (tree_at site.now) (seen scope.now) term.now (option_map initializer_of init.now))
+        × (option_to_list b.known ≡ known_of_known_initializer (tree_at site.now) (seen scope.now) (option_map initializer_of init.now))) result
+        (first_of_var (tree_at site.now) (task_at site.now) (seen scope.now) term.now (option_map initializer_of init.now)) }
 {
     match (term, init) {
         (None, None) => Err(Stop::Breach(Rule::Type)),
-        (None, Some(init)) => by_start(site, scope, init),
+        (None, Some(init)) => by_initializer(site, scope, init),
         (Some(term), None) => by_type(site, scope, term),
         (Some(term), Some(init)) => by_both(site, scope, term, init),
     }
@@ -191,9 +197,9 @@ pub fn variable(
     init: &Option<Init>,
 ) -> Result<(), Stop>
     requires { HoldsDeclared site.now }
-    ensures { Tells (λ _. seen scope.new ≡ scope_behind (tree_at site.now) (seen scope.old)
-        (var_form name.now term.now (option_map start_of init.now))) result
-        (first_of_var (tree_at site.now) (task_at site.now) (seen scope.old) term.now (option_map start_of init.now)) }
+    ensures { Tells (λ _. seen scope.new ≡ known_scope_after (tree_at site.now) (seen scope.old)
+        (var_form name.now term.now (option_map initializer_of init.now))) result
+        (first_of_var (tree_at site.now) (task_at site.now) (seen scope.old) term.now (option_map initializer_of init.now)) }
 {
     let Beginning { static_type, known } = begun_by(site, scope, term, init)?;
     let name = copy_name(site.alloc, name)?;

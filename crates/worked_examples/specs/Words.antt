@@ -26,7 +26,7 @@ use Rattle.regent_tree.specs.declared.types.Ref.TheVariants.{Named}
 use Rattle.regent_tree.specs.declared.types.SpaceUse.{SpaceUse}
 use Rattle.regent_tree.specs.declared.types.TypeTerm.{TypeTerm}
 use Rattle.regent_tree.specs.declared.types.TypeTerm.TheVariants as typed
-use Rattle.regent_tree.specs.Syntax.{Name, Expression, number_expr, chain_expr, prefix_expr, call_expr, access_expr, space_expr, no_link, a_link, Expressions, no_expr, an_expr, Steps, no_step, field_step, at_step, Start, region_start, equal_start, by_field_start, image_start, preimage_start, both_start, either_start, plain_start, Statement, a_statement, Form, var_form, if_form, while_form, for_in_form, for_to_form, do_form, fill_form, print_form, call_form, assign_form, return_form, Block, no_statement, then_statement, Arms, no_arm, an_arm, no_else, else_block, ItemForm, alias_item, space_item, task_item, start_item, ItemTree}
+use Rattle.regent_tree.specs.Syntax.{Name, Expression, number_expr, chain_expr, prefix_expr, call_expr, access_expr, space_expr, no_link, a_link, Expressions, no_expr, an_expr, Steps, no_step, field_step, at_step, Initializer, region_initializer, equal_initializer, by_field_initializer, image_initializer, preimage_initializer, both_initializer, either_initializer, plain_initializer, Statement, a_statement, Form, var_form, if_form, while_form, for_in_form, for_to_form, do_form, fill_form, print_form, call_form, assign_form, return_form, Block, no_statement, then_statement, Arms, no_arm, an_arm, no_else, else_block, ItemForm, alias_item, space_item, task_item, start_item, ItemTree}
 
 -- ---- expressions
 
@@ -36,7 +36,7 @@ int n = number_expr (pos n) W32
 abbrev pub int64 : ℕ → Expression
 int64 n = number_expr (pos n) W64
 
--- a step of an access, before the steps behind it
+-- a step of an access, before the steps after it
 abbrev pub dot : String → Steps → Steps
 dot f rest = field_step (codes f) rest
 
@@ -130,34 +130,34 @@ block [] = no_statement
 block (s ∷ ss) = then_statement s (block ss)
 
 abbrev pub var : String → Expression → Form
-var x e = var_form (codes x) None (Some (plain_start e))
+var x e = var_form (codes x) None (Some (plain_initializer e))
 
 abbrev pub var_as : String → TypeTerm → Expression → Form
-var_as x t e = var_form (codes x) (Some t) (Some (plain_start e))
+var_as x t e = var_form (codes x) (Some t) (Some (plain_initializer e))
 
-abbrev pub var_from : String → Start → Form
+abbrev pub var_from : String → Initializer → Form
 var_from x s = var_form (codes x) None (Some s)
 
-abbrev pub new_region : Expression → SpaceUse → Start
-new_region e u = region_start e u
+abbrev pub new_region : Expression → SpaceUse → Initializer
+new_region e u = region_initializer e u
 
-abbrev pub equal : String → Expression → Start
-equal r e = equal_start (codes r) e
+abbrev pub equal : String → Expression → Initializer
+equal r e = equal_initializer (codes r) e
 
-abbrev pub by_field : String → String → Expression → Start
-by_field r f e = by_field_start (codes r) (codes f) e
+abbrev pub by_field : String → String → Expression → Initializer
+by_field r f e = by_field_initializer (codes r) (codes f) e
 
-abbrev pub image : String → String → String → String → Start
-image s p r f = image_start (codes s) (codes p) (codes r) (codes f)
+abbrev pub image : String → String → String → String → Initializer
+image s p r f = image_initializer (codes s) (codes p) (codes r) (codes f)
 
-abbrev pub preimage : String → String → String → String → Start
-preimage s p r f = preimage_start (codes s) (codes p) (codes r) (codes f)
+abbrev pub preimage : String → String → String → String → Initializer
+preimage s p r f = preimage_initializer (codes s) (codes p) (codes r) (codes f)
 
-abbrev pub both : String → String → Start
-both p q = both_start (codes p) (codes q)
+abbrev pub both : String → String → Initializer
+both p q = both_initializer (codes p) (codes q)
 
-abbrev pub either : String → String → Start
-either p q = either_start (codes p) (codes q)
+abbrev pub either : String → String → Initializer
+either p q = either_initializer (codes p) (codes q)
 
 abbrev pub set : String → List (Steps → Steps) → Expression → Form
 set x ss e = assign_form (codes x) (steps ss) how.Set e
@@ -178,7 +178,7 @@ call t es = call_form (codes t) (args es)
 abbrev pub when : Expression → List Statement → Form
 when e ss = if_form (an_arm e (block ss) no_arm) no_else
 
--- an arm of an `if`, before the arms behind it; and an `if` with an `else`
+-- an arm of an `if`, before the arms after it; and an `if` with an `else`
 abbrev pub arm : Expression → List Statement → Arms → Arms
 arm e ss rest = an_arm e (block ss) rest
 
@@ -246,7 +246,7 @@ task_giving t x ps cs ss = task_item (record {
 
 -- ---- outcomes
 
--- a run that finishes with this text and these roots of the started task
+-- a run that finishes with this text and these roots of the entry task
 abbrev pub prints : String → List RootImage → Outcome
 prints text roots = record { text = codes text; ending = Finished roots }
 

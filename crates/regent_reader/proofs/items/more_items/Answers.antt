@@ -4,7 +4,7 @@ use Rattle.std.proofs.lemmas.List.{map_push}
 use Rattle.regent_grammar.specs.Items.{item}
 use Rattle.regent_grammar.specs.Symbols as symbols
 use Rattle.regent_grammar.proofs.Facts.{item_sound, item_takes}
-use Rattle.regent_syntax.proofs.Loops.{Repeats, repeats, goes_on, ends, stops}
+use Rattle.read_terms.proofs.Loops.{Repeats, repeats, goes_on, ends, stops}
 use Rattle.regent_reader.proofs.items.more_items.Goals as goal
 
 again : Repeats symbols.goes_on item

@@ -6,6 +6,6 @@ use Rattle.straight_run.proofs.format.print.Given as goal
 abbrev pub invariant-loop-byte : goal.invariant-loop-byte
 invariant-loop-byte l = record {
   place : l.place ≤ l.byte-index;
-  whole : l.text.items ++ printed_at l.behind (drop l.byte-index l.format) (drop l.place (numbers_of l.numbers))
+  whole : l.text.items ++ printed_at l.after (drop l.byte-index l.format) (drop l.place (numbers_of l.numbers))
       ≡ l.initial.text.items ++ printed l.format (numbers_of l.numbers);
 }

@@ -1,6 +1,6 @@
 use Rattle.regent_tree.specs.Plain.{expression_of}
-use Rattle.expression_check.specs.Seen.{seen}
-use Rattle.expression_check.specs.Sites.{task_at, tree_at}
+use Rattle.check_expressions.specs.Seen.{seen}
+use Rattle.check_expressions.specs.Sites.{task_at, tree_at}
 use Rattle.static_types.specs.Telling.{Anything}
 use Rattle.type_check.proofs.Assigned.{told_by_target}
 use Rattle.type_check.proofs.assignments.assign.Goals as goal

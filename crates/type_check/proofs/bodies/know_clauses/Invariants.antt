@@ -1,6 +1,6 @@
 use Rattle.std.proofs.Common.{◌≡◌, drop}
 use Rattle.regent_tree.specs.Scopes.{knowing, known_of_clauses}
-use Rattle.expression_check.specs.Seen.{seen}
+use Rattle.check_expressions.specs.Seen.{seen}
 use Rattle.type_check.proofs.bodies.know_clauses.Given as goal
 
 abbrev pub invariant-loop-clause : goal.invariant-loop-clause

@@ -3,7 +3,7 @@ use Rattle.check_rules.specs.Declarations.{known_field}
 use Rattle.check_rules.specs.FirstInExpressions.{first_of_standing}
 use Rattle.check_rules.specs.Rules.{first_in}
 use Rattle.check_rules.specs.Standing.{stands, typed_spot}
-use Rattle.expression_check.specs.Sites.{tree_at}
+use Rattle.check_expressions.specs.Sites.{tree_at}
 use Rattle.type_check.proofs.forms.fields_take.Given as goal
 
 abbrev pub invariant-loop-field : goal.invariant-loop-field

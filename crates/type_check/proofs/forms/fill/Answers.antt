@@ -1,7 +1,7 @@
 use Rattle.std.proofs.lemmas.Result.{err_from_is_err_and}
 use Rattle.regent_tree.specs.Plain.{expression_of}
-use Rattle.expression_check.specs.Seen.{seen}
-use Rattle.expression_check.specs.Sites.{task_at, tree_at}
+use Rattle.check_expressions.specs.Seen.{seen}
+use Rattle.check_expressions.specs.Sites.{task_at, tree_at}
 use Rattle.static_types.specs.Telling.{Anything}
 use Rattle.type_check.proofs.ByForm.{fill_last, fill_stop}
 use Rattle.type_check.proofs.forms.fill.Goals as goal

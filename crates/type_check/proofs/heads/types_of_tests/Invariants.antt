@@ -4,8 +4,8 @@ use Rattle.check_rules.specs.FirstInExpressions.{first_in_expression}
 use Rattle.check_rules.specs.KnownTypes.{known_type}
 use Rattle.check_rules.specs.Parts.{tests_of}
 use Rattle.check_rules.specs.Rules.{first_in}
-use Rattle.expression_check.specs.Seen.{seen}
-use Rattle.expression_check.specs.Sites.{task_at, tree_at}
+use Rattle.check_expressions.specs.Seen.{seen}
+use Rattle.check_expressions.specs.Sites.{task_at, tree_at}
 use Rattle.type_check.proofs.heads.types_of_tests.Given as goal
 
 abbrev pub invariant-loop-arm : goal.invariant-loop-arm

@@ -9,12 +9,12 @@ use Rattle.regent_tree.proofs.Rows.{arms_of_vec, block_of_vec, otherwise_of_opti
 use Rattle.static_types.specs.Telling.{Anything}
 use Rattle.type_check.proofs.ByForm.{bounds_first, domain_first, tests_first, while_first}
 use Rattle.check_rules.specs.FirstInStatements.{first_in_arms, first_in_block}
-use Rattle.check_rules.specs.Variables.{scope_behind_arms, scope_behind_block}
-use Rattle.declaration_check.specs.Halting.{TellsAt}
-use Rattle.expression_check.specs.Seen.{seen}
-use Rattle.expression_check.specs.Sites.{task_at, tree_at}
+use Rattle.check_rules.specs.Variables.{known_scope_after_arms, known_scope_after_block}
+use Rattle.check_items.specs.Halting.{TellsAt}
+use Rattle.check_expressions.specs.Seen.{seen}
+use Rattle.check_expressions.specs.Sites.{task_at, tree_at}
 use Rattle.type_check.proofs.Blocks.{block_left, block_names, head_found, head_none, head_passes, head_stops, loop_names, none_of_both, stops_after, told_after, told_here}
-use Rattle.type_check.proofs.Following.{arms_on, arms_stop, behind_arms_on, behind_on, block_on, block_stop}
+use Rattle.type_check.proofs.Following.{arms_on, arms_stop, after_arms_on, after_on, block_on, block_stop}
 use Rattle.type_check.proofs.statements.+statement.Goals as goal
 
 pub arm_blocks-returns-in_err-nested : goal.arm_blocks-returns-in_err-nested
@@ -41,7 +41,7 @@ arm_blocks-loop-arm-preserved t c =
     record {
       told = arms_on tree task arms i a s u (first_in_arms tree task (seen c.args.scope.now) (arms_in arms))
           c.loop-arm-test.true c.arm-item.is here.0 here.1 c.loop-arm.invariant.told;
-      known = behind_arms_on tree task arms i a s u (scope_behind_arms tree (seen c.args.scope.now) (arms_in arms))
+      known = after_arms_on tree task arms i a s u (known_scope_after_arms tree (seen c.args.scope.now) (arms_in arms))
           c.loop-arm-test.true c.arm-item.is here.1 c.loop-arm.invariant.known;
     }
 
@@ -67,7 +67,7 @@ block-loop-stmt-preserved t c =
     record {
       told = block_on tree task body i x s u (first_in_block tree task (seen c.args.scope.now) (block_in body))
           c.loop-stmt-test.true c.stmt-item.is c.in_ok-statement.ensures.0 c.in_ok-statement.ensures.1 c.loop-stmt.invariant.told;
-      known = behind_on tree task body i x s u (scope_behind_block tree (seen c.args.scope.now) (block_in body))
+      known = after_on tree task body i x s u (known_scope_after_block tree (seen c.args.scope.now) (block_in body))
           c.loop-stmt-test.true c.stmt-item.is c.in_ok-statement.ensures.1 c.loop-stmt.invariant.known;
     }
 
@@ -82,8 +82,8 @@ loop_body-returns t c =
     c.in_ok-bind.ensures ∙ ap (λ m. with_name s m c.args.taken true) c.in_ok-name.ensures in
     let len : c.len-outer.result ≡ length c.args.scope.now.names = c.len-outer.ensures ∙ ap length c.names.ensures in (
       subst (λ u. first_in_block tree task u body ≡ None) inner c.in_ok-block.ensures.0,
-      block_left s (scope_behind_block tree (with_name s n c.args.taken true) body) c.block.new.scope c.leave.new.self
-          (c.in_ok-block.ensures.1 ∙ ap (λ u. scope_behind_block tree u body) inner)
+      block_left s (known_scope_after_block tree (with_name s n c.args.taken true) body) c.block.new.scope c.leave.new.self
+          (c.in_ok-block.ensures.1 ∙ ap (λ u. known_scope_after_block tree u body) inner)
           (loop_names tree s n c.args.taken body) (rw len at c.leave.ensures),
     )
 
@@ -94,7 +94,7 @@ nested-returns t c =
     let body = block_in c.args.body.now in
     let len : c.len-len.result ≡ length c.args.scope.now.names = c.len-len.ensures ∙ ap length c.names.ensures in (
       c.in_ok-block.ensures.0,
-      block_left s (scope_behind_block tree s body) c.block.new.scope c.leave.new.self c.in_ok-block.ensures.1
+      block_left s (known_scope_after_block tree s body) c.block.new.scope c.leave.new.self c.in_ok-block.ensures.1
           (block_names tree s body) (rw len at c.leave.ensures),
     )
 
@@ -130,13 +130,13 @@ statement-returns-in-Some t c =
     let body = block_in c.as_slice-in-Some.result.now in
     let blocks = rw (c.as_slice-in-If.ensures.value, ← c.as_slice.ensures.value) at c.in_ok-arm_blocks-in-If.ensures in
     let other = subst
-    (λ u. TellsAt (λ _. seen c.nested.new.scope ≡ past u (scope_behind_block tree u body)) c.nested.result (first_in_block tree task u body))
+    (λ u. TellsAt (λ _. seen c.nested.new.scope ≡ past u (known_scope_after_block tree u body)) c.nested.result (first_in_block tree task u body))
     blocks.1 c.nested.ensures in
     rw (c.in-If.is, arms_of_vec c.in-If.arms, otherwise_of_option c.in-If.other, c.in-Some.is, ← c.as_slice.ensures.value, ← c.as_slice-in-Some.ensures.value)
-    (head_passes Anything (λ _. seen c.nested.new.scope ≡ past (scope_behind_arms tree s arms) (scope_behind_block tree (scope_behind_arms tree s arms) body))
+    (head_passes Anything (λ _. seen c.nested.new.scope ≡ past (known_scope_after_arms tree s arms) (known_scope_after_block tree (known_scope_after_arms tree s arms) body))
     c.args.stmt.now.line c.in_ok-on_line-in-If.field-0 c.tests.result c.nested.result _ _ _ c.in_ok-on_line-in-If.ensures
     (tests_first tree task s arms (else_block body)) c.tests.ensures
-    (told_after (λ _. seen c.nested.new.scope ≡ past (scope_behind_arms tree s arms) (scope_behind_block tree (scope_behind_arms tree s arms) body))
+    (told_after (λ _. seen c.nested.new.scope ≡ past (known_scope_after_arms tree s arms) (known_scope_after_block tree (known_scope_after_arms tree s arms) body))
     c.nested.result (first_in_arms tree task s arms) _ blocks.0 other))
 
 pub statement-returns-in-None : goal.statement-returns-in-None
@@ -178,7 +178,7 @@ statement-returns-in_ok-taken-in-ForIn t c =
     let body = block_in c.as_slice-in-ForIn.result.now in
     let found = head_found _ c.args.stmt.now.line c.in_ok-taken-in-ForIn.taken c.domain.result _ c.in_ok-taken-in-ForIn.ensures c.domain.ensures in
     let blocks = subst
-    (λ u. TellsAt (λ _. seen c.loop_body.new.scope ≡ past s (scope_behind_block tree (with_name s n u true) body)) c.loop_body.result
+    (λ u. TellsAt (λ _. seen c.loop_body.new.scope ≡ past s (known_scope_after_block tree (with_name s n u true) body)) c.loop_body.result
     (first_in_block tree task (with_name s n u true) body)) found c.loop_body.ensures in
     rw (c.in-ForIn.is, block_of_vec c.in-ForIn.body, ← c.as_slice-in-ForIn.ensures.value)
     (head_passes _ _ c.args.stmt.now.line c.in_ok-taken-in-ForIn.taken c.domain.result c.loop_body.result _ _ _
@@ -203,7 +203,7 @@ statement-returns-in_ok-counted-in-ForTo t c =
     let body = block_in c.as_slice-in-ForTo.result.now in
     let found = head_found _ c.args.stmt.now.line c.in_ok-counted-in-ForTo.counted c.bounds.result _ c.in_ok-counted-in-ForTo.ensures c.bounds.ensures in
     let blocks = subst
-    (λ u. TellsAt (λ _. seen c.loop_body-in-ForTo.new.scope ≡ past s (scope_behind_block tree (with_name s n u true) body)) c.loop_body-in-ForTo.result
+    (λ u. TellsAt (λ _. seen c.loop_body-in-ForTo.new.scope ≡ past s (known_scope_after_block tree (with_name s n u true) body)) c.loop_body-in-ForTo.result
     (first_in_block tree task (with_name s n u true) body)) found c.loop_body-in-ForTo.ensures in
     rw (c.in-ForTo.is, block_of_vec c.in-ForTo.body, ← c.as_slice-in-ForTo.ensures.value)
     (head_passes _ _ c.args.stmt.now.line c.in_ok-counted-in-ForTo.counted c.bounds.result c.loop_body-in-ForTo.result _ _ _

@@ -1,8 +1,8 @@
 use Rattle.std.proofs.Common.{refl}
 use Rattle.std.specs.Option.{option_map}
-use Rattle.regent_tree.specs.Plain.{expression_of, expressions_in, start_of}
-use Rattle.expression_check.specs.Seen.{seen}
-use Rattle.expression_check.specs.Sites.{task_at, tree_at}
+use Rattle.regent_tree.specs.Plain.{expression_of, expressions_in, initializer_of}
+use Rattle.check_expressions.specs.Seen.{seen}
+use Rattle.check_expressions.specs.Sites.{task_at, tree_at}
 use Rattle.type_check.proofs.Blocks.{found_by, told_by}
 use Rattle.type_check.proofs.ByForm.{call_first, fill_first, print_first}
 use Rattle.type_check.proofs.Varied.{var_first}
@@ -12,7 +12,7 @@ pub returns-in-Var : goal.returns-in-Var
 returns-in-Var c =
     rw c.in-Var.is
     (told_by _ c.variable.result _ _
-    (var_first (tree_at c.args.site.now) (task_at c.args.site.now) (seen c.args.scope.now) c.in-Var.name c.in-Var.term (option_map start_of c.in-Var.init))
+    (var_first (tree_at c.args.site.now) (task_at c.args.site.now) (seen c.args.scope.now) c.in-Var.name c.in-Var.term (option_map initializer_of c.in-Var.init))
     c.variable.ensures)
 
 pub returns-in-Fill : goal.returns-in-Fill

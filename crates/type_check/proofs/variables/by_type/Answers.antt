@@ -1,6 +1,6 @@
 use Rattle.std.proofs.Common.{refl}
-use Rattle.expression_check.specs.Seen.{seen}
-use Rattle.expression_check.specs.Sites.{task_at, tree_at}
+use Rattle.check_expressions.specs.Seen.{seen}
+use Rattle.check_expressions.specs.Sites.{task_at, tree_at}
 use Rattle.type_check.proofs.Varied.{by_type_bound, by_type_none}
 use Rattle.type_check.proofs.variables.by_type.Goals as goal
 

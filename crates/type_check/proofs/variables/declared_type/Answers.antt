@@ -4,8 +4,8 @@ use Rattle.regent_tree.specs.StaticTypes.{type_said}
 use Rattle.check_rules.specs.Declarations.{names_unknown}
 use Rattle.check_rules.specs.FirstInExpressions.{first_in_type}
 use Rattle.check_rules.specs.Params.{type_unless}
-use Rattle.expression_check.specs.Seen.{seen}
-use Rattle.expression_check.specs.Sites.{tree_at}
+use Rattle.check_expressions.specs.Seen.{seen}
+use Rattle.check_expressions.specs.Sites.{tree_at}
 use Rattle.type_check.proofs.Varied.{said_soundly}
 use Rattle.type_check.proofs.variables.declared_type.Goals as goal
 

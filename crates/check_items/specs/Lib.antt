@@ -1,0 +1,4 @@
+pub mod Halting
+pub mod Given
+pub mod Entries
+pub mod Declaring

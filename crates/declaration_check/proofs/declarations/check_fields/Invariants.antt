@@ -1,7 +1,0 @@
-use Rattle.std.proofs.Common.{◌≡◌, drop}
-use Rattle.check_rules.specs.FirstInItems.{first_of_field}
-use Rattle.check_rules.specs.Rules.{first_in}
-use Rattle.declaration_check.proofs.declarations.check_fields.Given as goal
-
-abbrev pub invariant-loop-field : goal.invariant-loop-field
-invariant-loop-field l = first_in first_of_field (drop l.field-index l.fields) ≡ first_in first_of_field l.fields

@@ -1,4 +1,0 @@
-pub mod Halting
-pub mod Given
-pub mod Starts
-pub mod Declaring

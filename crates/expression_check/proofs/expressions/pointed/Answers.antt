@@ -1,4 +1,0 @@
-use Rattle.expression_check.proofs.expressions.pointed.Goals as goal
-
-pub returns : goal.returns
-returns c = rw (← c.tables.ensures, ← c.names.ensures) c.said_pointer.ensures

@@ -1,0 +1,17 @@
+use Rattle.std.proofs.Common.{◌≡◌, [], ◌∷◌, length}
+use Rattle.regent_grammar.specs.Reading.{reading}
+use Rattle.regent_grammar.specs.Rules.{many, ◌⊳◌}
+use Rattle.regent_grammar.specs.Singles.{a_mark}
+use Rattle.regent_grammar.specs.Items.{place}
+use Rattle.regent_grammar.specs.Symbols.{comes, is_mark}
+use Rattle.regent_grammar.specs.declared.symbol.Mark.TheVariants as mark
+use Rattle.read_terms.specs.Gives.{with_front}
+use Rattle.read_items.proofs.task_clauses.more_places.Given as goal
+
+abbrev pub invariant-loop-alloc : goal.invariant-loop-alloc
+invariant-loop-alloc l =
+    with_front l.places (reading (many (comes (is_mark mark.Comma)) (a_mark mark.Comma ⊳ place)) l.rest)
+    ≡ with_front (l.fn.first ∷ []) (reading (many (comes (is_mark mark.Comma)) (a_mark mark.Comma ⊳ place)) l.terminals)
+
+abbrev pub decreases-loop-alloc : goal.decreases-loop-alloc
+decreases-loop-alloc l = length l.rest

@@ -1,0 +1,10 @@
+use Rattle.std.proofs.Common.{◌≡◌, ◌+◌, ◌≤◌, drop, map}
+use Rattle.regent_tree.specs.PlainProgram.{item_tree_of}
+use Rattle.regent_tree.specs.Limits.{spaces_in}
+use Rattle.read_limits.proofs.program.spaces_in.Given as goal
+
+abbrev pub invariant-loop-item : goal.invariant-loop-item
+invariant-loop-item l = record {
+  so_far : l.count + spaces_in (map item_tree_of (drop l.item-index l.items)) ≡ spaces_in (map item_tree_of l.items);
+  within : l.count ≤ l.item-index;
+}

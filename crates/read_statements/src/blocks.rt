@@ -1,0 +1,224 @@
+//! Statements with blocks.
+
+ghost use Rattle.std.specs.Prelude.{◌≡◌, ◌∷◌, [], IfOk, map};
+ghost use Rattle.std.specs.Option.{option_map};
+ghost use Rattle.regent_grammar.specs.Reading.{read, reading};
+ghost use Rattle.regent_grammar.specs.Rules.{many, maybe, ◌⊳◌, ◌⊲◌};
+ghost use Rattle.regent_grammar.specs.Singles.{a_word};
+ghost use Rattle.regent_grammar.specs.Statements.{arm, begins_statement, block, body, conditional};
+ghost use Rattle.regent_grammar.specs.Statements.{demandable_loop, form, maybe_semicolon, plain_block};
+ghost use Rattle.regent_grammar.specs.Statements.{statement, statements, while_loop};
+ghost use Rattle.regent_grammar.specs.Symbols.{comes, is_word};
+ghost use Rattle.regent_grammar.specs.declared.symbol.Word.TheVariants as word;
+ghost use Rattle.read_statements.specs.Blocks.{armed_of, statement_of};
+ghost use Rattle.read_terms.specs.Gives.{Gives};
+ghost use Rattle.regent_tree.specs.PlainProgram.{block_in, form_of};
+
+use crate::forms::{arm_of, chosen, comes_statement, ended, last_statement, semicolon, simple};
+use crate::ranges::{comes_loop, demand, ranged, take_range};
+use crate::simple::variable;
+use read_terms::{Stop, comes_word, expression, line_of, take_word};
+use regent_grammar::{Terminal, Word};
+use regent_tree::{Arm, Stmt, What};
+use std::alloc::Global;
+
+/// A block.
+#[cycle(block)]
+#[tactic(auto, unfolding(regent_grammar::specs::Statements::block), using(regent_grammar::proofs::ReadingLaws::used))]
+pub fn block(alloc: Global, terminals: &[Terminal]) -> Result<(Vec<Stmt>, &[Terminal]), Stop<'_>>
+    ensures { Gives (λ x. read (block_in x.0.items) x.1.now) result (reading block terminals.now) }
+{
+    whole_block(alloc, terminals)
+}
+
+/// Statements, and one that returns behind them.
+#[cycle(block)]
+#[tactic(auto, unfolding(regent_grammar::specs::Reading::reading, regent_grammar::specs::Reading::reading_with, regent_grammar::specs::Reading::then_read, regent_grammar::specs::Statements::statements))]
+fn whole_block(alloc: Global, terminals: &[Terminal]) -> Result<(Vec<Stmt>, &[Terminal]), Stop<'_>>
+    ensures { Gives (λ x. read (block_in x.0.items) x.1.now) result
+        (reading statements terminals.now) }
+{
+    let (statements, rest) = many_statements(alloc, terminals)?;
+    let (last, rest) = last_statement(alloc, rest)?;
+    Ok((ended(statements, last)?, rest))
+}
+
+/// As many statements as come.
+#[cycle(block)]
+fn many_statements(
+    alloc: Global,
+    terminals: &[Terminal],
+) -> Result<(Vec<Stmt>, &[Terminal]), Stop<'_>>
+    ensures { Gives (λ x. read (map statement_of x.0.items) x.1.now) result
+        (reading (many (comes begins_statement) (statement ⊲ maybe_semicolon)) terminals.now) }
+{
+    let mut statements = Vec::new(alloc);
+    let mut rest = terminals;
+    while comes_statement(rest) {
+        let (statement, after) = next_statement(alloc, rest)?;
+        statements.push(statement)?;
+        rest = after;
+    }
+    Ok((statements, rest))
+}
+
+/// A statement, and the semicolon behind it.
+#[cycle(block)]
+#[tactic(auto, unfolding(regent_grammar::specs::Reading::reading, regent_grammar::specs::Reading::reading_with, regent_grammar::specs::Reading::then_read, regent_grammar::specs::Statements::statement))]
+fn next_statement(alloc: Global, terminals: &[Terminal]) -> Result<(Stmt, &[Terminal]), Stop<'_>>
+    ensures { Gives (λ x. read (statement_of x.0) x.1.now) result
+        (reading (statement ⊲ maybe_semicolon) terminals.now) }
+{
+    let line = line_of(terminals);
+    let (what, rest) = form(alloc, terminals)?;
+    let (_, rest) = semicolon(rest);
+    Ok((Stmt { line, what }, rest))
+}
+
+/// What a statement is.
+#[cycle(block)]
+#[tactic(auto, unfolding(regent_grammar::specs::Reading::reading, regent_grammar::specs::Reading::reading_with, regent_grammar::specs::Reading::then_read, regent_grammar::specs::Statements::form))]
+fn form(alloc: Global, terminals: &[Terminal]) -> Result<(What, &[Terminal]), Stop<'_>>
+    ensures { Gives (λ x. read (form_of x.0) x.1.now) result
+        (reading form terminals.now) }
+{
+    if comes_word(terminals, Word::Var) {
+        variable(alloc, terminals)
+    } else if comes_word(terminals, Word::If) {
+        conditional(alloc, terminals)
+    } else if comes_word(terminals, Word::While) {
+        while_loop(alloc, terminals)
+    } else if comes_loop(terminals) {
+        demandable_loop(alloc, terminals)
+    } else if comes_word(terminals, Word::Do) {
+        plain_block(alloc, terminals)
+    } else {
+        simple(alloc, terminals)
+    }
+}
+
+/// A block between `do` and `end`.
+#[cycle(block)]
+#[tactic(auto, unfolding(regent_grammar::specs::Reading::reading, regent_grammar::specs::Reading::reading_with, regent_grammar::specs::Reading::then_read, regent_grammar::specs::Statements::body))]
+fn body(alloc: Global, terminals: &[Terminal]) -> Result<(Vec<Stmt>, &[Terminal]), Stop<'_>>
+    ensures { Gives (λ x. read (block_in x.0.items) x.1.now) result
+        (reading body terminals.now) }
+{
+    let rest = take_word(terminals, Word::Do)?;
+    let (statements, rest) = block(alloc, rest)?;
+    let rest = take_word(rest, Word::End)?;
+    Ok((statements, rest))
+}
+
+/// A block of its own.
+#[cycle(block)]
+#[tactic(auto, unfolding(regent_grammar::specs::Reading::reading, regent_grammar::specs::Reading::reading_with, regent_grammar::specs::Reading::then_read, regent_grammar::specs::Statements::plain_block))]
+fn plain_block(alloc: Global, terminals: &[Terminal]) -> Result<(What, &[Terminal]), Stop<'_>>
+    ensures { Gives (λ x. read (form_of x.0) x.1.now) result
+        (reading plain_block terminals.now) }
+{
+    let rest = take_word(terminals, Word::Do)?;
+    let (body, rest) = block(alloc, rest)?;
+    let rest = take_word(rest, Word::End)?;
+    Ok((What::block(body), rest))
+}
+
+/// A `while`.
+#[cycle(block)]
+#[tactic(auto, unfolding(regent_grammar::specs::Reading::reading, regent_grammar::specs::Reading::reading_with, regent_grammar::specs::Reading::then_read, regent_grammar::specs::Statements::while_loop), using(crate::proofs::Lengths::expression_less))]
+fn while_loop(alloc: Global, terminals: &[Terminal]) -> Result<(What, &[Terminal]), Stop<'_>>
+    ensures { Gives (λ x. read (form_of x.0) x.1.now) result
+        (reading while_loop terminals.now) }
+{
+    let rest = take_word(terminals, Word::While)?;
+    let (test, rest) = expression(alloc, rest)?;
+    let (body, rest) = body(alloc, rest)?;
+    Ok((What::repeat(test, body), rest))
+}
+
+/// A `for`, and the demand before it.
+#[cycle(block)]
+#[tactic(auto, unfolding(regent_grammar::specs::Reading::reading, regent_grammar::specs::Reading::reading_with, regent_grammar::specs::Reading::then_read, regent_grammar::specs::Statements::demandable_loop))]
+fn demandable_loop(alloc: Global, terminals: &[Terminal]) -> Result<(What, &[Terminal]), Stop<'_>>
+    ensures { Gives (λ x. read (form_of x.0) x.1.now) result
+        (reading demandable_loop terminals.now) }
+{
+    let (demanded, rest) = demand(terminals)?;
+    let (range, rest) = take_range(alloc, rest)?;
+    let (body, rest) = body(alloc, rest)?;
+    Ok((ranged(demanded, range, body), rest))
+}
+
+/// An `if`.
+#[cycle(block)]
+#[tactic(auto, unfolding(regent_grammar::specs::Reading::reading, regent_grammar::specs::Reading::reading_with, regent_grammar::specs::Reading::then_read, regent_grammar::specs::Statements::conditional), using(crate::proofs::Lengths::arm_rest, crate::proofs::Lengths::arms_rest))]
+fn conditional(alloc: Global, terminals: &[Terminal]) -> Result<(What, &[Terminal]), Stop<'_>>
+    ensures { Gives (λ x. read (form_of x.0) x.1.now) result
+        (reading conditional terminals.now) }
+{
+    let rest = take_word(terminals, Word::If)?;
+    let (first, rest) = arm(alloc, rest)?;
+    let (arms, rest) = more_arms(alloc, rest)?;
+    let (other, rest) = other(alloc, rest)?;
+    let rest = take_word(rest, Word::End)?;
+    Ok((chosen(first, arms, other)?, rest))
+}
+
+/// A test, and the block behind it.
+#[cycle(block)]
+#[tactic(auto, unfolding(regent_grammar::specs::Reading::reading, regent_grammar::specs::Reading::reading_with, regent_grammar::specs::Reading::then_read, regent_grammar::specs::Statements::arm), using(crate::proofs::Lengths::expression_less))]
+fn arm(alloc: Global, terminals: &[Terminal]) -> Result<(Arm, &[Terminal]), Stop<'_>>
+    ensures { Gives (λ x. read (armed_of x.0) x.1.now) result
+        (reading arm terminals.now) }
+{
+    let (test, rest) = expression(alloc, terminals)?;
+    let rest = take_word(rest, Word::Then)?;
+    let (body, rest) = block(alloc, rest)?;
+    Ok((arm_of(test, body), rest))
+}
+
+/// As many `elseif` as come.
+#[cycle(block)]
+fn more_arms(alloc: Global, terminals: &[Terminal]) -> Result<(Vec<Arm>, &[Terminal]), Stop<'_>>
+    ensures { Gives (λ x. read (map armed_of x.0.items) x.1.now) result
+        (reading (many (comes (is_word word.Elseif)) (a_word word.Elseif ⊳ arm)) terminals.now) }
+{
+    let mut arms = Vec::new(alloc);
+    let mut rest = terminals;
+    while comes_word(rest, Word::Elseif) {
+        let (arm, after) = next_arm(alloc, rest)?;
+        arms.push(arm)?;
+        rest = after;
+    }
+    Ok((arms, rest))
+}
+
+/// An `elseif` with its block.
+#[cycle(block)]
+#[tactic(auto, unfolding(regent_grammar::specs::Reading::reading, regent_grammar::specs::Reading::reading_with, regent_grammar::specs::Reading::then_read))]
+fn next_arm(alloc: Global, terminals: &[Terminal]) -> Result<(Arm, &[Terminal]), Stop<'_>>
+    ensures { Gives (λ x. read (armed_of x.0) x.1.now) result
+        (reading (a_word word.Elseif ⊳ arm) terminals.now) }
+{
+    let rest = take_word(terminals, Word::Elseif)?;
+    arm(alloc, rest)
+}
+
+/// The block of an `else`, where there is one.
+#[cycle(block)]
+#[tactic(auto, unfolding(regent_grammar::specs::Reading::reading, regent_grammar::specs::Reading::reading_with, regent_grammar::specs::Reading::then_read))]
+fn other(
+    alloc: Global,
+    terminals: &[Terminal],
+) -> Result<(Option<Vec<Stmt>>, &[Terminal]), Stop<'_>>
+    ensures { Gives (λ x. read (option_map (λ b. block_in b.items) x.0) x.1.now) result
+        (reading (maybe (comes (is_word word.Else)) (a_word word.Else ⊳ block)) terminals.now) }
+{
+    if comes_word(terminals, Word::Else) {
+        let rest = take_word(terminals, Word::Else)?;
+        let (block, rest) = block(alloc, rest)?;
+        Ok((Some(block), rest))
+    } else {
+        Ok((None, terminals))
+    }
+}

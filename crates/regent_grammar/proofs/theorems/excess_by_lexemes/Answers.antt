@@ -1,5 +1,0 @@
-use Rattle.regent_grammar.proofs.LimitLaws.{excess_by_lexemes}
-use Rattle.regent_grammar.proofs.theorems.excess_by_lexemes.Goals as goal
-
-pub returns : goal.returns
-returns c = excess_by_lexemes
