@@ -1,5 +1,5 @@
 -- What each step keeps, the evaluation of every expression keeps.
-use Rattle.std.specs.Prelude.{List}
+use Rattle.std.specs.Prelude.{false, List}
 use Rattle.regent_tree.specs.declared.expression.Operator.TheVariants.{Or, And, Compare, Compute}
 use Rattle.regent_tree.specs.Syntax.{Expression, number_expr, truth_expr, chain_expr, prefix_expr, call_expr, access_expr, convert_expr, is_null_expr, null_expr, cast_expr, space_expr, Links, no_link, a_link, Expressions, no_expr, an_expr, Steps, no_step, field_step, at_step}
 use Rattle.regent_tree.specs.Values.{Value, a_pointer, null_target, truth_of, number_of}
@@ -11,7 +11,7 @@ use Rattle.regent_tree.specs.Typing.{operated, are_pointers, type_of_field, type
 use Rattle.regent_tree.specs.Running.{State, Here}
 use Rattle.regent_tree.specs.Accesses.{standing, converted, regions_written, take_field, take_element}
 use Rattle.regent_tree.specs.Operators.{operand, combined, cast_to}
-use Rattle.regent_tree.specs.Evaluation.{value, linked, values, stepped, named_value, type_named, typed, first_type, other_types}
+use Rattle.regent_tree.specs.Evaluation.{value, linked, values, stepped, named_value, static_type_of, typed, first_type, other_types}
 use Rattle.regent_tree.specs.Laws.{CallsAre}
 use Rattle.regent_tree.proofs.Steps.{Law, Kept, in_turn, given_kept, choice_kept, named_kept, standing_kept, converted_kept, written_kept, take_field_kept, take_element_kept, operand_kept, combined_kept, size_kept, called_kept}
 
@@ -29,7 +29,7 @@ module _ {Good : Store → Store → Type 0} {R : State → State → Type 0} (l
         in_turn law (values h types args) _ (values_kept h g types args)
         (λ vs. called_kept law h g task vs)
     value_kept h g (access_expr n steps) = in_turn law (named_value h n) _ (named_kept law h n)
-        (λ v. stepped_kept h g (type_named h n) v steps)
+        (λ v. stepped_kept h g (static_type_of h n) v steps)
     value_kept h g (convert_expr t e) = in_turn law (value h e) _ (value_kept h g e)
         (λ v. in_turn law (standing h v) _ (standing_kept law h v) (λ u. given_kept law _))
     value_kept h g (is_null_expr e) =
@@ -60,7 +60,7 @@ module _ {Good : Store → Store → Type 0} {R : State → State → Type 0} (l
         in_turn law (combined h (Compare o) x y) _ (combined_kept law h (Compare o) x y) (λ z.
         linked_kept h g (operated (Compare o) t (typed h e)) z rest))))
     linked_kept h g t v (a_link (Compute o) e rest) =
-        let b = are_pointers t (typed h e) in
+        let b = false in
         in_turn law (operand h b v) _ (operand_kept law h b v) (λ x.
         in_turn law (value h e) _ (value_kept h g e) (λ u.
         in_turn law (operand h b u) _ (operand_kept law h b u) (λ y.

@@ -16,7 +16,7 @@ use Rattle.regent_tree.specs.declared.typing.StaticType.{StaticType}
 use Rattle.regent_tree.specs.Typing.{stepped_type, arithmetic_type, params_at, var_type, taken_from, width_of_type}
 use Rattle.regent_tree.specs.Running.{State, Here, Run, Result, gives, fails, change, pay, touch}
 use Rattle.regent_tree.specs.Accesses.{converted, Aim, hits, misses, aimed, space_in, args_in}
-use Rattle.regent_tree.specs.Evaluation.{value, values, stepped, named_value, type_named, typed, called}
+use Rattle.regent_tree.specs.Evaluation.{value, values, stepped, named_value, static_type_of, typed, called}
 use Rattle.regent_tree.specs.Initializers.{initial_value, initialized, make_root, colours, region_named, partition_named, read_all}
 use Rattle.regent_tree.specs.Execution.{Going, goes_on, returned, going_on, leaving, scoped, bind, round, rounds, counting, turn, turning, items_of, write_field, write_name, write_to, right_side, fill_fields, before_last, last_field, on_line, looping, after_statement, after_arm, after_arms, exec, exec_arms, exec_else, exec_block}
 use Rattle.regent_tree.specs.Laws.{Leaves, CallsAre}
@@ -151,17 +151,17 @@ module _ {Good : Store → Store → Type 0} {R : State → State → Type 0} (r
   write_to_kept h g n no_step how v = write_name_kept h n how v
   write_to_kept h g n (field_step f rest) how v =
       in_turn rules.law (named_value h n) _ (named_kept rules.law h n) (λ u.
-      in_turn rules.law (stepped h (type_named h n) u (before_last (field_step f rest))) _
-      (stepped_kept rules.law h g (type_named h n) u (before_last (field_step f rest)))
+      in_turn rules.law (stepped h (static_type_of h n) u (before_last (field_step f rest))) _
+      (stepped_kept rules.law h g (static_type_of h n) u (before_last (field_step f rest)))
       (λ p. write_field_kept h
-      (stepped_type h.tree h.scope (type_named h n) (before_last (field_step f rest)))
+      (stepped_type h.tree h.scope (static_type_of h n) (before_last (field_step f rest)))
       (last_field (field_step f rest)) how v (aimed p)))
   write_to_kept h g n (at_step e rest) how v =
       in_turn rules.law (named_value h n) _ (named_kept rules.law h n) (λ u.
-      in_turn rules.law (stepped h (type_named h n) u (before_last (at_step e rest))) _
-      (stepped_kept rules.law h g (type_named h n) u (before_last (at_step e rest)))
+      in_turn rules.law (stepped h (static_type_of h n) u (before_last (at_step e rest))) _
+      (stepped_kept rules.law h g (static_type_of h n) u (before_last (at_step e rest)))
       (λ p. write_field_kept h
-      (stepped_type h.tree h.scope (type_named h n) (before_last (at_step e rest)))
+      (stepped_type h.tree h.scope (static_type_of h n) (before_last (at_step e rest)))
       (last_field (at_step e rest)) how v (aimed p)))
 
   pub right_side_kept : (h : Here) → CallsAre Good h.calls →
@@ -191,7 +191,7 @@ module _ {Good : Store → Store → Type 0} {R : State → State → Type 0} (r
         in_turn rules.law _ _ (initial_kept h g t (var_type h.tree h.scope t initializer) initializer)
         (λ v. bind_kept v)
     exec_kept h g (if_form arms other) =
-        arms_kept h g arms _ (else_kept (after_arms h arms) g other)
+        arms_kept h h g g arms _ (else_kept (after_arms h arms) g other)
     exec_kept h g (while_form test body) = record {
       all = λ s. (turning_kept h s.turns _ _ (value_kept rules.law h g test)
           (scoped_kept _ (block_kept h g body))).all s;
@@ -210,7 +210,7 @@ module _ {Good : Store → Store → Type 0} {R : State → State → Type 0} (r
     exec_kept h g (fill_form r fields e) =
         in_turn rules.law (value h e) _ (value_kept rules.law h g e) (λ v.
         in_turn rules.law (named_value h r) _ (named_kept rules.law h r) (λ w.
-        fill_kept h (typed h e) v (type_named h r) (region_of w) fields))
+        fill_kept h (typed h e) v (static_type_of h r) (region_of w) fields))
     exec_kept h g (assert_form e) = in_turn rules.law (value h e) _ (value_kept rules.law h g e)
         (λ v. choice_kept rules.law (truth_of v) _ _ (given_kept rules.law goes_on)
         (fault_kept rules.law h _))
@@ -232,13 +232,13 @@ module _ {Good : Store → Store → Type 0} {R : State → State → Type 0} (r
         (converted_kept rules.law h (typed h e) h.result [] v) (λ u.
         given_kept rules.law (returned u)))
 
-    pub arms_kept : (h : Here) → CallsAre Good h.calls → (arms : Arms) (other : Run Going) →
-        Kept R other → Kept R (exec_arms h arms other)
-    arms_kept h g no_arm other k = k
-    arms_kept h g (an_arm test body rest) other k =
-        in_turn rules.law (value h test) _ (value_kept rules.law h g test)
+    pub arms_kept : (own h : Here) → CallsAre Good own.calls → CallsAre Good h.calls →
+        (arms : Arms) (other : Run Going) → Kept R other → Kept R (exec_arms own h arms other)
+    arms_kept own h f g no_arm other k = k
+    arms_kept own h f g (an_arm test body rest) other k =
+        in_turn rules.law (value own test) _ (value_kept rules.law own f test)
         (λ v. choice_kept rules.law (truth_of v) _ _ (scoped_kept _ (block_kept h g body))
-        (arms_kept (after_arm h body) g rest other k))
+        (arms_kept own (after_arm h body) f g rest other k))
 
     pub else_kept : (h : Here) → CallsAre Good h.calls → (other : Otherwise) →
         Kept R (exec_else h other)

@@ -7,10 +7,10 @@ use Rattle.regent_tree.specs.StaticTypes.{task_named}
 use Rattle.regent_tree.specs.declared.typing.StaticType.{StaticType}
 use Rattle.regent_tree.specs.declared.typing.StaticType.TheVariants.{Truth as truth_type, Unknown as unknown_type}
 use Rattle.regent_tree.specs.Scopes.{bound_to}
-use Rattle.regent_tree.specs.Typing.{type_of, operated, type_of_field, type_of_element, are_pointers, params_at}
+use Rattle.regent_tree.specs.Typing.{type_of, operated, type_of_field, type_of_element, params_at}
 use Rattle.regent_tree.specs.Running.{Here, Run, gives, fails, Called, came_back, broke, given, ◌>>=◌, state, if_true, pay}
 use Rattle.regent_tree.specs.Accesses.{standing, regions_written, converted, take_field, take_element}
-use Rattle.regent_tree.specs.Operators.{operand, combined, all_signed, as_number, space_of_size, cast_to}
+use Rattle.regent_tree.specs.Operators.{compares_pointers, operand, combined, all_signed, as_number, space_of_size, cast_to}
 
 -- ---- calls
 
@@ -29,12 +29,13 @@ called h task vs = do
 
 -- ---- names and types
 
--- the value of a name
+-- the value of a name; the truth that stands for a missing one isn't reached in an accepted program,
+-- where each name that is used is bound and has its value at its place
 abbrev pub named_value : Here → Name → Run Value
 named_value h n s = gives (get_or s.names (bound_to h.scope.names n).place (a_truth false)) s
 
-abbrev pub type_named : Here → Name → StaticType
-type_named h n = (bound_to h.scope.names n).static_type
+abbrev pub static_type_of : Here → Name → StaticType
+static_type_of h n = (bound_to h.scope.names n).static_type
 
 abbrev pub typed : Here → Expression → StaticType
 typed h e = type_of h.tree h.scope e
@@ -65,7 +66,7 @@ abbrev mutual
     called h task vs
   value h (access_expr n steps) = do
     v ← named_value h n
-    stepped h (type_named h n) v steps
+    stepped h (static_type_of h n) v steps
   value h (convert_expr t e) = do
     v ← value h e
     u ← standing h v
@@ -94,9 +95,9 @@ abbrev mutual
       (value h e >>= λ u. linked h truth_type u rest)
       (linked h truth_type v rest)
   linked h t v (a_link o e rest) = do
-    a ← operand h (are_pointers t (typed h e)) v
+    a ← operand h (compares_pointers o t (typed h e)) v
     u ← value h e
-    b ← operand h (are_pointers t (typed h e)) u
+    b ← operand h (compares_pointers o t (typed h e)) u
     c ← combined h o a b
     linked h (operated o t (typed h e)) c rest
 

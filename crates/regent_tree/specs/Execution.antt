@@ -18,7 +18,7 @@ use Rattle.regent_tree.specs.Scopes.{bound_to, with_name, past}
 use Rattle.regent_tree.specs.Typing.{stepped_type, arithmetic_type, params_at, var_type, scope_after, scope_after_block, scope_after_arms, taken_from, width_of_type}
 use Rattle.regent_tree.specs.Running.{State, Here, Run, Result, gives, given, ◌>>=◌, and_then, state, change, fault, if_true, pay, touch, touch_at}
 use Rattle.regent_tree.specs.Accesses.{converted, Aim, hits, misses, aimed, space_in, args_in}
-use Rattle.regent_tree.specs.Evaluation.{value, values, stepped, named_value, type_named, typed, called}
+use Rattle.regent_tree.specs.Evaluation.{value, values, stepped, named_value, static_type_of, typed, called}
 use Rattle.regent_tree.specs.Initializers.{initial_value}
 use Rattle.regent_tree.specs.Printing.{printed}
 
@@ -149,8 +149,8 @@ abbrev pub write_to : Here → Name → Steps → How → Value → Run Going
 write_to h n no_step how v = write_name h n how v
 write_to h n steps how v = do
   u ← named_value h n
-  p ← stepped h (type_named h n) u (before_last steps)
-  write_field h (stepped_type h.tree h.scope (type_named h n) (before_last steps))
+  p ← stepped h (static_type_of h n) u (before_last steps)
+  write_field h (stepped_type h.tree h.scope (static_type_of h n) (before_last steps))
       (last_field steps) how v (aimed p)
 
 -- the right side of an assignment: converted to the target's type, but not for a reduction
@@ -194,7 +194,7 @@ abbrev mutual
   exec h (var_form n t initializer) = do
     v ← initial_value h t (var_type h.tree h.scope t initializer) initializer
     bind v
-  exec h (if_form arms other) = exec_arms h arms (exec_else (after_arms h arms) other)
+  exec h (if_form arms other) = exec_arms h h arms (exec_else (after_arms h arms) other)
   exec h (while_form test body) = do
     s ← state
     turning h s.turns (value h test) (scoped (exec_block h body))
@@ -211,7 +211,7 @@ abbrev mutual
   exec h (fill_form r fields e) = do
     v ← value h e
     w ← named_value h r
-    fill_fields h (typed h e) v (type_named h r) (region_of w) fields
+    fill_fields h (typed h e) v (static_type_of h r) (region_of w) fields
   exec h (assert_form e) = do
     v ← value h e
     if_true (truth_of v) (given goes_on) (fault h AssertFailed)
@@ -231,12 +231,14 @@ abbrev mutual
     u ← converted h (typed h e) h.result [] v
     given (returned u)
 
-  -- the first arm whose test is true, or else what another step does
-  pub exec_arms : Here → Arms → Run Going → Run Going
-  exec_arms h no_arm other = other
-  exec_arms h (an_arm test body rest) other = do
-    v ← value h test
-    if_true (truth_of v) (scoped (exec_block h body)) (exec_arms (after_arm h body) rest other)
+  -- the first arm whose test is true, or else what another step does: each test is evaluated in the
+  -- scope of the `if` itself, and a block begins past the binding numbers of the arms before it
+  pub exec_arms : Here → Here → Arms → Run Going → Run Going
+  exec_arms own h no_arm other = other
+  exec_arms own h (an_arm test body rest) other = do
+    v ← value own test
+    if_true (truth_of v) (scoped (exec_block h body))
+        (exec_arms own (after_arm h body) rest other)
 
   pub exec_else : Here → Otherwise → Run Going
   exec_else h no_else = given goes_on

@@ -18,7 +18,7 @@ use Rattle.regent_tree.specs.Scopes.{Scope}
 use Rattle.regent_tree.specs.Typing.{reaches_of}
 use Rattle.regent_tree.specs.Running.{Here, Run, given, ◌>>=◌, state, change, fault, if_true, touch}
 use Rattle.regent_tree.specs.Accesses.{converted, regions_reached, space_in}
-use Rattle.regent_tree.specs.Evaluation.{value, named_value, type_named, typed}
+use Rattle.regent_tree.specs.Evaluation.{value, named_value, static_type_of, typed}
 
 -- the value of a variable of a type without an initializer: 0, false or null
 abbrev pub zero_of : Scope → List Value → StaticType → Value
@@ -102,20 +102,20 @@ initialized h t wanted (by_field_initializer r f e) = do
   v ← value h e
   n ← colours h v
   a ← region_named h r
-  c ← read_all h (type_named h r) a f
+  c ← read_all h (static_type_of h r) a f
   given (partitioned a.root by_field_flag (by_field_sets a.points c.numbers n))
 initialized h t wanted (image_initializer parent p r f) = do
   a ← region_named h parent
   q ← partition_named h p
   b ← region_named h r
-  c ← read_all h (type_named h r) b f
+  c ← read_all h (static_type_of h r) b f
   given (partitioned a.root image_flag
       (image_sets a.points q.sets b.points c.numbers c.pointers))
 initialized h t wanted (preimage_initializer parent p r f) = do
   a ← region_named h parent
   q ← partition_named h p
   b ← region_named h r
-  c ← read_all h (type_named h r) b f
+  c ← read_all h (static_type_of h r) b f
   given (partitioned a.root (preimage_flag q.disjoint)
       (preimage_sets a.points q.sets b.points c.numbers c.pointers))
 initialized h t wanted (both_initializer p q) = do

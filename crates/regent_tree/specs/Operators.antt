@@ -16,10 +16,18 @@ use Rattle.regent_tree.specs.Partitions.{minus_sets, minus_flag}
 use Rattle.lane_kernels.specs.Numbers.{wrapped}
 use Rattle.regent_tree.specs.Numbers.{wider, computed, compared}
 use Rattle.regent_tree.specs.Values.{Value, a_number, a_truth, an_index, a_pointer, a_space, a_partition, Target, null_target, point_target, Region, Partition, truth_of, number_of, partition_of, target_of, same_target, first_holding, kept_number}
+use Rattle.regent_tree.specs.declared.typing.StaticType.{StaticType}
+use Rattle.regent_tree.specs.Typing.{are_pointers}
 use Rattle.regent_tree.specs.Running.{Here, Run, given, fault, if_true}
 use Rattle.regent_tree.specs.Accesses.{standing}
 
 -- ---- operators
+
+-- whether the operands stay pointers: a comparison compares two pointers, while arithmetic takes the
+-- point number of each
+abbrev pub compares_pointers : Operator → StaticType → StaticType → Bool
+compares_pointers (Compare c) t u = are_pointers t u
+compares_pointers _ t u = false
 
 -- an operand stands for its number, unless two pointers are compared
 abbrev pub operand : Here → Bool → Value → Run Value

@@ -35,7 +35,12 @@ pub data Value : Type 0 where
   a_region : Region → Value
   a_partition : Partition → Value
 
--- ---- what a value is, where it is of the kind that its place needs; else anything
+-- ---- what a value is, where it is of the kind that its place needs
+--
+-- Each of these gives something for a value of another kind too, since the meaning is total. No
+-- accepted program comes there: where a number, a truth, a space, a region, a partition or a pointer is
+-- taken, an expression of that type stands, and a pointer in the place of a number is made its point
+-- number before it is taken (`standing`).
 
 abbrev pub no_region : Region
 no_region = record { root = 0; points = [] }
@@ -118,7 +123,7 @@ abbrev pub kept_truth : Bool → ℤ
 kept_truth true = pos 1
 kept_truth false = pos 0
 
--- the number that a field keeps of a value
+-- the number that a field keeps of a value; no field keeps a space, a region or a partition
 abbrev pub kept_number : Value → ℤ
 kept_number (a_number w z) = z
 kept_number (a_truth b) = kept_truth b

@@ -4,8 +4,8 @@ use Rattle.lane_kernels.specs.declared.numbers.Op.TheVariants.{Sum}
 use Rattle.regent_tree.specs.declared.expression.Arithmetic.TheVariants.{Add, Subtract, Multiply, Remainder}
 use Rattle.regent_tree.specs.declared.outcome.FaultKind.TheVariants.{OutOfRegion, NullPointer}
 use Rattle.regent_tree.specs.declared.program.Grant.TheVariants.{Reads, Writes, Reduces}
-use Rattle.regent_tree.specs.declared.types.NumberTerm.TheVariants.{Int64}
-use Rattle.regent_tree.specs.Syntax.{Tree, is_null_expr, convert_expr, cast_expr}
+use Rattle.regent_tree.specs.declared.types.NumberTerm.TheVariants.{Int32, Int64}
+use Rattle.regent_tree.specs.Syntax.{Tree, is_null_expr, null_expr, convert_expr, cast_expr}
 use Rattle.regent_tree.specs.Meaning.{meaning}
 use Rattle.worked_examples.specs.Words.{int, dot, at, get, access, calc, minus, space, number, ref, space_of, region, pointer, points_into, param, whole, fields, grants, apart, line, var, var_from, new_region, equal, set, reduce, print, print_by, call, when, each, item, alias, start, field_space, task, prints, faults, root, naturals, below_zero}
 
@@ -68,6 +68,86 @@ outside_region_program =
 abbrev pub outside_region_means : Type 0
 outside_region_means =
     meaning outside_region_program [] 1000000 ≡ faults "6" OutOfRegion 8
+
+-- In arithmetic two pointers stand for their point numbers:
+--     fspace f { x : int64 }
+--     task main()
+--       var r = region(ispace(int1d, 4), f)
+--       var a = r[3]
+--       var b = r[2]
+--       regentlib.c.printf("%d %d %d", int(a + b), int(a * b), int(a - b))
+--     end
+abbrev pub pointer_arithmetic_program : Tree
+pointer_arithmetic_program =
+    item 1 (field_space "f" [] (param 1 "x" (number Int64) ∷ []))
+    ∷ item 2
+    (task "main" [] []
+    (line 3 (var_from "r" (new_region (space (int 4)) (space_of "f" [])))
+    ∷ line 4 (var "a" (access "r" (at (int 3) ∷ [])))
+    ∷ line 5 (var "b" (access "r" (at (int 2) ∷ [])))
+    ∷ line 6
+    (print "%d %d %d"
+    (convert_expr Int32 (calc (get "a") Add (get "b"))
+    ∷ convert_expr Int32 (calc (get "a") Multiply (get "b"))
+    ∷ convert_expr Int32 (calc (get "a") Subtract (get "b"))
+    ∷ []))
+    ∷ []))
+    ∷ []
+
+abbrev pub pointer_arithmetic_means : Type 0
+pointer_arithmetic_means =
+    meaning pointer_arithmetic_program [] 1000000
+    ≡ prints "5 6 1" (root 0 4 (naturals (0 ∷ 0 ∷ 0 ∷ 0 ∷ []) ∷ []) ∷ [])
+
+-- A null pointer on the right of an arithmetic operator, after a line that prints:
+--     fspace f { x : int64 }
+--     task main()
+--       var r = region(ispace(int1d, 4), f)
+--       var n = null(int1d(f, r))
+--       regentlib.c.printf("a")
+--       regentlib.c.printf("%d", int(r[3] + n))
+--     end
+abbrev pub null_on_the_right_program : Tree
+null_on_the_right_program =
+    item 1 (field_space "f" [] (param 1 "x" (number Int64) ∷ []))
+    ∷ item 2
+    (task "main" [] []
+    (line 3 (var_from "r" (new_region (space (int 4)) (space_of "f" [])))
+    ∷ line 4 (var "n" (null_expr (pointer (space_of "f" []) (ref "r" ∷ []))))
+    ∷ line 5 (print "a" [])
+    ∷ line 6
+    (print "%d"
+    (convert_expr Int32 (calc (access "r" (at (int 3) ∷ [])) Add (get "n")) ∷ []))
+    ∷ []))
+    ∷ []
+
+abbrev pub null_on_the_right_means : Type 0
+null_on_the_right_means =
+    meaning null_on_the_right_program [] 1000000 ≡ faults "a" NullPointer 6
+
+-- A null pointer on the left is a fault before the right side is evaluated, where r has no point 9:
+--     fspace f { x : int64 }
+--     task main()
+--       var r = region(ispace(int1d, 4), f)
+--       var n = null(int1d(f, r))
+--       regentlib.c.printf("%d", int(n + r[9]))
+--     end
+abbrev pub null_on_the_left_program : Tree
+null_on_the_left_program =
+    item 1 (field_space "f" [] (param 1 "x" (number Int64) ∷ []))
+    ∷ item 2
+    (task "main" [] []
+    (line 3 (var_from "r" (new_region (space (int 4)) (space_of "f" [])))
+    ∷ line 4 (var "n" (null_expr (pointer (space_of "f" []) (ref "r" ∷ []))))
+    ∷ line 5
+    (print "%d"
+    (convert_expr Int32 (calc (get "n") Add (access "r" (at (int 9) ∷ []))) ∷ []))
+    ∷ []))
+    ∷ []
+
+abbrev pub null_on_the_left_means : Type 0
+null_on_the_left_means =
+    meaning null_on_the_left_program [] 1000000 ≡ faults "" NullPointer 5
 
 -- The least position at which a region of a list holds a pointer:
 --     fspace f { x : int64 }

@@ -11,7 +11,7 @@ ghost use Rattle.worked_examples.specs.Images.{preimage_of_colour_0_means, preim
 ghost use Rattle.worked_examples.specs.SampleProgram.{sample_means};
 ghost use Rattle.worked_examples.specs.Statements.{hidden_names_means, choices_means, early_stop_means, early_return_means, filled_means, false_assert_means};
 ghost use Rattle.worked_examples.specs.Calls.{writes_by_parts_means, overlapping_arguments_means, call_between_means, fault_in_loop_means, first_fault_means};
-ghost use Rattle.worked_examples.specs.Pointers.{null_pointer_means, outside_region_means, positions_means, circuit_means};
+ghost use Rattle.worked_examples.specs.Pointers.{null_pointer_means, outside_region_means, pointer_arithmetic_means, null_on_the_right_means, null_on_the_left_means, positions_means, circuit_means};
 ghost use Rattle.worked_examples.specs.Limits.{turns_enough_means, turns_spent_means, arguments_first_means, calls_too_deep_means, greatest_space_means, space_too_large_means};
 ghost use Rattle.worked_examples.specs.Regions.{siblings_means, told_late_means, unknown_child_means, cycle_means, apart_above_means, made_later_means};
 ghost use Rattle.worked_examples.specs.Touches.{declared_access_means, own_root_means};
@@ -200,6 +200,24 @@ pub fn null_pointer()
 #[tactic(auto, using(crate::proofs::Pointers::outside_region_holds))]
 pub fn outside_region()
     ensures { outside_region_means }
+{}
+
+/// In arithmetic two pointers stand for their point numbers.
+#[tactic(auto, using(crate::proofs::Pointers::pointer_arithmetic_holds))]
+pub fn pointer_arithmetic()
+    ensures { pointer_arithmetic_means }
+{}
+
+/// A null pointer on the right of a sum.
+#[tactic(auto, using(crate::proofs::Pointers::null_on_the_right_holds))]
+pub fn null_on_the_right()
+    ensures { null_on_the_right_means }
+{}
+
+/// A null pointer on the left of a sum, before the right side is evaluated.
+#[tactic(auto, using(crate::proofs::Pointers::null_on_the_left_holds))]
+pub fn null_on_the_left()
+    ensures { null_on_the_left_means }
 {}
 
 /// The least position at which a region of a list holds a pointer.
