@@ -4,6 +4,6 @@ pub mod Varied
 pub mod Blocks
 pub mod Following
 pub mod Differences
-pub mod Initializers
+pub mod InitializerForms
 pub mod Alone
 pub mod Whole

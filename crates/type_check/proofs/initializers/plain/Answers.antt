@@ -6,7 +6,7 @@ use Rattle.type_check.specs.Beginning.{IsBegun, IsOfType}
 use Rattle.regent_tree.specs.Syntax.{plain_initializer}
 use Rattle.check_expressions.specs.Seen.{seen}
 use Rattle.check_expressions.specs.Sites.{task_at, tree_at}
-use Rattle.type_check.proofs.Initializers.{first_of_plain, plain_begun, tells_as}
+use Rattle.type_check.proofs.InitializerForms.{first_of_plain, plain_begun, tells_as}
 use Rattle.type_check.proofs.initializers.plain.Goals as goal
 
 pub returns-in-None : goal.returns-in-None

@@ -1,7 +1,7 @@
 use Rattle.regent_tree.specs.Plain.{expression_of}
 use Rattle.check_expressions.specs.Seen.{seen}
 use Rattle.check_expressions.specs.Sites.{task_at, tree_at}
-use Rattle.type_check.proofs.Initializers.{first_of_region, region_begun, tells_as}
+use Rattle.type_check.proofs.InitializerForms.{first_of_region, region_begun, tells_as}
 use Rattle.check_rules.specs.KnownTypes.{known_type}
 use Rattle.type_check.specs.Beginning.{IsBegun, IsOver}
 use Rattle.regent_tree.specs.Syntax.{region_initializer}
