@@ -1,49 +1,63 @@
--- The first breach of a program, part by part.
-use Rattle.std.proofs.Common.{None, Option, ◌≡◌, ap, refl, subst, sym, ◌∙◌}
+-- The first breach of a program: that of its items, or else that of its bodies.
+use Rattle.std.proofs.Common.{None, Option, ◌≡◌, absurd, ap, cc, refl, subst, sym, ◌∙◌}
 use Rattle.std.specs.Option.{option_or}
 use Rattle.std.specs.Prelude.{Some}
 use Rattle.regent_tree.specs.PlainProgram.{tree_of}
 use Rattle.regent_tree.specs.Syntax.{ItemTree, Tree}
 use Rattle.regent_tree.specs.declared.program.Program.{Program}
 use Rattle.check_rules.specs.Breaches.{Breach}
+use Rattle.check_rules.specs.Entries.{wrong_entry_lines}
 use Rattle.check_rules.specs.FirstInItems.{first_breach, first_declared, first_in_body, first_line, first_repeated}
 use Rattle.check_rules.specs.Rules.{first_in}
-use Rattle.check_rules.specs.Entries.{wrong_entry_lines}
 use Rattle.check_rules.specs.declared.rule.Rule.TheVariants as rule
 use Rattle.check_items.specs.Halting.{IsToldAt}
 use Rattle.check_items.specs.declared.halt.Halt.{Halt}
-
-or_nothing : (a : Option Breach) → option_or a None ≡ a
-or_nothing None = refl
-or_nothing (Some x) = refl
-
-abbrev entry_name : Tree → Option Breach
-entry_name tree = first_line rule.Start (wrong_entry_lines tree)
-
-abbrev items : Tree → Option Breach
-items tree = first_in (first_declared tree) tree
+use Rattle.check_items.specs.declared.halt.Halt.TheVariants as halt
+use Rattle.type_check.specs.Items.{first_in_items}
 
 abbrev bodies : Tree → Option Breach
 bodies tree = first_in (λ (i : ItemTree). first_in_body tree i.form) tree
 
--- what is told of the bodies, where nothing is told before
-last_part : (p tables declared : Program) → tables ≡ p → declared ≡ tables → first_repeated (tree_of p) ≡ None →
-    entry_name (tree_of tables) ≡ None → items (tree_of tables) ≡ None →
-    bodies (tree_of declared) ≡ first_breach (tree_of p)
-last_part p tables declared t d names initializer sound =
-    sym (or_nothing (bodies (tree_of declared)))
-    ∙ (λ j. option_or (sym names j) (option_or ((sym initializer ∙ ap (λ (q : Program). entry_name (tree_of q)) t) j)
-    (option_or ((sym sound ∙ ap (λ (q : Program). items (tree_of q)) t) j)
-    (option_or (bodies (tree_of ((d ∙ t) j))) None))))
+or_last : {A : Type 0} (a b c x : Option A) → option_or a (option_or b (option_or c None)) ≡ None →
+    option_or a (option_or b (option_or c (option_or x None))) ≡ x
+or_last None None None None h = refl
+or_last None None None (Some y) h = refl
+or_last (Some y) b c x h = absurd cc
+or_last None (Some y) c x h = absurd cc
+or_last None None (Some y) x h = absurd cc
 
-pub bodies_stop : (h : Halt) (p tables declared : Program) → tables ≡ p → declared ≡ tables → first_repeated (tree_of p) ≡ None →
-    entry_name (tree_of tables) ≡ None → items (tree_of tables) ≡ None →
+or_front : {A : Type 0} (a b c x : Option A) (y : A) → option_or a (option_or b (option_or c None)) ≡ Some y →
+    option_or a (option_or b (option_or c x)) ≡ Some y
+or_front (Some z) b c x y h = h
+or_front None (Some z) c x y h = h
+or_front None None (Some z) x y h = h
+or_front None None None x y h = absurd cc
+
+-- where the items have no breach, the first one is that of the bodies
+last_part : (p tables declared : Program) → tables ≡ p → declared ≡ tables →
+    first_in_items (tree_of tables) ≡ None → bodies (tree_of declared) ≡ first_breach (tree_of p)
+last_part p tables declared t d none =
+    let tree = tree_of tables in
+    ap (λ (q : Program). bodies (tree_of q)) d
+    ∙ sym (or_last (first_repeated tree) (first_line rule.Start (wrong_entry_lines tree))
+    (first_in (first_declared tree) tree) (bodies tree) none)
+    ∙ ap (λ (q : Program). first_breach (tree_of q)) t
+
+pub items_stop : (h : Halt) (p tables : Program) → tables ≡ p →
+    IsToldAt h (first_in_items (tree_of tables)) → IsToldAt h (first_breach (tree_of p))
+items_stop (halt.Breach r line) p tables t told =
+    let tree = tree_of tables in
+    sym (ap (λ (q : Program). first_breach (tree_of q)) t)
+    ∙ or_front (first_repeated tree) (first_line rule.Start (wrong_entry_lines tree))
+    (first_in (first_declared tree) tree) (option_or (bodies tree) None) _ told
+items_stop (halt.Memory error) p tables t told = told
+
+pub bodies_stop : (h : Halt) (p tables declared : Program) → tables ≡ p → declared ≡ tables →
+    first_in_items (tree_of tables) ≡ None →
     IsToldAt h (bodies (tree_of declared)) → IsToldAt h (first_breach (tree_of p))
-bodies_stop h p tables declared t d names initializer sound told =
-    subst (IsToldAt h) (last_part p tables declared t d names initializer sound) told
+bodies_stop h p tables declared t d none told = subst (IsToldAt h) (last_part p tables declared t d none) told
 
-pub bodies_none : (p tables declared : Program) → tables ≡ p → declared ≡ tables → first_repeated (tree_of p) ≡ None →
-    entry_name (tree_of tables) ≡ None → items (tree_of tables) ≡ None →
+pub bodies_none : (p tables declared : Program) → tables ≡ p → declared ≡ tables →
+    first_in_items (tree_of tables) ≡ None →
     bodies (tree_of declared) ≡ None → first_breach (tree_of p) ≡ None
-bodies_none p tables declared t d names initializer sound none =
-    sym (last_part p tables declared t d names initializer sound) ∙ none
+bodies_none p tables declared t d none told = sym (last_part p tables declared t d none) ∙ told

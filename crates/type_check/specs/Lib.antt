@@ -6,3 +6,4 @@ pub mod Variables
 pub mod Lines
 pub mod Acceptance
 pub mod Refusals
+pub mod Items

@@ -11,6 +11,7 @@ ghost use Rattle.check_rules.specs.Rules.{first_in};
 ghost use Rattle.check_rules.specs.Sound.{StandsIn};
 ghost use Rattle.check_items.specs.Halting.{TellsAt};
 ghost use Rattle.check_expressions.specs.Seen.{seen};
+ghost use Rattle.check_expressions.specs.Sites.{HoldsDeclared};
 ghost use Rattle.static_types.specs.Telling.{Anything};
 
 use crate::statements::block;
@@ -93,13 +94,23 @@ fn body_scope(alloc: Global, declared: &Declared, task: &Task) -> Result<Scope, 
     Ok(scope)
 }
 
+/// Checks the body of a task at its site.
+fn body_at(site: &Site) -> Result<(), Halt>
+    requires stands { StandsIn (tree_of site.now.declared.now) (task_of site.now.task.now) }
+    requires held { HoldsDeclared site.now }
+    ensures { TellsAt Anything result (first_in_block (tree_of site.now.declared.now) (task_of site.now.task.now)
+        (body_scope (tree_of site.now.declared.now) (task_of site.now.task.now)) (task_of site.now.task.now).body) }
+{
+    let mut scope = body_scope(site.alloc, site.declared, site.task)?;
+    block(site, &mut scope, site.task.body.as_slice())
+}
+
 /// Checks the body of a task of the program.
 fn check_body(alloc: Global, declared: &Declared, task: &Task) -> Result<(), Halt>
     requires { StandsIn (tree_of declared.now) (task_of task.now) }
     ensures { TellsAt Anything result (first_in_block (tree_of declared.now) (task_of task.now)
         (body_scope (tree_of declared.now) (task_of task.now)) (task_of task.now).body) }
 {
-    let mut scope = body_scope(alloc, declared, task)?;
     let types = declared.param_types(alloc, task)?;
     let rights = rights_declared(alloc, declared, task, &types)?;
     let site = Site {
@@ -108,7 +119,7 @@ fn check_body(alloc: Global, declared: &Declared, task: &Task) -> Result<(), Hal
         task,
         held: held_by(alloc, &rights)?,
     };
-    block(&site, &mut scope, task.body.as_slice())
+    body_at(&site)
 }
 
 /// Checks the bodies of all tasks.

@@ -8,6 +8,7 @@ ghost use Rattle.check_rules.specs.Breaches.{breaches};
 ghost use Rattle.check_rules.specs.FirstInItems.{first_breach};
 ghost use Rattle.check_items.specs.Halting.{TellsAt};
 ghost use Rattle.check_items.specs.Entries.{input_widths};
+ghost use Rattle.type_check.specs.Items.{first_in_items};
 ghost use Rattle.type_check.specs.Refusals.{Refuses};
 
 mod accepted;
@@ -33,18 +34,27 @@ use program_tables::Tables;
 use regent_tree::Program;
 use std::alloc::Global;
 
-/// The first breach of a program, or the widths of its inputs: names that are given twice, the start,
-/// what the items declare, and then the bodies of the tasks.
+/// The first breach in what the whole text shares, or the widths of its inputs: names that are given
+/// twice, the entry task, and what the items declare.
+fn items_checked(alloc: Global, tables: &Tables) -> Result<Vec<Width>, Halt>
+    ensures { TellsAt (λ ws. ws.items ≡ input_widths (tree_of tables.now)) result
+        (first_in_items (tree_of tables.now)) }
+{
+    check_names(alloc, tables.program())?;
+    check_entry(alloc, tables)?;
+    check_declarations(alloc, tables)?;
+    Ok(input_widths(alloc, tables)?)
+}
+
+/// The first breach of a program, or the widths of its inputs: the items, and then the bodies of the
+/// tasks.
 #[tactic(auto, using(check_rules::proofs::Written::all_is_sound))]
 fn checked(alloc: Global, program: &Program) -> Result<Vec<Width>, Halt>
     ensures { TellsAt (λ ws. ws.items ≡ input_widths (tree_of program.now)) result
         (first_breach (tree_of program.now)) }
 {
     let tables = Tables::new(alloc, program)?;
-    check_names(alloc, program)?;
-    check_entry(alloc, &tables)?;
-    check_declarations(alloc, &tables)?;
-    let inputs = input_widths(alloc, &tables)?;
+    let inputs = items_checked(alloc, &tables)?;
     let declared = Declared::new(tables);
     check_bodies(alloc, &declared)?;
     Ok(inputs)
