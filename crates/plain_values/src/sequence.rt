@@ -80,6 +80,14 @@ impl<T: Copy> Sequence<T> {
         let items = Vec::from_slice(alloc, items)?;
         Ok(Sequence { items })
     }
+
+    /// A copy, which takes its memory from where this list does.
+    pub fn copy(&self) -> Result<Self, AllocError>
+        ensures { IfOk result (λ r. r ≡ self.now) }
+    {
+        let items = Vec::from_slice(*self.items.allocator(), self.items.as_slice())?;
+        Ok(Sequence { items })
+    }
 }
 
 impl<T: PartialEq + Drop> PartialEq for Sequence<T> {
