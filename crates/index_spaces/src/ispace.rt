@@ -98,8 +98,13 @@ mod tests {
     #[test]
     fn largest(rt: HostRuntime) -> Result<(), AllocError> {
         for n in [4_194_304] {
-            let volume = Ispace::line(n).map(|space| space.volume());
-            assert_eq!(rt; volume, Ok(4_194_304));
+            let Ok(space) = Ispace::line(n) else {
+                assert!(rt; false, "line({n})");
+                return Ok(());
+            };
+            let set = space.points(rt.alloc())?;
+            assert_eq!(rt; (space.volume(), set.len()), (4_194_304, 4_194_304));
+            assert_eq!(rt; set.at(4_194_303), Some(4_194_303));
         }
         Ok(())
     }

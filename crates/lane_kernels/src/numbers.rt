@@ -187,7 +187,14 @@ mod tests {
             assert_eq!(rt; b.conflicts(a), conflict, "{b:?} beside {a:?}");
         }
         assert_eq!(rt; FieldKind::Int32.width(), Width::W32);
-        assert_eq!(rt; FieldKind::Pointer.width(), Width::W64);
+        for kind in [
+            FieldKind::Int64,
+            FieldKind::Truth,
+            FieldKind::Index,
+            FieldKind::Pointer,
+        ] {
+            assert_eq!(rt; kind.width(), Width::W64, "{kind:?}");
+        }
         assert_eq!(rt; Width::W32.wrap(0x1_8000_0001), LEAST_32 + 1);
     }
 }

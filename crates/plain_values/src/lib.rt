@@ -6,6 +6,8 @@
 
 mod sequence;
 mod shared;
+#[cfg(test)]
+mod tests;
 
 pub use sequence::Sequence;
 pub use shared::Shared;

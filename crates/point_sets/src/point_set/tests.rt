@@ -17,14 +17,25 @@ fn made(alloc: Global, ranges: &[(u32, u32)]) -> Result<PointSet, AllocError> {
     Ok(set)
 }
 
-fn listed(alloc: Global, set: &PointSet) -> Result<Vec<u32>, AllocError> {
+/// Whether a set that was made has these points.
+fn has_points(
+    alloc: Global,
+    made: Result<PointSet, AllocError>,
+    want: &[u32],
+) -> Result<bool, AllocError> {
+    let set = made?;
     let mut points = Vec::new(alloc);
     for place in 0..set.len() {
         if let Some(point) = set.at(place) {
             points.push(point)?;
         }
     }
-    Ok(points)
+    Ok(points.as_slice() == want)
+}
+
+/// How many points a set that was made has.
+fn size(made: Result<PointSet, AllocError>) -> Result<u32, AllocError> {
+    Ok(made?.len())
 }
 
 /// Every second point.
@@ -74,12 +85,9 @@ fn small_sets(rt: HostRuntime) -> Result<(), AllocError> {
     for (left, right, either, both, rest) in rows {
         let a = made(alloc, left)?;
         let b = made(alloc, right)?;
-        let union = listed(alloc, &a.union(&b)?)?;
-        let meet = listed(alloc, &a.meet(&b)?)?;
-        let minus = listed(alloc, &a.minus(&b)?)?;
-        assert_eq!(rt; union.as_slice(), either);
-        assert_eq!(rt; meet.as_slice(), both);
-        assert_eq!(rt; minus.as_slice(), rest);
+        assert!(rt; has_points(alloc, a.union(&b), either)?, "{either:?}");
+        assert!(rt; has_points(alloc, a.meet(&b), both)?, "{both:?}");
+        assert!(rt; has_points(alloc, a.minus(&b), rest)?, "{rest:?}");
         assert_eq!(rt; a.meets(&b), !both.is_empty());
         assert_eq!(rt; a.within(&b), rest.is_empty());
     }
@@ -100,17 +108,38 @@ fn edges(rt: HostRuntime) -> Result<(), AllocError> {
     assert_eq!(rt; none.len(), 0);
     assert_eq!(rt; none.at(0), None);
     assert_eq!(rt; none.within(&all), true);
-    let pair = PointSet::from_sorted(alloc, &[1, 4])?.copy()?;
-    assert_eq!(rt; pair.len(), 2);
-    assert_eq!(rt;
-        (pair.has(1), pair.has(2), pair.has(4)),
-        (true, false, true)
-    );
-    assert_eq!(rt;
-        (pair.at(0), pair.at(1), pair.at(2)),
-        (Some(1), Some(4), None)
-    );
-    assert_eq!(rt; (pair.place_of(4), pair.place_of(3)), (Some(1), None));
+    Ok(())
+}
+
+/// How many points the set of a list has, and how many its copy has.
+fn sizes(alloc: Global, points: &[u32]) -> Result<(u32, u32), AllocError>
+    requires { IsPoints POINT_LIMIT points.now }
+{
+    let set = PointSet::from_sorted(alloc, points)?;
+    Ok((set.len(), size(set.copy())?))
+}
+
+#[test]
+fn lists_are_held_and_copied(rt: HostRuntime) -> Result<(), AllocError> {
+    let alloc = rt.alloc();
+    assert_eq!(rt; sizes(alloc, &[])?, (0, 0));
+    assert_eq!(rt; sizes(alloc, &[3, 4, 5, 9])?, (4, 4));
+    Ok(())
+}
+
+#[test]
+fn two_points(rt: HostRuntime) -> Result<(), AllocError> {
+    let pair = PointSet::from_sorted(rt.alloc(), &[1, 4])?;
+    let rows = [
+        (0, false, None, Some(1)),
+        (1, true, Some(0), Some(4)),
+        (4, true, Some(1), None),
+        (5, false, None, None),
+    ];
+    for (number, held, place, point) in rows {
+        assert_eq!(rt; pair.has(number), held);
+        assert_eq!(rt; (pair.place_of(number), pair.at(number)), (place, point));
+    }
     Ok(())
 }
 
@@ -120,9 +149,9 @@ fn two_million_runs(rt: HostRuntime) -> Result<(), AllocError> {
     let even = PointSet::from_sorted(alloc, evens(alloc)?.as_slice())?;
     let all = made(alloc, &[(0, POINT_LIMIT)])?;
     let odd = all.minus(&even)?;
-    assert_eq!(rt; (even.len(), odd.len()), (2_097_152, 2_097_152));
-    assert_eq!(rt; even.union(&odd)?.len(), 4_194_304);
-    assert_eq!(rt; all.meet(&odd)?.len(), 2_097_152);
+    assert_eq!(rt; (size(even.copy())?, odd.len()), (2_097_152, 2_097_152));
+    assert_eq!(rt; size(even.union(&odd))?, 4_194_304);
+    assert_eq!(rt; size(all.meet(&odd))?, 2_097_152);
     assert_eq!(rt;
         (even.meets(&odd), odd.within(&all), all.within(&odd)),
         (false, true, false)
