@@ -4,7 +4,7 @@ use Rattle.std.specs.List.{list_any}
 use Rattle.regent_tree.specs.Lookup.{is_bound, type_named}
 use Rattle.regent_tree.specs.Scopes.{Scope, in_scope}
 use Rattle.regent_tree.specs.StaticTypes.{number_type, written_pointer}
-use Rattle.regent_tree.specs.Syntax.{Expression, Expressions, Links, Steps, TaskTree, Tree, a_link, access_expr, an_expr, at_step, call_expr, cast_expr, chain_expr, convert_expr, field_step, is_null_expr, no_expr, no_link, no_step, null_expr, number_expr, prefix_expr, space_expr, truth_expr}
+use Rattle.regent_tree.specs.Syntax.{Expression, Expressions, Links, Name, Steps, TaskTree, Tree, a_link, access_expr, an_expr, at_step, call_expr, cast_expr, chain_expr, convert_expr, field_step, is_null_expr, no_expr, no_link, no_step, null_expr, number_expr, prefix_expr, space_expr, truth_expr}
 use Rattle.regent_tree.specs.Typing.{is_pointer, type_of, type_of_element, type_of_field}
 use Rattle.regent_tree.specs.declared.types.PointerTerm.{PointerTerm}
 use Rattle.regent_tree.specs.declared.types.TypeTerm.TheVariants as typed
@@ -12,7 +12,7 @@ use Rattle.regent_tree.specs.declared.typing.StaticType.{StaticType}
 use Rattle.regent_tree.specs.declared.typing.StaticType.TheVariants.{Ispace as ispace_type, Truth as truth_type, Unknown as unknown_type}
 use Rattle.check_rules.specs.Counts.{miscounts_in_type}
 use Rattle.check_rules.specs.Declarations.{is_flawed_type}
-use Rattle.check_rules.specs.FirstInExpressions.{first_in_args, first_in_expression, first_in_links, first_in_steps, first_in_type, first_of_operator, first_of_standing, first_of_step, first_of_taking}
+use Rattle.check_rules.specs.FirstInExpressions.{first_in_args, first_in_expression, first_in_links, first_in_steps, first_in_target, first_in_target_steps, first_in_type, first_of_operator, first_of_standing, first_of_step, first_of_taking}
 use Rattle.check_rules.specs.KnownTypes.{known_type, known_types, known_type_after_links, known_type_after_operator, known_type_after_step, known_type_after_steps}
 use Rattle.check_rules.specs.Names.{unbound_name_in_type}
 use Rattle.check_rules.specs.Pointers.{wrong_region_in_type}
@@ -25,9 +25,7 @@ use Rattle.check_rules.specs.Standing.{integer_spot, number_spot, pointer_spot, 
 use Rattle.check_rules.specs.Types.{has_no_result}
 use Rattle.check_rules.specs.declared.rule.Rule.{Rule}
 use Rattle.check_rules.specs.declared.rule.Rule.TheVariants as rule
-use Rattle.check_rules.proofs.Laws.{types_as_meant}
 use Rattle.check_rules.proofs.Written.{names_known}
-use Rattle.check_laws.specs.Laws.{ExpressionsAreKnown}
 use Rattle.check_laws.specs.SoundScopes.{IsKnown, IsSoundScope}
 use Rattle.check_laws.proofs.Parts.{after_operator, after_signs, call_known, contrary, element_known, field_known, not_false, number_known, or_none, rule_none, standing_none, surely, unless_false, value_known}
 
@@ -129,12 +127,37 @@ module _ (tree : Tree) (task : TaskTree) (s : Scope) (sound : IsSound tree) (sco
         known_steps (known_type_after_step tree (element_of t u) (type_of_element s t x)) rest
         (element_known tree s t u x k (known_expression x subexpressions.0).known here.0) more.1
 
+  -- a target, whose last field isn't read
+  target_steps : (t : StaticType) (steps : Steps) → IsKnown s t → first_in_target_steps tree task s t steps ≡ None →
+      IsKnown s (known_type_after_steps tree s t steps)
+  target_steps t no_step k e = k
+  target_steps t (field_step f no_step) k e = field_known tree s t f sound k e
+  target_steps t (field_step f (field_step g rest)) k e =
+      let parts = or_none (first_of_step tree task s (field_of t f)) _ e in
+      let here = or_none (first_of_taking tree (field_of t f)) _ parts.0 in
+      target_steps (known_type_after_step tree (field_of t f) (type_of_field tree t f)) (field_step g rest)
+      (field_known tree s t f sound k here.0) parts.1
+  target_steps t (field_step f (at_step x rest)) k e =
+      let parts = or_none (first_of_step tree task s (field_of t f)) _ e in
+      let here = or_none (first_of_taking tree (field_of t f)) _ parts.0 in
+      target_steps (known_type_after_step tree (field_of t f) (type_of_field tree t f)) (at_step x rest)
+      (field_known tree s t f sound k here.0) parts.1
+  target_steps t (at_step x rest) k e =
+      let u = known_type tree s x in
+      let parts = or_none (told x) _ e in
+      let more = or_none (first_of_step tree task s (element_of t u)) _ parts.1 in
+      let here = or_none (first_of_taking tree (element_of t u)) _ more.0 in
+      target_steps (known_type_after_step tree (element_of t u) (type_of_element s t x)) rest
+      (element_known tree s t u x k (known_expression x parts.0).known here.0) more.1
+
+  pub known_target : (n : Name) (steps : Steps) → first_in_target tree task s n steps ≡ None →
+      IsKnown s (known_type tree s (access_expr n steps))
+  known_target n steps e =
+      let parts = or_none (rule_if (not (is_bound s.names n)) rule.Name) _ e in
+      let bound = not_false (is_bound s.names n) (rule_none _ rule.Name parts.0) in
+      target_steps (type_named s.names n) steps (scope.types n bound) parts.1
+
 -- a type that is as it is meant, or else unknown, is as it is meant where it is known
 pub meant : (t m : StaticType) → is_unknown_type t ≡ false → (t ≡ m) ⊎ (t ≡ unknown_type) → t ≡ m
 meant t m k (inl e) = e
 meant t m k (inr e) = absurd (contrary (sym (ap is_unknown_type e) ∙ k))
-
-pub expressions_are_known : ExpressionsAreKnown
-expressions_are_known tree task s e sound scope none =
-    let known = known_expression tree task s sound scope e none in
-    (known, meant (known_type tree s e) (type_of tree s e) known.known (types_as_meant tree s e))

@@ -1,7 +1,10 @@
 pub mod Parts
 pub mod Expressions
+pub mod Subexpressions
+pub mod Forms
 pub mod Scopes
 pub mod Variables
 pub mod Blocks
 pub mod Parameters
+pub mod Meant
 pub mod Trees

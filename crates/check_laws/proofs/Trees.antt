@@ -1,36 +1,42 @@
 -- Whole trees without a breach.
-use Rattle.std.proofs.Common.{List, None, Option, [], ◌∷◌, ◌||◌, ◌≡◌, ap, false, flat_map, inl, inr, map, refl, subst, sym, ◌∙◌, ℕ}
+use Rattle.std.proofs.Common.{List, None, Option, [], ◌++◌, ◌∷◌, ◌||◌, ◌≡◌, ap, false, flat_map, inl, inr, map, not, refl, subst, sym, ◌∙◌, ℕ}
 use Rattle.std.proofs.lemmas.Bool.{or_parts}
 use Rattle.std.specs.List.{Contains, list_any}
 use Rattle.std.proofs.lemmas.List.{append-nil}
 use Rattle.regent_tree.specs.Scopes.{Scope, bound_params, past, scope_of}
-use Rattle.regent_tree.specs.Syntax.{Arms, Block, Expression, Form, ItemForm, ItemTree, Otherwise, TaskTree, Tree, a_statement, alias_item, an_arm, assert_form, assign_form, call_form, do_form, else_block, fill_form, for_in_form, for_to_form, if_form, import_item, no_arm, no_else, no_statement, print_form, return_form, space_item, start_item, task_item, then_statement, var_form, while_form}
+use Rattle.regent_tree.specs.Lookup.{is_bound, type_named}
+use Rattle.regent_tree.specs.Syntax.{Arms, Block, Expression, Form, ItemForm, ItemTree, Name, Otherwise, Steps, TaskTree, Tree, a_statement, access_expr, alias_item, an_arm, assert_form, assign_form, call_form, do_form, else_block, fill_form, for_in_form, for_to_form, if_form, import_item, no_arm, no_else, no_statement, print_form, return_form, space_item, start_item, task_item, then_statement, var_form, while_form}
 use Rattle.regent_tree.specs.Typing.{scope_after_block, type_of}
 use Rattle.regent_tree.specs.declared.types.Param.{Param}
 use Rattle.regent_tree.proofs.Members.{Contains-from_Has, Has, Has-append_cases, Has-from_Contains, Has-map, Has-map_cases}
 use Rattle.check_rules.specs.Bodies.{body_scope}
 use Rattle.check_rules.specs.Breaches.{breaches}
 use Rattle.check_rules.specs.Declarations.{is_flawed_type}
-use Rattle.check_rules.specs.FirstInExpressions.{first_in_expression}
+use Rattle.check_rules.specs.FirstInExpressions.{first_in_expression, first_in_target}
 use Rattle.check_rules.specs.FirstInItems.{first_breach, first_declared, first_in_body, first_line, first_of_said, first_of_saying}
-use Rattle.check_rules.specs.FirstInStatements.{first_in_arms, first_in_block, first_in_else, first_of_form, first_within, told_on}
+use Rattle.check_rules.specs.FirstInStatements.{first_in_arms, first_in_block, first_in_else, first_in_targets, first_of_form, first_within, told_on}
 use Rattle.check_rules.specs.KnownTypes.{known_type}
 use Rattle.check_rules.specs.Names.{unbound_name_in_type}
 use Rattle.check_rules.specs.Repeats.{given_by, repeats}
-use Rattle.check_rules.specs.Rules.{first_in}
+use Rattle.check_rules.specs.Parts.{subexpressions}
+use Rattle.check_rules.specs.Rules.{first_in, rule_if}
 use Rattle.check_rules.specs.Sound.{IsSound}
 use Rattle.check_rules.specs.Variables.{known_scope_after, known_scope_after_arms, known_scope_after_block, scope_in_count, scope_in_loop}
-use Rattle.check_rules.specs.Visits.{Visit, declarations_in, heads_of, visits, visits_in, visits_in_arms, visits_in_else, visits_of_item, visits_within}
+use Rattle.check_rules.specs.Visits.{Visit, declarations_in, heads_of, targets_of, visits, visits_in, visits_in_arms, visits_in_else, visits_of_item, visits_within}
 use Rattle.check_rules.specs.declared.rule.Rule.{Rule}
 use Rattle.check_rules.specs.declared.rule.Rule.TheVariants as rule
 use Rattle.check_rules.proofs.FirstInItems.{none_without_first}
 use Rattle.check_rules.proofs.Written.{all_is_sound, all_sound, beside_written, body_scope_written, standing_sound, untold}
-use Rattle.check_laws.specs.Laws.{AllIsKnown, BodiesAreMeant}
+use Rattle.check_laws.specs.Laws.{AllIsKnown, BodiesAreMeant, IsAsMeant, StatementsAreMeant}
+use Rattle.check_laws.specs.MeantVisits.{expressions_at, meant_in, meant_of_item, meant_visits}
 use Rattle.check_laws.specs.SoundScopes.{IsKnown, IsSoundScope}
-use Rattle.check_laws.proofs.Blocks.{arms_known, block_known, count_scope, form_known, head_known, loop_scope, nested, told_none}
+use Rattle.check_laws.proofs.Blocks.{arms_known, block_known, count_scope, form_known, loop_scope, nested, told_none}
+use Rattle.check_laws.proofs.Forms.{expression_as_meant, target_as_meant}
+use Rattle.check_laws.proofs.Meant.{block_meant}
 use Rattle.check_laws.proofs.Parameters.{begins_soundly}
 use Rattle.check_laws.proofs.Parts.{or_none}
-use Rattle.check_laws.proofs.Variables.{parts_of_form}
+use Rattle.check_laws.proofs.Subexpressions.{untold_inside, untold_target}
+use Rattle.check_laws.proofs.Variables.{parts_of_form, target_of_form}
 
 -- ---- lists of which nothing is told
 
@@ -43,21 +49,60 @@ no_lines : (r : Rule) (lines : List ℕ) → first_line r lines ≡ None → lin
 no_lines r [] e = refl
 no_lines r (l ∷ ls) e = absurd cc
 
+has_flat : {A B : Type 0} (f : A → List B) (xs : List A) (y : B) → Has (flat_map f xs) y → (x : A) × Has xs x × Has (f x) y
+has_flat f [] y h = absurd h
+has_flat f (x ∷ xs) y h = elim (Has-append_cases (f x) (flat_map f xs) y h) [
+  | inl g ↦ (x, inl refl, g)
+  | inr g ↦ let r = has_flat f xs y g in (r.0, inr r.1, r.2)
+]
+
 -- ---- visits
 
 module _ (tree : Tree) (task : TaskTree) (sound : IsSound tree) where
   abbrev IsAllKnown : Visit → Type 0
-  IsAllKnown v = IsSoundScope v.scope × ((e : Expression) → Contains (heads_of v.scope.names v.form) e →
-      IsKnown v.scope (known_type tree v.scope e) × (known_type tree v.scope e ≡ type_of tree v.scope e))
+  IsAllKnown v = IsSoundScope v.scope
+      × ((e : Expression) → Contains (expressions_at v.scope.names v.form) e → IsAsMeant tree v.scope e)
+
+  -- the target of an assignment, and the expressions in it
+  in_target : (s : Scope) → IsSoundScope s → (n : Name) (steps : Steps) → first_in_target tree task s n steps ≡ None →
+      (x : Expression) → Has (subexpressions (access_expr n steps)) x → IsAsMeant tree s x
+  in_target s scope n steps e x (inl is) =
+      subst (IsAsMeant tree s) is (target_as_meant tree task s sound scope n steps e)
+  in_target s scope n steps e x (inr h) =
+      let parts = or_none (rule_if (not (is_bound s.names n)) rule.Name) _ e in
+      expression_as_meant tree task s sound scope x (untold_target tree task s (type_named s.names n) steps parts.1 x h)
+
+  in_targets : (s : Scope) → IsSoundScope s → (form : Form) → first_in_targets tree task s form ≡ None →
+      (y : Expression) → Has (targets_of form) y → (x : Expression) → Has (subexpressions y) x → IsAsMeant tree s x
+  in_targets s scope (assign_form n steps how a) e y (inl is) x h =
+      in_target s scope n steps e x (subst (λ (z : Expression). Has (subexpressions z) x) (sym is) h)
+  in_targets s scope (assign_form n steps how a) e y (inr g) x h = absurd g
+  in_targets s scope (var_form n t start) e y g x h = absurd g
+  in_targets s scope (if_form arms other) e y g x h = absurd g
+  in_targets s scope (while_form test body) e y g x h = absurd g
+  in_targets s scope (for_in_form demanded n domain body) e y g x h = absurd g
+  in_targets s scope (for_to_form demanded n from to body) e y g x h = absurd g
+  in_targets s scope (do_form body) e y g x h = absurd g
+  in_targets s scope (fill_form r fields a) e y g x h = absurd g
+  in_targets s scope (assert_form a) e y g x h = absurd g
+  in_targets s scope (print_form alias format args) e y g x h = absurd g
+  in_targets s scope (call_form t args) e y g x h = absurd g
+  in_targets s scope (return_form a) e y g x h = absurd g
 
   at_form : (s : Scope) (line : ℕ) (form : Form) → IsSoundScope s → first_of_form tree task s form ≡ None →
       IsAllKnown (record { task = task; scope = s; line = line; form = form })
   at_form s line form scope e = (
     scope,
     λ x has.
-        head_known tree task sound s scope x
-        (none_of (first_in_expression tree task s) (heads_of s.names form) x (parts_of_form tree task s sound scope form e).2
-        (Has-from_Contains (heads_of s.names form) x has)),
+        let found = has_flat subexpressions (heads_of s.names form ++ targets_of form) x
+        (Has-from_Contains (expressions_at s.names form) x has) in
+        elim (Has-append_cases (heads_of s.names form) (targets_of form) found.0 found.1) [
+          | inl g ↦
+              let untold = none_of (first_in_expression tree task s) (heads_of s.names form) found.0
+              (parts_of_form tree task s sound scope form e).2 g in
+              expression_as_meant tree task s sound scope x (untold_inside tree task s found.0 untold x found.2)
+          | inr g ↦ in_targets s scope form (target_of_form tree task s sound scope form e) found.0 g x found.2
+        ],
   )
 
   mutual
@@ -175,17 +220,10 @@ bodies_are_meant tree t none stands =
     let here = body_known tree none item.line t (subst (λ form. Has tree (record { line = item.line; form = form })) found.2 found.1) in
     (here.0, (block_known tree t sound (body_scope tree t) t.body here.1 here.2).0 ∙ ap (λ x. scope_after_block tree x t.body) here.0)
 
-has_flat : {A B : Type 0} (f : A → List B) (xs : List A) (y : B) → Has (flat_map f xs) y → (x : A) × Has xs x × Has (f x) y
-has_flat f [] y h = absurd h
-has_flat f (x ∷ xs) y h = elim (Has-append_cases (f x) (flat_map f xs) y h) [
-  | inl g ↦ (x, inl refl, g)
-  | inr g ↦ let r = has_flat f xs y g in (r.0, inr r.1, r.2)
-]
-
 item_known : (tree : Tree) (none : breaches tree ≡ []) (line : ℕ) (form : ItemForm) → Has tree (record { line = line; form = form }) →
     (v : Visit) → Has (visits_of_item tree form) v →
-    IsSoundScope v.scope × ((e : Expression) → Contains (heads_of v.scope.names v.form) e →
-    IsKnown v.scope (known_type tree v.scope e) × (known_type tree v.scope e ≡ type_of tree v.scope e))
+    IsSoundScope v.scope
+    × ((e : Expression) → Contains (expressions_at v.scope.names v.form) e → IsAsMeant tree v.scope e)
 item_known tree none line (task_item t) h v k =
     let here = body_known tree none line t h in
     visit_block tree t (all_is_sound tree (declared_none tree none)) (body_scope tree t) t.body here.1 here.2 v k
@@ -194,7 +232,30 @@ item_known tree none line (alias_item n) h v k = absurd k
 item_known tree none line (space_item s) h v k = absurd k
 item_known tree none line (start_item n) h v k = absurd k
 
+-- ---- statements as the meaning has them
+
+item_meant : (tree : Tree) (none : breaches tree ≡ []) (line : ℕ) (form : ItemForm) → Has tree (record { line = line; form = form }) →
+    visits_of_item tree form ≡ meant_of_item tree form
+item_meant tree none line (task_item t) h =
+    let here = body_known tree none line t h in
+    block_meant tree t (all_is_sound tree (declared_none tree none)) (body_scope tree t) t.body here.1 here.2
+    ∙ ap (λ s. meant_in tree t s t.body) here.0
+item_meant tree none line import_item h = refl
+item_meant tree none line (alias_item n) h = refl
+item_meant tree none line (space_item s) h = refl
+item_meant tree none line (start_item n) h = refl
+
+same_flat : {A B : Type 0} (f g : A → List B) (xs : List A) → ((x : A) → Has xs x → f x ≡ g x) → flat_map f xs ≡ flat_map g xs
+same_flat f g [] h = refl
+same_flat f g (x ∷ xs) h = λ j. h x (inl refl) j ++ same_flat f g xs (λ y k. h y (inr k)) j
+
+pub statements_are_meant : StatementsAreMeant
+statements_are_meant tree none =
+    same_flat (λ (i : ItemTree). visits_of_item tree i.form) (λ (i : ItemTree). meant_of_item tree i.form) tree
+    (λ i h. item_meant tree none i.line i.form h)
+
 pub all_is_known : AllIsKnown
 all_is_known tree v none stands =
-    let found = has_flat (λ (i : ItemTree). visits_of_item tree i.form) tree v (Has-from_Contains (visits tree) v stands) in
+    let visited = subst (λ vs. Contains vs v) (sym (statements_are_meant tree none)) stands in
+    let found = has_flat (λ (i : ItemTree). visits_of_item tree i.form) tree v (Has-from_Contains (visits tree) v visited) in
     item_known tree none found.0.line found.0.form found.1 v found.2

@@ -249,6 +249,13 @@ module _ (tree : Tree) (task : TaskTree) (s : Scope) (sound : IsSound tree) (sco
         rule_none (wrong_initializer_at tree s form) rule.Place k.0,
       )
 
+  pub target_of_form : (form : Form) → first_of_form tree task s form ≡ None → first_in_targets tree task s form ≡ None
+  target_of_form form e =
+      let a = or_none (first_in (first_in_type tree s.names) (declared_at form)) _ e in
+      let b = or_none (rule_if (has_no_type form) rule.Type) _ a.1 in
+      let c = or_none (first_in (first_in_expression tree task s) (heads_of s.names form)) _ b.1 in
+      (or_none (first_in_targets tree task s form) _ c.1).0
+
   -- what begins soundly is bound with its type
   bound_soundly : (t : Option TypeTerm) (initializer : Option Initializer) →
       (is_collection (variable_type tree s t initializer) ≡ false) ⊎ (begins_unsoundly tree s t initializer ≡ false) →

@@ -6,18 +6,26 @@ use Rattle.regent_tree.specs.Typing.{scope_after_block, type_of}
 use Rattle.check_rules.specs.Bodies.{body_scope}
 use Rattle.check_rules.specs.Breaches.{breaches}
 use Rattle.check_rules.specs.FirstInExpressions.{first_in_expression}
-use Rattle.check_rules.specs.KnownTypes.{known_type}
+use Rattle.check_rules.specs.KnownTypes.{known_type, typed_form_of}
 use Rattle.check_rules.specs.Sound.{IsSound, StandsIn}
 use Rattle.check_rules.specs.Variables.{known_scope_after_block}
-use Rattle.check_rules.specs.Visits.{Visit, heads_of, visits}
+use Rattle.check_rules.specs.Visits.{Visit, visits}
+use Rattle.check_laws.specs.MeantForms.{meant_form_of}
+use Rattle.check_laws.specs.MeantVisits.{expressions_at, meant_visits}
 use Rattle.check_laws.specs.SoundScopes.{IsKnown, IsSoundScope}
 
--- Where no breach is told of an expression, its type is known, and it is the one that the meaning of
--- programs gives it.
+-- An expression's type is known in a scope, and it and the types of its parts are those that the
+-- meaning of programs gives them there.
+pub record IsAsMeant (tree : Tree) (s : Scope) (e : Expression) : Type 0 where
+  pub known : IsKnown s (known_type tree s e)
+  pub type : known_type tree s e ≡ type_of tree s e
+  pub form : typed_form_of tree s e ≡ meant_form_of tree s e
+
+-- Where no breach is told of an expression it is as the meaning has it.
 abbrev pub ExpressionsAreKnown : Type 0
 ExpressionsAreKnown = (tree : Tree) (task : TaskTree) (s : Scope) (e : Expression) →
     IsSound tree → IsSoundScope s → first_in_expression tree task s e ≡ None →
-    IsKnown s (known_type tree s e) × (known_type tree s e ≡ type_of tree s e)
+    IsAsMeant tree s e
 
 -- In a program without a breach the scope in which a body begins, and the one after it, are those of
 -- the meaning.
@@ -26,9 +34,12 @@ BodiesAreMeant = (tree : Tree) (t : TaskTree) → breaches tree ≡ [] → Stand
     (body_scope tree t ≡ scope_of tree t)
     × (known_scope_after_block tree (body_scope tree t) t.body ≡ scope_after_block tree (scope_of tree t) t.body)
 
--- In the scope at each of its statements all is known, and so is the type of each expression that
--- stands in one.
+-- So is the scope at each of its statements, in the blocks of loops and of `if` too.
+abbrev pub StatementsAreMeant : Type 0
+StatementsAreMeant = (tree : Tree) → breaches tree ≡ [] → visits tree ≡ meant_visits tree
+
+-- In that scope all is known, and each expression in the statement is as the meaning has it there.
 abbrev pub AllIsKnown : Type 0
-AllIsKnown = (tree : Tree) (v : Visit) → breaches tree ≡ [] → Contains (visits tree) v →
-    IsSoundScope v.scope × ((e : Expression) → Contains (heads_of v.scope.names v.form) e →
-    IsKnown v.scope (known_type tree v.scope e) × (known_type tree v.scope e ≡ type_of tree v.scope e))
+AllIsKnown = (tree : Tree) (v : Visit) → breaches tree ≡ [] → Contains (meant_visits tree) v →
+    IsSoundScope v.scope
+    × ((e : Expression) → Contains (expressions_at v.scope.names v.form) e → IsAsMeant tree v.scope e)

@@ -1,2 +1,4 @@
 pub mod SoundScopes
+pub mod MeantVisits
+pub mod MeantForms
 pub mod Laws

@@ -4,11 +4,11 @@
 //! The laws are stated under specs/. Each function has an empty body; its contract is a law.
 #![tactic(auto)]
 
-ghost use Rattle.check_laws.specs.Laws.{AllIsKnown, BodiesAreMeant, ExpressionsAreKnown};
+ghost use Rattle.check_laws.specs.Laws.{AllIsKnown, BodiesAreMeant, ExpressionsAreKnown, StatementsAreMeant};
 
 /// In a scope of which all is known, an expression of which no breach is told has the type that the
-/// meaning gives it.
-#[tactic(auto, using(crate::proofs::Expressions::expressions_are_known))]
+/// meaning gives it, and so have its parts.
+#[tactic(auto, using(crate::proofs::Forms::expressions_are_known))]
 pub fn expressions_are_known()
     ensures { ExpressionsAreKnown }
 {}
@@ -19,7 +19,15 @@ pub fn bodies_are_meant()
     ensures { BodiesAreMeant }
 {}
 
-/// In a program without a breach no type is unknown.
+/// In a program without a breach each statement stands in the scope that the meaning has there, in the
+/// blocks of loops and of `if` too.
+#[tactic(auto, using(crate::proofs::Trees::statements_are_meant))]
+pub fn statements_are_meant()
+    ensures { StatementsAreMeant }
+{}
+
+/// In a program without a breach no type is unknown: each expression has the type that the meaning gives
+/// it in the scope of its statement.
 pub fn all_is_known()
     ensures { AllIsKnown }
 {}
