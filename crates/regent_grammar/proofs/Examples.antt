@@ -144,7 +144,7 @@ unfolding computing
 grants_share_places = refl
 
 -- a text that stops has the terminals at which it stops
-unfinished_text : reading program (on_line 1 (word_of word.Import ∷ symbol.Text (codes "regent") ∷ []) ++ on_line 2 (word_of word.Regentlib ∷ sign_of mark.Dot ∷ symbol.Name (codes "initializer") ∷ sign_of mark.Open ∷ one ∷ sign_of mark.Close ∷ [])) ≡ stuck (on_line 2 (one ∷ sign_of mark.Close ∷ []))
+unfinished_text : reading program (on_line 1 (word_of word.Import ∷ symbol.Text (codes "regent") ∷ []) ++ on_line 2 (word_of word.Regentlib ∷ sign_of mark.Dot ∷ symbol.Name (codes "start") ∷ sign_of mark.Open ∷ one ∷ sign_of mark.Close ∷ [])) ≡ stuck (on_line 2 (one ∷ sign_of mark.Close ∷ []))
 unfolding computing
 unfinished_text = refl
 

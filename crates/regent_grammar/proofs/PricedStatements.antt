@@ -360,7 +360,7 @@ item_form' =
     ⊲' word' word.Regentlib ⊲' mark' mark.Dot ⊲' named' (codes "c"))
     (price_when field_space' (price_when task'
     (price_gives (λ x n h. let two : 2 ≤ n = h in (omega arith, (omega arith, tt, tt)))
-    ⊛' word' word.Regentlib ⊳' mark' mark.Dot ⊳' named' (codes "initializer") ⊳' in_parentheses' name'))))
+    ⊛' word' word.Regentlib ⊳' mark' mark.Dot ⊳' named' (codes "start") ⊳' in_parentheses' name'))))
 
 pub item' : Priced Sort.item item.item
 unfolding item.item

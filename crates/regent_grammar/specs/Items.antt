@@ -160,7 +160,7 @@ alias =
 unfoldable pub start_call : Rule Sort.item_form
 start_call =
     gives (λ n. start_item n)
-    ⊛ a_word word.Regentlib ⊳ a_mark mark.Dot ⊳ named (codes "initializer") ⊳ in_parentheses name
+    ⊛ a_word word.Regentlib ⊳ a_mark mark.Dot ⊳ named (codes "start") ⊳ in_parentheses name
 
 unfoldable pub item_form : Rule Sort.item_form
 item_form =
