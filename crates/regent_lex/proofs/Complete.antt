@@ -66,13 +66,19 @@ none_found q bytes h (row ∷ rows) e =
     none_at q bytes row.0 row.1 (lookup (bytes_eq bytes) rows) h both.0
     (none_found q bytes h rows both.1) (bytes_eq bytes row.0) refl
 
+none_is_none : {A : Type 0} (o : Option A) → o ≡ None → is_some o ≡ true → ⊥
+none_is_none None is some = cc
+none_is_none (Some x) is some = cc
+
 -- no sign begins with a byte that passes a test which the first bytes of all signs fail
 sign_fails : (q : ℕ → Bool) (b : ℕ) (bytes : List ℕ) →
     list_any (λ row. next_is q row.0) mark_table ≡ false →
     is_some (mark_of (b ∷ bytes)) ≡ true → q b ≡ false
 unfolding mark_of
 sign_fails q b bytes none h =
-    false_from_ne_true (q b) (λ p. let e = none_found q (b ∷ bytes) p mark_table none in cc)
+    false_from_ne_true (q b) (λ p.
+    none_is_none (lookup (bytes_eq (b ∷ bytes)) mark_table)
+    (none_found q (b ∷ bytes) p mark_table none) h)
 
 sign_isnt : (q : ℕ → Bool) (b : ℕ) → list_any (λ row. next_is q row.0) mark_table ≡ false →
     is_sign b ≡ true → q b ≡ false
