@@ -15,7 +15,7 @@ use Rattle.regent_grammar.specs.declared.symbol.Symbol.{Symbol}
 use Rattle.regent_grammar.specs.declared.symbol.Symbol.TheVariants as symbol
 use Rattle.regent_lex.specs.declared.tables.Word.TheVariants as word
 use Rattle.regent_grammar.specs.Symbols.{Test, goes_on, comes, come, is_mark, is_word, is_name}
-use Rattle.regent_grammar.specs.Rules.{Sort, Rule, gives, here, one, when◌then◌else◌, maybe, many, ◌⊛◌, ◌⊳◌, ◌⊲◌}
+use Rattle.regent_grammar.specs.Rules.{Sort, Rule, gives, here, one, when◌then◌else◌, maybe, many, ◌⇒◌, ◌⊛◌, ◌⊳◌, ◌⊲◌}
 use Rattle.regent_grammar.specs.Singles.{a_mark, a_word, named, the_text, name, separated, in_parentheses, maybe_listed, arguments}
 use Rattle.regent_grammar.specs.Types.{type_term, parameter}
 use Rattle.regent_grammar.specs.Statements.{fields, block}
