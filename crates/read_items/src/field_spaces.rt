@@ -30,7 +30,7 @@ fn is_separator(symbol: &Symbol) -> bool
 }
 
 /// What comes after a separator of fields.
-#[tactic(auto, unfolding(regent_grammar::specs::Reading::reading, regent_grammar::specs::Reading::reading_with, regent_grammar::specs::Reading::then_read, regent_grammar::specs::Items::separator))]
+#[tactic(auto, unfolding(regent_grammar::proofs::Opening::reading, regent_grammar::specs::Items::separator))]
 fn take_separator(terminals: &[Terminal]) -> Result<&[Terminal], Stop<'_>>
     ensures same { Gives (λ rest. read tt rest.now) result (reading separator terminals.now) }
     ensures shorter { IfOk result (λ rest. length rest.now < length terminals.now) }
@@ -68,7 +68,7 @@ fn comes_another_field(terminals: &[Terminal]) -> bool
 }
 
 /// A field behind a separator.
-#[tactic(auto, unfolding(regent_grammar::specs::Reading::reading, regent_grammar::specs::Reading::reading_with, regent_grammar::specs::Reading::then_read))]
+#[tactic(auto, unfolding(regent_grammar::proofs::Opening::reading))]
 fn next_field(alloc: Global, terminals: &[Terminal]) -> Result<(Param, &[Terminal]), Stop<'_>>
     ensures { Gives (λ x. read x.0 x.1.now) result
         (reading (separator ⊳ parameter) terminals.now) }
@@ -98,7 +98,7 @@ fn more_fields(
 }
 
 /// Fields, with separators between them and perhaps one behind them.
-#[tactic(auto, unfolding(regent_grammar::specs::Reading::reading, regent_grammar::specs::Reading::reading_with, regent_grammar::specs::Reading::then_read, regent_grammar::specs::Items::some_fields))]
+#[tactic(auto, unfolding(regent_grammar::proofs::Opening::reading, regent_grammar::specs::Items::some_fields))]
 fn some_fields(
     alloc: Global,
     terminals: &[Terminal],
@@ -116,7 +116,7 @@ fn some_fields(
 }
 
 /// A field space.
-#[tactic(auto, unfolding(regent_grammar::specs::Reading::reading, regent_grammar::specs::Reading::reading_with, regent_grammar::specs::Reading::then_read, regent_grammar::specs::Items::field_space))]
+#[tactic(auto, unfolding(regent_grammar::proofs::Opening::reading, regent_grammar::specs::Items::field_space))]
 pub fn field_space(
     alloc: Global,
     terminals: &[Terminal],

@@ -6,7 +6,7 @@ ghost use Rattle.regent_grammar.specs.Rules.{many, ◌⊳◌};
 ghost use Rattle.regent_grammar.specs.Singles.{a_mark, arguments, maybe_listed, separated};
 ghost use Rattle.regent_grammar.specs.Symbols.{comes, is_mark};
 ghost use Rattle.regent_grammar.specs.Types.{parameter};
-ghost use Rattle.regent_grammar.specs.declared.symbol.Mark.TheVariants as mark;
+ghost use Rattle.regent_lex.specs.declared.tables.Mark.TheVariants as mark;
 ghost use Rattle.read_terms.specs.Gives.{Gives, with_front};
 
 use plain_values::Sequence;
@@ -16,7 +16,7 @@ use regent_tree::Param;
 use std::alloc::Global;
 
 /// A parameter behind a comma.
-#[tactic(auto, unfolding(regent_grammar::specs::Reading::reading, regent_grammar::specs::Reading::reading_with, regent_grammar::specs::Reading::then_read))]
+#[tactic(auto, unfolding(regent_grammar::proofs::Opening::reading))]
 fn next_parameter(alloc: Global, terminals: &[Terminal]) -> Result<(Param, &[Terminal]), Stop<'_>>
     ensures { Gives (λ x. read x.0 x.1.now) result
         (reading (a_mark mark.Comma ⊳ parameter) terminals.now) }
@@ -46,7 +46,7 @@ fn more_parameters(
 }
 
 /// Parameters, with commas between them.
-#[tactic(auto, unfolding(regent_grammar::specs::Reading::reading, regent_grammar::specs::Reading::reading_with, regent_grammar::specs::Reading::then_read, regent_grammar::specs::Singles::separated))]
+#[tactic(auto, unfolding(regent_grammar::proofs::Opening::reading, regent_grammar::specs::Singles::separated))]
 fn parameters(
     alloc: Global,
     terminals: &[Terminal],
@@ -59,7 +59,7 @@ fn parameters(
 }
 
 /// The parameters of a field space, where there are some.
-#[tactic(auto, unfolding(regent_grammar::specs::Reading::reading, regent_grammar::specs::Reading::reading_with, regent_grammar::specs::Reading::then_read, regent_grammar::specs::Singles::maybe_listed, regent_grammar::specs::Singles::in_parentheses))]
+#[tactic(auto, unfolding(regent_grammar::proofs::Opening::reading, regent_grammar::specs::Singles::maybe_listed, regent_grammar::specs::Singles::in_parentheses))]
 pub fn space_parameters(
     alloc: Global,
     terminals: &[Terminal],
@@ -78,7 +78,7 @@ pub fn space_parameters(
 }
 
 /// The parameters of a task, in parentheses.
-#[tactic(auto, unfolding(regent_grammar::specs::Reading::reading, regent_grammar::specs::Reading::reading_with, regent_grammar::specs::Reading::then_read, regent_grammar::specs::Singles::arguments))]
+#[tactic(auto, unfolding(regent_grammar::proofs::Opening::reading, regent_grammar::specs::Singles::arguments))]
 pub fn task_parameters(
     alloc: Global,
     terminals: &[Terminal],

@@ -9,7 +9,7 @@ ghost use Rattle.regent_grammar.specs.Rules.{many, maybe, ◌⊳◌};
 ghost use Rattle.regent_grammar.specs.Singles.{a_mark, in_parentheses, separated};
 ghost use Rattle.regent_grammar.specs.Statements.{fields};
 ghost use Rattle.regent_grammar.specs.Symbols.{comes, is_mark};
-ghost use Rattle.regent_grammar.specs.declared.symbol.Mark.TheVariants as mark;
+ghost use Rattle.regent_lex.specs.declared.tables.Mark.TheVariants as mark;
 ghost use Rattle.read_terms.specs.Gives.{Gives, with_front};
 
 use plain_values::Sequence;
@@ -33,7 +33,7 @@ fn operation_of(symbol: &Symbol) -> Option<Op>
 }
 
 /// The operator of a reduction.
-#[tactic(auto, unfolding(regent_grammar::specs::Reading::reading, regent_grammar::specs::Reading::reading_with, regent_grammar::specs::Reading::then_read, regent_grammar::specs::Items::operation))]
+#[tactic(auto, unfolding(regent_grammar::proofs::Opening::reading, regent_grammar::specs::Items::operation))]
 fn operation(terminals: &[Terminal]) -> Result<(Op, &[Terminal]), Stop<'_>>
     ensures { Gives (λ x. read x.0 x.1.now) result (reading operation terminals.now) }
 {
@@ -57,7 +57,7 @@ fn access_of(symbol: &Symbol) -> Option<Grant>
 }
 
 /// `reads` or `writes`.
-#[tactic(auto, unfolding(regent_grammar::specs::Reading::reading, regent_grammar::specs::Reading::reading_with, regent_grammar::specs::Reading::then_read, regent_grammar::specs::Items::reading_or_writing))]
+#[tactic(auto, unfolding(regent_grammar::proofs::Opening::reading, regent_grammar::specs::Items::reading_or_writing))]
 fn reading_or_writing(terminals: &[Terminal]) -> Result<(Grant, &[Terminal]), Stop<'_>>
     ensures { Gives (λ x. read x.0 x.1.now) result (reading reading_or_writing terminals.now) }
 {
@@ -71,7 +71,7 @@ fn reading_or_writing(terminals: &[Terminal]) -> Result<(Grant, &[Terminal]), St
 }
 
 /// A privilege.
-#[tactic(auto, unfolding(regent_grammar::specs::Reading::reading, regent_grammar::specs::Reading::reading_with, regent_grammar::specs::Reading::then_read, regent_grammar::specs::Items::grant))]
+#[tactic(auto, unfolding(regent_grammar::proofs::Opening::reading, regent_grammar::specs::Items::grant))]
 fn grant(terminals: &[Terminal]) -> Result<(Grant, &[Terminal]), Stop<'_>>
     ensures { Gives (λ x. read x.0 x.1.now) result (reading grant terminals.now) }
 {
@@ -126,7 +126,7 @@ fn more_grants(
 }
 
 /// The fields of a place, where they are named.
-#[tactic(auto, unfolding(regent_grammar::specs::Reading::reading, regent_grammar::specs::Reading::reading_with, regent_grammar::specs::Reading::then_read))]
+#[tactic(auto, unfolding(regent_grammar::proofs::Opening::reading))]
 fn some_fields(
     alloc: Global,
     terminals: &[Terminal],
@@ -144,7 +144,7 @@ fn some_fields(
 }
 
 /// A region, with some of its fields or all.
-#[tactic(auto, unfolding(regent_grammar::specs::Reading::reading, regent_grammar::specs::Reading::reading_with, regent_grammar::specs::Reading::then_read, regent_grammar::specs::Items::place))]
+#[tactic(auto, unfolding(regent_grammar::proofs::Opening::reading, regent_grammar::specs::Items::place))]
 fn place(alloc: Global, terminals: &[Terminal]) -> Result<(Place, &[Terminal]), Stop<'_>>
     ensures { Gives (λ x. read x.0 x.1.now) result (reading place terminals.now) }
 {
@@ -154,7 +154,7 @@ fn place(alloc: Global, terminals: &[Terminal]) -> Result<(Place, &[Terminal]), 
 }
 
 /// A place behind a comma.
-#[tactic(auto, unfolding(regent_grammar::specs::Reading::reading, regent_grammar::specs::Reading::reading_with, regent_grammar::specs::Reading::then_read))]
+#[tactic(auto, unfolding(regent_grammar::proofs::Opening::reading))]
 fn next_place(alloc: Global, terminals: &[Terminal]) -> Result<(Place, &[Terminal]), Stop<'_>>
     ensures { Gives (λ x. read x.0 x.1.now) result
         (reading (a_mark mark.Comma ⊳ place) terminals.now) }
@@ -184,7 +184,7 @@ fn more_places(
 }
 
 /// Places, in parentheses.
-#[tactic(auto, unfolding(regent_grammar::specs::Reading::reading, regent_grammar::specs::Reading::reading_with, regent_grammar::specs::Reading::then_read, regent_grammar::specs::Singles::in_parentheses, regent_grammar::specs::Singles::separated))]
+#[tactic(auto, unfolding(regent_grammar::proofs::Opening::reading, regent_grammar::specs::Singles::in_parentheses, regent_grammar::specs::Singles::separated))]
 fn places(alloc: Global, terminals: &[Terminal]) -> Result<(Sequence<Place>, &[Terminal]), Stop<'_>>
     ensures { Gives (λ x. read x.0 x.1.now) result
         (reading (in_parentheses (separated place)) terminals.now) }
@@ -197,7 +197,7 @@ fn places(alloc: Global, terminals: &[Terminal]) -> Result<(Sequence<Place>, &[T
 }
 
 /// Privileges, and the places that they are for.
-#[tactic(auto, unfolding(regent_grammar::specs::Reading::reading, regent_grammar::specs::Reading::reading_with, regent_grammar::specs::Reading::then_read, regent_grammar::specs::Items::privileges))]
+#[tactic(auto, unfolding(regent_grammar::proofs::Opening::reading, regent_grammar::specs::Items::privileges))]
 fn privileges(alloc: Global, terminals: &[Terminal]) -> Result<(Clause, &[Terminal]), Stop<'_>>
     ensures { Gives (λ x. read x.0 x.1.now) result (reading privileges terminals.now) }
 {
@@ -208,7 +208,7 @@ fn privileges(alloc: Global, terminals: &[Terminal]) -> Result<(Clause, &[Termin
 }
 
 /// A region that lies within another.
-#[tactic(auto, unfolding(regent_grammar::specs::Reading::reading, regent_grammar::specs::Reading::reading_with, regent_grammar::specs::Reading::then_read, regent_grammar::specs::Items::within))]
+#[tactic(auto, unfolding(regent_grammar::proofs::Opening::reading, regent_grammar::specs::Items::within))]
 fn within(alloc: Global, terminals: &[Terminal]) -> Result<(Clause, &[Terminal]), Stop<'_>>
     ensures { Gives (λ x. read x.0 x.1.now) result (reading within terminals.now) }
 {
@@ -219,7 +219,7 @@ fn within(alloc: Global, terminals: &[Terminal]) -> Result<(Clause, &[Terminal])
 }
 
 /// Two regions that have no point in common.
-#[tactic(auto, unfolding(regent_grammar::specs::Reading::reading, regent_grammar::specs::Reading::reading_with, regent_grammar::specs::Reading::then_read, regent_grammar::specs::Items::apart))]
+#[tactic(auto, unfolding(regent_grammar::proofs::Opening::reading, regent_grammar::specs::Items::apart))]
 fn apart(alloc: Global, terminals: &[Terminal]) -> Result<(Clause, &[Terminal]), Stop<'_>>
     ensures { Gives (λ x. read x.0 x.1.now) result (reading apart terminals.now) }
 {
@@ -230,7 +230,7 @@ fn apart(alloc: Global, terminals: &[Terminal]) -> Result<(Clause, &[Terminal]),
 }
 
 /// A clause.
-#[tactic(auto, unfolding(regent_grammar::specs::Reading::reading, regent_grammar::specs::Reading::reading_with, regent_grammar::specs::Reading::then_read, regent_grammar::specs::Items::clause))]
+#[tactic(auto, unfolding(regent_grammar::proofs::Opening::reading, regent_grammar::specs::Items::clause))]
 fn clause(alloc: Global, terminals: &[Terminal]) -> Result<(Clause, &[Terminal]), Stop<'_>>
     ensures { Gives (λ x. read x.0 x.1.now) result (reading clause terminals.now) }
 {
@@ -244,7 +244,7 @@ fn clause(alloc: Global, terminals: &[Terminal]) -> Result<(Clause, &[Terminal])
 }
 
 /// A clause behind a comma.
-#[tactic(auto, unfolding(regent_grammar::specs::Reading::reading, regent_grammar::specs::Reading::reading_with, regent_grammar::specs::Reading::then_read))]
+#[tactic(auto, unfolding(regent_grammar::proofs::Opening::reading))]
 fn next_clause(alloc: Global, terminals: &[Terminal]) -> Result<(Clause, &[Terminal]), Stop<'_>>
     ensures { Gives (λ x. read x.0 x.1.now) result
         (reading (a_mark mark.Comma ⊳ clause) terminals.now) }
@@ -274,7 +274,7 @@ fn more_clauses(
 }
 
 /// The clauses of a task, where there are some.
-#[tactic(auto, unfolding(regent_grammar::specs::Reading::reading, regent_grammar::specs::Reading::reading_with, regent_grammar::specs::Reading::then_read, regent_grammar::specs::Items::clauses, regent_grammar::specs::Singles::separated))]
+#[tactic(auto, unfolding(regent_grammar::proofs::Opening::reading, regent_grammar::specs::Items::clauses, regent_grammar::specs::Singles::separated))]
 pub fn clauses(
     alloc: Global,
     terminals: &[Terminal],

@@ -2,7 +2,7 @@
 use Rattle.std.proofs.Common.{◌≡◌, ◌<◌, ◌≤◌, List, length, refl}
 use Rattle.regent_tree.specs.Syntax.{Expression}
 use Rattle.regent_grammar.specs.declared.symbol.Terminal.{Terminal}
-use Rattle.regent_grammar.specs.declared.symbol.Word.TheVariants as word
+use Rattle.regent_lex.specs.declared.tables.Word.TheVariants as word
 use Rattle.regent_grammar.specs.Guards.{takes, is_sound}
 use Rattle.regent_grammar.specs.Nodes.{Armed}
 use Rattle.regent_grammar.specs.Reading.{read, reading}
@@ -26,3 +26,7 @@ pub arms_rest : (ts : List Terminal) (arms : List Armed) (rest : List Terminal) 
     reading (many (comes (is_word word.Elseif)) (a_word word.Elseif ⊳ arm)) ts ≡ read arms rest → length rest ≤ length ts
 unfolding all_rules is_sound takes
 arms_rest ts arms rest h = no_longer (many (comes (is_word word.Elseif)) (a_word word.Elseif ⊳ arm)) refl ts arms rest h
+
+pub first_rest : (ts : List Terminal) (a : Armed) (rest : List Terminal) → reading (a_word word.If ⊳ arm) ts ≡ read a rest → length rest < length ts
+unfolding all_rules is_sound takes
+first_rest ts a rest h = shorter (a_word word.If ⊳ arm) refl refl ts a rest h

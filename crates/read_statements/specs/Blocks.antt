@@ -9,8 +9,8 @@ use Rattle.regent_grammar.specs.Nodes.{Armed}
 use Rattle.regent_grammar.specs.Rules.{Sort, Rule, when◌then◌else◌}
 use Rattle.regent_grammar.specs.Symbols.{comes, come, is_mark, is_word, is_name}
 use Rattle.regent_grammar.specs.Statements.{filling, assertion, printing, printing_by, task_call, assignment, an_assert, a_named_print}
-use Rattle.regent_grammar.specs.declared.symbol.Mark.TheVariants as mark
-use Rattle.regent_grammar.specs.declared.symbol.Word.TheVariants as word
+use Rattle.regent_lex.specs.declared.tables.Mark.TheVariants as mark
+use Rattle.regent_lex.specs.declared.tables.Word.TheVariants as word
 
 abbrev pub statement_of : Stmt → Statement
 statement_of s = a_statement s.line (form_of s.what)

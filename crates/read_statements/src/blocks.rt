@@ -2,20 +2,21 @@
 
 ghost use Rattle.std.specs.Prelude.{◌≡◌, ◌∷◌, [], IfOk, map};
 ghost use Rattle.std.specs.Option.{option_map};
-ghost use Rattle.regent_grammar.specs.Reading.{read, reading};
+ghost use Rattle.regent_grammar.specs.Reading.{read, reading, then_read};
 ghost use Rattle.regent_grammar.specs.Rules.{many, maybe, ◌⊳◌, ◌⊲◌};
 ghost use Rattle.regent_grammar.specs.Singles.{a_word};
 ghost use Rattle.regent_grammar.specs.Statements.{arm, begins_statement, block, body, conditional};
 ghost use Rattle.regent_grammar.specs.Statements.{demandable_loop, form, maybe_semicolon, plain_block};
 ghost use Rattle.regent_grammar.specs.Statements.{statement, statements, while_loop};
 ghost use Rattle.regent_grammar.specs.Symbols.{comes, is_word};
-ghost use Rattle.regent_grammar.specs.declared.symbol.Word.TheVariants as word;
+ghost use Rattle.regent_lex.specs.declared.tables.Word.TheVariants as word;
 ghost use Rattle.read_statements.specs.Blocks.{armed_of, statement_of};
+ghost use Rattle.read_statements.specs.Ranges.{behind_range};
 ghost use Rattle.read_terms.specs.Gives.{Gives};
 ghost use Rattle.regent_tree.specs.PlainProgram.{block_in, form_of};
 
 use crate::forms::{arm_of, chosen, comes_statement, ended, last_statement, semicolon, simple};
-use crate::ranges::{comes_loop, demand, ranged, take_range};
+use crate::ranges::{Range, comes_loop, demand, ranged, take_range};
 use crate::simple::variable;
 use read_terms::{Stop, comes_word, expression, line_of, take_word};
 use regent_grammar::{Terminal, Word};
@@ -33,7 +34,7 @@ pub fn block(alloc: Global, terminals: &[Terminal]) -> Result<(Vec<Stmt>, &[Term
 
 /// Statements, and one that returns behind them.
 #[cycle(block)]
-#[tactic(auto, unfolding(regent_grammar::specs::Reading::reading, regent_grammar::specs::Reading::reading_with, regent_grammar::specs::Reading::then_read, regent_grammar::specs::Statements::statements))]
+#[tactic(auto, unfolding(regent_grammar::proofs::Opening::reading, regent_grammar::specs::Statements::statements))]
 fn whole_block(alloc: Global, terminals: &[Terminal]) -> Result<(Vec<Stmt>, &[Terminal]), Stop<'_>>
     ensures { Gives (λ x. read (block_in x.0.items) x.1.now) result
         (reading statements terminals.now) }
@@ -64,7 +65,7 @@ fn many_statements(
 
 /// A statement, and the semicolon behind it.
 #[cycle(block)]
-#[tactic(auto, unfolding(regent_grammar::specs::Reading::reading, regent_grammar::specs::Reading::reading_with, regent_grammar::specs::Reading::then_read, regent_grammar::specs::Statements::statement))]
+#[tactic(auto, unfolding(regent_grammar::proofs::Opening::reading, regent_grammar::specs::Statements::statement))]
 fn next_statement(alloc: Global, terminals: &[Terminal]) -> Result<(Stmt, &[Terminal]), Stop<'_>>
     ensures { Gives (λ x. read (statement_of x.0) x.1.now) result
         (reading (statement ⊲ maybe_semicolon) terminals.now) }
@@ -77,7 +78,7 @@ fn next_statement(alloc: Global, terminals: &[Terminal]) -> Result<(Stmt, &[Term
 
 /// What a statement is.
 #[cycle(block)]
-#[tactic(auto, unfolding(regent_grammar::specs::Reading::reading, regent_grammar::specs::Reading::reading_with, regent_grammar::specs::Reading::then_read, regent_grammar::specs::Statements::form))]
+#[tactic(auto, unfolding(regent_grammar::proofs::Opening::reading, regent_grammar::specs::Statements::form))]
 fn form(alloc: Global, terminals: &[Terminal]) -> Result<(What, &[Terminal]), Stop<'_>>
     ensures { Gives (λ x. read (form_of x.0) x.1.now) result
         (reading form terminals.now) }
@@ -99,7 +100,7 @@ fn form(alloc: Global, terminals: &[Terminal]) -> Result<(What, &[Terminal]), St
 
 /// A block between `do` and `end`.
 #[cycle(block)]
-#[tactic(auto, unfolding(regent_grammar::specs::Reading::reading, regent_grammar::specs::Reading::reading_with, regent_grammar::specs::Reading::then_read, regent_grammar::specs::Statements::body))]
+#[tactic(auto, unfolding(regent_grammar::proofs::Opening::reading, regent_grammar::specs::Statements::body))]
 fn body(alloc: Global, terminals: &[Terminal]) -> Result<(Vec<Stmt>, &[Terminal]), Stop<'_>>
     ensures { Gives (λ x. read (block_in x.0.items) x.1.now) result
         (reading body terminals.now) }
@@ -112,7 +113,7 @@ fn body(alloc: Global, terminals: &[Terminal]) -> Result<(Vec<Stmt>, &[Terminal]
 
 /// A block of its own.
 #[cycle(block)]
-#[tactic(auto, unfolding(regent_grammar::specs::Reading::reading, regent_grammar::specs::Reading::reading_with, regent_grammar::specs::Reading::then_read, regent_grammar::specs::Statements::plain_block))]
+#[tactic(auto, unfolding(regent_grammar::proofs::Opening::reading, regent_grammar::specs::Statements::plain_block))]
 fn plain_block(alloc: Global, terminals: &[Terminal]) -> Result<(What, &[Terminal]), Stop<'_>>
     ensures { Gives (λ x. read (form_of x.0) x.1.now) result
         (reading plain_block terminals.now) }
@@ -125,7 +126,7 @@ fn plain_block(alloc: Global, terminals: &[Terminal]) -> Result<(What, &[Termina
 
 /// A `while`.
 #[cycle(block)]
-#[tactic(auto, unfolding(regent_grammar::specs::Reading::reading, regent_grammar::specs::Reading::reading_with, regent_grammar::specs::Reading::then_read, regent_grammar::specs::Statements::while_loop), using(crate::proofs::Lengths::expression_less))]
+#[tactic(auto, unfolding(regent_grammar::proofs::Opening::reading, regent_grammar::specs::Statements::while_loop), using(crate::proofs::Lengths::expression_less))]
 fn while_loop(alloc: Global, terminals: &[Terminal]) -> Result<(What, &[Terminal]), Stop<'_>>
     ensures { Gives (λ x. read (form_of x.0) x.1.now) result
         (reading while_loop terminals.now) }
@@ -136,44 +137,93 @@ fn while_loop(alloc: Global, terminals: &[Terminal]) -> Result<(What, &[Terminal
     Ok((What::repeat(test, body), rest))
 }
 
+/// The body of a `for` whose head was read.
+#[cycle(block)]
+#[tactic(auto, unfolding(regent_grammar::proofs::Opening::reading))]
+fn ranged_body(
+    alloc: Global,
+    demanded: bool,
+    range: Range,
+    terminals: &[Terminal],
+) -> Result<(What, &[Terminal]), Stop<'_>>
+    ensures { Gives (λ x. read (form_of x.0) x.1.now) result
+        (then_read (reading (behind_range range) terminals.now) (λ f rest. read (f demanded) rest)) }
+{
+    let (body, rest) = body(alloc, terminals)?;
+    Ok((ranged(demanded, range, body), rest))
+}
+
 /// A `for`, and the demand before it.
 #[cycle(block)]
-#[tactic(auto, unfolding(regent_grammar::specs::Reading::reading, regent_grammar::specs::Reading::reading_with, regent_grammar::specs::Reading::then_read, regent_grammar::specs::Statements::demandable_loop))]
+#[tactic(auto, unfolding(regent_grammar::proofs::Opening::reading, regent_grammar::specs::Statements::demandable_loop))]
 fn demandable_loop(alloc: Global, terminals: &[Terminal]) -> Result<(What, &[Terminal]), Stop<'_>>
     ensures { Gives (λ x. read (form_of x.0) x.1.now) result
         (reading demandable_loop terminals.now) }
 {
     let (demanded, rest) = demand(terminals)?;
     let (range, rest) = take_range(alloc, rest)?;
-    let (body, rest) = body(alloc, rest)?;
-    Ok((ranged(demanded, range, body), rest))
+    ranged_body(alloc, demanded, range, rest)
+}
+
+/// The first test of an `if`, and the block behind it.
+#[cycle(block)]
+#[tactic(auto, unfolding(regent_grammar::proofs::Opening::reading))]
+fn first_arm(alloc: Global, terminals: &[Terminal]) -> Result<(Arm, &[Terminal]), Stop<'_>>
+    ensures { Gives (λ x. read (armed_of x.0) x.1.now) result
+        (reading (a_word word.If ⊳ arm) terminals.now) }
+{
+    let rest = take_word(terminals, Word::If)?;
+    arm(alloc, rest)
+}
+
+/// The block of an `else`, where there is one, and the `end`.
+#[cycle(block)]
+#[tactic(auto, unfolding(regent_grammar::proofs::Opening::reading))]
+fn other_end(
+    alloc: Global,
+    terminals: &[Terminal],
+) -> Result<(Option<Vec<Stmt>>, &[Terminal]), Stop<'_>>
+    ensures { Gives (λ x. read (option_map (λ b. block_in b.items) x.0) x.1.now) result
+        (reading (maybe (comes (is_word word.Else)) (a_word word.Else ⊳ block) ⊲ a_word word.End) terminals.now) }
+{
+    let (other, rest) = other(alloc, terminals)?;
+    let rest = take_word(rest, Word::End)?;
+    Ok((other, rest))
 }
 
 /// An `if`.
 #[cycle(block)]
-#[tactic(auto, unfolding(regent_grammar::specs::Reading::reading, regent_grammar::specs::Reading::reading_with, regent_grammar::specs::Reading::then_read, regent_grammar::specs::Statements::conditional), using(crate::proofs::Lengths::arm_rest, crate::proofs::Lengths::arms_rest))]
+#[tactic(auto, unfolding(regent_grammar::proofs::Opening::reading, regent_grammar::specs::Statements::conditional), using(crate::proofs::Lengths::first_rest, crate::proofs::Lengths::arms_rest))]
 fn conditional(alloc: Global, terminals: &[Terminal]) -> Result<(What, &[Terminal]), Stop<'_>>
     ensures { Gives (λ x. read (form_of x.0) x.1.now) result
         (reading conditional terminals.now) }
 {
-    let rest = take_word(terminals, Word::If)?;
-    let (first, rest) = arm(alloc, rest)?;
+    let (first, rest) = first_arm(alloc, terminals)?;
     let (arms, rest) = more_arms(alloc, rest)?;
-    let (other, rest) = other(alloc, rest)?;
-    let rest = take_word(rest, Word::End)?;
+    let (other, rest) = other_end(alloc, rest)?;
     Ok((chosen(first, arms, other)?, rest))
+}
+
+/// The block behind a test.
+#[cycle(block)]
+#[tactic(auto, unfolding(regent_grammar::proofs::Opening::reading))]
+fn then_block(alloc: Global, terminals: &[Terminal]) -> Result<(Vec<Stmt>, &[Terminal]), Stop<'_>>
+    ensures { Gives (λ x. read (block_in x.0.items) x.1.now) result
+        (reading (a_word word.Then ⊳ block) terminals.now) }
+{
+    let rest = take_word(terminals, Word::Then)?;
+    block(alloc, rest)
 }
 
 /// A test, and the block behind it.
 #[cycle(block)]
-#[tactic(auto, unfolding(regent_grammar::specs::Reading::reading, regent_grammar::specs::Reading::reading_with, regent_grammar::specs::Reading::then_read, regent_grammar::specs::Statements::arm), using(crate::proofs::Lengths::expression_less))]
+#[tactic(auto, unfolding(regent_grammar::proofs::Opening::reading, regent_grammar::specs::Statements::arm), using(crate::proofs::Lengths::expression_less))]
 fn arm(alloc: Global, terminals: &[Terminal]) -> Result<(Arm, &[Terminal]), Stop<'_>>
     ensures { Gives (λ x. read (armed_of x.0) x.1.now) result
         (reading arm terminals.now) }
 {
     let (test, rest) = expression(alloc, terminals)?;
-    let rest = take_word(rest, Word::Then)?;
-    let (body, rest) = block(alloc, rest)?;
+    let (body, rest) = then_block(alloc, rest)?;
     Ok((arm_of(test, body), rest))
 }
 
@@ -195,7 +245,7 @@ fn more_arms(alloc: Global, terminals: &[Terminal]) -> Result<(Vec<Arm>, &[Termi
 
 /// An `elseif` with its block.
 #[cycle(block)]
-#[tactic(auto, unfolding(regent_grammar::specs::Reading::reading, regent_grammar::specs::Reading::reading_with, regent_grammar::specs::Reading::then_read))]
+#[tactic(auto, unfolding(regent_grammar::proofs::Opening::reading))]
 fn next_arm(alloc: Global, terminals: &[Terminal]) -> Result<(Arm, &[Terminal]), Stop<'_>>
     ensures { Gives (λ x. read (armed_of x.0) x.1.now) result
         (reading (a_word word.Elseif ⊳ arm) terminals.now) }
@@ -206,7 +256,7 @@ fn next_arm(alloc: Global, terminals: &[Terminal]) -> Result<(Arm, &[Terminal]),
 
 /// The block of an `else`, where there is one.
 #[cycle(block)]
-#[tactic(auto, unfolding(regent_grammar::specs::Reading::reading, regent_grammar::specs::Reading::reading_with, regent_grammar::specs::Reading::then_read))]
+#[tactic(auto, unfolding(regent_grammar::proofs::Opening::reading))]
 fn other(
     alloc: Global,
     terminals: &[Terminal],

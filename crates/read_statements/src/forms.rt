@@ -9,7 +9,7 @@ ghost use Rattle.regent_grammar.specs.Statements.{a_conditional, armed, begins_s
 ghost use Rattle.regent_grammar.specs.Statements.{maybe_semicolon, return_statement, return_value};
 ghost use Rattle.regent_grammar.specs.Statements.{returns_nothing};
 ghost use Rattle.regent_grammar.specs.Symbols.{comes, is_word};
-ghost use Rattle.regent_grammar.specs.declared.symbol.Word.TheVariants as word;
+ghost use Rattle.regent_lex.specs.declared.tables.Word.TheVariants as word;
 ghost use Rattle.read_statements.specs.Blocks.{armed_of, present, simple_form, statement_of};
 ghost use Rattle.read_terms.specs.Gives.{Gives};
 ghost use Rattle.regent_tree.specs.Plain.{expression_of};
@@ -26,7 +26,7 @@ use regent_tree::{Arm, Expr, Stmt, What};
 use std::alloc::{AllocError, Global};
 
 /// A statement without blocks that declares no variable.
-#[tactic(auto, unfolding(regent_grammar::specs::Reading::reading, regent_grammar::specs::Reading::reading_with, regent_grammar::specs::Reading::then_read))]
+#[tactic(auto, unfolding(regent_grammar::proofs::Opening::reading))]
 pub fn simple(alloc: Global, terminals: &[Terminal]) -> Result<(What, &[Terminal]), Stop<'_>>
     ensures { Gives (λ x. read (form_of x.0) x.1.now) result
         (reading simple_form terminals.now) }
@@ -71,7 +71,7 @@ fn begins_statement(symbol: &Symbol) -> bool
 }
 
 /// Whether a semicolon comes, and what comes behind it.
-#[tactic(auto, unfolding(regent_grammar::specs::Reading::reading, regent_grammar::specs::Reading::reading_with, regent_grammar::specs::Reading::then_read, regent_grammar::specs::Statements::maybe_semicolon, regent_grammar::specs::Singles::a_mark))]
+#[tactic(auto, unfolding(regent_grammar::proofs::Opening::reading, regent_grammar::specs::Statements::maybe_semicolon, regent_grammar::specs::Singles::a_mark))]
 pub fn semicolon(terminals: &[Terminal]) -> (bool, &[Terminal])
     ensures { reading maybe_semicolon terminals.now ≡ read (present result.0) result.1.now }
 {
@@ -107,7 +107,7 @@ fn ends_return(symbol: &Symbol) -> bool
 }
 
 /// What is returned.
-#[tactic(auto, unfolding(regent_grammar::specs::Reading::reading, regent_grammar::specs::Reading::reading_with, regent_grammar::specs::Reading::then_read, regent_grammar::specs::Statements::return_value))]
+#[tactic(auto, unfolding(regent_grammar::proofs::Opening::reading, regent_grammar::specs::Statements::return_value))]
 fn return_value(
     alloc: Global,
     terminals: &[Terminal],
@@ -124,7 +124,7 @@ fn return_value(
 }
 
 /// A `return`.
-#[tactic(auto, unfolding(regent_grammar::specs::Reading::reading, regent_grammar::specs::Reading::reading_with, regent_grammar::specs::Reading::then_read, regent_grammar::specs::Statements::return_statement))]
+#[tactic(auto, unfolding(regent_grammar::proofs::Opening::reading, regent_grammar::specs::Statements::return_statement))]
 fn return_statement(alloc: Global, terminals: &[Terminal]) -> Result<(Stmt, &[Terminal]), Stop<'_>>
     ensures { Gives (λ x. read (statement_of x.0) x.1.now) result
         (reading return_statement terminals.now) }
@@ -137,7 +137,7 @@ fn return_statement(alloc: Global, terminals: &[Terminal]) -> Result<(Stmt, &[Te
 }
 
 /// A `return`, and the semicolon behind it.
-#[tactic(auto, unfolding(regent_grammar::specs::Reading::reading, regent_grammar::specs::Reading::reading_with, regent_grammar::specs::Reading::then_read))]
+#[tactic(auto, unfolding(regent_grammar::proofs::Opening::reading))]
 fn return_line(alloc: Global, terminals: &[Terminal]) -> Result<(Stmt, &[Terminal]), Stop<'_>>
     ensures { Gives (λ x. read (statement_of x.0) x.1.now) result
         (reading (return_statement ⊲ maybe_semicolon) terminals.now) }
@@ -148,7 +148,7 @@ fn return_line(alloc: Global, terminals: &[Terminal]) -> Result<(Stmt, &[Termina
 }
 
 /// The `return` at the end of a block, where there is one.
-#[tactic(auto, unfolding(regent_grammar::specs::Reading::reading, regent_grammar::specs::Reading::reading_with, regent_grammar::specs::Reading::then_read))]
+#[tactic(auto, unfolding(regent_grammar::proofs::Opening::reading))]
 pub fn last_statement(
     alloc: Global,
     terminals: &[Terminal],

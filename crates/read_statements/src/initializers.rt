@@ -1,71 +1,129 @@
 //! Initializers of variables.
 
 ghost use Rattle.std.specs.Prelude.{◌≡◌, ◌∷◌, []};
+ghost use Rattle.regent_grammar.specs.Expressions.{expression};
 ghost use Rattle.regent_grammar.specs.Reading.{read, reading};
+ghost use Rattle.regent_grammar.specs.Rules.{◌⊳◌, ◌⊲◌};
+ghost use Rattle.regent_grammar.specs.Singles.{a_mark, a_word, name};
+ghost use Rattle.regent_grammar.specs.Types.{space_use};
 ghost use Rattle.regent_grammar.specs.Statements.{both_partitions, either_partition, equal_partition};
 ghost use Rattle.regent_grammar.specs.Statements.{field_partition, is_mapping, mapped_partition};
 ghost use Rattle.regent_grammar.specs.Statements.{mapping, new_region, initializer};
 ghost use Rattle.regent_grammar.specs.Symbols.{come, comes, is_mark, is_word};
-ghost use Rattle.regent_grammar.specs.declared.symbol.Mark.TheVariants as mark;
-ghost use Rattle.regent_grammar.specs.declared.symbol.Word.TheVariants as word;
+ghost use Rattle.regent_lex.specs.declared.tables.Mark.TheVariants as mark;
+ghost use Rattle.regent_lex.specs.declared.tables.Word.TheVariants as word;
 ghost use Rattle.read_statements.specs.Mappings.{mapping_by};
 ghost use Rattle.read_terms.specs.Gives.{Gives};
-ghost use Rattle.regent_tree.specs.Plain.{initializer_of};
+ghost use Rattle.regent_tree.specs.Plain.{expression_of, initializer_of};
 
 use read_terms::{
     Stop, comes_name_before, comes_word, expression, is_mark, is_word, space_use, take_mark,
     take_name, take_word,
 };
 use regent_grammar::{Mark, Symbol, Terminal, Word};
-use regent_tree::{Init, Name};
+use regent_tree::{Expr, Init, Name, SpaceUse};
 use std::alloc::Global;
 
+/// The index space of a new region.
+#[tactic(auto, unfolding(regent_grammar::proofs::Opening::reading))]
+fn region_space(alloc: Global, terminals: &[Terminal]) -> Result<(Expr, &[Terminal]), Stop<'_>>
+    ensures { Gives (λ x. read (expression_of x.0) x.1.now) result
+        (reading (a_word word.Region ⊳ a_mark mark.Open ⊳ expression) terminals.now) }
+{
+    let rest = take_word(terminals, Word::Region)?;
+    let rest = take_mark(rest, Mark::Open)?;
+    expression(alloc, rest)
+}
+
+/// The fields of a new region.
+#[tactic(auto, unfolding(regent_grammar::proofs::Opening::reading))]
+fn region_fields(alloc: Global, terminals: &[Terminal]) -> Result<(SpaceUse, &[Terminal]), Stop<'_>>
+    ensures { Gives (λ x. read x.0 x.1.now) result
+        (reading (a_mark mark.Comma ⊳ space_use ⊲ a_mark mark.Close) terminals.now) }
+{
+    let rest = take_mark(terminals, Mark::Comma)?;
+    let (fields, rest) = space_use(alloc, rest)?;
+    let rest = take_mark(rest, Mark::Close)?;
+    Ok((fields, rest))
+}
+
 /// A new region.
-#[tactic(auto, unfolding(regent_grammar::specs::Reading::reading, regent_grammar::specs::Reading::reading_with, regent_grammar::specs::Reading::then_read, regent_grammar::specs::Statements::new_region))]
+#[tactic(auto, unfolding(regent_grammar::proofs::Opening::reading, regent_grammar::specs::Statements::new_region))]
 fn new_region(alloc: Global, terminals: &[Terminal]) -> Result<(Init, &[Terminal]), Stop<'_>>
     ensures { Gives (λ x. read (initializer_of x.0) x.1.now) result
         (reading new_region terminals.now) }
 {
-    let rest = take_word(terminals, Word::Region)?;
-    let rest = take_mark(rest, Mark::Open)?;
-    let (space, rest) = expression(alloc, rest)?;
-    let rest = take_mark(rest, Mark::Comma)?;
-    let (fields, rest) = space_use(alloc, rest)?;
-    let rest = take_mark(rest, Mark::Close)?;
+    let (space, rest) = region_space(alloc, terminals)?;
+    let (fields, rest) = region_fields(alloc, rest)?;
     Ok((Init::Region { space, fields }, rest))
 }
 
-/// A partition in equal parts.
-#[tactic(auto, unfolding(regent_grammar::specs::Reading::reading, regent_grammar::specs::Reading::reading_with, regent_grammar::specs::Reading::then_read, regent_grammar::specs::Statements::equal_partition))]
-fn equal_partition(alloc: Global, terminals: &[Terminal]) -> Result<(Init, &[Terminal]), Stop<'_>>
-    ensures { Gives (λ x. read (initializer_of x.0) x.1.now) result
-        (reading equal_partition terminals.now) }
+/// The count of colours.
+#[tactic(auto, unfolding(regent_grammar::proofs::Opening::reading))]
+fn colours(alloc: Global, terminals: &[Terminal]) -> Result<(Expr, &[Terminal]), Stop<'_>>
+    ensures { Gives (λ x. read (expression_of x.0) x.1.now) result
+        (reading (a_mark mark.Comma ⊳ expression ⊲ a_mark mark.Close) terminals.now) }
+{
+    let rest = take_mark(terminals, Mark::Comma)?;
+    let (colours, rest) = expression(alloc, rest)?;
+    let rest = take_mark(rest, Mark::Close)?;
+    Ok((colours, rest))
+}
+
+/// The region that is divided equally.
+#[tactic(auto, unfolding(regent_grammar::proofs::Opening::reading))]
+fn equal_region(alloc: Global, terminals: &[Terminal]) -> Result<(Name, &[Terminal]), Stop<'_>>
+    ensures { Gives (λ x. read x.0 x.1.now) result
+        (reading (a_word word.Partition ⊳ a_mark mark.Open ⊳ a_word word.Equal ⊳ a_mark mark.Comma ⊳ name) terminals.now) }
 {
     let rest = take_word(terminals, Word::Partition)?;
     let rest = take_mark(rest, Mark::Open)?;
     let rest = take_word(rest, Word::Equal)?;
     let rest = take_mark(rest, Mark::Comma)?;
-    let (region, rest) = take_name(alloc, rest)?;
-    let rest = take_mark(rest, Mark::Comma)?;
-    let (colours, rest) = expression(alloc, rest)?;
-    let rest = take_mark(rest, Mark::Close)?;
+    take_name(alloc, rest)
+}
+
+/// The region that is divided by a field.
+#[tactic(auto, unfolding(regent_grammar::proofs::Opening::reading))]
+fn field_region(alloc: Global, terminals: &[Terminal]) -> Result<(Name, &[Terminal]), Stop<'_>>
+    ensures { Gives (λ x. read x.0 x.1.now) result
+        (reading (a_word word.Partition ⊳ a_mark mark.Open ⊳ name) terminals.now) }
+{
+    let rest = take_word(terminals, Word::Partition)?;
+    let rest = take_mark(rest, Mark::Open)?;
+    take_name(alloc, rest)
+}
+
+/// The field behind a dot.
+#[tactic(auto, unfolding(regent_grammar::proofs::Opening::reading))]
+fn field_behind(alloc: Global, terminals: &[Terminal]) -> Result<(Name, &[Terminal]), Stop<'_>>
+    ensures { Gives (λ x. read x.0 x.1.now) result
+        (reading (a_mark mark.Dot ⊳ name) terminals.now) }
+{
+    let rest = take_mark(terminals, Mark::Dot)?;
+    take_name(alloc, rest)
+}
+
+/// A partition in equal parts.
+#[tactic(auto, unfolding(regent_grammar::proofs::Opening::reading, regent_grammar::specs::Statements::equal_partition))]
+fn equal_partition(alloc: Global, terminals: &[Terminal]) -> Result<(Init, &[Terminal]), Stop<'_>>
+    ensures { Gives (λ x. read (initializer_of x.0) x.1.now) result
+        (reading equal_partition terminals.now) }
+{
+    let (region, rest) = equal_region(alloc, terminals)?;
+    let (colours, rest) = colours(alloc, rest)?;
     Ok((Init::Equal { region, colours }, rest))
 }
 
 /// A partition by a field.
-#[tactic(auto, unfolding(regent_grammar::specs::Reading::reading, regent_grammar::specs::Reading::reading_with, regent_grammar::specs::Reading::then_read, regent_grammar::specs::Statements::field_partition))]
+#[tactic(auto, unfolding(regent_grammar::proofs::Opening::reading, regent_grammar::specs::Statements::field_partition))]
 fn field_partition(alloc: Global, terminals: &[Terminal]) -> Result<(Init, &[Terminal]), Stop<'_>>
     ensures { Gives (λ x. read (initializer_of x.0) x.1.now) result
         (reading field_partition terminals.now) }
 {
-    let rest = take_word(terminals, Word::Partition)?;
-    let rest = take_mark(rest, Mark::Open)?;
-    let (region, rest) = take_name(alloc, rest)?;
-    let rest = take_mark(rest, Mark::Dot)?;
-    let (field, rest) = take_name(alloc, rest)?;
-    let rest = take_mark(rest, Mark::Comma)?;
-    let (colours, rest) = expression(alloc, rest)?;
-    let rest = take_mark(rest, Mark::Close)?;
+    let (region, rest) = field_region(alloc, terminals)?;
+    let (field, rest) = field_behind(alloc, rest)?;
+    let (colours, rest) = colours(alloc, rest)?;
     let initializer = Init::ByField {
         region,
         field,
@@ -82,7 +140,7 @@ pub enum Mapping {
 }
 
 /// `image` or `preimage`.
-#[tactic(auto, unfolding(regent_grammar::specs::Reading::reading, regent_grammar::specs::Reading::reading_with, regent_grammar::specs::Reading::then_read, regent_grammar::specs::Statements::mapping))]
+#[tactic(auto, unfolding(regent_grammar::proofs::Opening::reading, regent_grammar::specs::Statements::mapping))]
 fn take_mapping(terminals: &[Terminal]) -> Result<(Mapping, &[Terminal]), Stop<'_>>
     ensures { Gives (λ x. read (mapping_by x.0) x.1.now) result
         (reading mapping terminals.now) }
@@ -117,7 +175,7 @@ fn mapped(mapping: Mapping, parent: Name, partition: Name, region: Name, field: 
 }
 
 /// An image or a preimage.
-#[tactic(auto, unfolding(regent_grammar::specs::Reading::reading, regent_grammar::specs::Reading::reading_with, regent_grammar::specs::Reading::then_read, regent_grammar::specs::Statements::mapped_partition))]
+#[tactic(auto, unfolding(regent_grammar::proofs::Opening::reading, regent_grammar::specs::Statements::mapped_partition))]
 fn mapped_partition(alloc: Global, terminals: &[Terminal]) -> Result<(Init, &[Terminal]), Stop<'_>>
     ensures { Gives (λ x. read (initializer_of x.0) x.1.now) result
         (reading mapped_partition terminals.now) }
@@ -136,7 +194,7 @@ fn mapped_partition(alloc: Global, terminals: &[Terminal]) -> Result<(Init, &[Te
 }
 
 /// The points of both partitions.
-#[tactic(auto, unfolding(regent_grammar::specs::Reading::reading, regent_grammar::specs::Reading::reading_with, regent_grammar::specs::Reading::then_read, regent_grammar::specs::Statements::both_partitions))]
+#[tactic(auto, unfolding(regent_grammar::proofs::Opening::reading, regent_grammar::specs::Statements::both_partitions))]
 fn both_partitions(alloc: Global, terminals: &[Terminal]) -> Result<(Init, &[Terminal]), Stop<'_>>
     ensures { Gives (λ x. read (initializer_of x.0) x.1.now) result
         (reading both_partitions terminals.now) }
@@ -148,7 +206,7 @@ fn both_partitions(alloc: Global, terminals: &[Terminal]) -> Result<(Init, &[Ter
 }
 
 /// The points of either partition.
-#[tactic(auto, unfolding(regent_grammar::specs::Reading::reading, regent_grammar::specs::Reading::reading_with, regent_grammar::specs::Reading::then_read, regent_grammar::specs::Statements::either_partition))]
+#[tactic(auto, unfolding(regent_grammar::proofs::Opening::reading, regent_grammar::specs::Statements::either_partition))]
 fn either_partition(alloc: Global, terminals: &[Terminal]) -> Result<(Init, &[Terminal]), Stop<'_>>
     ensures { Gives (λ x. read (initializer_of x.0) x.1.now) result
         (reading either_partition terminals.now) }
@@ -191,7 +249,7 @@ fn comes_mapping(terminals: &[Terminal]) -> bool
 }
 
 /// The initializer of a variable.
-#[tactic(auto, unfolding(regent_grammar::specs::Reading::reading, regent_grammar::specs::Reading::reading_with, regent_grammar::specs::Reading::then_read, regent_grammar::specs::Statements::initializer))]
+#[tactic(auto, unfolding(regent_grammar::proofs::Opening::reading, regent_grammar::specs::Statements::initializer))]
 pub fn initializer(alloc: Global, terminals: &[Terminal]) -> Result<(Init, &[Terminal]), Stop<'_>>
     ensures { Gives (λ x. read (initializer_of x.0) x.1.now) result
         (reading initializer terminals.now) }

@@ -4,7 +4,7 @@ ghost use Rattle.std.specs.Prelude.{◌≡◌, ◌≤◌, ◌∷◌, [], IfOk, l
 ghost use Rattle.regent_grammar.specs.Reading.{read, reading};
 ghost use Rattle.regent_grammar.specs.Statements.{begins_loop, demand, for_loop, loop_in, loop_to};
 ghost use Rattle.regent_grammar.specs.Symbols.{come, comes, is_name, is_word};
-ghost use Rattle.regent_grammar.specs.declared.symbol.Word.TheVariants as word;
+ghost use Rattle.regent_lex.specs.declared.tables.Word.TheVariants as word;
 ghost use Rattle.read_statements.specs.Ranges.{behind_range, looping};
 ghost use Rattle.read_terms.specs.Gives.{Gives};
 ghost use Rattle.regent_tree.specs.PlainProgram.{block_in, form_of};
@@ -32,7 +32,7 @@ pub fn ranged(demanded: bool, range: Range, body: Vec<Stmt>) -> What
 }
 
 /// A `for` over a region or an index space, up to its body.
-#[tactic(auto, unfolding(regent_grammar::specs::Reading::reading, regent_grammar::specs::Reading::reading_with, regent_grammar::specs::Reading::then_read, regent_grammar::specs::Statements::loop_in), using(crate::proofs::Lengths::expression_less))]
+#[tactic(auto, unfolding(regent_grammar::proofs::Opening::reading, regent_grammar::specs::Statements::loop_in), using(crate::proofs::Lengths::expression_less))]
 fn range_in(alloc: Global, terminals: &[Terminal]) -> Result<(Range, &[Terminal]), Stop<'_>>
     ensures same { Gives (λ x. reading (behind_range x.0) x.1.now) result (reading loop_in terminals.now) }
     ensures no_longer { IfOk result (λ x. length x.1.now ≤ length terminals.now) }
@@ -45,7 +45,7 @@ fn range_in(alloc: Global, terminals: &[Terminal]) -> Result<(Range, &[Terminal]
 }
 
 /// A `for` over the numbers between two bounds, up to its body.
-#[tactic(auto, unfolding(regent_grammar::specs::Reading::reading, regent_grammar::specs::Reading::reading_with, regent_grammar::specs::Reading::then_read, regent_grammar::specs::Statements::loop_to), using(crate::proofs::Lengths::expression_less))]
+#[tactic(auto, unfolding(regent_grammar::proofs::Opening::reading, regent_grammar::specs::Statements::loop_to), using(crate::proofs::Lengths::expression_less))]
 fn range_to(alloc: Global, terminals: &[Terminal]) -> Result<(Range, &[Terminal]), Stop<'_>>
     ensures same { Gives (λ x. reading (behind_range x.0) x.1.now) result (reading loop_to terminals.now) }
     ensures no_longer { IfOk result (λ x. length x.1.now ≤ length terminals.now) }
@@ -80,7 +80,7 @@ fn comes_range_in(terminals: &[Terminal]) -> bool
 }
 
 /// A `for`, up to its body.
-#[tactic(auto, unfolding(regent_grammar::specs::Reading::reading, regent_grammar::specs::Reading::reading_with, regent_grammar::specs::Reading::then_read, regent_grammar::specs::Statements::for_loop), using(crate::proofs::Lengths::expression_less))]
+#[tactic(auto, unfolding(regent_grammar::proofs::Opening::reading, regent_grammar::specs::Statements::for_loop), using(crate::proofs::Lengths::expression_less))]
 pub fn take_range(alloc: Global, terminals: &[Terminal]) -> Result<(Range, &[Terminal]), Stop<'_>>
     ensures same { Gives (λ x. reading (behind_range x.0) x.1.now) result (reading for_loop terminals.now) }
     ensures no_longer { IfOk result (λ x. length x.1.now ≤ length terminals.now) }
@@ -93,7 +93,7 @@ pub fn take_range(alloc: Global, terminals: &[Terminal]) -> Result<(Range, &[Ter
 }
 
 /// Whether `__demand(__index_launch)` stands before the loop.
-#[tactic(auto, unfolding(regent_grammar::specs::Reading::reading, regent_grammar::specs::Reading::reading_with, regent_grammar::specs::Reading::then_read, regent_grammar::specs::Statements::demand, regent_grammar::specs::Singles::in_parentheses))]
+#[tactic(auto, unfolding(regent_grammar::proofs::Opening::reading, regent_grammar::specs::Statements::demand, regent_grammar::specs::Singles::in_parentheses))]
 pub fn demand(terminals: &[Terminal]) -> Result<(bool, &[Terminal]), Stop<'_>>
     ensures same { Gives (λ x. read x.0 x.1.now) result (reading demand terminals.now) }
     ensures no_longer { IfOk result (λ x. length x.1.now ≤ length terminals.now) }

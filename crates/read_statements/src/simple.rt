@@ -3,16 +3,16 @@
 ghost use Rattle.std.specs.Prelude.{◌≡◌, ◌∷◌, [], codes, map};
 ghost use Rattle.std.specs.Option.{option_map};
 ghost use Rattle.regent_grammar.specs.Expressions.{access, expression};
-ghost use Rattle.regent_grammar.specs.Reading.{read, reading};
+ghost use Rattle.regent_grammar.specs.Reading.{read, reading, then_read};
 ghost use Rattle.regent_grammar.specs.Rules.{maybe, ◌⊳◌};
-ghost use Rattle.regent_grammar.specs.Singles.{a_mark, text};
+ghost use Rattle.regent_grammar.specs.Singles.{a_mark, a_word, named, text};
 ghost use Rattle.regent_grammar.specs.Statements.{a_named_print, an_assert, an_assignment, assertion, assign};
 ghost use Rattle.regent_grammar.specs.Statements.{assign_sign, assignment, extremum, filling};
-ghost use Rattle.regent_grammar.specs.Statements.{further_arguments, is_extremum, printing};
+ghost use Rattle.regent_grammar.specs.Statements.{is_extremum, print_arguments, print_format, printing};
 ghost use Rattle.regent_grammar.specs.Statements.{printing_by, initializer, task_call, variable};
 ghost use Rattle.regent_grammar.specs.Symbols.{come, comes, is_mark, is_named};
-ghost use Rattle.regent_grammar.specs.declared.symbol.Mark.TheVariants as mark;
-ghost use Rattle.regent_grammar.specs.declared.symbol.Word.TheVariants as word;
+ghost use Rattle.regent_lex.specs.declared.tables.Mark.TheVariants as mark;
+ghost use Rattle.regent_lex.specs.declared.tables.Word.TheVariants as word;
 ghost use Rattle.read_statements.specs.Targets.{accessed_of};
 ghost use Rattle.read_terms.specs.Gives.{Gives};
 ghost use Rattle.regent_tree.specs.Plain.{expression_of, initializer_of};
@@ -29,7 +29,7 @@ use regent_tree::{Expr, How, Init, Name, Op, Step, What};
 use std::alloc::Global;
 
 /// The initializer of a variable, where it is written.
-#[tactic(auto, unfolding(regent_grammar::specs::Reading::reading, regent_grammar::specs::Reading::reading_with, regent_grammar::specs::Reading::then_read))]
+#[tactic(auto, unfolding(regent_grammar::proofs::Opening::reading))]
 fn initial_value(
     alloc: Global,
     terminals: &[Terminal],
@@ -47,7 +47,7 @@ fn initial_value(
 }
 
 /// A variable.
-#[tactic(auto, unfolding(regent_grammar::specs::Reading::reading, regent_grammar::specs::Reading::reading_with, regent_grammar::specs::Reading::then_read, regent_grammar::specs::Statements::variable))]
+#[tactic(auto, unfolding(regent_grammar::proofs::Opening::reading, regent_grammar::specs::Statements::variable))]
 pub fn variable(alloc: Global, terminals: &[Terminal]) -> Result<(What, &[Terminal]), Stop<'_>>
     ensures { Gives (λ x. read (form_of x.0) x.1.now) result
         (reading variable terminals.now) }
@@ -60,7 +60,7 @@ pub fn variable(alloc: Global, terminals: &[Terminal]) -> Result<(What, &[Termin
 }
 
 /// A `fill`.
-#[tactic(auto, unfolding(regent_grammar::specs::Reading::reading, regent_grammar::specs::Reading::reading_with, regent_grammar::specs::Reading::then_read, regent_grammar::specs::Statements::filling))]
+#[tactic(auto, unfolding(regent_grammar::proofs::Opening::reading, regent_grammar::specs::Statements::filling))]
 pub fn filling(alloc: Global, terminals: &[Terminal]) -> Result<(What, &[Terminal]), Stop<'_>>
     ensures { Gives (λ x. read (form_of x.0) x.1.now) result
         (reading filling terminals.now) }
@@ -82,7 +82,7 @@ pub fn filling(alloc: Global, terminals: &[Terminal]) -> Result<(What, &[Termina
 }
 
 /// The text of an assertion, where there is one; the tree doesn't keep it.
-#[tactic(auto, unfolding(regent_grammar::specs::Reading::reading, regent_grammar::specs::Reading::reading_with, regent_grammar::specs::Reading::then_read))]
+#[tactic(auto, unfolding(regent_grammar::proofs::Opening::reading))]
 fn assertion_text(
     alloc: Global,
     terminals: &[Terminal],
@@ -99,36 +99,71 @@ fn assertion_text(
     }
 }
 
-/// An assertion.
-#[tactic(auto, unfolding(regent_grammar::specs::Reading::reading, regent_grammar::specs::Reading::reading_with, regent_grammar::specs::Reading::then_read, regent_grammar::specs::Statements::assertion))]
-pub fn assertion(alloc: Global, terminals: &[Terminal]) -> Result<(What, &[Terminal]), Stop<'_>>
-    ensures { Gives (λ x. read (form_of x.0) x.1.now) result
-        (reading assertion terminals.now) }
+/// What is asserted.
+#[tactic(auto, unfolding(regent_grammar::proofs::Opening::reading))]
+fn asserted(alloc: Global, terminals: &[Terminal]) -> Result<(Expr, &[Terminal]), Stop<'_>>
+    ensures { Gives (λ x. read (expression_of x.0) x.1.now) result
+        (reading (a_word word.Regentlib ⊳ a_mark mark.Dot ⊳ named (codes "assert") ⊳ a_mark mark.Open ⊳ expression) terminals.now) }
 {
     let rest = take_word(terminals, Word::Regentlib)?;
     let rest = take_mark(rest, Mark::Dot)?;
     let rest = take_named(rest, b"assert")?;
     let rest = take_mark(rest, Mark::Open)?;
-    let (test, rest) = expression(alloc, rest)?;
-    let (_text, rest) = assertion_text(alloc, rest)?;
-    let rest = take_mark(rest, Mark::Close)?;
+    expression(alloc, rest)
+}
+
+/// The end of an assertion, whose text the tree doesn't keep.
+#[tactic(auto, unfolding(regent_grammar::proofs::Opening::reading))]
+fn assertion_end(alloc: Global, terminals: &[Terminal]) -> Result<&[Terminal], Stop<'_>>
+    ensures { Gives (λ rest. read tt rest.now) result
+        (then_read (reading (maybe (comes (is_mark mark.Comma)) (a_mark mark.Comma ⊳ text)) terminals.now)
+        (λ t rest. reading (a_mark mark.Close) rest)) }
+{
+    let (_text, rest) = assertion_text(alloc, terminals)?;
+    take_mark(rest, Mark::Close)
+}
+
+/// An assertion.
+#[tactic(auto, unfolding(regent_grammar::proofs::Opening::reading, regent_grammar::specs::Statements::assertion))]
+pub fn assertion(alloc: Global, terminals: &[Terminal]) -> Result<(What, &[Terminal]), Stop<'_>>
+    ensures { Gives (λ x. read (form_of x.0) x.1.now) result
+        (reading assertion terminals.now) }
+{
+    let (test, rest) = asserted(alloc, terminals)?;
+    let rest = assertion_end(alloc, rest)?;
     Ok((What::Assert { test }, rest))
 }
 
-/// The arguments of `printf` behind its text.
-#[tactic(auto, unfolding(regent_grammar::specs::Reading::reading, regent_grammar::specs::Reading::reading_with, regent_grammar::specs::Reading::then_read, regent_grammar::specs::Statements::further_arguments), using(read_terms::proofs::Loops::front_none))]
+/// The text of a `printf`, from the dot before it on.
+#[tactic(auto, unfolding(regent_grammar::proofs::Opening::reading, regent_grammar::specs::Statements::print_format))]
+fn print_format(
+    alloc: Global,
+    terminals: &[Terminal],
+) -> Result<(Sequence<u8>, &[Terminal]), Stop<'_>>
+    ensures { Gives (λ x. read x.0 x.1.now) result (reading print_format terminals.now) }
+{
+    let rest = take_mark(terminals, Mark::Dot)?;
+    let rest = take_named(rest, b"printf")?;
+    let rest = take_mark(rest, Mark::Open)?;
+    take_text(alloc, rest)
+}
+
+/// The arguments of a `printf` behind its text.
+#[tactic(auto, unfolding(regent_grammar::proofs::Opening::reading, regent_grammar::specs::Statements::print_arguments, regent_grammar::specs::Statements::further_arguments), using(read_terms::proofs::Loops::front_none))]
 fn print_arguments(
     alloc: Global,
     terminals: &[Terminal],
 ) -> Result<(Vec<Expr>, &[Terminal]), Stop<'_>>
     ensures { Gives (λ x. read (map expression_of x.0.items) x.1.now) result
-        (reading further_arguments terminals.now) }
+        (reading print_arguments terminals.now) }
 {
-    more_arguments(alloc, Vec::new(alloc), terminals)
+    let (args, rest) = more_arguments(alloc, Vec::new(alloc), terminals)?;
+    let rest = take_mark(rest, Mark::Close)?;
+    Ok((args, rest))
 }
 
 /// `printf` of the library.
-#[tactic(auto, unfolding(regent_grammar::specs::Reading::reading, regent_grammar::specs::Reading::reading_with, regent_grammar::specs::Reading::then_read, regent_grammar::specs::Statements::printing), using(read_terms::proofs::NodeLaws::expressions_of_map))]
+#[tactic(auto, unfolding(regent_grammar::proofs::Opening::reading, regent_grammar::specs::Statements::printing), using(read_terms::proofs::NodeLaws::expressions_of_map))]
 pub fn printing(alloc: Global, terminals: &[Terminal]) -> Result<(What, &[Terminal]), Stop<'_>>
     ensures { Gives (λ x. read (form_of x.0) x.1.now) result
         (reading printing terminals.now) }
@@ -136,12 +171,8 @@ pub fn printing(alloc: Global, terminals: &[Terminal]) -> Result<(What, &[Termin
     let rest = take_word(terminals, Word::Regentlib)?;
     let rest = take_mark(rest, Mark::Dot)?;
     let rest = take_named(rest, b"c")?;
-    let rest = take_mark(rest, Mark::Dot)?;
-    let rest = take_named(rest, b"printf")?;
-    let rest = take_mark(rest, Mark::Open)?;
-    let (format, rest) = take_text(alloc, rest)?;
+    let (format, rest) = print_format(alloc, rest)?;
     let (args, rest) = print_arguments(alloc, rest)?;
-    let rest = take_mark(rest, Mark::Close)?;
     let what = What::Print {
         alias: None,
         format,
@@ -151,18 +182,14 @@ pub fn printing(alloc: Global, terminals: &[Terminal]) -> Result<(What, &[Termin
 }
 
 /// `printf` of an alias.
-#[tactic(auto, unfolding(regent_grammar::specs::Reading::reading, regent_grammar::specs::Reading::reading_with, regent_grammar::specs::Reading::then_read, regent_grammar::specs::Statements::printing_by), using(read_terms::proofs::NodeLaws::expressions_of_map))]
+#[tactic(auto, unfolding(regent_grammar::proofs::Opening::reading, regent_grammar::specs::Statements::printing_by), using(read_terms::proofs::NodeLaws::expressions_of_map))]
 pub fn printing_by(alloc: Global, terminals: &[Terminal]) -> Result<(What, &[Terminal]), Stop<'_>>
     ensures { Gives (λ x. read (form_of x.0) x.1.now) result
         (reading printing_by terminals.now) }
 {
     let (alias, rest) = take_name(alloc, terminals)?;
-    let rest = take_mark(rest, Mark::Dot)?;
-    let rest = take_named(rest, b"printf")?;
-    let rest = take_mark(rest, Mark::Open)?;
-    let (format, rest) = take_text(alloc, rest)?;
+    let (format, rest) = print_format(alloc, rest)?;
     let (args, rest) = print_arguments(alloc, rest)?;
-    let rest = take_mark(rest, Mark::Close)?;
     let what = What::Print {
         alias: Some(alias),
         format,
@@ -172,7 +199,7 @@ pub fn printing_by(alloc: Global, terminals: &[Terminal]) -> Result<(What, &[Ter
 }
 
 /// A call of a task.
-#[tactic(auto, unfolding(regent_grammar::specs::Reading::reading, regent_grammar::specs::Reading::reading_with, regent_grammar::specs::Reading::then_read, regent_grammar::specs::Statements::task_call), using(read_terms::proofs::NodeLaws::expressions_of_map))]
+#[tactic(auto, unfolding(regent_grammar::proofs::Opening::reading, regent_grammar::specs::Statements::task_call), using(read_terms::proofs::NodeLaws::expressions_of_map))]
 pub fn task_call(alloc: Global, terminals: &[Terminal]) -> Result<(What, &[Terminal]), Stop<'_>>
     ensures { Gives (λ x. read (form_of x.0) x.1.now) result
         (reading task_call terminals.now) }
@@ -193,7 +220,7 @@ fn comes_extremum(terminals: &[Terminal]) -> bool
 }
 
 /// `min` or `max`.
-#[tactic(auto, unfolding(regent_grammar::specs::Reading::reading, regent_grammar::specs::Reading::reading_with, regent_grammar::specs::Reading::then_read, regent_grammar::specs::Statements::extremum))]
+#[tactic(auto, unfolding(regent_grammar::proofs::Opening::reading, regent_grammar::specs::Statements::extremum))]
 fn extremum(terminals: &[Terminal]) -> Result<(How, &[Terminal]), Stop<'_>>
     ensures { Gives (λ x. read x.0 x.1.now) result
         (reading extremum terminals.now) }
@@ -209,7 +236,7 @@ fn extremum(terminals: &[Terminal]) -> Result<(How, &[Terminal]), Stop<'_>>
 }
 
 /// `=`, `+=` or `*=`.
-#[tactic(auto, unfolding(regent_grammar::specs::Reading::reading, regent_grammar::specs::Reading::reading_with, regent_grammar::specs::Reading::then_read, regent_grammar::specs::Statements::assign_sign))]
+#[tactic(auto, unfolding(regent_grammar::proofs::Opening::reading, regent_grammar::specs::Statements::assign_sign))]
 fn assign_sign(terminals: &[Terminal]) -> Result<(How, &[Terminal]), Stop<'_>>
     ensures { Gives (λ x. read x.0 x.1.now) result
         (reading assign_sign terminals.now) }
@@ -226,7 +253,7 @@ fn assign_sign(terminals: &[Terminal]) -> Result<(How, &[Terminal]), Stop<'_>>
 }
 
 /// How an assignment writes.
-#[tactic(auto, unfolding(regent_grammar::specs::Reading::reading, regent_grammar::specs::Reading::reading_with, regent_grammar::specs::Reading::then_read, regent_grammar::specs::Statements::assign))]
+#[tactic(auto, unfolding(regent_grammar::proofs::Opening::reading, regent_grammar::specs::Statements::assign))]
 fn assign(terminals: &[Terminal]) -> Result<(How, &[Terminal]), Stop<'_>>
     ensures { Gives (λ x. read x.0 x.1.now) result
         (reading assign terminals.now) }
@@ -248,7 +275,7 @@ pub struct Target {
 }
 
 /// What an assignment writes to.
-#[tactic(auto, unfolding(regent_grammar::specs::Reading::reading, regent_grammar::specs::Reading::reading_with, regent_grammar::specs::Reading::then_read, regent_grammar::specs::Expressions::access))]
+#[tactic(auto, unfolding(regent_grammar::proofs::Opening::reading, regent_grammar::specs::Expressions::access))]
 fn take_target(alloc: Global, terminals: &[Terminal]) -> Result<(Target, &[Terminal]), Stop<'_>>
     ensures { Gives (λ x. read (accessed_of x.0) x.1.now) result
         (reading access terminals.now) }
@@ -272,7 +299,7 @@ fn assigned(target: Target, how: How, value: Expr) -> What
 }
 
 /// An assignment.
-#[tactic(auto, unfolding(regent_grammar::specs::Reading::reading, regent_grammar::specs::Reading::reading_with, regent_grammar::specs::Reading::then_read, regent_grammar::specs::Statements::assignment))]
+#[tactic(auto, unfolding(regent_grammar::proofs::Opening::reading, regent_grammar::specs::Statements::assignment))]
 pub fn assignment(alloc: Global, terminals: &[Terminal]) -> Result<(What, &[Terminal]), Stop<'_>>
     ensures { Gives (λ x. read (form_of x.0) x.1.now) result
         (reading assignment terminals.now) }

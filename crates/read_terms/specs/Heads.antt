@@ -2,7 +2,7 @@
 use Rattle.std.specs.Prelude.{ℕ, List}
 use Rattle.regent_tree.specs.Syntax.{Expression, convert_expr, is_null_expr, cast_expr, space_expr}
 use Rattle.regent_tree.specs.Plain.{expression_of}
-use Rattle.regent_grammar.specs.declared.symbol.Mark.TheVariants as mark
+use Rattle.regent_lex.specs.declared.tables.Mark.TheVariants as mark
 use Rattle.regent_grammar.specs.Rules.{Sort, Rule, gives, ◌⊛◌, ◌⊳◌, ◌⊲◌}
 use Rattle.regent_grammar.specs.Singles.{a_mark, arguments}
 use Rattle.regent_grammar.specs.Expressions.{expression, access, steps, accessed, an_access, a_call}

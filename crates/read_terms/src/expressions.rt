@@ -7,7 +7,7 @@ ghost use Rattle.regent_grammar.specs.Reading.{read, reading};
 ghost use Rattle.regent_grammar.specs.Rules.{many, ◌⊳◌};
 ghost use Rattle.regent_grammar.specs.Singles.{a_mark, arguments};
 ghost use Rattle.regent_grammar.specs.Symbols.{comes, is_mark};
-ghost use Rattle.regent_grammar.specs.declared.symbol.Mark.TheVariants as mark;
+ghost use Rattle.regent_lex.specs.declared.tables.Mark.TheVariants as mark;
 ghost use Rattle.read_terms.specs.Gives.{Gives, with_front};
 ghost use Rattle.read_terms.specs.Heads.{closed};
 ghost use Rattle.read_terms.specs.Levels.{operator_at, rule_at};
@@ -36,7 +36,7 @@ fn comes_sign(terminals: &[Terminal]) -> bool
 }
 
 /// A prefix.
-#[tactic(auto, unfolding(regent_grammar::specs::Reading::reading, regent_grammar::specs::Reading::reading_with, regent_grammar::specs::Reading::then_read, regent_grammar::specs::Expressions::a_sign))]
+#[tactic(auto, unfolding(regent_grammar::proofs::Opening::reading, regent_grammar::specs::Expressions::a_sign))]
 fn sign(terminals: &[Terminal]) -> Result<(Sign, &[Terminal]), Stop<'_>>
     ensures { Gives (λ x. read x.0 x.1.now) result (reading a_sign terminals.now) }
 {
@@ -74,7 +74,7 @@ fn comes_operator(level: Level, terminals: &[Terminal]) -> bool
 }
 
 /// An operator of this level.
-#[tactic(auto, unfolding(regent_grammar::specs::Reading::reading, regent_grammar::specs::Reading::reading_with, regent_grammar::specs::Reading::then_read, regent_grammar::specs::Expressions::an_operator))]
+#[tactic(auto, unfolding(regent_grammar::proofs::Opening::reading, regent_grammar::specs::Expressions::an_operator))]
 fn operator(level: Level, terminals: &[Terminal]) -> Result<(Operator, &[Terminal]), Stop<'_>>
     ensures same { Gives (λ x. read x.0 x.1.now) result (reading (an_operator (operator_at level)) terminals.now) }
     ensures shorter { IfOk result (λ x. length x.1.now < length terminals.now) }
@@ -109,7 +109,7 @@ pub fn expression(alloc: Global, terminals: &[Terminal]) -> Result<(Expr, &[Term
 
 /// A chain of this level.
 #[cycle(expression)]
-#[tactic(auto, unfolding(regent_grammar::specs::Reading::reading, regent_grammar::specs::Reading::reading_with, regent_grammar::specs::Reading::then_read, regent_grammar::specs::Expressions::chain), using(crate::proofs::Lengths::chain_rest))]
+#[tactic(auto, unfolding(regent_grammar::proofs::Opening::reading, regent_grammar::specs::Expressions::chain), using(crate::proofs::Lengths::chain_rest))]
 fn chain(
     alloc: Global,
     level: Level,
@@ -150,7 +150,7 @@ fn links(
 
 /// An operator of this level, and a chain of tighter ones behind it.
 #[cycle(expression)]
-#[tactic(auto, unfolding(regent_grammar::specs::Reading::reading, regent_grammar::specs::Reading::reading_with, regent_grammar::specs::Reading::then_read, regent_grammar::specs::Expressions::link), using(crate::proofs::Lengths::rank_bound))]
+#[tactic(auto, unfolding(regent_grammar::proofs::Opening::reading, regent_grammar::specs::Expressions::link), using(crate::proofs::Lengths::rank_bound))]
 fn next_link(
     alloc: Global,
     level: Level,
@@ -167,7 +167,7 @@ fn next_link(
 
 /// A primary behind prefixes.
 #[cycle(expression)]
-#[tactic(auto, unfolding(regent_grammar::specs::Reading::reading, regent_grammar::specs::Reading::reading_with, regent_grammar::specs::Reading::then_read, regent_grammar::specs::Expressions::prefix), using(crate::proofs::Lengths::signs_rest))]
+#[tactic(auto, unfolding(regent_grammar::proofs::Opening::reading, regent_grammar::specs::Expressions::prefix), using(crate::proofs::Lengths::signs_rest))]
 fn prefix(alloc: Global, terminals: &[Terminal]) -> Result<(Expr, &[Terminal]), Stop<'_>>
     ensures { Gives (λ x. read (expression_of x.0) x.1.now) result (reading prefix terminals.now) }
 {
@@ -178,7 +178,7 @@ fn prefix(alloc: Global, terminals: &[Terminal]) -> Result<(Expr, &[Terminal]), 
 
 /// A primary.
 #[cycle(expression)]
-#[tactic(auto, unfolding(regent_grammar::specs::Reading::reading, regent_grammar::specs::Reading::reading_with, regent_grammar::specs::Reading::then_read))]
+#[tactic(auto, unfolding(regent_grammar::proofs::Opening::reading))]
 fn primary(alloc: Global, terminals: &[Terminal]) -> Result<(Expr, &[Terminal]), Stop<'_>>
     ensures { Gives (λ x. read (expression_of x.0) x.1.now) result (reading primary terminals.now) }
 {
@@ -202,7 +202,7 @@ fn primary(alloc: Global, terminals: &[Terminal]) -> Result<(Expr, &[Terminal]),
 
 /// An expression and the parenthesis behind it.
 #[cycle(expression)]
-#[tactic(auto, unfolding(regent_grammar::specs::Reading::reading, regent_grammar::specs::Reading::reading_with, regent_grammar::specs::Reading::then_read))]
+#[tactic(auto, unfolding(regent_grammar::proofs::Opening::reading))]
 fn closed(alloc: Global, terminals: &[Terminal]) -> Result<(Expr, &[Terminal]), Stop<'_>>
     ensures { Gives (λ x. read (expression_of x.0) x.1.now) result (reading closed terminals.now) }
 {
@@ -213,7 +213,7 @@ fn closed(alloc: Global, terminals: &[Terminal]) -> Result<(Expr, &[Terminal]), 
 
 /// The arguments of a call, in parentheses.
 #[cycle(expression)]
-#[tactic(auto, unfolding(regent_grammar::specs::Reading::reading, regent_grammar::specs::Reading::reading_with, regent_grammar::specs::Reading::then_read, regent_grammar::specs::Singles::arguments, regent_grammar::specs::Singles::separated), using(crate::proofs::Lengths::expression_rest))]
+#[tactic(auto, unfolding(regent_grammar::proofs::Opening::reading, regent_grammar::specs::Singles::arguments, regent_grammar::specs::Singles::separated), using(crate::proofs::Lengths::expression_rest))]
 pub fn arguments(
     alloc: Global,
     terminals: &[Terminal],
@@ -254,7 +254,7 @@ pub fn more_arguments(
 
 /// An argument behind a comma.
 #[cycle(expression)]
-#[tactic(auto, unfolding(regent_grammar::specs::Reading::reading, regent_grammar::specs::Reading::reading_with, regent_grammar::specs::Reading::then_read))]
+#[tactic(auto, unfolding(regent_grammar::proofs::Opening::reading))]
 fn next_argument(alloc: Global, terminals: &[Terminal]) -> Result<(Expr, &[Terminal]), Stop<'_>>
     ensures { Gives (λ x. read (expression_of x.0) x.1.now) result
         (reading (a_mark mark.Comma ⊳ expression) terminals.now) }
@@ -280,7 +280,7 @@ pub fn steps(alloc: Global, terminals: &[Terminal]) -> Result<(Vec<Step>, &[Term
 
 /// A step of an access.
 #[cycle(expression)]
-#[tactic(auto, unfolding(regent_grammar::specs::Reading::reading, regent_grammar::specs::Reading::reading_with, regent_grammar::specs::Reading::then_read, regent_grammar::specs::Expressions::step, regent_grammar::specs::Expressions::field_step, regent_grammar::specs::Expressions::place_step))]
+#[tactic(auto, unfolding(regent_grammar::proofs::Opening::reading, regent_grammar::specs::Expressions::step, regent_grammar::specs::Expressions::field_step, regent_grammar::specs::Expressions::place_step))]
 fn step(alloc: Global, terminals: &[Terminal]) -> Result<(Step, &[Terminal]), Stop<'_>>
     ensures { Gives (λ x. read (stepped_of x.0) x.1.now) result (reading step terminals.now) }
 {

@@ -84,7 +84,7 @@ fn comes_number(terminals: &[Terminal]) -> bool
 }
 
 /// A number or a truth.
-#[tactic(auto, unfolding(regent_grammar::specs::Reading::reading, regent_grammar::specs::Reading::reading_with, regent_grammar::specs::Reading::then_read, regent_grammar::specs::Expressions::literal))]
+#[tactic(auto, unfolding(regent_grammar::proofs::Opening::reading, regent_grammar::specs::Expressions::literal))]
 fn literal(terminals: &[Terminal]) -> Result<(Head, &[Terminal]), Stop<'_>>
     ensures same { Gives (λ x. reading (rest_of x.0) x.1.now) result (reading literal terminals.now) }
     ensures shorter { IfOk result (λ x. length x.1.now < length terminals.now) }
@@ -99,7 +99,7 @@ fn literal(terminals: &[Terminal]) -> Result<(Head, &[Terminal]), Stop<'_>>
 }
 
 /// `(` of an expression in parentheses.
-#[tactic(auto, unfolding(regent_grammar::specs::Reading::reading, regent_grammar::specs::Reading::reading_with, regent_grammar::specs::Reading::then_read, regent_grammar::specs::Singles::in_parentheses))]
+#[tactic(auto, unfolding(regent_grammar::proofs::Opening::reading, regent_grammar::specs::Singles::in_parentheses))]
 fn opened(terminals: &[Terminal]) -> Result<(Head, &[Terminal]), Stop<'_>>
     ensures same { Gives (λ x. reading (rest_of x.0) x.1.now) result (reading (in_parentheses expression) terminals.now) }
     ensures shorter { IfOk result (λ x. length x.1.now < length terminals.now) }
@@ -109,7 +109,7 @@ fn opened(terminals: &[Terminal]) -> Result<(Head, &[Terminal]), Stop<'_>>
 }
 
 /// The name of a called task.
-#[tactic(auto, unfolding(regent_grammar::specs::Reading::reading, regent_grammar::specs::Reading::reading_with, regent_grammar::specs::Reading::then_read, regent_grammar::specs::Expressions::call))]
+#[tactic(auto, unfolding(regent_grammar::proofs::Opening::reading, regent_grammar::specs::Expressions::call))]
 fn call_head(alloc: Global, terminals: &[Terminal]) -> Result<(Head, &[Terminal]), Stop<'_>>
     ensures same { Gives (λ x. reading (rest_of x.0) x.1.now) result (reading call terminals.now) }
     ensures shorter { IfOk result (λ x. length x.1.now < length terminals.now) }
@@ -119,7 +119,7 @@ fn call_head(alloc: Global, terminals: &[Terminal]) -> Result<(Head, &[Terminal]
 }
 
 /// A conversion: its type, and `(`.
-#[tactic(auto, unfolding(regent_grammar::specs::Reading::reading, regent_grammar::specs::Reading::reading_with, regent_grammar::specs::Reading::then_read, regent_grammar::specs::Expressions::conversion, regent_grammar::specs::Singles::in_parentheses))]
+#[tactic(auto, unfolding(regent_grammar::proofs::Opening::reading, regent_grammar::specs::Expressions::conversion, regent_grammar::specs::Singles::in_parentheses))]
 fn conversion_head(terminals: &[Terminal]) -> Result<(Head, &[Terminal]), Stop<'_>>
     ensures same { Gives (λ x. reading (rest_of x.0) x.1.now) result (reading conversion terminals.now) }
     ensures shorter { IfOk result (λ x. length x.1.now < length terminals.now) }
@@ -130,7 +130,7 @@ fn conversion_head(terminals: &[Terminal]) -> Result<(Head, &[Terminal]), Stop<'
 }
 
 /// A conversion whose type is in brackets: its type, and `(`.
-#[tactic(auto, unfolding(regent_grammar::specs::Reading::reading, regent_grammar::specs::Reading::reading_with, regent_grammar::specs::Reading::then_read, regent_grammar::specs::Expressions::bracketed_conversion, regent_grammar::specs::Singles::in_parentheses))]
+#[tactic(auto, unfolding(regent_grammar::proofs::Opening::reading, regent_grammar::specs::Expressions::bracketed_conversion, regent_grammar::specs::Singles::in_parentheses))]
 fn bracketed_head(terminals: &[Terminal]) -> Result<(Head, &[Terminal]), Stop<'_>>
     ensures same { Gives (λ x. reading (rest_of x.0) x.1.now) result (reading bracketed_conversion terminals.now) }
     ensures shorter { IfOk result (λ x. length x.1.now < length terminals.now) }
@@ -143,7 +143,7 @@ fn bracketed_head(terminals: &[Terminal]) -> Result<(Head, &[Terminal]), Stop<'_
 }
 
 /// `isnull` and `(`.
-#[tactic(auto, unfolding(regent_grammar::specs::Reading::reading, regent_grammar::specs::Reading::reading_with, regent_grammar::specs::Reading::then_read, regent_grammar::specs::Expressions::null_test, regent_grammar::specs::Singles::in_parentheses))]
+#[tactic(auto, unfolding(regent_grammar::proofs::Opening::reading, regent_grammar::specs::Expressions::null_test, regent_grammar::specs::Singles::in_parentheses))]
 fn null_test_head(terminals: &[Terminal]) -> Result<(Head, &[Terminal]), Stop<'_>>
     ensures same { Gives (λ x. reading (rest_of x.0) x.1.now) result (reading null_test terminals.now) }
     ensures shorter { IfOk result (λ x. length x.1.now < length terminals.now) }
@@ -154,7 +154,7 @@ fn null_test_head(terminals: &[Terminal]) -> Result<(Head, &[Terminal]), Stop<'_
 }
 
 /// A null pointer.
-#[tactic(auto, unfolding(regent_grammar::specs::Reading::reading, regent_grammar::specs::Reading::reading_with, regent_grammar::specs::Reading::then_read, regent_grammar::specs::Expressions::null_pointer, regent_grammar::specs::Singles::in_parentheses), using(crate::proofs::Lengths::pointer_rest))]
+#[tactic(auto, unfolding(regent_grammar::proofs::Opening::reading, regent_grammar::specs::Expressions::null_pointer, regent_grammar::specs::Singles::in_parentheses), using(crate::proofs::Lengths::pointer_rest))]
 fn null_pointer(alloc: Global, terminals: &[Terminal]) -> Result<(Head, &[Terminal]), Stop<'_>>
     ensures same { Gives (λ x. reading (rest_of x.0) x.1.now) result (reading null_pointer terminals.now) }
     ensures shorter { IfOk result (λ x. length x.1.now < length terminals.now) }
@@ -167,7 +167,7 @@ fn null_pointer(alloc: Global, terminals: &[Terminal]) -> Result<(Head, &[Termin
 }
 
 /// `dynamic_cast` with its pointer type, up to the expression.
-#[tactic(auto, unfolding(regent_grammar::specs::Reading::reading, regent_grammar::specs::Reading::reading_with, regent_grammar::specs::Reading::then_read, regent_grammar::specs::Expressions::cast), using(crate::proofs::Lengths::pointer_rest))]
+#[tactic(auto, unfolding(regent_grammar::proofs::Opening::reading, regent_grammar::specs::Expressions::cast), using(crate::proofs::Lengths::pointer_rest))]
 fn cast_head(alloc: Global, terminals: &[Terminal]) -> Result<(Head, &[Terminal]), Stop<'_>>
     ensures same { Gives (λ x. reading (rest_of x.0) x.1.now) result (reading cast terminals.now) }
     ensures shorter { IfOk result (λ x. length x.1.now < length terminals.now) }
@@ -180,7 +180,7 @@ fn cast_head(alloc: Global, terminals: &[Terminal]) -> Result<(Head, &[Terminal]
 }
 
 /// `ispace` with its kind, up to the expression.
-#[tactic(auto, unfolding(regent_grammar::specs::Reading::reading, regent_grammar::specs::Reading::reading_with, regent_grammar::specs::Reading::then_read, regent_grammar::specs::Expressions::new_space))]
+#[tactic(auto, unfolding(regent_grammar::proofs::Opening::reading, regent_grammar::specs::Expressions::new_space))]
 fn space_head(terminals: &[Terminal]) -> Result<(Head, &[Terminal]), Stop<'_>>
     ensures same { Gives (λ x. reading (rest_of x.0) x.1.now) result (reading new_space terminals.now) }
     ensures shorter { IfOk result (λ x. length x.1.now < length terminals.now) }
@@ -193,7 +193,7 @@ fn space_head(terminals: &[Terminal]) -> Result<(Head, &[Terminal]), Stop<'_>>
 }
 
 /// The name of an access.
-#[tactic(auto, unfolding(regent_grammar::specs::Reading::reading, regent_grammar::specs::Reading::reading_with, regent_grammar::specs::Reading::then_read, regent_grammar::specs::Expressions::access))]
+#[tactic(auto, unfolding(regent_grammar::proofs::Opening::reading, regent_grammar::specs::Expressions::access))]
 fn access_head(alloc: Global, terminals: &[Terminal]) -> Result<(Head, &[Terminal]), Stop<'_>>
     ensures same { Gives (λ x. reading (rest_of x.0) x.1.now) result (reading access_value terminals.now) }
     ensures shorter { IfOk result (λ x. length x.1.now < length terminals.now) }
@@ -203,7 +203,7 @@ fn access_head(alloc: Global, terminals: &[Terminal]) -> Result<(Head, &[Termina
 }
 
 /// How the primary that comes next begins.
-#[tactic(auto, unfolding(regent_grammar::specs::Reading::reading, regent_grammar::specs::Reading::reading_with, regent_grammar::specs::Reading::then_read, regent_grammar::specs::Expressions::primary))]
+#[tactic(auto, unfolding(regent_grammar::proofs::Opening::reading, regent_grammar::specs::Expressions::primary))]
 pub fn primary_head(alloc: Global, terminals: &[Terminal]) -> Result<(Head, &[Terminal]), Stop<'_>>
     ensures same { Gives (λ x. reading (rest_of x.0) x.1.now) result (reading primary terminals.now) }
     ensures shorter { IfOk result (λ x. length x.1.now < length terminals.now) }

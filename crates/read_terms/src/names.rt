@@ -6,7 +6,7 @@ ghost use Rattle.regent_grammar.specs.Rules.{many, ◌⊳◌};
 ghost use Rattle.regent_grammar.specs.Singles.{a_mark, name, separated};
 ghost use Rattle.regent_grammar.specs.Statements.{fields};
 ghost use Rattle.regent_grammar.specs.Symbols.{comes, is_mark};
-ghost use Rattle.regent_grammar.specs.declared.symbol.Mark.TheVariants as mark;
+ghost use Rattle.regent_lex.specs.declared.tables.Mark.TheVariants as mark;
 ghost use Rattle.read_terms.specs.Gives.{Gives, with_front};
 
 use crate::ahead::comes_mark;
@@ -18,8 +18,8 @@ use regent_tree::Name;
 use std::alloc::{AllocError, Global};
 
 /// A name behind a comma.
-#[tactic(auto, unfolding(regent_grammar::specs::Reading::reading, regent_grammar::specs::Reading::reading_with, regent_grammar::specs::Reading::then_read))]
-fn next_name(alloc: Global, terminals: &[Terminal]) -> Result<(Name, &[Terminal]), Stop<'_>>
+#[tactic(auto, unfolding(regent_grammar::proofs::Opening::reading))]
+pub fn next_name(alloc: Global, terminals: &[Terminal]) -> Result<(Name, &[Terminal]), Stop<'_>>
     ensures { Gives (λ x. read x.0 x.1.now) result
         (reading (a_mark mark.Comma ⊳ name) terminals.now) }
 {
@@ -48,7 +48,7 @@ fn more_names(
 }
 
 /// Names, with commas between them.
-#[tactic(auto, unfolding(regent_grammar::specs::Reading::reading, regent_grammar::specs::Reading::reading_with, regent_grammar::specs::Reading::then_read, regent_grammar::specs::Singles::separated))]
+#[tactic(auto, unfolding(regent_grammar::proofs::Opening::reading, regent_grammar::specs::Singles::separated))]
 fn names(alloc: Global, terminals: &[Terminal]) -> Result<(Sequence<Name>, &[Terminal]), Stop<'_>>
     ensures { Gives (λ x. read x.0 x.1.now) result
         (reading (separated name) terminals.now) }
@@ -67,7 +67,7 @@ fn one_name(alloc: Global, name: Name) -> Result<Sequence<Name>, AllocError>
 }
 
 /// A field's name, or names of fields in braces.
-#[tactic(auto, unfolding(regent_grammar::specs::Reading::reading, regent_grammar::specs::Reading::reading_with, regent_grammar::specs::Reading::then_read, regent_grammar::specs::Statements::fields))]
+#[tactic(auto, unfolding(regent_grammar::proofs::Opening::reading, regent_grammar::specs::Statements::fields))]
 pub fn fields(
     alloc: Global,
     terminals: &[Terminal],

@@ -40,7 +40,7 @@ pub fn is_named(symbol: &Symbol, name: &[u8]) -> bool
 }
 
 /// What comes after this sign.
-#[tactic(auto, unfolding(regent_grammar::specs::Reading::reading, regent_grammar::specs::Reading::reading_with, regent_grammar::specs::Singles::a_mark))]
+#[tactic(auto, unfolding(regent_grammar::proofs::Opening::reading, regent_grammar::specs::Singles::a_mark))]
 pub fn take_mark(terminals: &[Terminal], mark: Mark) -> Result<&[Terminal], Stop<'_>>
     ensures same { Gives (λ rest. read tt rest.now) result (reading (a_mark mark) terminals.now) }
     ensures shorter { IfOk result (λ rest. length rest.now < length terminals.now) }
@@ -58,7 +58,7 @@ pub fn take_mark(terminals: &[Terminal], mark: Mark) -> Result<&[Terminal], Stop
 }
 
 /// What comes after this word.
-#[tactic(auto, unfolding(regent_grammar::specs::Reading::reading, regent_grammar::specs::Reading::reading_with, regent_grammar::specs::Singles::a_word))]
+#[tactic(auto, unfolding(regent_grammar::proofs::Opening::reading, regent_grammar::specs::Singles::a_word))]
 pub fn take_word(terminals: &[Terminal], word: Word) -> Result<&[Terminal], Stop<'_>>
     ensures same { Gives (λ rest. read tt rest.now) result (reading (a_word word) terminals.now) }
     ensures shorter { IfOk result (λ rest. length rest.now < length terminals.now) }
@@ -76,7 +76,7 @@ pub fn take_word(terminals: &[Terminal], word: Word) -> Result<&[Terminal], Stop
 }
 
 /// What comes after this very name.
-#[tactic(auto, unfolding(regent_grammar::specs::Reading::reading, regent_grammar::specs::Reading::reading_with, regent_grammar::specs::Singles::named))]
+#[tactic(auto, unfolding(regent_grammar::proofs::Opening::reading, regent_grammar::specs::Singles::named))]
 pub fn take_named<'a>(terminals: &'a [Terminal], name: &[u8]) -> Result<&'a [Terminal], Stop<'a>>
     ensures same { Gives (λ rest. read tt rest.now) result (reading (named name.now) terminals.now) }
     ensures shorter { IfOk result (λ rest. length rest.now < length terminals.now) }
@@ -94,7 +94,7 @@ pub fn take_named<'a>(terminals: &'a [Terminal], name: &[u8]) -> Result<&'a [Ter
 }
 
 /// A name, and what comes after it.
-#[tactic(auto, unfolding(regent_grammar::specs::Reading::reading, regent_grammar::specs::Reading::reading_with, regent_grammar::specs::Singles::name))]
+#[tactic(auto, unfolding(regent_grammar::proofs::Opening::reading, regent_grammar::specs::Singles::name))]
 pub fn take_name(alloc: Global, terminals: &[Terminal]) -> Result<(Name, &[Terminal]), Stop<'_>>
     ensures same { Gives (λ x. read x.0 x.1.now) result (reading name terminals.now) }
     ensures shorter { IfOk result (λ x. length x.1.now < length terminals.now) }
@@ -109,7 +109,7 @@ pub fn take_name(alloc: Global, terminals: &[Terminal]) -> Result<(Name, &[Termi
 }
 
 /// The bytes that a string stands for, and what comes after it.
-#[tactic(auto, unfolding(regent_grammar::specs::Reading::reading, regent_grammar::specs::Reading::reading_with, regent_grammar::specs::Singles::text))]
+#[tactic(auto, unfolding(regent_grammar::proofs::Opening::reading, regent_grammar::specs::Singles::text))]
 pub fn take_text(
     alloc: Global,
     terminals: &[Terminal],

@@ -2,17 +2,19 @@
 
 ghost use Rattle.std.specs.Prelude.{◌≡◌, ◌<◌, IfOk, length, [], ◌∷◌};
 ghost use Rattle.regent_grammar.specs.Reading.{read, reading};
-ghost use Rattle.regent_grammar.specs.Rules.{many, maybe, ◌⊳◌};
-ghost use Rattle.regent_grammar.specs.Singles.{a_mark, maybe_listed, name, separated};
+ghost use Rattle.regent_grammar.specs.Rules.{many, maybe, ◌⊲◌, ◌⊳◌};
+ghost use Rattle.regent_grammar.specs.Singles.{a_mark, a_word, maybe_listed, name, separated};
 ghost use Rattle.regent_grammar.specs.Symbols.{come, comes, is_mark, line_of};
 ghost use Rattle.regent_grammar.specs.Types.{disjointness, disjointness_of, index_space, is_kind};
 ghost use Rattle.regent_grammar.specs.Types.{a_region, kind, kind_of, number, number_of, parameter};
 ghost use Rattle.regent_grammar.specs.Types.{partition_type, pointer, reference, region_kind};
 ghost use Rattle.regent_grammar.specs.Types.{region_type, space_use, type_term};
-ghost use Rattle.regent_grammar.specs.declared.symbol.Mark.TheVariants as mark;
+ghost use Rattle.regent_lex.specs.declared.tables.Mark.TheVariants as mark;
+ghost use Rattle.regent_lex.specs.declared.tables.Word.TheVariants as word;
 ghost use Rattle.read_terms.specs.Gives.{Gives, with_front};
 
 use crate::ahead::{comes_mark, comes_word, line_of};
+use crate::names::next_name;
 use crate::stop::Stop;
 use crate::take::{take_mark, take_name, take_word};
 use plain_values::Sequence;
@@ -31,7 +33,7 @@ fn kind_of(symbol: &Symbol) -> Option<Kind>
 }
 
 /// `int1d` or `ptr`.
-#[tactic(auto, unfolding(regent_grammar::specs::Reading::reading, regent_grammar::specs::Reading::reading_with, regent_grammar::specs::Reading::then_read, regent_grammar::specs::Types::kind))]
+#[tactic(auto, unfolding(regent_grammar::proofs::Opening::reading, regent_grammar::specs::Types::kind))]
 pub fn kind(terminals: &[Terminal]) -> Result<(Kind, &[Terminal]), Stop<'_>>
     ensures same { Gives (λ x. read x.0 x.1.now) result (reading kind terminals.now) }
     ensures shorter { IfOk result (λ x. length x.1.now < length terminals.now) }
@@ -46,7 +48,7 @@ pub fn kind(terminals: &[Terminal]) -> Result<(Kind, &[Terminal]), Stop<'_>>
 }
 
 /// A region's name, or `wild`.
-#[tactic(auto, unfolding(regent_grammar::specs::Reading::reading, regent_grammar::specs::Reading::reading_with, regent_grammar::specs::Reading::then_read, regent_grammar::specs::Types::reference))]
+#[tactic(auto, unfolding(regent_grammar::proofs::Opening::reading, regent_grammar::specs::Types::reference))]
 fn reference(alloc: Global, terminals: &[Terminal]) -> Result<(Ref, &[Terminal]), Stop<'_>>
     ensures { Gives (λ x. read x.0 x.1.now) result (reading reference terminals.now) }
 {
@@ -64,7 +66,7 @@ fn reference(alloc: Global, terminals: &[Terminal]) -> Result<(Ref, &[Terminal])
 }
 
 /// A region's name behind a comma.
-#[tactic(auto, unfolding(regent_grammar::specs::Reading::reading, regent_grammar::specs::Reading::reading_with, regent_grammar::specs::Reading::then_read))]
+#[tactic(auto, unfolding(regent_grammar::proofs::Opening::reading))]
 fn next_reference(alloc: Global, terminals: &[Terminal]) -> Result<(Ref, &[Terminal]), Stop<'_>>
     ensures { Gives (λ x. read x.0 x.1.now) result (reading (a_mark mark.Comma ⊳ reference) terminals.now) }
 {
@@ -93,7 +95,7 @@ fn more_references(
 }
 
 /// Names of regions.
-#[tactic(auto, unfolding(regent_grammar::specs::Reading::reading, regent_grammar::specs::Reading::reading_with, regent_grammar::specs::Reading::then_read, regent_grammar::specs::Singles::separated))]
+#[tactic(auto, unfolding(regent_grammar::proofs::Opening::reading, regent_grammar::specs::Singles::separated))]
 fn references(
     alloc: Global,
     terminals: &[Terminal],
@@ -105,7 +107,7 @@ fn references(
 }
 
 /// The arguments of a field space, where there are some.
-#[tactic(auto, unfolding(regent_grammar::specs::Reading::reading, regent_grammar::specs::Reading::reading_with, regent_grammar::specs::Reading::then_read, regent_grammar::specs::Singles::maybe_listed, regent_grammar::specs::Singles::in_parentheses))]
+#[tactic(auto, unfolding(regent_grammar::proofs::Opening::reading, regent_grammar::specs::Singles::maybe_listed, regent_grammar::specs::Singles::in_parentheses))]
 fn space_arguments(
     alloc: Global,
     terminals: &[Terminal],
@@ -123,7 +125,7 @@ fn space_arguments(
 }
 
 /// A field space with its arguments.
-#[tactic(auto, unfolding(regent_grammar::specs::Reading::reading, regent_grammar::specs::Reading::reading_with, regent_grammar::specs::Reading::then_read, regent_grammar::specs::Types::space_use))]
+#[tactic(auto, unfolding(regent_grammar::proofs::Opening::reading, regent_grammar::specs::Types::space_use))]
 pub fn space_use(alloc: Global, terminals: &[Terminal]) -> Result<(SpaceUse, &[Terminal]), Stop<'_>>
     ensures { Gives (λ x. read x.0 x.1.now) result (reading space_use terminals.now) }
 {
@@ -132,8 +134,32 @@ pub fn space_use(alloc: Global, terminals: &[Terminal]) -> Result<(SpaceUse, &[T
     Ok((SpaceUse { name, args }, rest))
 }
 
+/// The field space of a pointer type.
+#[tactic(auto, unfolding(regent_grammar::proofs::Opening::reading))]
+fn pointed_space(alloc: Global, terminals: &[Terminal]) -> Result<(SpaceUse, &[Terminal]), Stop<'_>>
+    ensures { Gives (λ x. read x.0 x.1.now) result (reading (a_mark mark.Open ⊳ space_use) terminals.now) }
+{
+    let rest = take_mark(terminals, Mark::Open)?;
+    space_use(alloc, rest)
+}
+
+/// The regions of a pointer type.
+#[tactic(auto, unfolding(regent_grammar::proofs::Opening::reading))]
+fn pointed_regions(
+    alloc: Global,
+    terminals: &[Terminal],
+) -> Result<(Sequence<Ref>, &[Terminal]), Stop<'_>>
+    ensures { Gives (λ x. read x.0 x.1.now) result
+        (reading (a_mark mark.Comma ⊳ separated reference ⊲ a_mark mark.Close) terminals.now) }
+{
+    let rest = take_mark(terminals, Mark::Comma)?;
+    let (regions, rest) = references(alloc, rest)?;
+    let rest = take_mark(rest, Mark::Close)?;
+    Ok((regions, rest))
+}
+
 /// A pointer type.
-#[tactic(auto, unfolding(regent_grammar::specs::Reading::reading, regent_grammar::specs::Reading::reading_with, regent_grammar::specs::Reading::then_read, regent_grammar::specs::Types::pointer))]
+#[tactic(auto, unfolding(regent_grammar::proofs::Opening::reading, regent_grammar::specs::Types::pointer))]
 pub fn pointer(
     alloc: Global,
     terminals: &[Terminal],
@@ -141,11 +167,8 @@ pub fn pointer(
     ensures { Gives (λ x. read x.0 x.1.now) result (reading pointer terminals.now) }
 {
     let (kind, rest) = kind(terminals)?;
-    let rest = take_mark(rest, Mark::Open)?;
-    let (space, rest) = space_use(alloc, rest)?;
-    let rest = take_mark(rest, Mark::Comma)?;
-    let (regions, rest) = references(alloc, rest)?;
-    let rest = take_mark(rest, Mark::Close)?;
+    let (space, rest) = pointed_space(alloc, rest)?;
+    let (regions, rest) = pointed_regions(alloc, rest)?;
     let pointer = PointerTerm {
         kind,
         space,
@@ -168,7 +191,7 @@ pub fn number_of(symbol: &Symbol) -> Option<NumberTerm>
 }
 
 /// A number type.
-#[tactic(auto, unfolding(regent_grammar::specs::Reading::reading, regent_grammar::specs::Reading::reading_with, regent_grammar::specs::Reading::then_read, regent_grammar::specs::Types::number))]
+#[tactic(auto, unfolding(regent_grammar::proofs::Opening::reading, regent_grammar::specs::Types::number))]
 pub fn number(terminals: &[Terminal]) -> Result<(NumberTerm, &[Terminal]), Stop<'_>>
     ensures same { Gives (λ x. read x.0 x.1.now) result (reading number terminals.now) }
     ensures shorter { IfOk result (λ x. length x.1.now < length terminals.now) }
@@ -183,7 +206,7 @@ pub fn number(terminals: &[Terminal]) -> Result<(NumberTerm, &[Terminal]), Stop<
 }
 
 /// `ispace` with a kind.
-#[tactic(auto, unfolding(regent_grammar::specs::Reading::reading, regent_grammar::specs::Reading::reading_with, regent_grammar::specs::Reading::then_read, regent_grammar::specs::Types::index_space, regent_grammar::specs::Singles::in_parentheses))]
+#[tactic(auto, unfolding(regent_grammar::proofs::Opening::reading, regent_grammar::specs::Types::index_space, regent_grammar::specs::Singles::in_parentheses))]
 fn index_space(terminals: &[Terminal]) -> Result<(Kind, &[Terminal]), Stop<'_>>
     ensures { Gives (λ x. read x.0 x.1.now) result (reading index_space terminals.now) }
 {
@@ -195,7 +218,7 @@ fn index_space(terminals: &[Terminal]) -> Result<(Kind, &[Terminal]), Stop<'_>>
 }
 
 /// The kind of a region's index space, where one is written.
-#[tactic(auto, unfolding(regent_grammar::specs::Reading::reading, regent_grammar::specs::Reading::reading_with, regent_grammar::specs::Reading::then_read, regent_grammar::specs::Types::region_kind))]
+#[tactic(auto, unfolding(regent_grammar::proofs::Opening::reading, regent_grammar::specs::Types::region_kind))]
 fn region_kind(terminals: &[Terminal]) -> Result<(Option<Kind>, &[Terminal]), Stop<'_>>
     ensures { Gives (λ x. read x.0 x.1.now) result (reading region_kind terminals.now) }
 {
@@ -222,7 +245,7 @@ fn region_of(kind: Option<Kind>, space: SpaceUse) -> TypeTerm
 }
 
 /// A region type.
-#[tactic(auto, unfolding(regent_grammar::specs::Reading::reading, regent_grammar::specs::Reading::reading_with, regent_grammar::specs::Reading::then_read, regent_grammar::specs::Types::region_type))]
+#[tactic(auto, unfolding(regent_grammar::proofs::Opening::reading, regent_grammar::specs::Types::region_type))]
 fn region_type(alloc: Global, terminals: &[Terminal]) -> Result<(TypeTerm, &[Terminal]), Stop<'_>>
     ensures { Gives (λ x. read x.0 x.1.now) result (reading region_type terminals.now) }
 {
@@ -235,7 +258,7 @@ fn region_type(alloc: Global, terminals: &[Terminal]) -> Result<(TypeTerm, &[Ter
 }
 
 /// `disjoint` or `aliased`.
-#[tactic(auto, unfolding(regent_grammar::specs::Reading::reading, regent_grammar::specs::Reading::reading_with, regent_grammar::specs::Reading::then_read, regent_grammar::specs::Types::disjointness))]
+#[tactic(auto, unfolding(regent_grammar::proofs::Opening::reading, regent_grammar::specs::Types::disjointness))]
 fn disjointness(terminals: &[Terminal]) -> Result<(bool, &[Terminal]), Stop<'_>>
     ensures { Gives (λ x. read x.0 x.1.now) result (reading disjointness terminals.now) }
 {
@@ -250,35 +273,55 @@ fn disjointness(terminals: &[Terminal]) -> Result<(bool, &[Terminal]), Stop<'_>>
 }
 
 /// The name of a partition's colours, where it is written.
-#[tactic(auto, unfolding(regent_grammar::specs::Reading::reading, regent_grammar::specs::Reading::reading_with, regent_grammar::specs::Reading::then_read))]
+#[tactic(auto, unfolding(regent_grammar::proofs::Opening::reading))]
 fn colours(alloc: Global, terminals: &[Terminal]) -> Result<(Option<Name>, &[Terminal]), Stop<'_>>
     ensures { Gives (λ x. read x.0 x.1.now) result
         (reading (maybe (comes (is_mark mark.Comma)) (a_mark mark.Comma ⊳ name)) terminals.now) }
 {
     if comes_mark(terminals, Mark::Comma) {
-        let rest = take_mark(terminals, Mark::Comma)?;
-        let (colours, rest) = take_name(alloc, rest)?;
+        let (colours, rest) = next_name(alloc, terminals)?;
         Ok((Some(colours), rest))
     } else {
         Ok((None, terminals))
     }
 }
 
+/// The begin of a partition type: whether it is a disjoint one.
+#[tactic(auto, unfolding(regent_grammar::proofs::Opening::reading))]
+fn partition_begin(terminals: &[Terminal]) -> Result<(bool, &[Terminal]), Stop<'_>>
+    ensures { Gives (λ x. read x.0 x.1.now) result
+        (reading (a_word word.Partition ⊳ a_mark mark.Open ⊳ disjointness) terminals.now) }
+{
+    let rest = take_word(terminals, Word::Partition)?;
+    let rest = take_mark(rest, Mark::Open)?;
+    disjointness(rest)
+}
+
+/// The end of a partition type: the name of its colours, where it is written.
+#[tactic(auto, unfolding(regent_grammar::proofs::Opening::reading))]
+fn partition_end(
+    alloc: Global,
+    terminals: &[Terminal],
+) -> Result<(Option<Name>, &[Terminal]), Stop<'_>>
+    ensures { Gives (λ x. read x.0 x.1.now) result
+        (reading (maybe (comes (is_mark mark.Comma)) (a_mark mark.Comma ⊳ name) ⊲ a_mark mark.Close) terminals.now) }
+{
+    let (colours, rest) = colours(alloc, terminals)?;
+    let rest = take_mark(rest, Mark::Close)?;
+    Ok((colours, rest))
+}
+
 /// A partition type.
-#[tactic(auto, unfolding(regent_grammar::specs::Reading::reading, regent_grammar::specs::Reading::reading_with, regent_grammar::specs::Reading::then_read, regent_grammar::specs::Types::partition_type))]
+#[tactic(auto, unfolding(regent_grammar::proofs::Opening::reading, regent_grammar::specs::Types::partition_type))]
 fn partition_type(
     alloc: Global,
     terminals: &[Terminal],
 ) -> Result<(TypeTerm, &[Terminal]), Stop<'_>>
     ensures { Gives (λ x. read x.0 x.1.now) result (reading partition_type terminals.now) }
 {
-    let rest = take_word(terminals, Word::Partition)?;
-    let rest = take_mark(rest, Mark::Open)?;
-    let (disjoint, rest) = disjointness(rest)?;
-    let rest = take_mark(rest, Mark::Comma)?;
-    let (region, rest) = take_name(alloc, rest)?;
-    let (colours, rest) = colours(alloc, rest)?;
-    let rest = take_mark(rest, Mark::Close)?;
+    let (disjoint, rest) = partition_begin(terminals)?;
+    let (region, rest) = next_name(alloc, rest)?;
+    let (colours, rest) = partition_end(alloc, rest)?;
     let term = TypeTerm::Partition {
         disjoint,
         region,
@@ -307,7 +350,7 @@ fn comes_pointer(terminals: &[Terminal]) -> bool
 }
 
 /// A type.
-#[tactic(auto, unfolding(regent_grammar::specs::Reading::reading, regent_grammar::specs::Reading::reading_with, regent_grammar::specs::Reading::then_read, regent_grammar::specs::Types::type_term))]
+#[tactic(auto, unfolding(regent_grammar::proofs::Opening::reading, regent_grammar::specs::Types::type_term))]
 pub fn type_term(alloc: Global, terminals: &[Terminal]) -> Result<(TypeTerm, &[Terminal]), Stop<'_>>
     ensures { Gives (λ x. read x.0 x.1.now) result (reading type_term terminals.now) }
 {
@@ -331,7 +374,7 @@ pub fn type_term(alloc: Global, terminals: &[Terminal]) -> Result<(TypeTerm, &[T
 }
 
 /// The type behind a colon, where it is written.
-#[tactic(auto, unfolding(regent_grammar::specs::Reading::reading, regent_grammar::specs::Reading::reading_with, regent_grammar::specs::Reading::then_read))]
+#[tactic(auto, unfolding(regent_grammar::proofs::Opening::reading))]
 pub fn declared_type(
     alloc: Global,
     terminals: &[Terminal],
@@ -349,7 +392,7 @@ pub fn declared_type(
 }
 
 /// A parameter.
-#[tactic(auto, unfolding(regent_grammar::specs::Reading::reading, regent_grammar::specs::Reading::reading_with, regent_grammar::specs::Reading::then_read, regent_grammar::specs::Types::parameter))]
+#[tactic(auto, unfolding(regent_grammar::proofs::Opening::reading, regent_grammar::specs::Types::parameter))]
 pub fn parameter(alloc: Global, terminals: &[Terminal]) -> Result<(Param, &[Terminal]), Stop<'_>>
     ensures { Gives (λ x. read x.0 x.1.now) result (reading parameter terminals.now) }
 {

@@ -14,12 +14,12 @@ use Rattle.regent_tree.specs.declared.types.Ref.TheVariants.{Named, Wild}
 use Rattle.regent_tree.specs.declared.types.TypeTerm.TheVariants as term
 use Rattle.regent_tree.specs.Syntax.{Expression, number_expr, chain_expr, prefix_expr, access_expr, convert_expr, no_link, a_link, no_expr, an_expr, no_step, field_step, at_step, both_initializer, a_statement, var_form, if_form, for_in_form, assert_form, print_form, call_form, assign_form, return_form, no_statement, then_statement, no_arm, an_arm, else_block, space_item}
 use Rattle.regent_grammar.specs.declared.symbol.Terminal.{Terminal}
-use Rattle.regent_grammar.specs.declared.symbol.Mark.{Mark}
-use Rattle.regent_grammar.specs.declared.symbol.Mark.TheVariants as mark
+use Rattle.regent_lex.specs.declared.tables.Mark.{Mark}
+use Rattle.regent_lex.specs.declared.tables.Mark.TheVariants as mark
 use Rattle.regent_grammar.specs.declared.symbol.Symbol.{Symbol}
 use Rattle.regent_grammar.specs.declared.symbol.Symbol.TheVariants as symbol
-use Rattle.regent_grammar.specs.declared.symbol.Word.{Word}
-use Rattle.regent_grammar.specs.declared.symbol.Word.TheVariants as word
+use Rattle.regent_lex.specs.declared.tables.Word.{Word}
+use Rattle.regent_lex.specs.declared.tables.Word.TheVariants as word
 use Rattle.regent_grammar.specs.Types.{type_term}
 use Rattle.regent_grammar.specs.Expressions.{expression}
 use Rattle.regent_grammar.specs.Statements.{statement, block}

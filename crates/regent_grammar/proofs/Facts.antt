@@ -2,8 +2,8 @@
 use Rattle.std.proofs.Common.{◌≡◌, true, Option, ℕ, List, refl}
 use Rattle.regent_tree.specs.declared.expression.Operator.{Operator}
 use Rattle.regent_grammar.specs.declared.symbol.Symbol.{Symbol}
-use Rattle.regent_grammar.specs.contracts.symbol.Mark as mark_contract
-use Rattle.regent_grammar.specs.contracts.symbol.Word as word_contract
+use Rattle.regent_lex.specs.contracts.tables.Mark as mark_contract
+use Rattle.regent_lex.specs.contracts.tables.Word as word_contract
 use Rattle.regent_grammar.specs.Rules.{Sort, Rule, ◌⊳◌, ◌⊲◌}
 use Rattle.regent_grammar.specs.Singles as single
 use Rattle.regent_grammar.specs.Types as type
@@ -24,7 +24,7 @@ unfolding single.a_mark single.a_word single.named single.the_text single.name s
     expr.product expr.sum expr.compare expr.conjunction expr.disjunction stmt.block stmt.new_region
     stmt.equal_partition stmt.field_partition stmt.mapping stmt.mapped_partition
     stmt.both_partitions stmt.either_partition stmt.initializer stmt.variable stmt.fields
-    stmt.filling stmt.assertion stmt.further_arguments stmt.printing stmt.printing_by stmt.task_call
+    stmt.filling stmt.assertion stmt.further_arguments stmt.print_format stmt.print_arguments stmt.printing stmt.printing_by stmt.task_call
     stmt.assign_sign stmt.extremum stmt.assign stmt.assignment stmt.body stmt.plain_block
     stmt.while_loop stmt.arm stmt.conditional stmt.loop_in stmt.loop_to stmt.for_loop stmt.demand
     stmt.demandable_loop stmt.form stmt.statement stmt.maybe_semicolon stmt.return_value

@@ -1,10 +1,10 @@
-pub mod TerminalLaws
+pub mod Opening
+pub mod Facts
 pub mod Rulings
 pub mod Lengths
 pub mod Sound
 pub mod Complete
 pub mod ReadingLaws
-pub mod Facts
 pub mod Examples
 pub mod Laws
 pub mod Sizes

@@ -26,10 +26,11 @@ use Rattle.regent_tree.specs.Syntax.{Tree}
 use Rattle.regent_tree.specs.Limits.{Part, parts_of_items}
 use Rattle.regent_tree.specs.Limits.{parts_of_program, greatest_literal}
 use Rattle.regent_grammar.specs.declared.symbol.Terminal.{Terminal}
-use Rattle.regent_grammar.specs.declared.symbol.Mark.{Mark}
-use Rattle.regent_grammar.specs.declared.symbol.Word.{Word}
+use Rattle.regent_lex.specs.declared.tables.Mark.{Mark}
+use Rattle.regent_lex.specs.declared.tables.Word.{Word}
 use Rattle.regent_grammar.specs.Terminals.{terminals, terminal_of, symbol_of, word_symbol, mark_symbol}
-use Rattle.regent_grammar.specs.Terminals.{number_width, looked_up, word_table, mark_table}
+use Rattle.regent_lex.specs.Tables.{mark_of, word_of}
+use Rattle.regent_grammar.specs.Terminals.{number_width}
 use Rattle.regent_grammar.specs.Derivations.{IsProgram}
 use Rattle.regent_grammar.specs.Laws as law
 use Rattle.regent_grammar.specs.Laws.{NumberFits, LiteralFits}
@@ -142,7 +143,7 @@ mark_fits (Some m) = tt
 symbol_fits : (k : TokenKind) (bytes : List ℕ) → place.Spells k bytes →
     NumberFits (symbol_of k bytes)
 symbol_fits kind.Name bytes h = tt
-symbol_fits kind.Word bytes h = word_fits (looked_up word_table bytes)
+symbol_fits kind.Word bytes h = word_fits (word_of bytes)
 symbol_fits kind.Number bytes h = (
   number_value bytes,
   refl,
@@ -150,7 +151,7 @@ symbol_fits kind.Number bytes h = (
       (has_suffix bytes),
 )
 symbol_fits kind.Quoted bytes h = tt
-symbol_fits kind.Sign bytes h = mark_fits (looked_up mark_table bytes)
+symbol_fits kind.Sign bytes h = mark_fits (mark_of bytes)
 
 pub numbers_of_text : law.NumbersOfText
 numbers_of_text text [] h = All-nil (λ (t : Terminal). NumberFits t.symbol)

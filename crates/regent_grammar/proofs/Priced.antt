@@ -4,10 +4,10 @@ use Rattle.regent_tree.specs.declared.expression.Operator.{Operator}
 use Rattle.regent_tree.specs.declared.expression.Sign.{Sign}
 use Rattle.regent_tree.specs.Syntax.{Expression}
 use Rattle.regent_tree.specs.Limits.{node, nodes, parts_of_expression, parts_of_links, parts_of_expressions, parts_of_steps}
-use Rattle.regent_grammar.specs.declared.symbol.Mark.TheVariants as mark
+use Rattle.regent_lex.specs.declared.tables.Mark.TheVariants as mark
 use Rattle.regent_grammar.specs.declared.symbol.Symbol.{Symbol}
 use Rattle.regent_grammar.specs.declared.symbol.Symbol.TheVariants as symbol
-use Rattle.regent_grammar.specs.declared.symbol.Word.TheVariants as word
+use Rattle.regent_lex.specs.declared.tables.Word.TheVariants as word
 use Rattle.regent_grammar.specs.Nodes.{Joined, chain_of, prefix_of, links_from, expressions_from}
 use Rattle.regent_grammar.specs.Rules.{Sort, an_expression, Rule}
 use Rattle.regent_grammar.specs.Nodes.{steps_from}

@@ -7,10 +7,10 @@ use Rattle.regent_tree.specs.declared.types.SpaceUse.{SpaceUse}
 use Rattle.regent_tree.specs.Limits.{parts_of_term}
 use Rattle.regent_tree.specs.Syntax.{Expression, Initializer, Block}
 use Rattle.regent_tree.specs.Limits.{Part, node, nodes, parts_of_expression, parts_of_expressions, parts_of_steps, parts_of_init, parts_of_value, parts_of_form, parts_of_block, parts_of_arms, parts_of_otherwise, parts_of_params, parts_of_type, parts_of_item}
-use Rattle.regent_grammar.specs.declared.symbol.Mark.TheVariants as mark
+use Rattle.regent_lex.specs.declared.tables.Mark.TheVariants as mark
 use Rattle.regent_grammar.specs.declared.symbol.Symbol.{Symbol}
 use Rattle.regent_grammar.specs.declared.symbol.Symbol.TheVariants as symbol
-use Rattle.regent_grammar.specs.declared.symbol.Word.TheVariants as word
+use Rattle.regent_lex.specs.declared.tables.Word.TheVariants as word
 use Rattle.regent_grammar.specs.Nodes.{expressions_from, returning_from, Armed, arms_from, otherwise_from}
 use Rattle.std.specs.Prelude.{codes}
 use Rattle.regent_grammar.specs.Rules.{Sort, Value, an_expression, a_block}
@@ -145,22 +145,28 @@ pub further_arguments' : Priced (Sort.listed Sort.expression) stmt.further_argum
 unfolding stmt.further_arguments
 further_arguments' = price_many (mark' mark.Comma ⊳' expression')
 
+print_format' : Priced Sort.bytes stmt.print_format
+unfolding stmt.print_format
+print_format' = mark' mark.Dot ⊳' named' (codes "printf") ⊳' mark' mark.Open ⊳' text'
+
+print_arguments' : Priced (Sort.listed Sort.expression) stmt.print_arguments
+unfolding stmt.print_arguments
+print_arguments' = further_arguments' ⊲' mark' mark.Close
+
 pub printing' : Priced Sort.form stmt.printing
 unfolding stmt.printing
 printing' =
     price_gives (λ f n h es m k.
     stated (parts_of_expressions (expressions_from es)) n m (0 + n + m) h (expressions_kept es m k) (omega arith))
-    ⊛' word' word.Regentlib ⊳' mark' mark.Dot ⊳' named' (codes "c") ⊳' mark' mark.Dot
-    ⊳' named' (codes "printf") ⊳' mark' mark.Open ⊳' text'
-    ⊛' further_arguments' ⊲' mark' mark.Close
+    ⊛' word' word.Regentlib ⊳' mark' mark.Dot ⊳' named' (codes "c") ⊳' print_format'
+    ⊛' print_arguments'
 
 pub printing_by' : Priced Sort.form stmt.printing_by
 unfolding stmt.printing_by
 printing_by' =
     price_gives (λ a n h f i g es m k.
     stated (parts_of_expressions (expressions_from es)) n m (0 + n + i + m) h (expressions_kept es m k) (omega arith))
-    ⊛' name' ⊛' mark' mark.Dot ⊳' named' (codes "printf") ⊳' mark' mark.Open ⊳' text'
-    ⊛' further_arguments' ⊲' mark' mark.Close
+    ⊛' name' ⊛' print_format' ⊛' print_arguments'
 
 pub task_call' : Priced Sort.form stmt.task_call
 unfolding stmt.task_call

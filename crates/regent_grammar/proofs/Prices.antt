@@ -1,10 +1,10 @@
 -- A rule is priced where what it spells costs no more than its terminals pay; and each rule that is
 -- made of priced rules by a function that costs nothing itself.
 use Rattle.std.proofs.Common.{◌≡◌, ℕ, ◌+◌, ◌*◌, ◌-◌, ◌≤◌, List, [], ◌∷◌, Option, Some, length, arith}
-use Rattle.regent_grammar.specs.contracts.symbol.Mark as mark_contract
-use Rattle.regent_grammar.specs.contracts.symbol.Word as word_contract
+use Rattle.regent_lex.specs.contracts.tables.Mark as mark_contract
+use Rattle.regent_lex.specs.contracts.tables.Word as word_contract
 use Rattle.regent_grammar.specs.declared.symbol.Terminal.{Terminal}
-use Rattle.regent_grammar.specs.declared.symbol.Mark.TheVariants as mark
+use Rattle.regent_lex.specs.declared.tables.Mark.TheVariants as mark
 use Rattle.regent_grammar.specs.declared.symbol.Symbol.{Symbol}
 use Rattle.regent_grammar.specs.Symbols.{Test}
 use Rattle.regent_grammar.specs.Rules.{Sort, ◌⇒◌, Value, Nonterminal, spelt_by, Rule, gives, here, one, both, when◌then◌else◌, many, use', ◌⊛◌, ◌⊳◌, ◌⊲◌, maybe}

@@ -7,10 +7,10 @@ use Rattle.regent_tree.specs.declared.expression.Operator.TheVariants as operato
 use Rattle.regent_tree.specs.declared.expression.Sign.{Sign}
 use Rattle.regent_tree.specs.declared.expression.Sign.TheVariants as sign
 use Rattle.regent_tree.specs.Syntax.{Expression, number_expr, truth_expr, call_expr, access_expr, convert_expr, is_null_expr, null_expr, cast_expr, space_expr}
-use Rattle.regent_grammar.specs.declared.symbol.Mark.TheVariants as mark
+use Rattle.regent_lex.specs.declared.tables.Mark.TheVariants as mark
 use Rattle.regent_grammar.specs.declared.symbol.Symbol.{Symbol}
 use Rattle.regent_grammar.specs.declared.symbol.Symbol.TheVariants as symbol
-use Rattle.regent_grammar.specs.declared.symbol.Word.TheVariants as word
+use Rattle.regent_lex.specs.declared.tables.Word.TheVariants as word
 use Rattle.regent_grammar.specs.Nodes.{Joined, chain_of, prefix_of, expressions_from, Stepped, by_field, by_place, steps_from, Accessed}
 use Rattle.regent_grammar.specs.Symbols.{comes, come, is_mark, is_word, is_name}
 use Rattle.regent_grammar.specs.Rules.{Sort, Rule, gives, one, use', an_expression, when◌then◌else◌, many, ◌⊛◌, ◌⊳◌, ◌⊲◌}

@@ -10,12 +10,12 @@ use Rattle.regent_tree.specs.declared.program.Place.{Place}
 use Rattle.regent_tree.specs.declared.types.Param.{Param}
 use Rattle.regent_tree.specs.declared.types.TypeTerm.{TypeTerm}
 use Rattle.regent_tree.specs.Syntax.{Block, ItemForm, import_item, alias_item, space_item, task_item, start_item, ItemTree}
-use Rattle.regent_grammar.specs.declared.symbol.Mark.TheVariants as mark
+use Rattle.regent_lex.specs.declared.tables.Mark.TheVariants as mark
 use Rattle.regent_grammar.specs.declared.symbol.Symbol.{Symbol}
 use Rattle.regent_grammar.specs.declared.symbol.Symbol.TheVariants as symbol
-use Rattle.regent_grammar.specs.declared.symbol.Word.TheVariants as word
+use Rattle.regent_lex.specs.declared.tables.Word.TheVariants as word
 use Rattle.regent_grammar.specs.Symbols.{Test, goes_on, comes, come, is_mark, is_word, is_name}
-use Rattle.regent_grammar.specs.Rules.{Sort, Rule, gives, here, one, when◌then◌else◌, maybe, many, ◌⊛◌, ◌⊳◌, ◌⊲◌}
+use Rattle.regent_grammar.specs.Rules.{Sort, Rule, gives, here, one, when◌then◌else◌, maybe, many, ◌⇒◌, ◌⊛◌, ◌⊳◌, ◌⊲◌}
 use Rattle.regent_grammar.specs.Singles.{a_mark, a_word, named, the_text, name, separated, in_parentheses, maybe_listed, arguments}
 use Rattle.regent_grammar.specs.Types.{type_term, parameter}
 use Rattle.regent_grammar.specs.Statements.{fields, block}
@@ -133,11 +133,15 @@ a_task name params result clauses body = task_item (record {
   body = body;
 })
 
-unfoldable pub task : Rule Sort.item_form
-task =
+-- what stands before the body
+abbrev pub task_head : Rule (Sort.block ⇒ Sort.item_form)
+task_head =
     gives a_task ⊛ a_word word.Task ⊳ name ⊛ arguments parameter
     ⊛ maybe (comes (is_mark mark.Colon)) (a_mark mark.Colon ⊳ type_term)
-    ⊛ clauses ⊛ block ⊲ a_word word.End
+    ⊛ clauses
+
+unfoldable pub task : Rule Sort.item_form
+task = task_head ⊛ block ⊲ a_word word.End
 
 -- ---- programs
 

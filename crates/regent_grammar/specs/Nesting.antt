@@ -1,10 +1,10 @@
 -- Nesting, counted over the terminals from the left.
 use Rattle.std.specs.Prelude.{ℕ, ◌+◌, ◌-◌, List, [], ◌∷◌, Option, Some, None, nat_lt, if◌then◌else◌}
 use Rattle.regent_grammar.specs.declared.symbol.Terminal.{Terminal}
-use Rattle.regent_grammar.specs.declared.symbol.Mark.TheVariants as mark
+use Rattle.regent_lex.specs.declared.tables.Mark.TheVariants as mark
 use Rattle.regent_grammar.specs.declared.symbol.Symbol.{Symbol}
 use Rattle.regent_grammar.specs.declared.symbol.Symbol.TheVariants as symbol
-use Rattle.regent_grammar.specs.declared.symbol.Word.TheVariants as word
+use Rattle.regent_lex.specs.declared.tables.Word.TheVariants as word
 
 -- the most that may be open at once
 abbrev pub most_open : ℕ

@@ -1,8 +1,8 @@
 -- Rules of a single terminal, and lists with separators.
 use Rattle.std.specs.Prelude.{ℕ, Bool, false, cond, List, [], ◌∷◌, Option, Some, None, bytes_eq}
-use Rattle.regent_grammar.specs.contracts.symbol.Mark as mark_contract
-use Rattle.regent_grammar.specs.contracts.symbol.Word as word_contract
-use Rattle.regent_grammar.specs.declared.symbol.Mark.TheVariants as mark
+use Rattle.regent_lex.specs.contracts.tables.Mark as mark_contract
+use Rattle.regent_lex.specs.contracts.tables.Word as word_contract
+use Rattle.regent_lex.specs.declared.tables.Mark.TheVariants as mark
 use Rattle.regent_grammar.specs.declared.symbol.Symbol.{Symbol}
 use Rattle.regent_grammar.specs.declared.symbol.Symbol.TheVariants as symbol
 use Rattle.regent_grammar.specs.Symbols.{comes, is_mark, is_word, is_named}

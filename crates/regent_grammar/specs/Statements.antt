@@ -4,10 +4,10 @@ use Rattle.lane_kernels.specs.declared.numbers.Op.TheVariants.{Sum, Product, Lea
 use Rattle.regent_tree.specs.declared.statement.How.{How}
 use Rattle.regent_tree.specs.declared.statement.How.TheVariants.{Set, Reduce}
 use Rattle.regent_tree.specs.Syntax.{Expression, Initializer, region_initializer, equal_initializer, by_field_initializer, image_initializer, preimage_initializer, both_initializer, either_initializer, plain_initializer, Statement, a_statement, Form, var_form, if_form, while_form, for_in_form, for_to_form, do_form, fill_form, assert_form, print_form, call_form, assign_form, return_form, Block}
-use Rattle.regent_grammar.specs.declared.symbol.Mark.TheVariants as mark
+use Rattle.regent_lex.specs.declared.tables.Mark.TheVariants as mark
 use Rattle.regent_grammar.specs.declared.symbol.Symbol.{Symbol}
 use Rattle.regent_grammar.specs.declared.symbol.Symbol.TheVariants as symbol
-use Rattle.regent_grammar.specs.declared.symbol.Word.TheVariants as word
+use Rattle.regent_lex.specs.declared.tables.Word.TheVariants as word
 use Rattle.regent_grammar.specs.Nodes.{expressions_from, Accessed, returning_from, Armed, arms_from, otherwise_from}
 use Rattle.regent_grammar.specs.Symbols.{Test, comes, come, is_mark, is_word, is_named, is_name}
 use Rattle.regent_grammar.specs.Rules.{Sort, ◌⇒◌, Rule, gives, here, one, use', a_block, when◌then◌else◌, maybe, many, ◌⊛◌, ◌⊳◌, ◌⊲◌}
@@ -118,13 +118,20 @@ a_print alias format args = print_form alias format (expressions_from args)
 unfoldable pub further_arguments : Rule (Sort.listed Sort.expression)
 further_arguments = many (comes (is_mark mark.Comma)) (a_mark mark.Comma ⊳ expression)
 
+-- `.` `printf` `(` String
+unfoldable pub print_format : Rule Sort.bytes
+print_format = a_mark mark.Dot ⊳ named (codes "printf") ⊳ a_mark mark.Open ⊳ text
+
+-- { `,` expr } `)`
+unfoldable pub print_arguments : Rule (Sort.listed Sort.expression)
+print_arguments = further_arguments ⊲ a_mark mark.Close
+
 -- `regentlib` `.` `c` `.` `printf` ..
 unfoldable pub printing : Rule Sort.form
 printing =
     gives (a_print None)
-    ⊛ a_word word.Regentlib ⊳ a_mark mark.Dot ⊳ named (codes "c") ⊳ a_mark mark.Dot
-    ⊳ named (codes "printf") ⊳ a_mark mark.Open ⊳ text
-    ⊛ further_arguments ⊲ a_mark mark.Close
+    ⊛ a_word word.Regentlib ⊳ a_mark mark.Dot ⊳ named (codes "c") ⊳ print_format
+    ⊛ print_arguments
 
 -- Name `.` `printf` ..
 abbrev pub print_by : List ℕ → List ℕ → List Expression → Form
@@ -132,9 +139,7 @@ print_by alias format args = a_print (Some alias) format args
 
 unfoldable pub printing_by : Rule Sort.form
 printing_by =
-    gives print_by ⊛ name
-    ⊛ a_mark mark.Dot ⊳ named (codes "printf") ⊳ a_mark mark.Open ⊳ text
-    ⊛ further_arguments ⊲ a_mark mark.Close
+    gives print_by ⊛ name ⊛ print_format ⊛ print_arguments
 
 -- Name `(` [ expr { `,` expr } ] `)`
 abbrev pub a_task_call : List ℕ → List Expression → Form

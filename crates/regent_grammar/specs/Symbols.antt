@@ -1,8 +1,8 @@
 -- Tests of symbols, and of the terminals that come next.
 use Rattle.std.specs.Prelude.{ℕ, Bool, true, false, ◌&&◌, List, [], ◌∷◌, bytes_eq}
 use denote.Enum.Bare.{sameb}
-use Rattle.regent_grammar.specs.contracts.symbol.Mark as mark_contract
-use Rattle.regent_grammar.specs.contracts.symbol.Word as word_contract
+use Rattle.regent_lex.specs.contracts.tables.Mark as mark_contract
+use Rattle.regent_lex.specs.contracts.tables.Word as word_contract
 use Rattle.regent_grammar.specs.declared.symbol.Terminal.{Terminal}
 use Rattle.regent_grammar.specs.declared.symbol.Symbol.{Symbol}
 use Rattle.regent_grammar.specs.declared.symbol.Symbol.TheVariants as symbol

@@ -8,7 +8,8 @@ pub mod theorems;
 
 pub use lexing::terminals;
 pub use nesting::first_too_deep;
-pub use symbol::{Mark, Symbol, Terminal, Word};
+pub use regent_lex::{Mark, Word};
+pub use symbol::{Symbol, Terminal};
 
 #[cfg(test)]
 mod tests;

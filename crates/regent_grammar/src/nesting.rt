@@ -3,7 +3,8 @@
 ghost use Rattle.std.specs.Prelude.{◌≡◌, ◌≤◌};
 ghost use Rattle.regent_grammar.specs.Nesting.{depth_behind, too_deep};
 
-use crate::symbol::{Mark, Symbol, Terminal, Word};
+use crate::symbol::{Symbol, Terminal};
+use regent_lex::{Mark, Word};
 
 /// How deep it is behind a symbol.
 fn depth_behind(depth: u32, symbol: &Symbol) -> u32

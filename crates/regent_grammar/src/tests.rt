@@ -88,6 +88,18 @@ fn names_and_strings(rt: HostRuntime) -> Result<(), Fail> {
     assert_one(&rt, alloc, b"\n\"a\\n\"".as_slice(), &Symbol::Text(text))
 }
 
+#[test]
+fn a_large_text(rt: HostRuntime) -> Result<(), Fail> {
+    let alloc = rt.alloc();
+    let text = "if x1 <= 27 \"\\n\"\n".repeat(alloc, 8192)?;
+    assert!(rt; text.len() <= 1048576);
+    let tokens = tokens(alloc, text.as_bytes())?;
+    let found = terminals(alloc, text.as_bytes(), tokens.as_slice())?;
+    assert_eq!(rt; found.len(), 40960);
+    assert_eq!(rt; found.last().map(|terminal| terminal.line), Some(8192));
+    Ok(())
+}
+
 /// The word, as often as told, on the lines from 0.
 fn repeated(alloc: Global, word: Word, times: u32) -> Result<Vec<Terminal>, Fail> {
     let mut found = Vec::new(alloc);

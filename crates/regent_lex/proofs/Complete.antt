@@ -4,7 +4,9 @@ use Rattle.std.proofs.Common.{List, [], ◌∷◌, ◌++◌, length, Option, Som
 use Rattle.std.proofs.Common.{ap, ◌∙◌, arith, inl, inr, ◌⊎◌, append_assoc}
 use Rattle.std.proofs.Math.Seq.{drop-append-add}
 use Rattle.std.specs.List.{list_all, list_any}
-use Rattle.std.specs.Prelude.{◌&&◌, ◌||◌, ◌==◌, nat_lt, codes}
+use Rattle.std.specs.Map.{lookup}
+use Rattle.std.specs.Prelude.{◌&&◌, ◌||◌, ◌==◌, bytes_eq, cond, nat_lt, codes, is_some}
+use Rattle.std.proofs.lemmas.Slice.Eq.{bytes_eq-Decides}
 use Rattle.std.proofs.lemmas.List.{take_at, drop_at, length-append, append-nil}
 use Rattle.std.proofs.lemmas.Bool.{eqb-true, lt-ltb, le-ltb, ne_eqb, false_from_ne_true, and_parts}
 use Rattle.std.proofs.lemmas.Bool.{or_parts}
@@ -17,6 +19,7 @@ use Rattle.regent_lex.specs.declared.fault.LexKind.TheVariants.{BadByte, Unclose
 use Rattle.regent_lex.specs.declared.search.Wanted.TheVariants.{ClosingQuote, BadContent, Brackets}
 use Rattle.regent_lex.specs.Bytes.{is_blank, is_digit, is_letter, is_word_byte, in_line, is_sign}
 use Rattle.regent_lex.specs.Bytes.{takes_equals, next_is, next_are}
+use Rattle.regent_lex.specs.Tables.{mark_of, mark_table}
 use Rattle.regent_lex.specs.Words.{IsIdentifier}
 use Rattle.regent_lex.specs.Numbers.{value_of, IsNumeral, HasNoSuffix}
 use Rattle.regent_lex.specs.Strings.{IsContent, IsClosed}
@@ -44,31 +47,46 @@ blank_no_digit b h = grind (arith, nat_tests)
 letter_no_digit : (b : ℕ) → is_digit b ≡ true → is_letter b ≡ false
 letter_no_digit b h = grind (arith, nat_tests)
 
-apart_on : (q : ℕ → Bool) (b : ℕ) → q b ≡ true → (c : ℕ) (cs : List ℕ) → q c ≡ false →
-    list_any (λ c. b == c) cs ≡ false → (t : Bool) → (b == c) ≡ t →
-    (t || list_any (λ c. b == c) cs) ≡ false
-apart_on q b h c cs here there false t = there
-apart_on q b h c cs here there true t =
-    let e : b ≡ c = eqb-true b c t in let f : q c ≡ true = rw (← e) h in absurd cc
+none_at : {A : Type 0} (q : ℕ → Bool) (bytes key : List ℕ) (x : A) (later : Option A) →
+    next_is q bytes ≡ true → next_is q key ≡ false → later ≡ None →
+    (t : Bool) → bytes_eq bytes key ≡ t → cond t (Some x) later ≡ None
+none_at q bytes key x later h here none false is = none
+none_at q bytes key x later h here none true is =
+    let e : bytes ≡ key = (bytes_eq-Decides bytes key).0 is in
+    let f : next_is q key ≡ true = rw (← e) h in
+    absurd cc
 
--- a byte that passes a test is none of those that don't
-apart : (q : ℕ → Bool) (b : ℕ) → q b ≡ true → (cs : List ℕ) → list_any q cs ≡ false →
-    list_any (λ c. b == c) cs ≡ false
-apart q b h [] e = refl
-apart q b h (c ∷ cs) e =
-    let both = or_parts (q c) (list_any q cs) e in
-    apart_on q b h c cs both.0 (apart q b h cs both.1) (b == c) refl
+-- bytes whose first one passes a test aren't found where no first byte passes it
+none_found : {A : Type 0} (q : ℕ → Bool) (bytes : List ℕ) → next_is q bytes ≡ true →
+    (rows : List (List ℕ × A)) → list_any (λ row. next_is q row.0) rows ≡ false →
+    lookup (bytes_eq bytes) rows ≡ None
+none_found q bytes h [] e = refl
+none_found q bytes h (row ∷ rows) e =
+    let both = or_parts (next_is q row.0) (list_any (λ r. next_is q r.0) rows) e in
+    none_at q bytes row.0 row.1 (lookup (bytes_eq bytes) rows) h both.0
+    (none_found q bytes h rows both.1) (bytes_eq bytes row.0) refl
 
--- a sign passes no test that fails at all signs
-sign_isnt : (q : ℕ → Bool) (b : ℕ) → list_any q (codes "()[]{},;:.=<>+-*/%&|") ≡ false →
+none_is_none : {A : Type 0} (o : Option A) → o ≡ None → is_some o ≡ true → ⊥
+none_is_none None is some = cc
+none_is_none (Some x) is some = cc
+
+-- no sign begins with a byte that passes a test which the first bytes of all signs fail
+sign_fails : (q : ℕ → Bool) (b : ℕ) (bytes : List ℕ) →
+    list_any (λ row. next_is q row.0) mark_table ≡ false →
+    is_some (mark_of (b ∷ bytes)) ≡ true → q b ≡ false
+unfolding mark_of
+sign_fails q b bytes none h =
+    false_from_ne_true (q b) (λ p.
+    none_is_none (lookup (bytes_eq (b ∷ bytes)) mark_table)
+    (none_found q (b ∷ bytes) p mark_table none) h)
+
+sign_isnt : (q : ℕ → Bool) (b : ℕ) → list_any (λ row. next_is q row.0) mark_table ≡ false →
     is_sign b ≡ true → q b ≡ false
-sign_isnt q b none h =
-    false_from_ne_true (q b) (λ p. let e = apart q b p (codes "()[]{},;:.=<>+-*/%&|") none in cc)
+sign_isnt q b none h = sign_fails q b [] none h
 
-equals_isnt : (q : ℕ → Bool) (b : ℕ) → list_any q (codes "=~<>+*") ≡ false → takes_equals b ≡ true →
-    q b ≡ false
-equals_isnt q b none h =
-    false_from_ne_true (q b) (λ p. let e = apart q b p (codes "=~<>+*") none in cc)
+equals_isnt : (q : ℕ → Bool) (b : ℕ) → list_any (λ row. next_is q row.0) mark_table ≡ false →
+    takes_equals b ≡ true → q b ≡ false
+equals_isnt q b none h = sign_fails q b (61 ∷ []) none h
 
 -- ---- trivia
 
@@ -224,6 +242,7 @@ bad_found bytes k closed bad = let found = closed_found bytes closed in
 
 -- two dashes begin with a sign
 dash_is_sign : (b : ℕ) (after : List ℕ) → is_sign b ≡ false → next_are 45 45 (b ∷ after) ≡ true → ⊥
+unfolding mark_of
 dash_is_sign b after h dashes =
     let e : b ≡ 45 = eqb-true b 45 (and_parts (b == 45) (next_is (λ c. c == 45) after) dashes).0 in
     let f : is_sign b ≡ true = rw e refl in

@@ -1,7 +1,7 @@
 -- Classes of bytes, and what stands at the front of a list of bytes.
 use Rattle.std.specs.Prelude.{ℕ, Bool, true, false, List, [], ◌∷◌, ◌==◌, ◌&&◌, ◌||◌, nat_le}
-use Rattle.std.specs.Prelude.{codes, count_by, if◌then◌else◌}
-use Rattle.std.specs.List.{list_any}
+use Rattle.std.specs.Prelude.{count_by, if◌then◌else◌, is_some}
+use Rattle.regent_lex.specs.Tables.{mark_of}
 
 -- bytes by name
 abbrev pub line_feed : ℕ
@@ -51,13 +51,13 @@ is_word_byte b = is_letter b || is_digit b
 abbrev pub in_line : ℕ → Bool
 in_line b = if b == line_feed then false else true
 
--- the signs of one byte
+-- a sign of one byte
 abbrev pub is_sign : ℕ → Bool
-is_sign b = list_any (λ c. b == c) (codes "()[]{},;:.=<>+-*/%&|")
+is_sign b = is_some (mark_of (b ∷ []))
 
--- the first bytes of the signs of two bytes, whose second is an equals sign: == ~= <= >= += *=
+-- the first byte of a sign of two bytes, whose second is an equals sign
 abbrev pub takes_equals : ℕ → Bool
-takes_equals b = list_any (λ c. b == c) (codes "=~<>+*")
+takes_equals b = is_some (mark_of (b ∷ equals_sign ∷ []))
 
 -- the list has a first byte, which passes the test
 abbrev pub next_is : (ℕ → Bool) → List ℕ → Bool

@@ -1,3 +1,4 @@
+pub mod Tables
 pub mod Bytes
 pub mod Words
 pub mod Numbers
@@ -6,6 +7,7 @@ pub mod Trivia
 pub mod Tokens
 pub mod Faults
 pub mod Texts
+pub mod Laws
 pub mod Places
 pub mod Values
 pub mod Told

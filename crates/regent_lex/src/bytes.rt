@@ -7,6 +7,8 @@ ghost use Rattle.regent_lex.specs.Bytes.{is_sign, next_are, next_is, next_is_equ
 ghost use Rattle.regent_lex.specs.Bytes.{dash, capital_l, opening_bracket};
 ghost use Rattle.regent_lex.specs.Numbers.{is_fraction};
 
+use crate::tables::mark_of;
+
 pub fn is_blank(byte: u8) -> bool
     ensures { result ≡ is_blank byte }
 {
@@ -25,38 +27,18 @@ pub fn is_letter(byte: u8) -> bool
     b'a' <= byte && byte <= b'z' || b'A' <= byte && byte <= b'Z' || byte == b'_'
 }
 
+/// Whether the byte is a sign.
 pub fn is_sign(byte: u8) -> bool
     ensures { result ≡ is_sign byte }
 {
-    matches!(
-        byte,
-        b'(' | b')'
-            | b'['
-            | b']'
-            | b'{'
-            | b'}'
-            | b','
-            | b';'
-            | b':'
-            | b'.'
-            | b'='
-            | b'<'
-            | b'>'
-            | b'+'
-            | b'-'
-            | b'*'
-            | b'/'
-            | b'%'
-            | b'&'
-            | b'|'
-    )
+    mark_of(&[byte]).is_some()
 }
 
 /// Whether the byte and an equals sign behind it are one sign.
 pub fn takes_equals(byte: u8) -> bool
     ensures { result ≡ takes_equals byte }
 {
-    matches!(byte, b'=' | b'~' | b'<' | b'>' | b'+' | b'*')
+    mark_of(&[byte, b'=']).is_some()
 }
 
 /// How many letters, digits and `_` the text begins with.

@@ -1,10 +1,11 @@
 //! The tokens of a Regent text.
 //!
 //! `tokens` reads a text of bytes into its list of tokens, or tells its first fault and the line of
-//! that. The language's lexical rules stand in `specs/`: the table of tokens in `Tokens`, blanks
-//! and comments in `Trivia`, the faults in `Faults`, whole texts in `Texts`. The scanner finds one
-//! input element after the other (`Scan`); that it finds what the rules say, and that a text has one
-//! outcome at most, is proved in `proofs/`.
+//! that. The language's lexical rules stand in `specs/`: the tables of reserved words and of signs
+//! in `Tables`, those of tokens in `Tokens`, blanks and comments in `Trivia`, the faults in
+//! `Faults`, whole texts in `Texts`. The scanner finds one input element after the other (`Scan`); that it
+//! finds what the rules say is proved in `proofs/`, and that a text has one outcome at most is the
+//! law of `theorems`.
 #![tactic(auto)]
 
 mod bytes;
@@ -15,6 +16,8 @@ mod numbers;
 mod scan;
 mod search;
 mod strings;
+mod tables;
+pub mod theorems;
 mod token;
 mod trivia;
 mod values;
@@ -22,6 +25,7 @@ mod words;
 
 pub use fault::{LexFault, LexKind};
 pub use lex::tokens;
+pub use tables::{Mark, Word, mark_of, word_of};
 pub use token::{Token, TokenKind, spelling};
 pub use values::{has_suffix, number_value, quoted_bytes};
 

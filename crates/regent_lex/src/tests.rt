@@ -310,6 +310,16 @@ fn long_texts(rt: HostRuntime) -> Result<(), Fail> {
 }
 
 #[test]
+fn a_long_string(rt: HostRuntime) -> Result<(), Fail> {
+    let alloc = rt.alloc();
+    let text = filled(alloc, b"\"".as_slice(), b'x', b"\"".as_slice())?;
+    let (numbers, bytes) = values(&rt, alloc, text.as_slice())?;
+    assert_eq!(rt; numbers.len(), 0);
+    assert_eq!(rt; bytes.len(), 1048574);
+    Ok(())
+}
+
+#[test]
 fn long_faults(rt: HostRuntime) -> Result<(), Fail> {
     let alloc = rt.alloc();
     for (first, byte, kind) in [

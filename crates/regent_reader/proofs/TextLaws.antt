@@ -15,6 +15,7 @@ use Rattle.regent_grammar.proofs.Laws as grammar
 use Rattle.regent_reader.specs.declared.fault.ReadFault.{ReadFault}
 use Rattle.regent_reader.specs.declared.fault.ReadFault.TheVariants.{TooLong, Lex, TooDeep, NoProgram, TooMany, Memory}
 use Rattle.regent_grammar.specs.Nesting.{too_deep}
+use Rattle.regent_reader.specs.Laws.{OneOutcome}
 use Rattle.regent_reader.specs.Texts.{Outcome, Answers, Has, IsLexed, RefusesTokens, Parses, is_tree, is_none, Nests, OfTokens, Reads, is_long, has_tokens, line_at, counted_program}
 
 one_parse : (text : List ℕ) (ls : List Terminal) (a b : Outcome) → Parses text ls a → Parses text ls b → a ≡ b
@@ -33,7 +34,7 @@ of_tokens : (text : List ℕ) (lexed : Lexed) (a b : Outcome) → OfTokens text 
 of_tokens text (Ok tokens) a b p q = one_nesting text (terminals text tokens) (too_deep (terminals text tokens)) a b p q
 of_tokens text (Err fault) a b p q = p ∙ sym q
 
-pub one_outcome : (text : List ℕ) (a b : Outcome) → Reads text a → Reads text b → a ≡ b
+pub one_outcome : OneOutcome
 one_outcome text a b (is_long p) (is_long q) = refl
 one_outcome text a b (is_long p) (has_tokens q r s) = absurd (omega arith)
 one_outcome text a b (has_tokens q r s) (is_long p) = absurd (omega arith)

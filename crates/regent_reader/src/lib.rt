@@ -6,6 +6,8 @@ mod items;
 mod reading;
 #[cfg(test)]
 mod tests;
+pub mod theorems;
 
 pub use fault::ReadFault;
 pub use reading::read;
+pub use regent_tree::Counted;

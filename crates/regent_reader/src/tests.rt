@@ -638,6 +638,13 @@ fn each_limit_may_be_reached(rt: HostRuntime) -> Result<(), Fail> {
         ("task a() ", ("f(", ")"), 64, " end", Told::TooDeep(1)),
         ("task a() ", ("do ", "end "), 64, "end", Told::TooDeep(1)),
         ("task a() end", (" ", ""), 1_048_564, "", Told::TooLong),
+        (
+            "task main() ",
+            ("x = f(1) + 2 ", ""),
+            80_658,
+            "end",
+            Told::TooLong,
+        ),
     ] {
         assert_eq!(rt;
             told_repeated(alloc, first, pieces, times, last)?,

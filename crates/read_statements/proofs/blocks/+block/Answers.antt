@@ -6,7 +6,7 @@ use Rattle.regent_grammar.specs.Rules.{◌⊳◌, ◌⊲◌}
 use Rattle.regent_grammar.specs.Singles.{a_word}
 use Rattle.regent_grammar.specs.Symbols.{comes, is_word}
 use Rattle.regent_grammar.specs.Statements.{arm, begins_statement, statement, maybe_semicolon}
-use Rattle.regent_grammar.specs.declared.symbol.Word.TheVariants as word
+use Rattle.regent_lex.specs.declared.tables.Word.TheVariants as word
 use Rattle.regent_grammar.proofs.Facts.{all_rules}
 use Rattle.read_terms.proofs.Loops.{Repeats, repeats, front_none, goes_on, ends, stops}
 use Rattle.read_statements.proofs.blocks.+block.Goals as goal

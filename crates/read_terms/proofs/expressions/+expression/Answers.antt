@@ -7,7 +7,7 @@ use Rattle.regent_grammar.specs.Rules.{◌⊳◌}
 use Rattle.regent_grammar.specs.Singles.{a_mark}
 use Rattle.regent_grammar.specs.Symbols.{comes, is_mark}
 use Rattle.regent_grammar.specs.Expressions.{expression, is_operator, link, begins_step, step, steps}
-use Rattle.regent_grammar.specs.declared.symbol.Mark.TheVariants as mark
+use Rattle.regent_lex.specs.declared.tables.Mark.TheVariants as mark
 use Rattle.regent_grammar.proofs.Facts.{all_rules}
 use Rattle.read_terms.specs.Levels.{operator_at, rule_at}
 use Rattle.read_terms.specs.declared.operators.Level.{Level}

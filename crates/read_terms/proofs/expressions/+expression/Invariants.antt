@@ -5,7 +5,7 @@ use Rattle.regent_grammar.specs.Rules.{many, ◌⊳◌}
 use Rattle.regent_grammar.specs.Singles.{a_mark}
 use Rattle.regent_grammar.specs.Symbols.{comes, is_mark}
 use Rattle.regent_grammar.specs.Expressions.{expression, is_operator, link, begins_step, step}
-use Rattle.regent_grammar.specs.declared.symbol.Mark.TheVariants as mark
+use Rattle.regent_lex.specs.declared.tables.Mark.TheVariants as mark
 use Rattle.read_terms.specs.Gives.{with_front}
 use Rattle.read_terms.specs.Levels.{rank, operator_at, rule_at}
 use Rattle.read_terms.specs.Nodes.{joined_of, stepped_of}

@@ -4,7 +4,7 @@ use Rattle.regent_grammar.specs.Guards.{takes, is_sound}
 use Rattle.regent_grammar.specs.Rules.{◌⊳◌}
 use Rattle.regent_grammar.specs.Singles.{a_mark, name}
 use Rattle.regent_grammar.specs.Symbols.{comes, is_mark}
-use Rattle.regent_grammar.specs.declared.symbol.Mark.TheVariants as mark
+use Rattle.regent_lex.specs.declared.tables.Mark.TheVariants as mark
 use Rattle.regent_grammar.proofs.Facts.{all_rules}
 use Rattle.read_terms.proofs.Loops.{Repeats, repeats, goes_on, ends, stops}
 use Rattle.read_terms.proofs.names.more_names.Goals as goal

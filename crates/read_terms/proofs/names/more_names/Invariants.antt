@@ -3,7 +3,7 @@ use Rattle.regent_grammar.specs.Reading.{reading}
 use Rattle.regent_grammar.specs.Rules.{many, ◌⊳◌}
 use Rattle.regent_grammar.specs.Singles.{a_mark, name}
 use Rattle.regent_grammar.specs.Symbols.{comes, is_mark}
-use Rattle.regent_grammar.specs.declared.symbol.Mark.TheVariants as mark
+use Rattle.regent_lex.specs.declared.tables.Mark.TheVariants as mark
 use Rattle.read_terms.specs.Gives.{with_front}
 use Rattle.read_terms.proofs.names.more_names.Given as goal
 

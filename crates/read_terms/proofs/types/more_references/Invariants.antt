@@ -4,7 +4,7 @@ use Rattle.regent_grammar.specs.Rules.{many, ◌⊳◌}
 use Rattle.regent_grammar.specs.Singles.{a_mark}
 use Rattle.regent_grammar.specs.Symbols.{comes, is_mark}
 use Rattle.regent_grammar.specs.Types.{reference}
-use Rattle.regent_grammar.specs.declared.symbol.Mark.TheVariants as mark
+use Rattle.regent_lex.specs.declared.tables.Mark.TheVariants as mark
 use Rattle.read_terms.specs.Gives.{with_front}
 use Rattle.read_terms.proofs.types.more_references.Given as goal
 

@@ -1,0 +1,7 @@
+-- A law of the definitions.
+use Rattle.std.specs.Prelude.{◌≡◌, ℕ, List}
+use Rattle.regent_reader.specs.Texts.{Outcome, Reads}
+
+-- a text comes to one tree or one fault, and to no other
+abbrev pub OneOutcome : Type 0
+OneOutcome = (text : List ℕ) (one other : Outcome) → Reads text one → Reads text other → one ≡ other
