@@ -5,7 +5,7 @@ use Rattle.run_io.specs.Source.{next_left}
 use Rattle.regent_run.specs.declared.verdict.Verdict.{Verdict}
 use Rattle.regent_run.specs.declared.verdict.Verdict.TheVariants as verdict
 use Rattle.regent_run.specs.Answers.{IsAnswered, IsBegunOnce, IsNotBegun, IsOfText, IsReadWhole, Takes, UnlessStopped}
-use Rattle.regent_run.specs.Begins.{Begins, BeginsNamed, IsBegunBy, IsUnbegun}
+use Rattle.regent_run.specs.Begins.{Begins, IsBegunBy}
 use Rattle.regent_run.specs.Calls.{Call}
 use Rattle.regent_run.specs.Programs.{OfNextText}
 use Rattle.regent_run.specs.Reading.{IsSteady, ReadsToEnd}

@@ -4,11 +4,11 @@ use Rattle.run_io.specs.Faults.{Rose}
 use Rattle.run_io.specs.Source.{next_left}
 use Rattle.regent_run.specs.declared.verdict.Verdict.{Verdict}
 use Rattle.regent_run.specs.declared.verdict.Verdict.TheVariants as verdict
-use Rattle.regent_run.specs.Answers.{IsComplete, NoneRose, UnlessUnread}
+use Rattle.regent_run.specs.Answers.{NoneRose, UnlessUnread}
 use Rattle.regent_run.specs.Calls.{Call, SinkChange}
 use Rattle.regent_run.specs.Programs.{Comes, OfNextText, finishes, has_a_breach, has_other_inputs, is_accepted, is_no_program, is_not_built, passes_a_limit}
 use Rattle.regent_run.specs.Verdicts.{IsDelivered, Says, SaysOfText, status_of}
-use Rattle.regent_run.specs.Words.{Command, Deed, checks, command, runs}
+use Rattle.regent_run.specs.Words.{Command, Deed, command, runs}
 use Rattle.regent_run.proofs.Statuses.{one_status}
 
 -- what a text comes to that is run
