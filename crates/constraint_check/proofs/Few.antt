@@ -1,6 +1,8 @@
 -- A few rows that stand for all.
-use Rattle.std.proofs.Common.{◌≡◌, Bool, true, false, List, [], ◌∷◌, ◌++◌, ◌&&◌, ◌||◌, ◌==◌, ℕ, refl, ap, sym, suc, zero, ◌∙◌, take, drop}
+use Rattle.std.proofs.Common.{◌≡◌, Bool, false, List, [], ◌∷◌, ◌++◌, ◌&&◌, ◌||◌, ◌==◌, ℕ, refl, ap, sym, suc, zero, ◌∙◌, take, drop}
 use Rattle.std.specs.List.{list_any}
+use Rattle.std.proofs.Math.Bool.{or-false}
+use Rattle.std.proofs.lemmas.Bool.{or_parts}
 use Rattle.std.proofs.lemmas.List.Folds.{list_any-append}
 use Rattle.regent_tree.specs.Facts.{Row, alike, any_above, has_sibling_above, is_earlier, is_other_child, parts, parts_either, raises, raises_to}
 use Rattle.regent_tree.specs.declared.facts.Known.{Known}
@@ -8,10 +10,6 @@ use Rattle.regent_tree.specs.declared.facts.Known.TheVariants.{Within, Apart, Pa
 use Rattle.regent_tree.specs.declared.facts.Term.{Term}
 use Rattle.regent_tree.specs.declared.facts.Term.TheVariants.{Name, Child}
 use Rattle.constraint_check.specs.Looking.{StandFor, parts_over}
-
-neither : (a b : Bool) → (a || b) ≡ false → (a ≡ false) × (b ≡ false)
-neither true b e = absurd cc
-neither false b e = (refl, e)
 
 abbrev raising : Term → Row → Bool
 raising t row = raises row.0 t
@@ -21,7 +19,7 @@ leads_nowhere : (t : Term) (test : Term → Bool) (rows : List Row) → list_any
     list_any (raises_to test t) rows ≡ false
 leads_nowhere t test [] e = refl
 leads_nowhere t test (row ∷ rows) e =
-    let p = neither (raises row.0 t) (list_any (raising t) rows) e in
+    let p = or_parts (raises row.0 t) (list_any (raising t) rows) e in
     λ j. (p.0 j && list_any test row.1) || leads_nowhere t test rows p.1 j
 
 parted : (n : ℕ) (rows : List Row) → take n rows ++ drop n rows ≡ rows
@@ -35,14 +33,10 @@ both : (t : Term) (test : Term → Bool) (n : ℕ) (rows : List Row) →
 both t test n rows =
     ap (list_any (raises_to test t)) (sym (parted n rows)) ∙ list_any-append (raises_to test t) (take n rows) (drop n rows)
 
-or_false : (b : Bool) → b ≡ (b || false)
-or_false true = refl
-or_false false = refl
-
 -- rows up to the last that raises the term
 pub front_stands : (t : Term) (n : ℕ) (rows : List Row) → list_any (raising t) (drop n rows) ≡ false → StandFor (take n rows) rows t
 front_stands t n rows e test =
-    ap (λ b. test t || b) (or_false (list_any (raises_to test t) (take n rows))
+    ap (λ b. test t || b) (sym (or-false (list_any (raises_to test t) (take n rows)))
     ∙ ap (λ b. list_any (raises_to test t) (take n rows) || b) (sym (leads_nowhere t test (drop n rows) e))
     ∙ sym (both t test n rows))
 

@@ -1,13 +1,10 @@
 -- Rows that a new fact doesn't widen.
-use Rattle.std.proofs.Common.{◌≡◌, Bool, true, false, List, [], ◌∷◌, ◌||◌, map, refl, cond}
+use Rattle.std.proofs.Common.{◌≡◌, Bool, false, List, [], ◌∷◌, ◌||◌, map, refl, cond}
 use Rattle.std.specs.List.{list_any}
+use Rattle.std.proofs.lemmas.Bool.{or_parts}
 use Rattle.regent_tree.specs.Facts.{Row, raises, united, widened}
 use Rattle.regent_tree.specs.declared.facts.Known.{Known}
 use Rattle.regent_tree.specs.declared.facts.Term.{Term}
-
-neither : (a b : Bool) → (a || b) ≡ false → (a ≡ false) × (b ≡ false)
-neither true b e = absurd cc
-neither false b e = (refl, e)
 
 none_raised : (f : Term → Bool) → ((t : Term) → f t ≡ false) → (ts : List Term) → list_any f ts ≡ false
 none_raised f none [] = refl
@@ -24,5 +21,5 @@ pub all_kept : (k : Known) (more : List Term) (rows : List Row) →
     list_any (λ (row : Row). list_any (raises k) row.1) rows ≡ false → map (widened k more) rows ≡ rows
 all_kept k more [] e = refl
 all_kept k more (row ∷ rows) e =
-    let parts = neither (list_any (raises k) row.1) (list_any (λ (r : Row). list_any (raises k) r.1) rows) e in
+    let parts = or_parts (list_any (raises k) row.1) (list_any (λ (r : Row). list_any (raises k) r.1) rows) e in
     λ j. (row.0, cond (parts.0 j) (united row.1 more) row.1) ∷ all_kept k more rows parts.1 j

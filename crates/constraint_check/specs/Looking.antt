@@ -9,10 +9,10 @@ use Rattle.constraint_check.specs.declared.question.Sought.{Sought}
 use Rattle.constraint_check.specs.declared.question.Sought.TheVariants.{This, Earlier, OtherChild}
 
 -- whether a term is what is looked for
-abbrev pub fits : Sought → Term → Bool
-fits (This wanted) t = alike wanted t
-fits (Earlier name) t = is_earlier name t
-fits (OtherChild p c) t = is_other_child p c t
+abbrev pub is_met_by : Sought → Term → Bool
+is_met_by (This wanted) t = alike wanted t
+is_met_by (Earlier name) t = is_earlier name t
+is_met_by (OtherChild p c) t = is_other_child p c t
 
 -- few rows say the same of what a term lies within as all rows do
 abbrev pub StandFor : List Row → List Row → Term → Type 0

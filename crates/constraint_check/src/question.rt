@@ -4,7 +4,7 @@ ghost use Rattle.std.specs.List.{list_any};
 ghost use Rattle.std.specs.Prelude.{◌≡◌, ◌||◌};
 ghost use Rattle.regent_tree.specs.Facts.{is_certain, raises_to, any_above, is_below, differ, is_other_child, is_earlier, has_sibling_above};
 ghost use Rattle.regent_tree.specs.declared.facts.Term.TheVariants.{Name};
-ghost use Rattle.constraint_check.specs.Looking.{fits, parts_over};
+ghost use Rattle.constraint_check.specs.Looking.{is_met_by, parts_over};
 
 use crate::row::{Row, raises};
 use regent_tree::{Colour, Known, Term};
@@ -21,8 +21,8 @@ enum Sought {
 }
 
 impl Sought {
-    fn fits(&self, term: &Term) -> bool
-        ensures { result ≡ fits self.now term.now }
+    fn is_met_by(&self, term: &Term) -> bool
+        ensures { result ≡ is_met_by self.now term.now }
     {
         match self {
             Sought::This(wanted) => wanted == term,
@@ -75,16 +75,16 @@ pub fn is_certain(term: &Term) -> bool
 
 /// Whether a row's fact raises a term to what is looked for.
 fn raises_to(row: &Row, sought: &Sought, term: &Term) -> bool
-    ensures { result ≡ raises_to (fits sought.now) term.now row.now }
+    ensures { result ≡ raises_to (is_met_by sought.now) term.now row.now }
 {
-    raises(row.known(), term) && row.above().iter().any(|above| sought.fits(above))
+    raises(row.known(), term) && row.above().iter().any(|above| sought.is_met_by(above))
 }
 
 /// Whether a term, or one that it lies within, is what is looked for.
 fn any_above(rows: &[Row], sought: &Sought, term: &Term) -> bool
-    ensures { result ≡ any_above rows.now (fits sought.now) term.now }
+    ensures { result ≡ any_above rows.now (is_met_by sought.now) term.now }
 {
-    sought.fits(term) || rows.iter().any(|row| raises_to(row, sought, term))
+    sought.is_met_by(term) || rows.iter().any(|row| raises_to(row, sought, term))
 }
 
 /// Whether `a <= b`, as the terms are written.

@@ -108,6 +108,31 @@ fn derivations_of_several_steps(rt: HostRuntime) -> Result<(), Fail> {
     Ok(())
 }
 
+// A fact on a name below some thousands, of each kind in turn.
+fn fact(i: u32) -> Known
+    requires { i < 4000 }
+{
+    match i % 5 {
+        0 => Known::Made(i),
+        1 => Known::Apart(Term::Name(i), child(i, number(7))),
+        2 => part_of(i, i + 1, true),
+        3 => Known::Within(Term::Name(i), Term::Name(i + 1)),
+        _ => part_of(i, i + 1, false),
+    }
+}
+
+#[test]
+fn thousands_of_facts(rt: HostRuntime) -> Result<(), Fail> {
+    let mut facts = Facts::new(rt.alloc())?;
+    for i in 0..4000 {
+        facts.add(fact(i))?;
+    }
+    let (first, second) = (child(3997, number(0)), child(3997, number(1)));
+    assert!(rt; facts.disjoint(&first, &second));
+    assert!(rt; facts.subregion(&first, &Term::Name(3999)));
+    Ok(())
+}
+
 // What comes after a name in a chain of a thousand.
 fn link(i: u32) -> Known
     requires { i < 1000 }

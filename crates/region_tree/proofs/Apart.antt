@@ -94,7 +94,7 @@ separated_from t a b s =
     and_from (eqb (root_at t a) (root_at t b))
     (parts_disjoint t (parting (path_at t a) (path_at t b)))
     (eq-eqb (root_at t a) (root_at t b) s.root)
-    (ap (parts_disjoint t) (parting-from_part_at (path_at t a) (path_at t b) s.partition s.parts) ∙
+    (ap (parts_disjoint t) (parting-from_part_at (path_at t a) (path_at t b) s.partition s.paths) ∙
     s.disjoint)
 
 separated_is : (t : RegionTree) (a b : ℕ) → separated t a b ≡ true → AreSeparated t a b
@@ -106,7 +106,7 @@ separated_is t a b h =
       root = eqb-true (root_at t a) (root_at t b) parts.0;
       partition = at.0;
       disjoint = at.2;
-      parts = part_at-from_parting (path_at t a) (path_at t b) at.0 at.1;
+      paths = part_at-from_parting (path_at t a) (path_at t b) at.0 at.1;
     }
 
 pub separated_tells : (r : Bool) (t : RegionTree) (a b : ℕ) → r ≡ separated t a b →

@@ -14,7 +14,7 @@ use Rattle.point_sets.proofs.Rising.{within_each, has_head, has_tail, has-cons_c
 use Rattle.region_tree.specs.Needs.{requirement_of, requirements_of}
 use Rattle.region_tree.specs.Requirements.{Requirement, IsWithin, is_of}
 use Rattle.region_tree.specs.Requirements.{is_at, modes_at, mode_at, join_from, same_mode}
-use Rattle.region_tree.specs.Requirements.{is_covered, covers, is_within}
+use Rattle.region_tree.specs.Requirements.{is_subsumed, covers, is_within}
 use Rattle.region_tree.specs.Trees.{RegionTree}
 use Rattle.region_tree.specs.declared.needs.Need.{Need}
 use Rattle.region_tree.proofs.Joins.{join-with_writer, same_mode-itself, same_mode-tells}
@@ -54,17 +54,17 @@ all_more f (x ∷ xs) i p e =
 
 abbrev pub covered_at : List Requirement → List Requirement → ℕ → ℕ → ℕ → Bool
 covered_at ours theirs root field p =
-    is_covered (mode_at ours root field p) (mode_at theirs root field p)
+    is_subsumed (mode_at ours root field p) (mode_at theirs root field p)
 
-pub covered_by_Write : (o : Option Mode) → is_covered o (Some Write) ≡ true
+pub covered_by_Write : (o : Option Mode) → is_subsumed o (Some Write) ≡ true
 covered_by_Write None = refl
 covered_by_Write (Some m) = or_right (same_mode m Write) true refl
 
-covered-itself : (o : Option Mode) → is_covered o o ≡ true
+covered-itself : (o : Option Mode) → is_subsumed o o ≡ true
 covered-itself None = refl
 covered-itself (Some m) = or_left (same_mode m m) (same_mode m Write) (same_mode-itself m)
 
-covered_tells : (o n : Option Mode) → is_covered o n ≡ true → (o ≡ None) ⊎
+covered_tells : (o n : Option Mode) → is_subsumed o n ≡ true → (o ≡ None) ⊎
     ((o ≡ n) ⊎ (n ≡ Some Write))
 covered_tells None n h = inl refl
 covered_tells (Some m) None h = absurd (false≢true h)
@@ -74,11 +74,11 @@ covered_tells (Some m) (Some n) h =
     (or_cases (same_mode m n) (same_mode n Write) h))
 
 covered_from : (o n : Option Mode) → (o ≡ None) ⊎ ((o ≡ n) ⊎ (n ≡ Some Write)) →
-    is_covered o n ≡ true
+    is_subsumed o n ≡ true
 covered_from o n h =
-    ⊎_elim (λ e. ap (λ x. is_covered x n) e)
-    (λ g. ⊎_elim (λ e. ap (λ x. is_covered o x) (sym e) ∙ covered-itself o)
-    (λ e. ap (is_covered o) e ∙ covered_by_Write o) g) h
+    ⊎_elim (λ e. ap (λ x. is_subsumed x n) e)
+    (λ g. ⊎_elim (λ e. ap (λ x. is_subsumed o x) (sym e) ∙ covered-itself o)
+    (λ e. ap (is_subsumed o) e ∙ covered_by_Write o) g) h
 
 -- ---- a need that writes all points of another
 
@@ -86,9 +86,9 @@ pub covers-from_writer : (ours theirs : List Requirement) (r : Requirement) (i :
     (d : Requirement) → i < length theirs → WritesAll (get_or theirs i d) r →
     covers ours theirs r ≡ true
 covers-from_writer ours theirs r i d l h =
-    list_all-from_each (λ p. is_covered (mode_at ours r.root r.field p)
+    list_all-from_each (λ p. is_subsumed (mode_at ours r.root r.field p)
     (mode_at theirs r.root r.field p)) r.points
-    (λ p m. ap (is_covered (mode_at ours r.root r.field p))
+    (λ p m. ap (is_subsumed (mode_at ours r.root r.field p))
     (join-with_writer theirs i d r.root r.field p None l
     (and_from (is_of r.root r.field (get_or theirs i d)) (has (get_or theirs i d).points p)
     h.same_field (within_each r.points (get_or theirs i d).points h.points p m)) h.writes) ∙
@@ -137,12 +137,12 @@ within_at ours theirs h root field point =
     at r here covered =
         let parts = and_parts (is_of root field r) (has r.points point) here in
         let same = and_parts (eqb r.root root) (eqb r.field field) parts.0 in
-        let one = each-from_list_all (λ p. is_covered (mode_at ours r.root r.field p)
+        let one = each-from_list_all (λ p. is_subsumed (mode_at ours r.root r.field p)
         (mode_at theirs r.root r.field p)) r.points covered point parts.1 in
         covered_tells (mode_at ours root field point) (mode_at theirs root field point)
-        (subst (λ k. is_covered (mode_at ours k field point) (mode_at theirs k field point) ≡
+        (subst (λ k. is_subsumed (mode_at ours k field point) (mode_at theirs k field point) ≡
         true) (eqb-true r.root root same.0)
-        (subst (λ k. is_covered (mode_at ours r.root k point) (mode_at theirs r.root k point) ≡
+        (subst (λ k. is_subsumed (mode_at ours r.root k point) (mode_at theirs r.root k point) ≡
         true) (eqb-true r.field field same.1) one))
 
 covers-from_each : (ours theirs rs : List Requirement) → IsWithin ours theirs →
@@ -150,7 +150,7 @@ covers-from_each : (ours theirs rs : List Requirement) → IsWithin ours theirs 
 covers-from_each ours theirs [] h = refl
 covers-from_each ours theirs (r ∷ rs) h =
     and_from (covers ours theirs r) (list_all (covers ours theirs) rs)
-    (list_all-from_each (λ p. is_covered (mode_at ours r.root r.field p)
+    (list_all-from_each (λ p. is_subsumed (mode_at ours r.root r.field p)
     (mode_at theirs r.root r.field p)) r.points
     (λ p m. covered_from (mode_at ours r.root r.field p) (mode_at theirs r.root r.field p)
     (h r.root r.field p))) (covers-from_each ours theirs rs h)

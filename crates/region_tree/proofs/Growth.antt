@@ -10,10 +10,10 @@ use Rattle.point_sets.proofs.Rising.{within_each, within_from_each}
 use Rattle.region_tree.specs.Entries.{TreeNode}
 use Rattle.region_tree.specs.Kept.{IsTree, IsKept, IsChild, LeadsTo, DividesRegion}
 use Rattle.region_tree.specs.Refusals.{AreWithin}
-use Rattle.region_tree.specs.Sharing.{AreDisjoint, set_of}
+use Rattle.region_tree.specs.Sharing.{AreDisjoint, set_of_colour}
 use Rattle.region_tree.specs.Paths.{child_number}
 use Rattle.region_tree.specs.Trees.{RegionTree, IsRegion, node_at, no_node, set_at, points_at}
-use Rattle.region_tree.specs.Trees.{points_by, points_in, path_at, colours_at, colours_in}
+use Rattle.region_tree.specs.Trees.{points_by, points_of_content, path_at, colours_at, colours_in}
 use Rattle.region_tree.specs.Trees.{is_disjoint, disjoint_in, is_region, with_root, empty_tree}
 use Rattle.region_tree.specs.Trees.{children, child_of, partition_of, partition_nodes}
 use Rattle.region_tree.specs.Trees.{with_partition}
@@ -41,7 +41,7 @@ node_old t k xs n l = get_or_append_left t.nodes xs no_node n l
 
 set_old : (t : RegionTree) (k : ℕ) (xs : List TreeNode) (n : ℕ) → n < length t.nodes →
     set_at (grown t k xs) n ≡ set_at t n
-set_old t k xs n l = ap (λ (x : TreeNode). points_in x.content) (node_old t k xs n l)
+set_old t k xs n l = ap (λ (x : TreeNode). points_of_content x.content) (node_old t k xs n l)
 
 colours_old : (t : RegionTree) (k : ℕ) (xs : List TreeNode) (n : ℕ) → n < length t.nodes →
     colours_at (grown t k xs) n ≡ colours_at t n
@@ -185,16 +185,16 @@ length-children d p c [] = refl
 length-children d p c (set ∷ sets) = ap suc (length-children d p (c + 1) sets)
 
 child_read : (d : TreeNode) (p c : ℕ) (sets : List (List ℕ)) (i : ℕ) → i < length sets →
-    get_or (children d p c sets) i no_node ≡ child_of d p (c + i) (set_of sets i)
+    get_or (children d p c sets) i no_node ≡ child_of d p (c + i) (set_of_colour sets i)
 child_read d p c [] i l = absurd (omega arith)
 child_read d p c (set ∷ sets) zero l =
     ap (λ n. child_of d p n set) (let e : c ≡ c + 0 = omega arith in e)
 child_read d p c (set ∷ sets) (suc i) l =
     child_read d p (c + 1) sets i (omega arith) ∙
-    ap (λ n. child_of d p n (set_of sets i)) (let e : c + 1 + i ≡ c + suc i = omega arith in e)
+    ap (λ n. child_of d p n (set_of_colour sets i)) (let e : c + 1 + i ≡ c + suc i = omega arith in e)
 
 pub points_of_region : (t : RegionTree) (c : Content) → is_region c ≡ true →
-    points_by t c ≡ points_in c
+    points_by t c ≡ points_of_content c
 points_of_region t (Region ps) h = refl
 points_of_region t (Partition region disjoint colours) h = absurd (false≢true h)
 
@@ -219,19 +219,19 @@ module _ (t : RegionTree) (region : ℕ) (sets : List (List ℕ)) (disjoint : Bo
       get_or-append-add t.nodes new 0 no_node
 
   node_child : (i : ℕ) → i < length sets →
-      node_at u (child_number p i) ≡ child_of (node_at t region) p i (set_of sets i)
+      node_at u (child_number p i) ≡ child_of (node_at t region) p i (set_of_colour sets i)
   node_child i l =
       ap (λ k. get_or (t.nodes ++ new) k no_node) (let e : p + 1 + i ≡ p + suc i = omega arith in
       e) ∙ get_or-append-add t.nodes new (suc i) no_node ∙
       child_read (node_at t region) p 0 sets i l ∙
-      ap (λ n. child_of (node_at t region) p n (set_of sets i))
+      ap (λ n. child_of (node_at t region) p n (set_of_colour sets i))
       (let e : 0 + i ≡ i = omega arith in e)
 
   colours_own : colours_at u p ≡ length sets
   colours_own = ap (λ (x : TreeNode). colours_in x.content) node_own
 
-  set_child : (i : ℕ) → i < length sets → set_at u (child_number p i) ≡ set_of sets i
-  set_child i l = ap (λ (x : TreeNode). points_in x.content) (node_child i l)
+  set_child : (i : ℕ) → i < length sets → set_at u (child_number p i) ≡ set_of_colour sets i
+  set_child i l = ap (λ (x : TreeNode). points_of_content x.content) (node_child i l)
 
   points_own : points_at u p ≡ set_at t region
   points_own =
@@ -266,14 +266,14 @@ module _ (t : RegionTree) (region : ℕ) (sets : List (List ℕ)) (disjoint : Bo
           kind = ap (λ (x : TreeNode). is_region x.content) (node_child i l);
         };
         inside = ap (λ (ps : List ℕ). within ps (points_at u p)) (set_child i l) ∙
-            ap (λ (ps : List ℕ). within (set_of sets i) ps) points_own ∙ inside i l;
+            ap (λ (ps : List ℕ). within (set_of_colour sets i) ps) points_own ∙ inside i l;
       }
 
       apart_own : (i j : ℕ) → disjoint ≡ true → i < j → j < length sets →
           meets (set_at u (child_number p i)) (set_at u (child_number p j)) ≡ false
       apart_own i j d o l =
           ap (λ (ps : List ℕ). meets ps (set_at u (child_number p j))) (set_child i (omega arith)) ∙
-          ap (λ (ps : List ℕ). meets (set_of sets i) ps) (set_child j l) ∙ apart d i j o l
+          ap (λ (ps : List ℕ). meets (set_of_colour sets i) ps) (set_child j l) ∙ apart d i j o l
 
   kept_child : (i : ℕ) → i < length sets → IsKept u (child_number p i)
   kept_child i l = record {
@@ -283,25 +283,25 @@ module _ (t : RegionTree) (region : ℕ) (sets : List (List ℕ)) (disjoint : Bo
     apart = λ a b d o c. absurd
         (false≢true (sym (ap (λ (x : TreeNode). disjoint_in x.content) (node_child i l)) ∙ d));
     path = subst (λ (x : TreeNode). All (LeadsTo u (points_by u x.content)) x.path)
-        (sym (node_child i l)) (All-push (LeadsTo u (set_of sets i)) (path_at t region)
+        (sym (node_child i l)) (All-push (LeadsTo u (set_of_colour sets i)) (path_at t region)
         (record { partition = record { 0 = p }; colour = i })
-        (All-weaker (LeadsTo t (set_at t region)) (LeadsTo u (set_of sets i))
-        (λ s h. leads_old t t.roots new tree (set_of sets i) s
+        (All-weaker (LeadsTo t (set_at t region)) (LeadsTo u (set_of_colour sets i))
+        (λ s h. leads_old t t.roots new tree (set_of_colour sets i) s
         (record {
           there = h.there;
           colour = h.colour;
-          inside = within_trans (set_of sets i) (set_at t region)
+          inside = within_trans (set_of_colour sets i) (set_at t region)
               (set_at t (child_number s.partition.0 s.colour)) (inside i l) h.inside;
         }))
         (path_at t region) above) last);
   }
     where
-      last : LeadsTo u (set_of sets i) (record { partition = record { 0 = p }; colour = i })
+      last : LeadsTo u (set_of_colour sets i) (record { partition = record { 0 = p }; colour = i })
       last = record {
         there = omega (arith, size);
         colour = subst (λ (m : ℕ). i < m) (sym colours_own) l;
-        inside = ap (λ (ps : List ℕ). within (set_of sets i) ps) (set_child i l) ∙
-            within_itself (set_of sets i);
+        inside = ap (λ (ps : List ℕ). within (set_of_colour sets i) ps) (set_child i l) ∙
+            within_itself (set_of_colour sets i);
       }
 
   pub tree-with_partition : IsTree (with_partition t region sets disjoint)

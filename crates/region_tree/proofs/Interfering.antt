@@ -12,7 +12,8 @@ use Rattle.plain_values.specs.Points.{has, meets}
 use Rattle.point_sets.proofs.Rising.{meets_at, meets_where}
 use Rattle.region_tree.specs.Requirements.{Requirement, InterfereSomewhere, conflict, interfere}
 use Rattle.region_tree.specs.Requirements.{is_of, is_at, modes_at}
-use Rattle.region_tree.proofs.Joins.{modes_at-here, modes_at-not, same_op-itself, same_op-tells}
+use Rattle.lane_kernels.proofs.SameOps.{same_op-itself, same_op-tells}
+use Rattle.region_tree.proofs.Joins.{modes_at-here, modes_at-not}
 
 -- ---- modes in conflict
 

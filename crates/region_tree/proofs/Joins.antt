@@ -7,36 +7,11 @@ use Rattle.std.specs.List.{list_all}
 use Rattle.lane_kernels.specs.Modes.{joined, same_op}
 use Rattle.lane_kernels.specs.declared.numbers.Mode.{Mode}
 use Rattle.lane_kernels.specs.declared.numbers.Mode.TheVariants.{Read, Write, Reduce}
-use Rattle.lane_kernels.specs.declared.numbers.Op.{Op}
-use Rattle.lane_kernels.specs.declared.numbers.Op.TheVariants.{Sum, Product, Least, Greatest}
+use Rattle.lane_kernels.proofs.SameOps.{same_op-itself, same_op-tells}
 use Rattle.region_tree.specs.Requirements.{Requirement, is_at, modes_at, join_onto, join_from}
 use Rattle.region_tree.specs.Requirements.{same_mode}
 
 -- ---- equal modes
-
-pub same_op-itself : (p : Op) → same_op p p ≡ true
-same_op-itself Sum = refl
-same_op-itself Product = refl
-same_op-itself Least = refl
-same_op-itself Greatest = refl
-
-pub same_op-tells : (p q : Op) → same_op p q ≡ true → p ≡ q
-same_op-tells Sum Sum e = refl
-same_op-tells Product Product e = refl
-same_op-tells Least Least e = refl
-same_op-tells Greatest Greatest e = refl
-same_op-tells Sum Product e = absurd (false≢true e)
-same_op-tells Sum Least e = absurd (false≢true e)
-same_op-tells Sum Greatest e = absurd (false≢true e)
-same_op-tells Product Sum e = absurd (false≢true e)
-same_op-tells Product Least e = absurd (false≢true e)
-same_op-tells Product Greatest e = absurd (false≢true e)
-same_op-tells Least Sum e = absurd (false≢true e)
-same_op-tells Least Product e = absurd (false≢true e)
-same_op-tells Least Greatest e = absurd (false≢true e)
-same_op-tells Greatest Sum e = absurd (false≢true e)
-same_op-tells Greatest Product e = absurd (false≢true e)
-same_op-tells Greatest Least e = absurd (false≢true e)
 
 pub same_mode-itself : (m : Mode) → same_mode m m ≡ true
 same_mode-itself Read = refl

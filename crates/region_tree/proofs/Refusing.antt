@@ -2,7 +2,7 @@
 use Rattle.std.proofs.Common.{◌≡◌, ℕ, Bool, true, List, Result, Ok, Err}
 use Rattle.std.specs.Result.{IfErr, OnOk}
 use Rattle.region_tree.specs.Refusals.{AreWithin, Refuses, TellsLeaving, TellsSharing}
-use Rattle.region_tree.specs.Sharing.{AreDisjoint, set_of}
+use Rattle.region_tree.specs.Sharing.{AreDisjoint, set_of_colour}
 use Rattle.region_tree.specs.declared.content.Node.{Node}
 use Rattle.region_tree.specs.declared.fault.TreeFault.{TreeFault}
 use Rattle.region_tree.specs.declared.fault.TreeFault.TheVariants.{NotWithin, NotDisjoint, Memory}
@@ -25,6 +25,6 @@ pub sharing_told : (points : List ℕ) (sets : List (List ℕ)) (disjoint : Bool
 sharing_told points sets disjoint (Ok n) ok err h d some = absurd (some (ok d))
 sharing_told points sets disjoint (Err (NotWithin colour point)) ok err h d some =
     absurd (both_ways (has points point) err.leaves.outside
-    (within_each (set_of sets colour) points (h colour err.below) point err.leaves.in_set))
+    (within_each (set_of_colour sets colour) points (h colour err.below) point err.leaves.in_set))
 sharing_told points sets disjoint (Err (NotDisjoint a b point)) ok err h d some = tt
 sharing_told points sets disjoint (Err (Memory e)) ok err h d some = tt

@@ -12,7 +12,7 @@ use Rattle.plain_values.specs.Points.{has}
 use Rattle.point_sets.proofs.Rising.{within_each}
 use Rattle.region_tree.specs.Modes.{HasAllPoints, IsWider, is_in_mode, is_required}
 use Rattle.region_tree.specs.Needs.{requirement_of, requirements_of}
-use Rattle.region_tree.specs.Requirements.{Requirement, covers, is_at, is_covered, is_of, join_from}
+use Rattle.region_tree.specs.Requirements.{Requirement, covers, is_at, is_subsumed, is_of, join_from}
 use Rattle.region_tree.specs.Requirements.{mode_at, modes_at, same_mode}
 use Rattle.region_tree.specs.Trees.{RegionTree, set_at}
 use Rattle.region_tree.specs.declared.needs.Need.{Need}
@@ -67,10 +67,10 @@ module _ (t : RegionTree) (n : Need) (p : ℕ) where
       (join_one ns parts.1)) (cases_Bool (is_at n.root.0 n.field p (requirement_of t x)))
 
 covered_by_same : (m : Mode) (o : Option Mode) → (o ≡ None) ⊎ (o ≡ Some m) →
-    is_covered o (Some m) ≡ true
+    is_subsumed o (Some m) ≡ true
 covered_by_same m o h =
-    ⊎_elim (λ e. ap (λ x. is_covered x (Some m)) e)
-    (λ e. ap (λ x. is_covered x (Some m)) e ∙
+    ⊎_elim (λ e. ap (λ x. is_subsumed x (Some m)) e)
+    (λ e. ap (λ x. is_subsumed x (Some m)) e ∙
     or_left (same_mode m m) (same_mode m Write) (same_mode-itself m)) h
 
 pub covers-from_shared : (t : RegionTree) (ours theirs : List Need) (n : Need) →
@@ -78,9 +78,9 @@ pub covers-from_shared : (t : RegionTree) (ours theirs : List Need) (n : Need) �
     HasAllPoints (requirements_of t theirs) (requirement_of t n) →
     covers (requirements_of t ours) (requirements_of t theirs) (requirement_of t n) ≡ true
 covers-from_shared t ours theirs n e f h =
-    list_all-from_each (λ p. is_covered (mode_at (requirements_of t ours) n.root.0 n.field p)
+    list_all-from_each (λ p. is_subsumed (mode_at (requirements_of t ours) n.root.0 n.field p)
     (mode_at (requirements_of t theirs) n.root.0 n.field p)) (set_at t n.node.0)
-    (λ p m. ap (is_covered (mode_at (requirements_of t ours) n.root.0 n.field p))
+    (λ p m. ap (is_subsumed (mode_at (requirements_of t ours) n.root.0 n.field p))
     (their_mode p (h p m)) ∙
     covered_by_same n.mode (mode_at (requirements_of t ours) n.root.0 n.field p) (our_mode p))
   where

@@ -11,7 +11,7 @@ use Rattle.point_sets.specs.Stretches.{IsStretchFrom}
 use Rattle.point_sets.proofs.Rising.{meets_where}
 use Rattle.point_sets.specs.declared.TheConstants.{POINT_LIMIT}
 use Rattle.region_tree.specs.Sharing.{IsShared, IsSpan, IsFound, AreFound, AreDisjoint, AreSharing}
-use Rattle.region_tree.specs.Sharing.{IsLeastShared, set_of}
+use Rattle.region_tree.specs.Sharing.{IsLeastShared, set_of_colour}
 use Rattle.region_tree.specs.declared.sweep.Span.{Span}
 
 -- the spans of a colour's set up to a point were added to a list
@@ -19,7 +19,7 @@ pub record IsAdding (sets : List (List ℕ)) (colour from : ℕ) (before spans :
   where
     pub limit : from ≤ POINT_LIMIT
     pub sound : All (IsSpan sets) spans
-    pub found : (z : ℕ) → z < from → has (set_of sets colour) z ≡ true → IsFound spans colour z
+    pub found : (z : ℕ) → z < from → has (set_of_colour sets colour) z ≡ true → IsFound spans colour z
     pub kept : (other z : ℕ) → IsFound before other z → IsFound spans other z
 
 pub adding_none : (sets : List (List ℕ)) (colour : ℕ) (before : List Span) →
@@ -42,7 +42,7 @@ found_left spans s colour z f = record {
 
 pub adding_more : (sets : List (List ℕ)) (colour from start end : ℕ) (before spans : List Span) →
     colour < length sets → IsAdding sets colour from before spans →
-    IsStretchFrom (set_of sets colour) from start end → end ≤ POINT_LIMIT →
+    IsStretchFrom (set_of_colour sets colour) from start end → end ≤ POINT_LIMIT →
     IsAdding sets colour end before (spans ++ record { first = start; end = end; colour = colour } ∷
     [])
 adding_more sets colour from start end before spans l h stretch limit = record {
@@ -56,7 +56,7 @@ adding_more sets colour from start end before spans l h stretch limit = record {
       z (h.kept other z f);
 }
   where
-    here : (z : ℕ) → from ≤ z → z < end → has (set_of sets colour) z ≡ true →
+    here : (z : ℕ) → from ≤ z → z < end → has (set_of_colour sets colour) z ≡ true →
         IsFound (spans ++ record { first = start; end = end; colour = colour } ∷ []) colour z
     here z over under there = record {
       span = record { first = start; end = end; colour = colour };
@@ -72,7 +72,7 @@ adding_more sets colour from start end before spans l h stretch limit = record {
 -- nothing of the set is left
 pub adding_all : (sets : List (List ℕ)) (colour from : ℕ) (before spans : List Span) →
     IsAdding sets colour from before spans → ((z : ℕ) → from ≤ z →
-    has (set_of sets colour) z ≡ false) → AreFound sets spans colour
+    has (set_of_colour sets colour) z ≡ false) → AreFound sets spans colour
 adding_all sets colour from before spans h none z there =
     ⊎_elim (λ under. h.found z under there)
     (λ over. absurd (false≢true (sym (none z over) ∙ there))) (cases_lt z from)
@@ -129,9 +129,9 @@ module _ (sets : List (List ℕ)) (spans : List Span) where
 
     pub disjoint_from_spans : ((z : ℕ) → ¬ IsShared spans z) → AreDisjoint sets
     disjoint_from_spans none i j l m =
-        false_from_ne_true (meets (set_of sets i) (set_of sets j))
-        (λ e. let at = meets_where (set_of sets i) (set_of sets j) e in
-        let parts = and_parts (has (set_of sets i) at.0) (has (set_of sets j) at.0) at.1 in
+        false_from_ne_true (meets (set_of_colour sets i) (set_of_colour sets j))
+        (λ e. let at = meets_where (set_of_colour sets i) (set_of_colour sets j) e in
+        let parts = and_parts (has (set_of_colour sets i) at.0) (has (set_of_colour sets j) at.0) at.1 in
         none at.0 (spans_from_sharing i j at.0 (record
         { order = l; below = m; in_first = parts.0; in_second = parts.1 })))
 

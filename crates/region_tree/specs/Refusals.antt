@@ -1,14 +1,14 @@
 -- When a partition is refused.
 use Rattle.std.specs.Prelude.{◌≡◌, ◌≢◌, ℕ, ◌<◌, Bool, true, false, List, length, Result, Ok, Err}
 use Rattle.plain_values.specs.Points.{has, within}
-use Rattle.region_tree.specs.Sharing.{AreSharing, IsLeastShared, set_of}
+use Rattle.region_tree.specs.Sharing.{AreSharing, IsLeastShared, set_of_colour}
 use Rattle.region_tree.specs.declared.fault.TreeFault.{TreeFault}
 use Rattle.region_tree.specs.declared.fault.TreeFault.TheVariants.{NotWithin, NotDisjoint, Memory}
 use Rattle.region_tree.specs.declared.content.Node.{Node}
 
 -- no set leaves the points of the region
 abbrev pub AreWithin : List ℕ → List (List ℕ) → Type 0
-AreWithin points sets = (c : ℕ) → c < length sets → within (set_of sets c) points ≡ true
+AreWithin points sets = (c : ℕ) → c < length sets → within (set_of_colour sets c) points ≡ true
 
 -- the point is the first of a set that the region lacks
 pub record IsOutside (points set : List ℕ) (point : ℕ) : Type 0 where
@@ -19,14 +19,14 @@ pub record IsOutside (points set : List ℕ) (point : ℕ) : Type 0 where
 -- the set of the colour is the first that leaves the region, and does so first at the point
 pub record FirstOutside (points : List ℕ) (sets : List (List ℕ)) (colour point : ℕ) : Type 0 where
   pub below : colour < length sets
-  pub earlier : (c : ℕ) → c < colour → within (set_of sets c) points ≡ true
-  pub leaves : IsOutside points (set_of sets colour) point
+  pub earlier : (c : ℕ) → c < colour → within (set_of_colour sets c) points ≡ true
+  pub leaves : IsOutside points (set_of_colour sets colour) point
 
 -- the point is the least that two sets share, and the colours are the first two whose sets have it
 pub record FirstShared (sets : List (List ℕ)) (a b point : ℕ) : Type 0 where
   pub shared : AreSharing sets a b point
   pub least : IsLeastShared sets point
-  pub first : (c : ℕ) → c < b → c ≢ a → has (set_of sets c) point ≡ false
+  pub first : (c : ℕ) → c < b → c ≢ a → has (set_of_colour sets c) point ≡ false
 
 -- A partition of a region into these sets may be refused so: where a set leaves the region; where
 -- none does, it is to be disjoint, and two sets share a point; for want of memory.

@@ -74,17 +74,17 @@ same_mode Write Write = true
 same_mode (Reduce p) (Reduce q) = same_op p q
 same_mode _ _ = false
 
--- whether a mode at a point is covered by another: there is none, or the two are equal, or the
+-- whether a mode at a point is subsumed by another: there is none, or the two are equal, or the
 -- other is Write
-abbrev pub is_covered : Option Mode → Option Mode → Bool
-is_covered None n = true
-is_covered (Some m) None = false
-is_covered (Some m) (Some n) = same_mode m n || same_mode n Write
+abbrev pub is_subsumed : Option Mode → Option Mode → Bool
+is_subsumed None n = true
+is_subsumed (Some m) None = false
+is_subsumed (Some m) (Some n) = same_mode m n || same_mode n Write
 
 -- whether at each point of a requirement the modes of the first list are covered by the second's
 abbrev pub covers : List Requirement → List Requirement → Requirement → Bool
 covers ours theirs r =
-    list_all (λ p. is_covered (mode_at ours r.root r.field p) (mode_at theirs r.root r.field p))
+    list_all (λ p. is_subsumed (mode_at ours r.root r.field p) (mode_at theirs r.root r.field p))
     r.points
 
 -- whether the first requirements are within the second

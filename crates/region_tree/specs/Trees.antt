@@ -63,12 +63,12 @@ abbrev pub is_disjoint : RegionTree → ℕ → Bool
 is_disjoint t n = disjoint_in (node_at t n).content
 
 -- the points of a region
-abbrev pub points_in : Content → List ℕ
-points_in (Region xs) = xs
-points_in (Partition region disjoint colours) = []
+abbrev pub points_of_content : Content → List ℕ
+points_of_content (Region xs) = xs
+points_of_content (Partition region disjoint colours) = []
 
 abbrev pub set_at : RegionTree → ℕ → List ℕ
-set_at t n = points_in (node_at t n).content
+set_at t n = points_of_content (node_at t n).content
 
 -- the points of a node: those of a region, and of a partition those of the region that it divides
 abbrev pub points_by : RegionTree → Content → List ℕ
@@ -101,7 +101,7 @@ pub record AreSeparated (t : RegionTree) (a b : ℕ) : Type 0 where
   pub root : root_at t a ≡ root_at t b
   pub partition : Node
   pub disjoint : is_disjoint t partition.0 ≡ true
-  pub parts : PartAt partition (path_at t a) (path_at t b)
+  pub paths : PartAt partition (path_at t a) (path_at t b)
 
 -- ---- how a tree grows
 

@@ -6,12 +6,12 @@ ghost use Rattle.std.specs.List.{list_all};
 ghost use Rattle.region_tree.specs.Modes.{HasAllPoints, IsWider, WritesAll, is_in_mode};
 ghost use Rattle.region_tree.specs.Needs.{AreNeeds, IsNeed, requirement_of, requirements_of};
 ghost use Rattle.region_tree.specs.Requirements.{IsWithin, Requirement, covers};
-ghost use Rattle.region_tree.specs.Requirements.{is_covered};
+ghost use Rattle.region_tree.specs.Requirements.{is_subsumed};
 ghost use Rattle.region_tree.specs.Requirements.{is_within, mode_at};
 ghost use Rattle.region_tree.specs.Trees.{IsRegion, set_at};
 
 use crate::content::Node;
-use crate::modes::{is_covered, mode_at};
+use crate::modes::{is_subsumed, mode_at};
 use crate::needs::{Need, Needs};
 use crate::tree::{RootId, Tree};
 use lane_kernels::Mode;
@@ -181,7 +181,7 @@ fn covers_points(
 ) -> bool
     requires first { AreNeeds tree.now ours.now }
     requires second { AreNeeds tree.now theirs.now }
-    ensures { result ≡ list_all (λ p. is_covered
+    ensures { result ≡ list_all (λ p. is_subsumed
         (mode_at (requirements_of tree.now ours.now) root.0 field p)
         (mode_at (requirements_of tree.now theirs.now) root.0 field p)) points.now }
 {
@@ -191,7 +191,7 @@ fn covers_points(
         };
         let one = mode_at(tree, ours, root, field, point);
         let other = mode_at(tree, theirs, root, field, point);
-        if !is_covered(one, other) {
+        if !is_subsumed(one, other) {
             return false;
         }
     }

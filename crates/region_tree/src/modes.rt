@@ -2,7 +2,7 @@
 
 ghost use Rattle.std.specs.Prelude.{◌≡◌};
 ghost use Rattle.region_tree.specs.Needs.{AreNeeds, IsNeed, requirement_of, requirements_of};
-ghost use Rattle.region_tree.specs.Requirements.{is_at, is_covered, join_onto, mode_at};
+ghost use Rattle.region_tree.specs.Requirements.{is_at, is_subsumed, join_onto, mode_at};
 
 use crate::needs::Need;
 use crate::tree::{RootId, Tree};
@@ -40,10 +40,10 @@ fn join_onto(joined: Option<Mode>, mode: Mode) -> Option<Mode>
     }
 }
 
-/// Whether a mode at a point is covered by another one there: it is absent, the two are equal, or
+/// Whether a mode at a point is subsumed by another one there: it is absent, the two are equal, or
 /// the other is Write.
-pub fn is_covered(ours: Option<Mode>, theirs: Option<Mode>) -> bool
-    ensures { result ≡ is_covered ours theirs }
+pub fn is_subsumed(ours: Option<Mode>, theirs: Option<Mode>) -> bool
+    ensures { result ≡ is_subsumed ours theirs }
 {
     match (ours, theirs) {
         (None, _) => true,

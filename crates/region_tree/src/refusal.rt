@@ -4,7 +4,7 @@ ghost use Rattle.std.specs.Prelude.{◌≡◌, ◌≤◌, ◌<◌, ◌^◌, ℕ,
 ghost use Rattle.std.specs.Prelude.{length, true};
 ghost use Rattle.plain_values.specs.Points.{has, within};
 ghost use Rattle.region_tree.specs.Refusals.{AreWithin, IsOutside, Refuses};
-ghost use Rattle.region_tree.specs.Sharing.{AreDisjoint, set_of};
+ghost use Rattle.region_tree.specs.Sharing.{AreDisjoint, set_of_colour};
 
 use crate::fault::TreeFault;
 use crate::sweep::least_shared;
@@ -92,11 +92,11 @@ fn test_disjoint(alloc: Global, region: &PointSet, sets: &[PointSet]) -> Result<
 fn first_with(sets: &[PointSet], from: u32, point: u32) -> u32
     requires few { length sets.now < 2 ^ 32 }
     requires some { (c : ℕ)
-        × (from ≤ c) × (c < length sets.now) × (has (set_of sets.now c) point ≡ true) }
+        × (from ≤ c) × (c < length sets.now) × (has (set_of_colour sets.now c) point ≡ true) }
     ensures ahead { from ≤ result }
     ensures below { result < length sets.now }
-    ensures found { has (set_of sets.now result) point ≡ true }
-    ensures first { (c : ℕ) → from ≤ c → c < result → has (set_of sets.now c) point ≡ false }
+    ensures found { has (set_of_colour sets.now result) point ≡ true }
+    ensures first { (c : ℕ) → from ≤ c → c < result → has (set_of_colour sets.now c) point ≡ false }
 {
     let count = sets.len() as u32;
     for colour in from..count {

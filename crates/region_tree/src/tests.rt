@@ -6,7 +6,7 @@ ghost use Rattle.region_tree.specs.Trees.{IsRegion, root_at};
 use crate::{Need, Needs, Node, Piece, RootId, Tree, TreeFault, interferes, within};
 use lane_kernels::{Mode, Op};
 use plain_values::Sequence;
-use point_sets::PointSet;
+use point_sets::{POINT_LIMIT, PointSet};
 use std::alloc::{AllocError, Global};
 use std::test::Fail;
 
@@ -118,18 +118,47 @@ fn a_reduction_is_within_a_write(rt: HostRuntime) -> Result<(), Fail> {
     Ok(())
 }
 
+/// Needs of a tree's first region: a field for each mode, a few with several, and one with many.
+fn uses_of_each_kind(alloc: Global) -> Result<Vec<(u8, Mode)>, AllocError> {
+    let few = [
+        (0, Mode::Read),
+        (0, SUM),
+        (1, LEAST),
+        (2, Mode::Read),
+        (3, Mode::Write),
+        (4, SUM),
+        (5, Mode::Reduce(Op::Product)),
+        (6, Mode::Reduce(Op::Greatest)),
+        (7, SUM),
+        (7, SUM),
+        (7, LEAST),
+        (7, SUM),
+    ];
+    let mut uses = Vec::from_slice(alloc, few.as_slice())?;
+    for _ in 0..10_000 {
+        uses.push((8, LEAST))?;
+    }
+    Ok(uses)
+}
+
 #[test]
 fn a_read_and_a_reduction_join_to_a_write(rt: HostRuntime) -> Result<(), Fail> {
     let alloc = rt.alloc();
     let (tree, root, region) = small_tree(alloc)?;
-    let needs = needs_of(
-        alloc,
-        &tree,
-        root,
-        region,
-        &[(0, Mode::Read), (0, SUM), (1, LEAST)],
-    )?;
-    for (field, mode, want) in [(0, Mode::Write, 1), (1, LEAST, 1), (2, Mode::Read, 0)] {
+    let uses = uses_of_each_kind(alloc)?;
+    let needs = needs_of(alloc, &tree, root, region, uses.as_slice())?;
+    for (field, mode, want) in [
+        (0, Mode::Write, 1),
+        (1, LEAST, 1),
+        (2, Mode::Read, 1),
+        (3, Mode::Write, 1),
+        (4, SUM, 1),
+        (5, Mode::Reduce(Op::Product), 1),
+        (6, Mode::Reduce(Op::Greatest), 1),
+        (7, Mode::Write, 1),
+        (8, LEAST, 1),
+        (9, Mode::Read, 0),
+    ] {
         let parts = needs.part(&tree, root, field)?;
         assert_eq!(rt; parts.len(), want);
         for (points, joined) in &parts {
@@ -155,6 +184,126 @@ fn uses_of_one_field(rt: HostRuntime) -> Result<(), Fail> {
         let theirs = needs_of(alloc, &tree, root, region, &[other])?;
         assert_eq!(rt; interferes(&tree, &ours, &theirs), want);
     }
+    Ok(())
+}
+
+/// A read of all points of a region, and a reduction of those of another one.
+fn a_read_and_a_sum(
+    alloc: Global,
+    tree: &Tree,
+    first: Node,
+    second: Node,
+) -> Result<Needs, AllocError>
+    requires first { IsRegion tree.now first.0 }
+    requires second { IsRegion tree.now second.0 }
+    ensures { IfOk result (λ n. AreNeeds tree.now n.items) }
+{
+    let mut items = Sequence::new(alloc);
+    items.push(Need {
+        root: tree.root_of(first),
+        node: first,
+        field: 0,
+        mode: Mode::Read,
+    })?;
+    items.push(Need {
+        root: tree.root_of(second),
+        node: second,
+        field: 0,
+        mode: SUM,
+    })?;
+    Ok(Needs { items })
+}
+
+/// A tree whose second root has the points 0 to below a bound, and the region of that root.
+fn two_roots(alloc: Global, bound: u32) -> Result<(Tree, Node), AllocError>
+    ensures { IfOk result (λ r. IsRegion r.0 r.1.0) }
+{
+    let (mut tree, _, _) = small_tree(alloc)?;
+    let points = PointSet::range(alloc, 0, bound.min(POINT_LIMIT))?;
+    let (_, region) = tree.add_root(points)?;
+    Ok((tree, region))
+}
+
+/// A tree whose second root has two children that overlap: one with all its points, and one with
+/// three.
+fn two_children(alloc: Global) -> Result<Option<(Tree, Node, Node)>, TreeFault>
+    ensures first { IfOk result (λ r. IfSome r (λ t. IsRegion t.0 t.1.0)) }
+    ensures second { IfOk result (λ r. IfSome r (λ t. IsRegion t.0 t.2.0)) }
+{
+    let (mut tree, region) = two_roots(alloc, POINT_LIMIT)?;
+    let sets = sets_of(alloc, &[(0, POINT_LIMIT), (1, 4)])?;
+    if sets.len() != 2 {
+        return Ok(None);
+    }
+    let partition = tree.add_partition(region, sets, false)?;
+    match (tree.child(partition, 0), tree.child(partition, 1)) {
+        (Some(first), Some(second)) => Ok(Some((tree, first, second))),
+        _ => Ok(None),
+    }
+}
+
+#[test]
+fn parts_at_a_second_root(rt: HostRuntime) -> Result<(), Fail> {
+    let alloc = rt.alloc();
+    let Some((tree, first, second)) = two_children(alloc)? else {
+        return Err(Fail::new("a child is missing"));
+    };
+    let needs = a_read_and_a_sum(alloc, &tree, first, second)?;
+    let parts = needs.part(&tree, RootId(1), 0)?;
+    let told = [(4_194_301, Mode::Read), (3, Mode::Write)];
+    assert_eq!(rt; parts.len(), 2);
+    for ((points, mode), want) in parts.iter().zip(told) {
+        assert_eq!(rt; (points.len(), *mode), want);
+    }
+    Ok(())
+}
+
+#[test]
+fn no_partition_wants_memory(rt: HostRuntime) -> Result<(), Fail> {
+    let alloc = rt.alloc();
+    let rows: [(&[(u32, u32)], bool); 9] = [
+        (&[], false),
+        (&[], true),
+        (&[(0, 0), (0, 0)], true),
+        (&[(0, 2), (2, 4)], true),
+        (&[(0, 2), (2, 4)], false),
+        (&[(0, 3), (1, 4)], true),
+        (&[(0, 3), (1, 4)], false),
+        (&[(0, 3), (4, 5)], true),
+        (&[(0, 3), (4, 5)], false),
+    ];
+    for (ranges, disjoint) in rows {
+        let (mut tree, region) = two_roots(alloc, 4)?;
+        let sets = sets_of(alloc, ranges)?;
+        assert!(rt; sets.len() < 10);
+        let answer = tree.add_partition(region, sets, disjoint);
+        assert!(rt;
+            !matches!(answer, Err(TreeFault::Memory(_))),
+            "{ranges:?} {disjoint}"
+        );
+    }
+    Ok(())
+}
+
+/// The sets of some ranges.
+fn sets_of(alloc: Global, ranges: &[(u32, u32)]) -> Result<Vec<PointSet>, AllocError> {
+    let mut sets = Vec::new(alloc);
+    for (first, end) in ranges {
+        sets.push(PointSet::range(alloc, *first, (*end).min(POINT_LIMIT))?)?;
+    }
+    Ok(sets)
+}
+
+#[test]
+fn ten_thousand_roots(rt: HostRuntime) -> Result<(), Fail> {
+    let alloc = rt.alloc();
+    let mut tree = Tree::new(alloc)?;
+    for number in 0..10_000 {
+        let next = tree.next();
+        let points = PointSet::range(alloc, 0, number % 3)?;
+        assert_eq!(rt; tree.add_root(points)?, next);
+    }
+    assert_eq!(rt; tree.next(), (RootId(10_000), Node(10_000)));
     Ok(())
 }
 
@@ -202,25 +351,27 @@ fn every_fourth(alloc: Global, colours: u32) -> Result<Vec<PointSet>, AllocError
 #[test]
 fn a_partition_of_65536_sets(rt: HostRuntime) -> Result<(), Fail> {
     let alloc = rt.alloc();
-    let mut tree = Tree::new(alloc)?;
-    let (_, region) = tree.add_root(PointSet::range(alloc, 0, 262_144)?)?;
-    let sets = every_fourth(alloc, 65_536)?;
-    let partition = tree.add_partition(region, sets, true)?;
-    assert_eq!(rt; tree.next(), (RootId(1), Node(65_538)));
-    let (Some(first), Some(last)) = (tree.child(partition, 0), tree.child(partition, 65_535)) else {
-        return Err(Fail::new("a child is missing"));
-    };
-    assert_eq!(rt; tree.child(partition, 65_536), None);
-    assert_eq!(rt; last, Node(65_537));
-    assert_eq!(rt; tree.set(last).at(0), Some(262_140));
-    assert_eq!(rt;
-        (
-            tree.separated(first, last),
-            tree.separated(first, first),
-            tree.separated(region, last)
-        ),
-        (true, false, false)
-    );
+    for disjoint in [true, false] {
+        let (mut tree, region) = two_roots(alloc, 262_144)?;
+        let sets = every_fourth(alloc, 65_536)?;
+        let partition = tree.add_partition(region, sets, disjoint)?;
+        assert_eq!(rt; tree.next(), (RootId(2), Node(65_539)));
+        let (Some(first), Some(last)) = (tree.child(partition, 0), tree.child(partition, 65_535))
+        else {
+            return Err(Fail::new("a child is missing"));
+        };
+        assert_eq!(rt; tree.child(partition, 65_536), None);
+        assert_eq!(rt; last, Node(65_538));
+        assert_eq!(rt; tree.set(last).at(0), Some(262_140));
+        assert_eq!(rt;
+            (
+                tree.separated(first, last),
+                tree.separated(first, first),
+                tree.separated(region, last)
+            ),
+            (disjoint, false, false)
+        );
+    }
     Ok(())
 }
 
