@@ -17,8 +17,8 @@ ghost use Rattle.read_terms.specs.Gives.{Gives};
 ghost use Rattle.regent_tree.specs.Plain.{expression_of, initializer_of};
 
 use read_terms::{
-    Stop, comes_name_before, comes_word, expression, is_mark, is_word, space_use, take_mark,
-    take_name, take_word,
+    Stop, comes_name_before, comes_word, expression, is_mark, is_word, next_name, space_use,
+    take_mark, take_name, take_word,
 };
 use regent_grammar::{Mark, Symbol, Terminal, Word};
 use regent_tree::{Expr, Init, Name, SpaceUse};
@@ -58,16 +58,16 @@ fn new_region(alloc: Global, terminals: &[Terminal]) -> Result<(Init, &[Terminal
     Ok((Init::Region { space, fields }, rest))
 }
 
-/// The count of colours.
+/// The last argument, behind a comma.
 #[tactic(auto, unfolding(regent_grammar::proofs::Opening::reading))]
-fn colours(alloc: Global, terminals: &[Terminal]) -> Result<(Expr, &[Terminal]), Stop<'_>>
+pub fn last_argument(alloc: Global, terminals: &[Terminal]) -> Result<(Expr, &[Terminal]), Stop<'_>>
     ensures { Gives (λ x. read (expression_of x.0) x.1.now) result
         (reading (a_mark mark.Comma ⊳ expression ⊲ a_mark mark.Close) terminals.now) }
 {
     let rest = take_mark(terminals, Mark::Comma)?;
-    let (colours, rest) = expression(alloc, rest)?;
+    let (last, rest) = expression(alloc, rest)?;
     let rest = take_mark(rest, Mark::Close)?;
-    Ok((colours, rest))
+    Ok((last, rest))
 }
 
 /// The region that is divided equally.
@@ -111,7 +111,7 @@ fn equal_partition(alloc: Global, terminals: &[Terminal]) -> Result<(Init, &[Ter
         (reading equal_partition terminals.now) }
 {
     let (region, rest) = equal_region(alloc, terminals)?;
-    let (colours, rest) = colours(alloc, rest)?;
+    let (colours, rest) = last_argument(alloc, rest)?;
     Ok((Init::Equal { region, colours }, rest))
 }
 
@@ -123,7 +123,7 @@ fn field_partition(alloc: Global, terminals: &[Terminal]) -> Result<(Init, &[Ter
 {
     let (region, rest) = field_region(alloc, terminals)?;
     let (field, rest) = field_behind(alloc, rest)?;
-    let (colours, rest) = colours(alloc, rest)?;
+    let (colours, rest) = last_argument(alloc, rest)?;
     let initializer = Init::ByField {
         region,
         field,
@@ -174,6 +174,26 @@ fn mapped(mapping: Mapping, parent: Name, partition: Name, region: Name, field: 
     }
 }
 
+/// The name behind an opening parenthesis.
+#[tactic(auto, unfolding(regent_grammar::proofs::Opening::reading))]
+fn opened_name(alloc: Global, terminals: &[Terminal]) -> Result<(Name, &[Terminal]), Stop<'_>>
+    ensures { Gives (λ x. read x.0 x.1.now) result (reading (a_mark mark.Open ⊳ name) terminals.now) }
+{
+    let rest = take_mark(terminals, Mark::Open)?;
+    take_name(alloc, rest)
+}
+
+/// The field behind a dot, and the closing parenthesis.
+#[tactic(auto, unfolding(regent_grammar::proofs::Opening::reading))]
+fn last_field(alloc: Global, terminals: &[Terminal]) -> Result<(Name, &[Terminal]), Stop<'_>>
+    ensures { Gives (λ x. read x.0 x.1.now) result
+        (reading (a_mark mark.Dot ⊳ name ⊲ a_mark mark.Close) terminals.now) }
+{
+    let (field, rest) = field_behind(alloc, terminals)?;
+    let rest = take_mark(rest, Mark::Close)?;
+    Ok((field, rest))
+}
+
 /// An image or a preimage.
 #[tactic(auto, unfolding(regent_grammar::proofs::Opening::reading, regent_grammar::specs::Statements::mapped_partition))]
 fn mapped_partition(alloc: Global, terminals: &[Terminal]) -> Result<(Init, &[Terminal]), Stop<'_>>
@@ -181,15 +201,10 @@ fn mapped_partition(alloc: Global, terminals: &[Terminal]) -> Result<(Init, &[Te
         (reading mapped_partition terminals.now) }
 {
     let (mapping, rest) = take_mapping(terminals)?;
-    let rest = take_mark(rest, Mark::Open)?;
-    let (parent, rest) = take_name(alloc, rest)?;
-    let rest = take_mark(rest, Mark::Comma)?;
-    let (partition, rest) = take_name(alloc, rest)?;
-    let rest = take_mark(rest, Mark::Comma)?;
-    let (region, rest) = take_name(alloc, rest)?;
-    let rest = take_mark(rest, Mark::Dot)?;
-    let (field, rest) = take_name(alloc, rest)?;
-    let rest = take_mark(rest, Mark::Close)?;
+    let (parent, rest) = opened_name(alloc, rest)?;
+    let (partition, rest) = next_name(alloc, rest)?;
+    let (region, rest) = next_name(alloc, rest)?;
+    let (field, rest) = last_field(alloc, rest)?;
     Ok((mapped(mapping, parent, partition, region, field), rest))
 }
 

@@ -5,11 +5,11 @@ ghost use Rattle.std.specs.Option.{option_map};
 ghost use Rattle.regent_grammar.specs.Expressions.{access, expression};
 ghost use Rattle.regent_grammar.specs.Reading.{read, reading, then_read};
 ghost use Rattle.regent_grammar.specs.Rules.{maybe, ◌⊳◌};
-ghost use Rattle.regent_grammar.specs.Singles.{a_mark, a_word, named, text};
+ghost use Rattle.regent_grammar.specs.Singles.{a_mark, a_word, name, named, text};
 ghost use Rattle.regent_grammar.specs.Statements.{a_named_print, an_assert, an_assignment, assertion, assign};
 ghost use Rattle.regent_grammar.specs.Statements.{assign_sign, assignment, extremum, filling};
 ghost use Rattle.regent_grammar.specs.Statements.{is_extremum, print_arguments, print_format, printing};
-ghost use Rattle.regent_grammar.specs.Statements.{printing_by, initializer, task_call, variable};
+ghost use Rattle.regent_grammar.specs.Statements.{fields, printing_by, initializer, task_call, variable};
 ghost use Rattle.regent_grammar.specs.Symbols.{come, comes, is_mark, is_named};
 ghost use Rattle.regent_lex.specs.declared.tables.Mark.TheVariants as mark;
 ghost use Rattle.regent_lex.specs.declared.tables.Word.TheVariants as word;
@@ -18,7 +18,7 @@ ghost use Rattle.read_terms.specs.Gives.{Gives};
 ghost use Rattle.regent_tree.specs.Plain.{expression_of, initializer_of};
 ghost use Rattle.regent_tree.specs.PlainProgram.{form_of};
 
-use crate::initializers::initializer;
+use crate::initializers::{initializer, last_argument};
 use plain_values::Sequence;
 use read_terms::{
     Stop, arguments, comes_mark, declared_type, expression, fields, is_mark, is_name, is_named,
@@ -59,20 +59,38 @@ pub fn variable(alloc: Global, terminals: &[Terminal]) -> Result<(What, &[Termin
     Ok((What::Var { name, term, init }, rest))
 }
 
+/// The region that is filled.
+#[tactic(auto, unfolding(regent_grammar::proofs::Opening::reading))]
+fn filled_region(alloc: Global, terminals: &[Terminal]) -> Result<(Name, &[Terminal]), Stop<'_>>
+    ensures { Gives (λ x. read x.0 x.1.now) result
+        (reading (a_word word.Fill ⊳ a_mark mark.Open ⊳ name) terminals.now) }
+{
+    let rest = take_word(terminals, Word::Fill)?;
+    let rest = take_mark(rest, Mark::Open)?;
+    take_name(alloc, rest)
+}
+
+/// The fields that are filled.
+#[tactic(auto, unfolding(regent_grammar::proofs::Opening::reading))]
+fn filled_fields(
+    alloc: Global,
+    terminals: &[Terminal],
+) -> Result<(Sequence<Name>, &[Terminal]), Stop<'_>>
+    ensures { Gives (λ x. read x.0 x.1.now) result (reading (a_mark mark.Dot ⊳ fields) terminals.now) }
+{
+    let rest = take_mark(terminals, Mark::Dot)?;
+    fields(alloc, rest)
+}
+
 /// A `fill`.
 #[tactic(auto, unfolding(regent_grammar::proofs::Opening::reading, regent_grammar::specs::Statements::filling))]
 pub fn filling(alloc: Global, terminals: &[Terminal]) -> Result<(What, &[Terminal]), Stop<'_>>
     ensures { Gives (λ x. read (form_of x.0) x.1.now) result
         (reading filling terminals.now) }
 {
-    let rest = take_word(terminals, Word::Fill)?;
-    let rest = take_mark(rest, Mark::Open)?;
-    let (region, rest) = take_name(alloc, rest)?;
-    let rest = take_mark(rest, Mark::Dot)?;
-    let (fields, rest) = fields(alloc, rest)?;
-    let rest = take_mark(rest, Mark::Comma)?;
-    let (value, rest) = expression(alloc, rest)?;
-    let rest = take_mark(rest, Mark::Close)?;
+    let (region, rest) = filled_region(alloc, terminals)?;
+    let (fields, rest) = filled_fields(alloc, rest)?;
+    let (value, rest) = last_argument(alloc, rest)?;
     let what = What::Fill {
         region,
         fields,

@@ -16,7 +16,7 @@ mod types;
 
 pub use ahead::{comes_mark, comes_name_before, comes_word, is_name, line_of};
 pub use expressions::{arguments, expression, more_arguments, steps};
-pub use names::fields;
+pub use names::{fields, next_name};
 pub use stop::Stop;
 pub use take::{
     is_mark, is_named, is_word, take_mark, take_name, take_named, take_text, take_word,

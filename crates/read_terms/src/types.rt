@@ -5,10 +5,8 @@ ghost use Rattle.regent_grammar.specs.Reading.{read, reading};
 ghost use Rattle.regent_grammar.specs.Rules.{many, maybe, ◌⊲◌, ◌⊳◌};
 ghost use Rattle.regent_grammar.specs.Singles.{a_mark, a_word, maybe_listed, name, separated};
 ghost use Rattle.regent_grammar.specs.Symbols.{come, comes, is_mark, line_of};
-ghost use Rattle.regent_grammar.specs.Types.{disjointness, disjointness_of, index_space, is_kind};
-ghost use Rattle.regent_grammar.specs.Types.{a_region, kind, kind_of, number, number_of, parameter};
-ghost use Rattle.regent_grammar.specs.Types.{partition_type, pointer, reference, region_kind};
-ghost use Rattle.regent_grammar.specs.Types.{region_type, space_use, type_term};
+ghost use Rattle.regent_grammar.specs.Types.{a_region, disjointness, index_space, is_kind, kind, kind_of, number, number_of};
+ghost use Rattle.regent_grammar.specs.Types.{parameter, partition_type, pointer, reference, region_kind, region_type, space_use, type_term};
 ghost use Rattle.regent_lex.specs.declared.tables.Mark.TheVariants as mark;
 ghost use Rattle.regent_lex.specs.declared.tables.Word.TheVariants as word;
 ghost use Rattle.read_terms.specs.Gives.{Gives, with_front};
@@ -333,10 +331,7 @@ fn partition_type(
 fn is_kind(symbol: &Symbol) -> bool
     ensures { result ≡ is_kind symbol.now }
 {
-    match symbol {
-        Symbol::Word(Word::Int1d) | Symbol::Word(Word::Ptr) => true,
-        _ => false,
-    }
+    matches!(symbol, Symbol::Word(Word::Int1d | Word::Ptr))
 }
 
 /// Whether a pointer type comes next: a kind before a parenthesis.

@@ -12,3 +12,4 @@ pub mod Prices
 pub mod Priced
 pub mod PricedStatements
 pub mod LimitLaws
+pub mod SymbolLaws

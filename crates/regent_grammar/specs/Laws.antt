@@ -1,5 +1,5 @@
 -- Laws of the grammar.
-use Rattle.std.specs.Prelude.{◌≡◌, ◌↔◌, ℕ, ◌≤◌, ◌*◌, List, [], ◌++◌, true, All, length, Ok, None, Some}
+use Rattle.std.specs.Prelude.{◌≡◌, ◌≢◌, ◌↔◌, ℕ, ◌≤◌, ◌*◌, List, [], ◌++◌, true, All, length, Ok, None, Some}
 use Rattle.regent_lex.specs.Places as place
 use Rattle.regent_lex.specs.declared.token.Token.{Token}
 use Rattle.regent_lex.specs.Places.{spelling}
@@ -85,6 +85,13 @@ NumbersOfText =
     (text : List ℕ) (tokens : List Token) → All
     (λ t. place.Spells t.kind (spelling text t)) tokens →
     All (λ t. NumberFits t.symbol) (terminals text tokens)
+
+-- what the tokens of a text stand for is known
+abbrev pub AllKnown : Type 0
+AllKnown =
+    (text : List ℕ) (tokens : List Token) → All
+    (λ t. place.Spells t.kind (spelling text t)) tokens →
+    All (λ t. t.symbol ≢ symbol.Unknown) (terminals text tokens)
 
 -- a text has no more tokens than bytes
 abbrev pub TokensByBytes : Type 0

@@ -2,7 +2,7 @@
 
 ghost use Rattle.regent_grammar.specs.Laws.{ExcessByTerminals, LimitsButCounts};
 ghost use Rattle.regent_grammar.specs.Laws.{OneTree, AllDecided, NeverBoth, OnePlace, PlaceInText, NoneBehind, ReadingIsExact};
-ghost use Rattle.regent_grammar.specs.Laws.{NodesByTerminals, LiteralsFit, NumbersOfText, TokensByBytes};
+ghost use Rattle.regent_grammar.specs.Laws.{NodesByTerminals, LiteralsFit, NumbersOfText, TokensByBytes, AllKnown};
 
 /// Terminals are one program at most.
 #[tactic(auto, using(crate::proofs::Laws::one_tree))]
@@ -57,6 +57,11 @@ pub fn literals_fit()
 /// The numbers of a text fit their widths.
 pub fn numbers_of_text()
     ensures { NumbersOfText }
+{}
+
+/// Each word and each sign of a text is one of the language.
+pub fn all_known()
+    ensures { AllKnown }
 {}
 
 /// A text has no more tokens than bytes.
