@@ -5,4 +5,5 @@ pub mod FirstInStatements
 pub mod Joined
 pub mod Laws
 pub mod Lines
+pub mod Untold
 pub mod Written

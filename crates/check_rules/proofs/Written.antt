@@ -1,10 +1,11 @@
 -- Where no declaration has a breach, parameters are bound as they are written, and fields and
 -- results are sound.
-use Rattle.std.proofs.Common.{◌&&◌, ◌⊎◌, inl, inr, Bool, List, None, Option, Some, [], ◌++◌, ◌∷◌, ◌<◌, ◌||◌, ◌≡◌, ℕ, arith, ap, bytes_eq, cond, false, filter, get_or, length, map, not, refl, subst, suc, sym, true, zero, ◌∙◌}
+use Rattle.std.proofs.Common.{◌⊎◌, inl, inr, Bool, List, None, [], ◌++◌, ◌∷◌, ◌<◌, ◌||◌, ◌≡◌, ℕ, arith, ap, bytes_eq, cond, false, filter, get_or, length, map, not, refl, subst, suc, sym, true, zero, ◌∙◌}
 use Rattle.std.specs.List.{list_any}
 use Rattle.std.specs.Option.{option_or}
 use Rattle.std.proofs.lemmas.List.{append-nil}
 use Rattle.std.proofs.lemmas.List.Folds.{list_any-append}
+use Rattle.std.proofs.lemmas.Bool.{or_parts, or_from, not-false}
 use Rattle.regent_tree.specs.PlainProgram.{item_of, item_tree_of, task_of}
 use Rattle.regent_tree.specs.declared.program.Item.{Item}
 use Rattle.regent_tree.specs.declared.program.ItemKind.TheVariants as kind
@@ -42,27 +43,10 @@ use Rattle.check_rules.specs.Spaces.{misfits_in_type}
 use Rattle.check_rules.specs.Visits.{Declaration, declarations_in, declarations_of_item}
 use Rattle.check_rules.specs.declared.rule.Rule.{Rule}
 use Rattle.check_rules.specs.declared.rule.Rule.TheVariants as rule
+use Rattle.plain_values.proofs.Plain.{option_or_parts, and_first}
+use Rattle.check_rules.proofs.Untold.{told_none, rule_none}
 
 -- ---- of what nothing is told
-
-or_none : {A : Type 0} (a b : Option A) → option_or a b ≡ None → (a ≡ None) × (b ≡ None)
-or_none None b e = (refl, e)
-or_none (Some x) b e = absurd cc
-
-told_none : (line : ℕ) (r : Option Rule) → told_on line r ≡ None → r ≡ None
-told_none line None e = refl
-told_none line (Some r) e = absurd cc
-
-rule_none : (b : Bool) (r : Rule) → rule_if b r ≡ None → b ≡ false
-rule_none true r e = absurd cc
-rule_none false r e = refl
-
-neither : (a b : Bool) → (a || b) ≡ false → (a ≡ false) × (b ≡ false)
-neither true b e = absurd cc
-neither false b e = (refl, e)
-
-none_of_two : (a b : Bool) → a ≡ false → b ≡ false → (a || b) ≡ false
-none_of_two a b e f = λ j. e j || f j
 
 -- what two and three rules tell
 pub two_none : (line : ℕ) (a b : Bool) (q r : Rule) → told_on line (option_or (rule_if a q) (option_or (rule_if b r) None)) ≡ None →
@@ -84,8 +68,8 @@ three_none line false false false p q r e = (refl, refl, refl)
 unflawed_at : (flawed : TypeTerm → Bool) (params : List Param) → flawed typed.Truth ≡ false →
     list_any (λ (p : Param). flawed p.term) params ≡ false → (i : ℕ) → flawed (term_at params i) ≡ false
 unflawed_at flawed [] t e i = t
-unflawed_at flawed (p ∷ ps) t e zero = (neither (flawed p.term) (list_any (λ (q : Param). flawed q.term) ps) e).0
-unflawed_at flawed (p ∷ ps) t e (suc i) = unflawed_at flawed ps t (neither (flawed p.term) (list_any (λ (q : Param). flawed q.term) ps) e).1 i
+unflawed_at flawed (p ∷ ps) t e zero = (or_parts (flawed p.term) (list_any (λ (q : Param). flawed q.term) ps) e).0
+unflawed_at flawed (p ∷ ps) t e (suc i) = unflawed_at flawed ps t (or_parts (flawed p.term) (list_any (λ (q : Param). flawed q.term) ps) e).1 i
 
 nothing_unknown : (flawed : TypeTerm → Bool) (params : List Param) (names : List Bound) →
     ((i : ℕ) → flawed (term_at params i) ≡ false) → with_unknown flawed params names ≡ names
@@ -100,20 +84,22 @@ as_written flawed params names t e = nothing_unknown flawed params names (unflaw
 -- ---- names whose types are written
 
 -- what a name is bound to behind others
-bound_after : (names : List Bound) (b : Bound) (n : Name) → is_bound (names ++ b ∷ []) n ≡ true →
-    ((is_bound names n ≡ true) × (bound_to (names ++ b ∷ []) n ≡ bound_to names n)) ⊎ (bound_to (names ++ b ∷ []) n ≡ b)
+pub bound_after : (names : List Bound) (b : Bound) (n : Name) → is_bound (names ++ b ∷ []) n ≡ true →
+    ((is_bound names n ≡ true) × (bound_to (names ++ b ∷ []) n ≡ bound_to names n))
+    ⊎ ((bytes_eq b.name n ≡ true) × (bound_to (names ++ b ∷ []) n ≡ b))
 bound_after [] b n e = here (bytes_eq b.name n) e
   where
     here : (is : Bool) → (is || false) ≡ true →
-        ((is_bound [] n ≡ true) × (cond is b unbound ≡ bound_to [] n)) ⊎ (cond is b unbound ≡ b)
-    here true e = inr refl
+        ((is_bound [] n ≡ true) × (cond is b unbound ≡ bound_to [] n)) ⊎ ((is ≡ true) × (cond is b unbound ≡ b))
+    here true e = inr (refl, refl)
     here false e = absurd cc
 bound_after (x ∷ xs) b n e = here (bytes_eq x.name n) (bound_after xs b n) e
   where
     here : (is : Bool) →
-        (is_bound (xs ++ b ∷ []) n ≡ true → ((is_bound xs n ≡ true) × (bound_to (xs ++ b ∷ []) n ≡ bound_to xs n)) ⊎ (bound_to (xs ++ b ∷ []) n ≡ b)) →
+        (is_bound (xs ++ b ∷ []) n ≡ true → ((is_bound xs n ≡ true) × (bound_to (xs ++ b ∷ []) n ≡ bound_to xs n)) ⊎ ((bytes_eq b.name n ≡ true) × (bound_to (xs ++ b ∷ []) n ≡ b))) →
         (is || is_bound (xs ++ b ∷ []) n) ≡ true →
-        (((is || is_bound xs n) ≡ true) × (cond is x (bound_to (xs ++ b ∷ []) n) ≡ cond is x (bound_to xs n))) ⊎ (cond is x (bound_to (xs ++ b ∷ []) n) ≡ b)
+        (((is || is_bound xs n) ≡ true) × (cond is x (bound_to (xs ++ b ∷ []) n) ≡ cond is x (bound_to xs n)))
+        ⊎ ((bytes_eq b.name n ≡ true) × (cond is x (bound_to (xs ++ b ∷ []) n) ≡ b))
     here true rest e = inl (refl, refl)
     here false rest e = rest e
 
@@ -132,38 +118,30 @@ pub written_known : (tree : Tree) (all : List Param) (i : ℕ) (ps : List Param)
 written_known tree all i [] n e = absurd cc
 written_known tree all i (p ∷ ps) n e = elim (bound_after (bound_params tree all (suc i) ps) _ n e) [
   | inl h ↦ ap (λ (b : Bound). is_unknown_type b.static_type) h.1 ∙ written_known tree all (suc i) ps n h.0
-  | inr h ↦ ap (λ (b : Bound). is_unknown_type b.static_type) h ∙ said_known tree (among_params all) i p.term
+  | inr h ↦ ap (λ (b : Bound). is_unknown_type b.static_type) h.1 ∙ said_known tree (among_params all) i p.term
 ]
-
-and_left : (a b : Bool) → (a && b) ≡ true → a ≡ true
-and_left true b e = refl
-and_left false b e = absurd cc
-
-not_not : (b : Bool) → not b ≡ false → b ≡ true
-not_not true e = refl
-not_not false e = absurd cc
 
 -- a type in which each name is bound to a region, among names that are all known, names nothing unknown
 module _ (tree : Tree) (names : List Bound) (known : (n : Name) → is_bound names n ≡ true → is_unknown_type (type_named names n) ≡ false) where
   region_known : (n : Name) → not (names_a is_region names n) ≡ false → is_unknown_type (type_named names n) ≡ false
-  region_known n e = known n (and_left (is_bound names n) _ (not_not _ e))
+  region_known n e = known n (and_first (is_bound names n) _ (not-false _ e))
 
   refs_known : (refs : List Ref) → list_any (misses_region names) refs ≡ false → list_any (is_unknown_ref names) refs ≡ false
   refs_known [] e = refl
   refs_known (Wild ∷ refs) e = refs_known refs e
   refs_known (Named n ∷ refs) e =
-      let p = neither (not (names_a is_region names n)) (list_any (misses_region names) refs) e in
-      none_of_two _ _ (region_known n p.0) (refs_known refs p.1)
+      let p = or_parts (not (names_a is_region names n)) (list_any (misses_region names) refs) e in
+      or_from _ _ (region_known n p.0) (refs_known refs p.1)
 
   pub names_known : (t : TypeTerm) → unbound_name_in_type tree names t ≡ false → names_unknown names t ≡ false
   names_known (typed.Number t) e = refl
   names_known typed.Truth e = refl
   names_known (typed.Ispace k) e = refl
   names_known (typed.Pointer t) e =
-      let p = neither (unbound_name_in_use tree names t.space) (list_any (misses_region names) t.regions) e in
-      none_of_two _ _ (refs_known t.space.args (neither (not (has_space tree t.space.name)) (list_any (misses_region names) t.space.args) p.0).1) (refs_known t.regions p.1)
-  names_known (typed.Region k u) e = refs_known u.args (neither (not (has_space tree u.name)) (list_any (misses_region names) u.args) e).1
-  names_known (typed.Partition d r c) e = region_known r (neither (not (names_a is_region names r)) (misses_space names c) e).0
+      let p = or_parts (unbound_name_in_use tree names t.space) (list_any (misses_region names) t.regions) e in
+      or_from _ _ (refs_known t.space.args (or_parts (not (has_space tree t.space.name)) (list_any (misses_region names) t.space.args) p.0).1) (refs_known t.regions p.1)
+  names_known (typed.Region k u) e = refs_known u.args (or_parts (not (has_space tree u.name)) (list_any (misses_region names) u.args) e).1
+  names_known (typed.Partition d r c) e = region_known r (or_parts (not (names_a is_region names r)) (misses_space names c) e).0
 
 -- ---- declarations
 
@@ -175,9 +153,9 @@ module _ (tree : Tree) (written beside : List Bound) (known : (n : Name) → is_
       list_any (λ (p : Param). says_no_type tree written p.term) all ≡ false
   saying_none [] e = refl
   saying_none (p ∷ ps) e =
-      let subexpressions = or_none (first_of_saying tree (record { written = written; names = beside; param = p })) (first_in (first_of_saying tree) (declared ps)) e in
+      let subexpressions = option_or_parts (first_of_saying tree (record { written = written; names = beside; param = p })) (first_in (first_of_saying tree) (declared ps)) e in
       let here = two_none p.line (unbound_name_in_type tree written p.term) (miscounts_in_type tree p.term) rule.Name rule.Count subexpressions.0 in
-      none_of_two _ _ (none_of_two _ _ here.0 here.1) (saying_none ps subexpressions.1)
+      or_from _ _ (or_from _ _ here.0 here.1) (saying_none ps subexpressions.1)
 
   said_none : (all : List Param) → beside ≡ written → first_in (first_of_saying tree) (declared all) ≡ None →
       first_in (first_of_said tree) (declared all) ≡ None →
@@ -185,13 +163,13 @@ module _ (tree : Tree) (written beside : List Bound) (known : (n : Name) → is_
   said_none [] same e f = refl
   said_none (p ∷ ps) same e f =
       let d : Declaration = record { written = written; names = beside; param = p } in
-      let says = or_none (first_of_saying tree d) (first_in (first_of_saying tree) (declared ps)) e in
-      let said = or_none (first_of_said tree d) (first_in (first_of_said tree) (declared ps)) f in
+      let says = option_or_parts (first_of_saying tree d) (first_in (first_of_saying tree) (declared ps)) e in
+      let said = option_or_parts (first_of_said tree d) (first_in (first_of_said tree) (declared ps)) f in
       let named = two_none p.line (unbound_name_in_type tree written p.term) (miscounts_in_type tree p.term) rule.Name rule.Count says.0 in
       let fits = three_none p.line (wrong_region_in_type tree beside p.term) (misfits_in_type tree beside p.term) (miscolours_in_type beside p.term) rule.Pointer rule.Spaces rule.Partition said.0 in
       let right = ap (λ ns. unbound_name_in_type tree ns p.term) same ∙ named.0 in
       let all_known = ap (λ ns. names_unknown ns p.term) same ∙ names_known tree written known p.term named.0 in
-      none_of_two _ _ (none_of_two _ _ (none_of_two _ _ (none_of_two _ _ (none_of_two _ _ right named.1) fits.0) fits.1) all_known) (said_none ps same says.1 said.1)
+      or_from _ _ (or_from _ _ (or_from _ _ (or_from _ _ (or_from _ _ right named.1) fits.0) fits.1) all_known) (said_none ps same says.1 said.1)
 
 -- names beside written types are those that are written, where each says a type
 pub beside_written : (tree : Tree) (params more : List Param) →
@@ -201,7 +179,7 @@ beside_written tree params more e =
     let names = bound_params tree params 0 params in
     let all = sym (list_any-append (λ (p : Param). says_no_type tree names p.term) params more)
     ∙ saying_none tree names (params_beside tree params) (written_known tree params 0 params) (params ++ more) e in
-    as_written (says_no_type tree names) params names refl (neither _ _ all).0
+    as_written (says_no_type tree names) params names refl (or_parts _ _ all).0
 
 -- no type is flawed
 pub all_sound : (tree : Tree) (params more : List Param) →
@@ -212,7 +190,7 @@ pub all_sound : (tree : Tree) (params more : List Param) →
 all_sound tree params more e f =
     let beside = params_beside tree params in
     let names = bound_params tree params 0 params in
-    neither _ _ (sym (list_any-append (λ (p : Param). is_flawed_type tree beside p.term) params more)
+    or_parts _ _ (sym (list_any-append (λ (p : Param). is_flawed_type tree beside p.term) params more)
     ∙ said_none tree names beside (written_known tree params 0 params) (params ++ more) (beside_written tree params more e) e f)
 
 pub bound_written : (tree : Tree) (params more : List Param) →
@@ -237,12 +215,12 @@ pub record Untold (tree : Tree) (i : ItemTree) : Type 0 where
 
 pub untold : (tree : Tree) (i : ItemTree) → first_declared tree i ≡ None → Untold tree i
 untold tree i e =
-    let a = or_none _ _ e in
-    let b = or_none _ _ a.1 in
-    let c = or_none _ _ b.1 in
-    let d = or_none _ _ c.1 in
-    let f = or_none _ _ d.1 in
-    let g = or_none _ _ f.1 in record {
+    let a = option_or_parts _ _ e in
+    let b = option_or_parts _ _ a.1 in
+    let c = option_or_parts _ _ b.1 in
+    let d = option_or_parts _ _ c.1 in
+    let f = option_or_parts _ _ d.1 in
+    let g = option_or_parts _ _ f.1 in record {
       twice = a.0;
       saying = b.0;
       said = c.0;
@@ -255,8 +233,8 @@ fields_none : (fields : List Param) → first_in first_of_field fields ≡ None 
     list_any (λ (p : Param). is_no_field_type p.term) fields ≡ false
 fields_none [] e = refl
 fields_none (p ∷ ps) e =
-    let subexpressions = or_none (first_of_field p) (first_in first_of_field ps) e in
-    none_of_two _ _ (rule_none _ _ (told_none p.line _ subexpressions.0)) (fields_none ps subexpressions.1)
+    let subexpressions = option_or_parts (first_of_field p) (first_in first_of_field ps) e in
+    or_from _ _ (rule_none _ _ (told_none p.line _ subexpressions.0)) (fields_none ps subexpressions.1)
 
 abbrev flaw : Tree → FieldSpace → TypeTerm → Bool
 flaw tree s t = is_no_field_type t || is_flawed_type tree (params_beside tree s.params) t
@@ -267,9 +245,9 @@ flawless : (tree : Tree) (s : FieldSpace) (fields : List Param) →
     list_any (λ (p : Param). flaw tree s p.term) fields ≡ false
 flawless tree s [] e f = refl
 flawless tree s (p ∷ ps) e f =
-    let here = neither _ _ e in
-    let there = neither _ _ f in
-    none_of_two _ _ (none_of_two _ _ here.0 there.0) (flawless tree s ps here.1 there.1)
+    let here = or_parts _ _ e in
+    let there = or_parts _ _ f in
+    or_from _ _ (or_from _ _ here.0 there.0) (flawless tree s ps here.1 there.1)
 
 space_sound : (tree : Tree) (line : ℕ) (s : FieldSpace) →
     first_declared tree (record { line = line; form = space_item s }) ≡ None →
@@ -312,7 +290,7 @@ spaces_sound : (tree items : Tree) → first_in (first_declared tree) items ≡ 
     (k i : ℕ) → flaw tree (get_or (spaces_of items) k nothing) (term_at (get_or (spaces_of items) k nothing).fields i) ≡ false
 spaces_sound tree [] e k i = refl
 spaces_sound tree (item ∷ items) e k i =
-    let subexpressions = or_none (first_declared tree item) (first_in (first_declared tree) items) e in
+    let subexpressions = option_or_parts (first_declared tree item) (first_in (first_declared tree) items) e in
     more_spaces tree item.line item.form items subexpressions.0 (spaces_sound tree items subexpressions.1) k i
 
 -- no field's declaration has a breach
@@ -340,7 +318,7 @@ more_tasks tree line (task_item t) items n e h =
 tasks_sound : (tree items : Tree) → first_in (first_declared tree) items ≡ None → (n : Name) → IsSoundTask tree (task_named items n)
 tasks_sound tree [] e n = no_task_sound tree
 tasks_sound tree (item ∷ items) e n =
-    let subexpressions = or_none (first_declared tree item) (first_in (first_declared tree) items) e in
+    let subexpressions = option_or_parts (first_declared tree item) (first_in (first_declared tree) items) e in
     more_tasks tree item.line item.form items n subexpressions.0 (tasks_sound tree items subexpressions.1 n)
 
 -- the task of a name, also where there is none
@@ -355,10 +333,10 @@ form_untold tree [] form e k h is = absurd (omega (arith, h))
 form_untold tree (i ∷ items) form e zero h is = (
   i.line,
   subst (λ f. first_declared tree (record { line = i.line; form = f }) ≡ None) is
-      (or_none (first_declared tree i) (first_in (first_declared tree) items) e).0,
+      (option_or_parts (first_declared tree i) (first_in (first_declared tree) items) e).0,
 )
 form_untold tree (i ∷ items) form e (suc k) h is =
-    form_untold tree items form (or_none (first_declared tree i) (first_in (first_declared tree) items) e).1 k (omega (arith, h)) is
+    form_untold tree items form (option_or_parts (first_declared tree i) (first_in (first_declared tree) items) e).1 k (omega (arith, h)) is
 
 -- a task among a tree's items
 pub standing_sound : (tree : Tree) → first_in (first_declared tree) tree ≡ None → (t : TaskTree) → StandsIn tree t →
@@ -385,7 +363,7 @@ all_told : (misdeclared : Clause → Bool) (cs : List Clause) → list_any misde
     filter (λ c. not (misdeclared c)) cs ≡ cs
 all_told misdeclared [] e = refl
 all_told misdeclared (c ∷ cs) e =
-    let subexpressions = neither (misdeclared c) (list_any misdeclared cs) e in
+    let subexpressions = or_parts (misdeclared c) (list_any misdeclared cs) e in
     kept (misdeclared c) c (filter (λ c. not (misdeclared c)) cs) cs subexpressions.0 (all_told misdeclared cs subexpressions.1)
 
 abbrev scope_with : List Param → List Bound → List Clause → Scope

@@ -1,3 +1,4 @@
 pub mod Operators
 mod Products
+pub mod SameOps
 pub mod Wraps

@@ -1,10 +1,11 @@
 -- Lists of points and their sets.
-use Rattle.std.proofs.Common.{◌≡◌, ℕ, ◌+◌, ◌<◌, ◌||◌, false, eqb, List, [], ◌∷◌, ◌++◌, length}
+use Rattle.std.proofs.Common.{◌≡◌, ℕ, ◌+◌, ◌<◌, eqb, List, [], ◌∷◌, ◌++◌, length}
 use Rattle.std.proofs.Common.{get_or, take, refl, Some, slice_get, Contains, All, sym, ◌∙◌, arith}
 use Rattle.std.specs.List.{dedup}
 use Rattle.std.specs.List.Retain.{IsFiltered, DiffersFromLast}
 use Rattle.std.specs.List.Sorted.{IsPermutation, IsSorted, IsStrictlyIncreasing}
 use Rattle.std.specs.Ordering.{nat_cmp}
+use Rattle.std.proofs.Math.Bool.{or-false}
 use Rattle.std.proofs.lemmas.Bool.Decides.{same_from_decides}
 use Rattle.std.proofs.lemmas.List.{take_more}
 use Rattle.std.proofs.lemmas.List.Filters.{dedup_is, All-dedup}
@@ -19,10 +20,7 @@ use Rattle.partitions.specs.Links.{set_of}
 
 -- the set of a list has its members
 pub has-set_of : (xs : List ℕ) (z : ℕ) → has (set_of xs) z ≡ has xs z
-has-set_of xs z = has-union_of xs [] z ∙ or_none (has xs z)
-  where
-    or_none : (b : _) → (b || false) ≡ b
-    or_none b = grind arith
+has-set_of xs z = has-union_of xs [] z ∙ or-false (has xs z)
 
 pub rising-set_of : (xs : List ℕ) → IsStrictlyIncreasing (set_of xs)
 rising-set_of xs = rising-union_of xs [] (λ k l. absurd (omega arith))

@@ -4,17 +4,17 @@
 //! a point.
 #![tactic(auto)]
 
+mod equal_sizes;
 mod fields;
 mod images;
 mod links;
 mod listing;
 mod pairwise;
-mod parts;
 
+pub use equal_sizes::equal;
 pub use fields::by_field;
 pub use images::{image, preimage};
 pub use pairwise::{both, either_of, without};
-pub use parts::equal;
 
 /// How many colours a partition may have at most.
 pub const COLOUR_LIMIT: u32 = 65_536;

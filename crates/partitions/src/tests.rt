@@ -316,6 +316,28 @@ fn largest_field(rt: HostRuntime) -> Result<(), Fail> {
     Ok(())
 }
 
+/// How many colours and points an operation gives.
+fn sizes(made: Result<(Vec<PointSet>, bool), AllocError>) -> Result<(usize, u64), AllocError> {
+    let (sets, _) = made?;
+    Ok((sets.len(), total(sets.as_slice())))
+}
+
+#[test]
+fn largest_set_operations(rt: HostRuntime) -> Result<(), Fail> {
+    let alloc = rt.alloc();
+    let region = PointSet::range(alloc, 0, POINT_LIMIT)?;
+    let (sets, _) = equal(alloc, &region, 65_536)?;
+    let parts = sets.as_slice();
+    let same = sizes(both(alloc, parts, parts, true))?;
+    let all = sizes(either_of(alloc, parts, parts))?;
+    let rest = sizes(without(alloc, parts, parts, false))?;
+    assert_eq!(rt;
+        (same, all, rest),
+        ((65_536, 4_194_304), (65_536, 4_194_304), (65_536, 0))
+    );
+    Ok(())
+}
+
 #[test]
 fn large_images(rt: HostRuntime) -> Result<(), Fail> {
     let alloc = rt.alloc();

@@ -95,3 +95,21 @@ fn the_first_breach_is_named(rt: HostRuntime) -> Result<(), Fail> {
     assert_eq!(rt; held.implies_call(&facts, &[]), Ok(()));
     Ok(())
 }
+
+#[test]
+fn many_privileges(rt: HostRuntime) -> Result<(), Fail> {
+    let facts = Facts::new(rt.alloc())?;
+    let mut held = Held::new(rt.alloc())?;
+    for region in 0..100_000 {
+        let access = match region % 3 {
+            0 => Access::Read,
+            1 => Access::Write,
+            _ => SUM,
+        };
+        held.add(region, 0, access)?;
+    }
+    let last = Term::Name(99_999);
+    assert!(rt; held.allows(&facts, &last, 0, Access::Read));
+    assert!(rt; !held.allows(&facts, &last, 0, Access::Write));
+    Ok(())
+}

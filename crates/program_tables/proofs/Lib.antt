@@ -1,3 +1,3 @@
 pub mod Indexing
-pub mod Parts
+pub mod ByKind
 pub mod Chains

@@ -20,14 +20,14 @@ abbrev pub as_aliases : ItemKind → List Name
 as_aliases (kind.Alias n) = n ∷ []
 as_aliases _ = []
 
-abbrev pub tasks_in : List Item → List Task
-tasks_in items = flat_map (λ (i : Item). as_tasks i.what) items
+abbrev pub tasks_among : List Item → List Task
+tasks_among items = flat_map (λ (i : Item). as_tasks i.what) items
 
-abbrev pub spaces_in : List Item → List FieldSpace
-spaces_in items = flat_map (λ (i : Item). as_spaces i.what) items
+abbrev pub spaces_among : List Item → List FieldSpace
+spaces_among items = flat_map (λ (i : Item). as_spaces i.what) items
 
-abbrev pub aliases_in : List Item → List Name
-aliases_in items = flat_map (λ (i : Item). as_aliases i.what) items
+abbrev pub aliases_among : List Item → List Name
+aliases_among items = flat_map (λ (i : Item). as_aliases i.what) items
 
 -- what stands at a place where there is no field space
 abbrev pub no_space : FieldSpace
@@ -35,6 +35,6 @@ no_space = record { name = []; params = []; fields = [] }
 
 -- lists of the items of each kind among a list of items
 pub record AreOfKinds (items : List Item) (tasks : List Task) (spaces : List FieldSpace) (aliases : List Name) : Type 0 where
-  pub tasks_ok : tasks ≡ tasks_in items
-  pub spaces_ok : spaces ≡ spaces_in items
-  pub aliases_ok : aliases ≡ aliases_in items
+  pub tasks_ok : tasks ≡ tasks_among items
+  pub spaces_ok : spaces ≡ spaces_among items
+  pub aliases_ok : aliases ≡ aliases_among items

@@ -60,64 +60,6 @@ fn needs_of(
     Ok(Needs { items })
 }
 
-#[test]
-fn sets_that_share_a_point(rt: HostRuntime) -> Result<(), Fail> {
-    let alloc = rt.alloc();
-    let (mut tree, _, region) = small_tree(alloc)?;
-    let sets = vec![in alloc;
-        PointSet::range(alloc, 0, 2)?,
-        PointSet::range(alloc, 1, 3)?,
-    ]?;
-    let before = tree.next();
-    let answer = tree.add_partition(region, sets, true);
-    let told = matches!(
-        answer,
-        Err(TreeFault::NotDisjoint {
-            a: 0,
-            b: 1,
-            point: 1
-        })
-    );
-    assert!(rt; told);
-    assert_eq!(rt; tree.next(), before);
-    Ok(())
-}
-
-#[test]
-fn a_set_that_leaves(rt: HostRuntime) -> Result<(), Fail> {
-    let alloc = rt.alloc();
-    let (mut tree, _, region) = small_tree(alloc)?;
-    let sets = vec![in alloc; PointSet::range(alloc, 9, 10)?]?;
-    let answer = tree.add_partition(region, sets, true);
-    let told = matches!(
-        answer,
-        Err(TreeFault::NotWithin {
-            colour: 0,
-            point: 9
-        })
-    );
-    assert!(rt; told);
-    Ok(())
-}
-
-#[test]
-fn a_reduction_is_within_a_write(rt: HostRuntime) -> Result<(), Fail> {
-    let alloc = rt.alloc();
-    let (tree, root, region) = small_tree(alloc)?;
-    let rows = [
-        (SUM, Mode::Write, true),
-        (Mode::Read, SUM, false),
-        (SUM, SUM, true),
-        (Mode::Write, Mode::Read, false),
-    ];
-    for (one, other, want) in rows {
-        let ours = needs_of(alloc, &tree, root, region, &[(0, one)])?;
-        let theirs = needs_of(alloc, &tree, root, region, &[(0, other)])?;
-        assert_eq!(rt; within(&tree, &ours, &theirs), want);
-    }
-    Ok(())
-}
-
 /// Needs of a tree's first region: a field for each mode, a few with several, and one with many.
 fn uses_of_each_kind(alloc: Global) -> Result<Vec<(u8, Mode)>, AllocError> {
     let few = [
@@ -168,21 +110,31 @@ fn a_read_and_a_reduction_join_to_a_write(rt: HostRuntime) -> Result<(), Fail> {
     Ok(())
 }
 
+/// Whether two uses of one region interfere, and whether the first is within the second.
 #[test]
-fn uses_of_one_field(rt: HostRuntime) -> Result<(), Fail> {
+fn uses_of_one_region(rt: HostRuntime) -> Result<(), Fail> {
     let alloc = rt.alloc();
     let (tree, root, region) = small_tree(alloc)?;
     let rows = [
-        ((0, Mode::Read), (0, Mode::Read), false),
-        ((0, Mode::Read), (0, Mode::Write), true),
-        ((0, Mode::Write), (1, Mode::Write), false),
-        ((0, SUM), (0, SUM), false),
-        ((0, SUM), (0, LEAST), true),
+        ((0, Mode::Read), (0, Mode::Read), false, true),
+        ((0, Mode::Read), (0, Mode::Write), true, true),
+        ((0, Mode::Write), (0, Mode::Read), true, false),
+        ((0, Mode::Write), (1, Mode::Write), false, false),
+        ((0, SUM), (0, Mode::Write), true, true),
+        ((0, Mode::Read), (0, SUM), true, false),
+        ((0, SUM), (0, SUM), false, true),
+        ((0, SUM), (0, LEAST), true, false),
     ];
-    for (one, other, want) in rows {
+    for (one, other, interfere, inside) in rows {
         let ours = needs_of(alloc, &tree, root, region, &[one])?;
         let theirs = needs_of(alloc, &tree, root, region, &[other])?;
-        assert_eq!(rt; interferes(&tree, &ours, &theirs), want);
+        assert_eq!(rt;
+            (
+                interferes(&tree, &ours, &theirs),
+                within(&tree, &ours, &theirs)
+            ),
+            (interfere, inside)
+        );
     }
     Ok(())
 }
@@ -258,29 +210,37 @@ fn parts_at_a_second_root(rt: HostRuntime) -> Result<(), Fail> {
     Ok(())
 }
 
+/// What an answer tells: two colours and a point that they share, a colour with one that its set has
+/// outside of the region, or nothing.
+fn told(answer: Result<Node, TreeFault>) -> Result<Option<(u32, Option<u32>, u32)>, AllocError> {
+    match answer {
+        Ok(_) => Ok(None),
+        Err(TreeFault::NotWithin { colour, point }) => Ok(Some((colour, None, point))),
+        Err(TreeFault::NotDisjoint { a, b, point }) => Ok(Some((a, Some(b), point))),
+        Err(TreeFault::Memory(error)) => Err(error),
+    }
+}
+
 #[test]
-fn no_partition_wants_memory(rt: HostRuntime) -> Result<(), Fail> {
+fn partitions_are_made_or_refused(rt: HostRuntime) -> Result<(), Fail> {
     let alloc = rt.alloc();
-    let rows: [(&[(u32, u32)], bool); 9] = [
-        (&[], false),
-        (&[], true),
-        (&[(0, 0), (0, 0)], true),
-        (&[(0, 2), (2, 4)], true),
-        (&[(0, 2), (2, 4)], false),
-        (&[(0, 3), (1, 4)], true),
-        (&[(0, 3), (1, 4)], false),
-        (&[(0, 3), (4, 5)], true),
-        (&[(0, 3), (4, 5)], false),
+    let rows: [(&[(u32, u32)], bool, Option<(u32, Option<u32>, u32)>); 9] = [
+        (&[], false, None),
+        (&[], true, None),
+        (&[(0, 0), (0, 0)], true, None),
+        (&[(0, 2), (2, 4)], true, None),
+        (&[(0, 2), (2, 4)], false, None),
+        (&[(0, 3), (1, 4)], true, Some((0, Some(1), 1))),
+        (&[(0, 3), (1, 4)], false, None),
+        (&[(0, 3), (0, 3), (9, 10)], true, Some((2, None, 9))),
+        (&[(0, 3), (2, 5)], false, Some((1, None, 4))),
     ];
-    for (ranges, disjoint) in rows {
+    for (ranges, disjoint, want) in rows {
         let (mut tree, region) = two_roots(alloc, 4)?;
         let sets = sets_of(alloc, ranges)?;
         assert!(rt; sets.len() < 10);
         let answer = tree.add_partition(region, sets, disjoint);
-        assert!(rt;
-            !matches!(answer, Err(TreeFault::Memory(_))),
-            "{ranges:?} {disjoint}"
-        );
+        assert_eq!(rt; told(answer)?, want, "{ranges:?} {disjoint}");
     }
     Ok(())
 }

@@ -134,14 +134,6 @@ pub and_false : (a b : Bool) → false ≡ a → (a && b) ≡ false
 and_false true b h = absurd cc
 and_false false b h = refl
 
-pub both_left : (a b : Bool) → (a && b) ≡ true → a ≡ true
-both_left true b h = refl
-both_left false b h = absurd cc
-
-pub both_right : (a b : Bool) → (a && b) ≡ true → b ≡ true
-both_right true b h = h
-both_right false b h = absurd cc
-
 pub sum_begins : (names : List Binding) (e : Expression) (ls : Links) → true ≡ is_sum names e → is_sum names (chain_expr e ls) ≡ are_links names ls
 sum_begins names e ls h = and_true (is_sum names e) (are_links names ls) h
 

@@ -25,8 +25,9 @@ use Rattle.straight_run.specs.Inputs.{are_inputs, is_input, width_said}
 use Rattle.straight_run.specs.Parameters.{given, with_inputs}
 use Rattle.straight_run.specs.RunningForm.{Binding, are_in_order, are_parameters, bound_by, bound_in, is_bound, is_empty, is_integer, is_running_task, are_running_items, main_task}
 use Rattle.straight_run.specs.Variables.{Executes, Prints, bindings_of, bound_before, scope_with, no_scope, values_of}
-use Rattle.straight_run.proofs.ChainLaws.{and_true, both_left, both_right}
+use Rattle.straight_run.proofs.ChainLaws.{and_true}
 use Rattle.straight_run.proofs.StatementLaws.{integer_said}
+use Rattle.plain_values.proofs.Plain.{and_first, and_second}
 
 pub body_prints : (old new : Machine) (vs : List Variable) (body : Block) → old.variables.items ≡ vs → old.text.items ≡ [] → Executes old body new → Prints vs body new.text.items
 body_prints old new vs body begins nothing m = record {
@@ -46,12 +47,12 @@ no_items (x ∷ xs) h = absurd cc
 
 -- what a list of parameters in order says of its first one, and of the others
 first_integer : (bs : List Binding) (p : Param) (ps : List Param) → are_parameters bs (p ∷ ps) ≡ true → is_integer p.term ≡ true
-first_integer bs p ps h = both_left (is_integer p.term) (not (is_bound bs p.name) && are_parameters (bound_by p ∷ bs) ps) h
+first_integer bs p ps h = and_first (is_integer p.term) (not (is_bound bs p.name) && are_parameters (bound_by p ∷ bs) ps) h
 
 others_in_order : (bs : List Binding) (p : Param) (ps : List Param) → are_parameters bs (p ∷ ps) ≡ true → are_parameters (bound_by p ∷ bs) ps ≡ true
 others_in_order bs p ps h =
-    both_right (not (is_bound bs p.name)) (are_parameters (bound_by p ∷ bs) ps)
-    (both_right (is_integer p.term) (not (is_bound bs p.name) && are_parameters (bound_by p ∷ bs) ps) h)
+    and_second (not (is_bound bs p.name)) (are_parameters (bound_by p ∷ bs) ps)
+    (and_second (is_integer p.term) (not (is_bound bs p.name) && are_parameters (bound_by p ∷ bs) ps) h)
 
 -- the names that are bound where the body begins
 pub bound_with : (ps : List Param) (zs : List (Option ℤ)) (bs : List Binding) → bound_before bs (with_inputs ps zs) ≡ bound_in bs ps
@@ -117,8 +118,8 @@ numbers_given [] (z ∷ zs) h = refl
 numbers_given (p ∷ ps) [] h = absurd cc
 numbers_given (p ∷ ps) (z ∷ zs) h =
     let w = width_said p.term in
-    ap (λ y. a_number w y ∷ inputs_of (map integer_of ps) zs) (sym (given_fits w z (both_left (is_input w (Some z)) (are_inputs ps (map Some zs)) h)))
-    ∙ ap (λ vs. a_number w (given w (Some z)) ∷ vs) (numbers_given ps zs (both_right (is_input w (Some z)) (are_inputs ps (map Some zs)) h))
+    ap (λ y. a_number w y ∷ inputs_of (map integer_of ps) zs) (sym (given_fits w z (and_first (is_input w (Some z)) (are_inputs ps (map Some zs)) h)))
+    ∙ ap (λ vs. a_number w (given w (Some z)) ∷ vs) (numbers_given ps zs (and_second (is_input w (Some z)) (are_inputs ps (map Some zs)) h))
 
 entered_are : (s : Scope) (all : List Value) (ps : List Param) (us : List Value) → entered s all (map integer_of ps) us ≡ us
 entered_are s all [] us = refl
@@ -141,13 +142,13 @@ begins_in tree t zs params clauses =
 
 -- what the task's clauses of the running form say
 params_of : (t : TaskTree) → is_running_task t ≡ true → are_parameters [] t.params ≡ true
-params_of t h = both_left (are_parameters [] t.params) (not (is_some t.result) && (is_empty t.clauses && are_in_order (bound_in [] t.params) t.body)) h
+params_of t h = and_first (are_parameters [] t.params) (not (is_some t.result) && (is_empty t.clauses && are_in_order (bound_in [] t.params) t.body)) h
 
 clauses_of : (t : TaskTree) → is_running_task t ≡ true → t.clauses ≡ []
 clauses_of t h =
-    empty_is t.clauses (both_left (is_empty t.clauses) (are_in_order (bound_in [] t.params) t.body)
-    (both_right (not (is_some t.result)) (is_empty t.clauses && are_in_order (bound_in [] t.params) t.body)
-    (both_right (are_parameters [] t.params) (not (is_some t.result) && (is_empty t.clauses && are_in_order (bound_in [] t.params) t.body)) h)))
+    empty_is t.clauses (and_first (is_empty t.clauses) (are_in_order (bound_in [] t.params) t.body)
+    (and_second (not (is_some t.result)) (is_empty t.clauses && are_in_order (bound_in [] t.params) t.body)
+    (and_second (are_parameters [] t.params) (not (is_some t.result) && (is_empty t.clauses && are_in_order (bound_in [] t.params) t.body)) h)))
 
 task_prints : (tree : Tree) (calls : Calls) (turns : ℕ) (t : TaskTree) (zs : List ℤ) (text : List ℕ) → is_running_task t ≡ true →
     are_inputs t.params (map Some zs) ≡ true → Prints (with_inputs t.params (map Some zs)) t.body text →

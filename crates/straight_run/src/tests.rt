@@ -2,8 +2,8 @@
 
 use crate::{Answer, run};
 use regent_tree::{
-    Arithmetic, Expr, How, Init, Item, ItemKind, Link, Name, NumberTerm, Operator, Param, Program,
-    Sequence, Sign, Stmt, Task, TypeTerm, What, Width,
+    Arithmetic, Expr, How, Init, Item, ItemKind, Link, Name, NumberTerm, Op, Operator, Param,
+    Program, Sequence, Sign, Stmt, Task, TypeTerm, What, Width,
 };
 use std::alloc::{AllocError, Global};
 use std::process::Abort;
@@ -131,6 +131,185 @@ fn statements_run(rt: HostRuntime) -> Result<(), Fail> {
     Ok(())
 }
 
+/// What stands behind `var x : int64 = 5` in a row.
+#[derive(Clone, Copy, Debug)]
+enum Form {
+    /// `var x : int64`
+    WithoutInitializer,
+    /// `var x = 7`
+    WithoutType,
+    /// `var x`
+    WithNeither,
+    /// `x = x o 7`, with an operator o
+    SetBy(Arithmetic),
+    /// `x += 7`
+    Reduced,
+    /// `x = not x`
+    Negated,
+    /// `c.printf("%d", x)`, with an alias c
+    Aliased,
+    /// A `printf` of x by a text
+    Printed(&'static [u8]),
+    /// `return`
+    Returned,
+}
+
+fn var_of(alloc: Global, term: Option<TypeTerm>, init: Option<Init>) -> Result<What, AllocError> {
+    let name = Name::from_slice(alloc, b"x".as_slice())?;
+    Ok(What::Var { name, term, init })
+}
+
+fn reduced(alloc: Global) -> Result<What, AllocError> {
+    Ok(What::Assign {
+        target: Name::from_slice(alloc, b"x".as_slice())?,
+        steps: Vec::new(alloc),
+        how: How::Reduce(Op::Sum),
+        value: number(7),
+    })
+}
+
+fn aliased(alloc: Global) -> Result<What, AllocError> {
+    Ok(What::Print {
+        alias: Some(Name::from_slice(alloc, b"c".as_slice())?),
+        format: Sequence::from_slice(alloc, b"%d".as_slice())?,
+        args: Vec::new(alloc),
+    })
+}
+
+/// x behind a prefix.
+fn prefixed(alloc: Global, sign: Sign) -> Result<Expr, AllocError> {
+    let inner = Box::new(alloc, x(alloc)?)?;
+    Ok(Expr::prefix(Sequence::from_slice(alloc, &[sign])?, inner))
+}
+
+fn statement(alloc: Global, form: Form) -> Result<What, AllocError> {
+    match form {
+        Form::WithoutInitializer => {
+            var_of(alloc, Some(TypeTerm::Number(NumberTerm::Int64)), None)
+        }
+        Form::WithoutType => var_of(alloc, None, Some(Init::Plain(number(7)))),
+        Form::WithNeither => var_of(alloc, None, None),
+        Form::SetBy(operator) => set_x(alloc, pair(alloc, x(alloc)?, operator, number(7))?),
+        Form::Reduced => reduced(alloc),
+        Form::Negated => set_x(alloc, prefixed(alloc, Sign::Not)?),
+        Form::Aliased => aliased(alloc),
+        Form::Printed(format) => printf(alloc, format, x(alloc)?),
+        Form::Returned => Ok(What::Return { value: None }),
+    }
+}
+
+/// A statement of a row: `var x : int64 = 5`, the row's own, or a print of x.
+fn statement_at(alloc: Global, form: Form, place: usize) -> Result<What, AllocError> {
+    match place {
+        0 => var_x(alloc, number(5)),
+        1 => statement(alloc, form),
+        _ => show_x(alloc),
+    }
+}
+
+fn row(alloc: Global, form: Form) -> Result<Vec<What>, AllocError> {
+    let mut statements = Vec::new(alloc);
+    for place in 0..3 {
+        statements.push(statement_at(alloc, form, place)?)?;
+    }
+    Ok(statements)
+}
+
+#[test]
+fn each_form_is_answered(rt: HostRuntime) -> Result<(), Fail> {
+    let alloc = rt.alloc();
+    let rows: [(Form, &[u8]); 13] = [
+        (Form::WithoutInitializer, b"0"),
+        (Form::WithoutType, b"7"),
+        (Form::WithNeither, b"-"),
+        (Form::SetBy(Arithmetic::Add), b"12"),
+        (Form::SetBy(Arithmetic::Subtract), b"-2"),
+        (Form::SetBy(Arithmetic::Multiply), b"35"),
+        (Form::SetBy(Arithmetic::Divide), b"-"),
+        (Form::Reduced, b"-"),
+        (Form::Negated, b"-"),
+        (Form::Aliased, b"-"),
+        (Form::Printed(b"%%%d; "), b"%5; 5"),
+        (Form::Printed(b"%d %ld"), b"-"),
+        (Form::Returned, b"-"),
+    ];
+    for (form, want) in rows {
+        let text = told(alloc, None, row(alloc, form)?, &[])?;
+        assert_eq!(rt; text.as_slice(), want, "{form:?}");
+    }
+    Ok(())
+}
+
+/// An item behind the task `main`.
+#[derive(Clone, Copy, Debug)]
+enum Further {
+    Import,
+    Alias,
+    Start(&'static [u8]),
+    Task(&'static [u8]),
+}
+
+fn item_of(alloc: Global, item: Further) -> Result<ItemKind, AllocError> {
+    match item {
+        Further::Import => Ok(ItemKind::Import),
+        Further::Alias => Ok(ItemKind::Alias {
+            name: Name::from_slice(alloc, b"c".as_slice())?,
+        }),
+        Further::Start(name) => Ok(ItemKind::Start {
+            name: Name::from_slice(alloc, name)?,
+        }),
+        Further::Task(name) => Ok(ItemKind::Task(Task {
+            name: Name::from_slice(alloc, name)?,
+            params: Sequence::new(alloc),
+            result: None,
+            clauses: Sequence::new(alloc),
+            body: Vec::new(alloc),
+        })),
+    }
+}
+
+#[test]
+fn each_item_is_answered(rt: HostRuntime) -> Result<(), Fail> {
+    let alloc = rt.alloc();
+    for (item, runs) in [
+        (Further::Import, true),
+        (Further::Alias, false),
+        (Further::Start(b"main"), true),
+        (Further::Start(b"other"), false),
+        (Further::Task(b"main"), false),
+        (Further::Task(b"other"), false),
+    ] {
+        let mut program = program(alloc, None, Vec::new(alloc))?;
+        program.items.push(Item {
+            line: 1,
+            what: item_of(alloc, item)?,
+        })?;
+        let answer = run(alloc, &program, &[])?;
+        assert_eq!(rt; matches!(answer, Answer::Printed(_)), runs, "{item:?}");
+    }
+    Ok(())
+}
+
+/// The statement that prints 100,000 bytes and a number behind them.
+fn long_print(alloc: Global) -> Result<What, AllocError> {
+    let mut format = vec![in alloc; b'.'; 100_000]?;
+    format.extend_from_slice(b"%d".as_slice())?;
+    printf(alloc, format.as_slice(), number(-12))
+}
+
+#[test]
+fn a_long_text_is_printed(rt: HostRuntime) -> Result<(), Fail> {
+    let alloc = rt.alloc();
+    let mut statements = Vec::new(alloc);
+    statements.push(long_print(alloc)?)?;
+    let text = told(alloc, None, statements, &[])?;
+    assert_eq!(rt;
+        (text.len(), text.as_slice().last().copied()),
+        (100_003, Some(b'2'))
+    );
+    Ok(())
+}
+
 /// A product wraps at 32 bits before it is widened.
 #[test]
 fn products_wrap(rt: HostRuntime) -> Result<(), Fail> {
@@ -160,12 +339,7 @@ fn names_are_bound(rt: HostRuntime) -> Result<(), Fail> {
 
 /// The parameter behind a `-`, where this number is given for it.
 fn negative_of(alloc: Global, term: NumberTerm, input: Option<i64>) -> Result<Vec<u8>, AllocError> {
-    let mut signs = Vec::new(alloc);
-    signs.push(Sign::Minus)?;
-    let negative = Expr::Prefix {
-        signs: Sequence::from_vec(signs),
-        inner: Box::new(alloc, x(alloc)?)?,
-    };
+    let negative = prefixed(alloc, Sign::Minus)?;
     let mut statements = Vec::new(alloc);
     statements.push(printf(alloc, b"%lld".as_slice(), negative)?)?;
     told(alloc, Some(term), statements, &[input])

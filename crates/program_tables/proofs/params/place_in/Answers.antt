@@ -1,7 +1,7 @@
 use Rattle.std.proofs.Common.{ap, ◌∙◌, is_some}
 use Rattle.regent_tree.specs.declared.types.Param.{Param}
 use Rattle.program_tables.specs.Lookups.{is_named}
-use Rattle.program_tables.proofs.Parts.{is_some-position, none_is_end}
+use Rattle.program_tables.proofs.ByKind.{is_some-position, none_is_end}
 use Rattle.program_tables.proofs.params.place_in.Goals as goal
 
 pub returns-clause-found : goal.returns-clause-found

@@ -2,7 +2,7 @@ use Rattle.std.proofs.Common.{◌≡◌, ap, ◌∙◌, unwrap_or, length, rules
 use Rattle.regent_tree.specs.StaticTypes.{place_in}
 use Rattle.regent_tree.specs.declared.types.Param.{Param}
 use Rattle.program_tables.specs.Lookups.{is_named}
-use Rattle.program_tables.proofs.Parts.{place_or_len}
+use Rattle.program_tables.proofs.ByKind.{place_or_len}
 use Rattle.program_tables.proofs.params.place_or_len.Goals as goal
 
 pub returns : goal.returns

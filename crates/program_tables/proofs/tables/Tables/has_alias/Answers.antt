@@ -1,5 +1,5 @@
 use Rattle.std.proofs.Common.{◌∙◌}
-use Rattle.program_tables.proofs.Parts.{alias_found}
+use Rattle.program_tables.proofs.ByKind.{alias_found}
 use Rattle.program_tables.proofs.tables.Tables.has_alias.Goals as goal
 
 pub returns : goal.returns

@@ -1,5 +1,5 @@
 use Rattle.std.proofs.Common.{◌∙◌}
-use Rattle.program_tables.proofs.Parts.{place_or_count}
+use Rattle.program_tables.proofs.ByKind.{place_or_count}
 use Rattle.program_tables.proofs.tables.Tables.place_of_space.Goals as goal
 
 pub returns : goal.returns

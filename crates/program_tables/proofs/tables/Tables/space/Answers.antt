@@ -1,4 +1,4 @@
-use Rattle.program_tables.proofs.Parts.{space_found, space_place, space_within}
+use Rattle.program_tables.proofs.ByKind.{space_found, space_place, space_within}
 use Rattle.program_tables.proofs.tables.Tables.space.Goals as goal
 
 pub returns-clause-found : goal.returns-clause-found

@@ -2,7 +2,7 @@ use Rattle.std.proofs.Common.{◌≡◌, ap, ◌∙◌, slice_get}
 use Rattle.regent_tree.specs.PlainProgram.{tree_of}
 use Rattle.regent_tree.specs.StaticTypes.{space_at}
 use Rattle.regent_tree.specs.declared.program.FieldSpace.{FieldSpace}
-use Rattle.program_tables.proofs.Parts.{get_found, get_is, get_missing, copied_then, spaces_are}
+use Rattle.program_tables.proofs.ByKind.{get_found, get_is, get_missing, copied_then, spaces_are}
 use Rattle.program_tables.proofs.tables.Tables.space_at.Goals as goal
 
 pub returns-clause-found : goal.returns-clause-found

@@ -1,4 +1,4 @@
-use Rattle.program_tables.proofs.Parts.{task_found, task_is, task_missing}
+use Rattle.program_tables.proofs.ByKind.{task_found, task_is, task_missing}
 use Rattle.program_tables.proofs.tables.Tables.task.Goals as goal
 
 pub returns-clause-found : goal.returns-clause-found

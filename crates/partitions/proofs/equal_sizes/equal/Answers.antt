@@ -3,7 +3,7 @@ use Rattle.regent_tree.specs.Partitions.{equal_part}
 use Rattle.partitions.proofs.Apart.{equal_apart}
 use Rattle.partitions.proofs.Colours.{colours_more}
 use Rattle.partitions.proofs.Inside.{equal_parts}
-use Rattle.partitions.proofs.parts.equal.Goals as goal
+use Rattle.partitions.proofs.equal_sizes.equal.Goals as goal
 
 pub loop-colour-preserved : goal.loop-colour-preserved
 loop-colour-preserved c =

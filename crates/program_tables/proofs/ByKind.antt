@@ -19,39 +19,39 @@ use Rattle.regent_tree.specs.Lookup.{has_task, has_alias, has_space}
 use Rattle.regent_tree.specs.PlainProgram.{item_tree_of, task_of, tree_of}
 use Rattle.regent_tree.specs.StaticTypes.{spaces_of, no_task, task_named, place_of_space}
 use Rattle.regent_tree.specs.Syntax.{Name, TaskTree, Tree}
-use Rattle.program_tables.specs.Kinds.{tasks_in, spaces_in, aliases_in}
+use Rattle.program_tables.specs.Kinds.{tasks_among, spaces_among, aliases_among}
 use Rattle.program_tables.specs.Lookups.{is_named, place_named, first_named, any_named}
 
-pub spaces_of-items : (items : List Item) → spaces_of (map item_tree_of items) ≡ spaces_in items
+pub spaces_of-items : (items : List Item) → spaces_of (map item_tree_of items) ≡ spaces_among items
 spaces_of-items [] = refl
 spaces_of-items (i ∷ items) = by i.what (spaces_of-items items)
   where
-    by : (k : ItemKind) → spaces_of (map item_tree_of items) ≡ spaces_in items →
-        spaces_of (map item_tree_of (record i { what = k } ∷ items)) ≡ spaces_in (record i { what = k } ∷ items)
+    by : (k : ItemKind) → spaces_of (map item_tree_of items) ≡ spaces_among items →
+        spaces_of (map item_tree_of (record i { what = k } ∷ items)) ≡ spaces_among (record i { what = k } ∷ items)
     by (kind.Space s) h = ap (λ r. s ∷ r) h
     by kind.Import h = h
     by (kind.Alias n) h = h
     by (kind.Task t) h = h
     by (kind.Start n) h = h
 
-pub has_task-items : (items : List Item) (n : Name) → has_task (map item_tree_of items) n ≡ any_named (λ (t : Task). t.name) (tasks_in items) n
+pub has_task-items : (items : List Item) (n : Name) → has_task (map item_tree_of items) n ≡ any_named (λ (t : Task). t.name) (tasks_among items) n
 has_task-items [] n = refl
 has_task-items (i ∷ items) n = by i.what (has_task-items items n)
   where
-    by : (k : ItemKind) → has_task (map item_tree_of items) n ≡ any_named (λ (t : Task). t.name) (tasks_in items) n →
-        has_task (map item_tree_of (record i { what = k } ∷ items)) n ≡ any_named (λ (t : Task). t.name) (tasks_in (record i { what = k } ∷ items)) n
+    by : (k : ItemKind) → has_task (map item_tree_of items) n ≡ any_named (λ (t : Task). t.name) (tasks_among items) n →
+        has_task (map item_tree_of (record i { what = k } ∷ items)) n ≡ any_named (λ (t : Task). t.name) (tasks_among (record i { what = k } ∷ items)) n
     by (kind.Task t) h = ap (λ b. bytes_eq t.name n || b) h
     by kind.Import h = h
     by (kind.Alias m) h = h
     by (kind.Space s) h = h
     by (kind.Start m) h = h
 
-pub has_alias-items : (items : List Item) (n : Name) → has_alias (map item_tree_of items) n ≡ any_named (λ (m : Name). m) (aliases_in items) n
+pub has_alias-items : (items : List Item) (n : Name) → has_alias (map item_tree_of items) n ≡ any_named (λ (m : Name). m) (aliases_among items) n
 has_alias-items [] n = refl
 has_alias-items (i ∷ items) n = by i.what (has_alias-items items n)
   where
-    by : (k : ItemKind) → has_alias (map item_tree_of items) n ≡ any_named (λ (m : Name). m) (aliases_in items) n →
-        has_alias (map item_tree_of (record i { what = k } ∷ items)) n ≡ any_named (λ (m : Name). m) (aliases_in (record i { what = k } ∷ items)) n
+    by : (k : ItemKind) → has_alias (map item_tree_of items) n ≡ any_named (λ (m : Name). m) (aliases_among items) n →
+        has_alias (map item_tree_of (record i { what = k } ∷ items)) n ≡ any_named (λ (m : Name). m) (aliases_among (record i { what = k } ∷ items)) n
     by (kind.Alias m) h = ap (λ b. bytes_eq m n || b) h
     by kind.Import h = h
     by (kind.Task t) h = h
@@ -62,7 +62,7 @@ abbrev IsTaskNamed : Tree → Name → Task → Type 0
 IsTaskNamed tree n t = task_of t ≡ task_named tree n
 
 pub task_named-items : (items : List Item) (n : Name) →
-    IfSome (first_named (λ (t : Task). t.name) (tasks_in items) n) (λ t. task_of t ≡ task_named (map item_tree_of items) n)
+    IfSome (first_named (λ (t : Task). t.name) (tasks_among items) n) (λ t. task_of t ≡ task_named (map item_tree_of items) n)
 task_named-items [] n = tt
 task_named-items (i ∷ items) n = by i.what (task_named-items items n)
   where
@@ -71,15 +71,15 @@ task_named-items (i ∷ items) n = by i.what (task_named-items items n)
     on true t rest o h = refl
     on false t rest o h = h
 
-    by : (k : ItemKind) → IfSome (first_named (λ (t : Task). t.name) (tasks_in items) n) (λ t. task_of t ≡ task_named (map item_tree_of items) n) →
-        IfSome (first_named (λ (t : Task). t.name) (tasks_in (record i { what = k } ∷ items)) n) (λ t. task_of t ≡ task_named (map item_tree_of (record i { what = k } ∷ items)) n)
-    by (kind.Task t) h = on (bytes_eq t.name n) t (task_named (map item_tree_of items) n) (first_named (λ (u : Task). u.name) (tasks_in items) n) h
+    by : (k : ItemKind) → IfSome (first_named (λ (t : Task). t.name) (tasks_among items) n) (λ t. task_of t ≡ task_named (map item_tree_of items) n) →
+        IfSome (first_named (λ (t : Task). t.name) (tasks_among (record i { what = k } ∷ items)) n) (λ t. task_of t ≡ task_named (map item_tree_of (record i { what = k } ∷ items)) n)
+    by (kind.Task t) h = on (bytes_eq t.name n) t (task_named (map item_tree_of items) n) (first_named (λ (u : Task). u.name) (tasks_among items) n) h
     by kind.Import h = h
     by (kind.Alias m) h = h
     by (kind.Space s) h = h
     by (kind.Start m) h = h
 
-pub no_task-items : (items : List Item) (n : Name) → first_named (λ (t : Task). t.name) (tasks_in items) n ≡ None → task_named (map item_tree_of items) n ≡ no_task
+pub no_task-items : (items : List Item) (n : Name) → first_named (λ (t : Task). t.name) (tasks_among items) n ≡ None → task_named (map item_tree_of items) n ≡ no_task
 no_task-items [] n none = refl
 no_task-items (i ∷ items) n none = by i.what none (no_task-items items n)
   where
@@ -88,10 +88,10 @@ no_task-items (i ∷ items) n none = by i.what none (no_task-items items n)
     on true t o e h = absurd (true≢false (ap is_some e))
     on false t o e h = h e
 
-    by : (k : ItemKind) → first_named (λ (t : Task). t.name) (tasks_in (record i { what = k } ∷ items)) n ≡ None →
-        (first_named (λ (t : Task). t.name) (tasks_in items) n ≡ None → task_named (map item_tree_of items) n ≡ no_task) →
+    by : (k : ItemKind) → first_named (λ (t : Task). t.name) (tasks_among (record i { what = k } ∷ items)) n ≡ None →
+        (first_named (λ (t : Task). t.name) (tasks_among items) n ≡ None → task_named (map item_tree_of items) n ≡ no_task) →
         task_named (map item_tree_of (record i { what = k } ∷ items)) n ≡ no_task
-    by (kind.Task t) e h = on (bytes_eq t.name n) t (first_named (λ (u : Task). u.name) (tasks_in items) n) e h
+    by (kind.Task t) e h = on (bytes_eq t.name n) t (first_named (λ (u : Task). u.name) (tasks_among items) n) e h
     by kind.Import e h = h e
     by (kind.Alias m) e h = h e
     by (kind.Space s) e h = h e
@@ -151,7 +151,7 @@ get_missing xs i d (Some x) e = tt
 get_missing xs i d None e = sym (unwrap_or-slice_get xs i d) ∙ ap (λ o. unwrap_or o d) (sym e)
 
 -- the field spaces of a program's tree
-pub spaces_are : (p q : Program) (spaces : List FieldSpace) → p ≡ q → spaces ≡ spaces_in p.items.items → spaces ≡ spaces_of (tree_of q)
+pub spaces_are : (p q : Program) (spaces : List FieldSpace) → p ≡ q → spaces ≡ spaces_among p.items.items → spaces ≡ spaces_of (tree_of q)
 spaces_are p q spaces same is = is ∙ sym (spaces_of-items p.items.items) ∙ ap (λ r. spaces_of (tree_of r)) same
 
 -- a place that a look-up finds, or the length, is the first place
@@ -185,44 +185,44 @@ abbrev own_name : Name → Name
 own_name n = n
 
 module _ (p q : Program) (n : Name) (same : p ≡ q) where
-  pub task_found : (tasks : List Task) (o : Option (Bor Task)) → tasks ≡ tasks_in p.items.items → option_copied o ≡ first_named task_name tasks n →
+  pub task_found : (tasks : List Task) (o : Option (Bor Task)) → tasks ≡ tasks_among p.items.items → option_copied o ≡ first_named task_name tasks n →
       is_some o ≡ has_task (tree_of q) n
   task_found tasks o are is = is_some-copied o ∙ ap is_some is ∙ ap (λ l. is_some (first_named task_name l n)) are
-      ∙ is_some-find (is_named task_name n) (tasks_in p.items.items) ∙ sym (has_task-items p.items.items n) ∙ ap (λ r. has_task (tree_of r) n) same
+      ∙ is_some-find (is_named task_name n) (tasks_among p.items.items) ∙ sym (has_task-items p.items.items n) ∙ ap (λ r. has_task (tree_of r) n) same
 
-  pub task_is : (tasks : List Task) (o : Option (Bor Task)) → tasks ≡ tasks_in p.items.items → option_copied o ≡ first_named task_name tasks n →
+  pub task_is : (tasks : List Task) (o : Option (Bor Task)) → tasks ≡ tasks_among p.items.items → option_copied o ≡ first_named task_name tasks n →
       IfSome o (λ t. task_of t.now ≡ task_named (tree_of q) n)
-  task_is tasks o are is = copied_then (λ (t : Task). task_of t ≡ task_named (tree_of q) n) o (first_named task_name (tasks_in p.items.items) n)
+  task_is tasks o are is = copied_then (λ (t : Task). task_of t ≡ task_named (tree_of q) n) o (first_named task_name (tasks_among p.items.items) n)
       (is ∙ ap (λ l. first_named task_name l n) are)
-      (subst (λ r. IfSome (first_named task_name (tasks_in p.items.items) n) (λ t. task_of t ≡ task_named (tree_of r) n)) same (task_named-items p.items.items n))
+      (subst (λ r. IfSome (first_named task_name (tasks_among p.items.items) n) (λ t. task_of t ≡ task_named (tree_of r) n)) same (task_named-items p.items.items n))
 
-  pub task_missing : (tasks : List Task) (o : Option (Bor Task)) → tasks ≡ tasks_in p.items.items → option_copied o ≡ first_named task_name tasks n →
+  pub task_missing : (tasks : List Task) (o : Option (Bor Task)) → tasks ≡ tasks_among p.items.items → option_copied o ≡ first_named task_name tasks n →
       IfNone o (task_named (tree_of q) n ≡ no_task)
   task_missing tasks (Some t) are is = tt
   task_missing tasks None are is = ap (λ r. task_named (tree_of r) n) (sym same)
       ∙ no_task-items p.items.items n (ap (λ l. first_named task_name l n) (sym are) ∙ sym is)
 
-  pub space_found : (spaces : List FieldSpace) (o : Option ℕ) → spaces ≡ spaces_in p.items.items → o ≡ place_named space_name spaces n →
+  pub space_found : (spaces : List FieldSpace) (o : Option ℕ) → spaces ≡ spaces_among p.items.items → o ≡ place_named space_name spaces n →
       is_some o ≡ has_space (tree_of q) n
   space_found spaces o are is = ap is_some is ∙ is_some-position (is_named space_name n) spaces
       ∙ ap (list_any (is_named space_name n)) (spaces_are p q spaces same are)
 
-  pub space_place : (spaces : List FieldSpace) (o : Option ℕ) → spaces ≡ spaces_in p.items.items → o ≡ place_named space_name spaces n →
+  pub space_place : (spaces : List FieldSpace) (o : Option ℕ) → spaces ≡ spaces_among p.items.items → o ≡ place_named space_name spaces n →
       IfSome o (λ i. i ≡ place_of_space (tree_of q) n)
   space_place spaces o are is = subst (λ r. IfSome r (λ i. i ≡ place_of_space (tree_of q) n)) (sym is)
       (subst (λ l. IfSome (place_named space_name spaces n) (λ i. i ≡ position_or_len (is_named space_name n) l)) (spaces_are p q spaces same are)
       (position_is_first (is_named space_name n) spaces))
 
-  pub space_within : (spaces : List FieldSpace) (o : Option ℕ) → spaces ≡ spaces_in p.items.items → o ≡ place_named space_name spaces n →
+  pub space_within : (spaces : List FieldSpace) (o : Option ℕ) → spaces ≡ spaces_among p.items.items → o ≡ place_named space_name spaces n →
       IfSome o (λ i. i < length (spaces_of (tree_of q)))
   space_within spaces o are is = subst (λ l. IfSome o (λ i. i < length l)) (spaces_are p q spaces same are) (position_within (is_named space_name n) spaces o is)
 
-  pub place_or_count : (spaces : List FieldSpace) (o : Option ℕ) (count : ℕ) → spaces ≡ spaces_in p.items.items → o ≡ place_named space_name spaces n →
+  pub place_or_count : (spaces : List FieldSpace) (o : Option ℕ) (count : ℕ) → spaces ≡ spaces_among p.items.items → o ≡ place_named space_name spaces n →
       count ≡ length spaces → unwrap_or o count ≡ place_of_space (tree_of q) n
   place_or_count spaces o count are is counted = (λ j. unwrap_or (is j) (counted j)) ∙ place_or_len (is_named space_name n) spaces
       ∙ ap (position_or_len (is_named space_name n)) (spaces_are p q spaces same are)
 
-  pub alias_found : (aliases : List Name) (o : Option ℕ) → aliases ≡ aliases_in p.items.items → o ≡ place_named own_name aliases n →
+  pub alias_found : (aliases : List Name) (o : Option ℕ) → aliases ≡ aliases_among p.items.items → o ≡ place_named own_name aliases n →
       is_some o ≡ has_alias (tree_of q) n
   alias_found aliases o are is = ap is_some is ∙ is_some-position (is_named own_name n) aliases
       ∙ ap (list_any (is_named own_name n)) are ∙ sym (has_alias-items p.items.items n) ∙ ap (λ r. has_alias (tree_of r) n) same
