@@ -1,5 +1,5 @@
 use Rattle.std.specs.Prelude.{refl}
-use Rattle.check_examples.specs.ItemExamples.{wrong_clauses_breaks, wrong_returns_breaks, nothing_to_start_breaks, wrong_starts_breaks, demanded_loops_breaks}
+use Rattle.check_examples.specs.ItemExamples.{calls_by_wrong_clauses_breaks, wrong_clauses_breaks, wrong_returns_breaks, nothing_to_start_breaks, wrong_starts_breaks, demanded_loops_breaks}
 
 pub wrong_clauses_holds : wrong_clauses_breaks
 wrong_clauses_holds = refl
@@ -15,3 +15,6 @@ wrong_starts_holds = refl
 
 pub demanded_loops_holds : demanded_loops_breaks
 demanded_loops_holds = refl
+
+pub calls_by_wrong_clauses_holds : calls_by_wrong_clauses_breaks
+calls_by_wrong_clauses_holds = refl

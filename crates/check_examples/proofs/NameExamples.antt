@@ -1,5 +1,5 @@
 use Rattle.std.specs.Prelude.{refl}
-use Rattle.check_examples.specs.NameExamples.{after_unknown_breaks, beside_the_unbound_breaks, causes_alone_breaks, clause_on_nothing_breaks, missing_things_breaks, named_by_each_other_breaks, parameter_of_no_type_breaks, past_its_block_breaks, pointer_into_unknown_breaks, pointer_to_number_breaks, two_of_a_name_breaks, unbound_name_breaks}
+use Rattle.check_examples.specs.NameExamples.{parameters_of_one_name_breaks, after_unknown_breaks, beside_the_unbound_breaks, causes_alone_breaks, clause_on_nothing_breaks, missing_things_breaks, named_by_each_other_breaks, parameter_of_no_type_breaks, past_its_block_breaks, pointer_into_unknown_breaks, pointer_to_number_breaks, two_of_a_name_breaks, unbound_name_breaks}
 
 pub unbound_name_holds : unbound_name_breaks
 unbound_name_holds = refl
@@ -36,3 +36,6 @@ parameter_of_no_type_holds = refl
 
 pub pointer_into_unknown_holds : pointer_into_unknown_breaks
 pointer_into_unknown_holds = refl
+
+pub parameters_of_one_name_holds : parameters_of_one_name_breaks
+parameters_of_one_name_holds = refl

@@ -1,5 +1,5 @@
 use Rattle.std.specs.Prelude.{refl}
-use Rattle.check_examples.specs.TypeExamples.{wrong_types_breaks, integer_for_index_breaks, wrong_count_breaks, region_as_value_breaks, fixed_targets_breaks, wrong_formats_breaks, field_of_bad_type_breaks, unknown_child_breaks, differences_breaks, misbegun_regions_breaks, no_result_breaks}
+use Rattle.check_examples.specs.TypeExamples.{region_for_number_breaks, elements_as_targets_breaks, wrong_types_breaks, integer_for_index_breaks, wrong_count_breaks, region_as_value_breaks, fixed_targets_breaks, wrong_formats_breaks, field_of_bad_type_breaks, unknown_child_breaks, differences_breaks, misbegun_regions_breaks, no_result_breaks}
 
 pub wrong_types_holds : wrong_types_breaks
 wrong_types_holds = refl
@@ -33,3 +33,9 @@ no_result_holds = refl
 
 pub misbegun_regions_holds : misbegun_regions_breaks
 misbegun_regions_holds = refl
+
+pub elements_as_targets_holds : elements_as_targets_breaks
+elements_as_targets_holds = refl
+
+pub region_for_number_holds : region_for_number_breaks
+region_for_number_holds = refl

@@ -6,7 +6,7 @@ use Rattle.regent_tree.specs.declared.types.Kind.TheVariants.{Int1d}
 use Rattle.regent_tree.specs.declared.types.NumberTerm.TheVariants.{Int64}
 use Rattle.regent_tree.specs.declared.types.TypeTerm.TheVariants.{Ispace, Truth}
 use Rattle.worked_examples.specs.SampleProgram.{sample_program}
-use Rattle.worked_examples.specs.Words.{field_space, fields, give, grants, int, item, line, number, param, region, space_of, start, task, task_giving, whole}
+use Rattle.worked_examples.specs.Words.{apart, call, field_space, fields, get, give, grants, int, item, line, number, param, region, space_of, start, task, task_giving, whole}
 use Rattle.check_rules.specs.Breaches.{breaches, breaks}
 
 -- A clause on a number, and on a field that isn't there.
@@ -30,6 +30,30 @@ wrong_clauses_program =
 abbrev pub wrong_clauses_breaks : Type 0
 wrong_clauses_breaks =
     breaches wrong_clauses_program ≡ breaks 16 2 ∷ breaks 16 4 ∷ []
+
+-- Clauses with a breach ask nothing of a call: of a number, and of a field that isn't there beside one
+-- that is.
+--     fspace f { x : int64 }
+--     task t(r : region(ispace(int1d), f), k : int64)
+--     where r * k, reads(r.{x, y}) do end
+--     task u(s : region(ispace(int1d), f)) t(s, s) end
+--     task main() end
+abbrev pub calls_by_wrong_clauses_program : Tree
+calls_by_wrong_clauses_program =
+    item 1 (field_space "f" [] (param 1 "x" (number Int64) ∷ []))
+    ∷ item 2
+    (task "t" (param 2 "r" (region (space_of "f" [])) ∷ param 2 "k" (number Int64) ∷ [])
+    (apart "r" "k" ∷ grants (Reads ∷ []) (fields "r" ("x" ∷ "y" ∷ []) ∷ []) ∷ [])
+    [])
+    ∷ item 4
+    (task "u" (param 4 "s" (region (space_of "f" [])) ∷ []) []
+    (line 4 (call "t" (get "s" ∷ get "s" ∷ [])) ∷ []))
+    ∷ item 5 (task "main" [] [] [])
+    ∷ []
+
+abbrev pub calls_by_wrong_clauses_breaks : Type 0
+calls_by_wrong_clauses_breaks =
+    breaches calls_by_wrong_clauses_program ≡ breaks 3 4 ∷ breaks 5 4 ∷ breaks 16 2 ∷ []
 
 -- A value without a result type, none with one, and a result that is an index space.
 --     task a() return 1 end

@@ -4,7 +4,7 @@ use Rattle.regent_tree.specs.Syntax.{Tree, null_expr, truth_expr}
 use Rattle.regent_tree.specs.declared.expression.Arithmetic.TheVariants.{Add}
 use Rattle.regent_tree.specs.declared.expression.Operator.TheVariants.{And}
 use Rattle.regent_tree.specs.declared.program.Clause.TheVariants.{Within}
-use Rattle.regent_tree.specs.declared.program.Grant.TheVariants.{Reads}
+use Rattle.regent_tree.specs.declared.program.Grant.TheVariants.{Reads, Writes}
 use Rattle.regent_tree.specs.declared.types.NumberTerm.TheVariants.{Int64}
 use Rattle.worked_examples.specs.Words.{access, at, both, calc, call, connect, dot, each, equal, field_space, fields, get, grants, int, item, line, new_region, number, param, partition, pointer, points_into, print, print_by, ref, region, scope, set, space, space_of, task, var, var_as, var_from, when, whole}
 use Rattle.check_rules.specs.Breaches.{breaches, breaks}
@@ -120,14 +120,17 @@ abbrev pub causes_alone_breaks : Type 0
 causes_alone_breaks =
     breaches causes_alone_program ≡ breaks 1 2 ∷ breaks 1 6 ∷ breaks 1 8 ∷ breaks 1 9 ∷ []
 
--- A number's name in a pointer type is no region there; a name that isn't bound is a breach of
--- the rule on names alone.
+-- A number's name in a pointer type is no region there, and neither is a name that isn't bound, also
+-- where the field space isn't there.
 --     fspace f { x : int64 }
 --     task main()
 --       var k = 1
 --       var a = null(int1d(f, k))
 --       var b = null(int1d(f, z))
 --       a.x = b.x
+--       var c = null(int1d(g, k))
+--       var r = region(ispace(int1d, 4), f)
+--       var d = null(int1d(g, r))
 --     end
 abbrev pub pointer_to_number_program : Tree
 pointer_to_number_program =
@@ -137,12 +140,21 @@ pointer_to_number_program =
     (line 3 (var "k" (int 1))
     ∷ line 4 (var "a" (null_expr (pointer (space_of "f" []) (ref "k" ∷ []))))
     ∷ line 5 (var "b" (null_expr (pointer (space_of "f" []) (ref "z" ∷ []))))
-    ∷ line 6 (set "a" (dot "x" ∷ []) (access "b" (dot "x" ∷ []))) ∷ []))
+    ∷ line 6 (set "a" (dot "x" ∷ []) (access "b" (dot "x" ∷ [])))
+    ∷ line 7 (var "c" (null_expr (pointer (space_of "g" []) (ref "k" ∷ []))))
+    ∷ line 8 (var_from "r" (new_region (space (int 4)) (space_of "f" [])))
+    ∷ line 9 (var "d" (null_expr (pointer (space_of "g" []) (ref "r" ∷ [])))) ∷ []))
     ∷ []
 
 abbrev pub pointer_to_number_breaks : Type 0
 pointer_to_number_breaks =
-    breaches pointer_to_number_program ≡ breaks 1 4 ∷ breaks 1 5 ∷ breaks 13 4 ∷ []
+    breaches pointer_to_number_program ≡ breaks 1 4
+    ∷ breaks 1 5
+    ∷ breaks 1 7
+    ∷ breaks 1 9
+    ∷ breaks 13 4
+    ∷ breaks 13 5
+    ∷ breaks 13 7 ∷ []
 
 -- A breach beside an unbound name: a number in a conjunction.
 --     task main()
@@ -265,3 +277,26 @@ pointer_into_unknown_program =
 abbrev pub pointer_into_unknown_breaks : Type 0
 pointer_into_unknown_breaks =
     breaches pointer_into_unknown_program ≡ breaks 1 2 ∷ []
+
+-- In a task whose parameters share a name that name is of an unknown type.
+--     fspace f { x : int64 }
+--     task t(r : region(ispace(int1d), f),
+--            r : region(ispace(int1d), f)) where reads writes(r.x) do
+--       r[0].x = r[1].x + 1
+--     end
+--     task main() end
+abbrev pub parameters_of_one_name_program : Tree
+parameters_of_one_name_program =
+    item 1 (field_space "f" [] (param 1 "x" (number Int64) ∷ []))
+    ∷ item 2
+    (task "t" (param 2 "r" (region (space_of "f" [])) ∷ param 3 "r" (region (space_of "f" [])) ∷ [])
+    (grants (Reads ∷ Writes ∷ []) (fields "r" ("x" ∷ []) ∷ []) ∷ [])
+    (line 4
+    (set "r" (at (int 0) ∷ dot "x" ∷ [])
+    (calc (access "r" (at (int 1) ∷ dot "x" ∷ [])) Add (int 1))) ∷ []))
+    ∷ item 6 (task "main" [] [] [])
+    ∷ []
+
+abbrev pub parameters_of_one_name_breaks : Type 0
+parameters_of_one_name_breaks =
+    breaches parameters_of_one_name_program ≡ breaks 2 3 ∷ []

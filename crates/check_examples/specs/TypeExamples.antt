@@ -288,3 +288,60 @@ misbegun_regions_breaks =
     ∷ breaks 5 5
     ∷ breaks 5 6
     ∷ breaks 5 7 ∷ []
+
+-- An element, and the colours of a partition, are no targets, also where something else is wrong.
+--     fspace f { x : int64 }
+--     task main()
+--       var r = region(ispace(int1d, 4), f)
+--       r[true] = 1
+--       z[0] += 1
+--       r[0].y[0] = 1
+--       var p = partition(equal, r, ispace(int1d, 2))
+--       p.colors = 1
+--       p[true].x = 1
+--     end
+abbrev pub elements_as_targets_program : Tree
+elements_as_targets_program =
+    item 1 (field_space "f" [] (param 1 "x" (number Int64) ∷ []))
+    ∷ item 2
+    (task "main" [] []
+    (line 3 (var_from "r" (new_region (space (int 4)) (space_of "f" [])))
+    ∷ line 4 (set "r" (at (truth_expr true) ∷ []) (int 1))
+    ∷ line 5 (reduce "z" (at (int 0) ∷ []) Sum (int 1))
+    ∷ line 6 (set "r" (at (int 0) ∷ dot "y" ∷ at (int 0) ∷ []) (int 1))
+    ∷ line 7 (var_from "p" (equal "r" (space (int 2))))
+    ∷ line 8 (set "p" (dot "colors" ∷ []) (int 1))
+    ∷ line 9 (set "p" (at (truth_expr true) ∷ dot "x" ∷ []) (int 1)) ∷ []))
+    ∷ []
+
+abbrev pub elements_as_targets_breaks : Type 0
+elements_as_targets_breaks =
+    breaches elements_as_targets_program ≡ breaks 1 5
+    ∷ breaks 1 6
+    ∷ breaks 3 4
+    ∷ breaks 3 9
+    ∷ breaks 6 4
+    ∷ breaks 6 5
+    ∷ breaks 6 6
+    ∷ breaks 6 8 ∷ []
+
+-- A region for a parameter that is a number.
+--     fspace f { x : int64 }
+--     task t(n : int64) end
+--     task main()
+--       var r = region(ispace(int1d, 4), f)
+--       t(r)
+--     end
+abbrev pub region_for_number_program : Tree
+region_for_number_program =
+    item 1 (field_space "f" [] (param 1 "x" (number Int64) ∷ []))
+    ∷ item 2 (task "t" (param 2 "n" (number Int64) ∷ []) [] [])
+    ∷ item 3
+    (task "main" [] []
+    (line 4 (var_from "r" (new_region (space (int 4)) (space_of "f" [])))
+    ∷ line 5 (call "t" (get "r" ∷ [])) ∷ []))
+    ∷ []
+
+abbrev pub region_for_number_breaks : Type 0
+region_for_number_breaks =
+    breaches region_for_number_program ≡ breaks 3 5 ∷ breaks 5 5 ∷ []

@@ -6,12 +6,12 @@
 #![tactic(auto)]
 
 ghost use Rattle.check_examples.specs.Accepted.{numbers_accepted, reductions_accepted, partitions_accepted, images_accepted, statements_accepted, calls_accepted, pointers_accepted, limits_accepted};
-ghost use Rattle.check_examples.specs.NameExamples.{after_unknown_breaks, beside_the_unbound_breaks, causes_alone_breaks, clause_on_nothing_breaks, missing_things_breaks, named_by_each_other_breaks, parameter_of_no_type_breaks, past_its_block_breaks, pointer_into_unknown_breaks, pointer_to_number_breaks, two_of_a_name_breaks, unbound_name_breaks};
-ghost use Rattle.check_examples.specs.TypeExamples.{wrong_types_breaks, integer_for_index_breaks, wrong_count_breaks, region_as_value_breaks, fixed_targets_breaks, wrong_formats_breaks, field_of_bad_type_breaks, unknown_child_breaks, differences_breaks, misbegun_regions_breaks, no_result_breaks};
+ghost use Rattle.check_examples.specs.NameExamples.{parameters_of_one_name_breaks, after_unknown_breaks, beside_the_unbound_breaks, causes_alone_breaks, clause_on_nothing_breaks, missing_things_breaks, named_by_each_other_breaks, parameter_of_no_type_breaks, past_its_block_breaks, pointer_into_unknown_breaks, pointer_to_number_breaks, two_of_a_name_breaks, unbound_name_breaks};
+ghost use Rattle.check_examples.specs.TypeExamples.{region_for_number_breaks, elements_as_targets_breaks, wrong_types_breaks, integer_for_index_breaks, wrong_count_breaks, region_as_value_breaks, fixed_targets_breaks, wrong_formats_breaks, field_of_bad_type_breaks, unknown_child_breaks, differences_breaks, misbegun_regions_breaks, no_result_breaks};
 ghost use Rattle.check_examples.specs.PrivilegeExamples.{write_under_reads_breaks, read_under_writes_breaks, other_reduction_breaks, two_regions_breaks, call_without_privilege_breaks, partition_by_field_breaks, privileges_of_parts_breaks};
 ghost use Rattle.check_examples.specs.ConstraintExamples.{overlapping_children_breaks, within_the_other_breaks};
 ghost use Rattle.check_examples.specs.RegionExamples.{wild_pointer_breaks, wrong_pointers_breaks, other_space_breaks, aliased_for_disjoint_breaks, after_misbegun_breaks, image_of_another_breaks, set_of_two_parents_breaks, other_arguments_breaks};
-ghost use Rattle.check_examples.specs.ItemExamples.{wrong_clauses_breaks, wrong_returns_breaks, nothing_to_start_breaks, wrong_starts_breaks, demanded_loops_breaks};
+ghost use Rattle.check_examples.specs.ItemExamples.{calls_by_wrong_clauses_breaks, wrong_clauses_breaks, wrong_returns_breaks, nothing_to_start_breaks, wrong_starts_breaks, demanded_loops_breaks};
 
 // ---- accepted programs
 
@@ -230,8 +230,7 @@ pub fn causes_alone()
     ensures { causes_alone_breaks }
 {}
 
-/// A number's name in a pointer type is no region there; a name that isn't bound is a breach of
-/// the rule on names alone.
+/// A number's name in a pointer type is no region there, and neither is a name that isn't bound.
 #[tactic(auto, using(crate::proofs::NameExamples::pointer_to_number_holds))]
 pub fn pointer_to_number()
     ensures { pointer_to_number_breaks }
@@ -341,4 +340,28 @@ pub fn demanded_loops()
 #[tactic(auto, using(crate::proofs::RegionExamples::after_misbegun_holds))]
 pub fn after_misbegun()
     ensures { after_misbegun_breaks }
+{}
+
+/// In a task whose parameters share a name that name is of an unknown type.
+#[tactic(auto, using(crate::proofs::NameExamples::parameters_of_one_name_holds))]
+pub fn parameters_of_one_name()
+    ensures { parameters_of_one_name_breaks }
+{}
+
+/// An element, and the colours of a partition, are no targets, also where something else is wrong.
+#[tactic(auto, using(crate::proofs::TypeExamples::elements_as_targets_holds))]
+pub fn elements_as_targets()
+    ensures { elements_as_targets_breaks }
+{}
+
+/// A region for a parameter that is a number.
+#[tactic(auto, using(crate::proofs::TypeExamples::region_for_number_holds))]
+pub fn region_for_number()
+    ensures { region_for_number_breaks }
+{}
+
+/// Clauses with a breach ask nothing of a call.
+#[tactic(auto, using(crate::proofs::ItemExamples::calls_by_wrong_clauses_holds))]
+pub fn calls_by_wrong_clauses()
+    ensures { calls_by_wrong_clauses_breaks }
 {}

@@ -2,16 +2,16 @@
 
 ghost use Rattle.std.specs.List.{list_any};
 ghost use Rattle.std.specs.Option.{option_or};
-ghost use Rattle.std.specs.Prelude.{◌≡◌, false, flat_map, option_to_list, Some};
+ghost use Rattle.std.specs.Prelude.{◌≡◌, IfOk, false, flat_map, option_to_list, Some};
 ghost use Rattle.regent_tree.specs.PlainProgram.{task_of};
 ghost use Rattle.regent_tree.specs.StaticTypes.{task_named};
 ghost use Rattle.regent_tree.specs.Syntax.{Tree};
 ghost use Rattle.regent_tree.specs.Typing.{result_type};
-ghost use Rattle.check_rules.specs.Constraints.{are_not_apart, argument_for, breaks_clause, is_not_within};
-ghost use Rattle.check_rules.specs.Declarations.{is_no_result_type};
+ghost use Rattle.check_rules.specs.Constraints.{are_not_apart, argument_for, breaks_clause, breaks_constraint, is_not_within};
+ghost use Rattle.check_rules.specs.Declarations.{is_no_result_type, params_of};
 ghost use Rattle.check_rules.specs.FirstInExpressions.{first_of_call, first_of_standing};
 ghost use Rattle.check_rules.specs.KnownTypes.{type_of_call};
-ghost use Rattle.check_rules.specs.Privileges.{lacks, wanted_of_argument};
+ghost use Rattle.check_rules.specs.Privileges.{lacks, wanted_by_call, wanted_of_argument};
 ghost use Rattle.check_rules.specs.Rules.{first_in, rule_if};
 ghost use Rattle.check_rules.specs.TypedForms.{calling};
 ghost use Rattle.check_rules.specs.Sorts.{is_unknown_type, type_at};
@@ -31,7 +31,7 @@ use crate::spots::param;
 use check_rules::Rule;
 use constraint_check::Facts;
 use regent_tree::{Clause, Name, Param, Right, StaticType, Task, TypeTerm, Wanted};
-use static_types::{Stop, differ_in, is_unknown, mispartition_in, number_type, place_in, put_in};
+use static_types::{Stop, is_unknown, misfit_in, mispartition_in, number_type, place_in, put_in};
 use std::alloc::{AllocError, Global};
 
 /// Each argument stands where its parameter's type, read with the arguments, allows.
@@ -142,8 +142,29 @@ fn breaks_clause(facts: &Facts, params: &[Param], types: &[StaticType], clause: 
     }
 }
 
-/// Whether a constraint of the called task isn't derivable on the arguments.
-fn breaks_constraint(facts: &Facts, task: &Task, types: &[StaticType]) -> bool
+/// Whether the task lacks what the privileges of a called task, whose parameters have these types,
+/// want of the arguments.
+fn lacks_for_task(
+    site: &Site,
+    scope: &Scope,
+    task: &Task,
+    name: &Name,
+    params: &[StaticType],
+    types: &[StaticType],
+) -> Result<bool, AllocError>
+    requires holds { HoldsDeclared site.now }
+    requires named { task_of task.now ≡ task_named (tree_at site.now) name.now }
+    requires typed { params.now ≡ params_of (tree_at site.now) name.now }
+    ensures { IfOk result (λ b. b ≡ lacks (tree_at site.now) (task_at site.now) (seen scope.now)
+        (wanted_by_call (tree_at site.now) (calling name.now types.now))) }
+{
+    let rights = rights_declared(site.alloc, site.declared, task, params)?;
+    site.declared.has_sound_clauses(name);
+    Ok(lacks_for_call(site, scope, &rights, params, types))
+}
+
+/// Whether a clause isn't derivable on the arguments.
+fn breaks_clauses(facts: &Facts, task: &Task, types: &[StaticType]) -> bool
     ensures { result ≡ list_any (breaks_clause facts.now task.now.params types.now) task.now.clauses }
 {
     let params = task.params.as_slice();
@@ -153,6 +174,21 @@ fn breaks_constraint(facts: &Facts, task: &Task, types: &[StaticType]) -> bool
         }
     }
     false
+}
+
+/// Whether a constraint of the called task isn't derivable on the arguments.
+fn breaks_constraint(
+    site: &Site,
+    scope: &Scope,
+    task: &Task,
+    name: &Name,
+    types: &[StaticType],
+) -> bool
+    requires { task_of task.now ≡ task_named (tree_at site.now) name.now }
+    ensures { result ≡ breaks_constraint (tree_at site.now) (seen scope.now).known (calling name.now types.now) }
+{
+    site.declared.has_sound_clauses(name);
+    breaks_clauses(scope.facts(), task, types)
 }
 
 /// A call of a task, whether it stands alone or in an expression: the task.
@@ -173,12 +209,11 @@ pub fn call<'a>(
     Stop::at(types.len() != task.params.len(), Rule::Count)?;
     let params = declared.params_of(site.alloc, task, name)?;
     stand_at(site.alloc, scope.facts(), &params, types)?;
-    Stop::at(differ_in(types, &params, types), Rule::Spaces)?;
+    Stop::at(misfit_in(types, &params, types), Rule::Spaces)?;
     Stop::at(mispartition_in(types, &params, types), Rule::Partition)?;
-    let rights = rights_declared(site.alloc, declared, task, &params)?;
-    let lacks = lacks_for_call(site, scope, &rights, &params, types);
+    let lacks = lacks_for_task(site, scope, task, name, &params, types)?;
     Stop::at(lacks, Rule::CallPrivilege)?;
-    let breaks = breaks_constraint(scope.facts(), task, types);
+    let breaks = breaks_constraint(site, scope, task, name, types);
     Stop::at(breaks, Rule::CallConstraint)?;
     Ok(task)
 }
@@ -198,12 +233,7 @@ fn value_type(term: &TypeTerm) -> StaticType
 fn any_unknown(types: &[StaticType]) -> bool
     ensures { result ≡ list_any is_unknown_type types.now }
 {
-    for t in types {
-        if is_unknown(t) {
-            return true;
-        }
-    }
-    false
+    types.iter().any(|t| is_unknown(t))
 }
 
 /// A call in an expression: the type of its result, which is unknown where that of an argument is.

@@ -7,7 +7,9 @@ ghost use Rattle.regent_tree.specs.StaticTypes.{among_args, field_place, field_t
 ghost use Rattle.check_rules.specs.Declarations.{params_bound, params_of, is_flawed_field, is_no_result_type};
 ghost use Rattle.regent_tree.specs.Scopes.{scope_of};
 ghost use Rattle.check_rules.specs.Bodies.{body_scope};
+ghost use Rattle.check_rules.specs.Clauses.{clauses_told};
 ghost use Rattle.check_rules.specs.Params.{types_in_order};
+ghost use Rattle.check_rules.specs.Privileges.{rights_declared, rights_told};
 ghost use Rattle.check_rules.specs.Sound.{IsSound, StandsIn};
 
 use program_tables::{Names, Tables, place_in};
@@ -109,6 +111,16 @@ impl<'a> Declared<'a> {
     /// No task's result type has a breach.
     pub fn has_sound_results(&self, name: &Name)
         ensures { is_no_result_type (task_named (tree_of self.now) name.now).result ≡ false }
+    {
+        let _tables = &self.tables;
+    }
+
+    /// No clause of a task has a breach, so that all of them tell.
+    pub fn has_sound_clauses(&self, name: &Name)
+        ensures clauses { clauses_told (tree_of self.now) (task_named (tree_of self.now) name.now)
+            ≡ (task_named (tree_of self.now) name.now).clauses }
+        ensures rights { rights_told (tree_of self.now) (task_named (tree_of self.now) name.now)
+            ≡ rights_declared (tree_of self.now) (task_named (tree_of self.now) name.now) }
     {
         let _tables = &self.tables;
     }

@@ -1,10 +1,8 @@
 -- The task that a program starts with.
-use Rattle.std.specs.Prelude.{List, [], map, ℕ, ◌∷◌}
+use Rattle.std.specs.Prelude.{List, [], ℕ, ◌∷◌}
 use Rattle.lane_kernels.specs.declared.numbers.Width.{Width}
 use Rattle.lane_kernels.specs.declared.numbers.Width.TheVariants.{W32, W64}
-use Rattle.regent_tree.specs.StaticTypes.{entry_name, task_named}
-use Rattle.regent_tree.specs.Syntax.{Name, Tree}
-use Rattle.regent_tree.specs.Typing.{param_types, width_of_type}
+use Rattle.regent_tree.specs.Syntax.{Name}
 use Rattle.regent_tree.specs.declared.types.NumberTerm.TheVariants as number
 use Rattle.regent_tree.specs.declared.types.TypeTerm.{TypeTerm}
 use Rattle.regent_tree.specs.declared.types.TypeTerm.TheVariants as typed
@@ -19,10 +17,6 @@ given_by_begin b = record { name = b.name.now; line = b.line }
 abbrev pub entry_named : List Given → Name
 entry_named [] = 109 ∷ 97 ∷ 105 ∷ 110 ∷ []
 entry_named (g ∷ gs) = g.name
-
--- the widths of the numbers that are given to the entry task
-abbrev pub input_widths : Tree → List Width
-input_widths tree = map width_of_type (param_types tree (task_named tree (entry_name tree)))
 
 -- the width of an integer type that is written; of any other type it is that of 64 bits
 abbrev pub width_of_term : TypeTerm → Width

@@ -14,12 +14,7 @@ use static_types::{names_region, region_has};
 fn has_all(tables: &Tables, t: &StaticType, fields: &[Name]) -> bool
     ensures { result ≡ list_all (region_has (tree_of tables.now) t.now) fields.now }
 {
-    for field in fields {
-        if !region_has(tables, t, field) {
-            return false;
-        }
-    }
-    true
+    fields.iter().all(|field| region_has(tables, t, field))
 }
 
 /// Whether a place names no region, or a field that its region lacks.
@@ -39,12 +34,9 @@ fn misdeclares_place(tables: &Tables, names: &Names, place: &Place) -> bool
 fn any_misdeclares_place(tables: &Tables, names: &Names, places: &[Place]) -> bool
     ensures { result ≡ list_any (misdeclares_place (tree_of tables.now) names.now) places.now }
 {
-    for place in places {
-        if misdeclares_place(tables, names, place) {
-            return true;
-        }
-    }
-    false
+    places
+        .iter()
+        .any(|place| misdeclares_place(tables, names, place))
 }
 
 fn misdeclares(tables: &Tables, names: &Names, clause: &Clause) -> bool
@@ -62,10 +54,7 @@ fn misdeclares(tables: &Tables, names: &Names, clause: &Clause) -> bool
 pub fn any_misdeclares(tables: &Tables, names: &Names, clauses: &[Clause]) -> bool
     ensures { result ≡ list_any (misdeclares (tree_of tables.now) names.now) clauses.now }
 {
-    for clause in clauses {
-        if misdeclares(tables, names, clause) {
-            return true;
-        }
-    }
-    false
+    clauses
+        .iter()
+        .any(|clause| misdeclares(tables, names, clause))
 }

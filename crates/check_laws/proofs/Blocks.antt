@@ -69,9 +69,9 @@ module _ (tree : Tree) (task : TaskTree) (sound : IsSound tree) where
       first_of_form tree task s (for_in_form demanded n domain body) ≡ None →
       (scope_in_loop tree s n domain ≡ with_name s n (taken_from (type_of tree s domain)) true) × IsSoundScope (scope_in_loop tree s n domain)
   loop_scope s demanded n domain body scope e =
-      let subexpressions = parts_of_form tree task s sound scope (for_in_form demanded n domain body) e in
-      let head = head_known s scope domain (or_none (first_in_expression tree task s domain) _ subexpressions.2).0 in
-      let is = surely (λ u. is_region u || is_space u) (known_type tree s domain) head.0.known (not_false _ (or_parts _ false subexpressions.4).0) in (
+      let parts = parts_of_form tree task s sound scope (for_in_form demanded n domain body) e in
+      let head = head_known s scope domain (or_none (first_in_expression tree task s domain) _ parts.2).0 in
+      let is = surely (λ u. is_region u || is_space u) (known_type tree s domain) head.0.known (not_false _ (or_parts _ false parts.4).0) in (
         ap (λ t. with_name s n (taken_from t) true) head.1,
         one_more s n (taken_from (known_type tree s domain)) true s.known scope (taken_known s (known_type tree s domain) is),
       )
@@ -81,11 +81,11 @@ module _ (tree : Tree) (task : TaskTree) (sound : IsSound tree) where
       (scope_in_count tree s n from to ≡ with_name s n (arithmetic_type (type_of tree s from) (type_of tree s to)) true)
       × IsSoundScope (scope_in_count tree s n from to)
   count_scope s demanded n from to body scope e =
-      let subexpressions = parts_of_form tree task s sound scope (for_to_form demanded n from to body) e in
-      let heads = or_none (first_in_expression tree task s from) _ subexpressions.2 in
+      let parts = parts_of_form tree task s sound scope (for_to_form demanded n from to body) e in
+      let heads = or_none (first_in_expression tree task s from) _ parts.2 in
       let first = head_known s scope from heads.0 in
       let last = head_known s scope to (or_none (first_in_expression tree task s to) _ heads.1).0 in
-      let stand = or_parts _ _ subexpressions.4 in
+      let stand = or_parts _ _ parts.4 in
       let a = surely is_integer (known_type tree s from) first.0.known (not_false _ stand.0) in
       let b = surely is_integer (known_type tree s to) last.0.known (not_false _ (or_parts _ false stand.1).0) in
       let whole : not (is_integer (known_type tree s from) && is_integer (known_type tree s to)) ≡ false = λ j. not (a j && b j) in
@@ -111,9 +111,9 @@ module _ (tree : Tree) (task : TaskTree) (sound : IsSound tree) where
           one_more s n _ false _ scope (subst (IsKnown s) (sym v.0) v.1),
         )
     form_known s (if_form arms other) scope e w =
-        let subexpressions = or_none (first_in_arms tree task s arms) _ w in
-        let a = arms_known s arms scope subexpressions.0 in
-        let b = else_known (known_scope_after_arms tree s arms) other a.1 subexpressions.1 in
+        let parts = or_none (first_in_arms tree task s arms) _ w in
+        let a = arms_known s arms scope parts.0 in
+        let b = else_known (known_scope_after_arms tree s arms) other a.1 parts.1 in
         (b.0 ∙ ap (λ x. scope_after_else tree x other) a.0, b.1)
     form_known s (while_form test body) scope e w = nested s body scope (block_known s body scope w)
     form_known s (for_in_form demanded n domain body) scope e w =
@@ -142,9 +142,9 @@ module _ (tree : Tree) (task : TaskTree) (sound : IsSound tree) where
         (known_scope_after_block tree s b ≡ scope_after_block tree s b) × IsSoundScope (known_scope_after_block tree s b)
     block_known s no_statement scope e = (refl, scope)
     block_known s (then_statement (a_statement line form) rest) scope e =
-        let subexpressions = or_none (told_on line (first_of_form tree task s form)) _ e in
-        let more = or_none (first_within tree task s form) _ subexpressions.1 in
-        let here = form_known s form scope (told_none line _ subexpressions.0) more.0 in
+        let parts = or_none (told_on line (first_of_form tree task s form)) _ e in
+        let more = or_none (first_within tree task s form) _ parts.1 in
+        let here = form_known s form scope (told_none line _ parts.0) more.0 in
         let after = block_known (known_scope_after tree s form) rest here.1 more.1 in
         (after.0 ∙ ap (λ x. scope_after_block tree x rest) here.0, after.1)
 
@@ -152,9 +152,9 @@ module _ (tree : Tree) (task : TaskTree) (sound : IsSound tree) where
         (known_scope_after_arms tree s arms ≡ scope_after_arms tree s arms) × IsSoundScope (known_scope_after_arms tree s arms)
     arms_known s no_arm scope e = (refl, scope)
     arms_known s (an_arm test body rest) scope e =
-        let subexpressions = or_none (first_in_block tree task s body) _ e in
-        let inner = nested s body scope (block_known s body scope subexpressions.0) in
-        let after = arms_known (past s (known_scope_after_block tree s body)) rest inner.1 subexpressions.1 in
+        let parts = or_none (first_in_block tree task s body) _ e in
+        let inner = nested s body scope (block_known s body scope parts.0) in
+        let after = arms_known (past s (known_scope_after_block tree s body)) rest inner.1 parts.1 in
         (after.0 ∙ ap (λ x. scope_after_arms tree x rest) inner.0, after.1)
 
     pub else_known : (s : Scope) (other : Otherwise) → IsSoundScope s → first_in_else tree task s other ≡ None →

@@ -191,10 +191,10 @@ module _ (tree : Tree) (all : List Param) (s : Scope) (names_are : s.names ≡ b
       is_bound (bound_params tree all i ps) n ≡ true → IsKnown s (type_named (bound_params tree all i ps) n)
   params_known i [] e n b = absurd cc
   params_known i (p ∷ ps) e n b =
-      let subexpressions = or_parts (unbound_name_in_type tree names p.term) (list_any (λ (q : Param). unbound_name_in_type tree names q.term) ps) e in
+      let parts = or_parts (unbound_name_in_type tree names p.term) (list_any (λ (q : Param). unbound_name_in_type tree names q.term) ps) e in
       elim (bound_after (bound_params tree all (suc i) ps) (bound tree all i p) n b) [
-        | inl h ↦ subst (λ (x : Bound). IsKnown s x.static_type) (sym h.1) (params_known (suc i) ps subexpressions.1 n h.0)
-        | inr h ↦ subst (λ (x : Bound). IsKnown s x.static_type) (sym h.1) (said_placed i p.term subexpressions.0)
+        | inl h ↦ subst (λ (x : Bound). IsKnown s x.static_type) (sym h.1) (params_known (suc i) ps parts.1 n h.0)
+        | inr h ↦ subst (λ (x : Bound). IsKnown s x.static_type) (sym h.1) (said_placed i p.term parts.0)
       ]
 
   -- in the scope in which a body begins, all is known

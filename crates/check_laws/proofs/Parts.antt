@@ -64,8 +64,8 @@ surely sort t known e = sym (ap (λ b. b || sort t) known) ∙ e
 -- what stands where it may
 pub standing_none : (known : _) (s : Standing) → first_of_standing known s ≡ None → (misplaces s ≡ false) × (is_ill_typed_at_place known s ≡ false)
 standing_none known s e =
-    let subexpressions = or_none _ _ e in
-    (rule_none (misplaces s) rule.Place subexpressions.0, rule_none (is_ill_typed_at_place known s) rule.Type (or_none _ _ subexpressions.1).0)
+    let parts = or_none _ _ e in
+    (rule_none (misplaces s) rule.Place parts.0, rule_none (is_ill_typed_at_place known s) rule.Type (or_none _ _ parts.1).0)
 
 pub unless_false : (b : Bool) (t : StaticType) → b ≡ false → cond b unknown_type t ≡ t
 unless_false b t e = ap (λ x. cond x unknown_type t) e
@@ -127,9 +127,9 @@ operated_known s Or t u k l c d = value_known s _ refl tt
 pub after_operator : (s : Scope) (o : Operator) (t u : StaticType) → is_unknown_type t ≡ false → is_unknown_type u ≡ false →
     first_of_operator (computing o t u) ≡ None → IsKnown s (known_type_after_operator (computing o t u))
 after_operator s o t u k l e =
-    let subexpressions = or_none _ _ e in
-    let none = or_parts (is_collection t) (is_collection u) (rule_none (is_collection t || is_collection u) rule.Place subexpressions.0) in
-    let right = rule_none (is_ill_typed_operation (computing o t u)) rule.Type (or_none _ _ subexpressions.1).0 in
+    let parts = or_none _ _ e in
+    let none = or_parts (is_collection t) (is_collection u) (rule_none (is_collection t || is_collection u) rule.Place parts.0) in
+    let right = rule_none (is_ill_typed_operation (computing o t u)) rule.Type (or_none _ _ parts.1).0 in
     let flawless : (is_unknown_type t || is_unknown_type u || is_ill_typed_operation (computing o t u)) ≡ false = λ j. k j || l j || right j in
     subst (IsKnown s) (sym (unless_false _ (operated o t u) flawless)) (operated_known s o t u k l none.0 none.1)
 
@@ -159,8 +159,8 @@ pub after_signs : (s : Scope) (signs : List Sign) (t : StaticType) → IsKnown s
     IsKnown s (known_type_after_signs signs t)
 after_signs s [] t k e = k
 after_signs s (sign ∷ signs) t k e =
-    let subexpressions = or_none (first_of_signs signs t) _ e in
-    after_sign s sign (known_type_after_signs signs t) (after_signs s signs t k subexpressions.0).known subexpressions.1
+    let parts = or_none (first_of_signs signs t) _ e in
+    after_sign s sign (known_type_after_signs signs t) (after_signs s signs t k parts.0).known parts.1
 
 -- ---- steps
 
@@ -233,10 +233,10 @@ field_known tree s unknown_type f sound known e = absurd (contrary known.known)
 pub element_known : (tree : Tree) (s : Scope) (t u : StaticType) (e : Expression) → IsKnown s t → is_unknown_type u ≡ false →
     first_of_taking tree (element_of t u) ≡ None → IsKnown s (known_type_after_step tree (element_of t u) (type_of_element s t e))
 element_known tree s t u e known place none =
-    let subexpressions = taking_none tree (element_of t u) none in
-    let stands_there = standing_none [] (stands u number_spot) (or_none _ _ subexpressions.2).0 in
+    let parts = taking_none tree (element_of t u) none in
+    let stands_there = standing_none [] (stands u number_spot) (or_none _ _ parts.2).0 in
     let is = surely is_number u place (not_false _ stands_there.1) in
-    step_type tree s (element_of t u) (type_of_element s t e) (λ j. known.known j || not (is j)) none (of_type t known subexpressions.1)
+    step_type tree s (element_of t u) (type_of_element s t e) (λ j. known.known j || not (is j)) none (of_type t known parts.1)
   where
     of_type : (t : StaticType) → IsKnown s t → is_ill_typed_step (element_of t u) ≡ false → IsKnown s (type_of_element s t e)
     of_type (region_type k sp args r) known m = value_known s _ refl tt
@@ -264,8 +264,8 @@ result_known tree s (Some (typed.Partition d r c)) e f = absurd (contrary e)
 pub stand_none : (known : List Known) (ss : List Standing) → first_in (first_of_standing known) ss ≡ None → list_any (is_ill_typed_at_place known) ss ≡ false
 stand_none known [] e = refl
 stand_none known (x ∷ ss) e =
-    let subexpressions = or_none (first_of_standing known x) _ e in
-    λ j. (standing_none known x subexpressions.0).1 j || stand_none known ss subexpressions.1 j
+    let parts = or_none (first_of_standing known x) _ e in
+    λ j. (standing_none known x parts.0).1 j || stand_none known ss parts.1 j
 
 pub call_known : (tree : Tree) (task : TaskTree) (s : Scope) (c : Calling) → IsSound tree → first_of_call tree task s c ≡ None →
     has_no_result tree c ≡ false → list_any is_unknown_type c.args ≡ false → IsKnown s (type_of_call tree s.known c)

@@ -109,9 +109,9 @@ module _ (tree : Tree) (task : TaskTree) (sound : IsSound tree) where
     visit_block : (s : Scope) (b : Block) → IsSoundScope s → first_in_block tree task s b ≡ None → (v : Visit) → Has (visits_in tree task s b) v → IsAllKnown v
     visit_block s no_statement scope e v h = absurd h
     visit_block s (then_statement (a_statement line form) rest) scope e v h =
-        let subexpressions = or_none (told_on line (first_of_form tree task s form)) _ e in
-        let more = or_none (first_within tree task s form) _ subexpressions.1 in
-        let here = told_none line _ subexpressions.0 in
+        let parts = or_none (told_on line (first_of_form tree task s form)) _ e in
+        let more = or_none (first_within tree task s form) _ parts.1 in
+        let here = told_none line _ parts.0 in
         let after = form_known tree task sound s form scope here more.0 in
         elim (Has-append_cases (record { task = task; scope = s; line = line; form = form } ∷ visits_within tree task s form)
         (visits_in tree task (known_scope_after tree s form) rest) v h) [
@@ -125,10 +125,10 @@ module _ (tree : Tree) (task : TaskTree) (sound : IsSound tree) where
     visit_within : (s : Scope) (form : Form) → IsSoundScope s → first_of_form tree task s form ≡ None → first_within tree task s form ≡ None →
         (v : Visit) → Has (visits_within tree task s form) v → IsAllKnown v
     visit_within s (if_form arms other) scope e w v h =
-        let subexpressions = or_none (first_in_arms tree task s arms) _ w in
+        let parts = or_none (first_in_arms tree task s arms) _ w in
         elim (Has-append_cases (visits_in_arms tree task s arms) (visits_in_else tree task (known_scope_after_arms tree s arms) other) v h) [
-          | inl g ↦ visit_arms s arms scope subexpressions.0 v g
-          | inr g ↦ visit_else (known_scope_after_arms tree s arms) other (arms_known tree task sound s arms scope subexpressions.0).1 subexpressions.1 v g
+          | inl g ↦ visit_arms s arms scope parts.0 v g
+          | inr g ↦ visit_else (known_scope_after_arms tree s arms) other (arms_known tree task sound s arms scope parts.0).1 parts.1 v g
         ]
     visit_within s (while_form test body) scope e w v h = visit_block s body scope w v h
     visit_within s (for_in_form demanded n domain body) scope e w v h =
@@ -147,11 +147,11 @@ module _ (tree : Tree) (task : TaskTree) (sound : IsSound tree) where
     visit_arms : (s : Scope) (arms : Arms) → IsSoundScope s → first_in_arms tree task s arms ≡ None → (v : Visit) → Has (visits_in_arms tree task s arms) v → IsAllKnown v
     visit_arms s no_arm scope e v h = absurd h
     visit_arms s (an_arm test body rest) scope e v h =
-        let subexpressions = or_none (first_in_block tree task s body) _ e in
-        let inner = nested tree task sound s body scope (block_known tree task sound s body scope subexpressions.0) in
+        let parts = or_none (first_in_block tree task s body) _ e in
+        let inner = nested tree task sound s body scope (block_known tree task sound s body scope parts.0) in
         elim (Has-append_cases (visits_in tree task s body) (visits_in_arms tree task (past s (known_scope_after_block tree s body)) rest) v h) [
-          | inl g ↦ visit_block s body scope subexpressions.0 v g
-          | inr g ↦ visit_arms (past s (known_scope_after_block tree s body)) rest inner.1 subexpressions.1 v g
+          | inl g ↦ visit_block s body scope parts.0 v g
+          | inr g ↦ visit_arms (past s (known_scope_after_block tree s body)) rest inner.1 parts.1 v g
         ]
 
     visit_else : (s : Scope) (other : Otherwise) → IsSoundScope s → first_in_else tree task s other ≡ None → (v : Visit) → Has (visits_in_else tree task s other) v → IsAllKnown v
@@ -166,12 +166,12 @@ module _ (tree : Tree) (declared : first_in (first_declared tree) tree ≡ None)
       list_any (λ (p : Param). unbound_name_in_type tree names p.term) ps ≡ false
   misnames_none [] names e = refl
   misnames_none (p ∷ ps) names e =
-      let subexpressions = or_parts (is_flawed_type tree names p.term) (list_any (λ (q : Param). is_flawed_type tree names q.term) ps) e in
-      let a = or_parts _ _ subexpressions.0 in
+      let parts = or_parts (is_flawed_type tree names p.term) (list_any (λ (q : Param). is_flawed_type tree names q.term) ps) e in
+      let a = or_parts _ _ parts.0 in
       let b = or_parts _ _ a.0 in
       let c = or_parts _ _ b.0 in
       let d = or_parts (unbound_name_in_type tree names p.term) _ c.0 in
-      λ j. d.0 j || misnames_none ps names subexpressions.1 j
+      λ j. d.0 j || misnames_none ps names parts.1 j
 
   scope_sound : (line : ℕ) (t : TaskTree) → Has tree (record { line = line; form = task_item t }) → IsSoundScope (scope_of tree t)
   scope_sound line t h =

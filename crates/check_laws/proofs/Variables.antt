@@ -82,8 +82,8 @@ module _ (tree : Tree) (task : TaskTree) (s : Scope) (sound : IsSound tree) (sco
   types_sound : (ts : List TypeTerm) → first_in (first_in_type tree s.names) ts ≡ None → list_any (is_flawed_type tree s.names) ts ≡ false
   types_sound [] e = refl
   types_sound (t ∷ ts) e =
-      let subexpressions = or_none (first_in_type tree s.names t) _ e in
-      λ j. type_sound t subexpressions.0 j || types_sound ts subexpressions.1 j
+      let parts = or_none (first_in_type tree s.names t) _ e in
+      λ j. type_sound t parts.0 j || types_sound ts parts.1 j
 
   said_known : (t : TypeTerm) → unbound_name_in_type tree s.names t ≡ false → IsKnown s (type_said tree (in_scope s) s.next t)
   said_known (typed.Number t) e = number_known s t
@@ -102,8 +102,8 @@ module _ (tree : Tree) (task : TaskTree) (s : Scope) (sound : IsSound tree) (sco
       list_any is_unknown_type (map (known_type tree s) es) ≡ false
   heads_known [] e = refl
   heads_known (x ∷ xs) e =
-      let subexpressions = or_none (first_in_expression tree task s x) _ e in
-      λ j. (known_expression tree task s sound scope x subexpressions.0).known j || heads_known xs subexpressions.1 j
+      let parts = or_none (first_in_expression tree task s x) _ e in
+      λ j. (known_expression tree task s sound scope x parts.0).known j || heads_known xs parts.1 j
 
   origin : (sort : StaticType → Bool) (n : Name) → not (names_a sort s.names n) ≡ false → is_unknown_type (type_named s.names n) ≡ false
   origin sort n e = (scope.types n (named sort n e).0).known
@@ -145,11 +145,11 @@ module _ (tree : Tree) (task : TaskTree) (s : Scope) (sound : IsSound tree) (sco
       let d = or_none _ _ c.1 in
       let written = types_sound (written_in_initializer i) a.0 in
       let names = rule_none (unbound_name_in_initializer tree s.names i) rule.Name b.0 in
-      let subexpressions = rule_none (mispartitions_initializer tree s i) rule.Partition c.0 in
+      let parts = rule_none (mispartitions_initializer tree s i) rule.Partition c.0 in
       let colours = rule_none (miscolours_initializer i (types_in_initializer tree s i)) rule.Partition d.0 in
       let types = heads_known (expressions_in_initializer s.names i) heads in
       let origins = origins_known i names in
-      λ j. types j || colours j || stand j || written j || names j || subexpressions j || origins j
+      λ j. types j || colours j || stand j || written j || names j || parts j || origins j
 
   owned_known : (t : StaticType) → IsKnown s t → IsKnown s (owned s.next t)
   owned_known (region_type k sp args r) h = value_known s _ refl tt
@@ -274,17 +274,17 @@ module _ (tree : Tree) (task : TaskTree) (s : Scope) (sound : IsSound tree) (sco
   begun_sound : (n : Name) (t : Option TypeTerm) (i : Initializer) → first_of_form tree task s (var_form n t (Some i)) ≡ None →
       (is_flawed_initializer tree s i ≡ false) × IsKnown s (initializer_type tree s s.next i) × (begins_unsoundly tree s t (Some i) ≡ false)
   begun_sound n t i e =
-      let subexpressions = parts_of_form (var_form n t (Some i)) e in
-      let initializer = (or_none (first_of_initializer tree task s i) _ subexpressions.3).0 in
+      let parts = parts_of_form (var_form n t (Some i)) e in
+      let initializer = (or_none (first_of_initializer tree task s i) _ parts.3).0 in
       let begun = known_initializer tree s i in
       let wanted = variable_type tree s t (Some i) in
       let stand = or_parts (list_any (is_ill_typed_at_place s.known) (standing_in_initializer tree s i)) (list_any (is_ill_typed_at_place s.known) (stands_declared begun t wanted))
-      (sym (list_any-append (is_ill_typed_at_place s.known) (standing_in_initializer tree s i) (stands_declared begun t wanted)) ∙ subexpressions.4) in
-      let flawless = initializer_sound i subexpressions.2 initializer stand.0 in
+      (sym (list_any-append (is_ill_typed_at_place s.known) (standing_in_initializer tree s i) (stands_declared begun t wanted)) ∙ parts.4) in
+      let flawless = initializer_sound i parts.2 initializer stand.0 in
       let names = rule_none (unbound_name_in_initializer tree s.names i) rule.Name (or_none _ _ (or_none _ _ initializer).1).0 in
-      let known = initializer_known i subexpressions.2 names in
+      let known = initializer_known i parts.2 names in
       let is = unless_false (is_flawed_initializer tree s i) (initializer_type tree s s.next i) flawless in
-      let begins = or_parts (has_wrong_initializer s.names wanted begun i) false subexpressions.5 in
+      let begins = or_parts (has_wrong_initializer s.names wanted begun i) false parts.5 in
       (flawless, known, λ j. (ap is_unknown_type is ∙ known.known) j || stand.1 j || begins.0 j)
 
   pub variable_known : (n : Name) (t : Option TypeTerm) (initializer : Option Initializer) → first_of_form tree task s (var_form n t initializer) ≡ None →
@@ -295,15 +295,15 @@ module _ (tree : Tree) (task : TaskTree) (s : Scope) (sound : IsSound tree) (sco
       let is = unless_false (is_flawed_initializer tree s i) (initializer_type tree s s.next i) b.0 in
       (bound_soundly None (Some i) (inr b.2) ∙ is, b.1, ap (λ x. cond x [] (known_of_initializer tree s s.next (Some i))) b.0)
   variable_known n (Some t) None e =
-      let subexpressions = parts_of_form (var_form n (Some t) None) e in
-      let typed_none = (or_none (first_in_type tree s.names t) _ subexpressions.0).0 in
+      let parts = parts_of_form (var_form n (Some t) None) e in
+      let typed_none = (or_none (first_in_type tree s.names t) _ parts.0).0 in
       let is = unless_false (is_flawed_type tree s.names t) (type_said tree (in_scope s) s.next t) (type_sound t typed_none) in
       let names = rule_none (unbound_name_in_type tree s.names t) rule.Name (or_none _ _ typed_none).0 in
-      (bound_soundly (Some t) None (inl (or_parts (is_collection (declared_type tree s t)) false subexpressions.5).0) ∙ is, said_known t names, refl)
+      (bound_soundly (Some t) None (inl (or_parts (is_collection (declared_type tree s t)) false parts.5).0) ∙ is, said_known t names, refl)
   variable_known n (Some t) (Some i) e =
-      let subexpressions = parts_of_form (var_form n (Some t) (Some i)) e in
+      let parts = parts_of_form (var_form n (Some t) (Some i)) e in
       let b = begun_sound n (Some t) i e in
-      let typed_none = (or_none (first_in_type tree s.names t) _ subexpressions.0).0 in
+      let typed_none = (or_none (first_in_type tree s.names t) _ parts.0).0 in
       let is = unless_false (is_flawed_type tree s.names t) (type_said tree (in_scope s) s.next t) (type_sound t typed_none) in
       let names = rule_none (unbound_name_in_type tree s.names t) rule.Name (or_none _ _ typed_none).0 in
       (bound_soundly (Some t) (Some i) (inr b.2) ∙ is, said_known t names, ap (λ x. cond x [] (known_of_initializer tree s s.next (Some i))) b.0)

@@ -1,9 +1,9 @@
 -- Where no declaration has a breach, parameters are bound as they are written, and fields and
 -- results are sound.
-use Rattle.std.proofs.Common.{◌⊎◌, inl, inr, Bool, List, None, [], ◌++◌, ◌∷◌, ◌<◌, ◌||◌, ◌≡◌, ℕ, arith, ap, bytes_eq, cond, false, filter, get_or, length, map, not, refl, subst, suc, sym, true, zero, ◌∙◌}
+use Rattle.std.proofs.Common.{◌⊎◌, inl, inr, Bool, List, None, Option, [], ◌++◌, ◌∷◌, ◌<◌, ◌||◌, ◌≡◌, ℕ, arith, ap, bytes_eq, cond, false, filter, flat_map, get_or, length, map, not, refl, subst, suc, sym, true, zero, ◌∙◌}
 use Rattle.std.specs.List.{list_any}
 use Rattle.std.specs.Option.{option_or}
-use Rattle.std.proofs.lemmas.List.{append-nil}
+use Rattle.std.proofs.lemmas.List.{append_assoc, append-nil}
 use Rattle.std.proofs.lemmas.List.Folds.{list_any-append}
 use Rattle.std.proofs.lemmas.Bool.{or_parts, or_from, not-false}
 use Rattle.regent_tree.specs.PlainProgram.{item_of, item_tree_of, task_of}
@@ -23,10 +23,10 @@ use Rattle.regent_tree.specs.declared.types.Ref.TheVariants.{Named, Wild}
 use Rattle.regent_tree.specs.declared.types.TypeTerm.{TypeTerm}
 use Rattle.regent_tree.specs.declared.types.TypeTerm.TheVariants as typed
 use Rattle.regent_tree.specs.declared.typing.Bound.{Bound}
-use Rattle.check_rules.specs.Clauses.{misdeclares, misdeclares_item}
+use Rattle.check_rules.specs.Clauses.{clauses_told, misdeclares, misdeclares_item}
 use Rattle.regent_tree.specs.declared.program.Clause.{Clause}
 use Rattle.check_rules.specs.Counts.{miscounts_in_type}
-use Rattle.check_rules.specs.Bodies.{body_scope}
+use Rattle.check_rules.specs.Bodies.{body_scope, known_once}
 use Rattle.check_rules.specs.Declarations.{is_flawed_field, is_flawed_type, is_no_field_type, is_unknown_ref, names_unknown, params_bound}
 use Rattle.check_rules.specs.Params.{params_beside, says_no_type, term_at, type_unless, types_in_order, with_unknown}
 use Rattle.check_rules.specs.FirstInItems.{first_declared, first_in_fields, first_line, first_of_field, first_of_said, first_of_saying}
@@ -36,7 +36,8 @@ use Rattle.check_rules.specs.Names.{unbound_name_in_type, unbound_name_in_use, m
 use Rattle.check_rules.specs.Sorts.{is_region, is_unknown_type}
 use Rattle.check_rules.specs.Partitions.{miscolours_in_type}
 use Rattle.check_rules.specs.Pointers.{wrong_region_in_type}
-use Rattle.check_rules.specs.Repeats.{repeats_within}
+use Rattle.check_rules.specs.Privileges.{rights_declared, rights_of_clause, rights_told}
+use Rattle.check_rules.specs.Repeats.{Given, given_by, repeats, repeats_after, repeats_within, was_given}
 use Rattle.check_rules.specs.Results.{misdeclares_result}
 use Rattle.check_rules.specs.Rules.{first_in, rule_if}
 use Rattle.check_rules.specs.Spaces.{misfits_in_type}
@@ -153,9 +154,9 @@ module _ (tree : Tree) (written beside : List Bound) (known : (n : Name) → is_
       list_any (λ (p : Param). says_no_type tree written p.term) all ≡ false
   saying_none [] e = refl
   saying_none (p ∷ ps) e =
-      let subexpressions = option_or_parts (first_of_saying tree (record { written = written; names = beside; param = p })) (first_in (first_of_saying tree) (declared ps)) e in
-      let here = two_none p.line (unbound_name_in_type tree written p.term) (miscounts_in_type tree p.term) rule.Name rule.Count subexpressions.0 in
-      or_from _ _ (or_from _ _ here.0 here.1) (saying_none ps subexpressions.1)
+      let parts = option_or_parts (first_of_saying tree (record { written = written; names = beside; param = p })) (first_in (first_of_saying tree) (declared ps)) e in
+      let here = two_none p.line (unbound_name_in_type tree written p.term) (miscounts_in_type tree p.term) rule.Name rule.Count parts.0 in
+      or_from _ _ (or_from _ _ here.0 here.1) (saying_none ps parts.1)
 
   said_none : (all : List Param) → beside ≡ written → first_in (first_of_saying tree) (declared all) ≡ None →
       first_in (first_of_said tree) (declared all) ≡ None →
@@ -202,6 +203,42 @@ bound_written tree params more e f =
     as_written (is_flawed_type tree beside) params beside refl (all_sound tree params more e f).0
     ∙ beside_written tree params more e
 
+-- ---- names that are given once
+
+abbrev was_bound : (bs : List Bound) (earlier : List Given) → Type 0
+was_bound bs earlier = (n : Name) → is_bound bs n ≡ list_any (λ (e : Given). bytes_eq e.name n) earlier
+
+not_again : (again : Bool) (line : ℕ) (more : List ℕ) → (cond again (line ∷ []) [] ++ more) ≡ [] → (again ≡ false) × (more ≡ [])
+not_again true line more e = absurd cc
+not_again false line more e = (refl, e)
+
+once_after : (tree : Tree) (all : List Param) (i : ℕ) (ps : List Param) (bs : List Bound) (earlier : List Given) →
+    was_bound bs earlier → known_once bs ≡ bs → repeats_after earlier (given_by ps) ≡ [] →
+    known_once (bound_params tree all i ps ++ bs) ≡ bound_params tree all i ps ++ bs
+once_after tree all i [] bs earlier same once e = once
+once_after tree all i (p ∷ ps) bs earlier same once e =
+    let b : Bound = record { name = p.name; number = i; place = i; static_type = type_said tree (among_params all) i p.term; by_loop = false } in
+    let g : Given = record { name = p.name; line = p.line } in
+    let parts = not_again (was_given earlier g) p.line (repeats_after (g ∷ earlier) (given_by ps)) e in
+    let fresh : is_bound bs p.name ≡ false = same p.name ∙ parts.0 in
+    let here : known_once (b ∷ bs) ≡ b ∷ bs = λ j. record b { static_type = type_unless (fresh j) b.static_type } ∷ once j in
+    let joined : (bound_params tree all (suc i) ps ++ b ∷ []) ++ bs ≡ bound_params tree all (suc i) ps ++ (b ∷ bs) =
+    append_assoc (bound_params tree all (suc i) ps) (b ∷ []) bs in
+    ap known_once joined
+    ∙ once_after tree all (suc i) ps (b ∷ bs) (g ∷ earlier) (λ n j. bytes_eq p.name n || same n j) here parts.1
+    ∙ sym joined
+
+-- parameters of which no two share a name
+pub bound_once : (tree : Tree) (params : List Param) → repeats (given_by params) ≡ [] →
+    known_once (bound_params tree params 0 params) ≡ bound_params tree params 0 params
+bound_once tree params e =
+    let end = append-nil (bound_params tree params 0 params) in
+    ap known_once (sym end) ∙ once_after tree params 0 params [] [] (λ n. refl) refl e ∙ end
+
+no_lines : (r : Rule) (lines : List ℕ) → first_line r lines ≡ None → lines ≡ []
+no_lines r [] e = refl
+no_lines r (l ∷ ls) e = absurd cc
+
 -- ---- items
 
 -- what isn't told of an item
@@ -233,8 +270,8 @@ fields_none : (fields : List Param) → first_in first_of_field fields ≡ None 
     list_any (λ (p : Param). is_no_field_type p.term) fields ≡ false
 fields_none [] e = refl
 fields_none (p ∷ ps) e =
-    let subexpressions = option_or_parts (first_of_field p) (first_in first_of_field ps) e in
-    or_from _ _ (rule_none _ _ (told_none p.line _ subexpressions.0)) (fields_none ps subexpressions.1)
+    let parts = option_or_parts (first_of_field p) (first_in first_of_field ps) e in
+    or_from _ _ (rule_none _ _ (told_none p.line _ parts.0)) (fields_none ps parts.1)
 
 abbrev flaw : Tree → FieldSpace → TypeTerm → Bool
 flaw tree s t = is_no_field_type t || is_flawed_type tree (params_beside tree s.params) t
@@ -262,10 +299,13 @@ pub task_sound : (tree : Tree) (line : ℕ) (t : TaskTree) →
 task_sound tree line t e =
     let of = untold tree (record { line = line; form = task_item t }) e in
     let same = sym (append-nil t.params) in
+    let written = bound_written tree t.params []
+    (subst (λ all. first_in (first_of_saying tree) (declarations_in tree t.params all) ≡ None) same of.saying)
+    (subst (λ all. first_in (first_of_said tree) (declarations_in tree t.params all) ≡ None) same of.said) in
+    let names = bound_once tree t.params (no_lines rule.Twice (repeats (given_by t.params)) of.twice) in
     record {
-      params = bound_written tree t.params []
-          (subst (λ all. first_in (first_of_saying tree) (declarations_in tree t.params all) ≡ None) same of.saying)
-          (subst (λ all. first_in (first_of_said tree) (declarations_in tree t.params all) ≡ None) same of.said);
+      params = written;
+      once = ap known_once written ∙ names ∙ sym written;
       result = of.returns;
       clauses = of.clauses;
     }
@@ -290,8 +330,8 @@ spaces_sound : (tree items : Tree) → first_in (first_declared tree) items ≡ 
     (k i : ℕ) → flaw tree (get_or (spaces_of items) k nothing) (term_at (get_or (spaces_of items) k nothing).fields i) ≡ false
 spaces_sound tree [] e k i = refl
 spaces_sound tree (item ∷ items) e k i =
-    let subexpressions = option_or_parts (first_declared tree item) (first_in (first_declared tree) items) e in
-    more_spaces tree item.line item.form items subexpressions.0 (spaces_sound tree items subexpressions.1) k i
+    let parts = option_or_parts (first_declared tree item) (first_in (first_declared tree) items) e in
+    more_spaces tree item.line item.form items parts.0 (spaces_sound tree items parts.1) k i
 
 -- no field's declaration has a breach
 pub field_sound : (tree : Tree) → first_in (first_declared tree) tree ≡ None → (s : ℕ) (f : Name) →
@@ -299,7 +339,7 @@ pub field_sound : (tree : Tree) → first_in (first_declared tree) tree ≡ None
 field_sound tree e s f = spaces_sound tree tree e s (field_place tree s f)
 
 no_task_sound : (tree : Tree) → IsSoundTask tree no_task
-no_task_sound tree = record { params = refl; result = refl; clauses = refl }
+no_task_sound tree = record { params = refl; once = refl; result = refl; clauses = refl }
 
 either_sound : (tree : Tree) (b : Bool) (t u : TaskTree) → IsSoundTask tree t → IsSoundTask tree u → IsSoundTask tree (cond b t u)
 either_sound tree true t u h k = h
@@ -318,8 +358,8 @@ more_tasks tree line (task_item t) items n e h =
 tasks_sound : (tree items : Tree) → first_in (first_declared tree) items ≡ None → (n : Name) → IsSoundTask tree (task_named items n)
 tasks_sound tree [] e n = no_task_sound tree
 tasks_sound tree (item ∷ items) e n =
-    let subexpressions = option_or_parts (first_declared tree item) (first_in (first_declared tree) items) e in
-    more_tasks tree item.line item.form items n subexpressions.0 (tasks_sound tree items subexpressions.1 n)
+    let parts = option_or_parts (first_declared tree item) (first_in (first_declared tree) items) e in
+    more_tasks tree item.line item.form items n parts.0 (tasks_sound tree items parts.1 n)
 
 -- the task of a name, also where there is none
 pub named_sound : (tree : Tree) → first_in (first_declared tree) tree ≡ None → (n : Name) → IsSoundTask tree (task_named tree n)
@@ -351,6 +391,7 @@ all_is_sound tree e = record {
   params = λ n. (named_sound tree e n).params;
   fields = λ s f has. field_sound tree e s f;
   results = λ n. (named_sound tree e n).result;
+  clauses = λ n. (named_sound tree e n).clauses;
   tasks = standing_sound tree e;
 }
 
@@ -363,8 +404,17 @@ all_told : (misdeclared : Clause → Bool) (cs : List Clause) → list_any misde
     filter (λ c. not (misdeclared c)) cs ≡ cs
 all_told misdeclared [] e = refl
 all_told misdeclared (c ∷ cs) e =
-    let subexpressions = or_parts (misdeclared c) (list_any misdeclared cs) e in
-    kept (misdeclared c) c (filter (λ c. not (misdeclared c)) cs) cs subexpressions.0 (all_told misdeclared cs subexpressions.1)
+    let parts = or_parts (misdeclared c) (list_any misdeclared cs) e in
+    kept (misdeclared c) c (filter (λ c. not (misdeclared c)) cs) cs parts.0 (all_told misdeclared cs parts.1)
+
+-- a task without a clause that has a breach
+pub told_soundly : (tree : Tree) (t : TaskTree) → list_any (misdeclares tree (params_bound tree t.params)) t.clauses ≡ false →
+    clauses_told tree t ≡ t.clauses
+told_soundly tree t e = all_told (misdeclares tree (params_bound tree t.params)) t.clauses e
+
+pub rights_soundly : (tree : Tree) (t : TaskTree) → list_any (misdeclares tree (params_bound tree t.params)) t.clauses ≡ false →
+    rights_told tree t ≡ rights_declared tree t
+rights_soundly tree t e = ap (flat_map (rights_of_clause tree t.params)) (told_soundly tree t e)
 
 abbrev scope_with : List Param → List Bound → List Clause → Scope
 scope_with params names clauses = record {
@@ -376,8 +426,8 @@ scope_with params names clauses = record {
 -- the scope of a sound task's body
 pub body_scope_written : (tree : Tree) (t : TaskTree) → IsSoundTask tree t → body_scope tree t ≡ scope_of tree t
 body_scope_written tree t sound =
-    ap (scope_with t.params (params_bound tree t.params)) (all_told (misdeclares tree (params_bound tree t.params)) t.clauses sound.clauses)
-    ∙ ap (λ (names : List Bound). scope_with t.params names t.clauses) sound.params
+    ap (scope_with t.params (known_once (params_bound tree t.params))) (told_soundly tree t sound.clauses)
+    ∙ ap (λ (names : List Bound). scope_with t.params names t.clauses) (sound.once ∙ sound.params)
 
 form_at : (items : List Item) (k : ℕ) (item : Item) (t : Task) → k < length items → item ≡ get_or items k item →
     item.what ≡ kind.Task t →

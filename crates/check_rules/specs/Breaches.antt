@@ -4,7 +4,15 @@
 -- A breach stands on the line of its statement, parameter or item. What is unbound or has a breach (an
 -- expression, an initializer, a declared type), and a region, partition or index space that doesn't
 -- begin as it must, has an unknown type. That fits everything, so that what follows from a breach is
--- none.
+-- none, but for these:
+--
+-- Of two tasks, field spaces or fields of one name the first is meant, also where the second is used.
+-- In types and clauses beside parameters that share a name the last of them is meant, and for the
+-- arguments of a call the first.
+-- A parameter in whose type rule 13 or 14 is breached is what is written among the other parameters,
+-- and where its field space is used.
+-- A call with a wrong number of arguments is looked at by those that are there.
+-- Parameters' types are read with a call's arguments, also where one of these breaches rule 14.
 use Rattle.std.specs.List.{list_any}
 use Rattle.std.specs.Prelude.{Bool, List, None, [], cond, false, filter, flat_map, fold, map, option_to_list, true, ℕ, ◌&&◌, ◌++◌, ◌==◌, ◌||◌, ◌∷◌}
 use Rattle.regent_tree.specs.Scopes.{Scope}

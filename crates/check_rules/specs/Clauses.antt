@@ -1,9 +1,9 @@
 -- Rule 16, Declared: what a clause names is no parameter that is a region, or no field of that region.
 use Rattle.std.specs.List.{list_all, list_any}
-use Rattle.std.specs.Prelude.{Bool, List, None, Option, Some, false, not, ◌||◌}
+use Rattle.std.specs.Prelude.{Bool, List, None, Option, Some, false, filter, not, ◌||◌}
 use Rattle.regent_tree.specs.declared.typing.Bound.{Bound}
 use Rattle.regent_tree.specs.declared.typing.StaticType.{StaticType}
-use Rattle.regent_tree.specs.Syntax.{ItemForm, Name, Tree, task_item}
+use Rattle.regent_tree.specs.Syntax.{ItemForm, Name, TaskTree, Tree, task_item}
 use Rattle.regent_tree.specs.declared.program.Clause.{Clause}
 use Rattle.regent_tree.specs.declared.program.Clause.TheVariants as clause
 use Rattle.regent_tree.specs.declared.program.Place.{Place}
@@ -28,6 +28,10 @@ misdeclares tree names (clause.Grants grants places) =
     list_any (misdeclares_place tree names) places
 misdeclares tree names (clause.Within a b) = is_no_region names a || is_no_region names b
 misdeclares tree names (clause.Apart a b) = is_no_region names a || is_no_region names b
+
+-- the clauses of a task that name what is there
+abbrev pub clauses_told : Tree → TaskTree → List Clause
+clauses_told tree t = filter (λ c. not (misdeclares tree (params_bound tree t.params) c)) t.clauses
 
 abbrev pub misdeclares_item : Tree → ItemForm → Bool
 misdeclares_item tree (task_item t) =

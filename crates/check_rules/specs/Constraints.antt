@@ -1,5 +1,5 @@
 -- Rule 12, CallConstraint: what a called task says of its regions doesn't follow, for the arguments,
--- from what is known.
+-- from what is known. A clause with a breach says nothing.
 use Rattle.std.specs.List.{list_any}
 use Rattle.std.specs.Prelude.{Bool, List, false, not}
 use Rattle.regent_tree.specs.Facts.{are_disjoint, is_subregion}
@@ -11,6 +11,7 @@ use Rattle.regent_tree.specs.declared.facts.Known.{Known}
 use Rattle.regent_tree.specs.declared.program.Clause.{Clause}
 use Rattle.regent_tree.specs.declared.program.Clause.TheVariants as clause
 use Rattle.regent_tree.specs.declared.types.Param.{Param}
+use Rattle.check_rules.specs.Clauses.{clauses_told}
 use Rattle.check_rules.specs.TypedForms.{Calling}
 use Rattle.check_rules.specs.Sorts.{type_at}
 
@@ -38,4 +39,4 @@ breaks_clause known params types (clause.Grants grants places) = false
 
 abbrev pub breaks_constraint : Tree → List Known → Calling → Bool
 breaks_constraint tree known c = let t = task_named tree c.task in
-    list_any (breaks_clause known t.params c.args) t.clauses
+    list_any (breaks_clause known t.params c.args) (clauses_told tree t)

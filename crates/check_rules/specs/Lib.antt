@@ -34,3 +34,4 @@ pub mod FirstInExpressions
 pub mod FirstInStatements
 pub mod FirstInItems
 pub mod Sound
+pub mod Acceptance

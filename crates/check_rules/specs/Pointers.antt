@@ -1,38 +1,40 @@
 -- Rule 13, Pointer: `x.f` where `wild` is among the regions of x; a written pointer type with `wild`
 -- among its regions, or with a name there of what is no region of its field space and kind.
 use Rattle.std.specs.List.{list_any}
-use Rattle.std.specs.Prelude.{Bool, List, false, not, true, ℕ, ◌&&◌, ◌==◌}
+use Rattle.std.specs.Prelude.{Bool, List, false, not, true, ◌&&◌, ◌==◌, ◌||◌}
 use Rattle.regent_tree.specs.declared.typing.Bound.{Bound}
 use Rattle.regent_tree.specs.StaticTypes.{place_of_space}
 use Rattle.regent_tree.specs.declared.typing.StaticType.{StaticType}
 use Rattle.regent_tree.specs.declared.typing.StaticType.TheVariants.{Region as region_type}
 use Rattle.regent_tree.specs.Syntax.{Tree}
 use Rattle.regent_tree.specs.Typing.{has_wild, reaches_of}
-use Rattle.regent_tree.specs.declared.types.Kind.{Kind}
+use Rattle.regent_tree.specs.declared.types.PointerTerm.{PointerTerm}
 use Rattle.regent_tree.specs.declared.types.Ref.{Ref}
 use Rattle.regent_tree.specs.declared.types.Ref.TheVariants.{Named, Wild}
 use Rattle.regent_tree.specs.declared.types.TypeTerm.{TypeTerm}
 use Rattle.regent_tree.specs.declared.types.TypeTerm.TheVariants as typed
-use Rattle.regent_tree.specs.Lookup.{has_space, type_named}
+use Rattle.regent_tree.specs.Lookup.{has_space}
+use Rattle.check_rules.specs.Lookup.{names_a}
 use Rattle.check_rules.specs.TypedForms.{TypedForm, Taking, typed_access, field_of}
-use Rattle.check_rules.specs.Sorts.{may_be, same_kind}
+use Rattle.check_rules.specs.Sorts.{same_kind}
 
 -- ---- types
 
--- whether a type is of a region of a field space and kind, whatever its arguments
-abbrev pub is_region_in : Kind → ℕ → StaticType → Bool
-is_region_in k s (region_type j u args r) = same_kind k j && (s == u)
-is_region_in k s t = false
+-- whether a type is of a region of a pointer type's kind and field space, whatever its arguments; a
+-- field space that isn't there fits all
+abbrev pub is_region_in : Tree → PointerTerm → StaticType → Bool
+is_region_in tree p (region_type k s args r) = same_kind p.kind k
+    && (not (has_space tree p.space.name) || (place_of_space tree p.space.name == s))
+is_region_in tree p t = false
 
--- `wild` stands in a pointer type's own list, or the name of what is no region of its field space
--- and kind
-abbrev pub is_wrong_region_of_pointer : List Bound → Kind → ℕ → Ref → Bool
-is_wrong_region_of_pointer names k s Wild = true
-is_wrong_region_of_pointer names k s (Named n) = not (may_be (is_region_in k s) (type_named names n))
+-- `wild` stands in a pointer type's own list, or a name that isn't bound to a region of its field
+-- space and kind
+abbrev pub is_wrong_region_of_pointer : Tree → List Bound → PointerTerm → Ref → Bool
+is_wrong_region_of_pointer tree names p Wild = true
+is_wrong_region_of_pointer tree names p (Named n) = not (names_a (is_region_in tree p) names n)
 
 abbrev pub wrong_region_in_type : Tree → List Bound → TypeTerm → Bool
-wrong_region_in_type tree names (typed.Pointer t) = has_space tree t.space.name
-    && list_any (is_wrong_region_of_pointer names t.kind (place_of_space tree t.space.name)) t.regions
+wrong_region_in_type tree names (typed.Pointer p) = list_any (is_wrong_region_of_pointer tree names p) p.regions
 wrong_region_in_type tree names t = false
 
 -- ---- expressions

@@ -26,6 +26,7 @@ use Rattle.regent_tree.specs.declared.rights.Access.{Access}
 use Rattle.regent_tree.specs.declared.rights.Access.TheVariants as access
 use Rattle.regent_tree.specs.declared.rights.Right.{Right}
 use Rattle.regent_tree.specs.declared.rights.Wanted.{Wanted}
+use Rattle.check_rules.specs.Clauses.{clauses_told}
 use Rattle.check_rules.specs.Declarations.{params_bound, params_of}
 use Rattle.check_rules.specs.KnownTypes.{typed_form_of}
 use Rattle.regent_tree.specs.Lookup.{has_field, type_named}
@@ -163,6 +164,10 @@ reductions_by tree s form = []
 
 -- ---- rule 11: calling
 
+-- the privileges that a task declares in clauses without a breach
+abbrev pub rights_told : Tree → TaskTree → List Right
+rights_told tree t = flat_map (rights_of_clause tree t.params) (clauses_told tree t)
+
 -- a called task's privilege on a parameter, as what is wanted of the argument; where the argument
 -- has another field space, that is the breach
 abbrev pub wanted_of_argument : StaticType → StaticType → Right → List Wanted
@@ -174,4 +179,4 @@ abbrev pub wanted_by_call : Tree → Calling → List Wanted
 wanted_by_call tree c = flat_map
     (λ (w : Right). wanted_of_argument (type_at (params_of tree c.task) w.region)
     (type_at c.args w.region) w)
-    (rights_declared tree (task_named tree c.task))
+    (rights_told tree (task_named tree c.task))

@@ -5,6 +5,7 @@ use Rattle.regent_tree.specs.Lookup.{has_field}
 use Rattle.regent_tree.specs.Scopes.{bound_params}
 use Rattle.regent_tree.specs.StaticTypes.{task_named}
 use Rattle.regent_tree.specs.Syntax.{ItemTree, Name, TaskTree, Tree, task_item}
+use Rattle.check_rules.specs.Bodies.{known_once}
 use Rattle.check_rules.specs.Clauses.{misdeclares}
 use Rattle.check_rules.specs.Declarations.{is_flawed_field, is_no_result_type, params_bound}
 
@@ -15,6 +16,7 @@ StandsIn tree t = Contains (map (λ (i : ItemTree). i.form) tree) (task_item t)
 -- a task's parameters are bound as they are written, and its result type and clauses have no breach
 pub record IsSoundTask (tree : Tree) (t : TaskTree) : Type 0 where
   pub params : params_bound tree t.params ≡ bound_params tree t.params 0 t.params
+  pub once : known_once (params_bound tree t.params) ≡ params_bound tree t.params
   pub result : is_no_result_type t.result ≡ false
   pub clauses : list_any (misdeclares tree (params_bound tree t.params)) t.clauses ≡ false
 
@@ -24,4 +26,6 @@ pub record IsSound (tree : Tree) : Type 0 where
       ≡ bound_params tree (task_named tree n).params 0 (task_named tree n).params
   pub fields : (s : ℕ) (f : Name) → has_field tree s f ≡ true → is_flawed_field tree s f ≡ false
   pub results : (n : Name) → is_no_result_type (task_named tree n).result ≡ false
+  pub clauses : (n : Name) → list_any (misdeclares tree (params_bound tree (task_named tree n).params))
+      (task_named tree n).clauses ≡ false
   pub tasks : (t : TaskTree) → StandsIn tree t → IsSoundTask tree t

@@ -29,7 +29,7 @@ differs_from types (region_type k s args r) t = not (is_region_like k s (map (pu
 differs_from types wanted t = not (is_unknown_type wanted)
 
 -- A region's kind, field space or field space arguments are others than the parameter's, read with
--- all the arguments; what isn't a region is told elsewhere.
+-- all the arguments; what isn't a region is told by the rule on names.
 abbrev pub differs : List StaticType → StaticType → StaticType → Bool
 differs types wanted t = is_region t && differs_from types wanted t
 
@@ -54,6 +54,12 @@ misfits_in_type tree names t = list_any (misfits_use tree names) (uses_of t)
 
 -- ---- calls
 
--- a region argument differs from the parameter at its place
+-- A region argument differs from the region parameter at its place. Where the parameter is no region,
+-- that is told by the rules on types and places.
+abbrev pub misfit_in : List StaticType → List StaticType → List StaticType → Bool
+misfit_in types [] ts = false
+misfit_in types (p ∷ ps) [] = false
+misfit_in types (p ∷ ps) (t ∷ ts) = (is_region p && differs types p t) || misfit_in types ps ts
+
 abbrev pub misfits_call : List StaticType → Calling → Bool
-misfits_call params c = differ_in c.args params c.args
+misfits_call params c = misfit_in c.args params c.args

@@ -9,7 +9,7 @@ use Rattle.regent_tree.specs.declared.statement.How.{How}
 use Rattle.regent_tree.specs.declared.statement.How.TheVariants as how
 use Rattle.check_rules.specs.KnownTypes.{known_type}
 use Rattle.regent_tree.specs.Lookup.{is_bound}
-use Rattle.check_rules.specs.Sorts.{is_collection, is_integer, is_space, is_unknown_type, may_be}
+use Rattle.check_rules.specs.Sorts.{is_collection, is_integer, is_space, may_be}
 
 -- whether a name can't be assigned; parameters are the first bindings of a task
 abbrev pub is_fixed : TaskTree → Bound → Bool
@@ -22,9 +22,9 @@ ends_in_element (at_step e no_step) = true
 ends_in_element (field_step f rest) = ends_in_element rest
 ends_in_element (at_step e rest) = ends_in_element rest
 
--- an access of a type that is known ends in an element, or in the colours of a partition
+-- an access ends in an element, whatever else is wrong with it, or in the colours of a partition
 abbrev pub ends_in_no_place : Steps → StaticType → Bool
-ends_in_no_place steps t = not (is_unknown_type t) && (ends_in_element steps || is_space t)
+ends_in_no_place steps t = ends_in_element steps || is_space t
 
 abbrev pub is_no_target : TaskTree → List Bound → Name → Steps → StaticType → Bool
 is_no_target task names n no_step t = is_bound names n && is_fixed task (bound_to names n)

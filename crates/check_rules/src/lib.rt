@@ -1,12 +1,15 @@
-//! The rules that the checker checks: the breaches of a tree, as pairs of a rule and a line.
+//! The rules that the checker checks: the breaches of a tree, as pairs of a rule and a line; and programs
+//! without a breach.
 //!
 //! The definitions are under specs/. A function with an empty body says a law of them by its contract.
 #![tactic(auto)]
 
 ghost use Rattle.check_rules.specs.Laws.{TypesAsMeant, PairsKept, FirstIsOne, NoneWithoutFirst};
 
+mod accepted;
 mod rule;
 
+pub use accepted::Accepted;
 pub use rule::Rule;
 
 /// An expression has the type that the meaning of programs gives it, or an unknown one.

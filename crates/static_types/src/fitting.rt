@@ -98,12 +98,9 @@ fn lies_in_one(facts: &Facts, targets: &[Reach], a: &Term) -> bool
 fn all_lie_in_one(facts: &Facts, targets: &[Reach], regions: &[Reach]) -> bool
     ensures { result ≡ list_all (has_position facts.now targets.now) regions.now }
 {
-    for region in regions {
-        if !has_position(facts, targets, region) {
-            return false;
-        }
-    }
-    true
+    regions
+        .iter()
+        .all(|region| has_position(facts, targets, region))
 }
 
 /// Whether a pointer into these regions fits a type: its index kind, or a pointer type whose list

@@ -22,7 +22,7 @@ pub use looking::{
 pub use operators::{
     after_operator, after_sign, arithmetic_type, counting_as, is_ill_typed_operation,
 };
-pub use params::{bind_written, differ_in, mispartition_in, put_in, said_params};
+pub use params::{bind_written, misfit_in, mispartition_in, put_in, said_params};
 pub use said::{number_type, type_said, written_pointer};
 pub use sorts::{
     copy_reaches, copy_type, is_collection, is_index, is_integer, is_number, is_partition,

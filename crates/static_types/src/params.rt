@@ -8,14 +8,14 @@ ghost use Rattle.regent_tree.specs.declared.typing.StaticType.TheVariants.{Regio
 ghost use Rattle.regent_tree.specs.Typing.{put, put_in, reach_of};
 ghost use Rattle.check_rules.specs.Fitting.{agree_all};
 ghost use Rattle.check_rules.specs.Partitions.{is_parent, mispartitions, mispartition_in};
-ghost use Rattle.check_rules.specs.Spaces.{differs_from, differs, differ_in};
+ghost use Rattle.check_rules.specs.Spaces.{differs_from, differs, differ_in, misfit_in};
 ghost use Rattle.check_rules.specs.Params.{types_in_order};
 ghost use Rattle.check_rules.specs.Sorts.{type_at};
 
 use crate::fitting::{agree, alike};
 use crate::looking::{Among, number_at};
 use crate::said::type_said;
-use crate::sorts::copy_type;
+use crate::sorts::{copy_type, is_region};
 use plain_values::Sequence;
 use program_tables::{Names, Tables, copy_name};
 use regent_tree::{Kind, Param, Reach, StaticType, Term};
@@ -141,7 +141,7 @@ fn differs_from(
     }
 }
 
-/// Whether a region argument differs from the parameter at its place.
+/// Whether a region that a field space use gives differs from the parameter at its place.
 pub fn differ_in(types: &[StaticType], params: &[StaticType], args: &[StaticType]) -> bool
     ensures { result ≡ differ_in types.now params.now args.now }
 {
@@ -150,6 +150,21 @@ pub fn differ_in(types: &[StaticType], params: &[StaticType], args: &[StaticType
             return false;
         };
         if differs(types, wanted, t) {
+            return true;
+        }
+    }
+    false
+}
+
+/// Whether a region argument differs from the region parameter at its place.
+pub fn misfit_in(types: &[StaticType], params: &[StaticType], args: &[StaticType]) -> bool
+    ensures { result ≡ misfit_in types.now params.now args.now }
+{
+    for (place, wanted) in params.iter().enumerate() {
+        let Some(t) = args.get(place) else {
+            return false;
+        };
+        if is_region(wanted) && differs(types, wanted, t) {
             return true;
         }
     }

@@ -1,11 +1,11 @@
 //! The rules on written types.
 
-ghost use Rattle.std.specs.Prelude.{◌≡◌, length, map, IfOk, option_to_list};
+ghost use Rattle.std.specs.Prelude.{◌≡◌, ◌==◌, ◌||◌, length, map, not, IfOk, option_to_list};
 ghost use Rattle.std.specs.Option.{option_copied};
-ghost use Rattle.regent_tree.specs.Lookup.{space_used, type_named};
+ghost use Rattle.regent_tree.specs.Lookup.{has_space, space_used, type_named};
 ghost use Rattle.std.specs.List.{list_any};
 ghost use Rattle.regent_tree.specs.PlainProgram.{tree_of};
-ghost use Rattle.regent_tree.specs.StaticTypes.{among_params, type_said, written_pointer};
+ghost use Rattle.regent_tree.specs.StaticTypes.{among_params, place_of_space, type_said, written_pointer};
 ghost use Rattle.check_rules.specs.Declarations.{is_flawed_type, is_unknown_ref, names_unknown};
 ghost use Rattle.check_rules.specs.Params.{params_beside, says_no_type, type_unless, types_in_order};
 ghost use Rattle.static_types.specs.Scopes.{in_names};
@@ -28,7 +28,7 @@ use crate::sorts::{copy_type, is_partition, is_region, is_space, is_unknown, is_
 use crate::stop::Stop;
 use check_rules::Rule;
 use program_tables::{Names, Tables};
-use regent_tree::{Kind, Name, Param, PointerTerm, Ref, SpaceUse, StaticType, TypeTerm};
+use regent_tree::{Name, Param, PointerTerm, Ref, SpaceUse, StaticType, TypeTerm};
 use std::alloc::{AllocError, Global};
 
 /// Whether a name is bound to a region, as far as is known.
@@ -72,12 +72,7 @@ fn misses_region(names: &Names, region: &Ref) -> bool
 fn any_misses_region(names: &Names, regions: &[Ref]) -> bool
     ensures { result ≡ list_any (misses_region names.now) regions.now }
 {
-    for region in regions {
-        if misses_region(names, region) {
-            return true;
-        }
-    }
-    false
+    regions.iter().any(|region| misses_region(names, region))
 }
 
 fn unbound_name_in_use(tables: &Tables, names: &Names, used: &SpaceUse) -> bool
@@ -156,53 +151,57 @@ pub fn miscounts_in_type(tables: &Tables, term: &TypeTerm) -> bool
     }
 }
 
-/// Whether a type is of a region of a field space and kind, as far as is known.
-fn may_be_region_in(kind: Kind, space: u32, t: &StaticType) -> bool
-    ensures { result ≡ sort.may_be (is_region_in kind space) t.now }
+/// Whether a field space has a place, as far as is known: one that isn't there may have any.
+fn may_be_at(tables: &Tables, name: &Name, place: u32) -> bool
+    ensures { result ≡ (not (has_space (tree_of tables.now) name.now)
+        || (place_of_space (tree_of tables.now) name.now == place)) }
+{
+    match tables.space(name) {
+        Some(found) => found == place,
+        None => true,
+    }
+}
+
+/// Whether a type is of a region of a pointer type's kind and field space, as far as is known.
+fn may_be_region_in(tables: &Tables, pointer: &PointerTerm, t: &StaticType) -> bool
+    ensures { result ≡ sort.may_be (is_region_in (tree_of tables.now) pointer.now) t.now }
 {
     match t {
         StaticType::Unknown => true,
-        StaticType::Region {
-            kind: other_kind,
-            space: other_space,
-            ..
-        } => kind == *other_kind && space == *other_space,
+        StaticType::Region { kind, space, .. } => pointer.kind == *kind
+            && may_be_at(tables, &pointer.space.name, *space),
         _ => false,
     }
 }
 
-/// Whether a pointer type of a kind and field space can't lead into this region.
-#[tactic(auto, using(crate::proofs::Scopes::bound_to_none))]
-fn is_wrong_region_of_pointer(names: &Names, kind: Kind, space: u32, region: &Ref) -> bool
-    ensures { result ≡ is_wrong_region_of_pointer names.now kind space region.now }
+/// Whether a pointer type can't lead into this region.
+fn is_wrong_region_of_pointer(
+    tables: &Tables,
+    names: &Names,
+    pointer: &PointerTerm,
+    region: &Ref,
+) -> bool
+    ensures { result ≡ is_wrong_region_of_pointer (tree_of tables.now) names.now pointer.now region.now }
 {
     match region {
         Ref::Wild => true,
         Ref::Named(name) => match names.bound_to(name) {
-            Some(bound) => !may_be_region_in(kind, space, &bound.static_type),
-            None => false,
+            Some(bound) => !may_be_region_in(tables, pointer, &bound.static_type),
+            None => true,
         },
     }
 }
 
-fn any_mispoints(names: &Names, kind: Kind, space: u32, regions: &[Ref]) -> bool
-    ensures { result ≡ list_any (is_wrong_region_of_pointer names.now kind space) regions.now }
+fn any_mispoints(tables: &Tables, names: &Names, pointer: &PointerTerm, regions: &[Ref]) -> bool
+    ensures { result ≡ list_any (is_wrong_region_of_pointer (tree_of tables.now) names.now pointer.now) regions.now }
 {
-    for region in regions {
-        if is_wrong_region_of_pointer(names, kind, space, region) {
-            return true;
-        }
-    }
-    false
+    regions.iter().any(|region| is_wrong_region_of_pointer(tables, names, pointer, region))
 }
 
 fn mispoints_in_pointer(tables: &Tables, names: &Names, pointer: &PointerTerm) -> bool
     ensures { result ≡ wrong_region_in_type (tree_of tables.now) names.now (typed.Pointer pointer.now) }
 {
-    match tables.space(&pointer.space.name) {
-        Some(space) => any_mispoints(names, pointer.kind, space, pointer.regions.as_slice()),
-        None => false,
-    }
+    any_mispoints(tables, names, pointer, pointer.regions.as_slice())
 }
 
 /// Whether a pointer type names what it can't lead into, or has `wild` in its own list.
@@ -238,12 +237,7 @@ fn is_unknown_ref(names: &Names, region: &Ref) -> bool
 fn any_unknown_ref(names: &Names, regions: &[Ref]) -> bool
     ensures { result ≡ list_any (is_unknown_ref names.now) regions.now }
 {
-    for region in regions {
-        if is_unknown_ref(names, region) {
-            return true;
-        }
-    }
-    false
+    regions.iter().any(|region| is_unknown_ref(names, region))
 }
 
 fn pointer_names_unknown(names: &Names, pointer: &PointerTerm) -> bool

@@ -203,25 +203,19 @@ module _ (tree : Tree) (task : TaskTree) (s : Scope) (n : Name) where
       ∙ ap (λ (u : StaticType). wanted_of_last tree a (taking_at tree s u last ∷ [])) (sym l.before)
 
   unplaced : (x : Step) (xs : List Step) (t : StaticType) →
-      is_no_target task s.names n (steps_in (x ∷ xs)) t
-      ≡ (not (is_unknown_type t) && (ends_in_element (steps_in (x ∷ xs)) || is_space t))
+      is_no_target task s.names n (steps_in (x ∷ xs)) t ≡ (ends_in_element (steps_in (x ∷ xs)) || is_space t)
   unplaced (Field f) xs t = refl
   unplaced (At e) xs t = refl
 
   unplaced_last : (front : List Step) (last : Step) (t : StaticType) →
-      is_no_target task s.names n (steps_in (front ++ last ∷ [])) t
-      ≡ (not (is_unknown_type t) && (is_place last || is_space t))
-  unplaced_last [] last t = unplaced last [] t ∙ ap (λ b. not (is_unknown_type t) && (b || is_space t)) (ends_as_last [] last)
-  unplaced_last (x ∷ xs) last t = unplaced x (xs ++ last ∷ []) t ∙ ap (λ b. not (is_unknown_type t) && (b || is_space t)) (ends_as_last (x ∷ xs) last)
+      is_no_target task s.names n (steps_in (front ++ last ∷ [])) t ≡ (is_place last || is_space t)
+  unplaced_last [] last t = unplaced last [] t ∙ ap (λ b. b || is_space t) (ends_as_last [] last)
+  unplaced_last (x ∷ xs) last t = unplaced x (xs ++ last ∷ []) t ∙ ap (λ b. b || is_space t) (ends_as_last (x ∷ xs) last)
 
   no_place_led : (steps : List Step) (last : Step) (holder t : StaticType) → LeadsTo tree s n steps last holder t →
-      is_no_target task s.names n (steps_in steps) t ≡ (not (is_unknown_type t) && (is_place last || is_space t))
+      is_no_target task s.names n (steps_in steps) t ≡ (is_place last || is_space t)
   no_place_led steps last holder t l =
       ap (λ (ss : List Step). is_no_target task s.names n (steps_in ss) t) l.whole ∙ unplaced_last l.front last t
-
-  and_true : (a : Bool) → (a && true) ≡ a
-  and_true true = refl
-  and_true false = refl
 
   pub type_of_led : (steps : List Step) (t : Target) → IsTarget tree s n steps t →
       known_type tree s (access_expr n (steps_in steps)) ≡ type_of_target t
@@ -236,8 +230,7 @@ module _ (tree : Tree) (task : TaskTree) (s : Scope) (n : Name) where
       ap (λ (ss : List Step). is_no_target task s.names n (steps_in ss) t) none
   no_place steps (target.Field holder f t) l = no_place_led steps (Field f.now) holder t l
   no_place steps (target.Element t) (last, holder, element, l) =
-      no_place_led steps last holder t l
-      ∙ ap (λ b. not (is_unknown_type t) && (b || is_space t)) element ∙ and_true (not (is_unknown_type t))
+      no_place_led steps last holder t l ∙ ap (λ b. b || is_space t) element
 
   pub mistargets_led : (steps : List Step) (h : How) (t : Target) → IsTarget tree s n steps t →
       rules_on.mistargets task s.names n (steps_in steps) h (known_type tree s (access_expr n (steps_in steps)))

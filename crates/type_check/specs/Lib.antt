@@ -4,6 +4,5 @@ pub mod Targets
 pub mod Beginning
 pub mod Variables
 pub mod Lines
-pub mod Acceptance
 pub mod Refusals
 pub mod Items

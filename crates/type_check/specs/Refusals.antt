@@ -4,8 +4,8 @@ use Rattle.regent_tree.specs.PlainProgram.{tree_of}
 use Rattle.regent_tree.specs.declared.program.Program.{Program}
 use Rattle.check_rules.specs.Breaches.{breaches, breaks}
 use Rattle.check_rules.specs.FirstInItems.{first_breach}
-use Rattle.type_check.specs.declared.accepted.CheckFault.{CheckFault}
-use Rattle.type_check.specs.declared.accepted.CheckFault.TheVariants.{Memory, Refused}
+use Rattle.type_check.specs.declared.check_fault.CheckFault.{CheckFault}
+use Rattle.type_check.specs.declared.check_fault.CheckFault.TheVariants.{Memory, Refused}
 
 -- the program is as it was, and the rule is breached on the line, as the first in the order of the
 -- checker; want of memory says nothing

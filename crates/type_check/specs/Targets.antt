@@ -1,5 +1,5 @@
 -- What an assignment goes to.
-use Rattle.std.specs.Prelude.{Bool, List, Option, [], not, true, ◌&&◌, ◌++◌, ◌||◌, ◌∷◌, ◌≡◌}
+use Rattle.std.specs.Prelude.{Bool, List, Option, [], true, ◌&&◌, ◌++◌, ◌||◌, ◌∷◌, ◌≡◌}
 use Rattle.regent_tree.specs.Lookup.{is_bound, type_named}
 use Rattle.regent_tree.specs.Plain.{steps_in}
 use Rattle.regent_tree.specs.Scopes.{Scope, bound_to}
@@ -17,7 +17,7 @@ use Rattle.check_rules.specs.KnownTypes.{known_type_after_steps}
 use Rattle.check_rules.specs.Privileges.{lacks, wanted_of_step}
 use Rattle.check_rules.specs.Rules.{first_of, rule_if}
 use Rattle.check_rules.specs.TypedForms.{field_of}
-use Rattle.check_rules.specs.Sorts.{is_space, is_unknown_type}
+use Rattle.check_rules.specs.Sorts.{is_space}
 use Rattle.check_rules.specs.Standing.{stands}
 use Rattle.check_rules.specs.Statements.{spot_of_target}
 use Rattle.check_rules.specs.Targets.{is_fixed, is_no_integer}
@@ -69,8 +69,8 @@ first_at_last tree task s t (At e) = first_at_step tree task s t (At e)
 -- a variable that is fixed, the colours of a partition, or an element
 abbrev pub is_no_place : TaskTree → List Bound → Name → Target → Bool
 is_no_place task names n (target.Variable t) = is_bound names n && is_fixed task (bound_to names n)
-is_no_place task names n (target.Field holder f t) = not (is_unknown_type t) && is_space t
-is_no_place task names n (target.Element t) = not (is_unknown_type t)
+is_no_place task names n (target.Field holder f t) = is_space t
+is_no_place task names n (target.Element t) = true
 
 abbrev pub mistargets : TaskTree → List Bound → Name → Target → How → Bool
 mistargets task names n t h = is_no_place task names n t || is_no_integer h (type_of_target t)

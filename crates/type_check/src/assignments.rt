@@ -121,7 +121,7 @@ fn is_no_place(site: &Site, names: &Names, name: &Name, target: &Target) -> bool
             None => false,
         },
         Target::Field { static_type, .. } => is_space(static_type),
-        Target::Element(t) => !is_unknown(t),
+        Target::Element(_) => true,
     }
 }
 

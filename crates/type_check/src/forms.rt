@@ -39,12 +39,7 @@ fn any_misnames(declared: &Declared, names: &Names, region: &Name, fields: &[Nam
     ensures { result
         ≡ list_any (is_unknown_region_field (tree_of declared.now) names.now region.now) fields.now }
 {
-    for field in fields {
-        if is_unknown_region_field(declared, names, region, field) {
-            return true;
-        }
-    }
-    false
+    fields.iter().any(|field| is_unknown_region_field(declared, names, region, field))
 }
 
 /// Whether a value of a type fits each of these fields of a region.
@@ -146,12 +141,7 @@ fn are_values(types: &[StaticType]) -> Result<(), Stop>
 fn any_no_integer(types: &[StaticType]) -> bool
     ensures { result ≡ list_any (λ t. not (may_be is_integer t)) types.now }
 {
-    for t in types {
-        if !(is_unknown(t) || is_integer(t)) {
-            return true;
-        }
-    }
-    false
+    types.iter().any(|t| !(is_unknown(t) || is_integer(t)))
 }
 
 fn misprints(format: &[u8], types: &[StaticType]) -> bool

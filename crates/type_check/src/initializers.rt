@@ -208,7 +208,7 @@ fn partition(static_type: StaticType) -> Beginning
 }
 
 /// The first rule that an initializer breaches, or what a variable is by it.
-#[tactic(auto, using(crate::proofs::Initializers::nothing_either))]
+#[tactic(auto, using(crate::proofs::InitializerForms::nothing_either))]
 pub fn initial_value(site: &Site, scope: &Scope, init: &Init) -> Result<Beginning, Stop>
     requires { HoldsDeclared site.now }
     ensures { Tells (IsBegun (tree_at site.now) (seen scope.now) (initializer_of init.now)) result

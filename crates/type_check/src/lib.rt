@@ -4,17 +4,17 @@
 ghost use Rattle.std.specs.Prelude.{◌≡◌, [], IfErr, IfOk};
 ghost use Rattle.regent_tree.specs.Limits.{WithinLimits};
 ghost use Rattle.regent_tree.specs.PlainProgram.{tree_of};
+ghost use Rattle.check_rules.specs.Acceptance.{input_widths};
 ghost use Rattle.check_rules.specs.Breaches.{breaches};
 ghost use Rattle.check_rules.specs.FirstInItems.{first_breach};
 ghost use Rattle.check_items.specs.Halting.{TellsAt};
-ghost use Rattle.check_items.specs.Entries.{input_widths};
 ghost use Rattle.type_check.specs.Items.{first_in_items};
 ghost use Rattle.type_check.specs.Refusals.{Refuses};
 
-mod accepted;
 mod assignments;
 mod beginnings;
 mod bodies;
+mod check_fault;
 mod fields;
 mod forms;
 mod heads;
@@ -25,10 +25,11 @@ mod partition_initializers;
 mod statements;
 mod variables;
 
-pub use accepted::{Accepted, CheckFault};
 use bodies::check_bodies;
 use check_expressions::Declared;
+pub use check_fault::CheckFault;
 use check_items::{Halt, check_declarations, check_entry, check_names, input_widths};
+pub use check_rules::Accepted;
 use lane_kernels::Width;
 use program_tables::Tables;
 use regent_tree::Program;

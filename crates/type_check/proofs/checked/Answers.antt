@@ -2,7 +2,7 @@ use Rattle.std.proofs.Common.{ap, ◌∙◌}
 use Rattle.std.proofs.lemmas.Result.{err_from_is_err_and}
 use Rattle.regent_tree.specs.PlainProgram.{tree_of}
 use Rattle.regent_tree.specs.declared.program.Program.{Program}
-use Rattle.check_items.specs.Entries.{input_widths}
+use Rattle.check_rules.specs.Acceptance.{input_widths}
 use Rattle.type_check.proofs.Whole.{bodies_none, bodies_stop, items_stop}
 use Rattle.type_check.proofs.checked.Goals as goal
 

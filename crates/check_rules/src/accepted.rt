@@ -1,13 +1,11 @@
-//! What a check answers.
+//! Programs that are accepted.
 
 ghost use Rattle.std.specs.Prelude.{◌≡◌};
 ghost use Rattle.regent_tree.specs.PlainProgram.{tree_of};
-ghost use Rattle.check_items.specs.Entries.{input_widths};
-ghost use Rattle.type_check.specs.Acceptance.{IsAccepted};
+ghost use Rattle.check_rules.specs.Acceptance.{IsAccepted, input_widths};
 
 use lane_kernels::Width;
 use regent_tree::Program;
-use std::alloc::AllocError;
 use std::marker::Model;
 
 /// A program that is within the limits and keeps the rules, seen as the program.
@@ -21,7 +19,7 @@ impl Model for Accepted {
     ghost use Rattle.regent_tree.specs.declared.program.Program.{Program};
     ghost use Rattle.regent_tree.specs.contracts.program.Program as program_type;
     ghost use Rattle.regent_tree.specs.PlainProgram.{tree_of};
-    ghost use Rattle.type_check.specs.Acceptance.{IsAccepted};
+    ghost use Rattle.check_rules.specs.Acceptance.{IsAccepted};
 
     ghost Value = { Program };
 
@@ -35,7 +33,7 @@ impl Model for Accepted {
 impl Accepted {
     /// A program of which it is known that it is within the limits and keeps the rules, with the
     /// widths of its inputs.
-    pub(crate) fn new(program: Program, inputs: Vec<Width>) -> Accepted
+    pub fn new(program: Program, inputs: Vec<Width>) -> Accepted
         requires { IsAccepted (tree_of program) inputs.items }
         ensures { result ≡ program }
     {
@@ -55,16 +53,4 @@ impl Accepted {
     {
         self.inputs.as_slice()
     }
-}
-
-/// Why a program isn't accepted.
-#[derive(Drop)]
-pub enum CheckFault {
-    /// The program breaches a rule, told by its number, on a line.
-    Refused {
-        program: Program,
-        rule: u8,
-        line: u32,
-    },
-    Memory(AllocError),
 }
