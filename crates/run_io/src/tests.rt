@@ -138,6 +138,7 @@ fn a_file_source_reads_the_named_file(rt: HostRuntime) -> Result<(), Fail> {
     // A folder opens, and can't be read.
     assert_eq!(rt; source.begin(String::from_str(alloc, ".")?), Ok(()));
     assert_eq!(rt; source.read(&mut buf), Err(Failed));
+    fs::remove_file(&rt, "a.rg")?;
     Ok(())
 }
 

@@ -1,4 +1,3 @@
--- proofs/file_source/FileSourceSource/TheImpl/Answers.antt
 -- A source that tells nothing meets what its trait says of what is told, whatever the result.
 use Rattle.std.proofs.Common.{Result, Ok, Err, OnOk, OnErr, refl}
 use Rattle.run_io.proofs.file_source.FileSourceSource.TheImpl.Goals as goal
