@@ -1,7 +1,9 @@
 -- Inputs, one word after the other.
-use Rattle.std.proofs.Common.{◌≡◌, ◌∙◌, ℕ, ℤ, suc, zero, ◌+◌, ◌<◌, List, [], ◌∷◌, ◌++◌, length, get_or, take, refl, ap, sym, subst, Option, Some, None, arith, append_assoc}
+use Rattle.std.proofs.Common.{◌≡◌, ◌∙◌, ℕ, ℤ, suc, zero, ◌+◌, ◌<◌, List, [], ◌∷◌, ◌++◌, length, get_or, take, refl, ap, sym, subst, Option, Some, None, arith, append_assoc, Bool, true, false, ◌&&◌, map}
 use Rattle.std.proofs.lemmas.List.{append-nil}
 use Rattle.std.specs.Prelude.{String, string_bytes}
+use Rattle.regent_tree.specs.declared.types.Param.{Param}
+use Rattle.straight_run.specs.Inputs.{are_inputs}
 use Rattle.regent_run.specs.Inputs.{AreInputs, IsInput}
 use Rattle.regent_run.specs.Words.{texts}
 
@@ -42,3 +44,17 @@ one_inputs [] (y ∷ ys) b p q = absurd p
 one_inputs (w ∷ ws) [] b p q = absurd p
 one_inputs (w ∷ ws) (y ∷ ys) [] p q = absurd q
 one_inputs (w ∷ ws) (y ∷ ys) (z ∷ zs) p q = ap (λ x. x ∷ ys) (one_input w y z p.0 q.0) ∙ ap (λ xs. z ∷ xs) (one_inputs ws ys zs p.1 q.1)
+
+-- inputs that a task takes are numbers
+second_holds : (a b : Bool) → (a && b) ≡ true → b ≡ true
+second_holds true b h = h
+second_holds false b h = absurd cc
+
+pub are_numbers : (ps : List Param) (zs : List (Option ℤ)) → are_inputs ps zs ≡ true → (ns : List ℤ) × (zs ≡ map Some ns)
+are_numbers [] [] h = ([], refl)
+are_numbers [] (z ∷ zs) h = absurd cc
+are_numbers (p ∷ ps) [] h = absurd cc
+are_numbers (p ∷ ps) (None ∷ zs) h = absurd cc
+are_numbers (p ∷ ps) (Some z ∷ zs) h =
+    let rest = are_numbers ps zs (second_holds _ _ h) in
+    (z ∷ rest.0, ap (λ t. Some z ∷ t) rest.1)

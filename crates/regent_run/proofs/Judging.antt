@@ -1,5 +1,5 @@
 -- What a text comes to.
-use Rattle.std.proofs.Common.{◌≡◌, ℕ, ◌+◌, ◌≤◌, ◌<◌, ◌⊎◌, inl, inr, List, [], ◌++◌, Option, Some, None, IfSome, Ok, Err, length, refl, sym, ap, subst, ◌∙◌, arith}
+use Rattle.std.proofs.Common.{◌≡◌, ℕ, ℤ, true, ◌+◌, ◌≤◌, ◌<◌, ◌⊎◌, inl, inr, List, [], ◌++◌, Option, Some, None, IfSome, Ok, Err, length, refl, sym, ap, subst, ◌∙◌, arith}
 use Rattle.std.specs.Option.{option_map}
 use Rattle.std.proofs.lemmas.Bool.{cases_lt}
 use Rattle.std.proofs.lemmas.List.{append-nil, length-append}
@@ -11,10 +11,31 @@ use Rattle.regent_run.specs.declared.verdict.Verdict.{Verdict}
 use Rattle.regent_run.specs.declared.verdict.Verdict.TheVariants as verdict
 use Rattle.regent_lex.specs.declared.fault.LexKind.{LexKind}
 use Rattle.regent_lex.specs.declared.fault.LexKind.TheVariants.{BadByte, Unclosed, NumberTooLarge, NameTooLong}
-use Rattle.regent_run.specs.Programs.{limit_in_token, syntax_line}
+use Rattle.regent_run.specs.Programs.{IsRun, limit_in_token, syntax_line}
 use Rattle.regent_run.specs.Verdicts.{IsNoProgram, Judges, JudgesAccepted, JudgesProgram, TellsFault, SaysOfText}
 use Rattle.regent_run.specs.Words.{Deed, checks, runs}
 use Rattle.check_rules.specs.Breaches.{breaches}
+use Rattle.straight_run.specs.Answers.{Prints}
+use Rattle.straight_run.specs.Inputs.{are_inputs}
+use Rattle.straight_run.specs.RunningForm.{main_task}
+use Rattle.regent_run.specs.Inputs.{AreInputs}
+use Rattle.regent_run.proofs.InputLaws.{are_numbers}
+
+-- a program that prints, given these inputs, is a run with their numbers
+is_run : (text : List ℕ) (tree : Tree) (numbers : List (List ℕ)) (printed : List ℕ) (inputs : List (Option ℤ)) → Reads text (Ok tree) → breaches tree ≡ [] →
+    AreInputs numbers inputs → Prints tree inputs printed → IsRun text numbers printed
+is_run text tree numbers printed inputs reads sound given p =
+    let all = are_numbers (main_task tree).params inputs p.fits in
+    record {
+      tree = tree;
+      reads = reads;
+      sound = sound;
+      form = p.running;
+      inputs = all.0;
+      given = subst (λ (zs : List (Option ℤ)). AreInputs numbers zs) all.1 given;
+      fits = subst (λ (zs : List (Option ℤ)). are_inputs (main_task tree).params zs ≡ true) all.1 p.fits;
+      means = p.means all.0 all.1;
+    }
 
 -- a text that was read and has no breach comes to what its program comes to
 accepted_judges : (text : List ℕ) (tree : Tree) (deed : Deed) (v : Verdict) → Reads text (Ok tree) → breaches tree ≡ [] → JudgesAccepted tree deed v → Judges text deed v
@@ -30,7 +51,7 @@ accepted_judges text tree (runs numbers) verdict.NotBuilt reads sound h = (numbe
 accepted_judges text tree (runs numbers) verdict.OtherInputs reads sound h =
     (numbers, refl, record { tree = tree; reads = reads; sound = sound; form = h.0; inputs = h.1; given = h.2; other = h.3 })
 accepted_judges text tree (runs numbers) (verdict.Finished printed) reads sound h =
-    (numbers, refl, record { tree = tree; reads = reads; sound = sound; inputs = h.0; given = h.1; prints = h.2 })
+    (numbers, refl, is_run text tree numbers printed.items h.0 reads sound h.1 h.2)
 accepted_judges text tree (runs numbers) verdict.Accepted reads sound h = absurd h
 
 -- a text that was read comes to what its program comes to
@@ -96,7 +117,7 @@ long_judges text read rest deed verdict.OtherInputs is long h =
     (h.0, h.1, record { tree = b.tree; reads = still_long text read rest _ is long b.reads; sound = b.sound; form = b.form; inputs = b.inputs; given = b.given; other = b.other })
 long_judges text read rest deed (verdict.Finished printed) is long h =
     let b = h.2 in
-    (h.0, h.1, record { tree = b.tree; reads = still_long text read rest _ is long b.reads; sound = b.sound; inputs = b.inputs; given = b.given; prints = b.prints })
+    (h.0, h.1, record { tree = b.tree; reads = still_long text read rest _ is long b.reads; sound = b.sound; form = b.form; inputs = b.inputs; given = b.given; fits = b.fits; means = b.means })
 long_judges text read rest deed verdict.Accepted is long h =
     let b = h.1 in
     (h.0, record { tree = b.tree; reads = still_long text read rest _ is long b.reads; sound = b.sound })

@@ -1,4 +1,7 @@
 pub mod WordLaws
 pub mod InputLaws
 pub mod Judging
+pub mod Statuses
+pub mod Coming
 pub mod Writing
+pub mod Answering

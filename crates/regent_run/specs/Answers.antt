@@ -1,13 +1,69 @@
--- The statuses of a call, and what may stand in their place.
-use Rattle.std.specs.Prelude.{◌≡◌, ◌≤◌, ◌⊎◌, ℕ, List, [], Option, Some, None, IfSome, length}
+-- What a call answers, what it writes and what it reads.
+use Rattle.std.specs.Prelude.{◌≡◌, ◌≢◌, ◌≤◌, ◌⊎◌, ℕ, List, [], Some, None, IfSome, length}
+use Rattle.std.specs.Option.{option_map}
 use Rattle.run_io.specs.Faults.{Rose}
 use Rattle.run_io.specs.Sink.{Adds}
-use Rattle.regent_run.specs.Begins.{IsBegunBy}
+use Rattle.run_io.specs.Source.{next_left}
+use Rattle.regent_run.specs.Begins.{IsBegunBy, IsUnbegun}
+use Rattle.regent_run.specs.Calls.{Call}
 use Rattle.regent_run.specs.declared.limit.Limit.{Limit}
-use Rattle.regent_run.specs.Programs.{Comes, HasBreach, HasOtherInputs, HasSyntaxError, IsNotBuilt, IsPrinted, OfNextText, PassesLimit}
-use Rattle.regent_run.specs.Texts.{usage_message, read_message, memory_message, syntax_message, breach_message, limit_message, not_built_message, inputs_message}
-use Rattle.regent_run.specs.Verdicts.{SinkChange, HasFailed, IsUntouched}
-use Rattle.regent_run.specs.Words.{Command, IsToRun, command}
+use Rattle.regent_run.specs.Programs.{Comes, HasBreach, HasOtherInputs, HasSyntaxError, IsAccepted, IsNotBuilt, IsRun, OfNextText, PassesLimit}
+use Rattle.regent_run.specs.Reading.{TakesAtMost}
+use Rattle.regent_run.specs.Texts.{accepted_text, usage_message, read_message, memory_message, syntax_message, breach_message, limit_message, not_built_message, inputs_message}
+use Rattle.regent_run.specs.Verdicts.{HasFailed, IsUntouched}
+use Rattle.regent_run.specs.Words.{Asks, Command, checks, command, runs}
+
+-- this holds of the text that the call's next begin leaves, where the source tells it
+abbrev pub OfText : Call → (List ℕ → Type 0) → Type 0
+OfText call P = OfNextText call.source.later P
+
+-- ---- what a call comes to, and how it ends
+
+-- what a command prints: a run what the program prints, by the meaning of its text, and a check the line
+-- that the text is accepted
+pub data IsPrinted (call : Call) : List ℕ → Type 0 where
+  finished : (numbers : List (List ℕ)) {printed : List ℕ} → Asks call.words (runs numbers) →
+      OfText call (λ text. IsRun text numbers printed) → IsPrinted call printed
+  accepted : Asks call.words checks → OfText call IsAccepted → IsPrinted call accepted_text
+
+-- the status of an error, and the line that tells it
+pub data Fails (call : Call) : ℕ → List ℕ → Type 0 where
+  usage : command call.words ≡ None → Fails call 2 usage_message
+  unread : Rose call.source.faults call.source.faults_now → Fails call 3 read_message
+  syntax : (line : ℕ) → OfText call (λ text. HasSyntaxError text line) →
+      Fails call 5 (syntax_message line)
+  types : (rule line : ℕ) → OfText call (λ text. HasBreach text rule line) →
+      Fails call 6 (breach_message rule line)
+  no_memory : Fails call 7 memory_message
+  limit : (passed : Limit) → OfText call (λ text. PassesLimit text passed) →
+      Fails call 8 (limit_message passed)
+  inputs : (numbers : List (List ℕ)) → Asks call.words (runs numbers) →
+      OfText call (λ text. HasOtherInputs text numbers) → Fails call 9 inputs_message
+  not_built : (numbers : List (List ℕ)) → Asks call.words (runs numbers) → OfText call IsNotBuilt →
+      Fails call 10 not_built_message
+
+-- the output has gained what is printed, and the error output nothing
+pub record HasPrinted (printed : List ℕ) (call : Call) : Type 0 where
+  pub output : Adds call.out.held printed call.out.held_now
+  pub errors : call.err.held_now ≡ call.err.held
+
+-- the error output has gained the line, and the output nothing
+pub record HasTold (message : List ℕ) (call : Call) : Type 0 where
+  pub output : call.out.held_now ≡ call.out.held
+  pub errors : Adds call.err.held message call.err.held_now
+
+-- How a call ends, with its status. Where a write failed, which its sink wasn't sure of, the status is 4,
+-- and nothing was written after it.
+pub data Ends (call : Call) : ℕ → Type 0 where
+  prints : {printed : List ℕ} → IsPrinted call printed → HasPrinted printed call → Ends call 0
+  tells : {status : ℕ} {message : List ℕ} → Fails call status message → HasTold message call →
+      Ends call status
+  print_failed : {printed : List ℕ} → IsPrinted call printed → HasFailed printed call.out →
+      IsUntouched call.err → Ends call 4
+  line_failed : {status : ℕ} {message : List ℕ} → Fails call status message → IsUntouched call.out →
+      HasFailed message call.err → Ends call 4
+
+-- ---- the status of a text
 
 -- the status is this one, unless memory ran out or a write failed
 abbrev pub UnlessStopped : ℕ → ℕ → Type 0
@@ -17,137 +73,81 @@ UnlessStopped status answer = (answer ≡ status) ⊎ ((answer ≡ 7) ⊎ (answe
 abbrev pub UnlessUnread : ℕ → ℕ → Type 0
 UnlessUnread status answer = UnlessStopped status answer ⊎ (answer ≡ 3)
 
--- a status that a call may answer
-abbrev pub IsStatus : ℕ → Type 0
-IsStatus n = (n ≡ 0) ⊎ ((n ≡ 2) ⊎ ((n ≡ 3) ⊎ ((n ≡ 4) ⊎ ((n ≡ 5) ⊎ ((n ≡ 6) ⊎ ((n ≡ 7)
-    ⊎ ((n ≡ 8) ⊎ ((n ≡ 9) ⊎ (n ≡ 10)))))))))
-
--- The output has gained what the command prints that the words say, and the error output nothing.
-pub record HasPrinted (words : List (List ℕ)) (later : Option (List (List ℕ)))
-    (out_before out_after err_before err_after : Option (List ℕ)) : Type 0 where
-  pub named : Command
-  pub words_name : command words ≡ Some named
-  pub printed : List ℕ
-  pub done : IsPrinted later named.deed printed
-  pub output : Adds out_before printed out_after
-  pub errors : err_after ≡ err_before
-
--- The error output has gained the line about an error, and the output nothing.
-pub record HasTold (message : List ℕ)
-    (out_before out_after err_before err_after : Option (List ℕ)) : Type 0 where
-  pub output : out_after ≡ out_before
-  pub errors : Adds err_before message err_after
-
--- the text has a syntax error, or passes a limit, as the line tells
-pub record ToldSyntax (later : Option (List (List ℕ)))
-    (out_before out_after err_before err_after : Option (List ℕ)) : Type 0 where
-  pub line : ℕ
-  pub cause : OfNextText later (λ text. HasSyntaxError text line)
-  pub told : HasTold (syntax_message line) out_before out_after err_before err_after
-
-pub record ToldLimit (later : Option (List (List ℕ)))
-    (out_before out_after err_before err_after : Option (List ℕ)) : Type 0 where
-  pub passed : Limit
-  pub cause : OfNextText later (λ text. PassesLimit text passed)
-  pub told : HasTold (limit_message passed) out_before out_after err_before err_after
-
--- the text's program breaches a rule on a line, as the line about an error tells
-pub record ToldBreach (later : Option (List (List ℕ)))
-    (out_before out_after err_before err_after : Option (List ℕ)) : Type 0 where
-  pub rule : ℕ
-  pub line : ℕ
-  pub cause : OfNextText later (λ text. HasBreach text rule line)
-  pub told : HasTold (breach_message rule line) out_before out_after err_before err_after
-
--- the text is to be run and can't be run yet
-pub record ToldNotBuilt (words : List (List ℕ)) (later : Option (List (List ℕ)))
-    (out_before out_after err_before err_after : Option (List ℕ)) : Type 0 where
-  pub numbers : List (List ℕ)
-  pub asked : IsToRun words numbers
-  pub cause : OfNextText later IsNotBuilt
-  pub told : HasTold not_built_message out_before out_after err_before err_after
-
--- the text is to be run, and the words aren't the numbers that its program takes
-pub record ToldInputs (words : List (List ℕ)) (later : Option (List (List ℕ)))
-    (out_before out_after err_before err_after : Option (List ℕ)) : Type 0 where
-  pub numbers : List (List ℕ)
-  pub asked : IsToRun words numbers
-  pub cause : OfNextText later (λ text. HasOtherInputs text numbers)
-  pub told : HasTold inputs_message out_before out_after err_before err_after
-
 -- where the words name a file, its text comes to this status alone, unless the call was stopped
-abbrev pub ComesTo : List (List ℕ) → Option (List (List ℕ)) → ℕ → Type 0
-ComesTo words later answer = (named : Command) → command words ≡ Some named →
-    OfNextText later (λ text. (n : ℕ) → Comes text named.deed n → UnlessUnread n answer)
-
--- the line about an error that a call has come to
-pub data IsErrorLine (words : List (List ℕ)) (later : Option (List (List ℕ)))
-    (source source_now : ℕ) : List ℕ → Type 0 where
-  no_memory : IsErrorLine words later source source_now memory_message
-  usage : command words ≡ None → IsErrorLine words later source source_now usage_message
-  unread : Rose source source_now → IsErrorLine words later source source_now read_message
-  syntax : (line : ℕ) → OfNextText later (λ text. HasSyntaxError text line) →
-      IsErrorLine words later source source_now (syntax_message line)
-  limit : (passed : Limit) → OfNextText later (λ text. PassesLimit text passed) →
-      IsErrorLine words later source source_now (limit_message passed)
-  types : (rule line : ℕ) → OfNextText later (λ text. HasBreach text rule line) →
-      IsErrorLine words later source source_now (breach_message rule line)
-  not_built : (numbers : List (List ℕ)) → IsToRun words numbers → OfNextText later IsNotBuilt →
-      IsErrorLine words later source source_now not_built_message
-  inputs : (numbers : List (List ℕ)) → IsToRun words numbers →
-      OfNextText later (λ text. HasOtherInputs text numbers) →
-      IsErrorLine words later source source_now inputs_message
-
--- A write to the output failed, of what the command prints that the words say, and nothing was
--- written after it.
-pub record OutStopped (words : List (List ℕ)) (later : Option (List (List ℕ)))
-    (out err : SinkChange) : Type 0 where
-  pub named : Command
-  pub words_name : command words ≡ Some named
-  pub printed : List ℕ
-  pub done : IsPrinted later named.deed printed
-  pub output : HasFailed printed out
-  pub errors : IsUntouched err
-
--- Nothing was written to the output, and a write to the error output failed, of a line about an
--- error.
-pub record ErrStopped (words : List (List ℕ)) (later : Option (List (List ℕ)))
-    (source source_now : ℕ) (out err : SinkChange) : Type 0 where
-  pub message : List ℕ
-  pub told : IsErrorLine words later source source_now message
-  pub output : IsUntouched out
-  pub errors : HasFailed message err
-
--- the source was begun once more, by the file that the words name
-pub record IsBegunOnce (words : List (List ℕ)) (begins begins_now : Option ℕ)
-    (names names_now : Option (List (List ℕ))) : Type 0 where
-  pub named : Command
-  pub words_name : command words ≡ Some named
-  pub begun : IsBegunBy named.file begins begins_now names names_now
-
--- the status of a text that was read
-abbrev pub IsOfText : ℕ → Type 0
-IsOfText n = (n ≡ 0) ⊎ ((n ≡ 5) ⊎ ((n ≡ 6) ⊎ ((n ≡ 8) ⊎ ((n ≡ 9) ⊎ (n ≡ 10)))))
+abbrev pub ComesTo : Call → ℕ → Type 0
+ComesTo call answer = (named : Command) → command call.words ≡ Some named →
+    OfText call (λ text. (n : ℕ) → Comes text named.deed n → UnlessUnread n answer)
 
 -- no count of faults rose in the call
-pub record NoneRose (source source_now out out_now err err_now : ℕ) : Type 0 where
-  pub source_kept : Rose source source_now → ⊥
-  pub out_kept : Rose out out_now → ⊥
-  pub err_kept : Rose err err_now → ⊥
+pub record NoneRose (call : Call) : Type 0 where
+  pub source_kept : Rose call.source.faults call.source.faults_now → ⊥
+  pub out_kept : Rose call.out.faults call.out.faults_now → ⊥
+  pub err_kept : Rose call.err.faults call.err.faults_now → ⊥
 
--- a text that isn't too long was read to its end
-abbrev pub IsReadWhole : Option (List (List ℕ)) → Option (List ℕ) → Type 0
-IsReadWhole later left =
-    OfNextText later (λ text. length text ≤ 1048576 → IfSome left (λ rest. rest ≡ []))
+-- then it is this status, unless memory ran out
+abbrev pub IsComplete : Call → ℕ → Type 0
+IsComplete call answer = NoneRose call → (named : Command) → command call.words ≡ Some named →
+    OfText call (λ text. (n : ℕ) → Comes text named.deed n → (answer ≡ n) ⊎ (answer ≡ 7))
 
 -- ---- sinks that are sure
 
--- the output is sure of what the command prints that the words say
-abbrev pub IsSureOfOutput : List (List ℕ) → Option (List (List ℕ)) → ℕ → Type 0
-IsSureOfOutput words later sure = (named : Command) (printed : List ℕ) → command words ≡ Some named →
-    IsPrinted later named.deed printed → length printed ≤ sure
+-- the output is sure of what the command prints
+abbrev pub IsSureOfOutput : Call → Type 0
+IsSureOfOutput call = (printed : List ℕ) → IsPrinted call printed → length printed ≤ call.out.sure
 
 -- the error output is sure of each line that the call may come to
-abbrev pub IsSureOfErrors : List (List ℕ) → Option (List (List ℕ)) → ℕ → ℕ → ℕ → Type 0
-IsSureOfErrors words later source source_now sure =
-    (message : List ℕ) → IsErrorLine words later source source_now message → length message ≤ sure
+abbrev pub IsSureOfErrors : Call → Type 0
+IsSureOfErrors call = (status : ℕ) (message : List ℕ) → Fails call status message →
+    length message ≤ call.err.sure
+
+-- ---- what is read
+
+-- the source wasn't begun
+abbrev pub IsNotBegun : Call → Type 0
+IsNotBegun call =
+    IsUnbegun call.source.begins call.source.begins_now call.source.names call.source.names_now
+
+-- the source was begun once more, by the file that the words name
+pub record IsBegunOnce (call : Call) : Type 0 where
+  pub named : Command
+  pub words_name : command call.words ≡ Some named
+  pub begun : IsBegunBy named.file call.source.begins call.source.begins_now
+      call.source.names call.source.names_now
+
+-- of what the begin leaves at most so many bytes were taken
+abbrev pub Takes : ℕ → Call → Type 0
+Takes most call =
+    TakesAtMost most (option_map next_left call.source.later) call.source.left call.source.left_now
+
+-- a text that isn't too long was read to its end
+abbrev pub IsReadWhole : Call → Type 0
+IsReadWhole call =
+    OfText call (λ text. length text ≤ 1048576 → IfSome call.source.left_now (λ rest. rest ≡ []))
+
+-- the status of a text that was read: none of those before
+abbrev pub IsOfText : ℕ → Type 0
+IsOfText n = (n ≢ 2) × (n ≢ 3) × (n ≢ 4) × (n ≢ 7)
+
+-- ---- the whole
+
+-- A call with this answer.
+pub record IsAnswered (call : Call) (answer : ℕ) : Type 0 where
+  -- It ends in one of the ways above: what it prints or tells is so.
+  pub ends : Ends call answer
+  -- Words that are refused come to 2.
+  pub refuses : command call.words ≡ None → UnlessStopped 2 answer
+  -- A text with its command comes to one of 0, 5, 6, 8, 9 and 10 at most, and that is the answer
+  -- unless the call was stopped. So where nothing failed, it is the answer, or memory ran out.
+  pub comes : ComesTo call answer
+  pub complete : IsComplete call answer
+  -- No write fails where the sinks are sure of what may be written.
+  pub sure : IsSureOfOutput call → IsSureOfErrors call → answer ≢ 4
+  -- Nothing failed but where 3 or 4 says so.
+  pub read : answer ≢ 3 → answer ≢ 4 → call.source.faults_now ≡ call.source.faults
+  pub steady : answer ≢ 4 →
+      (call.out.faults_now ≡ call.out.faults) × (call.err.faults_now ≡ call.err.faults)
+  -- The source is begun once at most, by the file that the words name.
+  pub begins : IsNotBegun call ⊎ IsBegunOnce call
+  pub begun : IsOfText answer → IsBegunOnce call
+  pub takes : Takes 1048577 call
+  pub whole : IsOfText answer → IsReadWhole call

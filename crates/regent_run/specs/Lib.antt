@@ -1,5 +1,6 @@
 pub mod Answers
 pub mod Begins
+pub mod Calls
 pub mod Inputs
 pub mod Programs
 pub mod Reading

@@ -1,22 +1,22 @@
 -- What a text comes to, by what is to be done with it.
-use Rattle.std.specs.Prelude.{Contains, Err, IfSome, List, None, Ok, Option, Some, [], false, true, ℕ, ℤ, ◌≡◌}
+use Rattle.std.specs.Prelude.{Contains, Err, IfSome, List, None, Ok, Option, Some, [], false, map, true, ℕ, ℤ, ◌≡◌}
 use Rattle.check_rules.specs.Breaches.{breaches, breaks}
 use Rattle.regent_lex.specs.declared.fault.LexKind.{LexKind}
 use Rattle.regent_lex.specs.declared.fault.LexKind.TheVariants.{BadByte, Unclosed, NumberTooLarge, NameTooLong}
 use Rattle.regent_tree.specs.declared.limits.Counted.{Counted}
 use Rattle.regent_tree.specs.declared.limits.Counted.TheVariants as counted
+use Rattle.regent_tree.specs.declared.outcome.Ending.TheVariants.{Finished}
+use Rattle.regent_tree.specs.Meaning.{meaning}
 use Rattle.regent_tree.specs.Syntax.{Tree}
 use Rattle.regent_reader.specs.declared.fault.ReadFault.{ReadFault}
 use Rattle.regent_reader.specs.declared.fault.ReadFault.TheVariants.{TooLong, Lex, TooDeep, NoProgram, TooMany}
 use Rattle.regent_reader.specs.Texts.{Reads}
 use Rattle.run_io.specs.Source.{next_left}
-use Rattle.straight_run.specs.Answers.{Prints}
 use Rattle.straight_run.specs.Inputs.{are_inputs}
 use Rattle.straight_run.specs.RunningForm.{is_running, main_task}
 use Rattle.regent_run.specs.declared.limit.Limit.{Limit}
 use Rattle.regent_run.specs.declared.limit.Limit.TheVariants as limit
 use Rattle.regent_run.specs.Inputs.{AreInputs}
-use Rattle.regent_run.specs.Texts.{accepted_text}
 use Rattle.regent_run.specs.Words.{Deed, checks, runs}
 
 -- the line of a fault that is an error of syntax
@@ -93,15 +93,18 @@ pub record HasOtherInputs (text : List ℕ) (numbers : List (List ℕ)) : Type 0
   pub given : AreInputs numbers inputs
   pub other : are_inputs (main_task tree).params inputs ≡ false
 
--- the text is an accepted program of the running form, which finishes with what is printed where it is
--- given the numbers
+-- the text is an accepted program of the running form, the words are the numbers that it takes, and what
+-- it means is to finish with what is printed, whatever the turns
 pub record IsRun (text : List ℕ) (numbers : List (List ℕ)) (printed : List ℕ) : Type 0 where
   pub tree : Tree
   pub reads : Reads text (Ok tree)
   pub sound : breaches tree ≡ []
-  pub inputs : List (Option ℤ)
-  pub given : AreInputs numbers inputs
-  pub prints : Prints tree inputs printed
+  pub form : is_running tree ≡ true
+  pub inputs : List ℤ
+  pub given : AreInputs numbers (map Some inputs)
+  pub fits : are_inputs (main_task tree).params (map Some inputs) ≡ true
+  pub means : (turns : ℕ) →
+      meaning tree inputs turns ≡ record { text = printed; ending = Finished [] }
 
 -- the text is an accepted program of the running form, and the words are the numbers that it takes
 pub record TakesNumbers (text : List ℕ) (numbers : List (List ℕ)) : Type 0 where
@@ -128,7 +131,9 @@ pub data Comes (text : List ℕ) : Deed → ℕ → Type 0 where
 abbrev pub OfNextText : Option (List (List ℕ)) → (List ℕ → Type 0) → Type 0
 OfNextText later P = IfSome later (λ texts. P (next_left texts))
 
--- what a command prints: a run what the program prints, a check the line that it is accepted
-abbrev pub IsPrinted : Option (List (List ℕ)) → Deed → List ℕ → Type 0
-IsPrinted later (runs numbers) printed = OfNextText later (λ text. IsRun text numbers printed)
-IsPrinted later checks printed = (printed ≡ accepted_text) × OfNextText later IsAccepted
+-- ---- the law of statuses
+
+-- a text comes to one status at most
+abbrev pub ComesToOneStatus : Type 0
+ComesToOneStatus = (text : List ℕ) (deed : Deed) (m n : ℕ) → Comes text deed m → Comes text deed n →
+    m ≡ n

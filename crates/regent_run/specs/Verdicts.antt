@@ -2,6 +2,7 @@
 use Rattle.std.specs.Prelude.{◌≡◌, ◌<◌, ◌⊎◌, ℕ, ℤ, true, false, Contains, List, [], Option, Some, None, length, string_bytes}
 use Rattle.run_io.specs.Faults.{Rose}
 use Rattle.run_io.specs.Sink.{Adds, AddsPrefix}
+use Rattle.regent_run.specs.Calls.{SinkChange}
 use Rattle.regent_run.specs.declared.verdict.Verdict.{Verdict}
 use Rattle.regent_run.specs.declared.verdict.Verdict.TheVariants.{Usage, Unread, NoMemory, NoProgram, PastLimit, Refused, NotBuilt, OtherInputs, Finished, Accepted}
 use Rattle.regent_run.specs.Words.{Command, Deed, checks, command, runs}
@@ -138,26 +139,6 @@ IsRefused rule line NoMemory = Unit {0}
 IsRefused rule line _ = ⊥
 
 -- ---- what is written
---
--- Of each sink: its count of faults before and now, how many bytes it is sure of, and what it holds
--- before and now.
-
-pub record SinkChange : Type 0 where
-  pub faults : ℕ
-  pub faults_now : ℕ
-  pub sure : ℕ
-  pub held : Option (List ℕ)
-  pub held_now : Option (List ℕ)
-
-abbrev pub change_of : ℕ → ℕ → ℕ → Option (List ℕ) → Option (List ℕ) → SinkChange
-change_of faults faults_now sure held held_now =
-    record {
-      faults = faults;
-      faults_now = faults_now;
-      sure = sure;
-      held = held;
-      held_now = held_now;
-    }
 
 -- nothing failed, and the sink has gained the bytes
 pub record HasGained (bytes : List ℕ) (sink : SinkChange) : Type 0 where

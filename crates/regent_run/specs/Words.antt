@@ -58,11 +58,11 @@ command [] = None
 command (program ∷ []) = None
 command (program ∷ name ∷ words) = option_and_then (command_of name) (positional words)
 
--- the words name a file that is to be run with these numbers
-pub record IsToRun (words numbers : List (List ℕ)) : Type 0 where
+-- the words name a file, and this is to be done with it
+pub record Asks (words : List (List ℕ)) (deed : Deed) : Type 0 where
   pub named : Command
   pub words_name : command words ≡ Some named
-  pub run : named.deed ≡ runs numbers
+  pub same : named.deed ≡ deed
 
 -- the bytes of each word
 abbrev pub texts : {A : Type 0} → List (String A) → List (List ℕ)

@@ -1,7 +1,8 @@
 //! What a call comes to, and the one place where it is written.
 
 ghost use Rattle.std.specs.Prelude.{◌≡◌};
-ghost use Rattle.regent_run.specs.Verdicts.{IsDelivered, change_of, out_text, err_text, status_of};
+ghost use Rattle.regent_run.specs.Calls.{sink_change};
+ghost use Rattle.regent_run.specs.Verdicts.{IsDelivered, out_text, err_text, status_of};
 
 use crate::limit::Limit;
 use run_io::{Sink, put_all};
@@ -79,8 +80,7 @@ impl Verdict {
     /// then nothing more is written.
     pub fn deliver<K: Sink, E: Sink>(&self, out: &mut K, err: &mut E) -> u8
         ensures { IsDelivered self.now result
-            (change_of (K.faults out.old) (K.faults out.new) (K.sure out.old) (K.held out.old) (K.held out.new))
-            (change_of (E.faults err.old) (E.faults err.new) (E.sure err.old) (E.held err.old) (E.held err.new)) }
+            (sink_change K.Sink out.old out.new) (sink_change E.Sink err.old err.new) }
     {
         if put_all(out, self.out_text()).is_err() {
             return 4;

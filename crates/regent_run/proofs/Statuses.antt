@@ -1,0 +1,120 @@
+-- A text comes to one status alone.
+use Rattle.std.proofs.Common.{◌≡◌, ℕ, ◌<◌, List, [], Some, Ok, Err, length, true, false, refl, sym, ap, subst, ◌∙◌, arith}
+use Rattle.std.specs.Prelude.{Contains}
+use Rattle.check_rules.specs.Breaches.{breaches}
+use Rattle.regent_tree.specs.Syntax.{Tree}
+use Rattle.regent_lex.specs.declared.fault.LexKind.TheVariants as lex
+use Rattle.regent_reader.specs.declared.fault.ReadFault.{ReadFault}
+use Rattle.regent_reader.specs.declared.fault.ReadFault.TheVariants as fault
+use Rattle.regent_reader.specs.Texts.{Outcome, Reads}
+use Rattle.regent_reader.proofs.TextLaws.{one_outcome}
+use Rattle.straight_run.specs.Inputs.{are_inputs}
+use Rattle.straight_run.specs.RunningForm.{is_running, main_task}
+use Rattle.regent_run.specs.declared.limit.Limit.{Limit}
+use Rattle.regent_run.specs.Programs.{Comes, HasBreach, HasOtherInputs, HasSyntaxError, PassesLimit, TakesNumbers, finishes, has_a_breach, has_other_inputs, is_accepted, is_no_program, is_not_built, limit_passed, passes_a_limit, syntax_line}
+use Rattle.regent_run.specs.Words.{Deed}
+use Rattle.regent_run.proofs.InputLaws.{one_inputs}
+
+same_tree : (text : List ℕ) (t u : Tree) → Reads text (Ok t) → Reads text (Ok u) → t ≡ u
+same_tree text t u p q =
+    let x : Outcome = Ok t in
+    let y : Outcome = Ok u in
+    let e : x ≡ y = one_outcome text x y p q in
+    cc
+
+same_fault : (text : List ℕ) (f g : ReadFault) → Reads text (Err f) → Reads text (Err g) → f ≡ g
+same_fault text f g p q =
+    let x : Outcome = Err f in
+    let y : Outcome = Err g in
+    let e : x ≡ y = one_outcome text x y p q in
+    cc
+
+never_both : (text : List ℕ) (t : Tree) (f : ReadFault) → Reads text (Ok t) → Reads text (Err f) → ⊥
+never_both text t f p q =
+    let x : Outcome = Ok t in
+    let y : Outcome = Err f in
+    let e : x ≡ y = one_outcome text x y p q in
+    absurd cc
+
+-- a fault isn't both an error of syntax and a passed limit
+one_kind : (f : ReadFault) (line : ℕ) (l : Limit) → syntax_line f ≡ Some line → limit_passed f ≡ Some l → ⊥
+one_kind fault.TooLong line l p q = absurd cc
+one_kind (fault.Lex lex.BadByte at) line l p q = absurd cc
+one_kind (fault.Lex lex.Unclosed at) line l p q = absurd cc
+one_kind (fault.Lex lex.NumberTooLarge at) line l p q = absurd cc
+one_kind (fault.Lex lex.NameTooLong at) line l p q = absurd cc
+one_kind (fault.TooDeep at) line l p q = absurd cc
+one_kind (fault.NoProgram at) line l p q = absurd cc
+one_kind (fault.TooMany what count) line l p q = absurd cc
+one_kind (fault.Memory e) line l p q = absurd cc
+
+-- a list without a breach has none
+none_there : {A : Type 0} (bs : List A) (b : A) → bs ≡ [] → Contains bs b → ⊥
+none_there bs b none there =
+    let size : length bs ≡ 0 = ap length none in
+    let within : there.0 < length bs = there.1 in
+    absurd (omega (arith, size, within))
+
+module _ (text : List ℕ) where
+  -- no accepted text has a breach
+  breach_or_sound : (t : Tree) {rule line : ℕ} → Reads text (Ok t) → breaches t ≡ [] → HasBreach text rule line → ⊥
+  breach_or_sound t reads sound b =
+      none_there (breaches b.tree) _ (ap breaches (same_tree text b.tree t b.reads reads) ∙ sound) b.breach
+
+  other_form : (t u : Tree) → Reads text (Ok t) → Reads text (Ok u) → is_running t ≡ true → is_running u ≡ false → ⊥
+  other_form t u p q yes_form no_form = let e : true ≡ false = sym yes_form ∙ ap is_running (same_tree text t u p q) ∙ no_form in absurd cc
+
+  run_or_other : (numbers : List (List ℕ)) → TakesNumbers text numbers → HasOtherInputs text numbers → ⊥
+  run_or_other numbers r o =
+      let e : true ≡ false = sym r.fits ∙ ap (λ (t : Tree). are_inputs (main_task t).params r.inputs) (same_tree text r.tree o.tree r.reads o.reads)
+      ∙ ap (λ zs. are_inputs (main_task o.tree).params zs) (one_inputs numbers r.inputs o.inputs r.given o.given) ∙ o.other in
+      absurd cc
+
+  line_or_limit : {line : ℕ} {passed : Limit} → HasSyntaxError text line → PassesLimit text passed → ⊥
+  line_or_limit p q = one_kind q.fault _ _ (subst (λ (f : ReadFault). syntax_line f ≡ Some _) (same_fault text p.fault q.fault p.reads q.reads) p.told) q.told
+
+  -- a text comes to one status alone
+  pub one_status : (deed : Deed) (m n : ℕ) → Comes text deed m → Comes text deed n → m ≡ n
+  one_status deed m n (finishes p) (finishes q) = refl
+  one_status deed m n (finishes p) (is_no_program q) = absurd (never_both text p.tree q.fault p.reads q.reads)
+  one_status deed m n (finishes p) (has_a_breach q) = absurd (breach_or_sound p.tree p.reads p.sound q)
+  one_status deed m n (finishes p) (passes_a_limit q) = absurd (never_both text p.tree q.fault p.reads q.reads)
+  one_status deed m n (finishes p) (has_other_inputs q) = absurd (run_or_other _ p q)
+  one_status deed m n (finishes p) (is_not_built q) = absurd (other_form p.tree q.tree p.reads q.reads p.form q.form)
+  one_status deed m n (is_accepted p) (is_accepted q) = refl
+  one_status deed m n (is_accepted p) (is_no_program q) = absurd (never_both text p.tree q.fault p.reads q.reads)
+  one_status deed m n (is_accepted p) (has_a_breach q) = absurd (breach_or_sound p.tree p.reads p.sound q)
+  one_status deed m n (is_accepted p) (passes_a_limit q) = absurd (never_both text p.tree q.fault p.reads q.reads)
+  one_status deed m n (is_no_program p) (finishes q) = absurd (never_both text q.tree p.fault q.reads p.reads)
+  one_status deed m n (is_no_program p) (is_accepted q) = absurd (never_both text q.tree p.fault q.reads p.reads)
+  one_status deed m n (is_no_program p) (is_no_program q) = refl
+  one_status deed m n (is_no_program p) (has_a_breach q) = absurd (never_both text q.tree p.fault q.reads p.reads)
+  one_status deed m n (is_no_program p) (passes_a_limit q) = absurd (line_or_limit p q)
+  one_status deed m n (is_no_program p) (has_other_inputs q) = absurd (never_both text q.tree p.fault q.reads p.reads)
+  one_status deed m n (is_no_program p) (is_not_built q) = absurd (never_both text q.tree p.fault q.reads p.reads)
+  one_status deed m n (has_a_breach p) (finishes q) = absurd (breach_or_sound q.tree q.reads q.sound p)
+  one_status deed m n (has_a_breach p) (is_accepted q) = absurd (breach_or_sound q.tree q.reads q.sound p)
+  one_status deed m n (has_a_breach p) (is_no_program q) = absurd (never_both text p.tree q.fault p.reads q.reads)
+  one_status deed m n (has_a_breach p) (has_a_breach q) = refl
+  one_status deed m n (has_a_breach p) (passes_a_limit q) = absurd (never_both text p.tree q.fault p.reads q.reads)
+  one_status deed m n (has_a_breach p) (has_other_inputs q) = absurd (breach_or_sound q.tree q.reads q.sound p)
+  one_status deed m n (has_a_breach p) (is_not_built q) = absurd (breach_or_sound q.tree q.reads q.sound p)
+  one_status deed m n (passes_a_limit p) (finishes q) = absurd (never_both text q.tree p.fault q.reads p.reads)
+  one_status deed m n (passes_a_limit p) (is_accepted q) = absurd (never_both text q.tree p.fault q.reads p.reads)
+  one_status deed m n (passes_a_limit p) (is_no_program q) = absurd (line_or_limit q p)
+  one_status deed m n (passes_a_limit p) (has_a_breach q) = absurd (never_both text q.tree p.fault q.reads p.reads)
+  one_status deed m n (passes_a_limit p) (passes_a_limit q) = refl
+  one_status deed m n (passes_a_limit p) (has_other_inputs q) = absurd (never_both text q.tree p.fault q.reads p.reads)
+  one_status deed m n (passes_a_limit p) (is_not_built q) = absurd (never_both text q.tree p.fault q.reads p.reads)
+  one_status deed m n (has_other_inputs p) (finishes q) = absurd (run_or_other _ q p)
+  one_status deed m n (has_other_inputs p) (is_no_program q) = absurd (never_both text p.tree q.fault p.reads q.reads)
+  one_status deed m n (has_other_inputs p) (has_a_breach q) = absurd (breach_or_sound p.tree p.reads p.sound q)
+  one_status deed m n (has_other_inputs p) (passes_a_limit q) = absurd (never_both text p.tree q.fault p.reads q.reads)
+  one_status deed m n (has_other_inputs p) (has_other_inputs q) = refl
+  one_status deed m n (has_other_inputs p) (is_not_built q) = absurd (other_form p.tree q.tree p.reads q.reads p.form q.form)
+  one_status deed m n (is_not_built p) (finishes q) = absurd (other_form q.tree p.tree q.reads p.reads q.form p.form)
+  one_status deed m n (is_not_built p) (is_no_program q) = absurd (never_both text p.tree q.fault p.reads q.reads)
+  one_status deed m n (is_not_built p) (has_a_breach q) = absurd (breach_or_sound p.tree p.reads p.sound q)
+  one_status deed m n (is_not_built p) (passes_a_limit q) = absurd (never_both text p.tree q.fault p.reads q.reads)
+  one_status deed m n (is_not_built p) (has_other_inputs q) = absurd (other_form q.tree p.tree q.reads p.reads q.form p.form)
+  one_status deed m n (is_not_built p) (is_not_built q) = refl

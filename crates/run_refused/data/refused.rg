@@ -1,0 +1,8 @@
+import "regent"
+
+task main()
+  regentlib.c.printf("%lld\n", 7)
+  x = 1
+end
+
+regentlib.start(main)
