@@ -1,7 +1,8 @@
-//! Checks each text of a table, and prints its name with what the checker tells of it.
+//! Gives each text of a table to a call, and prints its name with the status and what is written.
 //!
-//! The table comes on the standard input. A line `== NAME` begins a text of that name, and the lines
-//! up to the next such line are the text's. What stands before the first says what the table is.
+//! The table comes on the standard input. A line `== NAME` begins a text of that name, which is given to
+//! `check t.rg`; where `: WORDS` follow, it is given to a call with these words. The lines up to the
+//! next such line are the text's. What stands before the first says what the table is.
 #![tactic(auto)]
 
 mod named_text;
@@ -9,7 +10,7 @@ mod named_text;
 use named_text::NamedText;
 use std::io;
 
-/// Prints a line for a text: its name, and what the checker tells of it.
+/// Prints a line for a text: its name, and what its call tells.
 fn print_told(rt: &HostRuntime, text: &Option<NamedText>) -> io::Result<()> {
     match text {
         Some(text) => {
@@ -20,14 +21,20 @@ fn print_told(rt: &HostRuntime, text: &Option<NamedText>) -> io::Result<()> {
     }
 }
 
+/// The text that a line begins, after its `== `.
+fn begun(rt: &HostRuntime, head: &str) -> io::Result<NamedText> {
+    let (name, words) = head.split_once(':').unwrap_or((head, "check t.rg"));
+    Ok(NamedText::new(rt.alloc(), name, words)?)
+}
+
 fn main(rt: HostRuntime) -> io::Result<()> {
     let mut text = None;
     for line in rt.lines(rt.alloc()) {
         let line = line?;
         match (line.as_str().strip_prefix("== "), &mut text) {
-            (Some(name), _) => {
+            (Some(head), _) => {
                 print_told(&rt, &text)?;
-                text = Some(NamedText::new(rt.alloc(), name)?);
+                text = Some(begun(&rt, head)?);
             }
             (None, Some(text)) => text.add_line(line.as_str())?,
             (None, None) => (),

@@ -1,4 +1,4 @@
-//! A text with the name that it has in the table.
+//! A text with its name in the table and the words of its call.
 
 ghost use Rattle.std.specs.Prelude.{◌≡◌, ◌++◌, [], ◌∷◌, IfOk, OnOk, string_bytes};
 
@@ -6,20 +6,22 @@ use regent_run::regent_run;
 use run_io::{MemorySink, MemorySource};
 use std::alloc::{AllocError, Global};
 
-/// The most bytes that are told of a text.
+/// The most bytes that a call writes to each sink.
 const ROOM: usize = 200;
 
-/// A text and its name.
+/// A text, its name, and the words of the call that it is given to.
 #[derive(Drop)]
 pub struct NamedText {
     name: String,
+    words: Vec<String>,
     text: String,
 }
 
-/// The words `regent check t.rg`.
-fn check_words(alloc: Global) -> Result<Vec<String>, AllocError> {
+/// The words of a line, behind the program's name.
+fn words_of(alloc: Global, line: &str) -> Result<Vec<String>, AllocError> {
     let mut words = Vec::new(alloc);
-    for word in ["regent", "check", "t.rg"] {
+    words.push(String::from_str(alloc, "regent")?)?;
+    for word in line.split_whitespace() {
         words.push(String::from_str(alloc, word)?)?;
     }
     Ok(words)
@@ -29,14 +31,22 @@ fn sink(alloc: Global) -> Result<MemorySink, AllocError> {
     MemorySink::new(alloc, ROOM, ROOM, Vec::new(alloc))
 }
 
+/// The status, the output and the error output, each in its place.
+fn told(alloc: Global, status: u8, out: &[u8], err: &[u8]) -> Result<String, AllocError> {
+    let out = str::from_utf8(out).unwrap_or("no text");
+    let err = str::from_utf8(err).unwrap_or("no text");
+    format!(in alloc; "{status} {out}{err}")
+}
+
 impl NamedText {
-    /// A text without lines.
-    pub fn new(alloc: Global, name: &str) -> Result<NamedText, AllocError>
+    /// A text without lines, for a call with the words of this line.
+    pub fn new(alloc: Global, name: &str, words: &str) -> Result<NamedText, AllocError>
         ensures name { IfOk result (λ made. string_bytes made.name ≡ name.now) }
         ensures empty { IfOk result (λ made. string_bytes made.text ≡ []) }
     {
         Ok(NamedText {
             name: String::from_str(alloc, name)?,
+            words: words_of(alloc, words)?,
             text: String::new(alloc),
         })
     }
@@ -48,27 +58,23 @@ impl NamedText {
         self.name.as_str()
     }
 
-    /// Adds a line behind those that it has, with a line feed.
+    /// Adds a line after those that it has, with a line feed.
     pub fn add_line(&mut self, line: &str) -> Result<(), AllocError>
         ensures name { self.new.name ≡ self.old.name }
+        ensures words { self.new.words ≡ self.old.words }
         ensures added { OnOk result (string_bytes self.new.text ≡ string_bytes self.old.text ++ (line.now ++ 10 ∷ [])) }
     {
         self.text.push_str(line)?;
         self.text.push('\n')
     }
 
-    /// What the command `check` writes of the text: its output, and then its error output.
+    /// What the call with the text writes: its status, its output, and then its error output.
     pub fn told(&self, alloc: Global) -> Result<String, AllocError> {
-        let words = check_words(alloc)?;
         let bytes = Vec::from_slice(alloc, self.text.as_bytes())?;
         let mut source = MemorySource::new(bytes, Vec::new(alloc));
         let mut out = sink(alloc)?;
         let mut err = sink(alloc)?;
-        regent_run(alloc, &words, &mut source, &mut out, &mut err);
-        let mut told = String::new(alloc);
-        for bytes in [out.bytes(), err.bytes()] {
-            told.push_str(str::from_utf8(bytes).unwrap_or("no text"))?;
-        }
-        Ok(told)
+        let status = regent_run(alloc, &self.words, &mut source, &mut out, &mut err);
+        told(alloc, status, out.bytes(), err.bytes())
     }
 }
