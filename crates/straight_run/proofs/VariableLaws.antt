@@ -1,7 +1,7 @@
 -- Names: what the newest variable of a name is, in scopes, among values and among bindings.
 use Rattle.std.proofs.Common.{◌≡◌, ℕ, zero, suc, ◌+◌, ◌<◌, List, [], ◌∷◌, ◌++◌, length, get_or, refl, ap, ◌∙◌, sym, subst, Some, None, Option, Bool, true, false, cond, unwrap_or, arith, append_assoc}
 use Rattle.std.specs.Prelude.{◌||◌, bytes_eq, is_some, pos}
-use Rattle.std.proofs.lemmas.List.{append-nil, length-append, get_or_append_left, length-map}
+use Rattle.std.proofs.lemmas.List.{append-nil, length-append, get_or_append_left}
 use Rattle.std.proofs.lemmas.List as lists
 use Rattle.lane_kernels.specs.declared.numbers.Width.TheVariants.{W64}
 use Rattle.regent_tree.specs.Syntax.{Name, access_expr, no_step}

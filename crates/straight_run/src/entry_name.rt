@@ -1,6 +1,6 @@
 //! The items of a program, and the entry task.
 
-ghost use Rattle.std.specs.Prelude.{◌≡◌, ◌∷◌, [], MatchOption, map};
+ghost use Rattle.std.specs.Prelude.{◌≡◌, MatchOption, map};
 ghost use Rattle.std.specs.List.{list_all};
 ghost use Rattle.regent_tree.specs.PlainProgram.{item_of, item_tree_of, task_of};
 ghost use Rattle.regent_tree.specs.Syntax.{ItemTree};

@@ -1,6 +1,6 @@
 //! Values of sums.
 
-ghost use Rattle.std.specs.Prelude.{◌≡◌, IfSome, is_some, length};
+ghost use Rattle.std.specs.Prelude.{◌≡◌, IfSome, is_some};
 ghost use Rattle.regent_tree.specs.Operators.{all_signed};
 ghost use Rattle.regent_tree.specs.Plain.{expression_of, steps_in};
 ghost use Rattle.regent_tree.specs.Syntax.{access_expr, no_step};

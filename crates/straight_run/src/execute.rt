@@ -1,16 +1,12 @@
 //! Statements in order: variables of integer types, assignments and `printf`.
 
-ghost use Rattle.std.specs.Prelude.{◌≡◌, ◌<◌, ◌&&◌, List, Some, None, false, IfOk, IfSome, IsTrue, not, MatchOption, is_some, length, pos};
+ghost use Rattle.std.specs.Prelude.{◌≡◌, ◌<◌, ◌&&◌, List, Some, None, false, IfOk, IfSome, IsTrue, not, MatchOption, is_some, length};
 ghost use Rattle.std.specs.Option.{option_map};
-ghost use Rattle.lane_kernels.specs.Numbers.{wrapped};
 ghost use Rattle.regent_tree.specs.declared.statement.How.TheVariants.{Set};
 ghost use Rattle.regent_tree.specs.Plain.{expression_of, expressions_in, initializer_of, steps_in};
 ghost use Rattle.regent_tree.specs.PlainProgram.{block_in, form_of};
 ghost use Rattle.regent_tree.specs.Syntax.{Name, assign_form, no_step, plain_initializer, print_form, var_form};
-ghost use Rattle.regent_tree.specs.Values.{a_number};
-ghost use Rattle.straight_run.specs.Inputs.{width_said};
-ghost use Rattle.straight_run.specs.RunningForm.{Binding, are_in_order, are_sums, begins, count_of, is_bare, is_in_order, is_integer, is_plain_sum, is_set, is_sum, is_variable, prints};
-ghost use Rattle.straight_run.specs.Values.{value_of};
+ghost use Rattle.straight_run.specs.RunningForm.{Binding, are_in_order, are_sums, begins, count_of, is_bare, is_in_order, is_plain_sum, is_set, is_sum, is_variable, prints};
 ghost use Rattle.straight_run.specs.Variables.{AllMean, Begins, Executes, InitializerMeans, Steps, bindings_of, newest};
 
 use crate::evaluate::{evaluate, is_bare};

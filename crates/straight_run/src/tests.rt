@@ -6,7 +6,6 @@ use regent_tree::{
     Program, Sequence, Sign, Stmt, Task, TypeTerm, What, Width,
 };
 use std::alloc::{AllocError, Global};
-use std::process::Abort;
 use std::test::Fail;
 
 fn number(value: i64) -> Expr {
