@@ -2,8 +2,8 @@
 //!
 //! `tokens` reads a text of bytes into its list of tokens, or tells its first fault and the line of
 //! that. The language's lexical rules stand in `specs/`: the tables of reserved words and of signs
-//! in `Tables`, those of tokens in `Tokens`, blanks and comments in `Trivia`, the faults in
-//! `Faults`, whole texts in `Texts`. The scanner finds one input element after the other (`Scan`); that it
+//! in `Tables`, that of tokens in `Tokens`, blanks and comments in `Trivia`, the faults in `Faults`,
+//! whole texts in `Texts`. The scanner finds one input element after the other (`Scan`); that it
 //! finds what the rules say is proved in `proofs/`, and that a text has one outcome at most is the
 //! law of `theorems`.
 #![tactic(auto)]
