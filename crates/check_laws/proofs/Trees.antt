@@ -162,16 +162,16 @@ module _ (tree : Tree) (task : TaskTree) (sound : IsSound tree) where
 
 -- a task of which nothing is told
 module _ (tree : Tree) (declared : first_in (first_declared tree) tree ≡ None) where
-  misnames_none : (ps : List Param) (names : _) → list_any (λ (p : Param). is_flawed_type tree names p.term) ps ≡ false →
+  unbound_none : (ps : List Param) (names : _) → list_any (λ (p : Param). is_flawed_type tree names p.term) ps ≡ false →
       list_any (λ (p : Param). unbound_name_in_type tree names p.term) ps ≡ false
-  misnames_none [] names e = refl
-  misnames_none (p ∷ ps) names e =
+  unbound_none [] names e = refl
+  unbound_none (p ∷ ps) names e =
       let parts = or_parts (is_flawed_type tree names p.term) (list_any (λ (q : Param). is_flawed_type tree names q.term) ps) e in
       let a = or_parts _ _ parts.0 in
       let b = or_parts _ _ a.0 in
       let c = or_parts _ _ b.0 in
       let d = or_parts (unbound_name_in_type tree names p.term) _ c.0 in
-      λ j. d.0 j || misnames_none ps names parts.1 j
+      λ j. d.0 j || unbound_none ps names parts.1 j
 
   scope_sound : (line : ℕ) (t : TaskTree) → Has tree (record { line = line; form = task_item t }) → IsSoundScope (scope_of tree t)
   scope_sound line t h =
@@ -182,7 +182,7 @@ module _ (tree : Tree) (declared : first_in (first_declared tree) tree ≡ None)
       let said = subst (λ all. first_in (first_of_said tree) (declarations_in tree t.params all) ≡ None) same of.said in
       let flawless = (all_sound tree t.params [] saying said).0 in
       let written = beside_written tree t.params [] saying in
-      let named = misnames_none t.params (bound_params tree t.params 0 t.params)
+      let named = unbound_none t.params (bound_params tree t.params 0 t.params)
       (subst (λ names. list_any (λ (p : Param). is_flawed_type tree names p.term) t.params ≡ false) written flawless) in
       begins_soundly tree t.params (scope_of tree t) refl refl once named
 

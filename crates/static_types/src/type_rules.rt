@@ -90,7 +90,7 @@ fn misses_space(names: &Names, space: &Option<Name>) -> bool
     }
 }
 
-fn misnames_in_pointer(tables: &Tables, names: &Names, pointer: &PointerTerm) -> bool
+fn unbound_name_in_pointer(tables: &Tables, names: &Names, pointer: &PointerTerm) -> bool
     ensures { result ≡ unbound_name_in_type (tree_of tables.now) names.now (typed.Pointer pointer.now) }
 {
     unbound_name_in_use(tables, names, &pointer.space)
@@ -102,7 +102,7 @@ pub fn unbound_name_in_type(tables: &Tables, names: &Names, term: &TypeTerm) -> 
     ensures { result ≡ unbound_name_in_type (tree_of tables.now) names.now term.now }
 {
     match term {
-        TypeTerm::Pointer(pointer) => misnames_in_pointer(tables, names, pointer),
+        TypeTerm::Pointer(pointer) => unbound_name_in_pointer(tables, names, pointer),
         TypeTerm::Region { space, .. } => unbound_name_in_use(tables, names, space),
         TypeTerm::Partition {
             region,
@@ -192,16 +192,16 @@ fn is_wrong_region_of_pointer(
     }
 }
 
-fn any_mispoints(tables: &Tables, names: &Names, pointer: &PointerTerm, regions: &[Ref]) -> bool
+fn any_wrong_region(tables: &Tables, names: &Names, pointer: &PointerTerm, regions: &[Ref]) -> bool
     ensures { result ≡ list_any (is_wrong_region_of_pointer (tree_of tables.now) names.now pointer.now) regions.now }
 {
     regions.iter().any(|region| is_wrong_region_of_pointer(tables, names, pointer, region))
 }
 
-fn mispoints_in_pointer(tables: &Tables, names: &Names, pointer: &PointerTerm) -> bool
+fn wrong_region_in_pointer(tables: &Tables, names: &Names, pointer: &PointerTerm) -> bool
     ensures { result ≡ wrong_region_in_type (tree_of tables.now) names.now (typed.Pointer pointer.now) }
 {
-    any_mispoints(tables, names, pointer, pointer.regions.as_slice())
+    any_wrong_region(tables, names, pointer, pointer.regions.as_slice())
 }
 
 /// Whether a pointer type names what it can't lead into, or has `wild` in its own list.
@@ -209,7 +209,7 @@ pub fn wrong_region_in_type(tables: &Tables, names: &Names, term: &TypeTerm) -> 
     ensures { result ≡ wrong_region_in_type (tree_of tables.now) names.now term.now }
 {
     match term {
-        TypeTerm::Pointer(pointer) => mispoints_in_pointer(tables, names, pointer),
+        TypeTerm::Pointer(pointer) => wrong_region_in_pointer(tables, names, pointer),
         _ => false,
     }
 }
@@ -408,9 +408,12 @@ pub fn said_pointer(
         (written_pointer (tree_of tables.now) (in_names names.now) pointer.now)) result
         (first_in_type (tree_of tables.now) names.now (typed.Pointer pointer.now)) }
 {
-    Stop::at(misnames_in_pointer(tables, names, pointer), Rule::Name)?;
+    Stop::at(unbound_name_in_pointer(tables, names, pointer), Rule::Name)?;
     Stop::at(miscounts_use(tables, &pointer.space), Rule::Count)?;
-    Stop::at(mispoints_in_pointer(tables, names, pointer), Rule::Pointer)?;
+    Stop::at(
+        wrong_region_in_pointer(tables, names, pointer),
+        Rule::Pointer,
+    )?;
     Stop::at(
         misfits_use(alloc, tables, names, &pointer.space)?,
         Rule::Spaces,

@@ -181,10 +181,10 @@ by_type_bound tree s t d declared right =
     ∙ (λ j. type_unless (is_collection (declared j) && true) (declared j))
 
 -- with both
-leads : (misplaced misstanding misbegun collection unknown : Bool) →
-    option_or (option_or (rule_if misplaced rule.Place) (option_or (rule_if misstanding rule.Type) None))
+leads : (misplaced ill_typed misbegun collection unknown : Bool) →
+    option_or (option_or (rule_if misplaced rule.Place) (option_or (rule_if ill_typed rule.Type) None))
     (option_or (rule_if misbegun rule.Place) None) ≡ None →
-    (collection && unknown) ≡ (collection && (unknown || (misstanding || false) || misbegun))
+    (collection && unknown) ≡ (collection && (unknown || (ill_typed || false) || misbegun))
 leads true ms mb r u e = absurd cc
 leads false true mb r u e = absurd cc
 leads false false true r u e = absurd cc

@@ -35,7 +35,7 @@ use std::alloc::AllocError;
 
 // ---- `fill`
 
-fn any_misnames(declared: &Declared, names: &Names, region: &Name, fields: &[Name]) -> bool
+fn has_unbound_name_in(declared: &Declared, names: &Names, region: &Name, fields: &[Name]) -> bool
     ensures { result
         ≡ list_any (is_unknown_region_field (tree_of declared.now) names.now region.now) fields.now }
 {
@@ -92,7 +92,7 @@ fn filled<'a>(
     let Some(bound) = names.bound_to(region) else {
         return Err(Stop::Breach(Rule::Name));
     };
-    let has_unbound_name = any_misnames(declared, names, region, fields);
+    let has_unbound_name = has_unbound_name_in(declared, names, region, fields);
     Stop::at(!names_region(names, region) || has_unbound_name, Rule::Name)?;
     Ok(&bound.static_type)
 }

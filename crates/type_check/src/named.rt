@@ -125,7 +125,7 @@ pub fn named_have_other_parents(names: &Names, p: &Name, q: &Name) -> bool
 }
 
 /// Whether the names of an `image` or a `preimage` aren't bound to what its form says.
-pub fn misnames_operation(
+pub fn unbound_name_in_operation(
     site: &Site,
     names: &Names,
     parent: &Name,

@@ -20,9 +20,9 @@ ghost use Rattle.type_check.specs.Beginning.{first_in_initializer};
 
 use crate::fields::is_unknown_region_field;
 use crate::named::{
-    is_disjoint_named, misnames_operation, named_field, named_have_other_parents,
-    named_parent_is_outside, operands, parent_named, reads_named_field, region_is_outside,
-    tells_colours, tells_points,
+    is_disjoint_named, named_field, named_have_other_parents, named_parent_is_outside, operands,
+    parent_named, reads_named_field, region_is_outside, tells_colours, tells_points,
+    unbound_name_in_operation,
 };
 use check_expressions::{Scope, Site, expression, spots};
 use check_rules::Rule;
@@ -102,7 +102,7 @@ pub fn image(
         (image_initializer parent.now partition.now region.now field.now)) }
 {
     let names = scope.names();
-    let has_unbound_name = misnames_operation(site, names, parent, partition, region, field);
+    let has_unbound_name = unbound_name_in_operation(site, names, parent, partition, region, field);
     Stop::at(has_unbound_name, Rule::Name)?;
     let told = named_field(site, names, region, field)?;
     let outside = named_parent_is_outside(scope, partition, region);
@@ -134,7 +134,7 @@ pub fn preimage(
         (preimage_initializer parent.now partition.now region.now field.now)) }
 {
     let names = scope.names();
-    let has_unbound_name = misnames_operation(site, names, parent, partition, region, field);
+    let has_unbound_name = unbound_name_in_operation(site, names, parent, partition, region, field);
     Stop::at(has_unbound_name, Rule::Name)?;
     let told = named_field(site, names, region, field)?;
     let outside = region_is_outside(scope, parent, region);
