@@ -1,5 +1,5 @@
 -- The first breach of a program: that of its items, or else that of its bodies.
-use Rattle.std.proofs.Common.{None, Option, ◌≡◌, absurd, ap, cc, refl, subst, sym, ◌∙◌}
+use Rattle.std.proofs.Common.{None, Option, ◌≡◌, ap, refl, subst, sym, ◌∙◌}
 use Rattle.std.specs.Option.{option_or}
 use Rattle.std.specs.Prelude.{Some}
 use Rattle.regent_tree.specs.PlainProgram.{tree_of}
@@ -9,7 +9,9 @@ use Rattle.check_rules.specs.Breaches.{Breach}
 use Rattle.check_rules.specs.Entries.{wrong_entry_lines}
 use Rattle.check_rules.specs.FirstInItems.{first_breach, first_declared, first_in_body, first_line, first_repeated}
 use Rattle.check_rules.specs.Rules.{first_in}
+use Rattle.check_rules.specs.Sound.{IsSound}
 use Rattle.check_rules.specs.declared.rule.Rule.TheVariants as rule
+use Rattle.check_rules.proofs.Written.{all_is_sound}
 use Rattle.check_items.specs.Halting.{IsToldAt}
 use Rattle.check_items.specs.declared.halt.Halt.{Halt}
 use Rattle.check_items.specs.declared.halt.Halt.TheVariants as halt
@@ -61,3 +63,15 @@ pub bodies_none : (p tables declared : Program) → tables ≡ p → declared �
     first_in_items (tree_of tables) ≡ None →
     bodies (tree_of declared) ≡ None → first_breach (tree_of p) ≡ None
 bodies_none p tables declared t d none told = sym (last_part p tables declared t d none) ∙ told
+
+none_last : {A : Type 0} (a b c : Option A) → option_or a (option_or b (option_or c None)) ≡ None → c ≡ None
+none_last None None None h = refl
+none_last None None (Some z) h = absurd cc
+none_last None (Some y) c h = absurd cc
+none_last (Some x) b c h = absurd cc
+
+-- where the items have no breach, no declaration has one
+pub items_sound : (tree : Tree) → first_in_items tree ≡ None → IsSound tree
+items_sound tree none =
+    all_is_sound tree (none_last (first_repeated tree) (first_line rule.Start (wrong_entry_lines tree))
+    (first_in (first_declared tree) tree) none)

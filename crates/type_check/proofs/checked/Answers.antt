@@ -3,8 +3,11 @@ use Rattle.std.proofs.lemmas.Result.{err_from_is_err_and}
 use Rattle.regent_tree.specs.PlainProgram.{tree_of}
 use Rattle.regent_tree.specs.declared.program.Program.{Program}
 use Rattle.check_rules.specs.Acceptance.{input_widths}
-use Rattle.type_check.proofs.Whole.{bodies_none, bodies_stop, items_stop}
+use Rattle.type_check.proofs.Whole.{bodies_none, bodies_stop, items_sound, items_stop}
 use Rattle.type_check.proofs.checked.Goals as goal
+
+pub new-declared-requires : goal.new-declared-requires
+new-declared-requires c = items_sound (tree_of c.in_ok-tables.tables) c.in_ok-inputs.ensures.0
 
 pub returns-in_err-inputs : goal.returns-in_err-inputs
 returns-in_err-inputs c =
