@@ -8,11 +8,16 @@ use std::alloc::Global;
 use std::process::Abort;
 use std::test::Fail;
 
-/// The text is this one terminal, on line 2.
-fn assert_one(rt: &impl Abort, alloc: Global, text: &[u8], want: &Symbol) -> Result<(), Fail> {
+/// The terminals of the text.
+fn terminals_of(rt: &impl Abort, alloc: Global, text: &[u8]) -> Result<Vec<Terminal>, Fail> {
     assert!(rt; text.len() <= 1048576);
     let tokens = tokens(alloc, text)?;
-    let found = terminals(alloc, text, tokens.as_slice())?;
+    Ok(terminals(alloc, text, tokens.as_slice())?)
+}
+
+/// The text is this one terminal, on line 2.
+fn assert_one(rt: &impl Abort, alloc: Global, text: &[u8], want: &Symbol) -> Result<(), Fail> {
+    let found = terminals_of(rt, alloc, text)?;
     match found.as_slice() {
         [one] => {
             assert_eq!(rt; one.line, 2, "in {text:?}");
@@ -92,9 +97,7 @@ fn names_and_strings(rt: HostRuntime) -> Result<(), Fail> {
 fn a_large_text(rt: HostRuntime) -> Result<(), Fail> {
     let alloc = rt.alloc();
     let text = "if x1 <= 27 \"\\n\"\n".repeat(alloc, 8192)?;
-    assert!(rt; text.len() <= 1048576);
-    let tokens = tokens(alloc, text.as_bytes())?;
-    let found = terminals(alloc, text.as_bytes(), tokens.as_slice())?;
+    let found = terminals_of(&rt, alloc, text.as_bytes())?;
     assert_eq!(rt; found.len(), 40960);
     assert_eq!(rt; found.last().map(|terminal| terminal.line), Some(8192));
     Ok(())
