@@ -36,6 +36,16 @@ fn have(alloc: Global, sets: &[PointSet], lists: &[&[u32]]) -> Result<bool, Allo
     Ok(sets.len() == lists.len())
 }
 
+/// Whether the sets that an operation gave have the points of lists, and the flag beside them.
+fn made(
+    alloc: Global,
+    given: Result<(Vec<PointSet>, bool), AllocError>,
+    lists: &[&[u32]],
+) -> Result<(bool, bool), AllocError> {
+    let (sets, disjoint) = given?;
+    Ok((have(alloc, sets.as_slice(), lists)?, disjoint))
+}
+
 #[test]
 fn equal_parts(rt: HostRuntime) -> Result<(), Fail> {
     let alloc = rt.alloc();
@@ -54,9 +64,8 @@ fn equal_parts(rt: HostRuntime) -> Result<(), Fail> {
     ];
     for (region, colours, want) in rows {
         let region = set_of(alloc, region)?;
-        let (sets, disjoint) = equal(alloc, &region, colours)?;
-        assert!(rt; have(alloc, sets.as_slice(), want)?, "{colours}");
-        assert!(rt; disjoint);
+        let parts = made(alloc, equal(alloc, &region, colours), want)?;
+        assert_eq!(rt; parts, (true, true), "{colours}");
     }
     Ok(())
 }
@@ -75,9 +84,8 @@ fn fields(rt: HostRuntime) -> Result<(), Fail> {
     for (region, values, colours, want) in rows {
         let region = set_of(alloc, region)?;
         assert!(rt; region.len() as usize == values.len() && colours <= 3);
-        let (sets, disjoint) = by_field(alloc, &region, values, colours)?;
-        assert!(rt; have(alloc, sets.as_slice(), want)?, "{values:?}");
-        assert!(rt; disjoint);
+        let parts = made(alloc, by_field(alloc, &region, values, colours), want)?;
+        assert_eq!(rt; parts, (true, true), "{values:?}");
     }
     Ok(())
 }
@@ -136,12 +144,9 @@ fn images(rt: HostRuntime) -> Result<(), Fail> {
         let sets = sets_of(alloc, sets)?;
         let region = set_of(alloc, region)?;
         assert_eq!(rt; region.len() as usize, values.len());
-        let (images, disjoint) = image(alloc, &parent, sets.as_slice(), &region, values, pointers)?;
-        assert!(rt;
-            have(alloc, images.as_slice(), want)?,
-            "{values:?} {pointers}"
-        );
-        assert!(rt; !disjoint);
+        let images = image(alloc, &parent, sets.as_slice(), &region, values, pointers);
+        let images = made(alloc, images, want)?;
+        assert_eq!(rt; images, (true, false), "{values:?} {pointers}");
     }
     Ok(())
 }
@@ -198,7 +203,7 @@ fn preimages(rt: HostRuntime) -> Result<(), Fail> {
         let sets = sets_of(alloc, sets)?;
         let region = set_of(alloc, &[0, 1, 2])?;
         assert_eq!(rt; region.len() as usize, values.len());
-        let (preimages, disjoint) = preimage(
+        let preimages = preimage(
             alloc,
             &parent,
             sets.as_slice(),
@@ -206,12 +211,9 @@ fn preimages(rt: HostRuntime) -> Result<(), Fail> {
             values,
             pointers,
             flag,
-        )?;
-        assert!(rt;
-            have(alloc, preimages.as_slice(), want)?,
-            "{values:?} {pointers}"
         );
-        assert_eq!(rt; disjoint, flag);
+        let preimages = made(alloc, preimages, want)?;
+        assert_eq!(rt; preimages, (true, flag), "{values:?} {pointers}");
     }
     Ok(())
 }
@@ -247,23 +249,14 @@ fn set_operations(rt: HostRuntime) -> Result<(), Fail> {
     for (left, right, meet, union, rest) in rows {
         let p = sets_of(alloc, left)?;
         let q = sets_of(alloc, right)?;
+        let (p, q) = (p.as_slice(), q.as_slice());
         for flag in [false, true] {
-            let (sets, disjoint) = both(alloc, p.as_slice(), q.as_slice(), flag)?;
-            assert!(rt;
-                have(alloc, sets.as_slice(), meet)? && disjoint == flag,
-                "{meet:?}"
-            );
-            let (sets, disjoint) = without(alloc, p.as_slice(), q.as_slice(), flag)?;
-            assert!(rt;
-                have(alloc, sets.as_slice(), rest)? && disjoint == flag,
-                "{rest:?}"
-            );
+            let met = made(alloc, both(alloc, p, q, flag), meet)?;
+            let left = made(alloc, without(alloc, p, q, flag), rest)?;
+            assert_eq!(rt; (met, left), ((true, flag), (true, flag)), "{meet:?}");
         }
-        let (sets, disjoint) = either_of(alloc, p.as_slice(), q.as_slice())?;
-        assert!(rt;
-            have(alloc, sets.as_slice(), union)? && !disjoint,
-            "{union:?}"
-        );
+        let united = made(alloc, either_of(alloc, p, q), union)?;
+        assert_eq!(rt; united, (true, false), "{union:?}");
     }
     Ok(())
 }

@@ -9,7 +9,8 @@ use Rattle.regent_grammar.specs.Derivations.{Spells, is_given, is_here, is_one, 
 use Rattle.regent_grammar.specs.Reading.{stuck, read, then_read, many_upto, Later, reading_with, later_upto, now, reading}
 use Rattle.regent_grammar.proofs.Rulings.{named_leads, named_sound}
 use Rattle.regent_grammar.proofs.Lengths.{Less, shrinks}
-use Rattle.regent_grammar.proofs.Sound.{Within, within_any, within_first, within_second, within_rest, within_behind, true_first, true_second}
+use Rattle.regent_grammar.proofs.Sound.{Within, within_any, within_first, within_second, within_rest, within_behind}
+use Rattle.plain_values.proofs.Plain.{and_first, and_second}
 
 -- the named productions read all that they spell in texts that are short enough, and stop as they
 -- do
@@ -29,17 +30,17 @@ mutual
   reads_with is_here later n full h w = refl
   reads_with (is_one {ts = ts} k) later n full h w = rw k refl
   reads_with (is_both {r = r} {q = q} {ts = ts} {mid = mid} p k) later n full h w =
-      let e = reads_with p later n full (true_first (is_sound r) (is_sound q) h) (within_first (leads r) (not (takes r) && leads q) n ts w) in
-      let d = reads_with k later n full (true_second (is_sound r) (is_sound q) h) (within_behind (leads r) (takes r) (leads q) n ts mid w (shrinks p)) in
+      let e = reads_with p later n full (and_first (is_sound r) (is_sound q) h) (within_first (leads r) (not (takes r) && leads q) n ts w) in
+      let d = reads_with k later n full (and_second (is_sound r) (is_sound q) h) (within_behind (leads r) (takes r) (leads q) n ts mid w (shrinks p)) in
       rw (e, d) refl
   reads_with (is_first {r = r} {q = q} {ts = ts} t p) later n full h w =
-      let e = reads_with p later n full (true_first (is_sound r) (is_sound q) h) (within_first (leads r) (leads q) n ts w) in
+      let e = reads_with p later n full (and_first (is_sound r) (is_sound q) h) (within_first (leads r) (leads q) n ts w) in
       rw (t, e) refl
   reads_with (is_second {r = r} {q = q} {ts = ts} t p) later n full h w =
-      let e = reads_with p later n full (true_second (is_sound r) (is_sound q) h) (within_second (leads r) (leads q) n ts w) in
+      let e = reads_with p later n full (and_second (is_sound r) (is_sound q) h) (within_second (leads r) (leads q) n ts w) in
       rw (t, e) refl
   reads_with (is_many {r = r} {ts = ts} p) later n full h w =
-      many_reads_with p later n full (true_first (takes r) (is_sound r) h) (true_second (takes r) (is_sound r) h) w (suc (length ts)) (omega arith)
+      many_reads_with p later n full (and_first (takes r) (is_sound r) h) (and_second (takes r) (is_sound r) h) w (suc (length ts)) (omega arith)
   reads_with (is_used {n =
       m} {ts = ts} {rest = rest} {x = x} p) later n full h w = full.reads m ts x rest p w
 
@@ -66,20 +67,20 @@ mutual
   sticks_with stops_at_end later n full h w = refl
   sticks_with (stops_at k) later n full h w = rw k refl
   sticks_with (stops_before {r = r} {q = q} {ts = ts} p) later n full h w =
-      let e = sticks_with p later n full (true_first (is_sound r) (is_sound q) h) (within_first (leads r) (not (takes r) && leads q) n ts w) in
+      let e = sticks_with p later n full (and_first (is_sound r) (is_sound q) h) (within_first (leads r) (not (takes r) && leads q) n ts w) in
       rw e refl
   sticks_with (stops_behind {r = r} {q = q} {ts = ts} {mid = mid} p k) later n full h w =
-      let e = reads_with p later n full (true_first (is_sound r) (is_sound q) h) (within_first (leads r) (not (takes r) && leads q) n ts w) in
-      let d = sticks_with k later n full (true_second (is_sound r) (is_sound q) h) (within_behind (leads r) (takes r) (leads q) n ts mid w (shrinks p)) in
+      let e = reads_with p later n full (and_first (is_sound r) (is_sound q) h) (within_first (leads r) (not (takes r) && leads q) n ts w) in
+      let d = sticks_with k later n full (and_second (is_sound r) (is_sound q) h) (within_behind (leads r) (takes r) (leads q) n ts mid w (shrinks p)) in
       rw (e, d) refl
   sticks_with (stops_in_first {r = r} {q = q} {ts = ts} t p) later n full h w =
-      let e = sticks_with p later n full (true_first (is_sound r) (is_sound q) h) (within_first (leads r) (leads q) n ts w) in
+      let e = sticks_with p later n full (and_first (is_sound r) (is_sound q) h) (within_first (leads r) (leads q) n ts w) in
       rw (t, e) refl
   sticks_with (stops_in_second {r = r} {q = q} {ts = ts} t p) later n full h w =
-      let e = sticks_with p later n full (true_second (is_sound r) (is_sound q) h) (within_second (leads r) (leads q) n ts w) in
+      let e = sticks_with p later n full (and_second (is_sound r) (is_sound q) h) (within_second (leads r) (leads q) n ts w) in
       rw (t, e) refl
   sticks_with (stops_in_many {r = r} {ts = ts} p) later n full h w =
-      many_sticks_with p later n full (true_first (takes r) (is_sound r) h) (true_second (takes r) (is_sound r) h) w (suc (length ts)) (omega arith)
+      many_sticks_with p later n full (and_first (takes r) (is_sound r) h) (and_second (takes r) (is_sound r) h) w (suc (length ts)) (omega arith)
   sticks_with (stops_in_use {n =
       m} {ts = ts} {at = at} p) later n full h w = full.sticks m ts at p w
 

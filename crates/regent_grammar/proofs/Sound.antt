@@ -10,6 +10,7 @@ use Rattle.regent_grammar.specs.Derivations.{Spells, is_given, is_here, is_one, 
 use Rattle.regent_grammar.specs.Reading.{Read, stuck, read, then_read, read_as, taking, many_upto, Later, reading_with, later_upto, now, reading}
 use Rattle.regent_grammar.proofs.Rulings.{named_leads, named_sound}
 use Rattle.regent_grammar.proofs.Lengths.{Less, shrinks}
+use Rattle.plain_values.proofs.Plain.{and_first, and_second}
 
 -- what the rule spells, or where it stops
 abbrev pub Tells : {s : Sort} → Rule s → List Terminal → Read (Value s) → Type 0
@@ -55,14 +56,6 @@ within_behind a true false n ts mid h k =
 within_behind a true true n ts mid h k =
     let e : length ts ≤ n = within_most (a || false) n ts h in omega arith
 within_behind a false b n ts mid h k = within_rest b n ts mid (within_second a b n ts h) k
-
-pub true_first : (a b : Bool) → (a && b) ≡ true → a ≡ true
-true_first true b h = refl
-true_first false b h = h
-
-pub true_second : (a b : Bool) → (a && b) ≡ true → b ≡ true
-true_second true b h = h
-true_second false b h = absurd cc
 
 -- what the named productions read is told of all texts that are short enough
 abbrev pub Exact : Later → ℕ → Type 0
@@ -169,15 +162,15 @@ tells_with later n exact here h ts w = is_here
 tells_with later n exact (one table) h ts w = taking_tells _ table ts
 tells_with later n exact (both f r q) h ts w =
     both_tells _ f r q ts (reading_with later q) (reading_with later r ts)
-    (tells_with later n exact r (true_first (is_sound r) (is_sound q) h) ts (within_first (leads r) (not (takes r) && leads q) n ts w))
-    (λ x mid p. tells_with later n exact q (true_second (is_sound r) (is_sound q) h) mid (within_behind (leads r) (takes r) (leads q) n ts mid w (shrinks p)))
+    (tells_with later n exact r (and_first (is_sound r) (is_sound q) h) ts (within_first (leads r) (not (takes r) && leads q) n ts w))
+    (λ x mid p. tells_with later n exact q (and_second (is_sound r) (is_sound q) h) mid (within_behind (leads r) (takes r) (leads q) n ts mid w (shrinks p)))
 tells_with later n exact (when test then r else q) h ts w =
     when_tells test r q ts (reading_with later r ts) (reading_with later q ts)
-    (tells_with later n exact r (true_first (is_sound r) (is_sound q) h) ts (within_first (leads r) (leads q) n ts w))
-    (tells_with later n exact q (true_second (is_sound r) (is_sound q) h) ts (within_second (leads r) (leads q) n ts w)) (test ts) refl
+    (tells_with later n exact r (and_first (is_sound r) (is_sound q) h) ts (within_first (leads r) (leads q) n ts w))
+    (tells_with later n exact q (and_second (is_sound r) (is_sound q) h) ts (within_second (leads r) (leads q) n ts w)) (test ts) refl
 tells_with later n exact (many test r) h ts w =
     many_tells test r ts (many_upto test (reading_with later r) (suc (length ts)) ts)
-    (upto_tells test r (reading_with later r) n (λ us v. tells_with later n exact r (true_second (takes r) (is_sound r) h) us v) (true_first (takes r) (is_sound r) h) (suc (length ts)) ts
+    (upto_tells test r (reading_with later r) n (λ us v. tells_with later n exact r (and_second (takes r) (is_sound r) h) us v) (and_first (takes r) (is_sound r) h) (suc (length ts)) ts
     (omega arith) w)
 tells_with later n exact (use' m) h ts w = exact m ts w
 

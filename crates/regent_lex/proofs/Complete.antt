@@ -8,7 +8,7 @@ use Rattle.std.specs.Map.{lookup}
 use Rattle.std.specs.Prelude.{◌&&◌, ◌||◌, ◌==◌, bytes_eq, cond, nat_lt, codes, is_some}
 use Rattle.std.proofs.lemmas.Slice.Eq.{bytes_eq-Decides}
 use Rattle.std.proofs.lemmas.List.{take_at, drop_at, length-append, append-nil}
-use Rattle.std.proofs.lemmas.Bool.{eqb-true, lt-ltb, le-ltb, ne_eqb, false_from_ne_true, and_parts}
+use Rattle.std.proofs.lemmas.Bool.{eqb-true, lt-ltb, le-ltb, ne_eqb, false_from_ne_true, and_parts, and_right}
 use Rattle.std.proofs.lemmas.Bool.{or_parts}
 use Rattle.std.proofs.lemmas.Bool.Decides.{nat_tests}
 use Rattle.regent_lex.specs.declared.input_element.InputElement.TheVariants.{Trivia, Token, Fault}
@@ -256,10 +256,6 @@ unfolding element_at
 sign_first b after no_blank no_letter no_digit no_quote no_comment =
     rw (no_blank, no_letter, no_digit, no_quote, no_comment) refl
 
-and_false_is : (a : Bool) → (a && false) ≡ false
-and_false_is true = refl
-and_false_is false = refl
-
 sign_found : (b : ℕ) (after : List ℕ) → is_sign b ≡ true → next_are 45 45 (b ∷ after) ≡ false →
     (takes_equals b && next_is (λ c. c == 61) after) ≡ false →
     first_element (b ∷ after) ≡ Some (Token Sign 1)
@@ -273,7 +269,7 @@ two_bytes_found : (b : ℕ) (after : List ℕ) → takes_equals b ≡ true →
 unfolding sign_at
 two_bytes_found b after h =
     sign_first b (61 ∷ after) (equals_isnt is_blank b refl h) (equals_isnt is_letter b refl h)
-    (equals_isnt is_digit b refl h) (equals_isnt (λ c. c == 34) b refl h) (and_false_is (b == 45))
+    (equals_isnt is_digit b refl h) (equals_isnt (λ c. c == 34) b refl h) (and_right (b == 45) false refl)
     ∙ rw h refl
 
 nothing_found : (b : ℕ) (after : List ℕ) → is_blank b ≡ false → is_letter b ≡ false →
