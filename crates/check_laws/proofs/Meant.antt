@@ -1,5 +1,5 @@
 -- Statements of which nothing is told stand in the scopes that the meaning has there.
-use Rattle.std.proofs.Common.{List, None, ◌++◌, ◌∷◌, ◌≡◌, ap, refl, true, ◌∙◌, ℕ}
+use Rattle.std.proofs.Common.{None, ◌++◌, ◌∷◌, ◌≡◌, ap, refl, ◌∙◌}
 use Rattle.regent_tree.specs.Scopes.{Scope, past}
 use Rattle.regent_tree.specs.Syntax.{Arms, Block, Form, Otherwise, TaskTree, Tree, a_statement, an_arm, assert_form, assign_form, call_form, do_form, else_block, fill_form, for_in_form, for_to_form, if_form, no_arm, no_else, no_statement, print_form, return_form, then_statement, var_form, while_form}
 use Rattle.check_rules.specs.FirstInStatements.{first_in_arms, first_in_block, first_in_else, first_of_form, first_within, told_on}
@@ -8,8 +8,9 @@ use Rattle.check_rules.specs.Variables.{known_scope_after, known_scope_after_arm
 use Rattle.check_rules.specs.Visits.{Visit, visits_in, visits_in_arms, visits_in_else, visits_within}
 use Rattle.check_laws.specs.MeantVisits.{meant_in, meant_in_arms, meant_in_else, meant_within}
 use Rattle.check_laws.specs.SoundScopes.{IsSoundScope}
-use Rattle.check_laws.proofs.Blocks.{arms_known, block_known, count_scope, form_known, loop_scope, nested, told_none}
-use Rattle.check_laws.proofs.Parts.{or_none}
+use Rattle.check_laws.proofs.Blocks.{arms_known, block_known, count_scope, form_known, loop_scope, nested}
+use Rattle.plain_values.proofs.Plain.{option_or_parts}
+use Rattle.check_rules.proofs.Untold.{told_none}
 
 module _ (tree : Tree) (task : TaskTree) (sound : IsSound tree) where
   mutual
@@ -17,8 +18,8 @@ module _ (tree : Tree) (task : TaskTree) (sound : IsSound tree) where
         visits_in tree task s b ≡ meant_in tree task s b
     block_meant s no_statement scope e = refl
     block_meant s (then_statement (a_statement line form) rest) scope e =
-        let parts = or_none (told_on line (first_of_form tree task s form)) _ e in
-        let more = or_none (first_within tree task s form) _ parts.1 in
+        let parts = option_or_parts (told_on line (first_of_form tree task s form)) _ e in
+        let more = option_or_parts (first_within tree task s form) _ parts.1 in
         let here = told_none line _ parts.0 in
         let after = form_known tree task sound s form scope here more.0 in
         let inside = within_meant s form scope here more.0 in
@@ -30,7 +31,7 @@ module _ (tree : Tree) (task : TaskTree) (sound : IsSound tree) where
     within_meant : (s : Scope) (form : Form) → IsSoundScope s → first_of_form tree task s form ≡ None →
         first_within tree task s form ≡ None → visits_within tree task s form ≡ meant_within tree task s form
     within_meant s (if_form arms other) scope e w =
-        let parts = or_none (first_in_arms tree task s arms) _ w in
+        let parts = option_or_parts (first_in_arms tree task s arms) _ w in
         let after = arms_known tree task sound s arms scope parts.0 in
         let first = arms_meant s arms scope parts.0 in
         let last = else_meant (known_scope_after_arms tree s arms) other after.1 parts.1
@@ -56,7 +57,7 @@ module _ (tree : Tree) (task : TaskTree) (sound : IsSound tree) where
         visits_in_arms tree task s arms ≡ meant_in_arms tree task s arms
     arms_meant s no_arm scope e = refl
     arms_meant s (an_arm test body rest) scope e =
-        let parts = or_none (first_in_block tree task s body) _ e in
+        let parts = option_or_parts (first_in_block tree task s body) _ e in
         let inner = nested tree task sound s body scope (block_known tree task sound s body scope parts.0) in
         let first = block_meant s body scope parts.0 in
         let last = arms_meant (past s (known_scope_after_block tree s body)) rest inner.1 parts.1

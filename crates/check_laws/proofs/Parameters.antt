@@ -18,8 +18,9 @@ use Rattle.check_rules.specs.Repeats.{Given, given_by, repeats_after, was_given}
 use Rattle.check_rules.specs.Sorts.{is_region, may_be}
 use Rattle.check_rules.proofs.Written.{written_known}
 use Rattle.check_laws.specs.SoundScopes.{Falls, IsKnown, IsSoundScope}
-use Rattle.check_laws.proofs.Parts.{contrary, not_false, number_known, surely, value_known}
+use Rattle.check_laws.proofs.Parts.{contrary, number_known, surely, value_known}
 use Rattle.check_laws.proofs.Scopes.{found_by_number}
+use Rattle.std.proofs.lemmas.Bool.{not-false}
 
 -- ---- names of bindings
 
@@ -168,7 +169,7 @@ module _ (tree : Tree) (all : List Param) (s : Scope) (names_are : s.names ≡ b
   region_placed : (r : Name) → not (names_a is_region names r) ≡ false →
       (is_region (bound_as names (place_in all r)).static_type ≡ true) × (place_in all r < length all)
   region_placed r e =
-      let both = and_parts (is_bound names r) (may_be is_region (type_named names r)) (not_false _ e) in
+      let both = and_parts (is_bound names r) (may_be is_region (type_named names r)) (not-false _ e) in
       let is = surely is_region (type_named names r) (written_known tree all 0 all r both.0) both.1 in
       let found = found_by_number (length all) names r falls both.0 in
       let place : (bound_to names r).number ≡ place_in all r = number_is_place tree all 0 all [] once r both.0 ∙ from_zero (place_in all r) in

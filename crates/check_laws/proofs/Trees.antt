@@ -6,7 +6,7 @@ use Rattle.std.proofs.lemmas.List.{append-nil}
 use Rattle.regent_tree.specs.Scopes.{Scope, bound_params, past, scope_of}
 use Rattle.regent_tree.specs.Lookup.{is_bound, type_named}
 use Rattle.regent_tree.specs.Syntax.{Arms, Block, Expression, Form, ItemForm, ItemTree, Name, Otherwise, Steps, TaskTree, Tree, a_statement, access_expr, alias_item, an_arm, assert_form, assign_form, call_form, do_form, else_block, fill_form, for_in_form, for_to_form, if_form, import_item, no_arm, no_else, no_statement, print_form, return_form, space_item, start_item, task_item, then_statement, var_form, while_form}
-use Rattle.regent_tree.specs.Typing.{scope_after_block, type_of}
+use Rattle.regent_tree.specs.Typing.{scope_after_block}
 use Rattle.regent_tree.specs.declared.types.Param.{Param}
 use Rattle.regent_tree.proofs.Members.{Contains-from_Has, Has, Has-append_cases, Has-from_Contains, Has-map, Has-map_cases}
 use Rattle.check_rules.specs.Bodies.{body_scope}
@@ -15,7 +15,6 @@ use Rattle.check_rules.specs.Declarations.{is_flawed_type}
 use Rattle.check_rules.specs.FirstInExpressions.{first_in_expression, first_in_target}
 use Rattle.check_rules.specs.FirstInItems.{first_breach, first_declared, first_in_body, first_line, first_of_said, first_of_saying}
 use Rattle.check_rules.specs.FirstInStatements.{first_in_arms, first_in_block, first_in_else, first_in_targets, first_of_form, first_within, told_on}
-use Rattle.check_rules.specs.KnownTypes.{known_type}
 use Rattle.check_rules.specs.Names.{unbound_name_in_type}
 use Rattle.check_rules.specs.Repeats.{given_by, repeats}
 use Rattle.check_rules.specs.Parts.{subexpressions}
@@ -28,22 +27,23 @@ use Rattle.check_rules.specs.declared.rule.Rule.TheVariants as rule
 use Rattle.check_rules.proofs.FirstInItems.{none_without_first}
 use Rattle.check_rules.proofs.Written.{all_is_sound, all_sound, beside_written, body_scope_written, standing_sound, untold}
 use Rattle.check_laws.specs.Laws.{AllIsKnown, BodiesAreMeant, IsAsMeant, StatementsAreMeant}
-use Rattle.check_laws.specs.MeantVisits.{expressions_at, meant_in, meant_of_item, meant_visits}
-use Rattle.check_laws.specs.SoundScopes.{IsKnown, IsSoundScope}
-use Rattle.check_laws.proofs.Blocks.{arms_known, block_known, count_scope, form_known, loop_scope, nested, told_none}
+use Rattle.check_laws.specs.MeantVisits.{expressions_at, meant_in, meant_of_item}
+use Rattle.check_laws.specs.SoundScopes.{IsSoundScope}
+use Rattle.check_laws.proofs.Blocks.{arms_known, block_known, count_scope, form_known, loop_scope, nested}
 use Rattle.check_laws.proofs.Forms.{expression_as_meant, target_as_meant}
 use Rattle.check_laws.proofs.Meant.{block_meant}
 use Rattle.check_laws.proofs.Parameters.{begins_soundly}
-use Rattle.check_laws.proofs.Parts.{or_none}
 use Rattle.check_laws.proofs.Subexpressions.{untold_inside, untold_target}
 use Rattle.check_laws.proofs.Variables.{parts_of_form, target_of_form}
+use Rattle.plain_values.proofs.Plain.{option_or_parts}
+use Rattle.check_rules.proofs.Untold.{told_none}
 
 -- ---- lists of which nothing is told
 
 none_of : {A B : Type 0} (f : A → Option B) (xs : List A) (x : A) → first_in f xs ≡ None → Has xs x → f x ≡ None
 none_of f [] x e h = absurd h
-none_of f (y ∷ ys) x e (inl is) = ap f (sym is) ∙ (or_none (f y) _ e).0
-none_of f (y ∷ ys) x e (inr h) = none_of f ys x (or_none (f y) _ e).1 h
+none_of f (y ∷ ys) x e (inl is) = ap f (sym is) ∙ (option_or_parts (f y) _ e).0
+none_of f (y ∷ ys) x e (inr h) = none_of f ys x (option_or_parts (f y) _ e).1 h
 
 no_lines : (r : Rule) (lines : List ℕ) → first_line r lines ≡ None → lines ≡ []
 no_lines r [] e = refl
@@ -69,7 +69,7 @@ module _ (tree : Tree) (task : TaskTree) (sound : IsSound tree) where
   in_target s scope n steps e x (inl is) =
       subst (IsAsMeant tree s) is (target_as_meant tree task s sound scope n steps e)
   in_target s scope n steps e x (inr h) =
-      let parts = or_none (rule_if (not (is_bound s.names n)) rule.Name) _ e in
+      let parts = option_or_parts (rule_if (not (is_bound s.names n)) rule.Name) _ e in
       expression_as_meant tree task s sound scope x (untold_target tree task s (type_named s.names n) steps parts.1 x h)
 
   in_targets : (s : Scope) → IsSoundScope s → (form : Form) → first_in_targets tree task s form ≡ None →
@@ -109,8 +109,8 @@ module _ (tree : Tree) (task : TaskTree) (sound : IsSound tree) where
     visit_block : (s : Scope) (b : Block) → IsSoundScope s → first_in_block tree task s b ≡ None → (v : Visit) → Has (visits_in tree task s b) v → IsAllKnown v
     visit_block s no_statement scope e v h = absurd h
     visit_block s (then_statement (a_statement line form) rest) scope e v h =
-        let parts = or_none (told_on line (first_of_form tree task s form)) _ e in
-        let more = or_none (first_within tree task s form) _ parts.1 in
+        let parts = option_or_parts (told_on line (first_of_form tree task s form)) _ e in
+        let more = option_or_parts (first_within tree task s form) _ parts.1 in
         let here = told_none line _ parts.0 in
         let after = form_known tree task sound s form scope here more.0 in
         elim (Has-append_cases (record { task = task; scope = s; line = line; form = form } ∷ visits_within tree task s form)
@@ -125,7 +125,7 @@ module _ (tree : Tree) (task : TaskTree) (sound : IsSound tree) where
     visit_within : (s : Scope) (form : Form) → IsSoundScope s → first_of_form tree task s form ≡ None → first_within tree task s form ≡ None →
         (v : Visit) → Has (visits_within tree task s form) v → IsAllKnown v
     visit_within s (if_form arms other) scope e w v h =
-        let parts = or_none (first_in_arms tree task s arms) _ w in
+        let parts = option_or_parts (first_in_arms tree task s arms) _ w in
         elim (Has-append_cases (visits_in_arms tree task s arms) (visits_in_else tree task (known_scope_after_arms tree s arms) other) v h) [
           | inl g ↦ visit_arms s arms scope parts.0 v g
           | inr g ↦ visit_else (known_scope_after_arms tree s arms) other (arms_known tree task sound s arms scope parts.0).1 parts.1 v g
@@ -147,7 +147,7 @@ module _ (tree : Tree) (task : TaskTree) (sound : IsSound tree) where
     visit_arms : (s : Scope) (arms : Arms) → IsSoundScope s → first_in_arms tree task s arms ≡ None → (v : Visit) → Has (visits_in_arms tree task s arms) v → IsAllKnown v
     visit_arms s no_arm scope e v h = absurd h
     visit_arms s (an_arm test body rest) scope e v h =
-        let parts = or_none (first_in_block tree task s body) _ e in
+        let parts = option_or_parts (first_in_block tree task s body) _ e in
         let inner = nested tree task sound s body scope (block_known tree task sound s body scope parts.0) in
         elim (Has-append_cases (visits_in tree task s body) (visits_in_arms tree task (past s (known_scope_after_block tree s body)) rest) v h) [
           | inl g ↦ visit_block s body scope parts.0 v g
@@ -191,16 +191,16 @@ first_none tree none = (none_without_first tree).1 none
 
 declared_none : (tree : Tree) → breaches tree ≡ [] → first_in (first_declared tree) tree ≡ None
 declared_none tree none =
-    let a = or_none _ _ (first_none tree none) in
-    let b = or_none _ _ a.1 in
-    (or_none (first_in (first_declared tree) tree) _ b.1).0
+    let a = option_or_parts _ _ (first_none tree none) in
+    let b = option_or_parts _ _ a.1 in
+    (option_or_parts (first_in (first_declared tree) tree) _ b.1).0
 
 bodies_none : (tree : Tree) → breaches tree ≡ [] → first_in (λ (i : ItemTree). first_in_body tree i.form) tree ≡ None
 bodies_none tree none =
-    let a = or_none _ _ (first_none tree none) in
-    let b = or_none _ _ a.1 in
-    let c = or_none (first_in (first_declared tree) tree) _ b.1 in
-    (or_none (first_in (λ (i : ItemTree). first_in_body tree i.form) tree) _ c.1).0
+    let a = option_or_parts _ _ (first_none tree none) in
+    let b = option_or_parts _ _ a.1 in
+    let c = option_or_parts (first_in (first_declared tree) tree) _ b.1 in
+    (option_or_parts (first_in (λ (i : ItemTree). first_in_body tree i.form) tree) _ c.1).0
 
 -- the body of a task among the items
 body_known : (tree : Tree) (none : breaches tree ≡ []) (line : ℕ) (t : TaskTree) → Has tree (record { line = line; form = task_item t }) →
