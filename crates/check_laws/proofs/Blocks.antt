@@ -1,6 +1,6 @@
 -- Statements of which nothing is told.
-use Rattle.std.proofs.Common.{◌≡◌, ◌∙◌, ◌++◌, ◌&&◌, ◌||◌, Bool, None, Option, Some, ap, arith, false, not, refl, subst, sym, true, ℕ}
-use Rattle.std.proofs.lemmas.Bool.{or_parts}
+use Rattle.std.proofs.Common.{◌≡◌, ◌∙◌, ◌++◌, ◌&&◌, ◌||◌, Bool, None, ap, arith, false, not, refl, subst, sym, true}
+use Rattle.std.proofs.lemmas.Bool.{or_parts, not-false}
 use Rattle.regent_tree.specs.Scopes.{Scope, knowing, known_of_type, past, with_name}
 use Rattle.regent_tree.specs.Syntax.{Arms, Block, Expression, Form, Name, Otherwise, TaskTree, Tree, a_statement, an_arm, assert_form, assign_form, call_form, do_form, else_block, fill_form, for_in_form, for_to_form, if_form, no_arm, no_else, no_statement, print_form, return_form, then_statement, var_form, while_form}
 use Rattle.regent_tree.specs.Typing.{arithmetic_type, scope_after, scope_after_arms, scope_after_block, scope_after_else, taken_from, type_of}
@@ -12,17 +12,14 @@ use Rattle.check_rules.specs.KnownTypes.{known_type}
 use Rattle.check_rules.specs.Sorts.{is_integer, is_region, is_space}
 use Rattle.check_rules.specs.Sound.{IsSound}
 use Rattle.check_rules.specs.Variables.{counted_type, known_scope_after, known_scope_after_arms, known_scope_after_block, known_scope_after_else, scope_in_count, scope_in_loop}
-use Rattle.check_rules.specs.declared.rule.Rule.{Rule}
 use Rattle.check_rules.proofs.Laws.{types_as_meant}
 use Rattle.check_laws.specs.SoundScopes.{IsKnown, IsSoundScope}
 use Rattle.check_laws.proofs.Expressions.{known_expression, meant}
-use Rattle.check_laws.proofs.Parts.{contrary, not_false, or_none, surely, unless_false, value_known}
+use Rattle.check_laws.proofs.Parts.{contrary, surely, unless_false, value_known}
 use Rattle.check_laws.proofs.Scopes.{next_block, one_more, past_sound}
 use Rattle.check_laws.proofs.Variables.{parts_of_form, variable_known}
-
-pub told_none : (line : ℕ) (r : Option Rule) → told_on line r ≡ None → r ≡ None
-told_none line None e = refl
-told_none line (Some r) e = absurd cc
+use Rattle.plain_values.proofs.Plain.{option_or_parts}
+use Rattle.check_rules.proofs.Untold.{told_none}
 
 -- ---- what loops take
 
@@ -70,8 +67,8 @@ module _ (tree : Tree) (task : TaskTree) (sound : IsSound tree) where
       (scope_in_loop tree s n domain ≡ with_name s n (taken_from (type_of tree s domain)) true) × IsSoundScope (scope_in_loop tree s n domain)
   loop_scope s demanded n domain body scope e =
       let subexpressions = parts_of_form tree task s sound scope (for_in_form demanded n domain body) e in
-      let head = head_known s scope domain (or_none (first_in_expression tree task s domain) _ subexpressions.2).0 in
-      let is = surely (λ u. is_region u || is_space u) (known_type tree s domain) head.0.known (not_false _ (or_parts _ false subexpressions.4).0) in (
+      let head = head_known s scope domain (option_or_parts (first_in_expression tree task s domain) _ subexpressions.2).0 in
+      let is = surely (λ u. is_region u || is_space u) (known_type tree s domain) head.0.known (not-false _ (or_parts _ false subexpressions.4).0) in (
         ap (λ t. with_name s n (taken_from t) true) head.1,
         one_more s n (taken_from (known_type tree s domain)) true s.known scope (taken_known s (known_type tree s domain) is),
       )
@@ -82,12 +79,12 @@ module _ (tree : Tree) (task : TaskTree) (sound : IsSound tree) where
       × IsSoundScope (scope_in_count tree s n from to)
   count_scope s demanded n from to body scope e =
       let subexpressions = parts_of_form tree task s sound scope (for_to_form demanded n from to body) e in
-      let heads = or_none (first_in_expression tree task s from) _ subexpressions.2 in
+      let heads = option_or_parts (first_in_expression tree task s from) _ subexpressions.2 in
       let first = head_known s scope from heads.0 in
-      let last = head_known s scope to (or_none (first_in_expression tree task s to) _ heads.1).0 in
+      let last = head_known s scope to (option_or_parts (first_in_expression tree task s to) _ heads.1).0 in
       let stand = or_parts _ _ subexpressions.4 in
-      let a = surely is_integer (known_type tree s from) first.0.known (not_false _ stand.0) in
-      let b = surely is_integer (known_type tree s to) last.0.known (not_false _ (or_parts _ false stand.1).0) in
+      let a = surely is_integer (known_type tree s from) first.0.known (not-false _ stand.0) in
+      let b = surely is_integer (known_type tree s to) last.0.known (not-false _ (or_parts _ false stand.1).0) in
       let whole : not (is_integer (known_type tree s from) && is_integer (known_type tree s to)) ≡ false = λ j. not (a j && b j) in
       let counted = unless_false _ (arithmetic_type (known_type tree s from) (known_type tree s to)) whole in (
         ap (λ t. with_name s n t true) (counted ∙ (λ j. arithmetic_type (first.1 j) (last.1 j))),
@@ -111,7 +108,7 @@ module _ (tree : Tree) (task : TaskTree) (sound : IsSound tree) where
           one_more s n _ false _ scope (subst (IsKnown s) (sym v.0) v.1),
         )
     form_known s (if_form arms other) scope e w =
-        let subexpressions = or_none (first_in_arms tree task s arms) _ w in
+        let subexpressions = option_or_parts (first_in_arms tree task s arms) _ w in
         let a = arms_known s arms scope subexpressions.0 in
         let b = else_known (known_scope_after_arms tree s arms) other a.1 subexpressions.1 in
         (b.0 ∙ ap (λ x. scope_after_else tree x other) a.0, b.1)
@@ -142,8 +139,8 @@ module _ (tree : Tree) (task : TaskTree) (sound : IsSound tree) where
         (known_scope_after_block tree s b ≡ scope_after_block tree s b) × IsSoundScope (known_scope_after_block tree s b)
     block_known s no_statement scope e = (refl, scope)
     block_known s (then_statement (a_statement line form) rest) scope e =
-        let subexpressions = or_none (told_on line (first_of_form tree task s form)) _ e in
-        let more = or_none (first_within tree task s form) _ subexpressions.1 in
+        let subexpressions = option_or_parts (told_on line (first_of_form tree task s form)) _ e in
+        let more = option_or_parts (first_within tree task s form) _ subexpressions.1 in
         let here = form_known s form scope (told_none line _ subexpressions.0) more.0 in
         let after = block_known (known_scope_after tree s form) rest here.1 more.1 in
         (after.0 ∙ ap (λ x. scope_after_block tree x rest) here.0, after.1)
@@ -152,7 +149,7 @@ module _ (tree : Tree) (task : TaskTree) (sound : IsSound tree) where
         (known_scope_after_arms tree s arms ≡ scope_after_arms tree s arms) × IsSoundScope (known_scope_after_arms tree s arms)
     arms_known s no_arm scope e = (refl, scope)
     arms_known s (an_arm test body rest) scope e =
-        let subexpressions = or_none (first_in_block tree task s body) _ e in
+        let subexpressions = option_or_parts (first_in_block tree task s body) _ e in
         let inner = nested s body scope (block_known s body scope subexpressions.0) in
         let after = arms_known (past s (known_scope_after_block tree s body)) rest inner.1 subexpressions.1 in
         (after.0 ∙ ap (λ x. scope_after_arms tree x rest) inner.0, after.1)

@@ -1,6 +1,7 @@
 -- Expressions of which nothing is told.
 use Rattle.std.proofs.Common.{None, Option, [], ◌||◌, ◌≡◌, ap, false, inl, inr, not, refl, subst, sym, true, ◌∙◌, ◌⊎◌}
 use Rattle.std.specs.List.{list_any}
+use Rattle.std.proofs.lemmas.Bool.{not-false}
 use Rattle.regent_tree.specs.Lookup.{is_bound, type_named}
 use Rattle.regent_tree.specs.Scopes.{Scope, in_scope}
 use Rattle.regent_tree.specs.StaticTypes.{number_type, written_pointer}
@@ -29,7 +30,9 @@ use Rattle.check_rules.proofs.Laws.{types_as_meant}
 use Rattle.check_rules.proofs.Written.{names_known}
 use Rattle.check_laws.specs.Laws.{ExpressionsAreKnown}
 use Rattle.check_laws.specs.SoundScopes.{IsKnown, IsSoundScope}
-use Rattle.check_laws.proofs.Parts.{after_operator, after_signs, call_known, contrary, element_known, field_known, not_false, number_known, or_none, rule_none, standing_none, surely, unless_false, value_known}
+use Rattle.check_laws.proofs.Parts.{after_operator, after_signs, call_known, contrary, element_known, field_known, number_known, surely, unless_false, value_known}
+use Rattle.plain_values.proofs.Plain.{option_or_parts}
+use Rattle.check_rules.proofs.Untold.{rule_none, standing_none}
 
 module _ (tree : Tree) (task : TaskTree) (s : Scope) (sound : IsSound tree) (scope : IsSoundScope s) where
   abbrev told : Expression → Option Rule
@@ -39,10 +42,10 @@ module _ (tree : Tree) (task : TaskTree) (s : Scope) (sound : IsSound tree) (sco
   pointer_known : (p : PointerTerm) → first_in_type tree s.names (typed.Pointer p) ≡ None →
       is_flawed_type tree s.names (typed.Pointer p) ≡ false
   pointer_known p e =
-      let a = or_none _ _ e in
-      let b = or_none _ _ a.1 in
-      let c = or_none _ _ b.1 in
-      let d = or_none _ _ c.1 in
+      let a = option_or_parts _ _ e in
+      let b = option_or_parts _ _ a.1 in
+      let c = option_or_parts _ _ b.1 in
+      let d = option_or_parts _ _ c.1 in
       let named = rule_none (unbound_name_in_type tree s.names (typed.Pointer p)) rule.Name a.0 in
       let counted = rule_none (miscounts_in_type tree (typed.Pointer p)) rule.Count b.0 in
       let points = rule_none (wrong_region_in_type tree s.names (typed.Pointer p)) rule.Pointer c.0 in
@@ -51,81 +54,81 @@ module _ (tree : Tree) (task : TaskTree) (s : Scope) (sound : IsSound tree) (sco
       λ j. named j || counted j || points j || fits j || known j
 
   spot_none : (t : StaticType) → is_unknown_type t ≡ false → first_of_standing [] (stands t number_spot) ≡ None → is_number t ≡ true
-  spot_none t k e = surely is_number t k (not_false _ (standing_none [] (stands t number_spot) e).1)
+  spot_none t k e = surely is_number t k (not-false _ (standing_none [] (stands t number_spot) e).1)
 
   mutual
     pub known_expression : (e : Expression) → told e ≡ None → IsKnown s (known_type tree s e)
     known_expression (number_expr z w) e = value_known s _ refl tt
     known_expression (truth_expr b) e = value_known s _ refl tt
     known_expression (chain_expr first rest) e =
-        let subexpressions = or_none (told first) _ e in
+        let subexpressions = option_or_parts (told first) _ e in
         known_links (known_type tree s first) rest (known_expression first subexpressions.0) subexpressions.1
     known_expression (prefix_expr signs x) e =
-        let subexpressions = or_none (told x) _ e in
+        let subexpressions = option_or_parts (told x) _ e in
         after_signs s signs (known_type tree s x) (known_expression x subexpressions.0) subexpressions.1
     known_expression (call_expr t args) e =
-        let subexpressions = or_none (first_in_args tree task s args) _ e in
+        let subexpressions = option_or_parts (first_in_args tree task s args) _ e in
         let c = calling t (known_types tree s args) in
-        let here = or_none _ _ subexpressions.1 in
+        let here = option_or_parts _ _ subexpressions.1 in
         call_known tree task s c sound here.0 (rule_none (has_no_result tree c) rule.Type here.1) (known_args args subexpressions.0)
     known_expression (access_expr n steps) e =
-        let subexpressions = or_none (rule_if (not (is_bound s.names n)) rule.Name) _ e in
-        let bound = not_false (is_bound s.names n) (rule_none _ rule.Name subexpressions.0) in
+        let subexpressions = option_or_parts (rule_if (not (is_bound s.names n)) rule.Name) _ e in
+        let bound = not-false (is_bound s.names n) (rule_none _ rule.Name subexpressions.0) in
         known_steps (type_named s.names n) steps (scope.types n bound) subexpressions.1
     known_expression (convert_expr t x) e =
-        let subexpressions = or_none (told x) _ e in
+        let subexpressions = option_or_parts (told x) _ e in
         let is = spot_none (known_type tree s x) (known_expression x subexpressions.0).known subexpressions.1 in
         subst (IsKnown s) (sym (unless_false (not (is_number (known_type tree s x))) (number_type t) (ap not is))) (number_known s t)
     known_expression (is_null_expr x) e =
-        let subexpressions = or_none (told x) _ e in
+        let subexpressions = option_or_parts (told x) _ e in
         let is = surely is_pointer (known_type tree s x) (known_expression x subexpressions.0).known
-        (not_false _ (standing_none [] (stands (known_type tree s x) pointer_spot) subexpressions.1).1) in
+        (not-false _ (standing_none [] (stands (known_type tree s x) pointer_spot) subexpressions.1).1) in
         subst (IsKnown s) (sym (unless_false (not (is_pointer (known_type tree s x))) truth_type (ap not is))) (value_known s truth_type refl tt)
     known_expression (null_expr p) e =
         subst (IsKnown s) (sym (unless_false (is_flawed_type tree s.names (typed.Pointer p)) (written_pointer tree (in_scope s) p) (pointer_known p e)))
         (value_known s (written_pointer tree (in_scope s) p) refl tt)
     known_expression (cast_expr p x) e =
-        let subexpressions = or_none (told x) _ e in
-        let more = or_none (first_of_standing [] (stands (known_type tree s x) number_spot)) _ subexpressions.1 in
+        let subexpressions = option_or_parts (told x) _ e in
+        let more = option_or_parts (first_of_standing [] (stands (known_type tree s x) number_spot)) _ subexpressions.1 in
         let is = spot_none (known_type tree s x) (known_expression x subexpressions.0).known more.0 in
         let flawless : (not (is_number (known_type tree s x)) || is_flawed_type tree s.names (typed.Pointer p)) ≡ false =
         λ j. not (is j) || pointer_known p more.1 j in
         subst (IsKnown s) (sym (unless_false _ (written_pointer tree (in_scope s) p) flawless))
         (value_known s (written_pointer tree (in_scope s) p) refl tt)
     known_expression (space_expr k x) e =
-        let subexpressions = or_none (told x) _ e in
+        let subexpressions = option_or_parts (told x) _ e in
         let is = surely is_integer (known_type tree s x) (known_expression x subexpressions.0).known
-        (not_false _ (standing_none [] (stands (known_type tree s x) integer_spot) subexpressions.1).1) in
+        (not-false _ (standing_none [] (stands (known_type tree s x) integer_spot) subexpressions.1).1) in
         subst (IsKnown s) (sym (unless_false (not (is_integer (known_type tree s x))) (ispace_type k) (ap not is))) (value_known s (ispace_type k) refl tt)
 
     known_links : (t : StaticType) (rest : Links) → IsKnown s t → first_in_links tree task s t rest ≡ None →
         IsKnown s (known_type_after_links tree s t rest)
     known_links t no_link k e = k
     known_links t (a_link o x rest) k e =
-        let subexpressions = or_none (told x) _ e in
-        let more = or_none (first_of_operator (computing o t (known_type tree s x))) _ subexpressions.1 in
+        let subexpressions = option_or_parts (told x) _ e in
+        let more = option_or_parts (first_of_operator (computing o t (known_type tree s x))) _ subexpressions.1 in
         known_links (known_type_after_operator (computing o t (known_type tree s x))) rest
         (after_operator s o t (known_type tree s x) k.known (known_expression x subexpressions.0).known more.0) more.1
 
     known_args : (args : Expressions) → first_in_args tree task s args ≡ None → list_any is_unknown_type (known_types tree s args) ≡ false
     known_args no_expr e = refl
     known_args (an_expr x xs) e =
-        let subexpressions = or_none (told x) _ e in
+        let subexpressions = option_or_parts (told x) _ e in
         λ j. (known_expression x subexpressions.0).known j || known_args xs subexpressions.1 j
 
     known_steps : (t : StaticType) (steps : Steps) → IsKnown s t → first_in_steps tree task s t steps ≡ None →
         IsKnown s (known_type_after_steps tree s t steps)
     known_steps t no_step k e = k
     known_steps t (field_step f rest) k e =
-        let subexpressions = or_none (first_of_step tree task s (field_of t f)) _ e in
-        let here = or_none (first_of_taking tree (field_of t f)) _ subexpressions.0 in
+        let subexpressions = option_or_parts (first_of_step tree task s (field_of t f)) _ e in
+        let here = option_or_parts (first_of_taking tree (field_of t f)) _ subexpressions.0 in
         known_steps (known_type_after_step tree (field_of t f) (type_of_field tree t f)) rest
         (field_known tree s t f sound k here.0) subexpressions.1
     known_steps t (at_step x rest) k e =
         let u = known_type tree s x in
-        let subexpressions = or_none (told x) _ e in
-        let more = or_none (first_of_step tree task s (element_of t u)) _ subexpressions.1 in
-        let here = or_none (first_of_taking tree (element_of t u)) _ more.0 in
+        let subexpressions = option_or_parts (told x) _ e in
+        let more = option_or_parts (first_of_step tree task s (element_of t u)) _ subexpressions.1 in
+        let here = option_or_parts (first_of_taking tree (element_of t u)) _ more.0 in
         known_steps (known_type_after_step tree (element_of t u) (type_of_element s t x)) rest
         (element_known tree s t u x k (known_expression x subexpressions.0).known here.0) more.1
 

@@ -1,11 +1,10 @@
 -- The parameters of a task of which nothing is told.
-use Rattle.std.proofs.Common.{Bool, List, [], ◌++◌, ◌+◌, ◌<◌, ◌≤◌, ◌∷◌, ◌||◌, ◌≡◌, ◌⊎◌, ap, arith, bytes_eq, cond, false, inl, inr, length, not, refl, subst, suc, sym, true, ◌∙◌, ℕ}
-use Rattle.std.proofs.lemmas.Bool.{and_parts, or_parts}
+use Rattle.std.proofs.Common.{Bool, List, [], ◌++◌, ◌+◌, ◌<◌, ◌≤◌, ◌∷◌, ◌||◌, ◌≡◌, ap, arith, bytes_eq, cond, false, inl, inr, length, not, refl, subst, suc, sym, true, ◌∙◌, ℕ}
+use Rattle.std.proofs.lemmas.Bool.{and_parts, or_parts, not-false, or_right}
 use Rattle.std.specs.List.{list_any}
-use Rattle.std.proofs.lemmas.Bool.Decides.{same_from_decides}
 use Rattle.std.proofs.lemmas.Slice.Eq.{bytes_eq-Decides}
 use Rattle.regent_tree.specs.Lookup.{is_bound, type_named}
-use Rattle.regent_tree.specs.Scopes.{Scope, bound_as, bound_params, bound_to, unbound}
+use Rattle.regent_tree.specs.Scopes.{Scope, bound_as, bound_params, bound_to}
 use Rattle.regent_tree.specs.StaticTypes.{among_params, place_in, type_said}
 use Rattle.regent_tree.specs.Syntax.{Name, Tree}
 use Rattle.regent_tree.specs.declared.types.Param.{Param}
@@ -16,39 +15,16 @@ use Rattle.check_rules.specs.Lookup.{names_a}
 use Rattle.check_rules.specs.Names.{unbound_name_in_type, misses_space}
 use Rattle.check_rules.specs.Repeats.{Given, given_by, repeats_after, was_given}
 use Rattle.check_rules.specs.Sorts.{is_region, may_be}
-use Rattle.check_rules.proofs.Written.{written_known}
+use Rattle.check_rules.proofs.Written.{written_known, bound_after}
 use Rattle.check_laws.specs.SoundScopes.{Falls, IsKnown, IsSoundScope}
-use Rattle.check_laws.proofs.Parts.{contrary, not_false, number_known, surely, value_known}
+use Rattle.check_laws.proofs.Parts.{contrary, number_known, surely, value_known}
 use Rattle.check_laws.proofs.Scopes.{found_by_number}
+use Rattle.plain_values.proofs.Plain.{bytes_eq_sym}
 
 -- ---- names of bindings
 
-equal_back : (a b : Name) → bytes_eq a b ≡ bytes_eq b a
-equal_back a b = same_from_decides (bytes_eq a b) (bytes_eq b a) (bytes_eq-Decides a b)
-    (λ h. sym ((bytes_eq-Decides b a).0 h), λ e. (bytes_eq-Decides b a).1 (sym e))
-
 abbrev bound : Tree → List Param → ℕ → Param → Bound
 bound tree all i p = record { name = p.name; number = i; place = i; static_type = type_said tree (among_params all) i p.term; by_loop = false }
-
--- what a name is bound to behind others
-bound_after : (names : List Bound) (b : Bound) (n : Name) → is_bound (names ++ b ∷ []) n ≡ true →
-    ((is_bound names n ≡ true) × (bound_to (names ++ b ∷ []) n ≡ bound_to names n))
-    ⊎ ((bytes_eq b.name n ≡ true) × (bound_to (names ++ b ∷ []) n ≡ b))
-bound_after [] b n e = here (bytes_eq b.name n) e
-  where
-    here : (is : Bool) → (is || false) ≡ true →
-        ((is_bound [] n ≡ true) × (cond is b unbound ≡ bound_to [] n)) ⊎ ((is ≡ true) × (cond is b unbound ≡ b))
-    here true e = inr (refl, refl)
-    here false e = absurd cc
-bound_after (x ∷ xs) b n e = here (bytes_eq x.name n) (bound_after xs b n) e
-  where
-    here : (is : Bool) →
-        (is_bound (xs ++ b ∷ []) n ≡ true → ((is_bound xs n ≡ true) × (bound_to (xs ++ b ∷ []) n ≡ bound_to xs n)) ⊎ ((bytes_eq b.name n ≡ true) × (bound_to (xs ++ b ∷ []) n ≡ b))) →
-        (is || is_bound (xs ++ b ∷ []) n) ≡ true →
-        (((is || is_bound xs n) ≡ true) × (cond is x (bound_to (xs ++ b ∷ []) n) ≡ cond is x (bound_to xs n)))
-        ⊎ ((bytes_eq b.name n ≡ true) × (cond is x (bound_to (xs ++ b ∷ []) n) ≡ b))
-    here true rest e = inl (refl, refl)
-    here false rest e = rest e
 
 -- ---- numbers
 
@@ -95,16 +71,12 @@ not_again x earlier (g ∷ gs) was e =
     here false wis false is rest e = λ j. is j || rest e j
 
 -- a name that is bound is one of those given
-or_right : (a b : Bool) → b ≡ true → (a || b) ≡ true
-or_right true b e = refl
-or_right false b e = e
-
 bound_given : (tree : Tree) (all : List Param) (i : ℕ) (ps : List Param) (n : Name) → is_bound (bound_params tree all i ps) n ≡ true →
     list_any (λ (g : Given). bytes_eq n g.name) (given_by ps) ≡ true
 bound_given tree all i [] n e = absurd cc
 bound_given tree all i (p ∷ ps) n e = elim (bound_after (bound_params tree all (suc i) ps) (bound tree all i p) n e) [
   | inl h ↦ or_right (bytes_eq n p.name) _ (bound_given tree all (suc i) ps n h.0)
-  | inr h ↦ ap (λ b. b || list_any (λ (g : Given). bytes_eq n g.name) (given_by ps)) (equal_back n p.name ∙ h.0)
+  | inr h ↦ ap (λ b. b || list_any (λ (g : Given). bytes_eq n g.name) (given_by ps)) (bytes_eq_sym n p.name ∙ h.0)
 ]
 
 tail_none : (w : Bool) (line : ℕ) (rest : List ℕ) → (cond w (line ∷ []) [] ++ rest) ≡ [] → rest ≡ []
@@ -168,7 +140,7 @@ module _ (tree : Tree) (all : List Param) (s : Scope) (names_are : s.names ≡ b
   region_placed : (r : Name) → not (names_a is_region names r) ≡ false →
       (is_region (bound_as names (place_in all r)).static_type ≡ true) × (place_in all r < length all)
   region_placed r e =
-      let both = and_parts (is_bound names r) (may_be is_region (type_named names r)) (not_false _ e) in
+      let both = and_parts (is_bound names r) (may_be is_region (type_named names r)) (not-false _ e) in
       let is = surely is_region (type_named names r) (written_known tree all 0 all r both.0) both.1 in
       let found = found_by_number (length all) names r falls both.0 in
       let place : (bound_to names r).number ≡ place_in all r = number_is_place tree all 0 all [] once r both.0 ∙ from_zero (place_in all r) in

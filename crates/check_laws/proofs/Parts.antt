@@ -1,8 +1,7 @@
 -- The types after operators, prefixes and steps of which nothing is told.
 use Rattle.std.proofs.Common.{Bool, List, None, Option, Some, [], ◌∷◌, ◌&&◌, ◌||◌, ◌≡◌, ap, cond, false, not, refl, subst, sym, true, ◌∙◌, ℕ}
-use Rattle.std.proofs.lemmas.Bool.{or_parts}
+use Rattle.std.proofs.lemmas.Bool.{or_parts, not-false}
 use Rattle.std.specs.List.{list_any}
-use Rattle.std.specs.Option.{option_or}
 use Rattle.std.specs.Prelude.{is_none}
 use Rattle.regent_tree.specs.Scopes.{Scope, bound_as}
 use Rattle.regent_tree.specs.StaticTypes.{Looking, among_args, field_place, field_term, field_type, number_type, space_at, task_named, type_said}
@@ -12,7 +11,6 @@ use Rattle.regent_tree.specs.declared.expression.Operator.{Operator}
 use Rattle.regent_tree.specs.declared.expression.Operator.TheVariants.{And, Compare, Compute, Or}
 use Rattle.regent_tree.specs.declared.expression.Sign.{Sign}
 use Rattle.regent_tree.specs.declared.expression.Sign.TheVariants.{Minus, Not}
-use Rattle.regent_tree.specs.declared.facts.Known.{Known}
 use Rattle.regent_tree.specs.declared.types.Kind.TheVariants.{Int1d}
 use Rattle.regent_tree.specs.declared.types.NumberTerm.{NumberTerm}
 use Rattle.regent_tree.specs.declared.types.NumberTerm.TheVariants as number
@@ -28,44 +26,26 @@ use Rattle.check_rules.specs.Names.{is_unknown_field, is_unknown_task}
 use Rattle.check_rules.specs.Partitions.{mispartitions_call}
 use Rattle.check_rules.specs.Spaces.{misfits_call}
 use Rattle.check_rules.specs.Params.{term_at}
-use Rattle.check_rules.specs.Places.{misplaces}
 use Rattle.check_rules.specs.Pointers.{takes_of_wild}
-use Rattle.check_rules.specs.Rules.{first_in, rule_if}
+use Rattle.check_rules.specs.Rules.{first_in}
 use Rattle.check_rules.specs.TypedForms.{Calling, Taking, computing, element_of, field_of}
 use Rattle.check_rules.specs.Sorts.{is_collection, is_number, is_region, is_truth, is_unknown_type, may_be}
 use Rattle.check_rules.specs.Sound.{IsSound}
-use Rattle.check_rules.specs.Standing.{Standing, number_spot, spot_of_sign, standing_in_call, standing_in_step, stands, truth_spot}
-use Rattle.check_rules.specs.Types.{has_no_result, is_ill_typed_operation, is_ill_typed_at_place, is_ill_typed_step}
-use Rattle.check_rules.specs.declared.rule.Rule.{Rule}
+use Rattle.check_rules.specs.Standing.{number_spot, spot_of_sign, standing_in_call, standing_in_step, stands, truth_spot}
+use Rattle.check_rules.specs.Types.{has_no_result, is_ill_typed_operation, is_ill_typed_step}
 use Rattle.check_rules.specs.declared.rule.Rule.TheVariants as rule
 use Rattle.check_laws.specs.SoundScopes.{IsKnown}
+use Rattle.plain_values.proofs.Plain.{option_or_parts}
+use Rattle.check_rules.proofs.Untold.{rule_none, standing_none, stand_none}
 
 -- ---- where nothing is told
-
-pub or_none : {A : Type 0} (a b : Option A) → option_or a b ≡ None → (a ≡ None) × (b ≡ None)
-or_none None b e = (refl, e)
-or_none (Some x) b e = absurd cc
-
-pub rule_none : (b : Bool) (r : Rule) → rule_if b r ≡ None → b ≡ false
-rule_none true r e = absurd cc
-rule_none false r e = refl
 
 pub contrary : true ≡ false → ⊥
 contrary e = absurd cc
 
-pub not_false : (b : Bool) → not b ≡ false → b ≡ true
-not_false true e = refl
-not_false false e = absurd cc
-
 -- what is of a sort as far as is known, and known, is of the sort
 pub surely : (sort : StaticType → Bool) (t : StaticType) → is_unknown_type t ≡ false → may_be sort t ≡ true → sort t ≡ true
 surely sort t known e = sym (ap (λ b. b || sort t) known) ∙ e
-
--- what stands where it may
-pub standing_none : (known : _) (s : Standing) → first_of_standing known s ≡ None → (misplaces s ≡ false) × (is_ill_typed_at_place known s ≡ false)
-standing_none known s e =
-    let subexpressions = or_none _ _ e in
-    (rule_none (misplaces s) rule.Place subexpressions.0, rule_none (is_ill_typed_at_place known s) rule.Type (or_none _ _ subexpressions.1).0)
 
 pub unless_false : (b : Bool) (t : StaticType) → b ≡ false → cond b unknown_type t ≡ t
 unless_false b t e = ap (λ x. cond x unknown_type t) e
@@ -127,9 +107,9 @@ operated_known s Or t u k l c d = value_known s _ refl tt
 pub after_operator : (s : Scope) (o : Operator) (t u : StaticType) → is_unknown_type t ≡ false → is_unknown_type u ≡ false →
     first_of_operator (computing o t u) ≡ None → IsKnown s (known_type_after_operator (computing o t u))
 after_operator s o t u k l e =
-    let subexpressions = or_none _ _ e in
+    let subexpressions = option_or_parts _ _ e in
     let none = or_parts (is_collection t) (is_collection u) (rule_none (is_collection t || is_collection u) rule.Place subexpressions.0) in
-    let right = rule_none (is_ill_typed_operation (computing o t u)) rule.Type (or_none _ _ subexpressions.1).0 in
+    let right = rule_none (is_ill_typed_operation (computing o t u)) rule.Type (option_or_parts _ _ subexpressions.1).0 in
     let flawless : (is_unknown_type t || is_unknown_type u || is_ill_typed_operation (computing o t u)) ≡ false = λ j. k j || l j || right j in
     subst (IsKnown s) (sym (unless_false _ (operated o t u) flawless)) (operated_known s o t u k l none.0 none.1)
 
@@ -149,17 +129,17 @@ counted_known s unknown_type k n = absurd cc
 after_sign : (s : Scope) (sign : Sign) (t : StaticType) → is_unknown_type t ≡ false →
     first_of_standing [] (stands t (spot_of_sign sign)) ≡ None → IsKnown s (known_type_after_sign sign t)
 after_sign s Not t k e =
-    let is = surely is_truth t k (not_false _ (standing_none [] (stands t truth_spot) e).1) in
+    let is = surely is_truth t k (not-false _ (standing_none [] (stands t truth_spot) e).1) in
     subst (IsKnown s) (sym (unless_false (not (is_truth t)) truth_type (ap not is))) (value_known s truth_type refl tt)
 after_sign s Minus t k e =
-    let is = surely is_number t k (not_false _ (standing_none [] (stands t number_spot) e).1) in
+    let is = surely is_number t k (not-false _ (standing_none [] (stands t number_spot) e).1) in
     subst (IsKnown s) (sym (unless_false (not (is_number t)) (counting_as t) (ap not is))) (counted_known s t k is)
 
 pub after_signs : (s : Scope) (signs : List Sign) (t : StaticType) → IsKnown s t → first_of_signs signs t ≡ None →
     IsKnown s (known_type_after_signs signs t)
 after_signs s [] t k e = k
 after_signs s (sign ∷ signs) t k e =
-    let subexpressions = or_none (first_of_signs signs t) _ e in
+    let subexpressions = option_or_parts (first_of_signs signs t) _ e in
     after_sign s sign (known_type_after_signs signs t) (after_signs s signs t k subexpressions.0).known subexpressions.1
 
 -- ---- steps
@@ -195,13 +175,13 @@ taking_none : (tree : Tree) (taking : Taking) → first_of_taking tree taking �
     (is_unknown_field tree taking ≡ false) × (is_ill_typed_step taking ≡ false)
     × (first_in (first_of_standing []) (standing_in_step taking) ≡ None) × (takes_of_wild taking ≡ false)
 taking_none tree taking e =
-    let a = or_none _ _ e in
-    let b = or_none _ _ a.1 in
-    let c = or_none _ _ b.1 in (
+    let a = option_or_parts _ _ e in
+    let b = option_or_parts _ _ a.1 in
+    let c = option_or_parts _ _ b.1 in (
       rule_none (is_unknown_field tree taking) rule.Name a.0,
       rule_none (is_ill_typed_step taking) rule.Type b.0,
       c.0,
-      rule_none (takes_of_wild taking) rule.Pointer (or_none _ _ c.1).0,
+      rule_none (takes_of_wild taking) rule.Pointer (option_or_parts _ _ c.1).0,
     )
 
 step_type : (tree : Tree) (s : Scope) (taking : Taking) (u : StaticType) → takes_unknown tree taking ≡ false →
@@ -216,7 +196,7 @@ pub field_known : (tree : Tree) (s : Scope) (t : StaticType) (f : Name) → IsSo
     first_of_taking tree (field_of t f) ≡ None → IsKnown s (known_type_after_step tree (field_of t f) (type_of_field tree t f))
 field_known tree s (pointer_type k sp args regions) f sound known e =
     let none = taking_none tree (field_of (pointer_type k sp args regions) f) e in
-    let flawless = sound.fields sp f (not_false _ none.0) in
+    let flawless = sound.fields sp f (not-false _ none.0) in
     let declared = (or_parts (is_no_field_type (term_at (space_at tree sp).fields (field_place tree sp f))) _ flawless).0 in
     step_type tree s (field_of (pointer_type k sp args regions) f) (field_type tree sp args f) flawless e
     (said_known tree s (among_args (space_at tree sp).params args) 0 (field_term tree sp (field_place tree sp f)) declared)
@@ -234,8 +214,8 @@ pub element_known : (tree : Tree) (s : Scope) (t u : StaticType) (e : Expression
     first_of_taking tree (element_of t u) ≡ None → IsKnown s (known_type_after_step tree (element_of t u) (type_of_element s t e))
 element_known tree s t u e known place none =
     let subexpressions = taking_none tree (element_of t u) none in
-    let stands_there = standing_none [] (stands u number_spot) (or_none _ _ subexpressions.2).0 in
-    let is = surely is_number u place (not_false _ stands_there.1) in
+    let stands_there = standing_none [] (stands u number_spot) (option_or_parts _ _ subexpressions.2).0 in
+    let is = surely is_number u place (not-false _ stands_there.1) in
     step_type tree s (element_of t u) (type_of_element s t e) (λ j. known.known j || not (is j)) none (of_type t known subexpressions.1)
   where
     of_type : (t : StaticType) → IsKnown s t → is_ill_typed_step (element_of t u) ≡ false → IsKnown s (type_of_element s t e)
@@ -261,20 +241,14 @@ result_known tree s (Some (typed.Ispace k)) e f = absurd (contrary e)
 result_known tree s (Some (typed.Region k u)) e f = absurd (contrary e)
 result_known tree s (Some (typed.Partition d r c)) e f = absurd (contrary e)
 
-pub stand_none : (known : List Known) (ss : List Standing) → first_in (first_of_standing known) ss ≡ None → list_any (is_ill_typed_at_place known) ss ≡ false
-stand_none known [] e = refl
-stand_none known (x ∷ ss) e =
-    let subexpressions = or_none (first_of_standing known x) _ e in
-    λ j. (standing_none known x subexpressions.0).1 j || stand_none known ss subexpressions.1 j
-
 pub call_known : (tree : Tree) (task : TaskTree) (s : Scope) (c : Calling) → IsSound tree → first_of_call tree task s c ≡ None →
     has_no_result tree c ≡ false → list_any is_unknown_type c.args ≡ false → IsKnown s (type_of_call tree s.known c)
 call_known tree task s c sound e result args =
-    let a = or_none _ _ e in
-    let b = or_none _ _ a.1 in
-    let d = or_none _ _ b.1 in
-    let f = or_none _ _ d.1 in
-    let g = or_none _ _ f.1 in
+    let a = option_or_parts _ _ e in
+    let b = option_or_parts _ _ a.1 in
+    let d = option_or_parts _ _ b.1 in
+    let f = option_or_parts _ _ d.1 in
+    let g = option_or_parts _ _ f.1 in
     let named = rule_none (is_unknown_task tree c) rule.Name a.0 in
     let counted = rule_none (miscounts_call tree c) rule.Count b.0 in
     let stand = stand_none s.known (standing_in_call tree c) d.0 in
@@ -282,7 +256,7 @@ call_known tree task s c sound e result args =
     let parted = rule_none (mispartitions_call (params_of tree c.task) c) rule.Partition g.0 in
     let sound_result = sound.results c.task in
     let there : is_none (task_named tree c.task).result ≡ false =
-    ap (λ b. b && is_none (task_named tree c.task).result) (sym (not_false _ named)) ∙ result in
+    ap (λ b. b && is_none (task_named tree c.task).result) (sym (not-false _ named)) ∙ result in
     let flawless : is_flawed_call tree s.known c ≡ false =
     λ j. named j || result j || counted j || stand j || fits j || parted j || args j || sound_result j in
     subst (IsKnown s) (sym (unless_false _ (result_type tree (task_named tree c.task).result) flawless))

@@ -27,17 +27,18 @@ use Rattle.check_rules.proofs.FirstInItems.{none_without_first}
 use Rattle.check_rules.proofs.Written.{all_is_sound, all_sound, beside_written, body_scope_written, standing_sound, untold}
 use Rattle.check_laws.specs.Laws.{AllIsKnown, BodiesAreMeant}
 use Rattle.check_laws.specs.SoundScopes.{IsKnown, IsSoundScope}
-use Rattle.check_laws.proofs.Blocks.{arms_known, block_known, count_scope, form_known, head_known, loop_scope, nested, told_none}
+use Rattle.check_laws.proofs.Blocks.{arms_known, block_known, count_scope, form_known, head_known, loop_scope, nested}
 use Rattle.check_laws.proofs.Parameters.{begins_soundly}
-use Rattle.check_laws.proofs.Parts.{or_none}
 use Rattle.check_laws.proofs.Variables.{parts_of_form}
+use Rattle.plain_values.proofs.Plain.{option_or_parts}
+use Rattle.check_rules.proofs.Untold.{told_none}
 
 -- ---- lists of which nothing is told
 
 none_of : {A B : Type 0} (f : A → Option B) (xs : List A) (x : A) → first_in f xs ≡ None → Has xs x → f x ≡ None
 none_of f [] x e h = absurd h
-none_of f (y ∷ ys) x e (inl is) = ap f (sym is) ∙ (or_none (f y) _ e).0
-none_of f (y ∷ ys) x e (inr h) = none_of f ys x (or_none (f y) _ e).1 h
+none_of f (y ∷ ys) x e (inl is) = ap f (sym is) ∙ (option_or_parts (f y) _ e).0
+none_of f (y ∷ ys) x e (inr h) = none_of f ys x (option_or_parts (f y) _ e).1 h
 
 no_lines : (r : Rule) (lines : List ℕ) → first_line r lines ≡ None → lines ≡ []
 no_lines r [] e = refl
@@ -64,8 +65,8 @@ module _ (tree : Tree) (task : TaskTree) (sound : IsSound tree) where
     visit_block : (s : Scope) (b : Block) → IsSoundScope s → first_in_block tree task s b ≡ None → (v : Visit) → Has (visits_in tree task s b) v → IsAllKnown v
     visit_block s no_statement scope e v h = absurd h
     visit_block s (then_statement (a_statement line form) rest) scope e v h =
-        let subexpressions = or_none (told_on line (first_of_form tree task s form)) _ e in
-        let more = or_none (first_within tree task s form) _ subexpressions.1 in
+        let subexpressions = option_or_parts (told_on line (first_of_form tree task s form)) _ e in
+        let more = option_or_parts (first_within tree task s form) _ subexpressions.1 in
         let here = told_none line _ subexpressions.0 in
         let after = form_known tree task sound s form scope here more.0 in
         elim (Has-append_cases (record { task = task; scope = s; line = line; form = form } ∷ visits_within tree task s form)
@@ -80,7 +81,7 @@ module _ (tree : Tree) (task : TaskTree) (sound : IsSound tree) where
     visit_within : (s : Scope) (form : Form) → IsSoundScope s → first_of_form tree task s form ≡ None → first_within tree task s form ≡ None →
         (v : Visit) → Has (visits_within tree task s form) v → IsAllKnown v
     visit_within s (if_form arms other) scope e w v h =
-        let subexpressions = or_none (first_in_arms tree task s arms) _ w in
+        let subexpressions = option_or_parts (first_in_arms tree task s arms) _ w in
         elim (Has-append_cases (visits_in_arms tree task s arms) (visits_in_else tree task (known_scope_after_arms tree s arms) other) v h) [
           | inl g ↦ visit_arms s arms scope subexpressions.0 v g
           | inr g ↦ visit_else (known_scope_after_arms tree s arms) other (arms_known tree task sound s arms scope subexpressions.0).1 subexpressions.1 v g
@@ -102,7 +103,7 @@ module _ (tree : Tree) (task : TaskTree) (sound : IsSound tree) where
     visit_arms : (s : Scope) (arms : Arms) → IsSoundScope s → first_in_arms tree task s arms ≡ None → (v : Visit) → Has (visits_in_arms tree task s arms) v → IsAllKnown v
     visit_arms s no_arm scope e v h = absurd h
     visit_arms s (an_arm test body rest) scope e v h =
-        let subexpressions = or_none (first_in_block tree task s body) _ e in
+        let subexpressions = option_or_parts (first_in_block tree task s body) _ e in
         let inner = nested tree task sound s body scope (block_known tree task sound s body scope subexpressions.0) in
         elim (Has-append_cases (visits_in tree task s body) (visits_in_arms tree task (past s (known_scope_after_block tree s body)) rest) v h) [
           | inl g ↦ visit_block s body scope subexpressions.0 v g
@@ -146,16 +147,16 @@ first_none tree none = (none_without_first tree).1 none
 
 declared_none : (tree : Tree) → breaches tree ≡ [] → first_in (first_declared tree) tree ≡ None
 declared_none tree none =
-    let a = or_none _ _ (first_none tree none) in
-    let b = or_none _ _ a.1 in
-    (or_none (first_in (first_declared tree) tree) _ b.1).0
+    let a = option_or_parts _ _ (first_none tree none) in
+    let b = option_or_parts _ _ a.1 in
+    (option_or_parts (first_in (first_declared tree) tree) _ b.1).0
 
 bodies_none : (tree : Tree) → breaches tree ≡ [] → first_in (λ (i : ItemTree). first_in_body tree i.form) tree ≡ None
 bodies_none tree none =
-    let a = or_none _ _ (first_none tree none) in
-    let b = or_none _ _ a.1 in
-    let c = or_none (first_in (first_declared tree) tree) _ b.1 in
-    (or_none (first_in (λ (i : ItemTree). first_in_body tree i.form) tree) _ c.1).0
+    let a = option_or_parts _ _ (first_none tree none) in
+    let b = option_or_parts _ _ a.1 in
+    let c = option_or_parts (first_in (first_declared tree) tree) _ b.1 in
+    (option_or_parts (first_in (λ (i : ItemTree). first_in_body tree i.form) tree) _ c.1).0
 
 -- the body of a task among the items
 body_known : (tree : Tree) (none : breaches tree ≡ []) (line : ℕ) (t : TaskTree) → Has tree (record { line = line; form = task_item t }) →

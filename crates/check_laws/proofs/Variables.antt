@@ -1,6 +1,6 @@
 -- Variables of which nothing is told.
 use Rattle.std.proofs.Common.{Bool, List, None, Option, Some, [], ◌∷◌, ◌&&◌, ◌||◌, ◌≡◌, ◌<◌, ap, cond, false, inl, inr, map, not, refl, subst, sym, true, ◌∙◌, ◌⊎◌}
-use Rattle.std.proofs.lemmas.Bool.{and_parts, or_parts}
+use Rattle.std.proofs.lemmas.Bool.{and_parts, or_parts, not-false, and_right}
 use Rattle.std.specs.List.{list_any}
 use Rattle.std.proofs.lemmas.List.Folds.{list_any-append}
 use Rattle.regent_tree.specs.Lookup.{is_bound, type_named}
@@ -39,12 +39,10 @@ use Rattle.check_rules.proofs.Laws.{types_as_meant}
 use Rattle.check_rules.proofs.Written.{names_known}
 use Rattle.check_laws.specs.SoundScopes.{IsKnown, IsSoundScope}
 use Rattle.check_laws.proofs.Expressions.{known_expression, meant}
-use Rattle.check_laws.proofs.Parts.{contrary, not_false, number_known, or_none, rule_none, stand_none, surely, unless_false, value_known}
+use Rattle.check_laws.proofs.Parts.{contrary, number_known, surely, unless_false, value_known}
 use Rattle.check_laws.proofs.Scopes.{found_by_number}
-
-and_false : (b : Bool) → (b && false) ≡ false
-and_false true = refl
-and_false false = refl
+use Rattle.plain_values.proofs.Plain.{option_or_parts}
+use Rattle.check_rules.proofs.Untold.{rule_none, stand_none}
 
 module _ (tree : Tree) (task : TaskTree) (s : Scope) (sound : IsSound tree) (scope : IsSoundScope s) where
   -- ---- names
@@ -53,7 +51,7 @@ module _ (tree : Tree) (task : TaskTree) (s : Scope) (sound : IsSound tree) (sco
   pub named : (sort : StaticType → Bool) (n : Name) → not (names_a sort s.names n) ≡ false →
       (is_bound s.names n ≡ true) × (sort (type_named s.names n) ≡ true)
   named sort n e =
-      let both = and_parts (is_bound s.names n) (may_be sort (type_named s.names n)) (not_false _ e) in
+      let both = and_parts (is_bound s.names n) (may_be sort (type_named s.names n)) (not-false _ e) in
       (both.0, surely sort (type_named s.names n) (scope.types n both.0).known both.1)
 
   -- a region's name, by the number of its binding
@@ -68,10 +66,10 @@ module _ (tree : Tree) (task : TaskTree) (s : Scope) (sound : IsSound tree) (sco
 
   type_sound : (t : TypeTerm) → first_in_type tree s.names t ≡ None → is_flawed_type tree s.names t ≡ false
   type_sound t e =
-      let a = or_none _ _ e in
-      let b = or_none _ _ a.1 in
-      let c = or_none _ _ b.1 in
-      let d = or_none _ _ c.1 in
+      let a = option_or_parts _ _ e in
+      let b = option_or_parts _ _ a.1 in
+      let c = option_or_parts _ _ b.1 in
+      let d = option_or_parts _ _ c.1 in
       let named = rule_none (unbound_name_in_type tree s.names t) rule.Name a.0 in
       let counted = rule_none (miscounts_in_type tree t) rule.Count b.0 in
       let points = rule_none (wrong_region_in_type tree s.names t) rule.Pointer c.0 in
@@ -82,7 +80,7 @@ module _ (tree : Tree) (task : TaskTree) (s : Scope) (sound : IsSound tree) (sco
   types_sound : (ts : List TypeTerm) → first_in (first_in_type tree s.names) ts ≡ None → list_any (is_flawed_type tree s.names) ts ≡ false
   types_sound [] e = refl
   types_sound (t ∷ ts) e =
-      let subexpressions = or_none (first_in_type tree s.names t) _ e in
+      let subexpressions = option_or_parts (first_in_type tree s.names t) _ e in
       λ j. type_sound t subexpressions.0 j || types_sound ts subexpressions.1 j
 
   said_known : (t : TypeTerm) → unbound_name_in_type tree s.names t ≡ false → IsKnown s (type_said tree (in_scope s) s.next t)
@@ -102,7 +100,7 @@ module _ (tree : Tree) (task : TaskTree) (s : Scope) (sound : IsSound tree) (sco
       list_any is_unknown_type (map (known_type tree s) es) ≡ false
   heads_known [] e = refl
   heads_known (x ∷ xs) e =
-      let subexpressions = or_none (first_in_expression tree task s x) _ e in
+      let subexpressions = option_or_parts (first_in_expression tree task s x) _ e in
       λ j. (known_expression tree task s sound scope x subexpressions.0).known j || heads_known xs subexpressions.1 j
 
   origin : (sort : StaticType → Bool) (n : Name) → not (names_a sort s.names n) ≡ false → is_unknown_type (type_named s.names n) ≡ false
@@ -111,7 +109,7 @@ module _ (tree : Tree) (task : TaskTree) (s : Scope) (sound : IsSound tree) (sco
   both_named : (p q : Name) → not (are_partitions s.names p q) ≡ false →
       (not (names_a is_partition s.names p) ≡ false) × (not (names_a is_partition s.names q) ≡ false)
   both_named p q e =
-      let both = and_parts (names_a is_partition s.names p) (names_a is_partition s.names q) (not_false _ e) in
+      let both = and_parts (names_a is_partition s.names p) (names_a is_partition s.names q) (not-false _ e) in
       (ap not both.0, ap not both.1)
 
   origins_known : (i : Initializer) → unbound_name_in_initializer tree s.names i ≡ false →
@@ -139,10 +137,10 @@ module _ (tree : Tree) (task : TaskTree) (s : Scope) (sound : IsSound tree) (sco
       first_of_initializer tree task s i ≡ None → list_any (is_ill_typed_at_place s.known) (standing_in_initializer tree s i) ≡ false →
       is_flawed_initializer tree s i ≡ false
   initializer_sound i heads initializer stand =
-      let a = or_none _ _ initializer in
-      let b = or_none _ _ a.1 in
-      let c = or_none _ _ b.1 in
-      let d = or_none _ _ c.1 in
+      let a = option_or_parts _ _ initializer in
+      let b = option_or_parts _ _ a.1 in
+      let c = option_or_parts _ _ b.1 in
+      let d = option_or_parts _ _ c.1 in
       let written = types_sound (written_in_initializer i) a.0 in
       let names = rule_none (unbound_name_in_initializer tree s.names i) rule.Name b.0 in
       let subexpressions = rule_none (mispartitions_initializer tree s i) rule.Partition c.0 in
@@ -187,11 +185,11 @@ module _ (tree : Tree) (task : TaskTree) (s : Scope) (sound : IsSound tree) (sco
   plain_type : (e : Expression) (is : Bool) → is_difference s.names e ≡ is →
       first_in (first_in_expression tree task s) (cond is (members_of e) (e ∷ [])) ≡ None → IsKnown s (owned s.next (type_of tree s e))
   plain_type e false d heads =
-      let known = known_expression tree task s sound scope e (or_none (first_in_expression tree task s e) _ heads).0 in
+      let known = known_expression tree task s sound scope e (option_or_parts (first_in_expression tree task s e) _ heads).0 in
       owned_known (type_of tree s e)
       (subst (IsKnown s) (meant (known_type tree s e) (type_of tree s e) known.known (types_as_meant tree s e)) known)
   plain_type (chain_expr (access_expr p no_step) (a_link (Compute Subtract) (access_expr q no_step) no_link)) true d heads =
-      let first = or_none (first_in_expression tree task s (access_expr p no_step)) _ heads in
+      let first = option_or_parts (first_in_expression tree task s (access_expr p no_step)) _ heads in
       let known = known_expression tree task s sound scope (access_expr p no_step) first.0 in
       let is = and_parts (may_be is_partition (type_named s.names p)) (may_be is_partition (type_named s.names q)) d in
       difference_known (type_named s.names p) (type_named s.names q)
@@ -232,15 +230,15 @@ module _ (tree : Tree) (task : TaskTree) (s : Scope) (sound : IsSound tree) (sco
       × (list_any (is_ill_typed_at_place s.known) (standing_in_form tree task s form) ≡ false)
       × (wrong_initializer_at tree s form ≡ false)
   parts_of_form form e =
-      let a = or_none (first_in (first_in_type tree s.names) (declared_at form)) _ e in
-      let b = or_none (rule_if (has_no_type form) rule.Type) _ a.1 in
-      let c = or_none (first_in (first_in_expression tree task s) (heads_of s.names form)) _ b.1 in
-      let d = or_none (first_in_targets tree task s form) _ c.1 in
-      let f = or_none (rule_if (unbound_name_in_form tree s.names form) rule.Name) _ d.1 in
-      let g = or_none (first_in (first_of_initializer tree task s) (initializer_at form)) _ f.1 in
-      let h = or_none (first_in (first_of_call tree task s) (call_of_form tree s form)) _ g.1 in
-      let i = or_none (first_in (first_of_standing s.known) (standing_in_form tree task s form)) _ h.1 in
-      let k = or_none (rule_if (wrong_initializer_at tree s form) rule.Place) _ i.1 in (
+      let a = option_or_parts (first_in (first_in_type tree s.names) (declared_at form)) _ e in
+      let b = option_or_parts (rule_if (has_no_type form) rule.Type) _ a.1 in
+      let c = option_or_parts (first_in (first_in_expression tree task s) (heads_of s.names form)) _ b.1 in
+      let d = option_or_parts (first_in_targets tree task s form) _ c.1 in
+      let f = option_or_parts (rule_if (unbound_name_in_form tree s.names form) rule.Name) _ d.1 in
+      let g = option_or_parts (first_in (first_of_initializer tree task s) (initializer_at form)) _ f.1 in
+      let h = option_or_parts (first_in (first_of_call tree task s) (call_of_form tree s form)) _ g.1 in
+      let i = option_or_parts (first_in (first_of_standing s.known) (standing_in_form tree task s form)) _ h.1 in
+      let k = option_or_parts (rule_if (wrong_initializer_at tree s form) rule.Place) _ i.1 in (
         a.0,
         rule_none (has_no_type form) rule.Type b.0,
         c.0,
@@ -256,7 +254,7 @@ module _ (tree : Tree) (task : TaskTree) (s : Scope) (sound : IsSound tree) (sco
   bound_soundly t initializer (inl e) = unless_false _ (variable_type tree s t initializer) (ap (λ b. b && begins_unsoundly tree s t initializer) e)
   bound_soundly t initializer (inr e) =
       unless_false _ (variable_type tree s t initializer)
-      (ap (λ b. is_collection (variable_type tree s t initializer) && b) e ∙ and_false (is_collection (variable_type tree s t initializer)))
+      (ap (λ b. is_collection (variable_type tree s t initializer) && b) e ∙ and_right (is_collection (variable_type tree s t initializer)) false refl)
 
   -- a variable is what the meaning of programs says
   abbrev IsMeantVariable : Option TypeTerm → Option Initializer → Type 0
@@ -268,13 +266,13 @@ module _ (tree : Tree) (task : TaskTree) (s : Scope) (sound : IsSound tree) (sco
       (is_flawed_initializer tree s i ≡ false) × IsKnown s (initializer_type tree s s.next i) × (begins_unsoundly tree s t (Some i) ≡ false)
   begun_sound n t i e =
       let subexpressions = parts_of_form (var_form n t (Some i)) e in
-      let initializer = (or_none (first_of_initializer tree task s i) _ subexpressions.3).0 in
+      let initializer = (option_or_parts (first_of_initializer tree task s i) _ subexpressions.3).0 in
       let begun = known_initializer tree s i in
       let wanted = variable_type tree s t (Some i) in
       let stand = or_parts (list_any (is_ill_typed_at_place s.known) (standing_in_initializer tree s i)) (list_any (is_ill_typed_at_place s.known) (stands_declared begun t wanted))
       (sym (list_any-append (is_ill_typed_at_place s.known) (standing_in_initializer tree s i) (stands_declared begun t wanted)) ∙ subexpressions.4) in
       let flawless = initializer_sound i subexpressions.2 initializer stand.0 in
-      let names = rule_none (unbound_name_in_initializer tree s.names i) rule.Name (or_none _ _ (or_none _ _ initializer).1).0 in
+      let names = rule_none (unbound_name_in_initializer tree s.names i) rule.Name (option_or_parts _ _ (option_or_parts _ _ initializer).1).0 in
       let known = initializer_known i subexpressions.2 names in
       let is = unless_false (is_flawed_initializer tree s i) (initializer_type tree s s.next i) flawless in
       let begins = or_parts (has_wrong_initializer s.names wanted begun i) false subexpressions.5 in
@@ -289,14 +287,14 @@ module _ (tree : Tree) (task : TaskTree) (s : Scope) (sound : IsSound tree) (sco
       (bound_soundly None (Some i) (inr b.2) ∙ is, b.1, ap (λ x. cond x [] (known_of_initializer tree s s.next (Some i))) b.0)
   variable_known n (Some t) None e =
       let subexpressions = parts_of_form (var_form n (Some t) None) e in
-      let typed_none = (or_none (first_in_type tree s.names t) _ subexpressions.0).0 in
+      let typed_none = (option_or_parts (first_in_type tree s.names t) _ subexpressions.0).0 in
       let is = unless_false (is_flawed_type tree s.names t) (type_said tree (in_scope s) s.next t) (type_sound t typed_none) in
-      let names = rule_none (unbound_name_in_type tree s.names t) rule.Name (or_none _ _ typed_none).0 in
+      let names = rule_none (unbound_name_in_type tree s.names t) rule.Name (option_or_parts _ _ typed_none).0 in
       (bound_soundly (Some t) None (inl (or_parts (is_collection (declared_type tree s t)) false subexpressions.5).0) ∙ is, said_known t names, refl)
   variable_known n (Some t) (Some i) e =
       let subexpressions = parts_of_form (var_form n (Some t) (Some i)) e in
       let b = begun_sound n (Some t) i e in
-      let typed_none = (or_none (first_in_type tree s.names t) _ subexpressions.0).0 in
+      let typed_none = (option_or_parts (first_in_type tree s.names t) _ subexpressions.0).0 in
       let is = unless_false (is_flawed_type tree s.names t) (type_said tree (in_scope s) s.next t) (type_sound t typed_none) in
-      let names = rule_none (unbound_name_in_type tree s.names t) rule.Name (or_none _ _ typed_none).0 in
+      let names = rule_none (unbound_name_in_type tree s.names t) rule.Name (option_or_parts _ _ typed_none).0 in
       (bound_soundly (Some t) (Some i) (inr b.2) ∙ is, said_known t names, ap (λ x. cond x [] (known_of_initializer tree s s.next (Some i))) b.0)
