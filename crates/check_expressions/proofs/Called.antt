@@ -1,14 +1,15 @@
 -- A call in which no rule is breached, but that its type is unknown where an argument's is.
-use Rattle.std.proofs.Common.{◌≡◌, List, [], ◌∷◌, true, false, Bool, ◌||◌, ◌&&◌, None, Some, Option, refl, ap, sym, ◌∙◌}
+use Rattle.std.proofs.Common.{◌≡◌, [], ◌∷◌, true, false, Bool, ◌||◌, ◌&&◌, None, Some, Option, refl, ap, sym, ◌∙◌}
 use Rattle.std.specs.Prelude.{is_none}
 use Rattle.std.specs.List.{list_any}
 use Rattle.std.specs.Option.{option_or}
+use Rattle.std.proofs.Math.Bool.{or-false}
+use Rattle.std.proofs.lemmas.Bool.{and_right}
 use Rattle.regent_tree.specs.Scopes.{Scope}
 use Rattle.regent_tree.specs.StaticTypes.{task_named}
 use Rattle.regent_tree.specs.Syntax.{TaskTree, Tree}
 use Rattle.regent_tree.specs.Lookup.{has_task}
 use Rattle.regent_tree.specs.Typing.{result_type}
-use Rattle.regent_tree.specs.declared.facts.Known.{Known}
 use Rattle.regent_tree.specs.declared.types.TypeTerm.{TypeTerm}
 use Rattle.regent_tree.specs.declared.typing.StaticType.{StaticType}
 use Rattle.check_rules.specs.Constraints.{breaks_constraint}
@@ -19,33 +20,16 @@ use Rattle.check_rules.specs.FirstInExpressions.{first_of_call, first_of_standin
 use Rattle.check_rules.specs.KnownTypes.{is_flawed_call, type_of_call}
 use Rattle.check_rules.specs.Names.{is_unknown_task}
 use Rattle.check_rules.specs.Partitions.{mispartitions_call}
-use Rattle.check_rules.specs.Places.{misplaces}
 use Rattle.check_rules.specs.Privileges.{lacks, wanted_by_call}
 use Rattle.check_rules.specs.Rules.{first_in, first_of, rule_if}
 use Rattle.check_rules.specs.TypedForms.{Calling}
 use Rattle.check_rules.specs.Sorts.{is_unknown_type}
 use Rattle.check_rules.specs.Spaces.{misfits_call}
-use Rattle.check_rules.specs.Standing.{Standing, standing_in_call}
+use Rattle.check_rules.specs.Standing.{standing_in_call}
 use Rattle.check_rules.specs.Types.{has_no_result, is_ill_typed_at_place}
 use Rattle.check_rules.specs.declared.rule.Rule.{Rule}
 use Rattle.check_rules.specs.declared.rule.Rule.TheVariants as rule
-
-stands_well : (a b more : Bool) (rest : Option Rule) →
-    option_or (option_or (rule_if a rule.Place) (option_or (rule_if b rule.Type) None)) rest ≡ None →
-    (rest ≡ None → more ≡ false) → (b || more) ≡ false
-stands_well true b more rest e h = absurd cc
-stands_well false true more rest e h = absurd cc
-stands_well false false more rest e h = h e
-
-all_stand : (known : List Known) (ss : List Standing) →
-    first_in (first_of_standing known) ss ≡ None → list_any (is_ill_typed_at_place known) ss ≡ false
-all_stand known [] e = refl
-all_stand known (s ∷ ss) e = stands_well (misplaces s) (is_ill_typed_at_place known s)
-    (list_any (is_ill_typed_at_place known) ss) (first_in (first_of_standing known) ss) e (all_stand known ss)
-
-or_none : (u : Bool) → (u || false) ≡ u
-or_none true = refl
-or_none false = refl
+use Rattle.check_rules.proofs.Untold.{stand_none}
 
 sound : (n h m st f p u r : Bool) (told rest : Option Rule) → (told ≡ None → st ≡ false) →
     option_or (rule_if n rule.Name) (option_or (rule_if m rule.Count) (option_or told
@@ -57,7 +41,7 @@ sound false h false st f p u r (Some x) rest k e no_h no_r = absurd cc
 sound false h false st true p u r None rest k e no_h no_r = absurd cc
 sound false h false st false true u r None rest k e no_h no_r = absurd cc
 sound false h false st false false u r None rest k e no_h no_r =
-    let no_st : st ≡ false = k refl in rw (no_h, no_st, no_r) (or_none u)
+    let no_st : st ≡ false = k refl in rw (no_h, no_st, no_r) (or-false u)
 
 pub sound_call : (tree : Tree) (task : TaskTree) (s : Scope) (c : Calling) →
     first_of_call tree task s c ≡ None → has_no_result tree c ≡ false →
@@ -70,14 +54,10 @@ sound_call tree task s c e no_h no_r = sound (is_unknown_task tree c) (has_no_re
     (first_in (first_of_standing s.known) (standing_in_call tree c))
     (first_of (rule_if (lacks tree task s (wanted_by_call tree c)) rule.CallPrivilege
     ∷ rule_if (breaks_constraint tree s.known c) rule.CallConstraint ∷ []))
-    (all_stand s.known (standing_in_call tree c)) e no_h no_r
-
-and_false : (b : Bool) → (b && false) ≡ false
-and_false true = refl
-and_false false = refl
+    (stand_none s.known (standing_in_call tree c)) e no_h no_r
 
 has_result : (b : Bool) (r : Option TypeTerm) (term : TypeTerm) → r ≡ Some term → (b && is_none r) ≡ false
-has_result b r term e = rw e (and_false b)
+has_result b r term e = rw e (and_right b false refl)
 
 typed : (tree : Tree) (flawed : Bool) (r : Option TypeTerm) (term : TypeTerm) (found : StaticType) →
     flawed ≡ false → r ≡ Some term → is_no_result_type r ≡ false →

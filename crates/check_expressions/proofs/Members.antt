@@ -1,5 +1,5 @@
 -- Members of chains, and steps of accesses, one after the other.
-use Rattle.std.proofs.Common.{◌≡◌, ◌<◌, ◌+◌, ℕ, List, ◌∷◌, drop, length, get_or, None, Some, Option, refl, sym, ◌∙◌}
+use Rattle.std.proofs.Common.{◌≡◌, ◌<◌, ◌+◌, ℕ, List, ◌∷◌, drop, length, get_or, None, Option, refl, sym, ◌∙◌}
 use Rattle.std.specs.Option.{option_or}
 use Rattle.std.proofs.lemmas.List.{drop_more}
 use Rattle.regent_tree.specs.Plain.{expression_of, links_in, steps_in}
@@ -16,16 +16,13 @@ use Rattle.static_types.specs.declared.stop.Stop.{Stop}
 use Rattle.static_types.specs.Telling.{IsTold}
 use Rattle.static_types.proofs.Telling.{told_here}
 use Rattle.check_expressions.specs.Steps.{computing_at, first_at_link, first_at_step, known_type_after}
-
-or_assoc : {A : Type 0} (a b c : Option A) → option_or a (option_or b c) ≡ option_or (option_or a b) c
-or_assoc None b c = refl
-or_assoc (Some x) b c = refl
+use Rattle.plain_values.proofs.Plain.{option_or_assoc_left}
 
 module _ (tree : Tree) (task : TaskTree) (s : Scope) where
   link_parts : (t : StaticType) (l : Link) (ls : List Link) →
       first_in_links tree task s t (links_in (l ∷ ls)) ≡ option_or (first_at_link tree task s t l)
       (first_in_links tree task s (known_type_after_operator (computing_at tree s t l)) (links_in ls))
-  link_parts t l ls = or_assoc (first_in_expression tree task s (expression_of l.operand))
+  link_parts t l ls = option_or_assoc_left (first_in_expression tree task s (expression_of l.operand))
       (first_of_operator (computing_at tree s t l))
       (first_in_links tree task s (known_type_after_operator (computing_at tree s t l)) (links_in ls))
 
@@ -64,7 +61,7 @@ module _ (tree : Tree) (task : TaskTree) (s : Scope) where
       first_in_steps tree task s t (steps_in (x ∷ xs)) ≡ option_or (first_at_step tree task s t x)
       (first_in_steps tree task s (known_type_after tree s t x) (steps_in xs))
   step_parts t (Field f) xs = refl
-  step_parts t (At e) xs = or_assoc (first_in_expression tree task s (expression_of e))
+  step_parts t (At e) xs = option_or_assoc_left (first_in_expression tree task s (expression_of e))
       (first_of_step tree task s (element_of t (known_type tree s (expression_of e))))
       (first_in_steps tree task s (known_type_after tree s t (At e)) (steps_in xs))
 

@@ -4,9 +4,7 @@ use Rattle.std.specs.List.{list_any}
 use Rattle.std.specs.Option.{option_or}
 use Rattle.std.specs.Prelude.{Option, ℕ}
 use Rattle.check_rules.specs.declared.rule.Rule.{Rule}
-use Rattle.std.proofs.lemmas.Bool.Decides.{same_from_decides}
 use Rattle.std.proofs.lemmas.List.Folds.{list_any-append}
-use Rattle.std.proofs.lemmas.Slice.Eq.{bytes_eq-Decides}
 use Rattle.regent_tree.specs.PlainProgram.{item_tree_of}
 use Rattle.regent_tree.specs.Syntax.{Name}
 use Rattle.regent_tree.specs.declared.program.Item.{Item}
@@ -21,10 +19,7 @@ use Rattle.check_rules.specs.declared.rule.Rule.TheVariants as rule
 use Rattle.check_items.specs.Given.{first_again, given_as, given_in}
 use Rattle.check_items.specs.declared.repeats.Sort.{Sort}
 use Rattle.check_items.specs.declared.repeats.Sort.TheVariants as sort
-
-equal_back : (a b : Name) → bytes_eq a b ≡ bytes_eq b a
-equal_back a b = same_from_decides (bytes_eq a b) (bytes_eq b a) (bytes_eq-Decides a b)
-    (λ h. sym ((bytes_eq-Decides b a).0 h), λ e. (bytes_eq-Decides b a).1 (sym e))
+use Rattle.plain_values.proofs.Plain.{bytes_eq_sym}
 
 either_end : (a b c d : Bool) → a ≡ d → b ≡ c → (a || b) ≡ (c || (d || false))
 either_end true b true d e f = refl
@@ -56,7 +51,7 @@ again_after earlier names (g ∷ gs) same =
     next : (n : Name) → (bytes_eq g.name n || list_any (λ (e : Given). bytes_eq e.name n) earlier)
         ≡ list_any (bytes_eq n) (names ++ g.name ∷ [])
     next n = either_end (bytes_eq g.name n) (list_any (λ (e : Given). bytes_eq e.name n) earlier)
-        (list_any (bytes_eq n) names) (bytes_eq n g.name) (equal_back g.name n) (same n)
+        (list_any (bytes_eq n) names) (bytes_eq n g.name) (bytes_eq_sym g.name n) (same n)
         ∙ sym (list_any-append (bytes_eq n) names (g.name ∷ []))
 
 pub first_repeat : (gs : List Given) → first_again [] gs ≡ first_line rule.Twice (repeats gs)

@@ -1,5 +1,5 @@
 -- What is told of declarations, list after list.
-use Rattle.std.proofs.Common.{List, None, Option, Result, Some, [], ◌++◌, ◌∷◌, ◌≡◌, ap, map, refl, subst, sym, ◌∙◌}
+use Rattle.std.proofs.Common.{List, None, Option, Result, [], ◌++◌, ◌∷◌, ◌≡◌, ap, map, refl, subst, sym, ◌∙◌}
 use Rattle.std.specs.Option.{option_or}
 use Rattle.std.proofs.lemmas.List.{append-nil}
 use Rattle.regent_tree.specs.Scopes.{bound_params}
@@ -17,10 +17,7 @@ use Rattle.check_items.specs.Halting.{IsToldAt, TellsAt}
 use Rattle.check_items.specs.declared.halt.Halt.{Halt}
 use Rattle.check_items.specs.declared.halt.Halt.TheVariants.{Breach as at_line, Memory}
 use Rattle.check_rules.proofs.Written.{bound_written}
-
-either_grouped : {A : Type 0} (a b c : Option A) → option_or (option_or a b) c ≡ option_or a (option_or b c)
-either_grouped None b c = refl
-either_grouped (Some x) b c = refl
+use Rattle.plain_values.proofs.Plain.{option_or_assoc}
 
 -- the same of the one and of the other names
 module _ (written beside names : List Bound) (f : Declaration → Option Breach) (same : (p : Param) → f (record { written = names; names = names; param = p }) ≡ f (record { written = written; names = beside; param = p })) where
@@ -33,7 +30,7 @@ module _ (written beside names : List Bound) (f : Declaration → Option Breach)
       option_or (first_in f (declared_with names xs)) (first_in f (declared_with names ys))
       ≡ first_in f (map (λ (p : Param). record { written = written; names = beside; param = p }) (xs ++ ys))
   split [] ys = alike ys
-  split (p ∷ ps) ys = either_grouped (f (record { written = names; names = names; param = p })) (first_in f (declared_with names ps)) (first_in f (declared_with names ys))
+  split (p ∷ ps) ys = option_or_assoc (f (record { written = names; names = names; param = p })) (first_in f (declared_with names ps)) (first_in f (declared_with names ys))
       ∙ (λ j. option_or (same p j) (split ps ys j))
 
 pub saying_split : (tree : Tree) (names : List Bound) (params more : List Param) →
@@ -63,7 +60,7 @@ pub told_after : {A : Type 0} (Found : A → Type 0) (r : Result A Halt) (a b : 
     TellsAt Found r (option_or a (option_or b (rest bound)))
 told_after Found r a b rest names bound none same h =
     subst (TellsAt Found r)
-    (ap rest same ∙ sym (ap (λ o. option_or o (rest bound)) none) ∙ either_grouped a b (rest bound)) h
+    (ap rest same ∙ sym (ap (λ o. option_or o (rest bound)) none) ∙ option_or_assoc a b (rest bound)) h
 
 -- parameters with nothing more
 pub params_alone : (tree : Tree) (params : List Param) →
