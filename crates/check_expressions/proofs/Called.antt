@@ -12,21 +12,21 @@ use Rattle.regent_tree.specs.Lookup.{has_task}
 use Rattle.regent_tree.specs.Typing.{result_type}
 use Rattle.regent_tree.specs.declared.types.TypeTerm.{TypeTerm}
 use Rattle.regent_tree.specs.declared.typing.StaticType.{StaticType}
-use Rattle.check_rules.specs.Constraints.{breaks_constraint}
-use Rattle.check_rules.specs.Counts.{miscounts_call}
-use Rattle.check_rules.specs.Declarations.{is_no_result_type, params_of}
-use Rattle.check_rules.specs.Params.{type_unless}
-use Rattle.check_rules.specs.FirstInExpressions.{first_of_call, first_of_standing}
-use Rattle.check_rules.specs.KnownTypes.{is_flawed_call, type_of_call}
-use Rattle.check_rules.specs.Names.{is_unknown_task}
-use Rattle.check_rules.specs.Partitions.{mispartitions_call}
-use Rattle.check_rules.specs.Privileges.{lacks, wanted_by_call}
-use Rattle.check_rules.specs.Rules.{first_in, first_of, rule_if}
-use Rattle.check_rules.specs.TypedForms.{Calling}
-use Rattle.check_rules.specs.Sorts.{is_unknown_type}
-use Rattle.check_rules.specs.Spaces.{misfits_call}
-use Rattle.check_rules.specs.Standing.{standing_in_call}
-use Rattle.check_rules.specs.Types.{has_no_result, is_ill_typed_at_place}
+use Rattle.check_rules.specs.rules.Constraints.{breaks_constraint}
+use Rattle.check_rules.specs.rules.Counts.{miscounts_call}
+use Rattle.check_rules.specs.types.Declarations.{is_no_result_type, params_of}
+use Rattle.check_rules.specs.types.Params.{type_unless}
+use Rattle.check_rules.specs.first.FirstInExpressions.{first_of_call, first_of_standing}
+use Rattle.check_rules.specs.types.KnownTypes.{is_flawed_call, type_of_call}
+use Rattle.check_rules.specs.rules.Names.{is_unknown_task}
+use Rattle.check_rules.specs.rules.Partitions.{mispartitions_call}
+use Rattle.check_rules.specs.rules.Privileges.{lacks, wanted_by_call}
+use Rattle.check_rules.specs.first.Rules.{first_in, first_of, rule_if}
+use Rattle.check_rules.specs.types.TypedForms.{Calling}
+use Rattle.check_rules.specs.types.Sorts.{is_unknown_type}
+use Rattle.check_rules.specs.rules.Spaces.{misfits_call}
+use Rattle.check_rules.specs.rules.Standing.{standing_in_call}
+use Rattle.check_rules.specs.rules.Types.{has_no_result, is_ill_typed_at_place}
 use Rattle.check_rules.specs.declared.rule.Rule.{Rule}
 use Rattle.check_rules.specs.declared.rule.Rule.TheVariants as rule
 use Rattle.check_rules.proofs.Untold.{stand_none}

@@ -4,7 +4,7 @@ use Rattle.std.specs.List.{list_any}
 use Rattle.regent_tree.specs.declared.facts.Known.{Known}
 use Rattle.regent_tree.specs.declared.facts.Known.TheVariants.{Within, Apart, PartOf, Made}
 use Rattle.regent_tree.specs.declared.facts.Term.{Term}
-use Rattle.check_rules.specs.Privileges.{made_above}
+use Rattle.check_rules.specs.rules.Privileges.{made_above}
 use Rattle.check_expressions.specs.Lying.{lies_in}
 use Rattle.check_expressions.specs.Seen.{made_in}
 

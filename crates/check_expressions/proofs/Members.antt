@@ -8,9 +8,9 @@ use Rattle.regent_tree.specs.Syntax.{TaskTree, Tree}
 use Rattle.regent_tree.specs.declared.expression.Link.{Link}
 use Rattle.regent_tree.specs.declared.expression.Step.{At, Field, Step}
 use Rattle.regent_tree.specs.declared.typing.StaticType.{StaticType}
-use Rattle.check_rules.specs.FirstInExpressions.{first_in_expression, first_in_links, first_in_steps, first_of_operator, first_of_step}
-use Rattle.check_rules.specs.KnownTypes.{known_type, known_type_after_links, known_type_after_operator, known_type_after_steps}
-use Rattle.check_rules.specs.TypedForms.{element_of}
+use Rattle.check_rules.specs.first.FirstInExpressions.{first_in_expression, first_in_links, first_in_steps, first_of_operator, first_of_step}
+use Rattle.check_rules.specs.types.KnownTypes.{known_type, known_type_after_links, known_type_after_operator, known_type_after_steps}
+use Rattle.check_rules.specs.types.TypedForms.{element_of}
 use Rattle.check_rules.specs.declared.rule.Rule.{Rule}
 use Rattle.static_types.specs.declared.stop.Stop.{Stop}
 use Rattle.static_types.specs.Telling.{IsTold}

@@ -3,9 +3,9 @@ use Rattle.std.proofs.Common.{◌≡◌, ◌<◌, ◌+◌, ℕ, zero, suc, List,
 use Rattle.std.proofs.lemmas.List.{drop_more}
 use Rattle.regent_tree.specs.declared.expression.Sign.{Sign}
 use Rattle.regent_tree.specs.declared.typing.StaticType.{StaticType}
-use Rattle.check_rules.specs.FirstInExpressions.{first_of_signs, first_of_standing}
-use Rattle.check_rules.specs.KnownTypes.{known_type_after_sign, known_type_after_signs}
-use Rattle.check_rules.specs.Standing.{spot_of_sign, stands}
+use Rattle.check_rules.specs.first.FirstInExpressions.{first_of_signs, first_of_standing}
+use Rattle.check_rules.specs.types.KnownTypes.{known_type_after_sign, known_type_after_signs}
+use Rattle.check_rules.specs.rules.Standing.{spot_of_sign, stands}
 use Rattle.static_types.specs.declared.stop.Stop.{Stop}
 use Rattle.static_types.specs.Telling.{IsTold}
 use Rattle.static_types.proofs.Telling.{told_here}

@@ -3,9 +3,9 @@ use Rattle.std.specs.Prelude.{List, map, ℕ, ◌≡◌}
 use Rattle.regent_tree.specs.PlainProgram.{tree_of}
 use Rattle.regent_tree.specs.declared.program.Grant.{Grant}
 use Rattle.regent_tree.specs.declared.rights.Right.{Right}
-use Rattle.check_rules.specs.Declarations.{params_bound}
-use Rattle.check_rules.specs.Privileges.{a_right, access_of_grant}
-use Rattle.check_rules.specs.Params.{types_in_order}
+use Rattle.check_rules.specs.types.Declarations.{params_bound}
+use Rattle.check_rules.specs.rules.Privileges.{a_right, access_of_grant}
+use Rattle.check_rules.specs.types.Params.{types_in_order}
 use Rattle.check_expressions.specs.declared.rights.Declaring.{Declaring}
 
 -- the types are those of the parameters

@@ -2,7 +2,7 @@
 use Rattle.std.specs.Prelude.{◌≡◌}
 use Rattle.regent_tree.specs.PlainProgram.{task_of, tree_of}
 use Rattle.regent_tree.specs.Syntax.{TaskTree, Tree}
-use Rattle.check_rules.specs.Privileges.{rights_declared}
+use Rattle.check_rules.specs.rules.Privileges.{rights_declared}
 use Rattle.check_expressions.specs.declared.site.Site.{Site}
 
 abbrev pub tree_at : Site → Tree

@@ -8,9 +8,9 @@ use Rattle.regent_tree.specs.Typing.{type_of_element, type_of_field}
 use Rattle.regent_tree.specs.declared.expression.Link.{Link}
 use Rattle.regent_tree.specs.declared.expression.Step.{At, Field, Step}
 use Rattle.regent_tree.specs.declared.typing.StaticType.{StaticType}
-use Rattle.check_rules.specs.FirstInExpressions.{first_in_expression, first_of_operator, first_of_step}
-use Rattle.check_rules.specs.KnownTypes.{known_type, known_type_after_step}
-use Rattle.check_rules.specs.TypedForms.{Computing, computing, element_of, field_of}
+use Rattle.check_rules.specs.first.FirstInExpressions.{first_in_expression, first_of_operator, first_of_step}
+use Rattle.check_rules.specs.types.KnownTypes.{known_type, known_type_after_step}
+use Rattle.check_rules.specs.types.TypedForms.{Computing, computing, element_of, field_of}
 use Rattle.check_rules.specs.declared.rule.Rule.{Rule}
 
 -- ---- steps of accesses

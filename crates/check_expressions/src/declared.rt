@@ -4,13 +4,13 @@ ghost use Rattle.std.specs.Prelude.{◌≡◌, IfOk, IfSome, IfNone, is_some, fa
 ghost use Rattle.regent_tree.specs.Lookup.{has_field, has_task};
 ghost use Rattle.regent_tree.specs.PlainProgram.{tree_of, task_of};
 ghost use Rattle.regent_tree.specs.StaticTypes.{among_args, field_place, field_term, space_at, task_named, type_said};
-ghost use Rattle.check_rules.specs.Declarations.{params_bound, params_of, is_flawed_field, is_no_result_type};
+ghost use Rattle.check_rules.specs.types.Declarations.{params_bound, params_of, is_flawed_field, is_no_result_type};
 ghost use Rattle.regent_tree.specs.Scopes.{scope_of};
-ghost use Rattle.check_rules.specs.Bodies.{body_scope};
-ghost use Rattle.check_rules.specs.Clauses.{clauses_told};
-ghost use Rattle.check_rules.specs.Params.{types_in_order};
-ghost use Rattle.check_rules.specs.Privileges.{rights_declared, rights_told};
-ghost use Rattle.check_rules.specs.Sound.{IsSound, StandsIn};
+ghost use Rattle.check_rules.specs.scopes.Bodies.{body_scope};
+ghost use Rattle.check_rules.specs.rules.Clauses.{clauses_told};
+ghost use Rattle.check_rules.specs.types.Params.{types_in_order};
+ghost use Rattle.check_rules.specs.rules.Privileges.{rights_declared, rights_told};
+ghost use Rattle.check_rules.specs.scopes.Sound.{IsSound, StandsIn};
 
 use program_tables::{Names, Tables, place_in};
 use regent_tree::{Name, Param, Reach, StaticType, Task, TypeTerm};
@@ -28,7 +28,7 @@ impl<'a> Model for Declared<'a> {
     ghost use Rattle.regent_tree.specs.declared.program.Program.{Program};
     ghost use Rattle.regent_tree.specs.contracts.program.Program as program_type;
     ghost use Rattle.regent_tree.specs.PlainProgram.{tree_of};
-    ghost use Rattle.check_rules.specs.Sound.{IsSound};
+    ghost use Rattle.check_rules.specs.scopes.Sound.{IsSound};
 
     ghost Value = { Program };
 

@@ -3,9 +3,9 @@
 ghost use Rattle.std.specs.List.{list_any};
 ghost use Rattle.std.specs.Prelude.{◌≡◌, IfOk, map};
 ghost use Rattle.regent_tree.specs.Rights.{is_granted};
-ghost use Rattle.check_rules.specs.FirstInExpressions.{first_of_reading};
-ghost use Rattle.check_rules.specs.Privileges.{lacks, made_above, may_do, regions_named, rights_declared, wanted_of_region, wanted_of_step, wanting};
-ghost use Rattle.check_rules.specs.TypedForms.{field_of};
+ghost use Rattle.check_rules.specs.first.FirstInExpressions.{first_of_reading};
+ghost use Rattle.check_rules.specs.rules.Privileges.{lacks, made_above, may_do, regions_named, rights_declared, wanted_of_region, wanted_of_step, wanting};
+ghost use Rattle.check_rules.specs.types.TypedForms.{field_of};
 ghost use Rattle.static_types.specs.Telling.{Anything, Tells};
 ghost use Rattle.check_expressions.specs.Seen.{seen};
 ghost use Rattle.check_expressions.specs.Sites.{HoldsDeclared, task_at, tree_at};

@@ -5,10 +5,10 @@ ghost use Rattle.regent_tree.specs.Lookup.{has_param};
 ghost use Rattle.regent_tree.specs.PlainProgram.{task_of, tree_of};
 ghost use Rattle.regent_tree.specs.StaticTypes.{place_in, space_at};
 ghost use Rattle.regent_tree.specs.declared.types.Param.{Param};
-ghost use Rattle.check_rules.specs.Declarations.{params_bound};
-ghost use Rattle.check_rules.specs.Privileges.{a_right, access_of_grant, fields_named, rights_declared, rights_of_clause, rights_of_place, rights_on};
-ghost use Rattle.check_rules.specs.Sorts.{type_at};
-ghost use Rattle.check_rules.specs.Params.{types_in_order};
+ghost use Rattle.check_rules.specs.types.Declarations.{params_bound};
+ghost use Rattle.check_rules.specs.rules.Privileges.{a_right, access_of_grant, fields_named, rights_declared, rights_of_clause, rights_of_place, rights_on};
+ghost use Rattle.check_rules.specs.types.Sorts.{type_at};
+ghost use Rattle.check_rules.specs.types.Params.{types_in_order};
 ghost use Rattle.check_expressions.specs.Granting.{AreTyped, granted_on};
 
 use crate::declared::Declared;

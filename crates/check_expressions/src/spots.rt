@@ -1,8 +1,8 @@
 //! What may stand at a place, by the type of what stands there.
 
 ghost use Rattle.std.specs.Prelude.{[]};
-ghost use Rattle.check_rules.specs.FirstInExpressions.{first_of_standing};
-ghost use Rattle.check_rules.specs.Standing.{stands, integer_spot, truth_spot, number_spot, pointer_spot, value_spot, space_spot, domain_spot, typed_spot, param_spot};
+ghost use Rattle.check_rules.specs.first.FirstInExpressions.{first_of_standing};
+ghost use Rattle.check_rules.specs.rules.Standing.{stands, integer_spot, truth_spot, number_spot, pointer_spot, value_spot, space_spot, domain_spot, typed_spot, param_spot};
 ghost use Rattle.static_types.specs.Telling.{Tells, Anything};
 
 use check_rules::Rule;

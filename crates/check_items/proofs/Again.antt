@@ -11,10 +11,10 @@ use Rattle.regent_tree.specs.declared.program.Item.{Item}
 use Rattle.regent_tree.specs.declared.program.ItemKind.{ItemKind}
 use Rattle.regent_tree.specs.declared.program.ItemKind.TheVariants as kind
 use Rattle.check_rules.specs.Breaches.{Breach}
-use Rattle.check_rules.specs.FirstInItems.{first_line}
-use Rattle.check_rules.specs.FirstInStatements.{told_on}
-use Rattle.check_rules.specs.Repeats.{Given, repeats, repeats_after}
-use Rattle.check_rules.specs.Rules.{rule_if}
+use Rattle.check_rules.specs.first.FirstInItems.{first_line}
+use Rattle.check_rules.specs.first.FirstInStatements.{told_on}
+use Rattle.check_rules.specs.rules.Repeats.{Given, repeats, repeats_after}
+use Rattle.check_rules.specs.first.Rules.{rule_if}
 use Rattle.check_rules.specs.declared.rule.Rule.TheVariants as rule
 use Rattle.check_items.specs.Given.{first_again, given_as, given_in}
 use Rattle.check_items.specs.declared.repeats.Sort.{Sort}

@@ -7,11 +7,11 @@ use Rattle.regent_tree.specs.Syntax.{Tree}
 use Rattle.regent_tree.specs.declared.types.Param.{Param}
 use Rattle.regent_tree.specs.declared.typing.Bound.{Bound}
 use Rattle.check_rules.specs.Breaches.{Breach}
-use Rattle.check_rules.specs.Declarations.{params_bound}
-use Rattle.check_rules.specs.Params.{params_beside}
-use Rattle.check_rules.specs.FirstInItems.{first_of_said, first_of_saying}
-use Rattle.check_rules.specs.Rules.{first_in}
-use Rattle.check_rules.specs.Visits.{Declaration, declarations_in}
+use Rattle.check_rules.specs.types.Declarations.{params_bound}
+use Rattle.check_rules.specs.types.Params.{params_beside}
+use Rattle.check_rules.specs.first.FirstInItems.{first_of_said, first_of_saying}
+use Rattle.check_rules.specs.first.Rules.{first_in}
+use Rattle.check_rules.specs.scopes.Visits.{Declaration, declarations_in}
 use Rattle.check_items.specs.Declaring.{declared_with}
 use Rattle.check_items.specs.Halting.{IsToldAt, TellsAt}
 use Rattle.check_items.specs.declared.halt.Halt.{Halt}

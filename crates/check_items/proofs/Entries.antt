@@ -11,9 +11,9 @@ use Rattle.regent_tree.specs.declared.types.Param.{Param}
 use Rattle.regent_tree.specs.declared.types.TypeTerm.{TypeTerm}
 use Rattle.regent_tree.specs.declared.types.TypeTerm.TheVariants as typed
 use Rattle.check_rules.specs.Breaches.{breaks}
-use Rattle.check_rules.specs.FirstInItems.{first_line}
-use Rattle.check_rules.specs.Rules.{number_of}
-use Rattle.check_rules.specs.Entries.{missing_lines, entry_given}
+use Rattle.check_rules.specs.first.FirstInItems.{first_line}
+use Rattle.check_rules.specs.first.Rules.{number_of}
+use Rattle.check_rules.specs.rules.Entries.{missing_lines, entry_given}
 use Rattle.check_rules.specs.declared.rule.Rule.TheVariants as rule
 use Rattle.static_types.proofs.SaidInOrder.{types_as_said}
 use Rattle.static_types.specs.Params.{said_from}

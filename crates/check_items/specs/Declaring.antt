@@ -2,7 +2,7 @@
 use Rattle.std.specs.Prelude.{List, map}
 use Rattle.regent_tree.specs.declared.types.Param.{Param}
 use Rattle.regent_tree.specs.declared.typing.Bound.{Bound}
-use Rattle.check_rules.specs.Visits.{Declaration}
+use Rattle.check_rules.specs.scopes.Visits.{Declaration}
 
 -- where these names are of the types that are written
 abbrev pub declared_with : List Bound → List Param → List Declaration

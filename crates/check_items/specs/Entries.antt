@@ -6,7 +6,7 @@ use Rattle.regent_tree.specs.Syntax.{Name}
 use Rattle.regent_tree.specs.declared.types.NumberTerm.TheVariants as number
 use Rattle.regent_tree.specs.declared.types.TypeTerm.{TypeTerm}
 use Rattle.regent_tree.specs.declared.types.TypeTerm.TheVariants as typed
-use Rattle.check_rules.specs.Repeats.{Given}
+use Rattle.check_rules.specs.rules.Repeats.{Given}
 use Rattle.check_items.specs.declared.entry.Begin.{Begin}
 
 -- what an item gives that says which task is started

@@ -3,7 +3,7 @@
 use Rattle.std.specs.Prelude.{Err, None, Ok, Option, Result, Some, ℕ, ◌≡◌}
 use Rattle.check_rules.specs.Breaches.{breaks}
 use Rattle.check_rules.specs.Breaches as found
-use Rattle.check_rules.specs.Rules.{number_of}
+use Rattle.check_rules.specs.first.Rules.{number_of}
 use Rattle.static_types.specs.declared.stop.Stop.{Stop}
 use Rattle.static_types.specs.declared.stop.Stop.TheVariants as stop
 use Rattle.check_items.specs.declared.halt.Halt.{Halt}

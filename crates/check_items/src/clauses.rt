@@ -4,8 +4,8 @@ ghost use Rattle.std.specs.Prelude.{◌≡◌, not};
 ghost use Rattle.std.specs.List.{list_any, list_all};
 ghost use Rattle.regent_tree.specs.PlainProgram.{tree_of};
 ghost use Rattle.regent_tree.specs.Lookup.{type_named};
-ghost use Rattle.check_rules.specs.Clauses.{is_no_region, lacks_fields, misdeclares, misdeclares_place};
-ghost use Rattle.check_rules.specs.Lookup.{region_has};
+ghost use Rattle.check_rules.specs.rules.Clauses.{is_no_region, lacks_fields, misdeclares, misdeclares_place};
+ghost use Rattle.check_rules.specs.types.Lookup.{region_has};
 
 use program_tables::{Names, Tables};
 use regent_tree::{Clause, Name, Place, StaticType};

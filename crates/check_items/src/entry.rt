@@ -6,8 +6,8 @@ ghost use Rattle.regent_tree.specs.PlainProgram.{item_tree_of, task_of, tree_of}
 ghost use Rattle.regent_tree.specs.StaticTypes.{entry_name, task_named};
 ghost use Rattle.regent_tree.specs.declared.types.Param.{Param};
 ghost use Rattle.check_rules.specs.Acceptance.{input_widths};
-ghost use Rattle.check_rules.specs.FirstInItems.{first_line};
-ghost use Rattle.check_rules.specs.Entries.{is_integer_term, later_lines, wrong_entry_lines, missing_lines, entry_given};
+ghost use Rattle.check_rules.specs.first.FirstInItems.{first_line};
+ghost use Rattle.check_rules.specs.rules.Entries.{is_integer_term, later_lines, wrong_entry_lines, missing_lines, entry_given};
 ghost use Rattle.check_rules.specs.declared.rule.Rule.TheVariants as rule;
 ghost use Rattle.static_types.specs.Telling.{Anything};
 ghost use Rattle.check_items.specs.Halting.{TellsAt};

@@ -4,10 +4,10 @@ ghost use Rattle.std.specs.Prelude.{◌≡◌, ◌++◌, ◌∷◌, [], OnOk, by
 ghost use Rattle.std.specs.List.{list_any};
 ghost use Rattle.std.specs.Option.{option_copied};
 ghost use Rattle.regent_tree.specs.PlainProgram.{item_of, item_tree_of, tree_of};
-ghost use Rattle.check_rules.specs.FirstInItems.{first_line, first_repeated};
-ghost use Rattle.check_rules.specs.FirstInStatements.{told_on};
-ghost use Rattle.check_rules.specs.Repeats.{given_by, repeats, repeats_within};
-ghost use Rattle.check_rules.specs.Rules.{rule_if};
+ghost use Rattle.check_rules.specs.first.FirstInItems.{first_line, first_repeated};
+ghost use Rattle.check_rules.specs.first.FirstInStatements.{told_on};
+ghost use Rattle.check_rules.specs.rules.Repeats.{given_by, repeats, repeats_within};
+ghost use Rattle.check_rules.specs.first.Rules.{rule_if};
 ghost use Rattle.check_rules.specs.declared.rule.Rule.TheVariants as rule;
 ghost use Rattle.static_types.specs.Telling.{Anything};
 ghost use Rattle.check_items.specs.Given.{given_as, names_of};

@@ -6,12 +6,12 @@ use Rattle.regent_tree.specs.Syntax.{Arms, Block, Expression, Form, Name, Otherw
 use Rattle.regent_tree.specs.Typing.{arithmetic_type, scope_after, scope_after_arms, scope_after_block, scope_after_else, taken_from, type_of}
 use Rattle.regent_tree.specs.declared.typing.StaticType.{StaticType}
 use Rattle.regent_tree.specs.declared.typing.StaticType.TheVariants.{Integer as integer_type, Truth as truth_type, Index as index_type, Pointer as pointer_type, Ispace as ispace_type, Region as region_type, Partition as partition_type, Nothing as no_type, Unknown as unknown_type}
-use Rattle.check_rules.specs.FirstInExpressions.{first_in_expression}
-use Rattle.check_rules.specs.FirstInStatements.{first_in_arms, first_in_block, first_in_else, first_of_form, first_within, told_on}
-use Rattle.check_rules.specs.KnownTypes.{known_type}
-use Rattle.check_rules.specs.Sorts.{is_integer, is_region, is_space}
-use Rattle.check_rules.specs.Sound.{IsSound}
-use Rattle.check_rules.specs.Variables.{counted_type, known_scope_after, known_scope_after_arms, known_scope_after_block, known_scope_after_else, scope_in_count, scope_in_loop}
+use Rattle.check_rules.specs.first.FirstInExpressions.{first_in_expression}
+use Rattle.check_rules.specs.first.FirstInStatements.{first_in_arms, first_in_block, first_in_else, first_of_form, first_within, told_on}
+use Rattle.check_rules.specs.types.KnownTypes.{known_type}
+use Rattle.check_rules.specs.types.Sorts.{is_integer, is_region, is_space}
+use Rattle.check_rules.specs.scopes.Sound.{IsSound}
+use Rattle.check_rules.specs.scopes.Variables.{counted_type, known_scope_after, known_scope_after_arms, known_scope_after_block, known_scope_after_else, scope_in_count, scope_in_loop}
 use Rattle.check_rules.proofs.Laws.{types_as_meant}
 use Rattle.check_laws.specs.SoundScopes.{IsKnown, IsSoundScope}
 use Rattle.check_laws.proofs.Expressions.{known_expression, meant}

@@ -10,19 +10,19 @@ use Rattle.regent_tree.specs.declared.types.PointerTerm.{PointerTerm}
 use Rattle.regent_tree.specs.declared.types.TypeTerm.TheVariants as typed
 use Rattle.regent_tree.specs.declared.typing.StaticType.{StaticType}
 use Rattle.regent_tree.specs.declared.typing.StaticType.TheVariants.{Ispace as ispace_type, Truth as truth_type, Unknown as unknown_type}
-use Rattle.check_rules.specs.Counts.{miscounts_in_type}
-use Rattle.check_rules.specs.Declarations.{is_flawed_type}
-use Rattle.check_rules.specs.FirstInExpressions.{first_in_args, first_in_expression, first_in_links, first_in_steps, first_in_target, first_in_target_steps, first_in_type, first_of_operator, first_of_standing, first_of_step, first_of_taking}
-use Rattle.check_rules.specs.KnownTypes.{known_type, known_types, known_type_after_links, known_type_after_operator, known_type_after_step, known_type_after_steps}
-use Rattle.check_rules.specs.Names.{unbound_name_in_type}
-use Rattle.check_rules.specs.Pointers.{wrong_region_in_type}
-use Rattle.check_rules.specs.Rules.{rule_if}
-use Rattle.check_rules.specs.TypedForms.{calling, computing, element_of, field_of}
-use Rattle.check_rules.specs.Sorts.{is_integer, is_number, is_unknown_type}
-use Rattle.check_rules.specs.Sound.{IsSound}
-use Rattle.check_rules.specs.Spaces.{misfits_in_type}
-use Rattle.check_rules.specs.Standing.{integer_spot, number_spot, pointer_spot, stands}
-use Rattle.check_rules.specs.Types.{has_no_result}
+use Rattle.check_rules.specs.rules.Counts.{miscounts_in_type}
+use Rattle.check_rules.specs.types.Declarations.{is_flawed_type}
+use Rattle.check_rules.specs.first.FirstInExpressions.{first_in_args, first_in_expression, first_in_links, first_in_steps, first_in_target, first_in_target_steps, first_in_type, first_of_operator, first_of_standing, first_of_step, first_of_taking}
+use Rattle.check_rules.specs.types.KnownTypes.{known_type, known_types, known_type_after_links, known_type_after_operator, known_type_after_step, known_type_after_steps}
+use Rattle.check_rules.specs.rules.Names.{unbound_name_in_type}
+use Rattle.check_rules.specs.rules.Pointers.{wrong_region_in_type}
+use Rattle.check_rules.specs.first.Rules.{rule_if}
+use Rattle.check_rules.specs.types.TypedForms.{calling, computing, element_of, field_of}
+use Rattle.check_rules.specs.types.Sorts.{is_integer, is_number, is_unknown_type}
+use Rattle.check_rules.specs.scopes.Sound.{IsSound}
+use Rattle.check_rules.specs.rules.Spaces.{misfits_in_type}
+use Rattle.check_rules.specs.rules.Standing.{integer_spot, number_spot, pointer_spot, stands}
+use Rattle.check_rules.specs.rules.Types.{has_no_result}
 use Rattle.check_rules.specs.declared.rule.Rule.{Rule}
 use Rattle.check_rules.specs.declared.rule.Rule.TheVariants as rule
 use Rattle.check_rules.proofs.Written.{names_known}

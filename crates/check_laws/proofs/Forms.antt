@@ -7,12 +7,12 @@ use Rattle.regent_tree.specs.Typing.{operated, signed_type, type_of, type_of_ele
 use Rattle.regent_tree.specs.declared.expression.Sign.{Sign}
 use Rattle.regent_tree.specs.declared.typing.StaticType.{StaticType}
 use Rattle.regent_tree.specs.declared.typing.StaticType.TheVariants.{Unknown as unknown_type}
-use Rattle.check_rules.specs.FirstInExpressions.{first_in_args, first_in_expression, first_in_links, first_in_steps, first_in_target, first_in_target_steps, first_of_operator, first_of_signs, first_of_step, first_of_taking}
-use Rattle.check_rules.specs.KnownTypes.{computings, known_type, known_type_after_operator, known_type_after_signs, known_type_after_step, known_types, signings, takings, typed_form_of}
-use Rattle.check_rules.specs.Rules.{rule_if}
-use Rattle.check_rules.specs.Sorts.{is_unknown_type}
-use Rattle.check_rules.specs.Sound.{IsSound}
-use Rattle.check_rules.specs.TypedForms.{calling, computing, element_of, field_of, typed_access, typed_call, typed_cast, typed_chain, typed_convert, typed_is_null, typed_prefix, typed_space}
+use Rattle.check_rules.specs.first.FirstInExpressions.{first_in_args, first_in_expression, first_in_links, first_in_steps, first_in_target, first_in_target_steps, first_of_operator, first_of_signs, first_of_step, first_of_taking}
+use Rattle.check_rules.specs.types.KnownTypes.{computings, known_type, known_type_after_operator, known_type_after_signs, known_type_after_step, known_types, signings, takings, typed_form_of}
+use Rattle.check_rules.specs.first.Rules.{rule_if}
+use Rattle.check_rules.specs.types.Sorts.{is_unknown_type}
+use Rattle.check_rules.specs.scopes.Sound.{IsSound}
+use Rattle.check_rules.specs.types.TypedForms.{calling, computing, element_of, field_of, typed_access, typed_call, typed_cast, typed_chain, typed_convert, typed_is_null, typed_prefix, typed_space}
 use Rattle.check_rules.specs.declared.rule.Rule.{Rule}
 use Rattle.check_rules.specs.declared.rule.Rule.TheVariants as rule
 use Rattle.check_rules.proofs.Laws.{types_as_meant}

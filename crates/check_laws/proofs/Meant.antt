@@ -2,10 +2,10 @@
 use Rattle.std.proofs.Common.{None, ◌++◌, ◌∷◌, ◌≡◌, ap, refl, ◌∙◌}
 use Rattle.regent_tree.specs.Scopes.{Scope, past}
 use Rattle.regent_tree.specs.Syntax.{Arms, Block, Form, Otherwise, TaskTree, Tree, a_statement, an_arm, assert_form, assign_form, call_form, do_form, else_block, fill_form, for_in_form, for_to_form, if_form, no_arm, no_else, no_statement, print_form, return_form, then_statement, var_form, while_form}
-use Rattle.check_rules.specs.FirstInStatements.{first_in_arms, first_in_block, first_in_else, first_of_form, first_within, told_on}
-use Rattle.check_rules.specs.Sound.{IsSound}
-use Rattle.check_rules.specs.Variables.{known_scope_after, known_scope_after_arms, known_scope_after_block, scope_in_count, scope_in_loop}
-use Rattle.check_rules.specs.Visits.{Visit, visits_in, visits_in_arms, visits_in_else, visits_within}
+use Rattle.check_rules.specs.first.FirstInStatements.{first_in_arms, first_in_block, first_in_else, first_of_form, first_within, told_on}
+use Rattle.check_rules.specs.scopes.Sound.{IsSound}
+use Rattle.check_rules.specs.scopes.Variables.{known_scope_after, known_scope_after_arms, known_scope_after_block, scope_in_count, scope_in_loop}
+use Rattle.check_rules.specs.scopes.Visits.{Visit, visits_in, visits_in_arms, visits_in_else, visits_within}
 use Rattle.check_laws.specs.MeantVisits.{meant_in, meant_in_arms, meant_in_else, meant_within}
 use Rattle.check_laws.specs.SoundScopes.{IsSoundScope}
 use Rattle.check_laws.proofs.Blocks.{arms_known, block_known, count_scope, form_known, loop_scope, nested}

@@ -12,10 +12,10 @@ use Rattle.regent_tree.specs.declared.types.Param.{Param}
 use Rattle.regent_tree.specs.declared.types.TypeTerm.{TypeTerm}
 use Rattle.regent_tree.specs.declared.types.TypeTerm.TheVariants as typed
 use Rattle.regent_tree.specs.declared.typing.Bound.{Bound}
-use Rattle.check_rules.specs.Lookup.{names_a}
-use Rattle.check_rules.specs.Names.{unbound_name_in_type, misses_space}
-use Rattle.check_rules.specs.Repeats.{Given, given_by, repeats_after, was_given}
-use Rattle.check_rules.specs.Sorts.{is_region, may_be}
+use Rattle.check_rules.specs.types.Lookup.{names_a}
+use Rattle.check_rules.specs.rules.Names.{unbound_name_in_type, misses_space}
+use Rattle.check_rules.specs.rules.Repeats.{Given, given_by, repeats_after, was_given}
+use Rattle.check_rules.specs.types.Sorts.{is_region, may_be}
 use Rattle.check_rules.proofs.Written.{written_known}
 use Rattle.check_laws.specs.SoundScopes.{Falls, IsKnown, IsSoundScope}
 use Rattle.check_laws.proofs.Parts.{contrary, number_known, surely, value_known}

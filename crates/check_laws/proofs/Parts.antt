@@ -18,21 +18,21 @@ use Rattle.regent_tree.specs.declared.types.TypeTerm.{TypeTerm}
 use Rattle.regent_tree.specs.declared.types.TypeTerm.TheVariants as typed
 use Rattle.regent_tree.specs.declared.typing.StaticType.{StaticType}
 use Rattle.regent_tree.specs.declared.typing.StaticType.TheVariants.{Integer as integer_type, Truth as truth_type, Index as index_type, Pointer as pointer_type, Ispace as ispace_type, Region as region_type, Partition as partition_type, Nothing as no_type, Unknown as unknown_type}
-use Rattle.check_rules.specs.Declarations.{is_no_field_type, is_no_result_type, params_of}
-use Rattle.check_rules.specs.FirstInExpressions.{first_of_call, first_of_operator, first_of_signs, first_of_standing, first_of_taking}
-use Rattle.check_rules.specs.KnownTypes.{is_flawed_call, takes_unknown, type_of_call, known_type_after_operator, known_type_after_sign, known_type_after_signs, known_type_after_step}
-use Rattle.check_rules.specs.Counts.{miscounts_call}
-use Rattle.check_rules.specs.Names.{is_unknown_field, is_unknown_task}
-use Rattle.check_rules.specs.Partitions.{mispartitions_call}
-use Rattle.check_rules.specs.Spaces.{misfits_call}
-use Rattle.check_rules.specs.Params.{term_at}
-use Rattle.check_rules.specs.Pointers.{takes_of_wild}
-use Rattle.check_rules.specs.Rules.{first_in}
-use Rattle.check_rules.specs.TypedForms.{Calling, Taking, computing, element_of, field_of}
-use Rattle.check_rules.specs.Sorts.{is_collection, is_number, is_region, is_truth, is_unknown_type, may_be}
-use Rattle.check_rules.specs.Sound.{IsSound}
-use Rattle.check_rules.specs.Standing.{number_spot, spot_of_sign, standing_in_call, standing_in_step, stands, truth_spot}
-use Rattle.check_rules.specs.Types.{has_no_result, is_ill_typed_operation, is_ill_typed_step}
+use Rattle.check_rules.specs.types.Declarations.{is_no_field_type, is_no_result_type, params_of}
+use Rattle.check_rules.specs.first.FirstInExpressions.{first_of_call, first_of_operator, first_of_signs, first_of_standing, first_of_taking}
+use Rattle.check_rules.specs.types.KnownTypes.{is_flawed_call, takes_unknown, type_of_call, known_type_after_operator, known_type_after_sign, known_type_after_signs, known_type_after_step}
+use Rattle.check_rules.specs.rules.Counts.{miscounts_call}
+use Rattle.check_rules.specs.rules.Names.{is_unknown_field, is_unknown_task}
+use Rattle.check_rules.specs.rules.Partitions.{mispartitions_call}
+use Rattle.check_rules.specs.rules.Spaces.{misfits_call}
+use Rattle.check_rules.specs.types.Params.{term_at}
+use Rattle.check_rules.specs.rules.Pointers.{takes_of_wild}
+use Rattle.check_rules.specs.first.Rules.{first_in}
+use Rattle.check_rules.specs.types.TypedForms.{Calling, Taking, computing, element_of, field_of}
+use Rattle.check_rules.specs.types.Sorts.{is_collection, is_number, is_region, is_truth, is_unknown_type, may_be}
+use Rattle.check_rules.specs.scopes.Sound.{IsSound}
+use Rattle.check_rules.specs.rules.Standing.{number_spot, spot_of_sign, standing_in_call, standing_in_step, stands, truth_spot}
+use Rattle.check_rules.specs.rules.Types.{has_no_result, is_ill_typed_operation, is_ill_typed_step}
 use Rattle.check_rules.specs.declared.rule.Rule.TheVariants as rule
 use Rattle.check_laws.specs.SoundScopes.{IsKnown}
 use Rattle.plain_values.proofs.Plain.{option_or_parts}

@@ -4,12 +4,12 @@ use Rattle.regent_tree.specs.Lookup.{is_bound, type_named}
 use Rattle.regent_tree.specs.declared.facts.Known.{Known}
 use Rattle.regent_tree.specs.declared.typing.StaticType.{StaticType}
 use Rattle.regent_tree.specs.declared.typing.StaticType.TheVariants.{Integer as integer_type, Truth as truth_type, Index as index_type, Pointer as pointer_type, Ispace as ispace_type, Region as region_type, Partition as partition_type, Nothing as no_type, Unknown as unknown_type}
-use Rattle.check_rules.specs.Sorts.{is_region}
+use Rattle.check_rules.specs.types.Sorts.{is_region}
 use Rattle.regent_tree.specs.Scopes.{Scope, bound_as, bound_to, past, with_name}
 use Rattle.check_laws.specs.SoundScopes.{Falls, IsKnown, IsPlaced, IsSoundScope}
 use Rattle.regent_tree.specs.Syntax.{Arms, Block, Form, Name, Otherwise, Tree, a_statement, an_arm, do_form, else_block, for_in_form, for_to_form, if_form, no_arm, no_else, no_statement, then_statement, var_form, while_form}
 use Rattle.regent_tree.specs.declared.typing.Bound.{Bound}
-use Rattle.check_rules.specs.Variables.{known_scope_after, known_scope_after_arms, known_scope_after_block, known_scope_after_else, scope_in_count, scope_in_loop}
+use Rattle.check_rules.specs.scopes.Variables.{known_scope_after, known_scope_after_arms, known_scope_after_block, known_scope_after_else, scope_in_count, scope_in_loop}
 
 differ : (a b : ℕ) → b < a → (a == b) ≡ false
 differ a b lt = search (arith)

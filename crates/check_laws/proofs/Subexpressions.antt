@@ -5,10 +5,10 @@ use Rattle.regent_tree.specs.Syntax.{Expression, Expressions, Links, Steps, Task
 use Rattle.regent_tree.specs.Typing.{type_of_element, type_of_field}
 use Rattle.regent_tree.specs.declared.typing.StaticType.{StaticType}
 use Rattle.regent_tree.proofs.Members.{Has, Has-append_cases}
-use Rattle.check_rules.specs.FirstInExpressions.{first_in_args, first_in_expression, first_in_links, first_in_steps, first_in_target_steps, first_of_operator, first_of_step}
-use Rattle.check_rules.specs.KnownTypes.{known_type, known_type_after_operator, known_type_after_step}
-use Rattle.check_rules.specs.Parts.{subexpressions, parts_of_args, parts_of_links, parts_of_steps}
-use Rattle.check_rules.specs.TypedForms.{computing, element_of, field_of}
+use Rattle.check_rules.specs.first.FirstInExpressions.{first_in_args, first_in_expression, first_in_links, first_in_steps, first_in_target_steps, first_of_operator, first_of_step}
+use Rattle.check_rules.specs.types.KnownTypes.{known_type, known_type_after_operator, known_type_after_step}
+use Rattle.check_rules.specs.types.Parts.{subexpressions, parts_of_args, parts_of_links, parts_of_steps}
+use Rattle.check_rules.specs.types.TypedForms.{computing, element_of, field_of}
 use Rattle.plain_values.proofs.Plain.{option_or_parts}
 
 module _ (tree : Tree) (task : TaskTree) (s : Scope) where

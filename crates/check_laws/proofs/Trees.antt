@@ -9,19 +9,19 @@ use Rattle.regent_tree.specs.Syntax.{Arms, Block, Expression, Form, ItemForm, It
 use Rattle.regent_tree.specs.Typing.{scope_after_block}
 use Rattle.regent_tree.specs.declared.types.Param.{Param}
 use Rattle.regent_tree.proofs.Members.{Contains-from_Has, Has, Has-append_cases, Has-from_Contains, Has-map, Has-map_cases}
-use Rattle.check_rules.specs.Bodies.{body_scope}
+use Rattle.check_rules.specs.scopes.Bodies.{body_scope}
 use Rattle.check_rules.specs.Breaches.{breaches}
-use Rattle.check_rules.specs.Declarations.{is_flawed_type}
-use Rattle.check_rules.specs.FirstInExpressions.{first_in_expression, first_in_target}
-use Rattle.check_rules.specs.FirstInItems.{first_breach, first_declared, first_in_body, first_line, first_of_said, first_of_saying}
-use Rattle.check_rules.specs.FirstInStatements.{first_in_arms, first_in_block, first_in_else, first_in_targets, first_of_form, first_within, told_on}
-use Rattle.check_rules.specs.Names.{unbound_name_in_type}
-use Rattle.check_rules.specs.Repeats.{given_by, repeats}
-use Rattle.check_rules.specs.Parts.{subexpressions}
-use Rattle.check_rules.specs.Rules.{first_in, rule_if}
-use Rattle.check_rules.specs.Sound.{IsSound}
-use Rattle.check_rules.specs.Variables.{known_scope_after, known_scope_after_arms, known_scope_after_block, scope_in_count, scope_in_loop}
-use Rattle.check_rules.specs.Visits.{Visit, declarations_in, heads_of, targets_of, visits, visits_in, visits_in_arms, visits_in_else, visits_of_item, visits_within}
+use Rattle.check_rules.specs.types.Declarations.{is_flawed_type}
+use Rattle.check_rules.specs.first.FirstInExpressions.{first_in_expression, first_in_target}
+use Rattle.check_rules.specs.first.FirstInItems.{first_breach, first_declared, first_in_body, first_line, first_of_said, first_of_saying}
+use Rattle.check_rules.specs.first.FirstInStatements.{first_in_arms, first_in_block, first_in_else, first_in_targets, first_of_form, first_within, told_on}
+use Rattle.check_rules.specs.rules.Names.{unbound_name_in_type}
+use Rattle.check_rules.specs.rules.Repeats.{given_by, repeats}
+use Rattle.check_rules.specs.types.Parts.{subexpressions}
+use Rattle.check_rules.specs.first.Rules.{first_in, rule_if}
+use Rattle.check_rules.specs.scopes.Sound.{IsSound}
+use Rattle.check_rules.specs.scopes.Variables.{known_scope_after, known_scope_after_arms, known_scope_after_block, scope_in_count, scope_in_loop}
+use Rattle.check_rules.specs.scopes.Visits.{Visit, declarations_in, heads_of, targets_of, visits, visits_in, visits_in_arms, visits_in_else, visits_of_item, visits_within}
 use Rattle.check_rules.specs.declared.rule.Rule.{Rule}
 use Rattle.check_rules.specs.declared.rule.Rule.TheVariants as rule
 use Rattle.check_rules.proofs.FirstInItems.{none_without_first}

@@ -16,24 +16,24 @@ use Rattle.regent_tree.specs.declared.typing.Bound.{Bound}
 use Rattle.regent_tree.specs.declared.typing.StaticType.{StaticType}
 use Rattle.regent_tree.specs.declared.typing.StaticType.TheVariants.{Integer as integer_type, Truth as truth_type, Index as index_type, Pointer as pointer_type, Ispace as ispace_type, Region as region_type, Partition as partition_type, Nothing as no_type, Unknown as unknown_type}
 use Rattle.check_rules.specs.Breaches.{has_no_type, wrong_initializer_at}
-use Rattle.check_rules.specs.Counts.{miscounts_in_type}
-use Rattle.check_rules.specs.Declarations.{is_flawed_type}
-use Rattle.check_rules.specs.FirstInExpressions.{first_in_expression, first_in_type, first_of_call, first_of_standing}
-use Rattle.check_rules.specs.FirstInStatements.{first_in_targets, first_of_form, first_of_initializer}
-use Rattle.check_rules.specs.KnownTypes.{known_type}
-use Rattle.check_rules.specs.Lookup.{names_a}
-use Rattle.check_rules.specs.Names.{are_partitions, unbound_name_in_form, unbound_name_in_type, is_unknown_region_field, unbound_name_in_initializer, misses_space}
-use Rattle.check_rules.specs.Partitions.{is_difference, miscolours_initializer, mispartitions_initializer}
-use Rattle.check_rules.specs.Places.{has_wrong_initializer}
-use Rattle.check_rules.specs.Pointers.{wrong_region_in_type}
-use Rattle.check_rules.specs.Rules.{first_in, rule_if}
-use Rattle.check_rules.specs.Sorts.{is_collection, is_partition, is_region, is_unknown_type, may_be}
-use Rattle.check_rules.specs.Sound.{IsSound}
-use Rattle.check_rules.specs.Spaces.{misfits_in_type}
-use Rattle.check_rules.specs.Statements.{standing_in_form}
-use Rattle.check_rules.specs.Types.{is_ill_typed_at_place}
-use Rattle.check_rules.specs.Variables.{begins_unsoundly, bound_type, declared_type, expressions_in_initializer, is_flawed_initializer, known_of_known_initializer, known_initializer, members_of, origins_of, standing_in_initializer, stands_declared, types_in_initializer, variable_type, written_in_initializer}
-use Rattle.check_rules.specs.Visits.{call_of_form, declared_at, heads_of, initializer_at}
+use Rattle.check_rules.specs.rules.Counts.{miscounts_in_type}
+use Rattle.check_rules.specs.types.Declarations.{is_flawed_type}
+use Rattle.check_rules.specs.first.FirstInExpressions.{first_in_expression, first_in_type, first_of_call, first_of_standing}
+use Rattle.check_rules.specs.first.FirstInStatements.{first_in_targets, first_of_form, first_of_initializer}
+use Rattle.check_rules.specs.types.KnownTypes.{known_type}
+use Rattle.check_rules.specs.types.Lookup.{names_a}
+use Rattle.check_rules.specs.rules.Names.{are_partitions, unbound_name_in_form, unbound_name_in_type, is_unknown_region_field, unbound_name_in_initializer, misses_space}
+use Rattle.check_rules.specs.rules.Partitions.{is_difference, miscolours_initializer, mispartitions_initializer}
+use Rattle.check_rules.specs.rules.Places.{has_wrong_initializer}
+use Rattle.check_rules.specs.rules.Pointers.{wrong_region_in_type}
+use Rattle.check_rules.specs.first.Rules.{first_in, rule_if}
+use Rattle.check_rules.specs.types.Sorts.{is_collection, is_partition, is_region, is_unknown_type, may_be}
+use Rattle.check_rules.specs.scopes.Sound.{IsSound}
+use Rattle.check_rules.specs.rules.Spaces.{misfits_in_type}
+use Rattle.check_rules.specs.rules.Statements.{standing_in_form}
+use Rattle.check_rules.specs.rules.Types.{is_ill_typed_at_place}
+use Rattle.check_rules.specs.scopes.Variables.{begins_unsoundly, bound_type, declared_type, expressions_in_initializer, is_flawed_initializer, known_of_known_initializer, known_initializer, members_of, origins_of, standing_in_initializer, stands_declared, types_in_initializer, variable_type, written_in_initializer}
+use Rattle.check_rules.specs.scopes.Visits.{call_of_form, declared_at, heads_of, initializer_at}
 use Rattle.check_rules.specs.declared.rule.Rule.TheVariants as rule
 use Rattle.check_rules.proofs.Laws.{types_as_meant}
 use Rattle.check_rules.proofs.Written.{names_known}

@@ -3,13 +3,13 @@ use Rattle.std.specs.Prelude.{Contains, None, [], ◌≡◌}
 use Rattle.regent_tree.specs.Scopes.{Scope, scope_of}
 use Rattle.regent_tree.specs.Syntax.{Expression, TaskTree, Tree}
 use Rattle.regent_tree.specs.Typing.{scope_after_block, type_of}
-use Rattle.check_rules.specs.Bodies.{body_scope}
+use Rattle.check_rules.specs.scopes.Bodies.{body_scope}
 use Rattle.check_rules.specs.Breaches.{breaches}
-use Rattle.check_rules.specs.FirstInExpressions.{first_in_expression}
-use Rattle.check_rules.specs.KnownTypes.{known_type, typed_form_of}
-use Rattle.check_rules.specs.Sound.{IsSound, StandsIn}
-use Rattle.check_rules.specs.Variables.{known_scope_after_block}
-use Rattle.check_rules.specs.Visits.{Visit, visits}
+use Rattle.check_rules.specs.first.FirstInExpressions.{first_in_expression}
+use Rattle.check_rules.specs.types.KnownTypes.{known_type, typed_form_of}
+use Rattle.check_rules.specs.scopes.Sound.{IsSound, StandsIn}
+use Rattle.check_rules.specs.scopes.Variables.{known_scope_after_block}
+use Rattle.check_rules.specs.scopes.Visits.{Visit, visits}
 use Rattle.check_laws.specs.MeantForms.{meant_form_of}
 use Rattle.check_laws.specs.MeantVisits.{expressions_at, meant_visits}
 use Rattle.check_laws.specs.SoundScopes.{IsKnown, IsSoundScope}

@@ -6,7 +6,7 @@ use Rattle.regent_tree.specs.Syntax.{Expression, Links, Steps, Tree, a_link, acc
 use Rattle.regent_tree.specs.Typing.{operated, signed_type, type_of, type_of_element, type_of_field, types_of}
 use Rattle.regent_tree.specs.declared.expression.Sign.{Sign}
 use Rattle.regent_tree.specs.declared.typing.StaticType.{StaticType}
-use Rattle.check_rules.specs.TypedForms.{Computing, Signing, Taking, TypedForm, calling, computing, element_of, field_of, typed_access, typed_call, typed_cast, typed_chain, typed_constant, typed_convert, typed_is_null, typed_null, typed_prefix, typed_space}
+use Rattle.check_rules.specs.types.TypedForms.{Computing, Signing, Taking, TypedForm, calling, computing, element_of, field_of, typed_access, typed_call, typed_cast, typed_chain, typed_constant, typed_convert, typed_is_null, typed_null, typed_prefix, typed_space}
 
 -- the operators of a chain, with the types on both sides
 abbrev pub meant_computings : Tree → Scope → StaticType → Links → List Computing

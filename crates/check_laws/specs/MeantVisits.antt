@@ -6,8 +6,8 @@ use Rattle.regent_tree.specs.Scopes.{Scope, past, scope_of, with_name}
 use Rattle.regent_tree.specs.Syntax.{Arms, Block, Expression, Form, ItemForm, ItemTree, Otherwise, TaskTree, Tree, a_statement, an_arm, do_form, else_block, for_in_form, for_to_form, if_form, no_arm, no_else, no_statement, task_item, then_statement, while_form}
 use Rattle.regent_tree.specs.Typing.{arithmetic_type, scope_after, scope_after_arms, scope_after_block, taken_from, type_of}
 use Rattle.regent_tree.specs.declared.typing.Bound.{Bound}
-use Rattle.check_rules.specs.Parts.{subexpressions}
-use Rattle.check_rules.specs.Visits.{Visit, heads_of, targets_of}
+use Rattle.check_rules.specs.types.Parts.{subexpressions}
+use Rattle.check_rules.specs.scopes.Visits.{Visit, heads_of, targets_of}
 
 abbrev mutual
   pub meant_in : Tree → TaskTree → Scope → Block → List Visit

@@ -7,7 +7,7 @@ use Rattle.regent_tree.specs.Syntax.{Name}
 use Rattle.regent_tree.specs.declared.typing.Bound.{Bound}
 use Rattle.regent_tree.specs.declared.typing.StaticType.{StaticType}
 use Rattle.regent_tree.specs.declared.typing.StaticType.TheVariants.{Partition as partition_type}
-use Rattle.check_rules.specs.Sorts.{is_region, is_unknown_type}
+use Rattle.check_rules.specs.types.Sorts.{is_region, is_unknown_type}
 
 -- a partition's parent is a region that is bound with its number
 abbrev pub IsPlaced : Scope → StaticType → Type 0

@@ -5,7 +5,7 @@ use Rattle.std.specs.Option.{option_or}
 use Rattle.std.specs.Prelude.{Option, Some, None, ◌==◌}
 use Rattle.std.proofs.lemmas.Bool.{eq-eqb}
 use Rattle.std.proofs.lemmas.List.Folds.{list_any-append}
-use Rattle.check_rules.specs.Rules.{first_in, first_of, number_of, rule_if}
+use Rattle.check_rules.specs.first.Rules.{first_in, first_of, number_of, rule_if}
 use Rattle.check_rules.specs.declared.rule.Rule.{Rule}
 
 -- ---- tests

@@ -19,23 +19,23 @@ use Rattle.regent_tree.specs.declared.types.TypeTerm.{TypeTerm}
 use Rattle.regent_tree.specs.declared.types.TypeTerm.TheVariants as typed
 use Rattle.regent_tree.specs.declared.typing.Bound.{Bound}
 use Rattle.regent_tree.specs.declared.typing.StaticType.{StaticType}
-use Rattle.check_rules.specs.Constraints.{breaks_constraint}
-use Rattle.check_rules.specs.Counts.{miscounts_call, miscounts_in_type}
-use Rattle.check_rules.specs.Declarations.{params_of}
-use Rattle.check_rules.specs.FirstInExpressions.{first_in_args, first_in_expression, first_in_links, first_in_steps, first_in_target, first_in_target_steps, first_in_type, first_of_call, first_of_operator, first_of_signs, first_of_standing, first_of_step, first_of_taking}
-use Rattle.check_rules.specs.KnownTypes.{computings, known_type, known_types, typed_form_of, signings, takings, known_type_after_operator, known_type_after_signs, known_type_after_step}
-use Rattle.check_rules.specs.Names.{has_unbound_name, is_unknown_field, unbound_name_in_type, is_unknown_task}
-use Rattle.check_rules.specs.Partitions.{miscolours_in_type, mispartitions_call}
-use Rattle.check_rules.specs.Parts.{subexpressions, parts_of_args, parts_of_links, parts_of_steps}
-use Rattle.check_rules.specs.Places.{misplaces, misplaces_in}
-use Rattle.check_rules.specs.Pointers.{takes_of_wild_in, wrong_region_in_type, takes_of_wild}
-use Rattle.check_rules.specs.Privileges.{lacks, may_do, read_steps, reads_in, rights_declared, wanted_by_call, wanted_of_step}
-use Rattle.check_rules.specs.Rules.{rule_if}
-use Rattle.check_rules.specs.TypedForms.{Calling, Computing, TypedForm, Signing, Taking, typed_access, call_in, typed_call, calling, typed_cast, typed_chain, computing, typed_constant, typed_convert, element_of, field_of, typed_is_null, typed_null, typed_prefix, typed_space, written_in}
-use Rattle.check_rules.specs.Sorts.{is_collection}
-use Rattle.check_rules.specs.Spaces.{misfits_call, misfits_in_type}
-use Rattle.check_rules.specs.Standing.{Standing, integer_spot, number_spot, pointer_spot, spot_of_sign, standing_in_call, standing_in_chain, standing_in_step, stands}
-use Rattle.check_rules.specs.Types.{has_no_result, is_ill_typed_operation, is_ill_typed_at_place, is_ill_typed_step, mistypes}
+use Rattle.check_rules.specs.rules.Constraints.{breaks_constraint}
+use Rattle.check_rules.specs.rules.Counts.{miscounts_call, miscounts_in_type}
+use Rattle.check_rules.specs.types.Declarations.{params_of}
+use Rattle.check_rules.specs.first.FirstInExpressions.{first_in_args, first_in_expression, first_in_links, first_in_steps, first_in_target, first_in_target_steps, first_in_type, first_of_call, first_of_operator, first_of_signs, first_of_standing, first_of_step, first_of_taking}
+use Rattle.check_rules.specs.types.KnownTypes.{computings, known_type, known_types, typed_form_of, signings, takings, known_type_after_operator, known_type_after_signs, known_type_after_step}
+use Rattle.check_rules.specs.rules.Names.{has_unbound_name, is_unknown_field, unbound_name_in_type, is_unknown_task}
+use Rattle.check_rules.specs.rules.Partitions.{miscolours_in_type, mispartitions_call}
+use Rattle.check_rules.specs.types.Parts.{subexpressions, parts_of_args, parts_of_links, parts_of_steps}
+use Rattle.check_rules.specs.rules.Places.{misplaces, misplaces_in}
+use Rattle.check_rules.specs.rules.Pointers.{takes_of_wild_in, wrong_region_in_type, takes_of_wild}
+use Rattle.check_rules.specs.rules.Privileges.{lacks, may_do, read_steps, reads_in, rights_declared, wanted_by_call, wanted_of_step}
+use Rattle.check_rules.specs.first.Rules.{rule_if}
+use Rattle.check_rules.specs.types.TypedForms.{Calling, Computing, TypedForm, Signing, Taking, typed_access, call_in, typed_call, calling, typed_cast, typed_chain, computing, typed_constant, typed_convert, element_of, field_of, typed_is_null, typed_null, typed_prefix, typed_space, written_in}
+use Rattle.check_rules.specs.types.Sorts.{is_collection}
+use Rattle.check_rules.specs.rules.Spaces.{misfits_call, misfits_in_type}
+use Rattle.check_rules.specs.rules.Standing.{Standing, integer_spot, number_spot, pointer_spot, spot_of_sign, standing_in_call, standing_in_chain, standing_in_step, stands}
+use Rattle.check_rules.specs.rules.Types.{has_no_result, is_ill_typed_operation, is_ill_typed_at_place, is_ill_typed_step, mistypes}
 use Rattle.check_rules.specs.declared.rule.Rule.{Rule}
 use Rattle.check_rules.specs.declared.rule.Rule.TheVariants as rule
 use Rattle.check_rules.proofs.Exchange.{Finding, Tells, any_finding, asked, asked_of_all, by_test, list_any_either, list_any_flat, list_any_mapped, list_any_never, list_any_same, not_all, only, or_crossed, or_nothing, or_regrouped, or_swapped, or_turned, tells_if, or_placed, or_same, tells_or, tells_same, tells_two}

@@ -8,20 +8,20 @@ use Rattle.regent_tree.specs.Syntax.{ItemForm, ItemTree, Tree, space_item, task_
 use Rattle.regent_tree.specs.declared.program.FieldSpace.{FieldSpace}
 use Rattle.regent_tree.specs.declared.types.Param.{Param}
 use Rattle.check_rules.specs.Breaches.{Breach, breaches, breaks, broken, each_once, field_lines, lines_of_items, unbound_name_in_declaration, constraint_lines, count_lines, declared_lines, format_lines, interference_lines, launch_lines, name_lines, partition_lines, place_lines, pointer_lines, privilege_lines, read_lines, reduce_lines, return_lines, space_lines, entry_lines, target_lines, twice_lines, type_lines, write_lines}
-use Rattle.check_rules.specs.Clauses.{misdeclares_item}
-use Rattle.check_rules.specs.Counts.{miscounts_in_type}
-use Rattle.check_rules.specs.Bodies.{body_scope}
-use Rattle.check_rules.specs.Declarations.{is_no_field_type}
-use Rattle.check_rules.specs.FirstInItems.{first_breach, first_declared, first_in_body, first_in_fields, first_of_field}
+use Rattle.check_rules.specs.rules.Clauses.{misdeclares_item}
+use Rattle.check_rules.specs.rules.Counts.{miscounts_in_type}
+use Rattle.check_rules.specs.scopes.Bodies.{body_scope}
+use Rattle.check_rules.specs.types.Declarations.{is_no_field_type}
+use Rattle.check_rules.specs.first.FirstInItems.{first_breach, first_declared, first_in_body, first_in_fields, first_of_field}
 use Rattle.check_rules.specs.Laws.{FirstIsOne, NoneWithoutFirst}
-use Rattle.check_rules.specs.Partitions.{miscolours_in_type}
-use Rattle.check_rules.specs.Pointers.{wrong_region_in_type}
-use Rattle.check_rules.specs.Repeats.{alias_given, repeats, repeats_within, space_given, task_given}
-use Rattle.check_rules.specs.Results.{misdeclares_result}
-use Rattle.check_rules.specs.Rules.{first_in, number_of}
-use Rattle.check_rules.specs.Spaces.{misfits_in_type}
-use Rattle.check_rules.specs.Entries.{wrong_entry_lines}
-use Rattle.check_rules.specs.Visits.{Declaration, Visit, declarations_of_item, lines_of_declarations, lines_where, visits, visits_of_item}
+use Rattle.check_rules.specs.rules.Partitions.{miscolours_in_type}
+use Rattle.check_rules.specs.rules.Pointers.{wrong_region_in_type}
+use Rattle.check_rules.specs.rules.Repeats.{alias_given, repeats, repeats_within, space_given, task_given}
+use Rattle.check_rules.specs.rules.Results.{misdeclares_result}
+use Rattle.check_rules.specs.first.Rules.{first_in, number_of}
+use Rattle.check_rules.specs.rules.Spaces.{misfits_in_type}
+use Rattle.check_rules.specs.rules.Entries.{wrong_entry_lines}
+use Rattle.check_rules.specs.scopes.Visits.{Declaration, Visit, declarations_of_item, lines_of_declarations, lines_where, visits, visits_of_item}
 use Rattle.check_rules.specs.declared.rule.Rule.{Rule}
 use Rattle.check_rules.specs.declared.rule.Rule.TheVariants as rule
 use Rattle.check_rules.proofs.Exchange.{Finding, any_finding, asked, by_test, first_finding, or_nothing}

@@ -13,29 +13,29 @@ use Rattle.regent_tree.specs.declared.rights.Wanted.{Wanted}
 use Rattle.regent_tree.specs.declared.types.TypeTerm.{TypeTerm}
 use Rattle.regent_tree.specs.declared.typing.Bound.{Bound}
 use Rattle.check_rules.specs.Breaches.{has_no_type, wrong_initializer_at, miscounts_at, misfits_at, unbound_name_at, mispartitions_at, misplaces_at, wrong_pointer_at, mistypes_at, reads_at}
-use Rattle.check_rules.specs.Constraints.{breaks_constraint}
-use Rattle.check_rules.specs.Counts.{miscounts_call, miscounts_in_type}
-use Rattle.check_rules.specs.Declarations.{params_of}
-use Rattle.check_rules.specs.FirstInExpressions.{first_in_expression}
-use Rattle.check_rules.specs.FirstInStatements.{first_in_arms, first_in_block, first_in_else, first_in_targets, first_of_form, first_of_initializer, first_within, told_on}
-use Rattle.check_rules.specs.Formats.{misprints_form}
-use Rattle.check_rules.specs.KnownTypes.{known_types}
-use Rattle.check_rules.specs.Launches.{is_demanded}
-use Rattle.check_rules.specs.Names.{has_unbound_name, unbound_name_in_form, unbound_name_in_type, unbound_name_in_initializer, is_unknown_task}
-use Rattle.check_rules.specs.Partitions.{miscolours_in_type, miscolours_initializer, mispartitions_call, mispartitions_initializer}
-use Rattle.check_rules.specs.Parts.{subexpressions}
-use Rattle.check_rules.specs.Places.{misplaces}
-use Rattle.check_rules.specs.Pointers.{takes_of_wild_in, wrong_region_in_type}
-use Rattle.check_rules.specs.Privileges.{lacks, may_do, read_steps, read_targets, reads_in, reads_in_initializer, reductions_by, rights_declared, wanted_by_call, writes_by}
-use Rattle.check_rules.specs.Results.{misreturns}
-use Rattle.check_rules.specs.TypedForms.{Calling, TypedForm, call_in, calling, written_in}
-use Rattle.check_rules.specs.Spaces.{misfits_call, misfits_in_type}
-use Rattle.check_rules.specs.Standing.{Standing, standing_in_call}
-use Rattle.check_rules.specs.Statements.{standing_in_form}
-use Rattle.check_rules.specs.Targets.{mistargets_form}
-use Rattle.check_rules.specs.Types.{is_ill_typed_at_place}
-use Rattle.check_rules.specs.Variables.{known_scope_after, known_scope_after_arms, known_scope_after_block, scope_in_count, scope_in_loop, types_in_initializer, written_in_initializer}
-use Rattle.check_rules.specs.Visits.{Visit, any_written, call_of_form, calls_at, declared_at, heads_of, typed_forms_at, typed_forms_in, initializer_at, targets_of, visits_in, visits_in_arms, visits_in_else, visits_within}
+use Rattle.check_rules.specs.rules.Constraints.{breaks_constraint}
+use Rattle.check_rules.specs.rules.Counts.{miscounts_call, miscounts_in_type}
+use Rattle.check_rules.specs.types.Declarations.{params_of}
+use Rattle.check_rules.specs.first.FirstInExpressions.{first_in_expression}
+use Rattle.check_rules.specs.first.FirstInStatements.{first_in_arms, first_in_block, first_in_else, first_in_targets, first_of_form, first_of_initializer, first_within, told_on}
+use Rattle.check_rules.specs.rules.Formats.{misprints_form}
+use Rattle.check_rules.specs.types.KnownTypes.{known_types}
+use Rattle.check_rules.specs.rules.Launches.{is_demanded}
+use Rattle.check_rules.specs.rules.Names.{has_unbound_name, unbound_name_in_form, unbound_name_in_type, unbound_name_in_initializer, is_unknown_task}
+use Rattle.check_rules.specs.rules.Partitions.{miscolours_in_type, miscolours_initializer, mispartitions_call, mispartitions_initializer}
+use Rattle.check_rules.specs.types.Parts.{subexpressions}
+use Rattle.check_rules.specs.rules.Places.{misplaces}
+use Rattle.check_rules.specs.rules.Pointers.{takes_of_wild_in, wrong_region_in_type}
+use Rattle.check_rules.specs.rules.Privileges.{lacks, may_do, read_steps, read_targets, reads_in, reads_in_initializer, reductions_by, rights_declared, wanted_by_call, writes_by}
+use Rattle.check_rules.specs.rules.Results.{misreturns}
+use Rattle.check_rules.specs.types.TypedForms.{Calling, TypedForm, call_in, calling, written_in}
+use Rattle.check_rules.specs.rules.Spaces.{misfits_call, misfits_in_type}
+use Rattle.check_rules.specs.rules.Standing.{Standing, standing_in_call}
+use Rattle.check_rules.specs.rules.Statements.{standing_in_form}
+use Rattle.check_rules.specs.rules.Targets.{mistargets_form}
+use Rattle.check_rules.specs.rules.Types.{is_ill_typed_at_place}
+use Rattle.check_rules.specs.scopes.Variables.{known_scope_after, known_scope_after_arms, known_scope_after_block, scope_in_count, scope_in_loop, types_in_initializer, written_in_initializer}
+use Rattle.check_rules.specs.scopes.Visits.{Visit, any_written, call_of_form, calls_at, declared_at, heads_of, typed_forms_at, typed_forms_in, initializer_at, targets_of, visits_in, visits_in_arms, visits_in_else, visits_within}
 use Rattle.check_rules.specs.declared.rule.Rule.{Rule}
 use Rattle.check_rules.specs.declared.rule.Rule.TheVariants as rule
 use Rattle.check_rules.proofs.Exchange.{Finding, Tells, any_finding, asked, asked_of_all, by_test, list_any_either, list_any_flat, list_any_never, list_any_same, not_all, only, or_nothing, or_regrouped, or_same, tells_all, tells_same}

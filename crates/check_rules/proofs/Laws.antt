@@ -13,13 +13,13 @@ use Rattle.regent_tree.specs.Scopes.{Scope}
 use Rattle.regent_tree.specs.Lookup.{type_named}
 use Rattle.regent_tree.specs.Typing.{counting_as, linked_type, operated, signed_type, stepped_type, type_of, type_of_element, type_of_field}
 use Rattle.check_rules.specs.Breaches.{Breach, same_breach, with_breach, each_once}
-use Rattle.check_rules.specs.Params.{type_unless}
-use Rattle.check_rules.specs.KnownTypes.{known_type, takes_unknown, known_type_after_links, known_type_after_operator, known_type_after_sign, known_type_after_signs, known_type_after_step, known_type_after_steps}
-use Rattle.check_rules.specs.Names.{is_unknown_field}
-use Rattle.check_rules.specs.Pointers.{takes_of_wild}
-use Rattle.check_rules.specs.TypedForms.{Taking, computing, element_of, field_of}
-use Rattle.check_rules.specs.Sorts.{is_number, is_truth, is_unknown_type}
-use Rattle.check_rules.specs.Types.{is_ill_typed_operation, is_ill_typed_step}
+use Rattle.check_rules.specs.types.Params.{type_unless}
+use Rattle.check_rules.specs.types.KnownTypes.{known_type, takes_unknown, known_type_after_links, known_type_after_operator, known_type_after_sign, known_type_after_signs, known_type_after_step, known_type_after_steps}
+use Rattle.check_rules.specs.rules.Names.{is_unknown_field}
+use Rattle.check_rules.specs.rules.Pointers.{takes_of_wild}
+use Rattle.check_rules.specs.types.TypedForms.{Taking, computing, element_of, field_of}
+use Rattle.check_rules.specs.types.Sorts.{is_number, is_truth, is_unknown_type}
+use Rattle.check_rules.specs.rules.Types.{is_ill_typed_operation, is_ill_typed_step}
 use Rattle.check_rules.specs.Laws.{TypesAsMeant, PairsKept}
 
 -- ---- types

@@ -8,9 +8,9 @@ use Rattle.std.proofs.lemmas.List.{map-append}
 use Rattle.std.proofs.lemmas.List.Elements.{filter-append}
 use Rattle.regent_tree.proofs.Members.{Has, Has-append_left, Has-append_right}
 use Rattle.check_rules.specs.Breaches.{Breach, breaks}
-use Rattle.check_rules.specs.FirstInItems.{first_line}
-use Rattle.check_rules.specs.FirstInStatements.{told_on}
-use Rattle.check_rules.specs.Rules.{first_in, first_of, number_of}
+use Rattle.check_rules.specs.first.FirstInItems.{first_line}
+use Rattle.check_rules.specs.first.FirstInStatements.{told_on}
+use Rattle.check_rules.specs.first.Rules.{first_in, first_of, number_of}
 use Rattle.check_rules.specs.declared.rule.Rule.{Rule}
 use Rattle.check_rules.proofs.Exchange.{Finding, Tells, cond_same}
 

@@ -3,12 +3,12 @@ use Rattle.std.proofs.Common.{◌≡◌, ℕ, Bool, true, false, ◌||◌, List,
 use Rattle.std.specs.List.{list_any}
 use Rattle.regent_tree.specs.declared.facts.Known.{Known}
 use Rattle.plain_values.proofs.Plain.{option_or_parts}
-use Rattle.check_rules.specs.FirstInExpressions.{first_of_standing}
-use Rattle.check_rules.specs.FirstInStatements.{told_on}
-use Rattle.check_rules.specs.Places.{misplaces}
-use Rattle.check_rules.specs.Rules.{first_in, rule_if}
-use Rattle.check_rules.specs.Standing.{Standing}
-use Rattle.check_rules.specs.Types.{is_ill_typed_at_place}
+use Rattle.check_rules.specs.first.FirstInExpressions.{first_of_standing}
+use Rattle.check_rules.specs.first.FirstInStatements.{told_on}
+use Rattle.check_rules.specs.rules.Places.{misplaces}
+use Rattle.check_rules.specs.first.Rules.{first_in, rule_if}
+use Rattle.check_rules.specs.rules.Standing.{Standing}
+use Rattle.check_rules.specs.rules.Types.{is_ill_typed_at_place}
 use Rattle.check_rules.specs.declared.rule.Rule.{Rule}
 use Rattle.check_rules.specs.declared.rule.Rule.TheVariants as rule
 

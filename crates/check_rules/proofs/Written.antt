@@ -10,7 +10,7 @@ use Rattle.regent_tree.specs.PlainProgram.{item_of, item_tree_of, task_of}
 use Rattle.regent_tree.specs.declared.program.Item.{Item}
 use Rattle.regent_tree.specs.declared.program.ItemKind.TheVariants as kind
 use Rattle.regent_tree.specs.declared.program.Task.{Task}
-use Rattle.check_rules.specs.Sound.{IsSound, IsSoundTask, StandsIn}
+use Rattle.check_rules.specs.scopes.Sound.{IsSound, IsSoundTask, StandsIn}
 use Rattle.regent_tree.specs.Lookup.{has_space, is_bound, type_named}
 use Rattle.regent_tree.specs.Scopes.{Scope, bound_params, bound_to, unbound, known_of_clauses, known_of_params, scope_of}
 use Rattle.regent_tree.specs.StaticTypes.{Looking, among_params, field_place, no_task, spaces_of, task_named, type_said}
@@ -23,25 +23,25 @@ use Rattle.regent_tree.specs.declared.types.Ref.TheVariants.{Named, Wild}
 use Rattle.regent_tree.specs.declared.types.TypeTerm.{TypeTerm}
 use Rattle.regent_tree.specs.declared.types.TypeTerm.TheVariants as typed
 use Rattle.regent_tree.specs.declared.typing.Bound.{Bound}
-use Rattle.check_rules.specs.Clauses.{clauses_told, misdeclares, misdeclares_item}
+use Rattle.check_rules.specs.rules.Clauses.{clauses_told, misdeclares, misdeclares_item}
 use Rattle.regent_tree.specs.declared.program.Clause.{Clause}
-use Rattle.check_rules.specs.Counts.{miscounts_in_type}
-use Rattle.check_rules.specs.Bodies.{body_scope, known_once}
-use Rattle.check_rules.specs.Declarations.{is_flawed_field, is_flawed_type, is_no_field_type, is_unknown_ref, names_unknown, params_bound}
-use Rattle.check_rules.specs.Params.{params_beside, says_no_type, term_at, type_unless, types_in_order, with_unknown}
-use Rattle.check_rules.specs.FirstInItems.{first_declared, first_in_fields, first_line, first_of_field, first_of_said, first_of_saying}
-use Rattle.check_rules.specs.FirstInStatements.{told_on}
-use Rattle.check_rules.specs.Lookup.{names_a}
-use Rattle.check_rules.specs.Names.{unbound_name_in_type, unbound_name_in_use, misses_region, misses_space}
-use Rattle.check_rules.specs.Sorts.{is_region, is_unknown_type}
-use Rattle.check_rules.specs.Partitions.{miscolours_in_type}
-use Rattle.check_rules.specs.Pointers.{wrong_region_in_type}
-use Rattle.check_rules.specs.Privileges.{rights_declared, rights_of_clause, rights_told}
-use Rattle.check_rules.specs.Repeats.{Given, given_by, repeats, repeats_after, repeats_within, was_given}
-use Rattle.check_rules.specs.Results.{misdeclares_result}
-use Rattle.check_rules.specs.Rules.{first_in, rule_if}
-use Rattle.check_rules.specs.Spaces.{misfits_in_type}
-use Rattle.check_rules.specs.Visits.{Declaration, declarations_in, declarations_of_item}
+use Rattle.check_rules.specs.rules.Counts.{miscounts_in_type}
+use Rattle.check_rules.specs.scopes.Bodies.{body_scope, known_once}
+use Rattle.check_rules.specs.types.Declarations.{is_flawed_field, is_flawed_type, is_no_field_type, is_unknown_ref, names_unknown, params_bound}
+use Rattle.check_rules.specs.types.Params.{params_beside, says_no_type, term_at, type_unless, types_in_order, with_unknown}
+use Rattle.check_rules.specs.first.FirstInItems.{first_declared, first_in_fields, first_line, first_of_field, first_of_said, first_of_saying}
+use Rattle.check_rules.specs.first.FirstInStatements.{told_on}
+use Rattle.check_rules.specs.types.Lookup.{names_a}
+use Rattle.check_rules.specs.rules.Names.{unbound_name_in_type, unbound_name_in_use, misses_region, misses_space}
+use Rattle.check_rules.specs.types.Sorts.{is_region, is_unknown_type}
+use Rattle.check_rules.specs.rules.Partitions.{miscolours_in_type}
+use Rattle.check_rules.specs.rules.Pointers.{wrong_region_in_type}
+use Rattle.check_rules.specs.rules.Privileges.{rights_declared, rights_of_clause, rights_told}
+use Rattle.check_rules.specs.rules.Repeats.{Given, given_by, repeats, repeats_after, repeats_within, was_given}
+use Rattle.check_rules.specs.rules.Results.{misdeclares_result}
+use Rattle.check_rules.specs.first.Rules.{first_in, rule_if}
+use Rattle.check_rules.specs.rules.Spaces.{misfits_in_type}
+use Rattle.check_rules.specs.scopes.Visits.{Declaration, declarations_in, declarations_of_item}
 use Rattle.check_rules.specs.declared.rule.Rule.{Rule}
 use Rattle.check_rules.specs.declared.rule.Rule.TheVariants as rule
 use Rattle.plain_values.proofs.Plain.{option_or_parts, and_first}

@@ -19,27 +19,27 @@ use Rattle.regent_tree.specs.Scopes.{Scope}
 use Rattle.regent_tree.specs.Syntax.{Form, ItemForm, ItemTree, Tree, space_item, var_form}
 use Rattle.regent_tree.specs.declared.types.Param.{Param}
 use Rattle.regent_tree.specs.declared.rights.Wanted.{Wanted}
-use Rattle.check_rules.specs.Clauses.{misdeclares_item}
-use Rattle.check_rules.specs.Constraints.{breaks_constraint}
-use Rattle.check_rules.specs.Counts.{miscounts_call, miscounts_in_type}
-use Rattle.check_rules.specs.Declarations.{is_no_field_type, params_of}
-use Rattle.check_rules.specs.Formats.{misprints_form}
-use Rattle.check_rules.specs.Launches.{is_demanded}
-use Rattle.check_rules.specs.Names.{has_unbound_name, unbound_name_in_form, unbound_name_in_type, unbound_name_in_initializer}
-use Rattle.check_rules.specs.Partitions.{miscolours_in_type, miscolours_initializer, mispartitions_call, mispartitions_initializer}
-use Rattle.check_rules.specs.Places.{lacks_initializer, has_wrong_initializer, misplaces, misplaces_in}
-use Rattle.check_rules.specs.Pointers.{takes_of_wild_in, wrong_region_in_type}
-use Rattle.check_rules.specs.Privileges.{lacks, read_targets, reads_in, reads_in_initializer, reductions_by, wanted_by_call, writes_by}
-use Rattle.check_rules.specs.Repeats.{alias_given, repeats, repeats_within, space_given, task_given}
-use Rattle.check_rules.specs.Results.{misdeclares_result, misreturns}
-use Rattle.check_rules.specs.TypedForms.{Calling}
-use Rattle.check_rules.specs.Spaces.{misfits_call, misfits_in_type}
-use Rattle.check_rules.specs.Entries.{wrong_entry_lines}
-use Rattle.check_rules.specs.Statements.{standing_in_form}
-use Rattle.check_rules.specs.Targets.{mistargets_form}
-use Rattle.check_rules.specs.Types.{is_ill_typed_at_place, mistypes}
-use Rattle.check_rules.specs.Variables.{known_initializer, types_in_initializer, variable_type}
-use Rattle.check_rules.specs.Visits.{Declaration, Visit, any_written, calls_at, heads_of, lines_declaring, lines_of_declarations, lines_where, typed_forms_at, typed_forms_in, initializer_at}
+use Rattle.check_rules.specs.rules.Clauses.{misdeclares_item}
+use Rattle.check_rules.specs.rules.Constraints.{breaks_constraint}
+use Rattle.check_rules.specs.rules.Counts.{miscounts_call, miscounts_in_type}
+use Rattle.check_rules.specs.types.Declarations.{is_no_field_type, params_of}
+use Rattle.check_rules.specs.rules.Formats.{misprints_form}
+use Rattle.check_rules.specs.rules.Launches.{is_demanded}
+use Rattle.check_rules.specs.rules.Names.{has_unbound_name, unbound_name_in_form, unbound_name_in_type, unbound_name_in_initializer}
+use Rattle.check_rules.specs.rules.Partitions.{miscolours_in_type, miscolours_initializer, mispartitions_call, mispartitions_initializer}
+use Rattle.check_rules.specs.rules.Places.{lacks_initializer, has_wrong_initializer, misplaces, misplaces_in}
+use Rattle.check_rules.specs.rules.Pointers.{takes_of_wild_in, wrong_region_in_type}
+use Rattle.check_rules.specs.rules.Privileges.{lacks, read_targets, reads_in, reads_in_initializer, reductions_by, wanted_by_call, writes_by}
+use Rattle.check_rules.specs.rules.Repeats.{alias_given, repeats, repeats_within, space_given, task_given}
+use Rattle.check_rules.specs.rules.Results.{misdeclares_result, misreturns}
+use Rattle.check_rules.specs.types.TypedForms.{Calling}
+use Rattle.check_rules.specs.rules.Spaces.{misfits_call, misfits_in_type}
+use Rattle.check_rules.specs.rules.Entries.{wrong_entry_lines}
+use Rattle.check_rules.specs.rules.Statements.{standing_in_form}
+use Rattle.check_rules.specs.rules.Targets.{mistargets_form}
+use Rattle.check_rules.specs.rules.Types.{is_ill_typed_at_place, mistypes}
+use Rattle.check_rules.specs.scopes.Variables.{known_initializer, types_in_initializer, variable_type}
+use Rattle.check_rules.specs.scopes.Visits.{Declaration, Visit, any_written, calls_at, heads_of, lines_declaring, lines_of_declarations, lines_where, typed_forms_at, typed_forms_in, initializer_at}
 
 pub record Breach : Type 0 where
   pub rule : ℕ

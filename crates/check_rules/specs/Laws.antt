@@ -5,8 +5,8 @@ use Rattle.regent_tree.specs.declared.typing.StaticType.TheVariants.{Unknown as 
 use Rattle.regent_tree.specs.Scopes.{Scope}
 use Rattle.regent_tree.specs.Typing.{type_of}
 use Rattle.check_rules.specs.Breaches.{Breach, breaches, each_once}
-use Rattle.check_rules.specs.FirstInItems.{first_breach}
-use Rattle.check_rules.specs.KnownTypes.{known_type}
+use Rattle.check_rules.specs.first.FirstInItems.{first_breach}
+use Rattle.check_rules.specs.types.KnownTypes.{known_type}
 
 -- An expression has the type that the meaning of programs gives it, or an unknown one.
 abbrev pub TypesAsMeant : Type 0

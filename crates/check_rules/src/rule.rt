@@ -1,7 +1,7 @@
 //! The rules, by their names.
 
 ghost use Rattle.std.specs.Prelude.{◌≡◌};
-ghost use Rattle.check_rules.specs.Rules.{number_of};
+ghost use Rattle.check_rules.specs.first.Rules.{number_of};
 
 /// A rule of the checker. A breach of it is told by its number.
 #[derive(Clone, Copy, Debug, PartialEq, Eq)]

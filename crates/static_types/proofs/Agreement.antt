@@ -2,7 +2,7 @@
 use Rattle.std.proofs.Common.{◌≡◌, ◌≤◌, ℕ, List, [], ◌∷◌, drop, length, true, refl}
 use Rattle.std.proofs.Math.ListN.{drop_of_length-le}
 use Rattle.regent_tree.specs.StaticTypes.{Reach}
-use Rattle.check_rules.specs.Fitting.{agree_all}
+use Rattle.check_rules.specs.types.Fitting.{agree_all}
 
 agree_all-none : (xs : List Reach) → agree_all xs [] ≡ true
 agree_all-none [] = refl

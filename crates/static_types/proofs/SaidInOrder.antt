@@ -6,7 +6,7 @@ use Rattle.regent_tree.specs.declared.typing.Bound.{Bound}
 use Rattle.regent_tree.specs.Syntax.{Tree}
 use Rattle.regent_tree.specs.Scopes.{bound_params}
 use Rattle.regent_tree.specs.StaticTypes.{among_params, type_said}
-use Rattle.check_rules.specs.Params.{params_beside, says_no_type, term_at, type_unless, types_in_order, with_unknown}
+use Rattle.check_rules.specs.types.Params.{params_beside, says_no_type, term_at, type_unless, types_in_order, with_unknown}
 use Rattle.static_types.specs.Params.{beside_from, said_from}
 
 abbrev bound : Tree → List Param → ℕ → Param → Bound

@@ -1,6 +1,6 @@
 -- The text of a `printf`, a byte after the other.
 use Rattle.std.specs.Prelude.{List, None, Option, Some, ℕ, ◌+◌}
-use Rattle.check_rules.specs.Formats.{after_l, after_percent, after_two_l, numbers_in, one_more}
+use Rattle.check_rules.specs.rules.Formats.{after_l, after_percent, after_two_l, numbers_in, one_more}
 use Rattle.static_types.specs.declared.formats.Reading.{Reading}
 use Rattle.static_types.specs.declared.formats.Reading.TheVariants as reading
 use Rattle.static_types.specs.declared.formats.Spot.{Spot}

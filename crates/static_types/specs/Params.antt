@@ -5,7 +5,7 @@ use Rattle.regent_tree.specs.Syntax.{Tree}
 use Rattle.regent_tree.specs.declared.types.Param.{Param}
 use Rattle.regent_tree.specs.declared.typing.Bound.{Bound}
 use Rattle.regent_tree.specs.declared.typing.StaticType.{StaticType}
-use Rattle.check_rules.specs.Params.{says_no_type, type_unless}
+use Rattle.check_rules.specs.types.Params.{says_no_type, type_unless}
 
 -- those of a list's parameters from a place on
 abbrev pub said_from : Tree → List Param → ℕ → List Param → List StaticType

@@ -1,6 +1,6 @@
 -- What a partition fits.
 use Rattle.std.specs.Prelude.{Bool, ℕ, false}
-use Rattle.check_rules.specs.Fitting.{is_partition_like}
+use Rattle.check_rules.specs.types.Fitting.{is_partition_like}
 use Rattle.regent_tree.specs.declared.typing.StaticType.{StaticType}
 use Rattle.regent_tree.specs.declared.typing.StaticType.TheVariants.{Partition as partition_type}
 

@@ -3,7 +3,7 @@
 ghost use Rattle.std.specs.Prelude.{◌≡◌};
 ghost use Rattle.regent_tree.specs.Lookup.{has_field};
 ghost use Rattle.regent_tree.specs.PlainProgram.{tree_of};
-ghost use Rattle.check_rules.specs.Lookup.{region_has};
+ghost use Rattle.check_rules.specs.types.Lookup.{region_has};
 
 use crate::looking::has_param;
 use program_tables::Tables;

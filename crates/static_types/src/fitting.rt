@@ -6,8 +6,8 @@ ghost use Rattle.std.specs.List.{list_all};
 ghost use Rattle.static_types.specs.Partitions.{partition_fits};
 ghost use Rattle.regent_tree.specs.Facts.{alike};
 ghost use Rattle.regent_tree.specs.Typing.{has_wild};
-ghost use Rattle.check_rules.specs.Fitting.{agree, agree_all, is_region_like, has_position, pointer_fits, fits_known, fits, fits_param};
-ghost use Rattle.check_rules.specs.Sorts.{same_kind};
+ghost use Rattle.check_rules.specs.types.Fitting.{agree, agree_all, is_region_like, has_position, pointer_fits, fits_known, fits, fits_param};
+ghost use Rattle.check_rules.specs.types.Sorts.{same_kind};
 
 use crate::sorts::{is_index, is_integer, is_partition, is_region, is_truth, is_unknown};
 use constraint_check::Facts;

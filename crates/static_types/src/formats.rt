@@ -1,7 +1,7 @@
 //! The text of a `printf`: how many numbers it prints.
 
 ghost use Rattle.std.specs.Prelude.{◌≡◌, ℕ, List, ◌∷◌};
-ghost use Rattle.check_rules.specs.Formats.{is_count, numbers_in};
+ghost use Rattle.check_rules.specs.rules.Formats.{is_count, numbers_in};
 ghost use Rattle.static_types.specs.Formats.{counted_at, counted_by};
 
 /// Where a byte stands: in the text, or behind `%`, `%l` or `%ll`.

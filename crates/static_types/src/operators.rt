@@ -3,11 +3,11 @@
 ghost use Rattle.std.specs.Prelude.{◌≡◌};
 ghost use Rattle.regent_tree.specs.Numbers.{wider};
 ghost use Rattle.regent_tree.specs.Typing.{are_pointers, counting_as, arithmetic_type, operated};
-ghost use Rattle.check_rules.specs.KnownTypes.{known_type_after_operator, known_type_after_sign};
-ghost use Rattle.check_rules.specs.Sorts as sort;
-ghost use Rattle.check_rules.specs.Types.{computes_with, has_order_with, has_equality_with, operates_on, is_ill_typed_operation};
+ghost use Rattle.check_rules.specs.types.KnownTypes.{known_type_after_operator, known_type_after_sign};
+ghost use Rattle.check_rules.specs.types.Sorts as sort;
+ghost use Rattle.check_rules.specs.rules.Types.{computes_with, has_order_with, has_equality_with, operates_on, is_ill_typed_operation};
 ghost use Rattle.static_types.specs.Counting.{kind_counted};
-ghost use Rattle.check_rules.specs.TypedForms.{computing};
+ghost use Rattle.check_rules.specs.types.TypedForms.{computing};
 
 use crate::sorts::{is_number, is_pointer, is_truth, is_unknown};
 use regent_tree::{Comparison, Kind, Operator, Sign, StaticType, Width};

@@ -6,11 +6,11 @@ ghost use Rattle.regent_tree.specs.Scopes.{bound_params};
 ghost use Rattle.regent_tree.specs.declared.facts.Term.{Term};
 ghost use Rattle.regent_tree.specs.declared.typing.StaticType.TheVariants.{Region as region_type};
 ghost use Rattle.regent_tree.specs.Typing.{put, put_in, reach_of};
-ghost use Rattle.check_rules.specs.Fitting.{agree_all};
-ghost use Rattle.check_rules.specs.Partitions.{is_parent, mispartitions, mispartition_in};
-ghost use Rattle.check_rules.specs.Spaces.{differs_from, differs, differ_in, misfit_in};
-ghost use Rattle.check_rules.specs.Params.{types_in_order};
-ghost use Rattle.check_rules.specs.Sorts.{type_at};
+ghost use Rattle.check_rules.specs.types.Fitting.{agree_all};
+ghost use Rattle.check_rules.specs.rules.Partitions.{is_parent, mispartitions, mispartition_in};
+ghost use Rattle.check_rules.specs.rules.Spaces.{differs_from, differs, differ_in, misfit_in};
+ghost use Rattle.check_rules.specs.types.Params.{types_in_order};
+ghost use Rattle.check_rules.specs.types.Sorts.{type_at};
 
 use crate::fitting::{agree, alike};
 use crate::looking::{Among, number_at};

@@ -2,8 +2,8 @@
 
 ghost use Rattle.std.specs.Prelude.{◌≡◌, IfOk};
 ghost use Rattle.regent_tree.specs.Typing.{is_pointer};
-ghost use Rattle.check_rules.specs.Sorts as sort;
-ghost use Rattle.check_rules.specs.Places.{is_value_type};
+ghost use Rattle.check_rules.specs.types.Sorts as sort;
+ghost use Rattle.check_rules.specs.rules.Places.{is_value_type};
 
 use plain_values::Sequence;
 use regent_tree::{Kind, Reach, StaticType};

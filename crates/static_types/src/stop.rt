@@ -34,7 +34,7 @@ impl<T: Drop> From<AllocFailed<T>> for Stop {
 
 impl Stop {
     ghost use Rattle.std.specs.Prelude.{◌≡◌, Bool};
-    ghost use Rattle.check_rules.specs.Rules.{rule_if};
+    ghost use Rattle.check_rules.specs.first.Rules.{rule_if};
     ghost use Rattle.static_types.specs.Telling.{Tells, Anything};
 
     /// Stops where a rule is broken.

@@ -7,7 +7,7 @@ use Rattle.regent_tree.specs.declared.expression.Link.{Link}
 use Rattle.regent_tree.specs.declared.expression.Operator.{Operator}
 use Rattle.regent_tree.specs.declared.expression.Operator.TheVariants.{And, Compare, Compute, Or}
 use Rattle.regent_tree.specs.declared.expression.Step.{At, Field, Step}
-use Rattle.check_rules.specs.Places.{begins_region}
+use Rattle.check_rules.specs.rules.Places.{begins_region}
 use Rattle.type_check.specs.Differences.{is_one_place, is_place, name_alone, name_taken_off}
 
 pub alone_without : (n : Name) (steps : List Step) → length steps ≡ 0 →

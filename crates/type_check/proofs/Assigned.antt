@@ -12,17 +12,17 @@ use Rattle.regent_tree.specs.declared.rights.Access.TheVariants as access
 use Rattle.regent_tree.specs.declared.statement.How.{How}
 use Rattle.regent_tree.specs.declared.statement.How.TheVariants as how
 use Rattle.regent_tree.specs.declared.typing.StaticType.{StaticType}
-use Rattle.check_rules.specs.FirstInExpressions.{first_in_expression, first_in_steps, first_in_target, first_in_target_steps, first_of_standing, first_of_step}
-use Rattle.check_rules.specs.FirstInStatements.{first_of_form}
-use Rattle.check_rules.specs.KnownTypes.{known_type, typed_form_of, takings, known_type_after_steps}
-use Rattle.check_rules.specs.Privileges.{lacks, reductions_by, wanted_of_last, wanted_of_target, writes_by}
-use Rattle.check_rules.specs.Rules.{rule_if}
-use Rattle.check_rules.specs.TypedForms.{Taking, element_of, field_of}
-use Rattle.check_rules.specs.Sorts.{is_space, is_unknown_type}
-use Rattle.check_rules.specs.Standing.{stands}
-use Rattle.check_rules.specs.Statements.{spot_of_target}
-use Rattle.check_rules.specs.Targets.{ends_in_element, is_no_target}
-use Rattle.check_rules.specs.Targets as rules_on
+use Rattle.check_rules.specs.first.FirstInExpressions.{first_in_expression, first_in_steps, first_in_target, first_in_target_steps, first_of_standing, first_of_step}
+use Rattle.check_rules.specs.first.FirstInStatements.{first_of_form}
+use Rattle.check_rules.specs.types.KnownTypes.{known_type, typed_form_of, takings, known_type_after_steps}
+use Rattle.check_rules.specs.rules.Privileges.{lacks, reductions_by, wanted_of_last, wanted_of_target, writes_by}
+use Rattle.check_rules.specs.first.Rules.{rule_if}
+use Rattle.check_rules.specs.types.TypedForms.{Taking, element_of, field_of}
+use Rattle.check_rules.specs.types.Sorts.{is_space, is_unknown_type}
+use Rattle.check_rules.specs.rules.Standing.{stands}
+use Rattle.check_rules.specs.rules.Statements.{spot_of_target}
+use Rattle.check_rules.specs.rules.Targets.{ends_in_element, is_no_target}
+use Rattle.check_rules.specs.rules.Targets as rules_on
 use Rattle.check_rules.specs.declared.rule.Rule.{Rule}
 use Rattle.check_rules.specs.declared.rule.Rule.TheVariants as rule
 use Rattle.static_types.specs.Telling.{IsTold, Tells}

@@ -9,8 +9,8 @@ use Rattle.regent_tree.specs.Syntax.{Arms, Block, Form, Name, Otherwise, Tree, a
 use Rattle.regent_tree.specs.declared.typing.Bound.{Bound}
 use Rattle.regent_tree.specs.declared.typing.StaticType.{StaticType}
 use Rattle.check_rules.specs.Breaches.{Breach}
-use Rattle.check_rules.specs.FirstInStatements.{told_on}
-use Rattle.check_rules.specs.Variables.{known_scope_after, known_scope_after_arms, known_scope_after_block, known_scope_after_else}
+use Rattle.check_rules.specs.first.FirstInStatements.{told_on}
+use Rattle.check_rules.specs.scopes.Variables.{known_scope_after, known_scope_after_arms, known_scope_after_block, known_scope_after_else}
 use Rattle.check_rules.specs.declared.rule.Rule.{Rule}
 use Rattle.check_items.specs.Halting.{IsToldAt, TellsAt, halted}
 use Rattle.check_items.specs.declared.halt.Halt.{Halt}

@@ -5,23 +5,23 @@ use Rattle.regent_tree.specs.Lookup.{type_named}
 use Rattle.regent_tree.specs.declared.typing.StaticType.{StaticType}
 use Rattle.regent_tree.specs.Scopes.{Scope}
 use Rattle.regent_tree.specs.Syntax.{Arms, Block, Expression, Expressions, Name, Otherwise, TaskTree, Tree, an_expr, assert_form, call_form, fill_form, for_in_form, for_to_form, if_form, no_expr, print_form, while_form}
-use Rattle.check_rules.specs.Constraints.{breaks_constraint}
-use Rattle.check_rules.specs.Counts.{miscounts_call}
-use Rattle.check_rules.specs.Declarations.{known_field, params_of}
-use Rattle.check_rules.specs.Partitions.{mispartitions_call}
-use Rattle.check_rules.specs.Privileges.{lacks, wanted_by_call, wanted_of_region}
+use Rattle.check_rules.specs.rules.Constraints.{breaks_constraint}
+use Rattle.check_rules.specs.rules.Counts.{miscounts_call}
+use Rattle.check_rules.specs.types.Declarations.{known_field, params_of}
+use Rattle.check_rules.specs.rules.Partitions.{mispartitions_call}
+use Rattle.check_rules.specs.rules.Privileges.{lacks, wanted_by_call, wanted_of_region}
 use Rattle.regent_tree.specs.declared.rights.Access.TheVariants.{Write}
-use Rattle.check_rules.specs.Spaces.{misfits_call}
-use Rattle.check_rules.specs.FirstInExpressions.{first_in_args, first_in_expression, first_of_call, first_of_standing}
-use Rattle.check_rules.specs.FirstInStatements.{first_of_form}
-use Rattle.check_rules.specs.Formats.{misprints}
-use Rattle.check_rules.specs.KnownTypes.{known_type, known_types}
-use Rattle.check_rules.specs.Names.{is_unknown_task, misses_alias}
-use Rattle.check_rules.specs.Parts.{listed, tests_of}
-use Rattle.check_rules.specs.Rules.{first_in, rule_if}
-use Rattle.check_rules.specs.TypedForms.{calling}
-use Rattle.check_rules.specs.Standing.{domain_spot, integer_spot, standing_in_call, stands, truth_spot, typed_spot, value_spot}
-use Rattle.check_rules.specs.Statements.{all_stand}
+use Rattle.check_rules.specs.rules.Spaces.{misfits_call}
+use Rattle.check_rules.specs.first.FirstInExpressions.{first_in_args, first_in_expression, first_of_call, first_of_standing}
+use Rattle.check_rules.specs.first.FirstInStatements.{first_of_form}
+use Rattle.check_rules.specs.rules.Formats.{misprints}
+use Rattle.check_rules.specs.types.KnownTypes.{known_type, known_types}
+use Rattle.check_rules.specs.rules.Names.{is_unknown_task, misses_alias}
+use Rattle.check_rules.specs.types.Parts.{listed, tests_of}
+use Rattle.check_rules.specs.first.Rules.{first_in, rule_if}
+use Rattle.check_rules.specs.types.TypedForms.{calling}
+use Rattle.check_rules.specs.rules.Standing.{domain_spot, integer_spot, standing_in_call, stands, truth_spot, typed_spot, value_spot}
+use Rattle.check_rules.specs.rules.Statements.{all_stand}
 use Rattle.check_rules.specs.declared.rule.Rule.{Rule}
 use Rattle.check_rules.specs.declared.rule.Rule.TheVariants as rule
 use Rattle.static_types.specs.Telling.{IsTold, Tells}

@@ -4,7 +4,7 @@ use Rattle.regent_tree.specs.Syntax.{Expression, Name, a_link, access_expr, at_s
 use Rattle.regent_tree.specs.declared.expression.Arithmetic.TheVariants.{Add, Divide, Multiply, Remainder, Subtract}
 use Rattle.regent_tree.specs.declared.expression.Operator.TheVariants.{And, Compare, Compute, Or}
 use Rattle.regent_tree.specs.declared.typing.Bound.{Bound}
-use Rattle.check_rules.specs.Partitions.{is_difference, may_be_partitions, operands_of}
+use Rattle.check_rules.specs.rules.Partitions.{is_difference, may_be_partitions, operands_of}
 use Rattle.type_check.specs.Differences.{names_subtracted, subtracted}
 
 abbrev IsOther : Expression → Type 0

@@ -9,8 +9,8 @@ use Rattle.regent_tree.specs.declared.statement.Arm.{Arm, out-Arm}
 use Rattle.regent_tree.specs.declared.statement.Stmt.{Stmt}
 use Rattle.regent_tree.proofs.Rows.{arm_read}
 use Rattle.check_rules.specs.Breaches.{Breach}
-use Rattle.check_rules.specs.FirstInStatements.{first_in_arms, first_in_block, first_of_form, first_within, told_on}
-use Rattle.check_rules.specs.Variables.{known_scope_after, known_scope_after_arms, known_scope_after_block}
+use Rattle.check_rules.specs.first.FirstInStatements.{first_in_arms, first_in_block, first_of_form, first_within, told_on}
+use Rattle.check_rules.specs.scopes.Variables.{known_scope_after, known_scope_after_arms, known_scope_after_block}
 use Rattle.check_items.specs.Halting.{IsToldAt}
 use Rattle.check_items.specs.declared.halt.Halt.{Halt}
 use Rattle.type_check.proofs.Blocks.{told_here}

@@ -14,20 +14,20 @@ use Rattle.regent_tree.specs.declared.types.SpaceUse.{SpaceUse}
 use Rattle.regent_tree.specs.declared.types.TypeTerm.TheVariants as typed
 use Rattle.regent_tree.specs.declared.typing.StaticType.{StaticType}
 use Rattle.regent_tree.specs.declared.typing.StaticType.TheVariants.{Integer as integer_type, Truth as truth_type, Index as index_type, Pointer as pointer_type, Ispace as ispace_type, Region as region_type, Partition as partition_type, Nothing as no_type, Unknown as unknown_type}
-use Rattle.check_rules.specs.Counts.{miscounts_in_type}
-use Rattle.check_rules.specs.Declarations.{is_flawed_type, names_unknown}
-use Rattle.check_rules.specs.Params.{type_unless}
-use Rattle.check_rules.specs.FirstInExpressions.{first_in_expression, first_in_type, first_of_standing}
-use Rattle.check_rules.specs.KnownTypes.{known_type}
-use Rattle.check_rules.specs.Names.{unbound_name_in_type}
-use Rattle.check_rules.specs.Partitions.{is_difference, miscolours_in_type}
-use Rattle.check_rules.specs.Pointers.{wrong_region_in_type}
-use Rattle.check_rules.specs.Rules.{first_of, rule_if}
-use Rattle.check_rules.specs.Sorts.{is_unknown_type}
-use Rattle.check_rules.specs.Spaces.{misfits_in_type}
-use Rattle.check_rules.specs.Standing.{space_spot, stands}
-use Rattle.check_rules.specs.Types.{is_ill_typed_at_place}
-use Rattle.check_rules.specs.Variables.{is_flawed_initializer}
+use Rattle.check_rules.specs.rules.Counts.{miscounts_in_type}
+use Rattle.check_rules.specs.types.Declarations.{is_flawed_type, names_unknown}
+use Rattle.check_rules.specs.types.Params.{type_unless}
+use Rattle.check_rules.specs.first.FirstInExpressions.{first_in_expression, first_in_type, first_of_standing}
+use Rattle.check_rules.specs.types.KnownTypes.{known_type}
+use Rattle.check_rules.specs.rules.Names.{unbound_name_in_type}
+use Rattle.check_rules.specs.rules.Partitions.{is_difference, miscolours_in_type}
+use Rattle.check_rules.specs.rules.Pointers.{wrong_region_in_type}
+use Rattle.check_rules.specs.first.Rules.{first_of, rule_if}
+use Rattle.check_rules.specs.types.Sorts.{is_unknown_type}
+use Rattle.check_rules.specs.rules.Spaces.{misfits_in_type}
+use Rattle.check_rules.specs.rules.Standing.{space_spot, stands}
+use Rattle.check_rules.specs.rules.Types.{is_ill_typed_at_place}
+use Rattle.check_rules.specs.scopes.Variables.{is_flawed_initializer}
 use Rattle.check_rules.specs.declared.rule.Rule.{Rule}
 use Rattle.check_rules.specs.declared.rule.Rule.TheVariants as rule
 use Rattle.check_rules.proofs.Laws.{types_as_meant}

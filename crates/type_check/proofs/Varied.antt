@@ -10,27 +10,27 @@ use Rattle.regent_tree.specs.declared.types.TypeTerm.{TypeTerm}
 use Rattle.regent_tree.specs.Syntax.{Name, Initializer, TaskTree, Tree, var_form}
 use Rattle.regent_tree.specs.declared.typing.StaticType.{StaticType}
 use Rattle.regent_tree.specs.declared.typing.StaticType.TheVariants.{Integer as integer_type, Truth as truth_type, Index as index_type, Pointer as pointer_type, Ispace as ispace_type, Region as region_type, Partition as partition_type, Nothing as no_type, Unknown as unknown_type}
-use Rattle.check_rules.specs.Counts.{miscounts_in_type}
-use Rattle.check_rules.specs.Declarations.{names_unknown}
-use Rattle.check_rules.specs.Params.{type_unless}
-use Rattle.check_rules.specs.FirstInExpressions.{first_in_expression, first_in_type, first_of_standing}
-use Rattle.check_rules.specs.FirstInStatements.{first_of_form, first_of_initializer}
-use Rattle.check_rules.specs.Names.{unbound_name_in_type}
-use Rattle.check_rules.specs.Places.{has_wrong_initializer, misplaces}
-use Rattle.check_rules.specs.Pointers.{wrong_region_in_type}
-use Rattle.check_rules.specs.Rules.{first_in, rule_if}
-use Rattle.check_rules.specs.Spaces.{misfits_in_type}
-use Rattle.check_rules.specs.Standing.{Standing, stands, typed_spot}
-use Rattle.check_rules.specs.Types.{is_ill_typed_at_place}
+use Rattle.check_rules.specs.rules.Counts.{miscounts_in_type}
+use Rattle.check_rules.specs.types.Declarations.{names_unknown}
+use Rattle.check_rules.specs.types.Params.{type_unless}
+use Rattle.check_rules.specs.first.FirstInExpressions.{first_in_expression, first_in_type, first_of_standing}
+use Rattle.check_rules.specs.first.FirstInStatements.{first_of_form, first_of_initializer}
+use Rattle.check_rules.specs.rules.Names.{unbound_name_in_type}
+use Rattle.check_rules.specs.rules.Places.{has_wrong_initializer, misplaces}
+use Rattle.check_rules.specs.rules.Pointers.{wrong_region_in_type}
+use Rattle.check_rules.specs.first.Rules.{first_in, rule_if}
+use Rattle.check_rules.specs.rules.Spaces.{misfits_in_type}
+use Rattle.check_rules.specs.rules.Standing.{Standing, stands, typed_spot}
+use Rattle.check_rules.specs.rules.Types.{is_ill_typed_at_place}
 use Rattle.check_rules.specs.declared.rule.Rule.{Rule}
 use Rattle.check_rules.specs.declared.rule.Rule.TheVariants as rule
 use Rattle.static_types.specs.Telling.{IsTold}
 use Rattle.static_types.specs.declared.stop.Stop.{Stop}
 use Rattle.type_check.specs.Beginning.{first_in_initializer}
 use Rattle.type_check.specs.Variables.{first_of_begun, first_by_both, first_by_type, first_by_initializer, first_of_var}
-use Rattle.check_rules.specs.Partitions.{miscolours_in_type}
-use Rattle.check_rules.specs.Sorts.{is_collection, is_unknown_type}
-use Rattle.check_rules.specs.Variables.{bound_type, declared_type, expressions_in_initializer, known_initializer, standing_in_initializer}
+use Rattle.check_rules.specs.rules.Partitions.{miscolours_in_type}
+use Rattle.check_rules.specs.types.Sorts.{is_collection, is_unknown_type}
+use Rattle.check_rules.specs.scopes.Variables.{bound_type, declared_type, expressions_in_initializer, known_initializer, standing_in_initializer}
 
 -- ---- declared types
 

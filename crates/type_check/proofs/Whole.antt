@@ -6,10 +6,10 @@ use Rattle.regent_tree.specs.PlainProgram.{tree_of}
 use Rattle.regent_tree.specs.Syntax.{ItemTree, Tree}
 use Rattle.regent_tree.specs.declared.program.Program.{Program}
 use Rattle.check_rules.specs.Breaches.{Breach}
-use Rattle.check_rules.specs.Entries.{wrong_entry_lines}
-use Rattle.check_rules.specs.FirstInItems.{first_breach, first_declared, first_in_body, first_line, first_repeated}
-use Rattle.check_rules.specs.Rules.{first_in}
-use Rattle.check_rules.specs.Sound.{IsSound}
+use Rattle.check_rules.specs.rules.Entries.{wrong_entry_lines}
+use Rattle.check_rules.specs.first.FirstInItems.{first_breach, first_declared, first_in_body, first_line, first_repeated}
+use Rattle.check_rules.specs.first.Rules.{first_in}
+use Rattle.check_rules.specs.scopes.Sound.{IsSound}
 use Rattle.check_rules.specs.declared.rule.Rule.TheVariants as rule
 use Rattle.check_rules.proofs.Written.{all_is_sound}
 use Rattle.check_items.specs.Halting.{IsToldAt}

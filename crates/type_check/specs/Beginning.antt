@@ -12,13 +12,13 @@ use Rattle.regent_tree.specs.declared.types.SpaceUse.{SpaceUse}
 use Rattle.regent_tree.specs.declared.types.TypeTerm.TheVariants as typed
 use Rattle.regent_tree.specs.declared.typing.StaticType.{StaticType}
 use Rattle.regent_tree.specs.declared.typing.StaticType.TheVariants.{Region as region_type}
-use Rattle.check_rules.specs.Declarations.{names_unknown}
-use Rattle.check_rules.specs.Params.{type_unless}
-use Rattle.check_rules.specs.FirstInExpressions.{first_in_expression, first_of_standing}
-use Rattle.check_rules.specs.FirstInStatements.{first_of_initializer}
-use Rattle.check_rules.specs.Rules.{first_in}
-use Rattle.check_rules.specs.Sorts.{is_unknown_type}
-use Rattle.check_rules.specs.Variables.{expressions_in_initializer, known_of_known_initializer, known_initializer, standing_in_initializer}
+use Rattle.check_rules.specs.types.Declarations.{names_unknown}
+use Rattle.check_rules.specs.types.Params.{type_unless}
+use Rattle.check_rules.specs.first.FirstInExpressions.{first_in_expression, first_of_standing}
+use Rattle.check_rules.specs.first.FirstInStatements.{first_of_initializer}
+use Rattle.check_rules.specs.first.Rules.{first_in}
+use Rattle.check_rules.specs.types.Sorts.{is_unknown_type}
+use Rattle.check_rules.specs.scopes.Variables.{expressions_in_initializer, known_of_known_initializer, known_initializer, standing_in_initializer}
 use Rattle.check_rules.specs.declared.rule.Rule.{Rule}
 use Rattle.type_check.specs.declared.initializers.Beginning.{Beginning}
 

@@ -7,17 +7,17 @@ use Rattle.regent_tree.specs.Scopes.{Scope}
 use Rattle.regent_tree.specs.Syntax.{Expression, Expressions, Form, Name, TaskTree, Tree, do_form, for_in_form, for_to_form, if_form, while_form}
 use Rattle.regent_tree.specs.declared.rights.Access.TheVariants.{Write}
 use Rattle.regent_tree.specs.declared.typing.Bound.{Bound}
-use Rattle.check_rules.specs.Declarations.{known_field}
-use Rattle.check_rules.specs.FirstInExpressions.{first_in_args, first_in_expression, first_of_call, first_of_standing}
-use Rattle.check_rules.specs.Formats.{misprints}
-use Rattle.check_rules.specs.KnownTypes.{known_type, known_types}
-use Rattle.check_rules.specs.Lookup.{names_a}
-use Rattle.check_rules.specs.Names.{is_unknown_region_field, misses_alias}
-use Rattle.check_rules.specs.Privileges.{lacks, wanted_of_region}
-use Rattle.check_rules.specs.Rules.{first_in, first_of, rule_if}
-use Rattle.check_rules.specs.TypedForms.{calling}
-use Rattle.check_rules.specs.Sorts.{is_region}
-use Rattle.check_rules.specs.Standing.{domain_spot, integer_spot, stands, truth_spot, typed_spot, value_spot}
+use Rattle.check_rules.specs.types.Declarations.{known_field}
+use Rattle.check_rules.specs.first.FirstInExpressions.{first_in_args, first_in_expression, first_of_call, first_of_standing}
+use Rattle.check_rules.specs.rules.Formats.{misprints}
+use Rattle.check_rules.specs.types.KnownTypes.{known_type, known_types}
+use Rattle.check_rules.specs.types.Lookup.{names_a}
+use Rattle.check_rules.specs.rules.Names.{is_unknown_region_field, misses_alias}
+use Rattle.check_rules.specs.rules.Privileges.{lacks, wanted_of_region}
+use Rattle.check_rules.specs.first.Rules.{first_in, first_of, rule_if}
+use Rattle.check_rules.specs.types.TypedForms.{calling}
+use Rattle.check_rules.specs.types.Sorts.{is_region}
+use Rattle.check_rules.specs.rules.Standing.{domain_spot, integer_spot, stands, truth_spot, typed_spot, value_spot}
 use Rattle.check_rules.specs.declared.rule.Rule.{Rule}
 use Rattle.check_rules.specs.declared.rule.Rule.TheVariants as rule
 

@@ -3,9 +3,9 @@
 use Rattle.std.specs.Prelude.{Option, [], ◌∷◌}
 use Rattle.regent_tree.specs.Syntax.{Tree}
 use Rattle.check_rules.specs.Breaches.{Breach}
-use Rattle.check_rules.specs.Entries.{wrong_entry_lines}
-use Rattle.check_rules.specs.FirstInItems.{first_declared, first_line, first_repeated}
-use Rattle.check_rules.specs.Rules.{first_in, first_of}
+use Rattle.check_rules.specs.rules.Entries.{wrong_entry_lines}
+use Rattle.check_rules.specs.first.FirstInItems.{first_declared, first_line, first_repeated}
+use Rattle.check_rules.specs.first.Rules.{first_in, first_of}
 use Rattle.check_rules.specs.declared.rule.Rule.TheVariants as rule
 
 abbrev pub first_in_items : Tree → Option Breach

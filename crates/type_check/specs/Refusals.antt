@@ -3,7 +3,7 @@ use Rattle.std.specs.Prelude.{Contains, Some, ◌≡◌}
 use Rattle.regent_tree.specs.PlainProgram.{tree_of}
 use Rattle.regent_tree.specs.declared.program.Program.{Program}
 use Rattle.check_rules.specs.Breaches.{breaches, breaks}
-use Rattle.check_rules.specs.FirstInItems.{first_breach}
+use Rattle.check_rules.specs.first.FirstInItems.{first_breach}
 use Rattle.type_check.specs.declared.check_fault.CheckFault.{CheckFault}
 use Rattle.type_check.specs.declared.check_fault.CheckFault.TheVariants.{Memory, Refused}
 

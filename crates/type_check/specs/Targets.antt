@@ -12,15 +12,15 @@ use Rattle.regent_tree.specs.declared.statement.How.{How}
 use Rattle.regent_tree.specs.declared.statement.How.TheVariants as how
 use Rattle.regent_tree.specs.declared.typing.Bound.{Bound}
 use Rattle.regent_tree.specs.declared.typing.StaticType.{StaticType}
-use Rattle.check_rules.specs.FirstInExpressions.{first_of_standing, first_of_taking}
-use Rattle.check_rules.specs.KnownTypes.{known_type_after_steps}
-use Rattle.check_rules.specs.Privileges.{lacks, wanted_of_step}
-use Rattle.check_rules.specs.Rules.{first_of, rule_if}
-use Rattle.check_rules.specs.TypedForms.{field_of}
-use Rattle.check_rules.specs.Sorts.{is_space}
-use Rattle.check_rules.specs.Standing.{stands}
-use Rattle.check_rules.specs.Statements.{spot_of_target}
-use Rattle.check_rules.specs.Targets.{is_fixed, is_no_integer}
+use Rattle.check_rules.specs.first.FirstInExpressions.{first_of_standing, first_of_taking}
+use Rattle.check_rules.specs.types.KnownTypes.{known_type_after_steps}
+use Rattle.check_rules.specs.rules.Privileges.{lacks, wanted_of_step}
+use Rattle.check_rules.specs.first.Rules.{first_of, rule_if}
+use Rattle.check_rules.specs.types.TypedForms.{field_of}
+use Rattle.check_rules.specs.types.Sorts.{is_space}
+use Rattle.check_rules.specs.rules.Standing.{stands}
+use Rattle.check_rules.specs.rules.Statements.{spot_of_target}
+use Rattle.check_rules.specs.rules.Targets.{is_fixed, is_no_integer}
 use Rattle.check_rules.specs.declared.rule.Rule.{Rule}
 use Rattle.check_rules.specs.declared.rule.Rule.TheVariants as rule
 use Rattle.check_expressions.specs.Steps.{first_at_step, known_type_after}

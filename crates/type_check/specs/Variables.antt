@@ -5,12 +5,12 @@ use Rattle.regent_tree.specs.Scopes.{Scope}
 use Rattle.regent_tree.specs.Syntax.{Initializer, TaskTree, Tree}
 use Rattle.regent_tree.specs.declared.types.TypeTerm.{TypeTerm}
 use Rattle.regent_tree.specs.declared.typing.StaticType.{StaticType}
-use Rattle.check_rules.specs.FirstInExpressions.{first_in_type, first_of_standing}
-use Rattle.check_rules.specs.Places.{has_wrong_initializer}
-use Rattle.check_rules.specs.Rules.{first_of, rule_if}
-use Rattle.check_rules.specs.Sorts.{is_collection}
-use Rattle.check_rules.specs.Standing.{stands, typed_spot}
-use Rattle.check_rules.specs.Variables.{declared_type, known_initializer}
+use Rattle.check_rules.specs.first.FirstInExpressions.{first_in_type, first_of_standing}
+use Rattle.check_rules.specs.rules.Places.{has_wrong_initializer}
+use Rattle.check_rules.specs.first.Rules.{first_of, rule_if}
+use Rattle.check_rules.specs.types.Sorts.{is_collection}
+use Rattle.check_rules.specs.rules.Standing.{stands, typed_spot}
+use Rattle.check_rules.specs.scopes.Variables.{declared_type, known_initializer}
 use Rattle.check_rules.specs.declared.rule.Rule.{Rule}
 use Rattle.check_rules.specs.declared.rule.Rule.TheVariants as rule
 use Rattle.type_check.specs.Beginning.{first_in_initializer}

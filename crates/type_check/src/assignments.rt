@@ -3,12 +3,12 @@
 ghost use Rattle.std.specs.Prelude.{◌≡◌, ◌++◌, ◌∷◌, [], IfOk, MatchOption};
 ghost use Rattle.regent_tree.specs.Plain.{expression_of, steps_in};
 ghost use Rattle.regent_tree.specs.Syntax.{assign_form};
-ghost use Rattle.check_rules.specs.FirstInExpressions.{first_in_target, first_of_standing};
-ghost use Rattle.check_rules.specs.FirstInStatements.{first_of_form};
-ghost use Rattle.check_rules.specs.Privileges.{lacks};
-ghost use Rattle.check_rules.specs.Standing.{stands};
-ghost use Rattle.check_rules.specs.Statements.{spot_of_target};
-ghost use Rattle.check_rules.specs.Targets.{is_fixed, is_no_integer};
+ghost use Rattle.check_rules.specs.first.FirstInExpressions.{first_in_target, first_of_standing};
+ghost use Rattle.check_rules.specs.first.FirstInStatements.{first_of_form};
+ghost use Rattle.check_rules.specs.rules.Privileges.{lacks};
+ghost use Rattle.check_rules.specs.rules.Standing.{stands};
+ghost use Rattle.check_rules.specs.rules.Statements.{spot_of_target};
+ghost use Rattle.check_rules.specs.rules.Targets.{is_fixed, is_no_integer};
 ghost use Rattle.check_expressions.specs.Seen.{seen};
 ghost use Rattle.check_expressions.specs.Sites.{HoldsDeclared, task_at, tree_at};
 ghost use Rattle.static_types.specs.Telling.{Anything, Tells};

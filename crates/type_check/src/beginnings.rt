@@ -5,9 +5,9 @@ ghost use Rattle.std.specs.Prelude.{◌≡◌, IfNone, IfSome, is_some, None, So
 ghost use Rattle.regent_tree.specs.Lookup.{type_named};
 ghost use Rattle.regent_tree.specs.Plain.{expression_of, links_in, initializer_of, steps_in};
 ghost use Rattle.regent_tree.specs.Syntax.{plain_initializer};
-ghost use Rattle.check_rules.specs.Partitions.{is_difference};
-ghost use Rattle.check_rules.specs.Places.{begins_partition, begins_region};
-ghost use Rattle.check_rules.specs.Sorts.{is_partition, may_be};
+ghost use Rattle.check_rules.specs.rules.Partitions.{is_difference};
+ghost use Rattle.check_rules.specs.rules.Places.{begins_partition, begins_region};
+ghost use Rattle.check_rules.specs.types.Sorts.{is_partition, may_be};
 ghost use Rattle.type_check.specs.Differences.{is_one_place, is_place, name_alone, name_taken_off, names_subtracted, subtracted, two_names};
 
 use program_tables::Names;

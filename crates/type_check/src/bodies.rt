@@ -4,11 +4,11 @@ ghost use Rattle.std.specs.Prelude.{◌≡◌, [], IfOk, OnOk, ◌++◌, length,
 ghost use Rattle.regent_tree.specs.PlainProgram.{item_tree_of, task_of, tree_of};
 ghost use Rattle.regent_tree.specs.Scopes.{bound_params, knowing, known_of_clause, known_of_clauses, known_of_params, param_term};
 ghost use Rattle.regent_tree.specs.Syntax.{ItemTree};
-ghost use Rattle.check_rules.specs.Bodies.{body_scope};
-ghost use Rattle.check_rules.specs.FirstInItems.{first_in_body};
-ghost use Rattle.check_rules.specs.FirstInStatements.{first_in_block};
-ghost use Rattle.check_rules.specs.Rules.{first_in};
-ghost use Rattle.check_rules.specs.Sound.{StandsIn};
+ghost use Rattle.check_rules.specs.scopes.Bodies.{body_scope};
+ghost use Rattle.check_rules.specs.first.FirstInItems.{first_in_body};
+ghost use Rattle.check_rules.specs.first.FirstInStatements.{first_in_block};
+ghost use Rattle.check_rules.specs.first.Rules.{first_in};
+ghost use Rattle.check_rules.specs.scopes.Sound.{StandsIn};
 ghost use Rattle.check_items.specs.Halting.{TellsAt};
 ghost use Rattle.check_expressions.specs.Seen.{seen};
 ghost use Rattle.check_expressions.specs.Sites.{HoldsDeclared};

@@ -4,10 +4,10 @@ ghost use Rattle.std.specs.Prelude.{◌≡◌, ◌||◌, IfOk, not};
 ghost use Rattle.regent_tree.specs.Lookup.{has_field};
 ghost use Rattle.regent_tree.specs.PlainProgram.{tree_of};
 ghost use Rattle.regent_tree.specs.StaticTypes.{field_type, space_at};
-ghost use Rattle.check_rules.specs.Declarations.{is_flawed_field, known_field};
-ghost use Rattle.check_rules.specs.Params.{type_unless};
-ghost use Rattle.check_rules.specs.Lookup.{region_has};
-ghost use Rattle.check_rules.specs.Names.{is_unknown_region_field};
+ghost use Rattle.check_rules.specs.types.Declarations.{is_flawed_field, known_field};
+ghost use Rattle.check_rules.specs.types.Params.{type_unless};
+ghost use Rattle.check_rules.specs.types.Lookup.{region_has};
+ghost use Rattle.check_rules.specs.rules.Names.{is_unknown_region_field};
 ghost use Rattle.check_expressions.specs.Sites.{tree_at};
 
 use check_expressions::{Declared, Site};

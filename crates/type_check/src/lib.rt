@@ -6,7 +6,7 @@ ghost use Rattle.regent_tree.specs.Limits.{WithinLimits};
 ghost use Rattle.regent_tree.specs.PlainProgram.{tree_of};
 ghost use Rattle.check_rules.specs.Acceptance.{input_widths};
 ghost use Rattle.check_rules.specs.Breaches.{breaches};
-ghost use Rattle.check_rules.specs.FirstInItems.{first_breach};
+ghost use Rattle.check_rules.specs.first.FirstInItems.{first_breach};
 ghost use Rattle.check_items.specs.Halting.{TellsAt};
 ghost use Rattle.type_check.specs.Items.{first_in_items};
 ghost use Rattle.type_check.specs.Refusals.{Refuses};

@@ -5,12 +5,12 @@ ghost use Rattle.std.specs.Prelude.{◌≡◌, ◌&&◌, ◌++◌, [], false, No
 ghost use Rattle.regent_tree.specs.Plain.{initializer_of};
 ghost use Rattle.regent_tree.specs.Scopes.{knowing, known_of_type, with_name};
 ghost use Rattle.regent_tree.specs.Syntax.{var_form};
-ghost use Rattle.check_rules.specs.Params.{type_unless};
-ghost use Rattle.check_rules.specs.FirstInExpressions.{first_in_type};
-ghost use Rattle.check_rules.specs.Places.{has_wrong_initializer};
-ghost use Rattle.check_rules.specs.Rules.{rule_if};
-ghost use Rattle.check_rules.specs.Sorts.{is_collection, is_unknown_type};
-ghost use Rattle.check_rules.specs.Variables.{bound_type, declared_type, known_of_known_initializer, known_scope_after};
+ghost use Rattle.check_rules.specs.types.Params.{type_unless};
+ghost use Rattle.check_rules.specs.first.FirstInExpressions.{first_in_type};
+ghost use Rattle.check_rules.specs.rules.Places.{has_wrong_initializer};
+ghost use Rattle.check_rules.specs.first.Rules.{rule_if};
+ghost use Rattle.check_rules.specs.types.Sorts.{is_collection, is_unknown_type};
+ghost use Rattle.check_rules.specs.scopes.Variables.{bound_type, declared_type, known_of_known_initializer, known_scope_after};
 ghost use Rattle.check_rules.specs.declared.rule.Rule.TheVariants as rule;
 ghost use Rattle.check_expressions.specs.Seen.{seen};
 ghost use Rattle.check_expressions.specs.Sites.{HoldsDeclared, task_at, tree_at};

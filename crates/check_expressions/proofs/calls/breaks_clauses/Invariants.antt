@@ -1,6 +1,6 @@
 use Rattle.std.proofs.Common.{◌≡◌, drop}
 use Rattle.std.specs.List.{list_any}
-use Rattle.check_rules.specs.Constraints.{breaks_clause}
+use Rattle.check_rules.specs.rules.Constraints.{breaks_clause}
 use Rattle.check_expressions.proofs.calls.breaks_clauses.Given as goal
 
 abbrev pub invariant-loop-clause : goal.invariant-loop-clause

@@ -1,8 +1,8 @@
 use Rattle.std.proofs.Common.{◌≡◌, sym, ap, Some, ◌∙◌}
 use Rattle.regent_tree.specs.StaticTypes.{task_named}
 use Rattle.regent_tree.specs.Syntax.{TaskTree}
-use Rattle.check_rules.specs.TypedForms.{calling}
-use Rattle.check_rules.specs.FirstInExpressions.{first_of_call}
+use Rattle.check_rules.specs.types.TypedForms.{calling}
+use Rattle.check_rules.specs.first.FirstInExpressions.{first_of_call}
 use Rattle.check_expressions.specs.Seen.{seen}
 use Rattle.check_expressions.specs.Sites.{task_at, tree_at}
 use Rattle.check_expressions.proofs.Called.{told_no_more, valued}

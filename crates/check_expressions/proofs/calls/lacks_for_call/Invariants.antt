@@ -1,6 +1,6 @@
 use Rattle.std.proofs.Common.{◌≡◌, drop}
 use Rattle.std.specs.Prelude.{flat_map}
-use Rattle.check_rules.specs.Privileges.{lacks}
+use Rattle.check_rules.specs.rules.Privileges.{lacks}
 use Rattle.check_expressions.specs.Calls.{wanted_for}
 use Rattle.check_expressions.specs.Seen.{seen}
 use Rattle.check_expressions.specs.Sites.{task_at, tree_at}

@@ -1,7 +1,7 @@
 use Rattle.std.proofs.Common.{◌≡◌, drop}
-use Rattle.check_rules.specs.FirstInExpressions.{first_of_standing}
-use Rattle.check_rules.specs.Rules.{first_in}
-use Rattle.check_rules.specs.Standing.{stand_at}
+use Rattle.check_rules.specs.first.FirstInExpressions.{first_of_standing}
+use Rattle.check_rules.specs.first.Rules.{first_in}
+use Rattle.check_rules.specs.rules.Standing.{stand_at}
 use Rattle.check_expressions.proofs.calls.stand_at.Given as goal
 
 abbrev pub invariant-loop-place : goal.invariant-loop-place

@@ -1,7 +1,7 @@
 use Rattle.std.proofs.Common.{rules}
 use Rattle.regent_tree.proofs.Rows.{links_of_vec, expressions_of_vec, steps_of_vec}
 use Rattle.static_types.specs.Telling.{IsTold}
-use Rattle.check_rules.specs.FirstInExpressions.{first_in_links, first_in_steps}
+use Rattle.check_rules.specs.first.FirstInExpressions.{first_in_links, first_in_steps}
 use Rattle.regent_tree.specs.Plain.{links_in, steps_in}
 use Rattle.check_expressions.specs.Seen.{seen}
 use Rattle.check_expressions.specs.Sites.{task_at, tree_at}

@@ -1,7 +1,7 @@
 use Rattle.std.proofs.Common.{◌≡◌, ◌++◌, drop}
 use Rattle.regent_tree.specs.Plain.{expressions_in, links_in, steps_in}
-use Rattle.check_rules.specs.FirstInExpressions.{first_in_args, first_in_links, first_in_steps}
-use Rattle.check_rules.specs.KnownTypes.{known_types, known_type_after_links, known_type_after_steps}
+use Rattle.check_rules.specs.first.FirstInExpressions.{first_in_args, first_in_links, first_in_steps}
+use Rattle.check_rules.specs.types.KnownTypes.{known_types, known_type_after_links, known_type_after_steps}
 use Rattle.check_expressions.specs.Seen.{seen}
 use Rattle.check_expressions.specs.Sites.{task_at, tree_at}
 use Rattle.check_expressions.proofs.expressions.+expression.Given as goal

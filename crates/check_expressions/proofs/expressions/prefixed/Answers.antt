@@ -1,7 +1,7 @@
 use Rattle.std.proofs.Common.{rules, ◌≡◌, ◌<◌, ◌+◌, ◌-◌, ℕ, None, drop, length, ◌∙◌, arith, refl}
 use Rattle.regent_tree.specs.declared.expression.Sign.TheVariants.{Minus}
-use Rattle.check_rules.specs.FirstInExpressions.{first_of_signs}
-use Rattle.check_rules.specs.KnownTypes.{known_type_after_signs}
+use Rattle.check_rules.specs.first.FirstInExpressions.{first_of_signs}
+use Rattle.check_rules.specs.types.KnownTypes.{known_type_after_signs}
 use Rattle.static_types.specs.Telling.{IsTold}
 use Rattle.check_expressions.proofs.Prefixes.{after_on, none_on, told_on}
 use Rattle.check_expressions.proofs.expressions.prefixed.Goals as goal

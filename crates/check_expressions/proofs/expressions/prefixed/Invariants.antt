@@ -1,6 +1,6 @@
 use Rattle.std.proofs.Common.{◌≡◌, ◌-◌, drop, length, None}
-use Rattle.check_rules.specs.FirstInExpressions.{first_of_signs}
-use Rattle.check_rules.specs.KnownTypes.{known_type_after_signs}
+use Rattle.check_rules.specs.first.FirstInExpressions.{first_of_signs}
+use Rattle.check_rules.specs.types.KnownTypes.{known_type_after_signs}
 use Rattle.check_expressions.proofs.expressions.prefixed.Given as goal
 
 abbrev pub invariant-loop-after : goal.invariant-loop-after

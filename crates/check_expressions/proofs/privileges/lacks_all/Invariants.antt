@@ -1,5 +1,5 @@
 use Rattle.std.proofs.Common.{◌≡◌, drop}
-use Rattle.check_rules.specs.Privileges.{lacks}
+use Rattle.check_rules.specs.rules.Privileges.{lacks}
 use Rattle.check_expressions.specs.Seen.{seen}
 use Rattle.check_expressions.specs.Sites.{task_at, tree_at}
 use Rattle.check_expressions.proofs.privileges.lacks_all.Given as goal

@@ -1,5 +1,5 @@
 use Rattle.std.proofs.Common.{◌≡◌, drop, map}
-use Rattle.check_rules.specs.Privileges.{lacks, regions_named, wanting}
+use Rattle.check_rules.specs.rules.Privileges.{lacks, regions_named, wanting}
 use Rattle.check_expressions.specs.Seen.{seen}
 use Rattle.check_expressions.specs.Sites.{task_at, tree_at}
 use Rattle.check_expressions.proofs.privileges.lacks_field.Given as goal

@@ -2,8 +2,8 @@ use Rattle.std.proofs.Common.{ap, subst, ◌∙◌, sym}
 use Rattle.std.specs.Option.{option_or}
 use Rattle.std.proofs.lemmas.Result.{err_from_is_err_and}
 use Rattle.regent_tree.specs.PlainProgram.{tree_of}
-use Rattle.check_rules.specs.FirstInItems.{first_of_saying}
-use Rattle.check_rules.specs.Rules.{first_in}
+use Rattle.check_rules.specs.first.FirstInItems.{first_of_saying}
+use Rattle.check_rules.specs.first.Rules.{first_in}
 use Rattle.static_types.specs.Telling.{Anything}
 use Rattle.check_items.specs.Declaring.{declared_with}
 use Rattle.check_items.specs.Halting.{TellsAt}

@@ -1,6 +1,6 @@
 use Rattle.std.proofs.Common.{◌≡◌, drop}
-use Rattle.check_rules.specs.FirstInItems.{first_of_field}
-use Rattle.check_rules.specs.Rules.{first_in}
+use Rattle.check_rules.specs.first.FirstInItems.{first_of_field}
+use Rattle.check_rules.specs.first.Rules.{first_in}
 use Rattle.check_items.proofs.declarations.check_fields.Given as goal
 
 abbrev pub invariant-loop-field : goal.invariant-loop-field

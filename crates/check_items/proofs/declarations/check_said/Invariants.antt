@@ -1,7 +1,7 @@
 use Rattle.std.proofs.Common.{◌≡◌, drop}
 use Rattle.regent_tree.specs.PlainProgram.{tree_of}
-use Rattle.check_rules.specs.FirstInItems.{first_of_said}
-use Rattle.check_rules.specs.Rules.{first_in}
+use Rattle.check_rules.specs.first.FirstInItems.{first_of_said}
+use Rattle.check_rules.specs.first.Rules.{first_in}
 use Rattle.check_items.specs.Declaring.{declared_with}
 use Rattle.check_items.proofs.declarations.check_said.Given as goal
 

@@ -2,10 +2,10 @@ use Rattle.std.specs.List.{list_any}
 use Rattle.std.specs.Option.{option_or}
 use Rattle.std.specs.Prelude.{None}
 use Rattle.regent_tree.specs.PlainProgram.{tree_of}
-use Rattle.check_rules.specs.Clauses.{misdeclares}
-use Rattle.check_rules.specs.Declarations.{is_no_result_type}
-use Rattle.check_rules.specs.FirstInStatements.{told_on}
-use Rattle.check_rules.specs.Rules.{rule_if}
+use Rattle.check_rules.specs.rules.Clauses.{misdeclares}
+use Rattle.check_rules.specs.types.Declarations.{is_no_result_type}
+use Rattle.check_rules.specs.first.FirstInStatements.{told_on}
+use Rattle.check_rules.specs.first.Rules.{rule_if}
 use Rattle.check_rules.specs.declared.rule.Rule.TheVariants as rule
 use Rattle.static_types.specs.Telling.{Anything}
 use Rattle.check_items.proofs.Declaring.{told_after}

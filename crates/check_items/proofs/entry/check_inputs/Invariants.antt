@@ -1,7 +1,7 @@
 use Rattle.std.proofs.Common.{◌≡◌, drop, map, filter, not}
 use Rattle.regent_tree.specs.declared.types.Param.{Param}
-use Rattle.check_rules.specs.FirstInItems.{first_line}
-use Rattle.check_rules.specs.Entries.{is_integer_term}
+use Rattle.check_rules.specs.first.FirstInItems.{first_line}
+use Rattle.check_rules.specs.rules.Entries.{is_integer_term}
 use Rattle.check_rules.specs.declared.rule.Rule.TheVariants as rule
 use Rattle.check_items.proofs.entry.check_inputs.Given as goal
 

@@ -3,7 +3,7 @@ use Rattle.regent_tree.specs.Lookup.{has_task}
 use Rattle.regent_tree.specs.PlainProgram.{tree_of}
 use Rattle.regent_tree.specs.StaticTypes.{task_named}
 use Rattle.check_rules.specs.Breaches.{breaks}
-use Rattle.check_rules.specs.Rules.{number_of}
+use Rattle.check_rules.specs.first.Rules.{number_of}
 use Rattle.check_rules.specs.declared.rule.Rule.TheVariants as rule
 use Rattle.check_items.proofs.Entries.{none_missing, one_missing}
 use Rattle.check_items.proofs.entry.entry_task.Goals as goal

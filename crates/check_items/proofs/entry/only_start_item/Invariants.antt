@@ -2,7 +2,7 @@ use Rattle.std.proofs.Common.{◌++◌, ◌≡◌, drop, flat_map, map}
 use Rattle.std.specs.Option.{option_map}
 use Rattle.std.specs.Prelude.{option_to_list}
 use Rattle.regent_tree.specs.PlainProgram.{item_tree_of}
-use Rattle.check_rules.specs.Entries.{entry_given}
+use Rattle.check_rules.specs.rules.Entries.{entry_given}
 use Rattle.check_items.specs.Entries.{given_by_begin}
 use Rattle.check_items.proofs.entry.only_start_item.Given as goal
 

@@ -1,6 +1,6 @@
 use Rattle.std.proofs.Common.{◌≡◌, drop}
-use Rattle.check_rules.specs.FirstInItems.{first_line}
-use Rattle.check_rules.specs.Repeats.{given_by, repeats}
+use Rattle.check_rules.specs.first.FirstInItems.{first_line}
+use Rattle.check_rules.specs.rules.Repeats.{given_by, repeats}
 use Rattle.check_rules.specs.declared.rule.Rule.TheVariants as rule
 use Rattle.check_items.specs.Given.{first_again}
 use Rattle.check_items.proofs.repeats.check_list.Given as goal

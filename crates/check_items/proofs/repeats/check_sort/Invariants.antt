@@ -1,7 +1,7 @@
 use Rattle.std.proofs.Common.{◌≡◌, drop, flat_map, map}
 use Rattle.regent_tree.specs.PlainProgram.{item_tree_of}
-use Rattle.check_rules.specs.FirstInItems.{first_line}
-use Rattle.check_rules.specs.Repeats.{repeats}
+use Rattle.check_rules.specs.first.FirstInItems.{first_line}
+use Rattle.check_rules.specs.rules.Repeats.{repeats}
 use Rattle.check_rules.specs.declared.rule.Rule.TheVariants as rule
 use Rattle.check_items.specs.Given.{first_again, given_as, given_in}
 use Rattle.check_items.proofs.repeats.check_sort.Given as goal

@@ -1,5 +1,5 @@
 use Rattle.std.proofs.Common.{◌≡◌, drop}
-use Rattle.check_rules.specs.Fitting.{agree_all}
+use Rattle.check_rules.specs.types.Fitting.{agree_all}
 use Rattle.static_types.proofs.fitting.agree_all.Given as goal
 
 abbrev pub invariant-loop-place : goal.invariant-loop-place

@@ -1,5 +1,5 @@
 use Rattle.std.proofs.Common.{◌≡◌, ◌≤◌, drop}
-use Rattle.check_rules.specs.Formats.{numbers_in}
+use Rattle.check_rules.specs.rules.Formats.{numbers_in}
 use Rattle.static_types.specs.Formats.{added, counted_at}
 use Rattle.static_types.proofs.formats.numbers_in.Given as goal
 

@@ -1,6 +1,6 @@
 use Rattle.std.proofs.Common.{◌≡◌, drop, map}
 use Rattle.regent_tree.specs.Typing.{put}
-use Rattle.check_rules.specs.Fitting.{agree_all}
+use Rattle.check_rules.specs.types.Fitting.{agree_all}
 use Rattle.static_types.proofs.params.agree_put.Given as goal
 
 abbrev pub invariant-loop-place : goal.invariant-loop-place

@@ -1,5 +1,5 @@
 use Rattle.std.proofs.Common.{◌≡◌, drop}
-use Rattle.check_rules.specs.Spaces.{misfit_in}
+use Rattle.check_rules.specs.rules.Spaces.{misfit_in}
 use Rattle.static_types.proofs.params.misfit_in.Given as goal
 
 abbrev pub invariant-loop-place : goal.invariant-loop-place

@@ -1,5 +1,5 @@
 use Rattle.std.proofs.Common.{◌≡◌, drop}
-use Rattle.check_rules.specs.Partitions.{mispartition_in}
+use Rattle.check_rules.specs.rules.Partitions.{mispartition_in}
 use Rattle.static_types.proofs.params.mispartition_in.Given as goal
 
 abbrev pub invariant-loop-place : goal.invariant-loop-place

@@ -1,5 +1,5 @@
 use Rattle.std.proofs.Common.{◌≡◌, take, map}
-use Rattle.check_rules.specs.Spaces.{type_of_ref}
+use Rattle.check_rules.specs.rules.Spaces.{type_of_ref}
 use Rattle.static_types.proofs.type_rules.types_of_refs.Given as goal
 
 abbrev pub invariant-loop-region : goal.invariant-loop-region

@@ -1,7 +1,7 @@
 use Rattle.std.proofs.Common.{◌≡◌, ap, map, subst, ◌∙◌}
 use Rattle.regent_tree.specs.PlainProgram.{item_tree_of, task_of}
 use Rattle.regent_tree.specs.declared.program.Program.{Program}
-use Rattle.check_rules.specs.Sound.{StandsIn}
+use Rattle.check_rules.specs.scopes.Sound.{StandsIn}
 use Rattle.check_rules.proofs.Written.{stands_at}
 use Rattle.type_check.proofs.bodies.check_bodies.Goals as goal
 

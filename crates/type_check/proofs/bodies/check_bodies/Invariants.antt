@@ -1,8 +1,8 @@
 use Rattle.std.proofs.Common.{◌≡◌, drop, map}
 use Rattle.regent_tree.specs.PlainProgram.{item_tree_of, tree_of}
 use Rattle.regent_tree.specs.Syntax.{ItemTree}
-use Rattle.check_rules.specs.FirstInItems.{first_in_body}
-use Rattle.check_rules.specs.Rules.{first_in}
+use Rattle.check_rules.specs.first.FirstInItems.{first_in_body}
+use Rattle.check_rules.specs.first.Rules.{first_in}
 use Rattle.type_check.proofs.bodies.check_bodies.Given as goal
 
 abbrev pub invariant-loop-item : goal.invariant-loop-item

@@ -1,7 +1,7 @@
 use Rattle.std.proofs.Common.{◌≡◌, [], drop, map}
-use Rattle.check_rules.specs.FirstInExpressions.{first_of_standing}
-use Rattle.check_rules.specs.Rules.{first_in}
-use Rattle.check_rules.specs.Standing.{stands, value_spot}
+use Rattle.check_rules.specs.first.FirstInExpressions.{first_of_standing}
+use Rattle.check_rules.specs.first.Rules.{first_in}
+use Rattle.check_rules.specs.rules.Standing.{stands, value_spot}
 use Rattle.type_check.proofs.forms.are_values.Given as goal
 
 abbrev pub invariant-loop-t : goal.invariant-loop-t

@@ -1,8 +1,8 @@
 use Rattle.std.proofs.Common.{◌≡◌, drop, map}
-use Rattle.check_rules.specs.Declarations.{known_field}
-use Rattle.check_rules.specs.FirstInExpressions.{first_of_standing}
-use Rattle.check_rules.specs.Rules.{first_in}
-use Rattle.check_rules.specs.Standing.{stands, typed_spot}
+use Rattle.check_rules.specs.types.Declarations.{known_field}
+use Rattle.check_rules.specs.first.FirstInExpressions.{first_of_standing}
+use Rattle.check_rules.specs.first.Rules.{first_in}
+use Rattle.check_rules.specs.rules.Standing.{stands, typed_spot}
 use Rattle.check_expressions.specs.Sites.{tree_at}
 use Rattle.type_check.proofs.forms.fields_take.Given as goal
 

@@ -1,7 +1,7 @@
 use Rattle.std.proofs.Common.{◌≡◌, drop}
 use Rattle.std.specs.Prelude.{flat_map}
 use Rattle.regent_tree.specs.declared.rights.Access.TheVariants.{Write}
-use Rattle.check_rules.specs.Privileges.{lacks, wanted_of_region}
+use Rattle.check_rules.specs.rules.Privileges.{lacks, wanted_of_region}
 use Rattle.check_expressions.specs.Seen.{seen}
 use Rattle.check_expressions.specs.Sites.{task_at, tree_at}
 use Rattle.type_check.proofs.forms.lacks_writes.Given as goal

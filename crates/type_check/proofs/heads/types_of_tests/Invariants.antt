@@ -1,9 +1,9 @@
 use Rattle.std.proofs.Common.{◌≡◌, ◌++◌, drop, map}
 use Rattle.regent_tree.specs.PlainProgram.{arms_in}
-use Rattle.check_rules.specs.FirstInExpressions.{first_in_expression}
-use Rattle.check_rules.specs.KnownTypes.{known_type}
-use Rattle.check_rules.specs.Parts.{tests_of}
-use Rattle.check_rules.specs.Rules.{first_in}
+use Rattle.check_rules.specs.first.FirstInExpressions.{first_in_expression}
+use Rattle.check_rules.specs.types.KnownTypes.{known_type}
+use Rattle.check_rules.specs.types.Parts.{tests_of}
+use Rattle.check_rules.specs.first.Rules.{first_in}
 use Rattle.check_expressions.specs.Seen.{seen}
 use Rattle.check_expressions.specs.Sites.{task_at, tree_at}
 use Rattle.type_check.proofs.heads.types_of_tests.Given as goal

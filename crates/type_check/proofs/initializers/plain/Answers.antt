@@ -1,7 +1,7 @@
 use Rattle.std.proofs.Common.{rules, ◌≡◌, false}
 use Rattle.regent_tree.specs.Plain.{expression_of}
-use Rattle.check_rules.specs.Partitions.{is_difference}
-use Rattle.check_rules.specs.KnownTypes.{known_type}
+use Rattle.check_rules.specs.rules.Partitions.{is_difference}
+use Rattle.check_rules.specs.types.KnownTypes.{known_type}
 use Rattle.type_check.specs.Beginning.{IsBegun, IsOfType}
 use Rattle.regent_tree.specs.Syntax.{plain_initializer}
 use Rattle.check_expressions.specs.Seen.{seen}

@@ -2,7 +2,7 @@ use Rattle.regent_tree.specs.Plain.{expression_of}
 use Rattle.check_expressions.specs.Seen.{seen}
 use Rattle.check_expressions.specs.Sites.{task_at, tree_at}
 use Rattle.type_check.proofs.InitializerForms.{first_of_region, region_begun, tells_as}
-use Rattle.check_rules.specs.KnownTypes.{known_type}
+use Rattle.check_rules.specs.types.KnownTypes.{known_type}
 use Rattle.type_check.specs.Beginning.{IsBegun, IsOver}
 use Rattle.regent_tree.specs.Syntax.{region_initializer}
 use Rattle.type_check.proofs.initializers.region.Goals as goal

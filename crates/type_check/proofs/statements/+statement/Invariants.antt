@@ -1,7 +1,7 @@
 use Rattle.std.proofs.Common.{◌≡◌, drop}
 use Rattle.regent_tree.specs.PlainProgram.{arms_in, block_in}
-use Rattle.check_rules.specs.FirstInStatements.{first_in_arms, first_in_block}
-use Rattle.check_rules.specs.Variables.{known_scope_after_arms, known_scope_after_block}
+use Rattle.check_rules.specs.first.FirstInStatements.{first_in_arms, first_in_block}
+use Rattle.check_rules.specs.scopes.Variables.{known_scope_after_arms, known_scope_after_block}
 use Rattle.check_expressions.specs.Seen.{seen}
 use Rattle.check_expressions.specs.Sites.{task_at, tree_at}
 use Rattle.type_check.proofs.statements.+statement.Given as goal

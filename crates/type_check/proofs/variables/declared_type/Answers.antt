@@ -1,9 +1,9 @@
 use Rattle.std.proofs.Common.{◌≡◌, None, false, sym, true, ◌∙◌}
 use Rattle.regent_tree.specs.Scopes.{in_scope}
 use Rattle.regent_tree.specs.StaticTypes.{type_said}
-use Rattle.check_rules.specs.Declarations.{names_unknown}
-use Rattle.check_rules.specs.FirstInExpressions.{first_in_type}
-use Rattle.check_rules.specs.Params.{type_unless}
+use Rattle.check_rules.specs.types.Declarations.{names_unknown}
+use Rattle.check_rules.specs.first.FirstInExpressions.{first_in_type}
+use Rattle.check_rules.specs.types.Params.{type_unless}
 use Rattle.check_expressions.specs.Seen.{seen}
 use Rattle.check_expressions.specs.Sites.{tree_at}
 use Rattle.type_check.proofs.Varied.{said_soundly}

@@ -1,7 +1,7 @@
 use Rattle.std.proofs.Common.{subst}
 use Rattle.regent_tree.specs.PlainProgram.{tree_of}
 use Rattle.regent_tree.specs.StaticTypes.{task_named}
-use Rattle.check_rules.specs.Sound.{IsSound}
+use Rattle.check_rules.specs.scopes.Sound.{IsSound}
 use Rattle.check_rules.proofs.Written.{rights_soundly, told_soundly}
 use Rattle.check_expressions.proofs.declared.Declared.has_sound_clauses.Goals as goal
 

@@ -1,6 +1,6 @@
 use Rattle.std.proofs.Common.{IfOk, ap, subst, ◌≡◌}
 use Rattle.regent_tree.specs.PlainProgram.{task_of, tree_of}
-use Rattle.check_rules.specs.Sound.{IsSound}
+use Rattle.check_rules.specs.scopes.Sound.{IsSound}
 use Rattle.check_rules.proofs.Written.{typed_soundly}
 use Rattle.check_expressions.proofs.declared.Declared.param_types.Goals as goal
 

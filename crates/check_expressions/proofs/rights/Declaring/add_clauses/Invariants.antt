@@ -1,7 +1,7 @@
 use Rattle.std.proofs.Common.{◌≡◌, ◌++◌, take}
 use Rattle.std.specs.Prelude.{flat_map}
 use Rattle.regent_tree.specs.PlainProgram.{tree_of}
-use Rattle.check_rules.specs.Privileges.{rights_of_clause}
+use Rattle.check_rules.specs.rules.Privileges.{rights_of_clause}
 use Rattle.check_expressions.proofs.rights.Declaring.add_clauses.Given as goal
 
 abbrev pub invariant-loop-clause : goal.invariant-loop-clause

@@ -1,7 +1,7 @@
 use Rattle.std.proofs.Common.{◌≡◌, ◌++◌, take}
 use Rattle.std.specs.Prelude.{flat_map}
 use Rattle.regent_tree.specs.PlainProgram.{tree_of}
-use Rattle.check_rules.specs.Privileges.{rights_of_place}
+use Rattle.check_rules.specs.rules.Privileges.{rights_of_place}
 use Rattle.check_expressions.proofs.rights.Declaring.add_places.Given as goal
 
 abbrev pub invariant-loop-place : goal.invariant-loop-place

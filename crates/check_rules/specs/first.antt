@@ -1,0 +1,4 @@
+pub mod Rules
+pub mod FirstInExpressions
+pub mod FirstInStatements
+pub mod FirstInItems

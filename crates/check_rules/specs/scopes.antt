@@ -1,0 +1,4 @@
+pub mod Variables
+pub mod Visits
+pub mod Bodies
+pub mod Sound

@@ -1,0 +1,8 @@
+pub mod Sorts
+pub mod Fitting
+pub mod Lookup
+pub mod Parts
+pub mod TypedForms
+pub mod Params
+pub mod Declarations
+pub mod KnownTypes
