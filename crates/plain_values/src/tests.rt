@@ -15,8 +15,7 @@ fn counted(alloc: Global, bound: u32) -> Result<Sequence<u32>, AllocError> {
 
 /// Whether so many further owners of a list read it as it is.
 fn is_read_by(alloc: Global, list: &Sequence<u32>, owners: u32) -> Result<bool, AllocError> {
-    let copy = Sequence::from_slice(alloc, list.as_slice())?;
-    let shared = Shared::new(alloc, copy)?;
+    let shared = Shared::new(alloc, list.copy()?)?;
     for _ in 0..owners {
         if shared.share()?.get() != list {
             return Ok(false);
@@ -29,7 +28,7 @@ fn is_read_by(alloc: Global, list: &Sequence<u32>, owners: u32) -> Result<bool, 
 fn lists_are_copied_and_shared(rt: HostRuntime) -> Result<(), Fail> {
     let alloc = rt.alloc();
     for (bound, owners) in [(0, 1), (1, 0), (3, 2), (100_000, 100)] {
-        let list = counted(alloc, bound)?;
+        let list = Sequence::from_slice(alloc, counted(alloc, bound)?.as_slice())?;
         assert!(rt; is_read_by(alloc, &list, owners)?, "{bound}");
         assert_eq!(rt; (list.len(), list.is_empty()), (bound as usize, bound == 0));
         let again = Sequence::from_vec(list.into_vec());

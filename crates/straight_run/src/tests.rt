@@ -6,6 +6,7 @@ use regent_tree::{
     Program, Sequence, Sign, Stmt, Task, TypeTerm, What, Width,
 };
 use std::alloc::{AllocError, Global};
+use std::process::Abort;
 use std::test::Fail;
 
 fn number(value: i64) -> Expr {
@@ -114,22 +115,6 @@ fn show_x(alloc: Global) -> Result<What, AllocError> {
     printf(alloc, b"%lld".as_slice(), x(alloc)?)
 }
 
-#[test]
-fn statements_run(rt: HostRuntime) -> Result<(), Fail> {
-    let alloc = rt.alloc();
-    let double = pair(alloc, x(alloc)?, Arithmetic::Multiply, number(2))?;
-    let more = pair(alloc, double, Arithmetic::Add, number(1))?;
-    let mut assigned = Vec::new(alloc);
-    assigned.push(var_x(alloc, number(3))?)?;
-    assigned.push(set_x(alloc, more)?)?;
-    assigned.push(show_x(alloc)?)?;
-    assert_eq!(rt;
-        told(alloc, None, assigned, &[])?.as_slice(),
-        b"7".as_slice()
-    );
-    Ok(())
-}
-
 /// What stands behind `var x : int64 = 5` in a row.
 #[derive(Clone, Copy, Debug)]
 enum Form {
@@ -139,6 +124,8 @@ enum Form {
     WithoutType,
     /// `var x`
     WithNeither,
+    /// `x = x * 2 + 1`
+    SetToChain,
     /// `x = x o 7`, with an operator o
     SetBy(Arithmetic),
     /// `x += 7`
@@ -153,9 +140,10 @@ enum Form {
     Returned,
 }
 
-fn var_of(alloc: Global, term: Option<TypeTerm>, init: Option<Init>) -> Result<What, AllocError> {
-    let name = Name::from_slice(alloc, b"x".as_slice())?;
-    Ok(What::Var { name, term, init })
+/// x * 2 + 1
+fn doubled_and_one(alloc: Global) -> Result<Expr, AllocError> {
+    let doubled = pair(alloc, x(alloc)?, Arithmetic::Multiply, number(2))?;
+    pair(alloc, doubled, Arithmetic::Add, number(1))
 }
 
 fn reduced(alloc: Global) -> Result<What, AllocError> {
@@ -183,11 +171,22 @@ fn prefixed(alloc: Global, sign: Sign) -> Result<Expr, AllocError> {
 
 fn statement(alloc: Global, form: Form) -> Result<What, AllocError> {
     match form {
-        Form::WithoutInitializer => {
-            var_of(alloc, Some(TypeTerm::Number(NumberTerm::Int64)), None)
-        }
-        Form::WithoutType => var_of(alloc, None, Some(Init::Plain(number(7)))),
-        Form::WithNeither => var_of(alloc, None, None),
+        Form::WithoutInitializer => Ok(What::Var {
+            name: Name::from_slice(alloc, b"x".as_slice())?,
+            term: Some(TypeTerm::Number(NumberTerm::Int64)),
+            init: None,
+        }),
+        Form::WithoutType => Ok(What::Var {
+            name: Name::from_slice(alloc, b"x".as_slice())?,
+            term: None,
+            init: Some(Init::Plain(number(7))),
+        }),
+        Form::WithNeither => Ok(What::Var {
+            name: Name::from_slice(alloc, b"x".as_slice())?,
+            term: None,
+            init: None,
+        }),
+        Form::SetToChain => set_x(alloc, doubled_and_one(alloc)?),
         Form::SetBy(operator) => set_x(alloc, pair(alloc, x(alloc)?, operator, number(7))?),
         Form::Reduced => reduced(alloc),
         Form::Negated => set_x(alloc, prefixed(alloc, Sign::Not)?),
@@ -217,10 +216,11 @@ fn row(alloc: Global, form: Form) -> Result<Vec<What>, AllocError> {
 #[test]
 fn each_form_is_answered(rt: HostRuntime) -> Result<(), Fail> {
     let alloc = rt.alloc();
-    let rows: [(Form, &[u8]); 13] = [
+    let rows: [(Form, &[u8]); 14] = [
         (Form::WithoutInitializer, b"0"),
         (Form::WithoutType, b"7"),
         (Form::WithNeither, b"-"),
+        (Form::SetToChain, b"11"),
         (Form::SetBy(Arithmetic::Add), b"12"),
         (Form::SetBy(Arithmetic::Subtract), b"-2"),
         (Form::SetBy(Arithmetic::Multiply), b"35"),
