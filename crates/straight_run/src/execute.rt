@@ -53,7 +53,7 @@ fn plain_expression(init: &Init) -> Option<&Expr>
 }
 
 /// The number of an initializer.
-fn entry_name(init: &Init, variables: &[Variable]) -> Option<Number>
+fn initial_number(init: &Init, variables: &[Variable]) -> Option<Number>
     ensures means { IfSome result (λ n. InitializerMeans variables.now (initializer_of init.now) n) }
     ensures sum { is_some result ≡ is_plain_sum (bindings_of variables.now) (initializer_of init.now) }
 {
@@ -82,11 +82,11 @@ fn first_number(
 {
     match (term, init) {
         (None, None) => None,
-        (None, Some(init)) => entry_name(init, variables),
+        (None, Some(init)) => initial_number(init, variables),
         (Some(term), None) => Some(wrapped_at(integer_width(term)?, 0)),
         (Some(term), Some(init)) => {
             let width = integer_width(term)?;
-            Some(wrapped_at(width, entry_name(init, variables)?.value))
+            Some(wrapped_at(width, initial_number(init, variables)?.value))
         }
     }
 }

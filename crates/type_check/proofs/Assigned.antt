@@ -1,5 +1,5 @@
 -- What is told of an assignment, by its target.
-use Rattle.std.proofs.Common.{Bool, List, None, Option, Result, Some, [], ◌&&◌, ◌++◌, ◌∷◌, ◌||◌, ◌≡◌, ap, false, not, refl, subst, sym, true, ◌∙◌}
+use Rattle.std.proofs.Common.{Bool, List, None, Option, Result, [], ◌&&◌, ◌++◌, ◌∷◌, ◌||◌, ◌≡◌, ap, false, not, refl, subst, sym, true, ◌∙◌}
 use Rattle.std.specs.Prelude.{Err, Ok}
 use Rattle.std.specs.Option.{option_or}
 use Rattle.regent_tree.specs.Lookup.{is_bound, type_named}
@@ -34,14 +34,7 @@ use Rattle.type_check.specs.Differences.{is_place}
 use Rattle.type_check.specs.Targets.{EndsIn, IsTarget, LeadsTo, after_front, first_at_last, first_of_target, first_of_use, is_no_place, mistargets, type_of_target, wanted_by}
 use Rattle.type_check.specs.declared.assignments.Target.{Target}
 use Rattle.type_check.specs.declared.assignments.Target.TheVariants as target
-
-or_assoc : {A : Type 0} (a b c : Option A) → option_or a (option_or b c) ≡ option_or (option_or a b) c
-or_assoc None b c = refl
-or_assoc (Some x) b c = refl
-
-or_nothing : {A : Type 0} (a : Option A) → option_or a None ≡ a
-or_nothing None = refl
-or_nothing (Some x) = refl
+use Rattle.plain_values.proofs.Plain.{option_or_assoc_left, option_or_none}
 
 -- ---- the last step of several
 
@@ -62,7 +55,7 @@ module _ (tree : Tree) (task : TaskTree) (s : Scope) where
       first_in_target_steps tree task s t (steps_in (last ∷ [])) ≡ first_at_last tree task s t last
   last_alone t (Field f) = refl
   last_alone t (At e) =
-      ap (option_or (first_in_expression tree task s (expression_of e))) (or_nothing (first_of_step tree task s (element_of t (known_type tree s (expression_of e)))))
+      ap (option_or (first_in_expression tree task s (expression_of e))) (option_or_none (first_of_step tree task s (element_of t (known_type tree s (expression_of e)))))
 
   -- a step before others is one of an access
   abbrev told_at : StaticType → Step → Steps → Option Rule
@@ -72,7 +65,7 @@ module _ (tree : Tree) (task : TaskTree) (s : Scope) where
       first_in_target_steps tree task s t (steps_in (x ∷ y ∷ ys)) ≡ told_at t x (steps_in (y ∷ ys))
   step_then t (Field f) (Field g) ys = refl
   step_then t (Field f) (At e) ys = refl
-  step_then t (At e) y ys = or_assoc (first_in_expression tree task s (expression_of e))
+  step_then t (At e) y ys = option_or_assoc_left (first_in_expression tree task s (expression_of e))
       (first_of_step tree task s (element_of t (known_type tree s (expression_of e))))
       (first_in_target_steps tree task s (known_type_after tree s t (At e)) (steps_in (y ∷ ys)))
 
@@ -80,7 +73,7 @@ module _ (tree : Tree) (task : TaskTree) (s : Scope) where
       first_in_steps tree task s t (steps_in (x ∷ xs))
       ≡ option_or (first_at_step tree task s t x) (first_in_steps tree task s (known_type_after tree s t x) (steps_in xs))
   step_first t (Field f) xs = refl
-  step_first t (At e) xs = or_assoc (first_in_expression tree task s (expression_of e))
+  step_first t (At e) xs = option_or_assoc_left (first_in_expression tree task s (expression_of e))
       (first_of_step tree task s (element_of t (known_type tree s (expression_of e))))
       (first_in_steps tree task s (known_type_after tree s t (At e)) (steps_in xs))
 
@@ -105,7 +98,7 @@ module _ (tree : Tree) (task : TaskTree) (s : Scope) where
       let ends = first_at_last tree task s (known_type_after_steps tree s next (steps_in xs)) last in
       before_last t x xs last
       ∙ ap (option_or (first_at_step tree task s t x)) (steps_with_last next xs last)
-      ∙ or_assoc (first_at_step tree task s t x) (first_in_steps tree task s next (steps_in xs)) ends
+      ∙ option_or_assoc_left (first_at_step tree task s t x) (first_in_steps tree task s next (steps_in xs)) ends
       ∙ ap (λ o. option_or o ends) (sym (step_first t x xs))
       ∙ ap (option_or (first_in_steps tree task s t (steps_in (x ∷ xs)))) (same_last t x xs last)
 
@@ -264,10 +257,10 @@ module _ (tree : Tree) (task : TaskTree) (s : Scope) (n : Name) where
       written h steps e ≡ first_of_use tree task s h t
   used how.Set steps e t led =
       ap (λ ws. option_or (rule_if (lacks tree task s ws) rule.Write) None) (wanted_of_led access.Write steps t led)
-      ∙ or_nothing (rule_if (lacks tree task s (wanted_by tree access.Write t)) rule.Write)
+      ∙ option_or_none (rule_if (lacks tree task s (wanted_by tree access.Write t)) rule.Write)
   used (how.Reduce o) steps e t led =
       ap (λ ws. option_or (rule_if (lacks tree task s ws) rule.Reduce) None) (wanted_of_led (access.Reduce o) steps t led)
-      ∙ or_nothing (rule_if (lacks tree task s (wanted_by tree (access.Reduce o) t)) rule.Reduce)
+      ∙ option_or_none (rule_if (lacks tree task s (wanted_by tree (access.Reduce o) t)) rule.Reduce)
 
   abbrev after : How → List Step → Expression → StaticType → Bool → Option Rule → Option Rule
   after h steps e t flawed last =
@@ -276,7 +269,7 @@ module _ (tree : Tree) (task : TaskTree) (s : Scope) (n : Name) where
 
   inner_nothing : (a b c : Option Rule) → option_or (option_or a None) (option_or b c) ≡ option_or a (option_or b (option_or c None))
   inner_nothing a b c =
-      ap (λ o. option_or o (option_or b c)) (or_nothing a) ∙ ap (λ o. option_or a (option_or b o)) (sym (or_nothing c))
+      ap (λ o. option_or o (option_or b c)) (option_or_none a) ∙ ap (λ o. option_or a (option_or b o)) (sym (option_or_none c))
 
   assign_first : (steps : List Step) (h : How) (e : Expression) (t : Target) → IsTarget tree s n steps t →
       first_of_form tree task s (assign_form n (steps_in steps) h e)
@@ -291,7 +284,7 @@ module _ (tree : Tree) (task : TaskTree) (s : Scope) (n : Name) where
       (λ j. after h steps e (type_of_led steps t led j) (mistargets_led steps h t led j) (used h steps e t led j))
       ∙ inner_nothing (first_of_standing s.known (stands (known_type tree s e) (spot_of_target flawed h (type_of_target t))))
       (rule_if flawed rule.Target) (first_of_use tree task s h t) in
-      ap (λ o. option_or o (option_or target_told (after h steps e whole old (written h steps e)))) (or_nothing (first_in_expression tree task s e))
+      ap (λ o. option_or o (option_or target_told (after h steps e whole old (written h steps e)))) (option_or_none (first_in_expression tree task s e))
       ∙ ap (λ o. option_or (first_in_expression tree task s e) (option_or target_told o)) parts
 
   -- where nothing is told of the right side and of the target's steps

@@ -28,14 +28,7 @@ use Rattle.static_types.specs.Telling.{IsTold, Tells}
 use Rattle.static_types.specs.declared.stop.Stop.{Stop}
 use Rattle.static_types.proofs.Telling.{told_here}
 use Rattle.type_check.specs.Heads.{first_of_bounds, first_of_call_alone, first_of_domain, first_of_fill, first_of_filled, first_of_print, first_of_test, first_of_tests}
-
-or_nothing : {A : Type 0} (a : Option A) → option_or a None ≡ a
-or_nothing None = refl
-or_nothing (Some x) = refl
-
-or_grouped : {A : Type 0} (a b c : Option A) → option_or (option_or a b) c ≡ option_or a (option_or b c)
-or_grouped None b c = refl
-or_grouped (Some x) b c = refl
+use Rattle.plain_values.proofs.Plain.{option_or_assoc, option_or_none}
 
 module _ (tree : Tree) (task : TaskTree) (s : Scope) where
   abbrev told : Expression → Option Rule
@@ -43,7 +36,7 @@ module _ (tree : Tree) (task : TaskTree) (s : Scope) where
 
   -- what is told of two parts, each of which ends a list of its own
   two : (a b : Option Rule) → option_or (option_or a None) (option_or (option_or b None) None) ≡ option_or a (option_or b None)
-  two None b = or_nothing (option_or b None)
+  two None b = option_or_none (option_or b None)
   two (Some x) b = refl
 
   pub test_first : (e : Expression) → first_of_form tree task s (assert_form e) ≡ first_of_test tree task s e
@@ -62,7 +55,7 @@ module _ (tree : Tree) (task : TaskTree) (s : Scope) where
   tests_first arms other = ap (λ o. option_or (first_in (first_in_expression tree task s) (tests_of arms)) (option_or o None)) (same_tests (tests_of arms))
 
   three : (a b c : Option Rule) → option_or (option_or a None) (option_or (option_or b None) (option_or c None)) ≡ option_or a (option_or b (option_or c None))
-  three None b c = or_grouped b None (option_or c None)
+  three None b c = option_or_assoc b None (option_or c None)
   three (Some x) b c = refl
 
   pub domain_first : (demanded : Bool) (n : Name) (e : Expression) (body : Block) →
@@ -137,7 +130,7 @@ module _ (tree : Tree) (task : TaskTree) (s : Scope) where
 
   fill_nothing : (e f st w : Option Rule) →
       option_or (option_or e None) (option_or f (option_or st (option_or w None))) ≡ option_or e (option_or f (option_or st (option_or w None)))
-  fill_nothing e f st w = ap (λ o. option_or o (option_or f (option_or st (option_or w None)))) (or_nothing e)
+  fill_nothing e f st w = ap (λ o. option_or o (option_or f (option_or st (option_or w None)))) (option_or_none e)
 
   pub fill_first : (r : Name) (fields : List Name) (e : Expression) →
       first_of_form tree task s (fill_form r fields e) ≡ first_of_fill tree task s r fields e
@@ -172,4 +165,4 @@ module _ (tree : Tree) (task : TaskTree) (s : Scope) where
       sym fit ∙ (λ j. stand_at fields (region j) (value j)) in
       subst (Tells Found result)
       (λ j. option_or (sym no_value j) (option_or (sym named j) (option_or (fits j) (option_or (writes_at fields (region j)) None))))
-      (subst (Tells Found result) (sym (or_nothing (writes_at fields u))) h)
+      (subst (Tells Found result) (sym (option_or_none (writes_at fields u))) h)

@@ -1,5 +1,5 @@
 -- Statements, and the blocks of an `if`, one after the other.
-use Rattle.std.proofs.Common.{List, None, Option, Some, ◌+◌, ◌<◌, ◌∷◌, ◌≡◌, ap, drop, get_or, length, refl, sym, ◌∙◌, ℕ}
+use Rattle.std.proofs.Common.{List, None, Option, ◌+◌, ◌<◌, ◌∷◌, ◌≡◌, ap, drop, get_or, length, refl, sym, ◌∙◌, ℕ}
 use Rattle.std.specs.Option.{option_or}
 use Rattle.std.proofs.lemmas.List.{drop_more}
 use Rattle.regent_tree.specs.PlainProgram.{arms_in, block_in, form_of}
@@ -14,10 +14,7 @@ use Rattle.check_rules.specs.scopes.Variables.{known_scope_after, known_scope_af
 use Rattle.check_items.specs.Halting.{IsToldAt}
 use Rattle.check_items.specs.declared.halt.Halt.{Halt}
 use Rattle.type_check.proofs.Blocks.{told_here}
-
-or_assoc : {A : Type 0} (a b c : Option A) → option_or a (option_or b c) ≡ option_or (option_or a b) c
-or_assoc None b c = refl
-or_assoc (Some x) b c = refl
+use Rattle.plain_values.proofs.Plain.{option_or_assoc_left}
 
 module _ (tree : Tree) (task : TaskTree) where
   -- ---- statements
@@ -32,7 +29,7 @@ module _ (tree : Tree) (task : TaskTree) where
   parts : (s : Scope) (x : Stmt) (xs : List Stmt) →
       first_in_block tree task s (block_in (x ∷ xs))
       ≡ option_or (told_of s x) (first_in_block tree task (after s x) (block_in xs))
-  parts s x xs = or_assoc (told_on x.line (first_of_form tree task s (form_of x.what)))
+  parts s x xs = option_or_assoc_left (told_on x.line (first_of_form tree task s (form_of x.what)))
       (first_within tree task s (form_of x.what)) (first_in_block tree task (after s x) (block_in xs))
 
   pub block_on : (body : List Stmt) (i : ℕ) (x : Stmt) (s u : Scope) (total : Option Breach) →

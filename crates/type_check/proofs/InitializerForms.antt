@@ -36,6 +36,7 @@ use Rattle.static_types.specs.declared.stop.Stop.{Stop}
 use Rattle.type_check.specs.Beginning.{IsBegun, first_in_initializer}
 use Rattle.type_check.specs.declared.initializers.Beginning.{Beginning}
 use Rattle.type_check.proofs.Differences.{operands_none}
+use Rattle.plain_values.proofs.Plain.{option_or_none, option_or_parts}
 
 -- ---- what is told
 
@@ -44,14 +45,6 @@ pub tells_as : {A : Type 0} (Found Also : A → Type 0) (result : Result A Stop)
     Tells Found result first → Tells Also result all
 tells_as Found Also (Ok x) first all e also told = (e ∙ told.0, also x told.0 told.1)
 tells_as Found Also (Err stop) first all e also told = rw e told
-
-or_none : {A : Type 0} (a : Option A) → option_or a None ≡ a
-or_none None = refl
-or_none (Some x) = refl
-
-or_parts : {A : Type 0} (a b : Option A) → option_or a b ≡ None → (a ≡ None) × (b ≡ None)
-or_parts None b e = (refl, e)
-or_parts (Some x) b e = absurd cc
 
 -- ---- types
 
@@ -123,7 +116,7 @@ first_of_region tree task s e u none = rw none (after (first_in_type tree s.name
   where
     after : (a b : Option Rule) →
         option_or (option_or (option_or a None) None) (option_or b None) ≡ option_or a b
-    after None b = or_none b
+    after None b = option_or_none b
     after (Some r) b = refl
 
 pub region_begun : (tree : Tree) (s : Scope) (e : Expression) (u : SpaceUse) (b : Beginning) →
@@ -136,7 +129,7 @@ pub region_begun : (tree : Tree) (s : Scope) (e : Expression) (u : SpaceUse) (b 
     ≡ cond (is_unknown_type (known_type tree s e) || names_unknown s.names (typed.Region Int1d u)) [] (Made s.next ∷ []) →
     IsBegun tree s (region_initializer e u) b
 region_begun tree s e u b told type known =
-    let parts = or_parts (first_in_type tree s.names (typed.Region Int1d u))
+    let parts = option_or_parts (first_in_type tree s.names (typed.Region Int1d u))
     (first_of_standing [] (stands (known_type tree s e) space_spot)) told in
     let flawed = flawed_region tree s e u parts.0 parts.1 in
     let give : StaticType → StaticType = λ t. region_type (kind_of_ispace t)
@@ -181,7 +174,7 @@ pub first_of_plain : (tree : Tree) (task : TaskTree) (s : Scope) (e : Expression
     is_difference s.names e ≡ false →
     first_in_initializer tree task s (plain_initializer e) ≡ first_in_expression tree task s e
 first_of_plain tree task s e other = rw (other, operands_none s.names e other)
-    (or_none (option_or (first_in_expression tree task s e) None) ∙ or_none (first_in_expression tree task s e))
+    (option_or_none (option_or (first_in_expression tree task s e) None) ∙ option_or_none (first_in_expression tree task s e))
 
 flawed_plain : (tree : Tree) (s : Scope) (e : Expression) → is_difference s.names e ≡ false →
     is_flawed_initializer tree s (plain_initializer e) ≡ is_unknown_type (known_type tree s e)

@@ -4,6 +4,7 @@ use Rattle.std.specs.Prelude.{Some}
 use Rattle.std.specs.List.{list_any}
 use Rattle.std.specs.Option.{option_or}
 use Rattle.std.proofs.lemmas.List.{append-nil}
+use Rattle.std.proofs.Math.Bool.{or-false}
 use Rattle.regent_tree.specs.Scopes.{Scope, in_scope}
 use Rattle.regent_tree.specs.StaticTypes.{type_said}
 use Rattle.regent_tree.specs.declared.types.TypeTerm.{TypeTerm}
@@ -31,6 +32,8 @@ use Rattle.type_check.specs.Variables.{first_of_begun, first_by_both, first_by_t
 use Rattle.check_rules.specs.rules.Partitions.{miscolours_in_type}
 use Rattle.check_rules.specs.types.Sorts.{is_collection, is_unknown_type}
 use Rattle.check_rules.specs.scopes.Variables.{bound_type, declared_type, expressions_in_initializer, known_initializer, standing_in_initializer}
+use Rattle.plain_values.proofs.Plain.{option_or_none}
+use Rattle.check_rules.proofs.Untold.{rule_none}
 
 -- ---- declared types
 
@@ -53,14 +56,6 @@ said_soundly tree s t none =
 
 -- ---- what is told of a `var`
 
-or_nothing : (a : Option Rule) → option_or a None ≡ a
-or_nothing None = refl
-or_nothing (Some x) = refl
-
-or_false : (b : Bool) → (b || false) ≡ b
-or_false true = refl
-or_false false = refl
-
 -- of what is told in order: a type, expressions, an initializer, what stands there, how it begins
 one_by_one : (h fs st m : Option Rule) →
     option_or h (option_or (option_or fs None) (option_or st (option_or m None)))
@@ -79,16 +74,16 @@ entry_first tree task s n i =
     ap (λ ss. option_or heads (option_or (option_or initializer None) (option_or (first_in (first_of_standing s.known) ss)
     (option_or (rule_if (has_wrong_initializer s.names t t i || false) rule.Place) None)))) (append-nil (standing_in_initializer tree s i))
     ∙ ap (λ b. option_or heads (option_or (option_or initializer None) (option_or stand (option_or (rule_if b rule.Place) None))))
-    (or_false (has_wrong_initializer s.names t t i))
+    (or-false (has_wrong_initializer s.names t t i))
     ∙ one_by_one heads initializer stand (rule_if (has_wrong_initializer s.names t t i) rule.Place)
 
 declared_first : (tree : Tree) (task : TaskTree) (s : Scope) (n : Name) (t : TypeTerm) →
     first_of_form tree task s (var_form n (Some t) None) ≡ first_by_type tree task s t
 declared_first tree task s n t =
     ap (λ o. option_or o (option_or (rule_if (is_collection (declared_type tree s t) || false) rule.Place) None))
-    (or_nothing (first_in_type tree s.names t))
+    (option_or_none (first_in_type tree s.names t))
     ∙ ap (λ b. option_or (first_in_type tree s.names t) (option_or (rule_if b rule.Place) None))
-    (or_false (is_collection (declared_type tree s t)))
+    (or-false (is_collection (declared_type tree s t)))
 
 first_in_append : (f : Standing → Option Rule) (xs ys : List Standing) →
     first_in f (xs ++ ys) ≡ option_or (first_in f xs) (first_in f ys)
@@ -125,7 +120,7 @@ both_first tree task s n t i =
     (first_in_append (first_of_standing s.known) (standing_in_initializer tree s i) (stands known (typed_spot wanted) ∷ []))
     ∙ ap (λ b. option_or (option_or declared None) (option_or heads (option_or (option_or initializer None)
     (option_or (option_or stand (option_or fits None)) (option_or (rule_if b rule.Place) None)))))
-    (or_false (has_wrong_initializer s.names wanted known i))
+    (or-false (has_wrong_initializer s.names wanted known i))
     ∙ all_by_one declared heads initializer stand fits (rule_if (has_wrong_initializer s.names wanted known i) rule.Place)
 
 pub var_first : (tree : Tree) (task : TaskTree) (s : Scope) (n : Name) (t : Option TypeTerm) (i : Option Initializer) →
@@ -136,10 +131,6 @@ var_first tree task s n (Some t) None = declared_first tree task s n t
 var_first tree task s n (Some t) (Some i) = both_first tree task s n t i
 
 -- ---- a `var` of which nothing is told
-
-unbroken : (b : Bool) (r : Rule) → rule_if b r ≡ None → b ≡ false
-unbroken true r e = absurd cc
-unbroken false r e = refl
 
 -- with an initializer alone
 pub by_initializer_none : (tree : Tree) (task : TaskTree) (s : Scope) (i : Initializer) (t : StaticType) →
@@ -152,7 +143,7 @@ by_initializer_none tree task s i t entry_name begun right =
 pub by_initializer_bound : (tree : Tree) (s : Scope) (i : Initializer) (t : StaticType) → t ≡ known_initializer tree s i →
     rule_if (has_wrong_initializer s.names t t i) rule.Place ≡ None → t ≡ bound_type tree s None (Some i)
 by_initializer_bound tree s i t begun right =
-    told t (has_wrong_initializer s.names t t i) (unbroken (has_wrong_initializer s.names t t i) rule.Place right)
+    told t (has_wrong_initializer s.names t t i) (rule_none (has_wrong_initializer s.names t t i) rule.Place right)
     ∙ (λ j. type_unless (is_collection (begun j) && (is_unknown_type (begun j) || false || has_wrong_initializer s.names (begun j) (begun j) i)) (begun j))
   where
     told : (t : StaticType) (m : Bool) → m ≡ false → t ≡ type_unless (is_collection t && (is_unknown_type t || false || m)) t
@@ -177,7 +168,7 @@ by_type_none tree task s t d typed declared right =
 pub by_type_bound : (tree : Tree) (s : Scope) (t : TypeTerm) (d : StaticType) → d ≡ declared_type tree s t →
     rule_if (is_collection d) rule.Place ≡ None → d ≡ bound_type tree s (Some t) None
 by_type_bound tree s t d declared right =
-    (λ j. type_unless (sym (unbroken (is_collection d) rule.Place right) j && true) d)
+    (λ j. type_unless (sym (rule_none (is_collection d) rule.Place right) j && true) d)
     ∙ (λ j. type_unless (is_collection (declared j) && true) (declared j))
 
 -- with both
@@ -188,7 +179,7 @@ leads : (misplaced ill_typed misbegun collection unknown : Bool) →
 leads true ms mb r u e = absurd cc
 leads false true mb r u e = absurd cc
 leads false false true r u e = absurd cc
-leads false false false r u e = ap (λ b. r && b) (sym (or_false u) ∙ sym (or_false (u || false)))
+leads false false false r u e = ap (λ b. r && b) (sym (or-false u) ∙ sym (or-false (u || false)))
 
 pub by_both_bound : (tree : Tree) (s : Scope) (t : TypeTerm) (i : Initializer) (declared begun : StaticType) →
     declared ≡ declared_type tree s t → begun ≡ known_initializer tree s i → first_of_begun s declared begun i ≡ None →
@@ -205,7 +196,7 @@ both_parts : (tree : Tree) (task : TaskTree) (s : Scope) (t : TypeTerm) (i : Ini
     first_in_type tree s.names t ≡ None → first_in_initializer tree task s i ≡ None →
     first_of_begun s declared begun i ≡ first_by_both tree task s t i
 both_parts tree task s t i declared begun d b typed entry_name =
-    sym (or_nothing (first_of_begun s declared begun i))
+    sym (option_or_none (first_of_begun s declared begun i))
     ∙ (λ j. option_or (sym typed j) (option_or (sym entry_name j) (option_or (first_of_begun s (d j) (b j) i) None)))
 
 pub both_stop : (tree : Tree) (task : TaskTree) (s : Scope) (t : TypeTerm) (i : Initializer) (declared begun : StaticType) (stop : Stop) →

@@ -1,6 +1,6 @@
 use Rattle.regent_tree.specs.Plain.{expression_of, initializer_of}
 use Rattle.straight_run.proofs.StatementLaws.{starts}
-use Rattle.straight_run.proofs.execute.entry_name.Goals as goal
+use Rattle.straight_run.proofs.execute.initial_number.Goals as goal
 
 pub returns-clause-means : goal.returns-clause-means
 returns-clause-means c =
