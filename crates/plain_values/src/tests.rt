@@ -36,3 +36,19 @@ fn lists_are_copied_and_shared(rt: HostRuntime) -> Result<(), Fail> {
     }
     Ok(())
 }
+
+#[test]
+fn lists_grow_and_change_in_place(rt: HostRuntime) -> Result<(), Fail> {
+    for bound in [1, 3, 100_000] {
+        let mut list = counted(rt.alloc(), bound)?;
+        if !list.is_empty() {
+            list.set(0, 7);
+        }
+        list.extend(&[8, 9])?;
+        assert_eq!(rt; (list.pop(), list.pop()), (Some(9), Some(8)), "{bound}");
+        let first = list.as_slice().first().copied();
+        assert_eq!(rt; (first, list.len()), (Some(7), bound as usize));
+    }
+    assert_eq!(rt; Sequence::<u32>::new(rt.alloc()).pop(), None);
+    Ok(())
+}

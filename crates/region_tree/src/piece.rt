@@ -35,7 +35,7 @@ pub struct Part {
 }
 
 impl Piece {
-    ghost use Rattle.std.specs.Prelude.{◌≡◌, length};
+    ghost use Rattle.std.specs.Prelude.{◌≡◌, ◌<◌, length, slice_set};
 
     /// How many points the piece has, and how many values.
     pub fn len(&self) -> usize
@@ -43,5 +43,15 @@ impl Piece {
         ensures values { result ≡ length self.now.values }
     {
         self.values.len()
+    }
+
+    /// Gives the point at a place another value; it takes no memory.
+    pub fn set(&mut self, place: usize, value: i64)
+        requires { place < length self.old.values }
+        ensures points { self.new.points ≡ self.old.points }
+        ensures mode { self.new.mode ≡ self.old.mode }
+        ensures values { self.new.values ≡ slice_set self.old.values place value }
+    {
+        self.values.set(place, value);
     }
 }

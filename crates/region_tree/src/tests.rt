@@ -338,11 +338,17 @@ fn a_partition_of_65536_sets(rt: HostRuntime) -> Result<(), Fail> {
 #[test]
 fn a_piece_has_a_value_for_each_point(rt: HostRuntime) -> Result<(), Fail> {
     let alloc = rt.alloc();
-    let piece = Piece {
+    let mut piece = Piece {
         points: PointSet::from_sorted(alloc, &[4])?,
         mode: Mode::Read,
         values: Sequence::from_slice(alloc, &[7])?,
     };
-    assert_eq!(rt; piece.len(), 1);
+    if piece.len() == 1 {
+        piece.set(0, 9);
+    }
+    assert_eq!(rt;
+        (piece.len(), piece.values.as_slice()[..] == [9]),
+        (1, true)
+    );
     Ok(())
 }
