@@ -1,0 +1,14 @@
+//! The machine, which runs the code of one task instance until it needs something from outside.
+#![tactic(auto)]
+
+mod frame;
+mod outcome;
+mod segment;
+mod stack;
+mod value;
+
+pub use frame::{Before, Frame};
+pub use outcome::{After, CallOut, Made, Yield};
+pub use segment::run;
+pub use stack::Stack;
+pub use value::{PartitionValue, RegionValue, Value};
