@@ -1,8 +1,12 @@
 //! The machine, which runs the code of one task instance until it needs something from outside.
 #![tactic(auto)]
 
+mod arithmetic;
 mod frame;
+mod holdings;
+mod numbers;
 mod outcome;
+mod running;
 mod segment;
 mod stack;
 mod value;

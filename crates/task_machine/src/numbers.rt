@@ -1,0 +1,136 @@
+//! Instructions on numbers, slots and the stack.
+
+ghost use Rattle.std.specs.Prelude.{◌≡◌, ◌∷◌, ℕ, ℤ, IfOk, slice_get};
+ghost use Rattle.lane_kernels.specs.Numbers.{wrapped};
+ghost use Rattle.task_machine.specs.Acts.{Does};
+ghost use Rattle.task_machine.specs.Machine.{next};
+ghost use Rattle.task_machine.specs.Numbers.{arithmetic, comparison, discard, inverted, load};
+ghost use Rattle.task_machine.specs.Numbers.{negated, replaced, store};
+ghost use Rattle.task_machine.specs.declared.value.Value.TheVariants.{Number};
+
+use crate::arithmetic::{compare, compute, kept_truth, negate};
+use crate::outcome::Yield;
+use crate::running::{Act, Running};
+use crate::value::Value;
+use lane_kernels::Width;
+use regent_tree::{Arithmetic, Comparison, FaultKind};
+use std::alloc::AllocError;
+
+impl Running {
+    /// Pushes a value, and goes on.
+    pub(crate) fn push(&mut self, pc: u32, value: Value) -> Result<Act, AllocError>
+        ensures { IfOk result (Does (λ m. next (value ∷ m.frame.stack) m) pc self.old self.new) }
+    {
+        self.frame.stack.push(value)?;
+        Ok(Act::Next)
+    }
+
+    pub(crate) fn load(&mut self, pc: u32, slot: u32) -> Result<Act, AllocError>
+        ensures { IfOk result (Does (λ m. load m (slice_get m.frame.slots slot)) pc self.old self.new) }
+    {
+        match self.frame.slots.as_slice().get(slot as usize) {
+            None => Ok(Act::broken()),
+            Some(Value::Pending(child)) => {
+                let child = *child;
+                Ok(self.stop_at(pc, Yield::Await(child)))
+            }
+            Some(value) => {
+                let value = value.copy()?;
+                self.push(pc, value)
+            }
+        }
+    }
+
+    pub(crate) fn store(&mut self, pc: u32, slot: u32) -> Act
+        ensures { Does (λ m. store slot m.frame.stack m) pc self.old self.new result }
+    {
+        let Some(value) = self.frame.stack.pop() else {
+            return Act::broken();
+        };
+        if slot as usize >= self.frame.slots.len() {
+            return Act::broken();
+        }
+        self.frame.slots.set(slot as usize, value);
+        Act::Next
+    }
+
+    pub(crate) fn discard(&mut self, pc: u32) -> Act
+        ensures { Does (λ m. discard m.frame.stack m) pc self.old self.new result }
+    {
+        match self.frame.stack.pop() {
+            Some(_) => Act::Next,
+            None => Act::broken(),
+        }
+    }
+
+    pub(crate) fn arithmetic(
+        &mut self,
+        pc: u32,
+        operator: Arithmetic,
+        width: Width,
+        line: u32,
+    ) -> Result<Act, AllocError>
+        ensures { IfOk result (Does (arithmetic operator width line) pc self.old self.new) }
+    {
+        let Some(b) = self.frame.stack.pop_number() else {
+            return Ok(Act::broken());
+        };
+        let Some(a) = self.frame.stack.pop_number() else {
+            return Ok(Act::broken());
+        };
+        match compute(operator, width, a, b) {
+            Some(z) => {
+                self.frame.stack.push(Value::Number(z))?;
+                Ok(Act::Next)
+            }
+            None => Ok(Act::fault(FaultKind::DivideByZero, line)),
+        }
+    }
+
+    pub(crate) fn comparison(&mut self, pc: u32, kind: Comparison) -> Result<Act, AllocError>
+        ensures { IfOk result (Does (comparison kind) pc self.old self.new) }
+    {
+        let Some(b) = self.frame.stack.pop_number() else {
+            return Ok(Act::broken());
+        };
+        let Some(a) = self.frame.stack.pop_number() else {
+            return Ok(Act::broken());
+        };
+        let truth = kept_truth(compare(kind, a, b));
+        self.frame.stack.push(Value::Number(truth))?;
+        Ok(Act::Next)
+    }
+
+    pub(crate) fn negate(&mut self, pc: u32, width: Width) -> Result<Act, AllocError>
+        ensures { IfOk result (Does (replaced (negated width)) pc self.old self.new) }
+    {
+        let Some(z) = self.frame.stack.pop_number() else {
+            return Ok(Act::broken());
+        };
+        let z = negate(width, z);
+        self.frame.stack.push(Value::Number(z))?;
+        Ok(Act::Next)
+    }
+
+    pub(crate) fn wrap(&mut self, pc: u32, width: Width) -> Result<Act, AllocError>
+        ensures { IfOk result (Does (replaced (wrapped width)) pc self.old self.new) }
+    {
+        let Some(z) = self.frame.stack.pop_number() else {
+            return Ok(Act::broken());
+        };
+        let z = width.wrap(z);
+        self.frame.stack.push(Value::Number(z))?;
+        Ok(Act::Next)
+    }
+
+    pub(crate) fn invert(&mut self, pc: u32) -> Result<Act, AllocError>
+        ensures { IfOk result (Does (replaced inverted) pc self.old self.new) }
+    {
+        let Some(z) = self.frame.stack.pop_number() else {
+            return Ok(Act::broken());
+        };
+        let truth = kept_truth(z == 0);
+        self.frame.stack.push(Value::Number(truth))?;
+        Ok(Act::Next)
+    }
+}

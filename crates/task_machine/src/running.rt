@@ -1,0 +1,72 @@
+//! The state of a run.
+
+ghost use Rattle.std.specs.Prelude.{◌≡◌, suc};
+ghost use Rattle.task_machine.specs.Acts.{Does};
+ghost use Rattle.task_machine.specs.Machine.{at, yields};
+ghost use Rattle.task_machine.specs.declared.outcome.Yield.TheVariants as yield;
+ghost use Rattle.task_machine.specs.declared.outcome.Yield.TheVariants.{MachineFault};
+ghost use Rattle.task_machine.specs.declared.running.Act.TheVariants.{Stop};
+
+use crate::frame::Frame;
+use crate::holdings::Holdings;
+use crate::outcome::Yield;
+use plain_values::Sequence;
+use regent_tree::{Fault, FaultKind};
+
+/// A frame that runs on the parts that it holds. While it runs, the place of its instruction stands
+/// beside it, and its needs stand with the parts.
+#[derive(Drop)]
+pub(crate) struct Running {
+    pub(crate) frame: Frame,
+    pub(crate) held: Holdings,
+    pub(crate) text: Sequence<u8>,
+}
+
+/// What follows an instruction.
+#[derive(Drop)]
+pub(crate) enum Act {
+    /// The next place.
+    Next,
+    /// Another place.
+    Jump(u32),
+    /// The segment ends.
+    Stop(Yield),
+}
+
+impl Act {
+    /// The segment ends since the code does what no compiled program does.
+    pub(crate) fn broken() -> Act
+        ensures { result ≡ Stop MachineFault }
+    {
+        Act::Stop(Yield::MachineFault)
+    }
+
+    /// The segment ends with a fault.
+    pub(crate) fn fault(kind: FaultKind, line: u32) -> Act
+        ensures { result ≡ Stop (yield.Fault (record { kind = kind; line = line })) }
+    {
+        Act::Stop(Yield::Fault(Fault { kind, line }))
+    }
+}
+
+impl Running {
+    /// The segment ends at a place, where the frame goes on.
+    pub(crate) fn stop_at(&mut self, pc: u32, ends: Yield) -> Act
+        ensures act { result ≡ Stop ends }
+        ensures frame { self.new ≡ record self.old { frame = record self.old.frame { pc = pc } } }
+    {
+        self.frame.pc = pc;
+        Act::Stop(ends)
+    }
+
+    /// The segment ends behind the instruction at a place, and yields something, where the place behind
+    /// it is a number of 32 bits.
+    pub(crate) fn yield_behind(&mut self, pc: u32, ends: Yield) -> Act
+        ensures { Does (λ m. yields ends (at (suc m.frame.pc) m.frame.stack m)) pc self.old self.new result }
+    {
+        match pc.checked_add(1) {
+            Some(next) => self.stop_at(next, ends),
+            None => Act::broken(),
+        }
+    }
+}
