@@ -1,2 +1,10 @@
 pub mod Widths
 pub mod Quotients
+pub mod KeptParts
+pub mod StepKinds
+pub mod NumberKinds
+pub mod RegionKinds
+pub mod InstructionKinds
+pub mod LoopHeads
+pub mod Fuel
+pub mod Ending
