@@ -8,3 +8,7 @@ pub mod InstructionKinds
 pub mod LoopHeads
 pub mod Fuel
 pub mod Ending
+pub mod Rounds
+pub mod Taking
+pub mod Coming
+pub mod Tasks

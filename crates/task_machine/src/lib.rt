@@ -2,13 +2,17 @@
 #![tactic(auto)]
 
 mod arithmetic;
+mod calls;
 mod frame;
 mod holdings;
+mod jumps;
 mod numbers;
 mod outcome;
+mod points;
 mod running;
 mod segment;
 mod stack;
+mod steps;
 mod value;
 
 pub use frame::{Before, Frame};

@@ -12,6 +12,7 @@ use crate::holdings::Holdings;
 use crate::outcome::Yield;
 use plain_values::Sequence;
 use regent_tree::{Fault, FaultKind};
+use std::alloc::Global;
 
 /// A frame that runs on the parts that it holds. While it runs, the place of its instruction stands
 /// beside it, and its needs stand with the parts.
@@ -20,6 +21,7 @@ pub(crate) struct Running {
     pub(crate) frame: Frame,
     pub(crate) held: Holdings,
     pub(crate) text: Sequence<u8>,
+    pub(crate) alloc: Global,
 }
 
 /// What follows an instruction.

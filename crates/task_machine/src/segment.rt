@@ -1,19 +1,23 @@
 //! Segments.
 
-ghost use Rattle.std.specs.Prelude.{◌≡◌, IfOk};
-ghost use Rattle.task_machine.specs.Segments.{segment};
+ghost use Rattle.std.specs.Prelude.{◌≡◌, [], IfOk};
+ghost use Rattle.task_machine.specs.Acts.{opened_as, shown_after, task_after};
+ghost use Rattle.task_machine.specs.Segments.{frame_after, segment};
 
 use crate::frame::Frame;
-use crate::outcome::After;
+use crate::holdings::Holdings;
+use crate::outcome::{After, Yield};
+use crate::running::Running;
 use plain_values::Sequence;
-use region_tree::Part;
+use region_tree::{Needs, Part};
 use std::alloc::{AllocError, Global};
+use std::mem;
 use task_code::Code;
 
 /// Runs a frame on its parts, in place, until it yields. The frame and the parts that come back are the
 /// given ones as the run left them.
 pub fn run(
-    _alloc: Global,
+    alloc: Global,
     code: &Code,
     frame: Frame,
     parts: Sequence<Part>,
@@ -21,5 +25,73 @@ pub fn run(
     ensures { IfOk result (λ after. after
         ≡ segment (record { code = code.now; frame = frame; parts = parts })) }
 {
-    Err(AllocError)
+    let mut running = Running::open(alloc, frame, parts);
+    let ends = running.run_task(code)?;
+    Ok(running.close(ends))
+}
+
+impl Running {
+    /// The state in which a run begins.
+    fn open(alloc: Global, frame: Frame, parts: Sequence<Part>) -> Running
+        ensures { opened_as frame parts result }
+    {
+        let mut frame = frame;
+        let none = Needs {
+            items: Sequence::new(alloc),
+        };
+        let needs = mem::replace(&mut frame.needs, none);
+        Running {
+            frame,
+            held: Holdings::new(needs, parts),
+            text: Sequence::new(alloc),
+            alloc,
+        }
+    }
+
+    /// Runs the frame's task until it stops, and says for what.
+    fn run_task(&mut self, code: &Code) -> Result<Yield, AllocError>
+        requires { self.old.text ≡ [] }
+        ensures { IfOk result (λ ends. shown_after ends self.new ≡ task_after code.now self.old) }
+    {
+        let Some(task) = code.tasks.as_slice().get(self.frame.task as usize) else {
+            return Ok(Yield::MachineFault);
+        };
+        if self.frame.slots.len() != task.slots as usize {
+            return Ok(Yield::MachineFault);
+        }
+        match self.frame.later {
+            Some(fault) => Ok(Yield::Fault(fault)),
+            None => Ok(self.run(code, task.body.as_slice(), self.frame.pc)?),
+        }
+    }
+
+    /// What the run leaves.
+    fn close(self, ends: Yield) -> After
+        ensures { result ≡ shown_after ends self }
+    {
+        let Running {
+            frame,
+            held,
+            text,
+            alloc: _alloc,
+        } = self;
+        let (needs, parts) = held.into_parts();
+        let frame = kept_frame(&ends, Frame { needs, ..frame });
+        After {
+            frame,
+            parts,
+            text,
+            ends,
+        }
+    }
+}
+
+/// The frame behind a segment, unless its task instance ended or faulted.
+fn kept_frame(ends: &Yield, frame: Frame) -> Option<Frame>
+    ensures { result ≡ frame_after ends.now frame }
+{
+    match ends {
+        Yield::End(_) | Yield::Fault(_) | Yield::MachineFault => None,
+        _ => Some(frame),
+    }
 }

@@ -1,0 +1,10 @@
+use Rattle.std.proofs.Common.{◌≡◌, ◌-◌, ◌≤◌, [], reverse}
+use Rattle.task_machine.specs.Calls.{take_values}
+use Rattle.task_machine.proofs.calls.take_values.Given as goal
+
+abbrev pub invariant-loop : goal.invariant-loop
+invariant-loop l = record {
+  room : l.counter ≤ l.count;
+  whole : take_values (l.count - l.counter) l.stack (reverse l.values.items)
+      ≡ take_values l.count l.initial.stack [];
+}
