@@ -1,6 +1,6 @@
 //! Jobs.
 
-ghost use Rattle.std.specs.Prelude.{◌≡◌, IfOk};
+ghost use Rattle.std.specs.Prelude.{◌≡◌, ◌↔◌, IfOk, IsTrue};
 
 use crate::code::Code;
 use plain_values::{Sequence, Shared};
@@ -16,6 +16,16 @@ pub struct Job {
 }
 
 impl Job {
+    /// Whether two jobs are the same; it takes no memory. The code is compared instruction by instruction,
+    /// also where both share it.
+    pub fn same(&self, o: &Job) -> bool
+        ensures { IsTrue result ↔ (self.now ≡ o.now) }
+    {
+        same_code(self.code.get(), o.code.get())
+            && same_numbers(&self.inputs, &o.inputs)
+            && self.turns == o.turns
+    }
+
     /// A job that is the same. Both share the code.
     pub fn copy(&self) -> Result<Job, AllocError>
         ensures { IfOk result (λ job. job ≡ self.now) }
@@ -26,4 +36,18 @@ impl Job {
             turns: self.turns,
         })
     }
+}
+
+#[tactic(auto, using(crate::proofs::Codes::code_exact))]
+fn same_code(a: &Code, b: &Code) -> bool
+    ensures { IsTrue result ↔ (a.now ≡ b.now) }
+{
+    *a == *b
+}
+
+#[tactic(auto, using(crate::proofs::Codes::numbers_exact))]
+fn same_numbers(a: &Sequence<i64>, b: &Sequence<i64>) -> bool
+    ensures { IsTrue result ↔ (a.now ≡ b.now) }
+{
+    *a == *b
 }

@@ -7,6 +7,7 @@ mod frame;
 mod holdings;
 mod jumps;
 mod numbers;
+mod order;
 mod outcome;
 mod points;
 mod running;
@@ -16,6 +17,7 @@ mod steps;
 mod value;
 
 pub use frame::{Before, Frame};
+pub use order::{Contents, Ended, Instance, Required, Resumed, Root};
 pub use outcome::{After, CallOut, Made, Yield};
 pub use segment::run;
 pub use stack::Stack;

@@ -1,0 +1,96 @@
+//! What the roots hold.
+
+ghost use Rattle.std.specs.Prelude.{◌≡◌, [], pos, get_or, length};
+ghost use Rattle.task_machine.specs.Contents.{image_in, kept_at, kind_of, kinds_of};
+ghost use Rattle.lane_kernels.specs.declared.numbers.FieldKind.TheVariants.{Truth};
+
+use lane_kernels::FieldKind;
+use regent_tree::RootImage;
+use region_tree::RootId;
+use task_code::Code;
+use task_machine::{Contents, Root};
+
+/// The kept number of a field at a point.
+pub fn kept_at(contents: &Contents, root: RootId, field: u8, point: u32) -> i64
+    ensures { result ≡ kept_at contents.now root.0 field point }
+{
+    kept_in(contents.roots.as_slice(), root, field, point)
+}
+
+fn kept_in(roots: &[Root], root: RootId, field: u8, point: u32) -> i64
+    ensures { result ≡ get_or (get_or (image_in roots.now root.0).fields field []) point (pos 0) }
+{
+    for held in roots {
+        if held.id.0 == root.0 {
+            return number_at(&held.image, field, point);
+        }
+    }
+    0
+}
+
+fn number_at(image: &RootImage, field: u8, point: u32) -> i64
+    ensures { result ≡ get_or (get_or image.now.fields field []) point (pos 0) }
+{
+    match image.fields.as_slice().get(field as usize) {
+        Some(column) => number_in(column.as_slice(), point),
+        None => 0,
+    }
+}
+
+fn number_in(column: &[i64], point: u32) -> i64
+    ensures { result ≡ get_or column.now point (pos 0) }
+{
+    match column.get(point as usize) {
+        Some(number) => *number,
+        None => 0,
+    }
+}
+
+/// The place of the field space of a root among those of the code; 0 of a root that isn't there.
+fn space_of(roots: &[Root], root: RootId) -> u32
+    ensures { result ≡ (image_in roots.now root.0).space }
+{
+    for held in roots {
+        if held.id.0 == root.0 {
+            return held.image.space;
+        }
+    }
+    0
+}
+
+/// How many fields a field space has.
+pub fn count_fields(code: &Code, space: u32) -> usize
+    ensures { result ≡ length (kinds_of code.now space) }
+{
+    match code.spaces.as_slice().get(space as usize) {
+        Some(space) => space.fields.len(),
+        None => 0,
+    }
+}
+
+/// The kind of a field of a field space.
+fn kind_in(code: &Code, space: u32, field: u8) -> FieldKind
+    ensures { result ≡ get_or (kinds_of code.now space) field Truth }
+{
+    match code.spaces.as_slice().get(space as usize) {
+        Some(space) => match space.fields.as_slice().get(field as usize) {
+            Some(found) => found.kind,
+            None => FieldKind::Truth,
+        },
+        None => FieldKind::Truth,
+    }
+}
+
+/// The kind of a field of a root.
+pub fn kind_of(code: &Code, contents: &Contents, root: RootId, field: u8) -> FieldKind
+    ensures { result ≡ kind_of code.now contents.now root.0 field }
+{
+    kind_in(code, space_of(contents.roots.as_slice(), root), field)
+}
+
+/// How many fields a root has.
+pub fn fields_of(code: &Code, contents: &Contents, root: RootId) -> usize
+    ensures { result ≡ length (kinds_of code.now (image_in contents.now.roots root.0).space) }
+{
+    count_fields(code, space_of(contents.roots.as_slice(), root))
+}

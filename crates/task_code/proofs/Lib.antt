@@ -1,0 +1,6 @@
+mod Parts
+mod Plain
+mod Wide
+mod Lists
+mod Exact
+mod Codes
