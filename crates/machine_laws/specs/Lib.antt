@@ -10,3 +10,5 @@ pub mod Accesses
 pub mod Pointers
 pub mod Faults
 pub mod Resumptions
+pub mod TouchLists
+pub mod Loops

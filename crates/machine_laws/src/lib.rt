@@ -8,12 +8,14 @@ ghost use Rattle.machine_laws.specs.Accesses.{fill_is_done, great_number_is_wrap
 ghost use Rattle.machine_laws.specs.Calls.{absent_callee_breaks, call_costs_come_in_order, call_is_yielded, too_many_children_break, wrong_count_breaks};
 ghost use Rattle.machine_laws.specs.Faults.{bad_colour_faults, bad_size_faults, deep_call_faults, divide_by_zero_faults, failed_assert_faults, least_quotient_wraps, null_pointer_faults, out_of_region_faults, spent_turns_fault};
 ghost use Rattle.machine_laws.specs.Frames.{absent_task_breaks, empty_body_breaks, few_slots_break, fitting_frame_returns, later_fault_comes, later_fault_of_absent_task_breaks, many_slots_break, passed_end_breaks};
+ghost use Rattle.machine_laws.specs.Loops.{numbers_are_counted, points_are_taken, truths_are_joined, wrong_domains_break};
 ghost use Rattle.machine_laws.specs.Operands.{absent_slots_break, counted_loop_exits, jump_back_takes_turns, jump_goes_there, jump_not_made_returns, jumps_out_of_range_break, loaded_child_is_awaited, missing_operand_breaks, nothing_to_drop_breaks, nothing_to_store_breaks, pending_child_breaks, region_in_sum_breaks, slots_hold, space_in_sum_breaks, stored_child_is_kept, two_numbers_add};
 ghost use Rattle.machine_laws.specs.Partitions.{by_field_is_made, by_field_tests_come_in_order, child_is_looked_up, colours_are_counted, image_is_made, image_of_another_root_breaks, image_past_the_region_breaks, preimage_in_another_root_breaks, preimage_is_made, preimage_past_the_region_breaks, too_many_colours_break};
 ghost use Rattle.machine_laws.specs.Parts.{SegmentsKeepParts};
 ghost use Rattle.machine_laws.specs.Pointers.{cast_looks_up_no_position, element_is_taken, first_region_is_taken, high_positions_break, kept_numbers_are_read, moved_pointer_is_moved, position_of_number_breaks, positions_are_not_compared, read_positions_are_looked_up};
 ghost use Rattle.machine_laws.specs.Resumptions.{child_is_awaited, made_root_is_pushed, reduction_starts_at_identity, want_is_met};
 ghost use Rattle.machine_laws.specs.Roots.{absent_space_breaks, root_is_made, root_of_number_breaks, sizes_have_a_limit, too_many_fields_break};
+ghost use Rattle.machine_laws.specs.TouchLists.{fault_touches_nothing, fill_touches_each_point, later_fault_touches_nothing, partition_touches_each_point, touches_come_in_order, want_touches_nothing};
 ghost use Rattle.machine_laws.specs.Yields.{SegmentsYield};
 
 /// Every segment of every code yields at a step; no run is cut short by the steps that it is allowed.
@@ -162,4 +164,22 @@ pub fn resumptions()
     ensures made_root { made_root_is_pushed }
     ensures child { child_is_awaited }
     ensures reduction { reduction_starts_at_identity }
+{}
+
+/// The touches of segments.
+pub fn touch_lists()
+    ensures touches { touches_come_in_order }
+    ensures want { want_touches_nothing }
+    ensures fault { fault_touches_nothing }
+    ensures later_fault { later_fault_touches_nothing }
+    ensures fill { fill_touches_each_point }
+    ensures partition { partition_touches_each_point }
+{}
+
+/// Heads of loops, and jumps that stop a test early.
+pub fn loops()
+    ensures numbers { numbers_are_counted }
+    ensures points { points_are_taken }
+    ensures wrong_domains { wrong_domains_break }
+    ensures truths { truths_are_joined }
 {}
