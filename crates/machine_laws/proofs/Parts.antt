@@ -1,20 +1,21 @@
 -- Parts but for their numbers stay through each step, and so through a segment.
-use Rattle.std.proofs.Common.{◌≡◌, ℕ, zero, suc, ℤ, List, [], ◌∷◌, ◌++◌, Bool, true, false, Option, Some, None, refl, sym, ap, ◌∙◌, map, ◌==◌}
+use Rattle.std.proofs.Common.{◌≡◌, ℕ, zero, suc, List, [], ◌∷◌, ◌++◌, Bool, true, false, Option, Some, None, refl, sym, ap, ◌∙◌, map, ◌==◌}
+use Rattle.std.specs.List.{AllZip}
 use Rattle.std.specs.Prelude.{slice_get, length}
+use Rattle.std.proofs.lemmas.List.{length-map}
 use Rattle.region_tree.specs.Pieces.{Held}
 use Rattle.region_tree.specs.declared.piece.Part.{Part}
 use Rattle.regent_tree.specs.declared.outcome.Fault.{Fault}
 use Rattle.task_code.specs.declared.code.Code.{Code}
 use Rattle.task_code.specs.declared.code.Line.{Line}
 use Rattle.task_code.specs.declared.code.TaskCode.{TaskCode}
-use Rattle.task_machine.specs.declared.frame.Before.{Before}
 use Rattle.task_machine.specs.Jumps.{fetch}
 use Rattle.task_machine.specs.Machine.{Machine, Stepped, goes, prints, stops}
 use Rattle.task_machine.specs.Segments.{Stopped, act_at, step, on_stop, run, enough, stopped_by, stopped_in, opened}
-use Rattle.task_machine.proofs.KeptParts.{zeroed, bare, bare_part, bare_piece, bare_pieces}
+use Rattle.task_machine.proofs.KeptParts.{bare, bare_part, bare_piece}
 use Rattle.task_machine.proofs.StepKinds.{Kind, Asking, over, called, makes, wants, awaits, nexted, printed, jumped, turned, key_of, slot_of}
 use Rattle.task_machine.proofs.InstructionKinds.{act_kind}
-use Rattle.machine_laws.specs.Parts.{PieceIsKept, PiecesAreKept, PartIsKept, PartsAreKept, SegmentsKeepParts}
+use Rattle.machine_laws.specs.Parts.{PieceIsKept, PartIsKept, SegmentsKeepParts}
 
 -- ---- steps
 
@@ -79,41 +80,29 @@ stopped_keeps (Some t) code m = by_slots (length m.frame.slots == t.slots)
 
 -- ---- from what is equal but for its numbers
 
-pieces_kept : (olds news : List Held) → bare_pieces news ≡ bare_pieces olds → PiecesAreKept olds news
-pieces_kept [] [] e = tt
-pieces_kept [] (h ∷ hs) e = absurd cc
-pieces_kept (h ∷ hs) [] e = absurd cc
-pieces_kept (old ∷ olds) (new ∷ news) e =
-    let head : bare_piece new ≡ bare_piece old = cc in (
-      record {
-        points = ap (λ (h : Held). h.points) head;
-        mode = ap (λ (h : Held). h.mode) head;
-        values = zeroed_alike new.values old.values (ap (λ (h : Held). h.values) head);
-      },
-      pieces_kept olds news cc,
-    )
-  where
-    zeroed_alike : (zs ys : List ℤ) → zeroed zs ≡ zeroed ys → length zs ≡ length ys
-    zeroed_alike [] [] e = refl
-    zeroed_alike [] (y ∷ ys) e = absurd cc
-    zeroed_alike (z ∷ zs) [] e = absurd cc
-    zeroed_alike (z ∷ zs) (y ∷ ys) e = ap suc (zeroed_alike zs ys cc)
+each_kept : {A : Type 0} (bared : A → A) (R : A → A → Type 0) →
+    ((old new : A) → bared new ≡ bared old → R old new) → (olds news : List A) →
+    map bared news ≡ map bared olds → AllZip R olds news
+each_kept bared R one [] [] e = tt
+each_kept bared R one [] (n ∷ ns) e = absurd cc
+each_kept bared R one (o ∷ os) [] e = absurd cc
+each_kept bared R one (o ∷ os) (n ∷ ns) e = (one o n cc, each_kept bared R one os ns cc)
 
-parts_kept : (olds news : List Part) → bare news ≡ bare olds → PartsAreKept olds news
-parts_kept [] [] e = tt
-parts_kept [] (q ∷ qs) e = absurd cc
-parts_kept (q ∷ qs) [] e = absurd cc
-parts_kept (old ∷ olds) (new ∷ news) e =
-    let head : bare_part new ≡ bare_part old = cc in (
-      record {
-        root = ap (λ (q : Part). q.root) head;
-        field = ap (λ (q : Part). q.field) head;
-        kind = ap (λ (q : Part). q.kind) head;
-        pieces = pieces_kept old.pieces new.pieces (ap (λ (q : Part). q.pieces) head);
-      },
-      parts_kept olds news cc,
-    )
+piece_kept : (old new : Held) → bare_piece new ≡ bare_piece old → PieceIsKept old new
+piece_kept old new e = record {
+  points = ap (λ (h : Held). h.points) e;
+  mode = ap (λ (h : Held). h.mode) e;
+  values = sym (length-map new.values _) ∙ ap (λ (h : Held). length h.values) e ∙ length-map old.values _;
+}
+
+part_kept : (old new : Part) → bare_part new ≡ bare_part old → PartIsKept old new
+part_kept old new e = record {
+  root = ap (λ (q : Part). q.root) e;
+  field = ap (λ (q : Part). q.field) e;
+  kind = ap (λ (q : Part). q.kind) e;
+  pieces = each_kept bare_piece PieceIsKept piece_kept old.pieces new.pieces (ap (λ (q : Part). q.pieces) e);
+}
 
 pub segments_keep_parts : SegmentsKeepParts
-segments_keep_parts b = parts_kept b.parts _
+segments_keep_parts b = each_kept bare_part PartIsKept part_kept b.parts _
     (stopped_keeps (slice_get b.code.tasks b.frame.task) b.code (opened b))

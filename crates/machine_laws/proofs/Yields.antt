@@ -1,18 +1,17 @@
 -- Every segment yields at a step.
-use Rattle.std.proofs.Common.{◌≡◌, ℕ, zero, suc, ◌<◌, ◌==◌, List, [], ◌++◌, Bool, true, false, Option, Some, None, refl, sym, ap, ◌∙◌, arith}
+use Rattle.std.proofs.Common.{◌≡◌, ℕ, zero, suc, ◌<◌, List, [], ◌++◌, Bool, true, false, ap, ◌∙◌, arith}
 use Rattle.std.specs.Prelude.{slice_get, length}
 use Rattle.std.proofs.lemmas.Bool.{eq-eqb}
 use Rattle.task_code.specs.declared.code.Code.{Code}
 use Rattle.task_code.specs.declared.code.Line.{Line}
 use Rattle.task_code.specs.declared.code.TaskCode.{TaskCode}
-use Rattle.regent_tree.specs.declared.outcome.Fault.{Fault}
 use Rattle.task_machine.specs.declared.frame.Before.{Before}
 use Rattle.task_machine.specs.declared.outcome.Yield.{Yield}
 use Rattle.task_machine.specs.declared.outcome.Yield.TheVariants as yield
-use Rattle.task_machine.specs.Machine.{Machine, Stepped, goes, prints, stops}
-use Rattle.task_machine.specs.Segments.{Stopped, step, on_stop, run, enough, stop_from, stopped_by, stopped_in, after, opened}
+use Rattle.task_machine.specs.Machine.{Machine, stops}
+use Rattle.task_machine.specs.Segments.{Stopped, step, on_stop, run, enough, stopped_by, stopped_in, after, opened}
 use Rattle.task_machine.proofs.Fuel.{Halts, halts_now, halts_later, halts_printing, stops_in_fuel}
-use Rattle.machine_laws.specs.Yields.{Begins, Comes, comes_here, comes_going, comes_printing, StopsAtStep, SegmentsYield}
+use Rattle.machine_laws.specs.Yields.{Begins, Comes, comes_here, comes_going, comes_printing, SegmentsYield}
 
 module _ (code : Code) (body : List Line) where
   -- a run from a text and a machine, with its last step
@@ -71,16 +70,20 @@ module _ (code : Code) (body : List Line) where
       fuel r zero l = absurd (omega (arith, l))
       fuel r (suc k) l = ap (λ s. on_stop s text (run code body k)) e ∙ r.more_steps k (omega (arith, l))
 
+-- by whether the slots are as many as the task's
+abbrev by_slots : Bool → Before → TaskCode → Stopped
+by_slots q b t = elim q [
+  | true ↦ stopped_by b.frame.later b.code t (opened b)
+  | false ↦ record { ends = yield.MachineFault; machine = opened b; text = [] }
+]
+
 -- the segment of a frame that begins is its run
 begun : (b : Before) (t : TaskCode) → Begins b t →
     stopped_in (slice_get b.code.tasks b.frame.task) b.code (opened b)
     ≡ run b.code t.body (enough t.body b.frame) [] (opened b)
 begun b t h =
     ap (λ o. stopped_in o b.code (opened b)) h.task
-    ∙ ap (λ (q : Bool). elim q [
-      | true ↦ stopped_by b.frame.later b.code t (opened b)
-      | false ↦ record { ends = yield.MachineFault; machine = opened b; text = [] }
-    ]) (eq-eqb (length b.frame.slots) t.slots h.slots)
+    ∙ ap (λ q. by_slots q b t) (eq-eqb (length b.frame.slots) t.slots h.slots)
     ∙ ap (λ o. stopped_by o b.code t (opened b)) h.later
 
 pub segments_yield : SegmentsYield

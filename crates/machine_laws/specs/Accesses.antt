@@ -1,5 +1,5 @@
 -- Examples: reads, writes, reductions and fills.
-use Rattle.std.specs.Prelude.{◌≡◌, ℕ, ℤ, pos, neg_ℤ, List, [], ◌∷◌, None, ◌^◌, ◌-◌}
+use Rattle.std.specs.Prelude.{◌≡◌, ℕ, ℤ, pos, neg_ℤ, List, [], ◌∷◌, None, ◌^◌}
 use Rattle.lane_kernels.specs.declared.numbers.FieldKind.{FieldKind}
 use Rattle.lane_kernels.specs.declared.numbers.FieldKind.TheVariants.{Int32, Int64}
 use Rattle.lane_kernels.specs.declared.numbers.Mode.{Mode}
@@ -14,7 +14,7 @@ use Rattle.task_code.specs.declared.instr.Instr.TheVariants as instr
 use Rattle.task_machine.specs.declared.frame.Before.{Before}
 use Rattle.task_machine.specs.declared.outcome.Yield.TheVariants as yield
 use Rattle.task_machine.specs.Segments.{segment}
-use Rattle.machine_laws.specs.Words.{num, number, pointer, region, need, held, part, alone, ends, breaks, gives}
+use Rattle.machine_laws.specs.Words.{num, pointer, region, need, held, part, alone, ends, breaks, gives}
 
 -- A task with a region of the points 2 and 3 of root 0, which needs field 0 there in a mode and holds it,
 -- with the numbers 20 and 30.

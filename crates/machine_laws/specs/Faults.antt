@@ -1,5 +1,5 @@
 -- Examples: each fault, with its line.
-use Rattle.std.specs.Prelude.{ℕ, pos, neg_ℤ, List, [], ◌∷◌, None, ◌^◌}
+use Rattle.std.specs.Prelude.{pos, neg_ℤ, List, [], ◌∷◌, None, ◌^◌}
 use Rattle.lane_kernels.specs.declared.numbers.Width.TheVariants.{W32, W64}
 use Rattle.regent_tree.specs.declared.outcome.FaultKind.TheVariants.{DivideByZero, OutOfRegion, NullPointer, BadColor, AssertFailed, Turns, Depth, BadSize}
 use Rattle.task_code.specs.declared.instr.Instr.{Instr}
@@ -9,7 +9,7 @@ use Rattle.task_machine.specs.declared.outcome.Yield.TheVariants as yield
 use Rattle.task_machine.specs.declared.value.Value.TheVariants as value
 use Rattle.machine_laws.specs.Calls.{calling}
 use Rattle.machine_laws.specs.Partitions.{partition}
-use Rattle.machine_laws.specs.Words.{num, null, number, region, alone, ends, faults, gives}
+use Rattle.machine_laws.specs.Words.{num, null, region, alone, ends, faults, gives}
 
 -- a region of the points 4 and 5, a partition of it, and 65,537 colours
 abbrev pub running : List Instr → Before

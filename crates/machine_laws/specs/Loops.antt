@@ -1,5 +1,5 @@
 -- Examples: the heads of loops, and the jumps of `and` and `or`.
-use Rattle.std.specs.Prelude.{ℕ, ℤ, pos, List, [], ◌∷◌, Bool, true, false, None}
+use Rattle.std.specs.Prelude.{ℕ, ℤ, pos, [], ◌∷◌, Bool, true, false}
 use Rattle.lane_kernels.specs.declared.numbers.Width.TheVariants.{W64}
 use Rattle.regent_tree.specs.declared.outcome.FaultKind.TheVariants.{Turns}
 use Rattle.task_code.specs.declared.instr.Instr.TheVariants as instr

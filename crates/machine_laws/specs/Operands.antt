@@ -1,5 +1,5 @@
 -- Examples: values that are missing or of a wrong kind, and slots and places out of range.
-use Rattle.std.specs.Prelude.{ℕ, pos, List, [], ◌∷◌, Some, None, codes}
+use Rattle.std.specs.Prelude.{ℕ, pos, [], ◌∷◌, None}
 use Rattle.lane_kernels.specs.declared.numbers.Width.TheVariants.{W64}
 use Rattle.regent_tree.specs.declared.outcome.FaultKind.TheVariants.{Turns}
 use Rattle.task_code.specs.declared.instr.Instr.{Instr}

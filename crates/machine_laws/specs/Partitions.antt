@@ -1,6 +1,6 @@
 -- Examples: partitions.
 use Rattle.std.specs.Prelude.{◌≡◌, ℕ, pos, List, [], ◌∷◌, Bool, true, false, map, length, nat_le, None}
-use Rattle.lane_kernels.specs.declared.numbers.FieldKind.TheVariants.{Int64, Index}
+use Rattle.lane_kernels.specs.declared.numbers.FieldKind.TheVariants.{Index}
 use Rattle.lane_kernels.specs.declared.numbers.Mode.TheVariants as mode
 use Rattle.region_tree.specs.declared.needs.Need.{Need}
 use Rattle.region_tree.specs.declared.piece.Part.{Part}

@@ -1,5 +1,5 @@
 -- Examples: kept pointers, and where their positions are looked up.
-use Rattle.std.specs.Prelude.{ℕ, ℤ, pos, neg_ℤ, List, [], ◌∷◌, ◌^◌, ◌-◌, ◌+◌, ◌*◌}
+use Rattle.std.specs.Prelude.{ℤ, pos, neg_ℤ, List, [], ◌∷◌, ◌^◌, ◌-◌, ◌+◌}
 use Rattle.lane_kernels.specs.declared.numbers.FieldKind.TheVariants.{Int64}
 use Rattle.lane_kernels.specs.declared.numbers.Mode.TheVariants as mode
 use Rattle.lane_kernels.specs.declared.numbers.Op.TheVariants.{Sum}
@@ -8,7 +8,7 @@ use Rattle.regent_tree.specs.declared.outcome.FaultKind.TheVariants.{OutOfRegion
 use Rattle.task_code.specs.declared.instr.Instr.{Instr}
 use Rattle.task_code.specs.declared.instr.Instr.TheVariants as instr
 use Rattle.task_machine.specs.declared.frame.Before.{Before}
-use Rattle.machine_laws.specs.Words.{num, null, pointer, number, region, need, held, part, alone, breaks, faults, gives}
+use Rattle.machine_laws.specs.Words.{null, pointer, number, region, need, held, part, alone, breaks, faults, gives}
 
 -- A task with two regions of root 0, of the points 1 and 2 and of the points 2 and 3, and a number. It
 -- may write a field. It begins with a number on the stack.

@@ -1,11 +1,10 @@
 -- Examples: segments that go on behind a yield, and reductions.
-use Rattle.std.specs.Prelude.{◌≡◌, ℕ, ℤ, pos, neg_ℤ, List, [], ◌∷◌, ◌++◌, Bool, true, false, Option, Some, None, codes, ◌^◌, ◌-◌}
+use Rattle.std.specs.Prelude.{◌≡◌, ℕ, pos, neg_ℤ, List, [], ◌∷◌, Option, Some, None, codes, ◌^◌, ◌-◌}
 use Rattle.lane_kernels.specs.declared.numbers.FieldKind.TheVariants.{Int32, Int64}
 use Rattle.lane_kernels.specs.declared.numbers.Mode.TheVariants as mode
 use Rattle.lane_kernels.specs.declared.numbers.Op.TheVariants.{Least}
-use Rattle.lane_kernels.specs.declared.numbers.Width.TheVariants.{W32, W64}
+use Rattle.lane_kernels.specs.declared.numbers.Width.TheVariants.{W32}
 use Rattle.region_tree.specs.declared.piece.Part.{Part}
-use Rattle.task_code.specs.declared.code.Code.{Code}
 use Rattle.task_code.specs.declared.instr.Instr.TheVariants as instr
 use Rattle.task_code.specs.declared.instr.PrintPart.TheVariants as print_part
 use Rattle.task_machine.specs.declared.frame.Before.{Before}

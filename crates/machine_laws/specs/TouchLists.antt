@@ -1,5 +1,5 @@
 -- Examples: the touches of segments.
-use Rattle.std.specs.Prelude.{◌≡◌, ℕ, pos, List, [], ◌∷◌}
+use Rattle.std.specs.Prelude.{◌≡◌, ℕ, List, [], ◌∷◌}
 use Rattle.lane_kernels.specs.declared.numbers.FieldKind.TheVariants.{Int64}
 use Rattle.lane_kernels.specs.declared.numbers.Mode.{Mode}
 use Rattle.lane_kernels.specs.declared.numbers.Mode.TheVariants as mode
@@ -9,7 +9,7 @@ use Rattle.regent_tree.specs.Store.{Touch}
 use Rattle.task_code.specs.declared.instr.Instr.TheVariants as instr
 use Rattle.task_machine.specs.declared.frame.Before.{Before}
 use Rattle.task_machine.specs.Touches.{segment_touches}
-use Rattle.machine_laws.specs.Accesses.{filling, holding, in_mode, reading}
+use Rattle.machine_laws.specs.Accesses.{filling, holding, in_mode}
 use Rattle.machine_laws.specs.Frames.{faulting_later}
 use Rattle.machine_laws.specs.Partitions.{by_field_of, imaging, needs, parts, preimaging}
 use Rattle.machine_laws.specs.Resumptions.{wanting}

@@ -1,5 +1,5 @@
 -- Shorthand for the code of the examples, and for what is said of it.
-use Rattle.std.specs.Prelude.{◌≡◌, ℕ, suc, length, ℤ, pos, neg_ℤ, List, [], ◌∷◌, Option, Some, None, false, ◌+◌, ◌*◌, ◌^◌}
+use Rattle.std.specs.Prelude.{◌≡◌, ℕ, suc, length, ℤ, pos, neg_ℤ, List, [], ◌∷◌, Some, None, false, ◌+◌, ◌*◌, ◌^◌}
 use Rattle.lane_kernels.specs.declared.numbers.FieldKind.{FieldKind}
 use Rattle.lane_kernels.specs.declared.numbers.Mode.{Mode}
 use Rattle.region_tree.specs.declared.needs.Need.{Need}
@@ -14,7 +14,6 @@ use Rattle.task_code.specs.declared.instr.Instr.{Instr}
 use Rattle.task_code.specs.declared.instr.Instr.TheVariants as instr
 use Rattle.task_machine.specs.declared.frame.Before.{Before}
 use Rattle.task_machine.specs.declared.frame.Frame.{Frame}
-use Rattle.task_machine.specs.declared.outcome.After.{After}
 use Rattle.task_machine.specs.declared.outcome.Yield.{Yield}
 use Rattle.task_machine.specs.declared.outcome.Yield.TheVariants as yield
 use Rattle.task_machine.specs.declared.value.RegionValue.{RegionValue}

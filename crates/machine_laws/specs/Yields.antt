@@ -1,15 +1,16 @@
 -- Every segment yields: its machine comes to a step that stops.
-use Rattle.std.specs.Prelude.{◌≡◌, ℕ, zero, suc, ◌<◌, List, [], ◌++◌, Option, Some, None, slice_get, length}
+use Rattle.std.specs.Prelude.{◌≡◌, ◌≢◌, ℕ, suc, ◌<◌, List, [], ◌++◌, Some, None, slice_get, length}
+use Rattle.regent_tree.specs.declared.outcome.Fault.{Fault}
 use Rattle.task_code.specs.declared.code.Code.{Code}
 use Rattle.task_code.specs.declared.code.Line.{Line}
 use Rattle.task_code.specs.declared.code.TaskCode.{TaskCode}
 use Rattle.task_machine.specs.declared.frame.Before.{Before}
 use Rattle.task_machine.specs.declared.outcome.Yield.{Yield}
+use Rattle.task_machine.specs.declared.outcome.Yield.TheVariants as yield
 use Rattle.task_machine.specs.Machine.{Machine, goes, prints, stops}
 use Rattle.task_machine.specs.Segments.{step, run, after, segment, opened}
 
--- The task of a frame is there, has as many slots as the frame, and no fault is kept for later. (Else
--- the segment yields before its first step.)
+-- The task of a frame is there, has as many slots as the frame, and no fault is kept for later.
 pub record Begins (b : Before) (t : TaskCode) : Type 0 where
   pub task : slice_get b.code.tasks b.frame.task ≡ Some t
   pub slots : length b.frame.slots ≡ t.slots
@@ -40,3 +41,20 @@ pub record StopsAtStep (b : Before) (t : TaskCode) : Type 0 where
 
 abbrev pub SegmentsYield : Type 0
 SegmentsYield = (b : Before) (t : TaskCode) → Begins b t → StopsAtStep b t
+
+-- Else it yields before the first step.
+abbrev pub YieldsAtOnce : Before → Yield → Type 0
+YieldsAtOnce b y = segment b ≡ after (record { ends = y; machine = opened b; text = [] })
+
+abbrev pub AbsentTasksYield : Type 0
+AbsentTasksYield = (b : Before) → slice_get b.code.tasks b.frame.task ≡ None →
+    YieldsAtOnce b yield.MachineFault
+
+abbrev pub WrongSlotsYield : Type 0
+WrongSlotsYield = (b : Before) (t : TaskCode) → slice_get b.code.tasks b.frame.task ≡ Some t →
+    length b.frame.slots ≢ t.slots → YieldsAtOnce b yield.MachineFault
+
+abbrev pub LaterFaultsYield : Type 0
+LaterFaultsYield = (b : Before) (t : TaskCode) (f : Fault) →
+    slice_get b.code.tasks b.frame.task ≡ Some t → length b.frame.slots ≡ t.slots →
+    b.frame.later ≡ Some f → YieldsAtOnce b (yield.Fault f)

@@ -16,11 +16,15 @@ ghost use Rattle.machine_laws.specs.Pointers.{cast_looks_up_no_position, element
 ghost use Rattle.machine_laws.specs.Resumptions.{child_is_awaited, made_root_is_pushed, reduction_starts_at_identity, want_is_met};
 ghost use Rattle.machine_laws.specs.Roots.{absent_space_breaks, root_is_made, root_of_number_breaks, sizes_have_a_limit, too_many_fields_break};
 ghost use Rattle.machine_laws.specs.TouchLists.{fault_touches_nothing, fill_touches_each_point, later_fault_touches_nothing, partition_touches_each_point, touches_come_in_order, want_touches_nothing};
-ghost use Rattle.machine_laws.specs.Yields.{SegmentsYield};
+ghost use Rattle.machine_laws.specs.Yields.{AbsentTasksYield, LaterFaultsYield, SegmentsYield, WrongSlotsYield};
 
-/// Every segment of every code yields at a step; no run is cut short by the steps that it is allowed.
+/// Every segment of every code yields, at once or at a step; no run is cut short by the steps that it
+/// is allowed.
 pub fn segments_yield()
-    ensures { SegmentsYield }
+    ensures at_a_step { SegmentsYield }
+    ensures absent_task { AbsentTasksYield }
+    ensures wrong_slots { WrongSlotsYield }
+    ensures later_fault { LaterFaultsYield }
 {}
 
 /// A segment gives back its parts, with other numbers at most.
