@@ -1,0 +1,3 @@
+pub mod Yields
+pub mod Parts
+pub mod Wrapped

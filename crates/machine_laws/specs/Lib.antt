@@ -1,0 +1,14 @@
+pub mod Yields
+pub mod Parts
+pub mod Words
+pub mod Frames
+pub mod Operands
+pub mod Calls
+pub mod Roots
+pub mod Partitions
+pub mod Accesses
+pub mod Pointers
+pub mod Faults
+pub mod Resumptions
+pub mod TouchLists
+pub mod Loops
