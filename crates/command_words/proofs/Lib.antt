@@ -1,0 +1,12 @@
+pub mod Rules
+pub mod Forms
+pub mod Walking
+pub mod Steps
+pub mod Rows
+pub mod Lookups
+pub mod Defaults
+pub mod Levels
+pub mod Top
+pub mod Whole
+pub mod Numbers
+pub mod Reading

@@ -1,0 +1,24 @@
+//! The words of the command line: `run [--workers N] [--turns N] [--dump] [--trace] FILE [NUMBER ..]`,
+//! `check FILE` and `sample [--workers N] N`.
+//!
+//! `command` reads them with `clap`, as one simple command with a level of subcommands, and reads the
+//! numbers of options from their texts. What words say stands in `specs/`: the commands and the
+//! settings that each knows in `Settings`, the words one after the other in `Uses`, the numbers, the
+//! limits and the commands in `Commands`. That clap's answer is that is proved for all lists of words
+//! in `proofs/`, over its contract.
+#![tactic(auto)]
+
+mod commands;
+mod fault;
+mod number;
+mod parser;
+mod read;
+mod said;
+#[cfg(test)]
+mod tests;
+
+pub use commands::{
+    Command, DEFAULT_TURNS, DEFAULT_WORKERS, MOST_CELLS, MOST_TURNS, MOST_WORKERS, Run,
+};
+pub use fault::WordsFault;
+pub use read::command;
