@@ -8,5 +8,6 @@ pub mod Loops
 pub mod Statements
 pub mod Leaves
 pub mod Bodies
+pub mod Assignments
 pub mod Variables
 pub mod Tasks

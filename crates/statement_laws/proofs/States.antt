@@ -49,7 +49,7 @@ found_below next (b ∷ bs) falls j = here (b.number == j) refl (found_below b.n
     here false q (inl l) = let less = falls.0 in inl (omega (arith, l, less))
     here false q (inr g) = inr g
 
-unbound_fits : (m : Interpretation) (i : ℕ) (b : Bound) (v : Value) → b ≡ unbound → IsBoundTo m i b v
+pub unbound_fits : (m : Interpretation) (i : ℕ) (b : Bound) (v : Value) → b ≡ unbound → IsBoundTo m i b v
 unbound_fits m i b v e = subst (λ (c : Bound). IsBoundTo m i c v) (sym e) (record { is_of = is_unknown; colour = λ q. absurd cc })
 
 pub names_too : (s : Scope) (a b : Interpretation) (names : List Value) → IsSoundScope s → IsWellScoped s → AgreeBelow s.next a b → NamesFit a s names → NamesFit b s names

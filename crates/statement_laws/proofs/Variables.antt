@@ -63,6 +63,7 @@ use Rattle.statement_laws.proofs.Types.{args_below}
 use Rattle.std.proofs.Common.{◌⊎◌, inl, inr}
 use Rattle.regent_tree.specs.Syntax.{Form, assert_form, assign_form, at_step, both_initializer, by_field_initializer, call_form, do_form, either_initializer, equal_initializer, field_step, fill_form, for_in_form, for_to_form, if_form, image_initializer, no_step, preimage_initializer, print_form, return_form, while_form}
 use Rattle.statement_laws.specs.Untreated.{IsPlain, IsUntreated}
+use Rattle.statement_laws.proofs.Assignments.{set_goes}
 use Rattle.statement_laws.proofs.Leaves.{IsRest}
 
 abbrev number_made : Known → ℕ
@@ -298,7 +299,7 @@ module _ (task : TaskTree) (args : List Value) (roots : ℕ) where
   plain_or unknown_type = inr (λ h. h)
 
   pub variables_go : ((form : Form) (h : Here) → IsUntreated h form → FormGoes task args roots h form) → (form : Form) (h : Here) → IsRest task args roots form → FormGoes task args roots h form
-  variables_go left (assign_form n no_step k y) h rest m r e w wr u st = left (assign_form n no_step k y) h tt m r e w wr u st
+  variables_go left (assign_form n no_step k y) h rest m r e w wr u st = set_goes task args roots n k y h m r e w wr u st
   variables_go left (var_form n (Some t) (Some start)) h rest m r e w wr u st = left (var_form n (Some t) (Some start)) h tt m r e w wr u st
   variables_go left (var_form n (Some t) None) h rest m r e w wr u st = unset_goes n t h m r e w wr u st
   variables_go left (var_form n None None) h rest m r e w wr u st = absurd (contrary (parts_of_form h.tree task h.scope r.sound r.scope (var_form n None None) e).1)

@@ -1,7 +1,7 @@
 -- Statements of which the laws don't speak yet.
 use Rattle.std.specs.Prelude.{None, Some, false, ◌≡◌}
 use Rattle.regent_tree.specs.Running.{Here}
-use Rattle.regent_tree.specs.Syntax.{Form, assign_form, no_step, plain_initializer, region_initializer, var_form}
+use Rattle.regent_tree.specs.Syntax.{Form, plain_initializer, region_initializer, var_form}
 use Rattle.regent_tree.specs.Typing.{type_of}
 use Rattle.regent_tree.specs.declared.typing.StaticType.{StaticType}
 use Rattle.regent_tree.specs.declared.typing.StaticType.TheVariants.{Nothing as no_type, Partition as partition_type, Region as region_type, Unknown as unknown_type}
@@ -15,10 +15,9 @@ IsPlain no_type = ⊥
 IsPlain unknown_type = ⊥
 IsPlain t = Unit {0}
 
--- A variable that is assigned, one that has a type and an initializer, and one that begins with a partition
--- operation or as a child of a partition.
+-- A variable that has a type and an initializer, and one that begins with a partition operation or as a child
+-- of a partition.
 abbrev pub IsUntreated : Here → Form → Type 0
-IsUntreated h (assign_form n no_step k y) = Unit {0}
 IsUntreated h (var_form n (Some t) (Some start)) = Unit {0}
 IsUntreated h (var_form n None (Some (region_initializer e u))) = ⊥
 IsUntreated h (var_form n None (Some (plain_initializer e))) = IsPlain (type_of h.tree h.scope e) → is_difference h.scope.names e ≡ false → ⊥
