@@ -10,4 +10,5 @@ pub mod Leaves
 pub mod Bodies
 pub mod Assignments
 pub mod Variables
+pub mod TypedVariables
 pub mod Tasks

@@ -132,7 +132,7 @@ module _ (task : TaskTree) (args : List Value) (roots : ℕ) where
       let is = sym same ∙ first.0 in
       absurd (omega (arith, below, is))
 
-  in_turn_goes : {A B : Type 0} (x : Instance) (m : Interpretation) (n : ℕ) (t : Scope) (r : Result A) (f : A → Run B) (g : B → Run Going) →
+  pub in_turn_goes : {A B : Type 0} (x : Instance) (m : Interpretation) (n : ℕ) (t : Scope) (r : Result A) (f : A → Run B) (g : B → Run Going) →
       GoesOnSound x m n t (and_then r (λ a u. and_then (f a u) g)) → GoesOnSound x m n t (and_then (and_then r f) g)
   in_turn_goes x m n t (gives a u) f g goes = goes
   in_turn_goes x m n t (fails e u) f g goes = goes
@@ -183,13 +183,13 @@ module _ (task : TaskTree) (args : List Value) (roots : ℕ) where
   -- ---- values that are no collections
 
   -- a value of such a type is no region, and is bound with the type, which tells nothing
-  record TellsNone (s : Scope) (t : StaticType) : Type 0 where
-    same : owned s.next t ≡ t
-    child : known_of_child s.next t ≡ []
-    type : known_of_type t ≡ []
-    empty : (m : Interpretation) (v : Value) → IsOfType m t v → region_of v ≡ no_region
+  pub record TellsNone (s : Scope) (t : StaticType) : Type 0 where
+    pub same : owned s.next t ≡ t
+    pub child : known_of_child s.next t ≡ []
+    pub type : known_of_type t ≡ []
+    pub empty : (m : Interpretation) (v : Value) → IsOfType m t v → region_of v ≡ no_region
 
-  tells_none : (s : Scope) (t : StaticType) → IsPlain t → TellsNone s t
+  pub tells_none : (s : Scope) (t : StaticType) → IsPlain t → TellsNone s t
   tells_none s (integer_type w) h = record { same = refl; child = refl; type = refl; empty = λ m v is. none m v is }
     where
       none : (m : Interpretation) (v : Value) → IsOfType m (integer_type w) v → region_of v ≡ no_region
@@ -284,50 +284,3 @@ module _ (task : TaskTree) (args : List Value) (roots : ℕ) where
       by (typed_as.Ispace k) c named = absurd (contrary c)
       by (typed_as.Region k s) c named = absurd (contrary c)
       by (typed_as.Partition d q s) c named = absurd (contrary c)
-
-  -- ---- what is left
-
-  plain_or : (t : StaticType) → IsPlain t ⊎ (IsPlain t → ⊥)
-  plain_or (integer_type w) = inl tt
-  plain_or truth_type = inl tt
-  plain_or (index_type k) = inl tt
-  plain_or (pointer_type k sp types terms) = inl tt
-  plain_or (ispace_type k) = inl tt
-  plain_or (region_type k sp types t) = inr (λ h. h)
-  plain_or (partition_type d r p) = inr (λ h. h)
-  plain_or no_type = inr (λ h. h)
-  plain_or unknown_type = inr (λ h. h)
-
-  pub variables_go : ((form : Form) (h : Here) → IsUntreated h form → FormGoes task args roots h form) → (form : Form) (h : Here) → IsRest task args roots form → FormGoes task args roots h form
-  variables_go left (assign_form n no_step k y) h rest m r e w wr u st = set_goes task args roots n k y h m r e w wr u st
-  variables_go left (var_form n (Some t) (Some start)) h rest m r e w wr u st = left (var_form n (Some t) (Some start)) h tt m r e w wr u st
-  variables_go left (var_form n (Some t) None) h rest m r e w wr u st = unset_goes n t h m r e w wr u st
-  variables_go left (var_form n None None) h rest m r e w wr u st = absurd (contrary (parts_of_form h.tree task h.scope r.sound r.scope (var_form n None None) e).1)
-  variables_go left (var_form n None (Some (region_initializer y s))) h rest m r e w wr u st = region_goes n y s h m r e w wr u st
-  variables_go left (var_form n None (Some (plain_initializer y))) h rest m r e w wr u st = elim (plain_or (type_of h.tree h.scope y)) [
-    | inl is ↦ whole (is_difference h.scope.names y) refl is
-    | inr other ↦ left (var_form n None (Some (plain_initializer y))) h (λ is q. other is) m r e w wr u st
-  ]
-    where
-      whole : (b : Bool) → is_difference h.scope.names y ≡ b → IsPlain (type_of h.tree h.scope y) →
-          GoesOnSound (inst h) m h.scope.next (scope_after h.tree h.scope (var_form n None (Some (plain_initializer y)))) (exec h (var_form n None (Some (plain_initializer y))) u)
-      whole false q is = plain_goes n y h is q m r e w wr u st
-      whole true q is = left (var_form n None (Some (plain_initializer y))) h (λ is p. contrary (sym q ∙ p)) m r e w wr u st
-  variables_go left (var_form n None (Some (equal_initializer a y))) h rest m r e w wr u st = left (var_form n None (Some (equal_initializer a y))) h tt m r e w wr u st
-  variables_go left (var_form n None (Some (by_field_initializer a f y))) h rest m r e w wr u st = left (var_form n None (Some (by_field_initializer a f y))) h tt m r e w wr u st
-  variables_go left (var_form n None (Some (image_initializer a p b f))) h rest m r e w wr u st = left (var_form n None (Some (image_initializer a p b f))) h tt m r e w wr u st
-  variables_go left (var_form n None (Some (preimage_initializer a p b f))) h rest m r e w wr u st = left (var_form n None (Some (preimage_initializer a p b f))) h tt m r e w wr u st
-  variables_go left (var_form n None (Some (both_initializer p q))) h rest m r e w wr u st = left (var_form n None (Some (both_initializer p q))) h tt m r e w wr u st
-  variables_go left (var_form n None (Some (either_initializer p q))) h rest m r e w wr u st = left (var_form n None (Some (either_initializer p q))) h tt m r e w wr u st
-  variables_go left (assign_form n (field_step f steps) k y) h rest m r e w wr u st = absurd rest
-  variables_go left (assign_form n (at_step z steps) k y) h rest m r e w wr u st = absurd rest
-  variables_go left (if_form arms other) h rest m r e w wr u st = absurd rest
-  variables_go left (while_form test body) h rest m r e w wr u st = absurd rest
-  variables_go left (for_in_form d n domain body) h rest m r e w wr u st = absurd rest
-  variables_go left (for_to_form d n from to body) h rest m r e w wr u st = absurd rest
-  variables_go left (do_form body) h rest m r e w wr u st = absurd rest
-  variables_go left (fill_form n fs y) h rest m r e w wr u st = absurd rest
-  variables_go left (assert_form y) h rest m r e w wr u st = absurd rest
-  variables_go left (print_form alias format es) h rest m r e w wr u st = absurd rest
-  variables_go left (call_form f es) h rest m r e w wr u st = absurd rest
-  variables_go left (return_form y) h rest m r e w wr u st = absurd rest
