@@ -12,3 +12,4 @@ pub mod Assignments
 pub mod Variables
 pub mod TypedVariables
 pub mod Tasks
+pub mod Example

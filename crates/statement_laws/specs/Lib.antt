@@ -3,3 +3,4 @@ pub mod WrittenStatements
 pub mod Places
 pub mod Untreated
 pub mod Laws
+pub mod Example

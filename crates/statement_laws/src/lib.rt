@@ -4,6 +4,7 @@
 //! The laws are stated under specs/. Each function has an empty body; its contract is a law.
 #![tactic(auto)]
 
+ghost use Rattle.statement_laws.specs.Example.{ExampleHolds};
 ghost use Rattle.statement_laws.specs.Laws.{BodiesAreCovered, StatementsKeep};
 
 /// Every statement keeps what holds at a place, where those do of which the laws don't speak yet.
@@ -14,4 +15,9 @@ pub fn statements_keep()
 /// Each touch of a body is covered by what its task declares, where those statements keep what holds.
 pub fn bodies_are_covered()
     ensures { BodiesAreCovered }
+{}
+
+/// A task and a state in which each premise of the law on bodies holds, with the touches that it makes.
+pub fn example_holds()
+    ensures { ExampleHolds }
 {}
