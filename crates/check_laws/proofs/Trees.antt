@@ -189,7 +189,7 @@ module _ (tree : Tree) (declared : first_in (first_declared tree) tree ≡ None)
 first_none : (tree : Tree) → breaches tree ≡ [] → first_breach tree ≡ None
 first_none tree none = (none_without_first tree).1 none
 
-declared_none : (tree : Tree) → breaches tree ≡ [] → first_in (first_declared tree) tree ≡ None
+pub declared_none : (tree : Tree) → breaches tree ≡ [] → first_in (first_declared tree) tree ≡ None
 declared_none tree none =
     let a = option_or_parts _ _ (first_none tree none) in
     let b = option_or_parts _ _ a.1 in
@@ -203,7 +203,7 @@ bodies_none tree none =
     (option_or_parts (first_in (λ (i : ItemTree). first_in_body tree i.form) tree) _ c.1).0
 
 -- the body of a task among the items
-body_known : (tree : Tree) (none : breaches tree ≡ []) (line : ℕ) (t : TaskTree) → Has tree (record { line = line; form = task_item t }) →
+pub body_known : (tree : Tree) (none : breaches tree ≡ []) (line : ℕ) (t : TaskTree) → Has tree (record { line = line; form = task_item t }) →
     (body_scope tree t ≡ scope_of tree t) × IsSoundScope (body_scope tree t) × (first_in_block tree t (body_scope tree t) t.body ≡ None)
 body_known tree none line t h =
     let declared = declared_none tree none in

@@ -274,7 +274,7 @@ module _ (tree : Tree) (task : TaskTree) (s : Scope) (sound : IsSound tree) (sco
       × (known_of_known_initializer tree s initializer ≡ known_of_initializer tree s s.next initializer)
 
   -- an initializer, in a variable
-  begun_sound : (n : Name) (t : Option TypeTerm) (i : Initializer) → first_of_form tree task s (var_form n t (Some i)) ≡ None →
+  pub begun_sound : (n : Name) (t : Option TypeTerm) (i : Initializer) → first_of_form tree task s (var_form n t (Some i)) ≡ None →
       (is_flawed_initializer tree s i ≡ false) × IsKnown s (initializer_type tree s s.next i) × (begins_unsoundly tree s t (Some i) ≡ false)
   begun_sound n t i e =
       let parts = parts_of_form (var_form n t (Some i)) e in

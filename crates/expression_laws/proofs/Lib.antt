@@ -1,0 +1,10 @@
+pub mod Knowing
+pub mod Covers
+pub mod Names
+pub mod Operators
+pub mod Steps
+pub mod Values
+pub mod Writes
+pub mod Joins
+pub mod Calls
+pub mod Laws

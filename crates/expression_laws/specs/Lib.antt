@@ -1,0 +1,5 @@
+pub mod Kinds
+pub mod Needs
+pub mod Sound
+pub mod Writing
+pub mod Laws

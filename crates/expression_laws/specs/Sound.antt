@@ -1,0 +1,87 @@
+-- What holds at each place of a running task of a program without a breach.
+--
+-- What is fixed at a place of the text: the facts hold, the roots that were made are the task's own, and
+-- the regions of parameters are those of the arguments. What a state keeps: names have values of their
+-- kinds, and each touch so far is covered.
+use Rattle.std.specs.Prelude.{Contains, List, [], ◌∷◌, false, get_or, length, true, ℕ, ◌<◌, ◌≡◌, ◌≤◌}
+use Rattle.regent_tree.specs.Cover.{is_covered}
+use Rattle.regent_tree.specs.Evaluation.{first_type, other_types}
+use Rattle.regent_tree.specs.Running.{Calls, Called, Result, State, broke, came_back, fails, gives}
+use Rattle.regent_tree.specs.Scopes.{Scope}
+use Rattle.regent_tree.specs.StaticTypes.{task_named}
+use Rattle.regent_tree.specs.Store.{Store, Touch}
+use Rattle.regent_tree.specs.Syntax.{Expression, Expressions, Name, TaskTree, Tree, an_expr, no_expr}
+use Rattle.regent_tree.specs.Typing.{colour_of, param_types, result_type, type_of}
+use Rattle.regent_tree.specs.Values.{Value, a_truth, region_of}
+use Rattle.regent_tree.specs.declared.facts.Known.{Known}
+use Rattle.regent_tree.specs.declared.facts.Known.TheVariants.{Made}
+use Rattle.check_rules.specs.types.Sorts.{is_region, type_at}
+use Rattle.regent_tree.specs.declared.typing.StaticType.{StaticType}
+use Rattle.expression_laws.specs.Kinds.{IsOfType, NamesFit, number_stood_for}
+use Rattle.fact_laws.specs.Regions.{AllHold, IsColour, IsIn, Interpretation}
+
+-- a task instance: its program, its task, its arguments, and the roots that were there when it began
+pub record Instance : Type 0 where
+  pub tree : Tree
+  pub task : TaskTree
+  pub args : List Value
+  pub roots : ℕ
+
+-- each point of what the task made is of a root that wasn't there before
+abbrev pub AreOwnRoots : ℕ → Interpretation → List Known → Type 0
+AreOwnRoots roots m known = (i : ℕ) → Contains known (Made i) → (root n : ℕ) → IsIn (m.region i) root n → roots ≤ root
+
+-- the regions of parameters are those of the arguments
+abbrev pub AreGivenRegions : Instance → Interpretation → Type 0
+AreGivenRegions x m = (i : ℕ) → is_region (type_at (param_types x.tree x.task) i) ≡ true →
+    m.region i ≡ region_of (get_or x.args i (a_truth false))
+
+pub record IsSoundPlace (x : Instance) (m : Interpretation) (s : Scope) : Type 0 where
+  pub holds : AllHold m s.known
+  pub own : AreOwnRoots x.roots m s.known
+  pub params : AreGivenRegions x m
+
+abbrev pub AreCovered : Instance → List Touch → Type 0
+AreCovered x touches = (t : Touch) → Contains touches t → is_covered x.tree x.roots x.task x.args t ≡ true
+
+-- points of regions are of roots that are there
+abbrev pub AreRooted : Interpretation → ℕ → Type 0
+AreRooted m count = (i root n : ℕ) → IsIn (m.region i) root n → root < count
+
+pub record IsSoundState (x : Instance) (m : Interpretation) (s : Scope) (u : State) : Type 0 where
+  pub names : NamesFit m s u.names
+  pub counted : length u.names ≡ length s.names
+  pub rooted : AreRooted m (length u.store)
+  pub grown : x.roots ≤ length u.store
+  pub covered : AreCovered x u.touches
+
+-- what a call gives is of the kind that the called task's result type says, and leaves as many roots
+abbrev pub IsSoundAnswer : Interpretation → Tree → Name → Store → Called → Type 0
+IsSoundAnswer m tree task before (came_back v store text) =
+    IsOfType m (result_type tree (task_named tree task).result) v × (length store ≡ length before)
+IsSoundAnswer m tree task before (broke f text) = Unit {0}
+
+abbrev pub AreSoundAnswers : Interpretation → Tree → Calls → Type 0
+AreSoundAnswers m tree calls = (line : ℕ) (task : Name) (vs : List Value) (store : Store) →
+    IsSoundAnswer m tree task store (calls line task vs store)
+
+-- a step gives something of which a claim holds in the state after it, or faults in one of which another does
+abbrev pub EndsIn : {A : Type 0} → (A → State → Type 0) → (State → Type 0) → Result A → Type 0
+EndsIn good bad (gives a u) = good a u
+EndsIn good bad (fails f u) = bad u
+
+-- what evaluation keeps: the state's names and touches, and what it gives is so
+abbrev pub KeepsSound : {A : Type 0} → Instance → Interpretation → Scope → (A → Type 0) → Result A → Type 0
+KeepsSound x m s Is r = EndsIn (λ a u. IsSoundState x m s u × Is a) (λ u. AreCovered x u.touches) r
+
+-- the value of an expression is of its type, and a colour that is written so stands for it
+pub record IsValueOf (m : Interpretation) (tree : Tree) (s : Scope) (e : Expression) (v : Value) : Type 0 where
+  pub is_of : IsOfType m (type_of tree s e) v
+  pub colour : IsColour m (colour_of s e) (number_stood_for v)
+
+-- a region that is given to a parameter of a region is the argument itself
+abbrev pub ArePassed : Interpretation → Tree → Scope → List StaticType → Expressions → List Value → Type 0
+ArePassed m tree s types no_expr vs = Unit {0}
+ArePassed m tree s types (an_expr e es) [] = ⊥
+ArePassed m tree s types (an_expr e es) (v ∷ vs) =
+    (is_region (first_type types) ≡ true → IsOfType m (type_of tree s e) v) × ArePassed m tree s (other_types types) es vs

@@ -1,0 +1,15 @@
+pub mod Agree
+pub mod Types
+pub mod VariableTypes
+pub mod Scopes
+pub mod States
+pub mod Going
+pub mod Loops
+pub mod Statements
+pub mod Leaves
+pub mod Bodies
+pub mod Assignments
+pub mod Variables
+pub mod TypedVariables
+pub mod Tasks
+pub mod Example

@@ -1,0 +1,47 @@
+-- Laws of statements in programs without a breach: they keep what holds at each place of a body, and each
+-- touch is covered.
+use Rattle.std.specs.Prelude.{List, [], ℕ, ◌≡◌}
+use Rattle.regent_tree.specs.Execution.{Going, exec_block}
+use Rattle.regent_tree.specs.Meaning.{body_of}
+use Rattle.regent_tree.specs.Running.{Calls, Here, Result, State, fails, gives}
+use Rattle.regent_tree.specs.Scopes.{scope_of}
+use Rattle.regent_tree.specs.Syntax.{Form, TaskTree, Tree}
+use Rattle.regent_tree.specs.Values.{Value}
+use Rattle.check_rules.specs.Breaches.{breaches}
+use Rattle.check_rules.specs.scopes.Sound.{StandsIn}
+use Rattle.fact_laws.specs.Regions.{Interpretation}
+use Rattle.expression_laws.specs.Sound.{AreCovered, AreSoundAnswers, Instance, IsSoundPlace, IsSoundState}
+use Rattle.statement_laws.specs.Places.{FormGoes}
+use Rattle.statement_laws.specs.Steady.{IsStaticPlace}
+use Rattle.statement_laws.specs.Untreated.{IsUntreated}
+use Rattle.statement_laws.specs.WrittenStatements.{IsWrittenBlock}
+
+-- the statements of which the laws don't speak yet keep what holds
+abbrev pub UntreatedKeep : TaskTree → List Value → ℕ → Type 0
+UntreatedKeep task args roots = (form : Form) (h : Here) → IsUntreated h form → FormGoes task args roots h form
+
+-- Where these do, every statement keeps what holds: loops, choices and blocks, variables, writes,
+-- reductions, fills, calls, and what is returned.
+abbrev pub StatementsKeep : Type 0
+StatementsKeep = (task : TaskTree) (args : List Value) (roots : ℕ) → UntreatedKeep task args roots →
+    (form : Form) (h : Here) → FormGoes task args roots h form
+
+-- what holds where a body begins
+pub record IsSoundOpening (x : Instance) (m : Interpretation) (u : State) : Type 0 where
+  pub static : IsStaticPlace x (scope_of x.tree x.task)
+  pub place : IsSoundPlace x m (scope_of x.tree x.task)
+  pub state : IsSoundState x m (scope_of x.tree x.task) u
+
+-- the state up to which a run went
+abbrev pub state_of : Result Going → State
+state_of (gives g u) = u
+state_of (fails f u) = u
+
+-- In a program without a breach each touch that a body makes is covered by what its task declares, whatever
+-- the calls in it give of their result types.
+abbrev pub BodiesAreCovered : Type 0
+BodiesAreCovered = (tree : Tree) (calls : Calls) (task : TaskTree) (args : List Value) (roots : ℕ) (m : Interpretation) →
+    breaches tree ≡ [] → StandsIn tree task → IsWrittenBlock task.body → AreSoundAnswers m tree calls → UntreatedKeep task args roots →
+    (u : State) → IsSoundOpening (record { tree = tree; task = task; args = args; roots = roots }) m u →
+    AreCovered (record { tree = tree; task = task; args = args; roots = roots })
+    (state_of (exec_block (body_of tree calls task) task.body u)).touches

@@ -1,0 +1,23 @@
+//! Laws of the statements of programs without a breach: they keep what holds at each place of a body, and
+//! each touch is covered by what the task declares.
+//!
+//! The laws are stated under specs/. Each function has an empty body; its contract is a law.
+#![tactic(auto)]
+
+ghost use Rattle.statement_laws.specs.Example.{ExampleHolds};
+ghost use Rattle.statement_laws.specs.Laws.{BodiesAreCovered, StatementsKeep};
+
+/// Every statement keeps what holds at a place, where those do of which the laws don't speak yet.
+pub fn statements_keep()
+    ensures { StatementsKeep }
+{}
+
+/// Each touch of a body is covered by what its task declares, where those statements keep what holds.
+pub fn bodies_are_covered()
+    ensures { BodiesAreCovered }
+{}
+
+/// A task and a state in which each premise of the law on bodies holds, with the touches that it makes.
+pub fn example_holds()
+    ensures { ExampleHolds }
+{}
