@@ -3,6 +3,7 @@
 
 mod arithmetic;
 mod calls;
+mod copies;
 mod frame;
 mod holdings;
 mod jumps;
@@ -10,6 +11,7 @@ mod numbers;
 mod order;
 mod outcome;
 mod points;
+mod ran;
 mod running;
 mod segment;
 mod stack;
@@ -19,6 +21,7 @@ mod value;
 pub use frame::{Before, Frame};
 pub use order::{Contents, Ended, Instance, Required, Resumed, Root};
 pub use outcome::{After, CallOut, Made, Yield};
+pub use ran::{Ran, run_segment};
 pub use segment::run;
 pub use stack::Stack;
 pub use value::{PartitionValue, RegionValue, Value};
