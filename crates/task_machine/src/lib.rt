@@ -16,6 +16,8 @@ mod running;
 mod segment;
 mod stack;
 mod steps;
+#[cfg(test)]
+mod tests;
 mod value;
 
 pub use frame::{Before, Frame};
