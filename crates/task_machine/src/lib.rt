@@ -6,6 +6,8 @@ mod frame;
 mod holdings;
 mod numbers;
 mod outcome;
+mod pointers;
+mod regions;
 mod running;
 mod segment;
 mod stack;
