@@ -9,3 +9,6 @@ pub mod LoopHeads
 pub mod Fuel
 pub mod Ending
 pub mod Casting
+pub mod Spots
+pub mod Filling
+pub mod Reading

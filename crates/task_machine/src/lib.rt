@@ -2,15 +2,19 @@
 #![tactic(auto)]
 
 mod arithmetic;
+mod columns;
+mod fills;
 mod frame;
 mod holdings;
 mod numbers;
 mod outcome;
+mod partitioning;
 mod pointers;
 mod regions;
 mod running;
 mod segment;
 mod stack;
+mod touches;
 mod value;
 
 pub use frame::{Before, Frame};

@@ -122,11 +122,7 @@ fn cast_on(
 /// The number that is kept of the pointer to a number's point through the first region of some slots
 /// that holds it; None where a slot has no region.
 #[tactic(auto, using(crate::proofs::Casting::cast_step))]
-fn cast_to(
-    slots: &Sequence<Value>,
-    regions: &[u32],
-    number: i64,
-) -> Result<Option<i64>, AllocError>
+fn cast_to(slots: &Sequence<Value>, regions: &[u32], number: i64) -> Result<Option<i64>, AllocError>
     ensures { IfOk result (λ r. r ≡ cast_from None 0 (regions_in slots.now regions.now) number) }
 {
     let mut found = None;
@@ -215,11 +211,7 @@ impl Running {
         Ok(Act::Next)
     }
 
-    pub(crate) fn move_pointer(
-        &mut self,
-        pc: u32,
-        places: &Sequence<u8>,
-    ) -> Result<Act, AllocError>
+    pub(crate) fn move_pointer(&mut self, pc: u32, places: &Sequence<u8>) -> Result<Act, AllocError>
         ensures { IfOk result (Does (λ m. on_number m.frame.stack m
             (λ z st. move places.now (target_kept z) st m)) pc self.old self.new) }
     {
