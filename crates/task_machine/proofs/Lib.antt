@@ -12,3 +12,7 @@ pub mod Rounds
 pub mod Taking
 pub mod Coming
 pub mod Tasks
+pub mod Casting
+pub mod Spots
+pub mod Filling
+pub mod Reading

@@ -3,21 +3,27 @@
 
 mod arithmetic;
 mod calls;
+mod columns;
 mod copies;
+mod fills;
 mod frame;
 mod holdings;
 mod jumps;
 mod numbers;
 mod order;
 mod outcome;
+mod partitioning;
+mod pointers;
 mod points;
 mod ran;
+mod regions;
 mod running;
 mod segment;
 mod stack;
 mod steps;
 #[cfg(test)]
 mod tests;
+mod touches;
 mod value;
 
 pub use frame::{Before, Frame};

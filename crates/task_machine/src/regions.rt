@@ -1,0 +1,104 @@
+//! Instructions on index spaces, roots and children.
+
+ghost use Rattle.std.specs.Prelude.{◌≡◌, IfNone, IfOk, IfSome, None, Some, slice_get};
+ghost use Rattle.task_machine.specs.Acts.{Does};
+ghost use Rattle.task_machine.specs.Machine.{on_number};
+ghost use Rattle.task_machine.specs.Regions.{child, colors, coloured, new_root};
+ghost use Rattle.task_machine.specs.Regions.{partition_in, space};
+
+use crate::outcome::{Made, Yield};
+use crate::running::{Act, Running};
+use crate::value::{PartitionValue, RegionValue, Value};
+use index_spaces::Ispace;
+use plain_values::Sequence;
+use regent_tree::FaultKind;
+use std::alloc::AllocError;
+use task_code::Code;
+
+/// The partition in a slot.
+pub(crate) fn partition_in(slots: &Sequence<Value>, slot: u32) -> Option<&PartitionValue>
+    ensures some { IfSome result (λ p. partition_in (slice_get slots.now slot) ≡ Some p.now) }
+    ensures none { IfNone result (partition_in (slice_get slots.now slot) ≡ None) }
+{
+    match slots.as_slice().get(slot as usize) {
+        Some(Value::Partition(partition)) => Some(partition),
+        _ => None,
+    }
+}
+
+/// The region of a colour.
+fn coloured(children: &Sequence<RegionValue>, number: i64) -> Option<&RegionValue>
+    ensures some { IfSome result (λ r. coloured children.now number ≡ Some r.now) }
+    ensures none { IfNone result (coloured children.now number ≡ None) }
+{
+    if number < 0 {
+        return None;
+    }
+    children.as_slice().get(number as usize)
+}
+
+impl Running {
+    pub(crate) fn space(&mut self, pc: u32, line: u32) -> Result<Act, AllocError>
+        ensures { IfOk result (Does (λ m. on_number m.frame.stack m
+            (λ z st. space z line st m)) pc self.old self.new) }
+    {
+        let Some(z) = self.frame.stack.pop_number() else {
+            return Ok(Act::broken());
+        };
+        match Ispace::line(z) {
+            Ok(space) => {
+                let _size = space.volume();
+                self.frame.stack.push(Value::Space(space))?;
+                Ok(Act::Next)
+            }
+            Err(_) => Ok(Act::fault(FaultKind::BadSize, line)),
+        }
+    }
+
+    pub(crate) fn colors(&mut self, pc: u32, slot: u32) -> Result<Act, AllocError>
+        ensures { IfOk result (Does (colors slot) pc self.old self.new) }
+    {
+        let Some(partition) = partition_in(&self.frame.slots, slot) else {
+            return Ok(Act::broken());
+        };
+        let count = partition.children.get().len();
+        if count > 4_194_304 {
+            return Ok(Act::broken());
+        }
+        let Ok(space) = Ispace::line(count as i64) else {
+            return Ok(Act::broken());
+        };
+        self.push(pc, Value::Space(space))
+    }
+
+    pub(crate) fn new_root(&mut self, pc: u32, code: &Code, fields: u32) -> Act
+        ensures { Does (new_root code.now fields) pc self.old self.new result }
+    {
+        let Some(space) = self.frame.stack.pop_space() else {
+            return Act::broken();
+        };
+        match code.spaces.as_slice().get(fields as usize) {
+            Some(found) if found.fields.len() <= 256 => {
+                self.yield_behind(pc, Yield::Make(Made::Root { space, fields }))
+            }
+            _ => Act::broken(),
+        }
+    }
+
+    pub(crate) fn child(&mut self, pc: u32, slot: u32, line: u32) -> Result<Act, AllocError>
+        ensures { IfOk result (Does (child slot line) pc self.old self.new) }
+    {
+        let Some(partition) = partition_in(&self.frame.slots, slot) else {
+            return Ok(Act::broken());
+        };
+        let Some(z) = self.frame.stack.pop_number() else {
+            return Ok(Act::broken());
+        };
+        let Some(region) = coloured(partition.children.get(), z) else {
+            return Ok(Act::fault(FaultKind::BadColor, line));
+        };
+        let region = region.copy()?;
+        self.frame.stack.push(Value::Region(region))?;
+        Ok(Act::Next)
+    }
+}
