@@ -23,12 +23,12 @@ use Rattle.check_rules.specs.scopes.Sound.{IsSound, IsSoundTask}
 use Rattle.check_laws.specs.SoundScopes.{IsSoundScope}
 use Rattle.check_laws.proofs.Variables.{parts_of_form}
 use Rattle.expression_laws.specs.Kinds.{IsOfType, TypeBelow}
-use Rattle.fact_laws.specs.Regions.{IsIn, Interpretation}
-use Rattle.expression_laws.specs.Sound.{AreSoundAnswers, AreRooted, IsValueOf, Instance, IsSoundAnswer, IsSoundPlace, IsSoundState, KeepsSound}
+use Rattle.fact_laws.specs.Regions.{IsIn, Interpretation, child_at}
+use Rattle.expression_laws.specs.Sound.{IsInStore, no_partition, AreSoundAnswers, AreInStore, IsValueOf, Instance, IsSoundAnswer, IsSoundPlace, IsSoundState, KeepsSound}
 use Rattle.statement_laws.specs.Steady.{AgreeBelow, GoesOnSound, KnowsMore, IsSoundAfter, IsStaticPlace}
 use Rattle.expression_laws.specs.Writing.{IsWritten}
 use Rattle.statement_laws.specs.WrittenStatements.{AreWrittenArms, IsWrittenBlock, IsWrittenElse, IsWrittenForm}
-use Rattle.statement_laws.proofs.Agree.{agree_back, agree_same, agree_then, emptied, emptied_agrees, emptied_rooted, grows_none, grows_then, in_left, place_too}
+use Rattle.statement_laws.proofs.Agree.{child_in_store, none_in_store, agree_back, agree_same, agree_then, emptied, emptied_agrees, emptied_in_store, grows_none, grows_then, in_left, place_too}
 use Rattle.check_rules.specs.first.Rules.{first_in}
 use Rattle.check_rules.specs.types.Parts.{tests_of}
 use Rattle.std.specs.List.{Contains}
@@ -116,12 +116,19 @@ back_again x m s t u scope static b =
     state_too x s b.meant (emptied s.next m) u scope static.well_scoped (agree_back s.next (emptied s.next m) b.meant b.agree) rooted
     (state_same x (past s t) s b.meant u refl b.state)
   where
-    here : (i root p : ℕ) (c : Bool) → nat_lt i s.next ≡ c → IsIn (cond c (m.region i) no_region) root p →
-        (i < s.next → IsIn ((emptied s.next m).region i) root p → root < length u.store) →
-        IsIn ((emptied s.next m).region i) root p → root < length u.store
-    here i root p true q is f g = f (ltb-true i s.next q) g
-    here i root p false q is f g = absurd cc
+    same : (i : ℕ) → i < s.next → m.region i ≡ b.meant.region i
+    same i l = (emptied_agrees s.next m).regions i l ∙ b.agree.regions i l
 
-    rooted : AreRooted (emptied s.next m) (length u.store)
-    rooted i root p is = here i root p (nat_lt i s.next) refl is
-        (λ l g. b.state.rooted i root p (subst (λ r. IsIn r root p) (b.agree.regions i l) g)) is
+    same_parts : (i : ℕ) → i < s.next → m.partition i ≡ b.meant.partition i
+    same_parts i l = (emptied_agrees s.next m).partitions i l ∙ b.agree.partitions i l
+
+    region : (i : ℕ) (c : Bool) → nat_lt i s.next ≡ c → IsInStore (length u.store) (cond c (m.region i) no_region)
+    region i true q = subst (IsInStore (length u.store)) (sym (same i (ltb-true i s.next q))) (b.state.rooted.regions i)
+    region i false q = none_in_store (length u.store)
+
+    child : (i : ℕ) (z : ℤ) (c : Bool) → nat_lt i s.next ≡ c → IsInStore (length u.store) (child_at (cond c (m.partition i) no_partition) z)
+    child i z true q = subst (λ p. IsInStore (length u.store) (child_at p z)) (sym (same_parts i (ltb-true i s.next q))) (b.state.rooted.children i z)
+    child i z false q = child_in_store (length u.store) z
+
+    rooted : AreInStore (emptied s.next m) (length u.store)
+    rooted = record { regions = λ i. region i (nat_lt i s.next) refl; children = λ i z. child i z (nat_lt i s.next) refl }

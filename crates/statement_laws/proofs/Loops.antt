@@ -24,11 +24,11 @@ use Rattle.check_laws.specs.SoundScopes.{IsSoundScope}
 use Rattle.check_laws.proofs.Variables.{parts_of_form}
 use Rattle.expression_laws.specs.Kinds.{IsOfType, TypeBelow}
 use Rattle.fact_laws.specs.Regions.{IsIn, Interpretation}
-use Rattle.expression_laws.specs.Sound.{AreSoundAnswers, AreRooted, IsValueOf, Instance, IsSoundAnswer, IsSoundPlace, IsSoundState, KeepsSound}
+use Rattle.expression_laws.specs.Sound.{IsNoCollection, AreSoundAnswers, AreInStore, IsValueOf, Instance, IsSoundAnswer, IsSoundPlace, IsSoundState, KeepsSound}
 use Rattle.statement_laws.specs.Steady.{AgreeBelow, GoesOnSound, KnowsMore, IsSoundAfter, IsStaticPlace}
 use Rattle.expression_laws.specs.Writing.{IsWritten}
 use Rattle.statement_laws.specs.WrittenStatements.{AreWrittenArms, IsWrittenBlock, IsWrittenElse, IsWrittenForm}
-use Rattle.statement_laws.proofs.Agree.{agree_back, agree_same, agree_then, emptied, emptied_agrees, emptied_rooted, grows_none, grows_then, in_left, place_too}
+use Rattle.statement_laws.proofs.Agree.{agree_back, agree_same, agree_then, emptied, emptied_agrees, emptied_in_store, grows_none, grows_then, in_left, place_too}
 use Rattle.check_rules.specs.first.Rules.{first_in}
 use Rattle.check_rules.specs.types.Parts.{tests_of}
 use Rattle.std.specs.List.{Contains}
@@ -48,7 +48,7 @@ use Rattle.check_rules.specs.types.Sorts.{is_region, is_space}
 use Rattle.expression_laws.specs.Kinds.{IsWellScoped, is_index, is_number, is_pointer, is_region_of, is_space as is_space_of}
 use Rattle.statement_laws.proofs.Agree.{fact_up, nothing_in}
 use Rattle.statement_laws.proofs.Scopes.{bounds_whole, count_next, differ, domain_sort, loop_next, whole_sum}
-use Rattle.statement_laws.proofs.States.{bound_fits, put, put_agrees}
+use Rattle.statement_laws.proofs.States.{bound_fits, put, put_agrees, plain_children, plain_region, put_in_store}
 use Rattle.statement_laws.proofs.Types.{type_in}
 use Rattle.expression_laws.proofs.Operators.{weaker}
 use Rattle.statement_laws.proofs.Scopes.{IsMore, grows_past, names_arms, names_else, arm_next, block_next, else_next, grown_arms, grown_block, grown_else, grown_form, more_block, said_arms, static_after, static_past}
@@ -150,14 +150,7 @@ module _ (task : TaskTree) (args : List Value) (roots : ℕ) where
       placed = λ p. more.placed (refl, p);
     }
 
-    bound_rooted : (v : Value) (count : ℕ) → region_of v ≡ no_region → AreRooted m0 count → AreRooted (put h.scope.next v m0) count
-    bound_rooted v count none are i root p is = here (nat_lt i h.scope.next) is
-      where
-        here : (c : Bool) → IsIn (cond c (m0.region i) (region_of v)) root p → root < count
-        here true is = are i root p is
-        here false is = absurd (nothing_in root p (subst (λ q. IsIn q root p) none is))
-
-    round_goes : (v : Value) → IsOfType m0 ty v → region_of v ≡ no_region → (u : State) → IsSoundState (inst h) m0 h.scope u → Turns_go (round h v body u)
+    round_goes : (v : Value) → IsOfType m0 ty v → IsNoCollection v → (u : State) → IsSoundState (inst h) m0 h.scope u → Turns_go (round h v body u)
     round_goes v is none u st = paid u st u.turns
       where
         bound_turn : (w : State) → IsSoundState (inst h) m0 h.scope w → Turns_go (leaving (length w.names) (body (record w { names = w.names ++ v ∷ [] })))
@@ -169,7 +162,7 @@ module _ (task : TaskTree) (args : List Value) (roots : ℕ) where
             let inner : IsSoundState (inst h) b (with_name h.scope n ty true) (record w { names = w.names ++ v ∷ [] }) = record {
               names = bound_fits h.scope n ty true m0 w.names v r.scope r.static.well_scoped r.static.placed st.counted st.names (is_of_too h.scope.next m0 b e ty v below is);
               counted = length-append w.names (v ∷ []) ∙ omega (arith, count);
-              rooted = bound_rooted v (length w.store) none st.rooted;
+              rooted = put_in_store h.scope.next v m0 (length w.store) st.rooted (plain_region (length w.store) v none) (plain_children (length w.store) v none);
               grown = st.grown;
               covered = st.covered;
             } in
@@ -191,7 +184,7 @@ module _ (task : TaskTree) (args : List Value) (roots : ℕ) where
     no_turn : (u : State) → IsSoundState (inst h) m0 h.scope u → Turns_go (gives goes_on u)
     no_turn u st = skipped (inst h) m0 h.scope (past h.scope t) u r.scope r.static grows refl r.place st
 
-    pub rounds_go : (vs : List Value) → ((v : Value) → Has vs v → IsOfType m0 ty v × (region_of v ≡ no_region)) → (u : State) → IsSoundState (inst h) m0 h.scope u → Turns_go (rounds h vs body u)
+    pub rounds_go : (vs : List Value) → ((v : Value) → Has vs v → IsOfType m0 ty v × (IsNoCollection v)) → (u : State) → IsSoundState (inst h) m0 h.scope u → Turns_go (rounds h vs body u)
     rounds_go [] are u st = no_turn u st
     rounds_go (v ∷ vs) are u st =
         let is = are v (inl refl) in
@@ -200,17 +193,17 @@ module _ (task : TaskTree) (args : List Value) (roots : ℕ) where
     pub counting_goes : (w : Width) → ((z : ℤ) → IsOfType m0 ty (a_number w z)) → (k : ℕ) (i : ℤ) (u : State) → IsSoundState (inst h) m0 h.scope u → Turns_go (counting h k w i body u)
     counting_goes w is zero i u st = no_turn u st
     counting_goes w is (suc k) i u st =
-        next_turn (round h (a_number w i) body u) (counting h k w (i +ℤ pos 1) body) (round_goes (a_number w i) (is i) refl u st) (counting_goes w is k (i +ℤ pos 1))
+        next_turn (round h (a_number w i) body u) (counting h k w (i +ℤ pos 1) body) (round_goes (a_number w i) (is i) (refl, refl) u st) (counting_goes w is k (i +ℤ pos 1))
 
   -- what a loop over a region or space takes
   pub items_are : (m : Interpretation) (t : StaticType) (v : Value) → (is_region t || is_space t) ≡ true → IsOfType m t v → (w : Value) → Has (items_of v) w →
-      IsOfType m (taken_from t) w × (region_of w ≡ no_region)
+      IsOfType m (taken_from t) w × IsNoCollection w
   items_are m (region_type k sp types t) v e (is_region_of {r = q} stands) w g =
       let n = Has-map_cases (λ n. a_pointer (point_target n 1) (q ∷ [])) q.points w g in
-      subst (λ z. IsOfType m (pointer_type k sp types (Some t ∷ [])) z × (region_of z ≡ no_region)) n.2 (is_pointer (stands, tt), refl)
+      subst (λ z. IsOfType m (pointer_type k sp types (Some t ∷ [])) z × IsNoCollection z) n.2 (is_pointer (stands, tt), (refl, refl))
   items_are m (ispace_type k) v e (is_space_of {n = q}) w g =
       let n = Has-map_cases (λ i. an_index (pos i)) (points q) w g in
-      subst (λ z. IsOfType m (index_type k) z × (region_of z ≡ no_region)) n.2 (is_index, refl)
+      subst (λ z. IsOfType m (index_type k) z × IsNoCollection z) n.2 (is_index, (refl, refl))
   items_are m (integer_type y) v e is w g = absurd cc
   items_are m truth_type v e is w g = absurd cc
   items_are m (index_type k) v e is w g = absurd cc

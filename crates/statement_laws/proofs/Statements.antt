@@ -24,11 +24,11 @@ use Rattle.check_laws.specs.SoundScopes.{IsSoundScope}
 use Rattle.check_laws.proofs.Variables.{parts_of_form}
 use Rattle.expression_laws.specs.Kinds.{IsOfType, TypeBelow}
 use Rattle.fact_laws.specs.Regions.{IsIn, Interpretation}
-use Rattle.expression_laws.specs.Sound.{AreSoundAnswers, AreRooted, IsValueOf, Instance, IsSoundAnswer, IsSoundPlace, IsSoundState, KeepsSound}
+use Rattle.expression_laws.specs.Sound.{AreSoundAnswers, AreInStore, IsValueOf, Instance, IsSoundAnswer, IsSoundPlace, IsSoundState, KeepsSound}
 use Rattle.statement_laws.specs.Steady.{AgreeBelow, GoesOnSound, KnowsMore, IsSoundAfter, IsStaticPlace}
 use Rattle.expression_laws.specs.Writing.{IsWritten}
 use Rattle.statement_laws.specs.WrittenStatements.{AreWrittenArms, IsWrittenBlock, IsWrittenElse, IsWrittenForm}
-use Rattle.statement_laws.proofs.Agree.{agree_back, agree_same, agree_then, emptied, emptied_agrees, emptied_rooted, grows_none, grows_then, in_left, place_too}
+use Rattle.statement_laws.proofs.Agree.{agree_back, agree_same, agree_then, emptied, emptied_agrees, emptied_in_store, grows_none, grows_then, in_left, place_too}
 use Rattle.check_rules.specs.first.Rules.{first_in}
 use Rattle.check_rules.specs.types.Parts.{tests_of}
 use Rattle.std.specs.List.{Contains}
@@ -106,7 +106,7 @@ module _ (task : TaskTree) (args : List Value) (roots : ℕ) where
           let grown = grown_block h.tree task r.sound h.scope body r.scope r.static.well_scoped w in
           let less = grown.next in
           let r0 = moved_on task args roots h m m0 h.scope h.line r r.scope r.static (place_too n m m0 (emptied_agrees n m) (inst h) h.scope r.static refl r.place) in
-          let st0 = state_too (inst h) h.scope m m0 u r.scope r.static.well_scoped (emptied_agrees n m) (emptied_rooted n m (length u.store) st.rooted) st in
+          let st0 = state_too (inst h) h.scope m m0 u r.scope r.static.well_scoped (emptied_agrees n m) (emptied_in_store n m (length u.store) st.rooted) st in
           rebased (inst h) m m0 n n (past h.scope t) (exec h (while_form test body) u) (emptied_agrees n m) (omega (arith))
           (turning_goes task args roots h m t r0 (grows_past h.scope h.scope t refl (omega (arith)) grown) (value h test) (scoped (exec_block h body))
           (λ w st. weaker (inst h) m0 h.scope (value h test w) (evaluates task args roots h m0 test r0 wr.0 told w st) (λ a k. tt))
@@ -132,7 +132,7 @@ module _ (task : TaskTree) (args : List Value) (roots : ℕ) where
           let grown = grown_block h.tree task r.sound s1 body next.0 next.1 next.2 in
           let static1 = static_bound task args roots (inst h) s n ty r.static next.1 in
           let r0 = moved_on task args roots h m m0 s h.line r r.scope r.static (place_too k m m0 (emptied_agrees k m) (inst h) s r.static refl r.place) in
-          let st0 = state_too (inst h) s m m0 u r.scope r.static.well_scoped (emptied_agrees k m) (emptied_rooted k m (length u.store) st.rooted) st in
+          let st0 = state_too (inst h) s m m0 u r.scope r.static.well_scoped (emptied_agrees k m) (emptied_in_store k m (length u.store) st.rooted) st in
           rebased (inst h) m m0 k k (past s t) (exec h (for_in_form demanded n domain body) u) (emptied_agrees k m) (omega (arith))
           (then_goes (inst h) m0 s k (past s t) (value h domain u) (λ v. rounds h (items_of v) (exec_block (looping h n ty) body))
           (evaluates task args roots h m0 domain r0 wr.0 told u st0) (λ v w st is.
@@ -155,7 +155,7 @@ module _ (task : TaskTree) (args : List Value) (roots : ℕ) where
           let grown = grown_block h.tree task r.sound s1 body next.0 next.1 next.2 in
           let static1 = static_bound task args roots (inst h) s n ty r.static next.1 in
           let r0 = moved_on task args roots h m m0 s h.line r r.scope r.static (place_too k m m0 (emptied_agrees k m) (inst h) s r.static refl r.place) in
-          let st0 = state_too (inst h) s m m0 u r.scope r.static.well_scoped (emptied_agrees k m) (emptied_rooted k m (length u.store) st.rooted) st in
+          let st0 = state_too (inst h) s m m0 u r.scope r.static.well_scoped (emptied_agrees k m) (emptied_in_store k m (length u.store) st.rooted) st in
           rebased (inst h) m m0 k k (past s t) (exec h (for_to_form demanded n from to body) u) (emptied_agrees k m) (omega (arith))
           (then_goes (inst h) m0 s k (past s t) (value h from u) (λ a. value h to >>= λ b. counting h (distance (number_of a) (number_of b)) (width_of_type ty) (number_of a) (exec_block (looping h n ty) body))
           (evaluates task args roots h m0 from r0 wr.0 heads.0 u st0) (λ a w st is.

@@ -16,7 +16,7 @@ use Rattle.statement_laws.specs.WrittenStatements.{IsWrittenBlock}
 use Rattle.statement_laws.proofs.Bodies.{body_told}
 use Rattle.statement_laws.proofs.Leaves.{leaves_go}
 use Rattle.statement_laws.specs.Untreated.{IsUntreated}
-use Rattle.statement_laws.proofs.TypedVariables.{variables_go}
+use Rattle.statement_laws.proofs.Regions.{variables_go}
 use Rattle.statement_laws.specs.Places.{FormGoes}
 use Rattle.statement_laws.proofs.Statements.{block_goes, form_goes}
 use Rattle.statement_laws.specs.Laws.{BodiesAreCovered, StatementsKeep, state_of}

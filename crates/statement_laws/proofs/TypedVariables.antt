@@ -34,7 +34,7 @@ use Rattle.statement_laws.proofs.States.{is_of_too}
 use Rattle.statement_laws.proofs.Types.{type_in}
 use Rattle.expression_laws.specs.Kinds.{IsOfType, is_index, is_number, is_pointer, is_region_of, is_space, is_truth}
 use Rattle.fact_laws.specs.Regions.{Holds, IsIn, Interpretation}
-use Rattle.expression_laws.specs.Sound.{AreRooted, Instance, IsSoundState}
+use Rattle.expression_laws.specs.Sound.{AreInStore, Instance, IsSoundState}
 use Rattle.statement_laws.specs.Steady.{GoesOnSound}
 use Rattle.statement_laws.proofs.Agree.{given_too, holds_too, in_either, own_too}
 use Rattle.statement_laws.specs.Places.{FormGoes, IsReady}
@@ -66,6 +66,7 @@ use Rattle.statement_laws.specs.Untreated.{IsPlain, IsUntreated}
 use Rattle.statement_laws.proofs.Assignments.{set_goes}
 use Rattle.statement_laws.proofs.Leaves.{IsRest}
 use Rattle.std.proofs.Common.{not}
+use Rattle.statement_laws.proofs.States.{plain_children, plain_region}
 use Rattle.std.proofs.lemmas.Bool.{not-false, or_parts}
 use Rattle.regent_tree.specs.Accesses.{converted}
 use Rattle.regent_tree.specs.Evaluation.{typed}
@@ -210,67 +211,6 @@ module _ (task : TaskTree) (args : List Value) (roots : ℕ) where
         is_of = is_of_too s.next m (put s.next a m) (put_agrees s.next a m) wanted a written.below is;
         holds = λ k c. absurd (Has-from_Contains [] k (subst (λ ks. Contains ks k) tells c));
         own = λ i c. absurd (Has-from_Contains [] (Made i) (subst (λ ks. Contains ks (Made i)) tells c));
-        rooted = λ root p at. absurd (nothing_in root p (subst (λ q. IsIn q root p) (none.empty m a is) at));
+        kept = plain_region (length z.store) a (none.empty m a is);
+        children = plain_children (length z.store) a (none.empty m a is);
       }))))
-
-  -- ---- all variables but those of which the laws don't speak yet
-
-  plain_or : (t : StaticType) → IsPlain t ⊎ (IsPlain t → ⊥)
-  plain_or (integer_type w) = inl tt
-  plain_or truth_type = inl tt
-  plain_or (index_type k) = inl tt
-  plain_or (pointer_type k sp types terms) = inl tt
-  plain_or (ispace_type k) = inl tt
-  plain_or (region_type k sp types t) = inr (λ h. h)
-  plain_or (partition_type d r p) = inr (λ h. h)
-  plain_or no_type = inr (λ h. h)
-  plain_or unknown_type = inr (λ h. h)
-
-  pub variables_go : ((form : Form) (h : Here) → IsUntreated h form → FormGoes task args roots h form) → (form : Form) (h : Here) → IsRest task args roots form → FormGoes task args roots h form
-  variables_go left (assign_form n no_step k y) h rest m r e w wr u st = set_goes task args roots n k y h m r e w wr u st
-  variables_go left (var_form n (Some t) (Some (plain_initializer y))) h rest m r e w wr u st = elim (plain_or (var_type h.tree h.scope (Some t) None)) [
-    | inl is ↦ whole (is_difference h.scope.names y) refl is
-    | inr other ↦ left (var_form n (Some t) (Some (plain_initializer y))) h (λ is q. other is) m r e w wr u st
-  ]
-    where
-      whole : (b : Bool) → is_difference h.scope.names y ≡ b → IsPlain (var_type h.tree h.scope (Some t) None) →
-          GoesOnSound (inst h) m h.scope.next (scope_after h.tree h.scope (var_form n (Some t) (Some (plain_initializer y)))) (exec h (var_form n (Some t) (Some (plain_initializer y))) u)
-      whole false q is = typed_goes n t y h is q m r e w wr u st
-      whole true q is = left (var_form n (Some t) (Some (plain_initializer y))) h (λ is p. contrary (sym q ∙ p)) m r e w wr u st
-  variables_go left (var_form n (Some t) (Some (region_initializer y s))) h rest m r e w wr u st = left (var_form n (Some t) (Some (region_initializer y s))) h tt m r e w wr u st
-  variables_go left (var_form n (Some t) (Some (equal_initializer a y))) h rest m r e w wr u st = left (var_form n (Some t) (Some (equal_initializer a y))) h tt m r e w wr u st
-  variables_go left (var_form n (Some t) (Some (by_field_initializer a f y))) h rest m r e w wr u st = left (var_form n (Some t) (Some (by_field_initializer a f y))) h tt m r e w wr u st
-  variables_go left (var_form n (Some t) (Some (image_initializer a p b f))) h rest m r e w wr u st = left (var_form n (Some t) (Some (image_initializer a p b f))) h tt m r e w wr u st
-  variables_go left (var_form n (Some t) (Some (preimage_initializer a p b f))) h rest m r e w wr u st = left (var_form n (Some t) (Some (preimage_initializer a p b f))) h tt m r e w wr u st
-  variables_go left (var_form n (Some t) (Some (both_initializer p q))) h rest m r e w wr u st = left (var_form n (Some t) (Some (both_initializer p q))) h tt m r e w wr u st
-  variables_go left (var_form n (Some t) (Some (either_initializer p q))) h rest m r e w wr u st = left (var_form n (Some t) (Some (either_initializer p q))) h tt m r e w wr u st
-  variables_go left (var_form n (Some t) None) h rest m r e w wr u st = unset_goes task args roots n t h m r e w wr u st
-  variables_go left (var_form n None None) h rest m r e w wr u st = absurd (contrary (parts_of_form h.tree task h.scope r.sound r.scope (var_form n None None) e).1)
-  variables_go left (var_form n None (Some (region_initializer y s))) h rest m r e w wr u st = region_goes task args roots n y s h m r e w wr u st
-  variables_go left (var_form n None (Some (plain_initializer y))) h rest m r e w wr u st = elim (plain_or (type_of h.tree h.scope y)) [
-    | inl is ↦ whole (is_difference h.scope.names y) refl is
-    | inr other ↦ left (var_form n None (Some (plain_initializer y))) h (λ is q. other is) m r e w wr u st
-  ]
-    where
-      whole : (b : Bool) → is_difference h.scope.names y ≡ b → IsPlain (type_of h.tree h.scope y) →
-          GoesOnSound (inst h) m h.scope.next (scope_after h.tree h.scope (var_form n None (Some (plain_initializer y)))) (exec h (var_form n None (Some (plain_initializer y))) u)
-      whole false q is = plain_goes task args roots n y h is q m r e w wr u st
-      whole true q is = left (var_form n None (Some (plain_initializer y))) h (λ is p. contrary (sym q ∙ p)) m r e w wr u st
-  variables_go left (var_form n None (Some (equal_initializer a y))) h rest m r e w wr u st = left (var_form n None (Some (equal_initializer a y))) h tt m r e w wr u st
-  variables_go left (var_form n None (Some (by_field_initializer a f y))) h rest m r e w wr u st = left (var_form n None (Some (by_field_initializer a f y))) h tt m r e w wr u st
-  variables_go left (var_form n None (Some (image_initializer a p b f))) h rest m r e w wr u st = left (var_form n None (Some (image_initializer a p b f))) h tt m r e w wr u st
-  variables_go left (var_form n None (Some (preimage_initializer a p b f))) h rest m r e w wr u st = left (var_form n None (Some (preimage_initializer a p b f))) h tt m r e w wr u st
-  variables_go left (var_form n None (Some (both_initializer p q))) h rest m r e w wr u st = left (var_form n None (Some (both_initializer p q))) h tt m r e w wr u st
-  variables_go left (var_form n None (Some (either_initializer p q))) h rest m r e w wr u st = left (var_form n None (Some (either_initializer p q))) h tt m r e w wr u st
-  variables_go left (assign_form n (field_step f steps) k y) h rest m r e w wr u st = absurd rest
-  variables_go left (assign_form n (at_step z steps) k y) h rest m r e w wr u st = absurd rest
-  variables_go left (if_form arms other) h rest m r e w wr u st = absurd rest
-  variables_go left (while_form test body) h rest m r e w wr u st = absurd rest
-  variables_go left (for_in_form d n domain body) h rest m r e w wr u st = absurd rest
-  variables_go left (for_to_form d n from to body) h rest m r e w wr u st = absurd rest
-  variables_go left (do_form body) h rest m r e w wr u st = absurd rest
-  variables_go left (fill_form n fs y) h rest m r e w wr u st = absurd rest
-  variables_go left (assert_form y) h rest m r e w wr u st = absurd rest
-  variables_go left (print_form alias format es) h rest m r e w wr u st = absurd rest
-  variables_go left (call_form f es) h rest m r e w wr u st = absurd rest
-  variables_go left (return_form y) h rest m r e w wr u st = absurd rest

@@ -1,0 +1,230 @@
+-- A variable that begins as a region that is there already: as a child of a partition, mostly.
+use Rattle.check_rules.proofs.Untold.{rule_none}
+use Rattle.plain_values.proofs.Plain.{option_or_parts}
+use Rattle.std.proofs.Common.{arith, Bool, List, [], ◌∷◌, ◌++◌, None, Option, Some, false, true, refl, ap, sym, subst, ℕ, suc, ◌≡◌, ◌∙◌, ◌<◌, ◌≤◌, inl, inr, cond, length}
+use Rattle.std.proofs.lemmas.List.{length-append}
+use Rattle.std.specs.List.{Contains}
+use Rattle.std.specs.Prelude.{nat_lt}
+use Rattle.plain_values.specs.Points.{points}
+use Rattle.regent_tree.specs.Evaluation.{value}
+use Rattle.regent_tree.specs.Execution.{Going, bind}
+use Rattle.regent_tree.specs.Running.{Here, Result, Run, State, and_then, fails, gives}
+use Rattle.regent_tree.specs.Scopes.{Scope, known_of_type}
+use Rattle.regent_tree.specs.Initializers.{make_root}
+use Rattle.regent_tree.specs.StaticTypes.{field_kinds, place_of_space}
+use Rattle.regent_tree.specs.Store.{new_root}
+use Rattle.regent_tree.specs.Syntax.{Expression, Name, Initializer, TaskTree, plain_initializer, region_initializer, var_form}
+use Rattle.regent_tree.specs.Typing.{known_of_child, known_of_initializer, owned, scope_after, type_of, var_type}
+use Rattle.regent_tree.specs.Values.{Value, a_region, region_of, size_of}
+use Rattle.regent_tree.specs.declared.facts.Known.{Known}
+use Rattle.regent_tree.specs.declared.facts.Known.TheVariants.{Made}
+use Rattle.regent_tree.specs.declared.types.SpaceUse.{SpaceUse}
+use Rattle.regent_tree.specs.declared.types.TypeTerm.{TypeTerm}
+use Rattle.regent_tree.specs.declared.typing.StaticType.{StaticType}
+use Rattle.regent_tree.proofs.Members.{Has-from_Contains}
+use Rattle.check_rules.specs.first.FirstInExpressions.{first_in_expression}
+use Rattle.check_laws.proofs.Variables.{parts_of_form}
+use Rattle.regent_tree.specs.Values.{no_region}
+use Rattle.regent_tree.specs.declared.typing.StaticType.TheVariants.{Index as index_type, Integer as integer_type, Ispace as ispace_type, Nothing as no_type, Partition as partition_type, Pointer as pointer_type, Region as region_type, Truth as truth_type, Unknown as unknown_type}
+use Rattle.check_rules.specs.rules.Partitions.{is_difference}
+use Rattle.check_rules.specs.first.Rules.{first_in}
+use Rattle.check_rules.specs.scopes.Variables.{members_of}
+use Rattle.statement_laws.proofs.Agree.{nothing_in}
+use Rattle.statement_laws.proofs.States.{is_of_too}
+use Rattle.statement_laws.proofs.Types.{type_in}
+use Rattle.expression_laws.specs.Kinds.{IsOfType, is_index, is_number, is_pointer, is_region_of, is_space, is_truth}
+use Rattle.fact_laws.specs.Regions.{Holds, IsIn, Interpretation}
+use Rattle.expression_laws.specs.Sound.{AreInStore, Instance, IsSoundState}
+use Rattle.statement_laws.specs.Steady.{GoesOnSound}
+use Rattle.statement_laws.proofs.Agree.{given_too, holds_too, in_either, own_too}
+use Rattle.statement_laws.specs.Places.{FormGoes, IsReady}
+use Rattle.statement_laws.proofs.Going.{then_goes}
+use Rattle.statement_laws.proofs.Loops.{evaluates}
+use Rattle.statement_laws.proofs.States.{bound_fits, put, put_agrees, put_region}
+use Rattle.std.proofs.Common.{◌&&◌, map}
+use Rattle.regent_tree.specs.Execution.{exec}
+use Rattle.regent_tree.specs.Accesses.{regions_reached}
+use Rattle.regent_tree.specs.Scopes.{in_scope}
+use Rattle.regent_tree.specs.StaticTypes.{looked_up, written_pointer}
+use Rattle.regent_tree.specs.Values.{a_pointer, null_target}
+use Rattle.regent_tree.specs.declared.types.NumberTerm.TheVariants as number
+use Rattle.regent_tree.specs.declared.types.TypeTerm.TheVariants as typed_as
+use Rattle.check_rules.specs.first.FirstInExpressions.{first_in_type}
+use Rattle.check_rules.specs.rules.Names.{unbound_name_in_type}
+use Rattle.check_rules.specs.first.Rules.{rule_if}
+use Rattle.check_rules.specs.types.Sorts.{is_collection, is_unknown_type}
+use Rattle.check_rules.specs.scopes.Variables.{bound_type, variable_type}
+use Rattle.check_rules.specs.declared.rule.Rule.TheVariants as rule
+use Rattle.check_laws.specs.SoundScopes.{IsKnown}
+use Rattle.check_laws.proofs.Parts.{contrary}
+use Rattle.check_laws.proofs.Variables.{variable_known}
+use Rattle.expression_laws.proofs.Names.{pointer_args, reached}
+use Rattle.statement_laws.proofs.Types.{args_below}
+use Rattle.std.proofs.Common.{◌⊎◌, inl, inr}
+use Rattle.regent_tree.specs.Syntax.{Form, assert_form, assign_form, at_step, both_initializer, by_field_initializer, call_form, do_form, either_initializer, equal_initializer, field_step, fill_form, for_in_form, for_to_form, if_form, image_initializer, no_step, preimage_initializer, print_form, return_form, while_form}
+use Rattle.statement_laws.specs.Untreated.{IsBegun, IsPlain, IsUntreated}
+use Rattle.statement_laws.proofs.Assignments.{set_goes}
+use Rattle.statement_laws.proofs.Leaves.{IsRest}
+use Rattle.std.proofs.Common.{not}
+use Rattle.statement_laws.proofs.States.{plain_children, plain_region}
+use Rattle.std.proofs.lemmas.Bool.{not-false, or_parts}
+use Rattle.regent_tree.specs.Accesses.{converted}
+use Rattle.regent_tree.specs.Evaluation.{typed}
+use Rattle.regent_tree.specs.Typing.{reaches_of}
+use Rattle.check_rules.specs.rules.Standing.{stands, typed_spot}
+use Rattle.check_rules.specs.rules.Types.{is_ill_typed_at_place}
+use Rattle.check_rules.specs.scopes.Variables.{declared_type, is_flawed_initializer, known_initializer}
+use Rattle.check_rules.specs.types.Fitting.{fits}
+use Rattle.check_laws.proofs.Parts.{unless_false}
+use Rattle.check_laws.proofs.Variables.{begun_sound}
+use Rattle.expression_laws.specs.Kinds.{GoInto, TypeBelow}
+use Rattle.expression_laws.specs.Sound.{KeepsSound}
+use Rattle.expression_laws.proofs.Knowing.{known_as_meant}
+use Rattle.statement_laws.proofs.Assignments.{converted_is}
+use Rattle.statement_laws.proofs.Variables.{begun, in_turn_goes, region_goes, plain_goes, tells_none, unset_goes}
+use Rattle.regent_tree.specs.Values.{Region}
+use Rattle.regent_tree.specs.Typing.{initializer_type}
+use Rattle.regent_tree.specs.Typing.{known_of_child_term}
+use Rattle.regent_tree.specs.declared.facts.Colour.{Colour}
+use Rattle.regent_tree.specs.declared.facts.Known.TheVariants.{Within}
+use Rattle.regent_tree.specs.declared.facts.Term.{Term}
+use Rattle.regent_tree.specs.declared.facts.Term.TheVariants.{Child, Name as name_term}
+use Rattle.fact_laws.specs.Regions.{AllLieWithinSome, IsChild, StandsFor}
+use Rattle.expression_laws.specs.Kinds.{TermBelow}
+use Rattle.expression_laws.specs.Sound.{AreInStore, IsInStore}
+use Rattle.statement_laws.proofs.Agree.{child_in_store, stands_too}
+use Rattle.statement_laws.proofs.TypedVariables.{typed_goes}
+use Rattle.statement_laws.proofs.Variables.{Begins}
+use Rattle.regent_tree.specs.declared.types.Kind.{Kind}
+use Rattle.regent_tree.specs.StaticTypes.{Reach}
+
+module _ (task : TaskTree) (args : List Value) (roots : ℕ) where
+  abbrev inst : Here → Instance
+  inst h = record { tree = h.tree; task = task; args = args; roots = roots }
+
+  child_begins : (h : Here) (m : Interpretation) (p : ℕ) (c : Colour) (k : Kind) (sp : ℕ) (types : List Reach) (q : Region) (count : ℕ) → TermBelow h.scope.next (Child p c) →
+      AreInStore m count → IsChild m p c q →
+      Begins task args roots h m (region_type k sp types (name_term h.scope.next)) (known_of_child_term h.scope.next (Child p c) ++ []) (a_region q) count
+  child_begins h m p c k sp types q count below are stands =
+      let n = h.scope.next in
+      let v : Value = a_region q in
+      let b = put n v m in
+      let there : StandsFor b (Child p c) q = stands_too n m b (put_agrees n v m) (Child p c) q below stands in
+      let within : AllLieWithinSome b (name_term n) (Child p c) = λ z is.
+      record { outer = z; stands = subst (StandsFor b (Child p c)) (sym (put_region n v m) ∙ is) there; lies = λ root i at. at } in record {
+        is_of = is_region_of (put_region n v m);
+        holds = λ f g. elim (Has-from_Contains (Within (name_term n) (Child p c) ∷ []) f g) [
+          | inl e ↦ subst (Holds b) e within
+          | inr g ↦ absurd g
+        ];
+        own = λ i g. elim (Has-from_Contains (Within (name_term n) (Child p c) ∷ []) (Made i) g) [
+          | inl e ↦ absurd cc
+          | inr g ↦ absurd g
+        ];
+        kept = subst (IsInStore count) stands.is_child (are.children p stands.number);
+        children = child_in_store count;
+      }
+
+  region_begins : (h : Here) (m : Interpretation) (t : Term) (j k : Kind) (sq sp : ℕ) (others types : List Reach) (v : Value) (count : ℕ) → TermBelow h.scope.next t →
+      AreInStore m count → IsOfType m (region_type j sq others t) v →
+      Begins task args roots h m (region_type k sp types (name_term h.scope.next)) (known_of_child_term h.scope.next t ++ []) v count
+  region_begins h m (Child p c) j k sq sp others types v count below are (is_region_of {r = q} stands) =
+      child_begins h m p c k sp types q count below are stands
+  region_begins h m (name_term i) j k sq sp others types v count below are (is_region_of {r = q} stands) = record {
+    is_of = is_region_of (put_region h.scope.next (a_region q) m);
+    holds = λ f g. absurd (Has-from_Contains [] f g);
+    own = λ z g. absurd (Has-from_Contains [] (Made z) g);
+    kept = subst (IsInStore count) stands (are.regions i);
+    children = child_in_store count;
+  }
+
+  -- `var s = p[k]`
+  pub child_goes : (n : Name) (e : Expression) (h : Here) (k : Kind) (sp : ℕ) (types : List Reach) (t : Term) → type_of h.tree h.scope e ≡ region_type k sp types t →
+      is_difference h.scope.names e ≡ false → FormGoes task args roots h (var_form n None (Some (plain_initializer e)))
+  child_goes n e h k sp types t same whole m r told w wr st0 st =
+      let s = h.scope in
+      let parts = parts_of_form h.tree task s r.sound r.scope (var_form n None (Some (plain_initializer e))) told in
+      let heads = subst (λ b. first_in (first_in_expression h.tree task s) (cond b (members_of e) (e ∷ [])) ≡ None) whole parts.2 in
+      let told_e = (option_or_parts (first_in_expression h.tree task s e) _ heads).0 in
+      let below = subst (TypeBelow s.next) same (type_in h.tree task s r.sound r.scope r.static.well_scoped e told_e).below in
+      then_goes (inst h) m s s.next (scope_after h.tree s (var_form n None (Some (plain_initializer e)))) (value h e st0) (λ v. bind v)
+      (evaluates task args roots h m e r wr told_e st0 st) (λ v z st is.
+      begun task args roots h m n None (Some (plain_initializer e)) r v z st
+      (subst (λ ty. Begins task args roots h m (owned s.next ty) (known_of_child s.next ty ++ known_of_type (owned s.next ty)) v (length z.store)) (sym same)
+      (region_begins h m t k k sp sp types types v (length z.store) below st.rooted (subst (λ ty. IsOfType m ty v) same is.is_of))))
+
+  -- ---- all variables but those of which the laws don't speak yet
+
+  plain_or : (t : StaticType) → IsPlain t ⊎ (IsPlain t → ⊥)
+  plain_or (integer_type w) = inl tt
+  plain_or truth_type = inl tt
+  plain_or (index_type k) = inl tt
+  plain_or (pointer_type k sp types terms) = inl tt
+  plain_or (ispace_type k) = inl tt
+  plain_or (region_type k sp types t) = inr (λ h. h)
+  plain_or (partition_type d r p) = inr (λ h. h)
+  plain_or no_type = inr (λ h. h)
+  plain_or unknown_type = inr (λ h. h)
+
+  pub variables_go : ((form : Form) (h : Here) → IsUntreated h form → FormGoes task args roots h form) → (form : Form) (h : Here) → IsRest task args roots form → FormGoes task args roots h form
+  variables_go left (assign_form n no_step k y) h rest m r e w wr u st = set_goes task args roots n k y h m r e w wr u st
+  variables_go left (var_form n (Some t) (Some (plain_initializer y))) h rest m r e w wr u st = elim (plain_or (var_type h.tree h.scope (Some t) None)) [
+    | inl is ↦ whole (is_difference h.scope.names y) refl is
+    | inr other ↦ left (var_form n (Some t) (Some (plain_initializer y))) h (λ is q. other is) m r e w wr u st
+  ]
+    where
+      whole : (b : Bool) → is_difference h.scope.names y ≡ b → IsPlain (var_type h.tree h.scope (Some t) None) →
+          GoesOnSound (inst h) m h.scope.next (scope_after h.tree h.scope (var_form n (Some t) (Some (plain_initializer y)))) (exec h (var_form n (Some t) (Some (plain_initializer y))) u)
+      whole false q is = typed_goes task args roots n t y h is q m r e w wr u st
+      whole true q is = left (var_form n (Some t) (Some (plain_initializer y))) h (λ is p. contrary (sym q ∙ p)) m r e w wr u st
+  variables_go left (var_form n (Some t) (Some (region_initializer y s))) h rest m r e w wr u st = left (var_form n (Some t) (Some (region_initializer y s))) h tt m r e w wr u st
+  variables_go left (var_form n (Some t) (Some (equal_initializer a y))) h rest m r e w wr u st = left (var_form n (Some t) (Some (equal_initializer a y))) h tt m r e w wr u st
+  variables_go left (var_form n (Some t) (Some (by_field_initializer a f y))) h rest m r e w wr u st = left (var_form n (Some t) (Some (by_field_initializer a f y))) h tt m r e w wr u st
+  variables_go left (var_form n (Some t) (Some (image_initializer a p b f))) h rest m r e w wr u st = left (var_form n (Some t) (Some (image_initializer a p b f))) h tt m r e w wr u st
+  variables_go left (var_form n (Some t) (Some (preimage_initializer a p b f))) h rest m r e w wr u st = left (var_form n (Some t) (Some (preimage_initializer a p b f))) h tt m r e w wr u st
+  variables_go left (var_form n (Some t) (Some (both_initializer p q))) h rest m r e w wr u st = left (var_form n (Some t) (Some (both_initializer p q))) h tt m r e w wr u st
+  variables_go left (var_form n (Some t) (Some (either_initializer p q))) h rest m r e w wr u st = left (var_form n (Some t) (Some (either_initializer p q))) h tt m r e w wr u st
+  variables_go left (var_form n (Some t) None) h rest m r e w wr u st = unset_goes task args roots n t h m r e w wr u st
+  variables_go left (var_form n None None) h rest m r e w wr u st = absurd (contrary (parts_of_form h.tree task h.scope r.sound r.scope (var_form n None None) e).1)
+  variables_go left (var_form n None (Some (region_initializer y s))) h rest m r e w wr u st = region_goes task args roots n y s h m r e w wr u st
+  variables_go left (var_form n None (Some (plain_initializer y))) h rest m r e w wr u st = by (type_of h.tree h.scope y) refl
+    where
+      whole : (b : Bool) → is_difference h.scope.names y ≡ b → IsPlain (type_of h.tree h.scope y) →
+          GoesOnSound (inst h) m h.scope.next (scope_after h.tree h.scope (var_form n None (Some (plain_initializer y)))) (exec h (var_form n None (Some (plain_initializer y))) u)
+      whole false q is = plain_goes task args roots n y h is q m r e w wr u st
+      whole true q is = left (var_form n None (Some (plain_initializer y))) h (λ is p. contrary (sym q ∙ p)) m r e w wr u st
+
+      region : (b : Bool) → is_difference h.scope.names y ≡ b → (k : Kind) (sp : ℕ) (types : List Reach) (t : Term) → type_of h.tree h.scope y ≡ region_type k sp types t →
+          GoesOnSound (inst h) m h.scope.next (scope_after h.tree h.scope (var_form n None (Some (plain_initializer y)))) (exec h (var_form n None (Some (plain_initializer y))) u)
+      region false q k sp types t same = child_goes n y h k sp types t same q m r e w wr u st
+      region true q k sp types t same = left (var_form n None (Some (plain_initializer y))) h (λ is p. contrary (sym q ∙ p)) m r e w wr u st
+
+      by : (ty : StaticType) → type_of h.tree h.scope y ≡ ty →
+          GoesOnSound (inst h) m h.scope.next (scope_after h.tree h.scope (var_form n None (Some (plain_initializer y)))) (exec h (var_form n None (Some (plain_initializer y))) u)
+      by (region_type k sp types t) same = region (is_difference h.scope.names y) refl k sp types t same
+      by (integer_type x) same = whole (is_difference h.scope.names y) refl (subst IsPlain (sym same) tt)
+      by truth_type same = whole (is_difference h.scope.names y) refl (subst IsPlain (sym same) tt)
+      by (index_type k) same = whole (is_difference h.scope.names y) refl (subst IsPlain (sym same) tt)
+      by (pointer_type k sp types terms) same = whole (is_difference h.scope.names y) refl (subst IsPlain (sym same) tt)
+      by (ispace_type k) same = whole (is_difference h.scope.names y) refl (subst IsPlain (sym same) tt)
+      by (partition_type d q p) same = left (var_form n None (Some (plain_initializer y))) h (λ is z. subst IsBegun same is) m r e w wr u st
+      by no_type same = left (var_form n None (Some (plain_initializer y))) h (λ is z. subst IsBegun same is) m r e w wr u st
+      by unknown_type same = left (var_form n None (Some (plain_initializer y))) h (λ is z. subst IsBegun same is) m r e w wr u st
+  variables_go left (var_form n None (Some (equal_initializer a y))) h rest m r e w wr u st = left (var_form n None (Some (equal_initializer a y))) h tt m r e w wr u st
+  variables_go left (var_form n None (Some (by_field_initializer a f y))) h rest m r e w wr u st = left (var_form n None (Some (by_field_initializer a f y))) h tt m r e w wr u st
+  variables_go left (var_form n None (Some (image_initializer a p b f))) h rest m r e w wr u st = left (var_form n None (Some (image_initializer a p b f))) h tt m r e w wr u st
+  variables_go left (var_form n None (Some (preimage_initializer a p b f))) h rest m r e w wr u st = left (var_form n None (Some (preimage_initializer a p b f))) h tt m r e w wr u st
+  variables_go left (var_form n None (Some (both_initializer p q))) h rest m r e w wr u st = left (var_form n None (Some (both_initializer p q))) h tt m r e w wr u st
+  variables_go left (var_form n None (Some (either_initializer p q))) h rest m r e w wr u st = left (var_form n None (Some (either_initializer p q))) h tt m r e w wr u st
+  variables_go left (assign_form n (field_step f steps) k y) h rest m r e w wr u st = absurd rest
+  variables_go left (assign_form n (at_step z steps) k y) h rest m r e w wr u st = absurd rest
+  variables_go left (if_form arms other) h rest m r e w wr u st = absurd rest
+  variables_go left (while_form test body) h rest m r e w wr u st = absurd rest
+  variables_go left (for_in_form d n domain body) h rest m r e w wr u st = absurd rest
+  variables_go left (for_to_form d n from to body) h rest m r e w wr u st = absurd rest
+  variables_go left (do_form body) h rest m r e w wr u st = absurd rest
+  variables_go left (fill_form n fs y) h rest m r e w wr u st = absurd rest
+  variables_go left (assert_form y) h rest m r e w wr u st = absurd rest
+  variables_go left (print_form alias format es) h rest m r e w wr u st = absurd rest
+  variables_go left (call_form f es) h rest m r e w wr u st = absurd rest
+  variables_go left (return_form y) h rest m r e w wr u st = absurd rest
