@@ -1,7 +1,7 @@
 -- Expressions without a breach: their values are of their types, and what they read is covered.
 use Rattle.check_rules.proofs.Untold.{rule_none, standing_none}
 use Rattle.plain_values.proofs.Plain.{option_or_parts}
-use Rattle.std.proofs.Common.{List, [], ◌∷◌, Bool, None, false, true, refl, ap, sym, subst, ℕ, ℤ, zero, suc, ◌≡◌, ◌∙◌, ◌<◌, ◌≤◌, not, get_or, map, cond}
+use Rattle.std.proofs.Common.{List, [], ◌∷◌, Bool, None, false, true, refl, ap, sym, subst, ℕ, ℤ, zero, suc, ◌≡◌, ◌∙◌, ◌≤◌, not, get_or, map, cond}
 use Rattle.std.proofs.lemmas.Bool.{and_parts, not-false}
 use Rattle.regent_tree.specs.Accesses.{converted, regions_reached, regions_written, standing, take_element, take_field}
 use Rattle.regent_tree.specs.Evaluation.{answered, called, first_type, linked, other_types, stepped, typed, value, values}

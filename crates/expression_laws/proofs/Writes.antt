@@ -1,6 +1,6 @@
 -- What assignments, `fill` and partition operations do to fields is covered.
 use Rattle.plain_values.proofs.Plain.{option_or_parts}
-use Rattle.std.proofs.Common.{List, [], ◌∷◌, ◌++◌, Bool, None, Option, false, true, refl, ap, sym, subst, ℕ, ℤ, zero, suc, ◌≡◌, ◌∙◌, ◌&&◌, ◌==◌, ◌<◌, ◌≤◌, length, not, inl, inr, get_or, cond, flat_map}
+use Rattle.std.proofs.Common.{List, [], ◌∷◌, ◌++◌, Bool, None, Option, false, true, refl, ap, sym, subst, ℕ, ℤ, zero, suc, ◌≡◌, ◌∙◌, ◌&&◌, ◌==◌, ◌≤◌, length, not, inl, inr, get_or, cond, flat_map}
 use Rattle.std.proofs.lemmas.Bool.{and_parts, or_parts, eq-eqb, not-false}
 use Rattle.std.proofs.lemmas.List.{length-set}
 use Rattle.std.specs.List.{list_any}

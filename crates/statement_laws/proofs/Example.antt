@@ -1,6 +1,5 @@
 -- What holds where the example's body begins.
-use Rattle.std.proofs.Common.{arith, Bool, List, [], ◌∷◌, false, true, refl, ap, cond, sym, subst, ℕ, zero, suc, ◌==◌, ◌≡◌, ◌<◌}
-use Rattle.std.specs.List.{Contains}
+use Rattle.std.proofs.Common.{arith, [], false, true, refl, ap, cond, sym, subst, ℕ, zero, suc, ◌==◌, ◌≡◌, ◌<◌}
 use Rattle.regent_tree.proofs.Members.{Has-from_Contains}
 use Rattle.regent_tree.specs.Scopes.{Scope, bound_as, scope_of, unbound}
 use Rattle.check_rules.specs.types.Sorts.{is_region, type_at}

@@ -1,71 +1,50 @@
 -- A variable with a type and an initializer: its first value is converted to the type.
 use Rattle.check_rules.proofs.Untold.{rule_none}
 use Rattle.plain_values.proofs.Plain.{option_or_parts}
-use Rattle.std.proofs.Common.{arith, Bool, List, [], ◌∷◌, ◌++◌, None, Option, Some, false, true, refl, ap, sym, subst, ℕ, suc, ◌≡◌, ◌∙◌, ◌<◌, ◌≤◌, inl, inr, cond, length}
-use Rattle.std.proofs.lemmas.List.{length-append}
+use Rattle.std.proofs.Common.{Bool, List, [], ◌∷◌, ◌++◌, None, Some, false, true, refl, sym, subst, ℕ, ◌≡◌, ◌∙◌, cond, length}
 use Rattle.std.specs.List.{Contains}
-use Rattle.std.specs.Prelude.{nat_lt}
-use Rattle.plain_values.specs.Points.{points}
 use Rattle.regent_tree.specs.Evaluation.{value}
-use Rattle.regent_tree.specs.Execution.{Going, bind}
-use Rattle.regent_tree.specs.Running.{Here, Result, Run, State, and_then, fails, gives}
+use Rattle.regent_tree.specs.Execution.{bind}
+use Rattle.regent_tree.specs.Running.{Here, State, and_then}
 use Rattle.regent_tree.specs.Scopes.{Scope, known_of_type}
-use Rattle.regent_tree.specs.Initializers.{make_root}
-use Rattle.regent_tree.specs.StaticTypes.{field_kinds, place_of_space}
-use Rattle.regent_tree.specs.Store.{new_root}
-use Rattle.regent_tree.specs.Syntax.{Expression, Name, Initializer, TaskTree, plain_initializer, region_initializer, var_form}
-use Rattle.regent_tree.specs.Typing.{known_of_child, known_of_initializer, owned, scope_after, type_of, var_type}
-use Rattle.regent_tree.specs.Values.{Value, a_region, region_of, size_of}
+use Rattle.regent_tree.specs.Syntax.{Expression, Name, Initializer, TaskTree, plain_initializer, var_form}
+use Rattle.regent_tree.specs.Typing.{known_of_child, owned, scope_after, type_of, var_type}
+use Rattle.regent_tree.specs.Values.{Value}
 use Rattle.regent_tree.specs.declared.facts.Known.{Known}
 use Rattle.regent_tree.specs.declared.facts.Known.TheVariants.{Made}
-use Rattle.regent_tree.specs.declared.types.SpaceUse.{SpaceUse}
 use Rattle.regent_tree.specs.declared.types.TypeTerm.{TypeTerm}
 use Rattle.regent_tree.specs.declared.typing.StaticType.{StaticType}
 use Rattle.regent_tree.proofs.Members.{Has-from_Contains}
 use Rattle.check_rules.specs.first.FirstInExpressions.{first_in_expression}
 use Rattle.check_laws.proofs.Variables.{parts_of_form}
-use Rattle.regent_tree.specs.Values.{no_region}
 use Rattle.regent_tree.specs.declared.typing.StaticType.TheVariants.{Index as index_type, Integer as integer_type, Ispace as ispace_type, Nothing as no_type, Partition as partition_type, Pointer as pointer_type, Region as region_type, Truth as truth_type, Unknown as unknown_type}
 use Rattle.check_rules.specs.rules.Partitions.{is_difference}
 use Rattle.check_rules.specs.first.Rules.{first_in}
 use Rattle.check_rules.specs.scopes.Variables.{members_of}
-use Rattle.statement_laws.proofs.Agree.{nothing_in}
 use Rattle.statement_laws.proofs.States.{is_of_too}
-use Rattle.statement_laws.proofs.Types.{type_in}
-use Rattle.expression_laws.specs.Kinds.{IsOfType, is_index, is_number, is_pointer, is_region_of, is_space, is_truth}
-use Rattle.fact_laws.specs.Regions.{Holds, IsIn, Interpretation}
-use Rattle.expression_laws.specs.Sound.{AreInStore, Instance, IsSoundState}
-use Rattle.statement_laws.specs.Steady.{GoesOnSound}
-use Rattle.statement_laws.proofs.Agree.{given_too, holds_too, in_either, own_too}
+use Rattle.expression_laws.specs.Kinds.{IsOfType, is_space}
+use Rattle.fact_laws.specs.Regions.{Interpretation}
+use Rattle.expression_laws.specs.Sound.{Instance, IsSoundState}
 use Rattle.statement_laws.specs.Places.{FormGoes, IsReady}
 use Rattle.statement_laws.proofs.Going.{then_goes}
 use Rattle.statement_laws.proofs.Loops.{evaluates}
-use Rattle.statement_laws.proofs.States.{bound_fits, put, put_agrees, put_region}
+use Rattle.statement_laws.proofs.States.{put, put_agrees}
 use Rattle.std.proofs.Common.{◌&&◌, map}
-use Rattle.regent_tree.specs.Execution.{exec}
 use Rattle.regent_tree.specs.Accesses.{regions_reached}
 use Rattle.regent_tree.specs.Scopes.{in_scope}
-use Rattle.regent_tree.specs.StaticTypes.{looked_up, written_pointer}
-use Rattle.regent_tree.specs.Values.{a_pointer, null_target}
+use Rattle.regent_tree.specs.StaticTypes.{looked_up}
 use Rattle.regent_tree.specs.declared.types.NumberTerm.TheVariants as number
 use Rattle.regent_tree.specs.declared.types.TypeTerm.TheVariants as typed_as
 use Rattle.check_rules.specs.first.FirstInExpressions.{first_in_type}
 use Rattle.check_rules.specs.rules.Names.{unbound_name_in_type}
 use Rattle.check_rules.specs.first.Rules.{rule_if}
 use Rattle.check_rules.specs.types.Sorts.{is_collection, is_unknown_type}
-use Rattle.check_rules.specs.scopes.Variables.{bound_type, variable_type}
+use Rattle.check_rules.specs.scopes.Variables.{variable_type}
 use Rattle.check_rules.specs.declared.rule.Rule.TheVariants as rule
-use Rattle.check_laws.specs.SoundScopes.{IsKnown}
-use Rattle.check_laws.proofs.Parts.{contrary}
 use Rattle.check_laws.proofs.Variables.{variable_known}
 use Rattle.expression_laws.proofs.Names.{pointer_args, reached}
 use Rattle.statement_laws.proofs.Types.{args_below}
-use Rattle.std.proofs.Common.{◌⊎◌, inl, inr}
-use Rattle.regent_tree.specs.Syntax.{Form, assert_form, assign_form, at_step, both_initializer, by_field_initializer, call_form, do_form, either_initializer, equal_initializer, field_step, fill_form, for_in_form, for_to_form, if_form, image_initializer, no_step, preimage_initializer, print_form, return_form, while_form}
-use Rattle.statement_laws.specs.Untreated.{IsPlain, IsUntreated}
-use Rattle.statement_laws.proofs.Assignments.{set_goes}
-use Rattle.statement_laws.proofs.Leaves.{IsRest}
-use Rattle.std.proofs.Common.{not}
+use Rattle.statement_laws.specs.Untreated.{IsPlain}
 use Rattle.statement_laws.proofs.States.{plain_children, plain_region}
 use Rattle.std.proofs.lemmas.Bool.{not-false, or_parts}
 use Rattle.regent_tree.specs.Accesses.{converted}
@@ -73,15 +52,14 @@ use Rattle.regent_tree.specs.Evaluation.{typed}
 use Rattle.regent_tree.specs.Typing.{reaches_of}
 use Rattle.check_rules.specs.rules.Standing.{stands, typed_spot}
 use Rattle.check_rules.specs.rules.Types.{is_ill_typed_at_place}
-use Rattle.check_rules.specs.scopes.Variables.{declared_type, is_flawed_initializer, known_initializer}
+use Rattle.check_rules.specs.scopes.Variables.{is_flawed_initializer, known_initializer}
 use Rattle.check_rules.specs.types.Fitting.{fits}
 use Rattle.check_laws.proofs.Parts.{unless_false}
 use Rattle.check_laws.proofs.Variables.{begun_sound}
 use Rattle.expression_laws.specs.Kinds.{GoInto, TypeBelow}
 use Rattle.expression_laws.specs.Sound.{KeepsSound}
-use Rattle.expression_laws.proofs.Knowing.{known_as_meant}
 use Rattle.statement_laws.proofs.Assignments.{converted_is}
-use Rattle.statement_laws.proofs.Variables.{begun, in_turn_goes, region_goes, plain_goes, tells_none, unset_goes}
+use Rattle.statement_laws.proofs.Variables.{begun, in_turn_goes, tells_none}
 use Rattle.regent_tree.specs.Values.{Region}
 use Rattle.regent_tree.specs.Typing.{initializer_type}
 

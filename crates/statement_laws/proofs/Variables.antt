@@ -1,10 +1,9 @@
 -- Variables: a new binding stands for its first value, and what it tells holds.
 use Rattle.check_rules.proofs.Untold.{rule_none}
 use Rattle.plain_values.proofs.Plain.{option_or_parts}
-use Rattle.std.proofs.Common.{arith, ℤ, Bool, List, [], ◌∷◌, ◌++◌, None, Option, Some, false, true, refl, ap, sym, subst, ℕ, suc, ◌≡◌, ◌∙◌, ◌<◌, ◌≤◌, inl, inr, cond, length}
+use Rattle.std.proofs.Common.{arith, ℤ, Bool, List, [], ◌∷◌, ◌++◌, None, Option, Some, false, true, refl, ap, sym, subst, ℕ, suc, ◌≡◌, ◌∙◌, ◌≤◌, inl, inr, cond, length}
 use Rattle.std.proofs.lemmas.List.{length-append}
 use Rattle.std.specs.List.{Contains}
-use Rattle.std.specs.Prelude.{nat_lt}
 use Rattle.plain_values.specs.Points.{points}
 use Rattle.regent_tree.specs.Evaluation.{value}
 use Rattle.regent_tree.specs.Execution.{Going, bind}
@@ -24,12 +23,11 @@ use Rattle.regent_tree.specs.declared.typing.StaticType.{StaticType}
 use Rattle.regent_tree.proofs.Members.{Has-from_Contains}
 use Rattle.check_rules.specs.first.FirstInExpressions.{first_in_expression}
 use Rattle.check_laws.proofs.Variables.{parts_of_form}
-use Rattle.regent_tree.specs.Values.{no_region, partition_of}
+use Rattle.regent_tree.specs.Values.{partition_of}
 use Rattle.regent_tree.specs.declared.typing.StaticType.TheVariants.{Index as index_type, Integer as integer_type, Ispace as ispace_type, Nothing as no_type, Partition as partition_type, Pointer as pointer_type, Region as region_type, Truth as truth_type, Unknown as unknown_type}
 use Rattle.check_rules.specs.rules.Partitions.{is_difference}
 use Rattle.check_rules.specs.first.Rules.{first_in}
 use Rattle.check_rules.specs.scopes.Variables.{members_of}
-use Rattle.statement_laws.proofs.Agree.{nothing_in}
 use Rattle.statement_laws.proofs.States.{is_of_too}
 use Rattle.statement_laws.proofs.Types.{type_in}
 use Rattle.expression_laws.specs.Kinds.{IsOfType, is_index, is_number, is_pointer, is_region_of, is_space, is_truth}
@@ -60,11 +58,8 @@ use Rattle.check_laws.proofs.Parts.{contrary}
 use Rattle.check_laws.proofs.Variables.{variable_known}
 use Rattle.expression_laws.proofs.Names.{pointer_args, reached}
 use Rattle.statement_laws.proofs.Types.{args_below}
-use Rattle.std.proofs.Common.{◌⊎◌, inl, inr}
-use Rattle.regent_tree.specs.Syntax.{Form, assert_form, assign_form, at_step, both_initializer, by_field_initializer, call_form, do_form, either_initializer, equal_initializer, field_step, fill_form, for_in_form, for_to_form, if_form, image_initializer, no_step, preimage_initializer, print_form, return_form, while_form}
-use Rattle.statement_laws.specs.Untreated.{IsPlain, IsUntreated}
-use Rattle.statement_laws.proofs.Assignments.{set_goes}
-use Rattle.statement_laws.proofs.Leaves.{IsRest}
+use Rattle.std.proofs.Common.{inl, inr}
+use Rattle.statement_laws.specs.Untreated.{IsPlain}
 
 abbrev number_made : Known → ℕ
 number_made (Made i) = i
