@@ -53,10 +53,11 @@ pub record AreInStore (m : Interpretation) (count : ℕ) : Type 0 where
   pub regions : (i : ℕ) → IsInStore count (m.region i)
   pub children : (i : ℕ) (colour : ℤ) → IsInStore count (child_at (m.partition i) colour)
 
--- a value that is no region and no partition
+-- a partition of no colours
 abbrev pub no_partition : Partition
 no_partition = record { root = 0; disjoint = false; sets = [] }
 
+-- a value that is no region and no partition
 abbrev pub IsNoCollection : Value → Type 0
 IsNoCollection v = (region_of v ≡ no_region) × (partition_of v ≡ no_partition)
 

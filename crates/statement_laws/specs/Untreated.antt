@@ -26,8 +26,8 @@ IsBegun t = Unit {0}
 -- written.
 abbrev pub IsUntreated : Here → Form → Type 0
 IsUntreated h (var_form n (Some t) (Some (plain_initializer e))) = IsPlain (var_type h.tree h.scope (Some t) None) → is_difference h.scope.names e ≡ false → ⊥
-IsUntreated h (var_form n (Some t) (Some start)) = Unit {0}
+IsUntreated h (var_form n (Some t) (Some initializer)) = Unit {0}
 IsUntreated h (var_form n None (Some (region_initializer e u))) = ⊥
 IsUntreated h (var_form n None (Some (plain_initializer e))) = IsBegun (type_of h.tree h.scope e) → is_difference h.scope.names e ≡ false → ⊥
-IsUntreated h (var_form n None (Some start)) = Unit {0}
+IsUntreated h (var_form n None (Some initializer)) = Unit {0}
 IsUntreated h form = ⊥
