@@ -114,14 +114,14 @@ args_told tree task s (an_expr y es) e =
     let parts = option_or_parts (first_in_expression tree task s y) _ e in
     λ j. option_or (parts.0 j) (args_told tree task s es parts.1 j)
 
-record IsRegionType (t : StaticType) : Type 0 where
-  kind : Kind
-  space : ℕ
-  arguments : List Reach
-  term : Term
-  is : t ≡ region_type kind space arguments term
+pub record IsRegionType (t : StaticType) : Type 0 where
+  pub kind : Kind
+  pub space : ℕ
+  pub arguments : List Reach
+  pub term : Term
+  pub is : t ≡ region_type kind space arguments term
 
-region_like : (t : StaticType) → is_region t ≡ true → IsRegionType t
+pub region_like : (t : StaticType) → is_region t ≡ true → IsRegionType t
 region_like (region_type k s args t) e = record { kind = k; space = s; arguments = args; term = t; is = refl }
 region_like (integer_type w) e = absurd cc
 region_like truth_type e = absurd cc

@@ -1,4 +1,21 @@
 -- A variable that begins as a region that is there already: as a child of a partition, mostly.
+use Rattle.regent_tree.specs.declared.facts.Known.{Known}
+use Rattle.regent_tree.specs.Syntax.{Initializer}
+use Rattle.regent_tree.specs.Accesses.{converted, regions_reached}
+use Rattle.regent_tree.specs.Evaluation.{typed}
+use Rattle.regent_tree.specs.Running.{and_then}
+use Rattle.regent_tree.specs.Scopes.{in_scope}
+use Rattle.regent_tree.specs.StaticTypes.{looked_up, place_of_space}
+use Rattle.regent_tree.specs.Typing.{reaches_of}
+use Rattle.regent_tree.specs.declared.types.SpaceUse.{SpaceUse}
+use Rattle.regent_tree.specs.declared.types.TypeTerm.{TypeTerm}
+use Rattle.regent_tree.specs.declared.types.NumberTerm.TheVariants as number
+use Rattle.regent_tree.specs.declared.types.TypeTerm.TheVariants as typed_as
+use Rattle.check_rules.specs.types.Fitting.{fits}
+use Rattle.check_rules.specs.types.Sorts.{is_region, is_unknown_type}
+use Rattle.statement_laws.proofs.TypedVariables.{typed_parts}
+use Rattle.statement_laws.proofs.Variables.{in_turn_goes}
+use Rattle.std.proofs.Common.{map}
 use Rattle.plain_values.proofs.Plain.{option_or_parts}
 use Rattle.std.proofs.Common.{Bool, List, [], ◌∷◌, ◌++◌, None, Some, false, true, refl, sym, subst, ℕ, ◌≡◌, ◌∙◌, inl, inr, cond, length}
 use Rattle.regent_tree.specs.Evaluation.{value}
@@ -32,7 +49,7 @@ use Rattle.std.proofs.Common.{◌⊎◌, inl, inr}
 use Rattle.regent_tree.specs.Syntax.{Form, assert_form, assign_form, at_step, both_initializer, by_field_initializer, call_form, do_form, either_initializer, equal_initializer, field_step, fill_form, for_in_form, for_to_form, if_form, image_initializer, no_step, preimage_initializer, print_form, return_form, while_form}
 use Rattle.statement_laws.specs.Untreated.{IsBegun, IsPlain, IsUntreated}
 use Rattle.statement_laws.proofs.Assignments.{set_goes}
-use Rattle.statement_laws.proofs.Leaves.{IsRest}
+use Rattle.statement_laws.proofs.Leaves.{IsRest, region_like}
 use Rattle.check_rules.specs.rules.Standing.{stands}
 use Rattle.expression_laws.specs.Kinds.{TypeBelow}
 use Rattle.statement_laws.proofs.Variables.{begun, region_goes, plain_goes, unset_goes}
@@ -108,27 +125,71 @@ module _ (task : TaskTree) (args : List Value) (roots : ℕ) where
 
   -- ---- all variables but those of which the laws don't speak yet
 
-  plain_or : (t : StaticType) → IsPlain t ⊎ (IsPlain t → ⊥)
-  plain_or (integer_type w) = inl tt
-  plain_or truth_type = inl tt
-  plain_or (index_type k) = inl tt
-  plain_or (pointer_type k sp types terms) = inl tt
-  plain_or (ispace_type k) = inl tt
-  plain_or (region_type k sp types t) = inr (λ h. h)
-  plain_or (partition_type d r p) = inr (λ h. h)
-  plain_or no_type = inr (λ h. h)
-  plain_or unknown_type = inr (λ h. h)
+  region_fits : (own : ℕ) (known : List Known) (from : StaticType) (k : Kind) (sp : ℕ) (types : List Reach) (t : Term) → is_unknown_type from ≡ false →
+      fits known (owned own from) (region_type k sp types t) ≡ true → is_region from ≡ true
+  region_fits own known (region_type j sq others q) k sp types t l e = refl
+  region_fits own known (integer_type w) k sp types t l e = absurd cc
+  region_fits own known truth_type k sp types t l e = absurd cc
+  region_fits own known (index_type j) k sp types t l e = absurd cc
+  region_fits own known (pointer_type j sq others terms) k sp types t l e = absurd cc
+  region_fits own known (ispace_type j) k sp types t l e = absurd cc
+  region_fits own known (partition_type d q p) k sp types t l e = absurd cc
+  region_fits own known no_type k sp types t l e = absurd cc
+  region_fits own known unknown_type k sp types t l e = absurd cc
+
+  -- the same with a type that is written
+  pub typed_child_goes : (n : Name) (k : Kind) (use_of : SpaceUse) (y : Expression) (h : Here) → is_difference h.scope.names y ≡ false →
+      FormGoes task args roots h (var_form n (Some (typed_as.Region k use_of)) (Some (plain_initializer y)))
+  typed_child_goes n k use_of y h whole m r told w wr st0 st =
+      let s = h.scope in
+      let t = typed_as.Region k use_of in
+      let i : Initializer = plain_initializer y in
+      let sp = place_of_space h.tree use_of.name in
+      let types = map (looked_up (in_scope s)) use_of.args in
+      let wanted = region_type k sp types (name_term s.next) in
+      let typing = typed_parts task args roots n t y h m r whole told in
+      let like = region_like (type_of h.tree s y) (region_fits s.next s.known (type_of h.tree s y) k sp types (name_term s.next) typing.known typing.fit) in
+      let below = subst (TypeBelow s.next) like.is (type_in h.tree task s r.sound r.scope r.static.well_scoped y typing.right).below in
+      let after = scope_after h.tree s (var_form n (Some t) (Some i)) in
+      in_turn_goes task args roots (inst h) m s.next after (value h y st0) (λ v z. converted h (typed h y) wanted (regions_reached s z.names (reaches_of wanted)) v z) (λ v. bind v)
+      (then_goes (inst h) m s s.next after (value h y st0) (λ v z. and_then (converted h (typed h y) wanted (regions_reached s z.names (reaches_of wanted)) v z) (λ v. bind v))
+      (evaluates task args roots h m y r wr typing.right st0 st) (λ v z st is.
+      begun task args roots h m n (Some t) (Some i) r v z st
+      (subst (λ ty. Begins task args roots h m wanted (known_of_child s.next ty ++ []) v (length z.store)) (sym like.is)
+      (region_begins h m like.term like.kind k like.space sp like.arguments types v (length z.store) below st.rooted (subst (λ ty. IsOfType m ty v) like.is is.is_of)))))
+
+  typed_whole : (n : Name) (t : TypeTerm) (y : Expression) (h : Here) → is_difference h.scope.names y ≡ false → IsBegun (var_type h.tree h.scope (Some t) None) →
+      FormGoes task args roots h (var_form n (Some t) (Some (plain_initializer y)))
+  typed_whole n (typed_as.Number number.Int32) y h q is = typed_goes task args roots n (typed_as.Number number.Int32) y h tt q
+  typed_whole n (typed_as.Number number.Int64) y h q is = typed_goes task args roots n (typed_as.Number number.Int64) y h tt q
+  typed_whole n (typed_as.Number (number.Index k)) y h q is = typed_goes task args roots n (typed_as.Number (number.Index k)) y h tt q
+  typed_whole n typed_as.Truth y h q is = typed_goes task args roots n typed_as.Truth y h tt q
+  typed_whole n (typed_as.Pointer p) y h q is = typed_goes task args roots n (typed_as.Pointer p) y h tt q
+  typed_whole n (typed_as.Ispace k) y h q is = typed_goes task args roots n (typed_as.Ispace k) y h tt q
+  typed_whole n (typed_as.Region k u) y h q is = typed_child_goes n k u y h q
+  typed_whole n (typed_as.Partition d p c) y h q is = absurd is
+
+  begun_or : (t : StaticType) → IsBegun t ⊎ (IsBegun t → ⊥)
+  begun_or (integer_type w) = inl tt
+  begun_or truth_type = inl tt
+  begun_or (index_type k) = inl tt
+  begun_or (pointer_type k sp types terms) = inl tt
+  begun_or (ispace_type k) = inl tt
+  begun_or (region_type k sp types t) = inl tt
+  begun_or (partition_type d r p) = inr (λ h. h)
+  begun_or no_type = inr (λ h. h)
+  begun_or unknown_type = inr (λ h. h)
 
   pub variables_go : ((form : Form) (h : Here) → IsUntreated h form → FormGoes task args roots h form) → (form : Form) (h : Here) → IsRest task args roots form → FormGoes task args roots h form
   variables_go left (assign_form n no_step k y) h rest m r e w wr u st = set_goes task args roots n k y h m r e w wr u st
-  variables_go left (var_form n (Some t) (Some (plain_initializer y))) h rest m r e w wr u st = elim (plain_or (var_type h.tree h.scope (Some t) None)) [
+  variables_go left (var_form n (Some t) (Some (plain_initializer y))) h rest m r e w wr u st = elim (begun_or (var_type h.tree h.scope (Some t) None)) [
     | inl is ↦ whole (is_difference h.scope.names y) refl is
     | inr other ↦ left (var_form n (Some t) (Some (plain_initializer y))) h (λ is q. other is) m r e w wr u st
   ]
     where
-      whole : (b : Bool) → is_difference h.scope.names y ≡ b → IsPlain (var_type h.tree h.scope (Some t) None) →
+      whole : (b : Bool) → is_difference h.scope.names y ≡ b → IsBegun (var_type h.tree h.scope (Some t) None) →
           GoesOnSound (inst h) m h.scope.next (scope_after h.tree h.scope (var_form n (Some t) (Some (plain_initializer y)))) (exec h (var_form n (Some t) (Some (plain_initializer y))) u)
-      whole false q is = typed_goes task args roots n t y h is q m r e w wr u st
+      whole false q is = typed_whole n t y h q is m r e w wr u st
       whole true q is = left (var_form n (Some t) (Some (plain_initializer y))) h (λ is p. contrary (sym q ∙ p)) m r e w wr u st
   variables_go left (var_form n (Some t) (Some (region_initializer y s))) h rest m r e w wr u st = left (var_form n (Some t) (Some (region_initializer y s))) h tt m r e w wr u st
   variables_go left (var_form n (Some t) (Some (equal_initializer a y))) h rest m r e w wr u st = left (var_form n (Some t) (Some (equal_initializer a y))) h tt m r e w wr u st

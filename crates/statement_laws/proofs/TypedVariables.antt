@@ -19,6 +19,7 @@ use Rattle.check_rules.specs.first.FirstInExpressions.{first_in_expression}
 use Rattle.check_laws.proofs.Variables.{parts_of_form}
 use Rattle.regent_tree.specs.declared.typing.StaticType.TheVariants.{Index as index_type, Integer as integer_type, Ispace as ispace_type, Nothing as no_type, Partition as partition_type, Pointer as pointer_type, Region as region_type, Truth as truth_type, Unknown as unknown_type}
 use Rattle.check_rules.specs.rules.Partitions.{is_difference}
+use Rattle.check_rules.specs.first.FirstInStatements.{first_of_form}
 use Rattle.check_rules.specs.first.Rules.{first_in}
 use Rattle.check_rules.specs.scopes.Variables.{members_of}
 use Rattle.statement_laws.proofs.States.{is_of_too}
@@ -157,34 +158,51 @@ module _ (task : TaskTree) (args : List Value) (roots : ℕ) where
   written_type h m (typed_as.Region k s) r named p = absurd p
   written_type h m (typed_as.Partition d q s) r named p = absurd p
 
+  -- what isn't told of a variable with a type and an expression
+  pub record IsTyped (h : Here) (t : TypeTerm) (y : Expression) : Type 0 where
+    pub right : first_in_expression h.tree task h.scope y ≡ None
+    pub named : unbound_name_in_type h.tree h.scope.names t ≡ false
+    pub known : is_unknown_type (type_of h.tree h.scope y) ≡ false
+    pub fit : fits h.scope.known (owned h.scope.next (type_of h.tree h.scope y)) (var_type h.tree h.scope (Some t) None) ≡ true
+
+  pub typed_parts : (n : Name) (t : TypeTerm) (y : Expression) (h : Here) (m : Interpretation) → IsReady task args roots m h → is_difference h.scope.names y ≡ false →
+      first_of_form h.tree task h.scope (var_form n (Some t) (Some (plain_initializer y))) ≡ None → IsTyped h t y
+  typed_parts n t y h m r whole told =
+      let s = h.scope in
+      let i : Initializer = plain_initializer y in
+      let from = type_of h.tree s y in
+      let parts = parts_of_form h.tree task s r.sound r.scope (var_form n (Some t) (Some i)) told in
+      let b = begun_sound h.tree task s r.sound r.scope n (Some t) i told in
+      let vt = variable_type h.tree s (Some t) (Some i) in
+      let is_begun : known_initializer h.tree s i ≡ owned s.next from = unless_false (is_flawed_initializer h.tree s i) (initializer_type h.tree s s.next i) b.0 in
+      let is_wanted : vt ≡ var_type h.tree s (Some t) None = sym (unless_both (is_collection vt) _ vt b.2) ∙ (variable_known h.tree task s r.sound r.scope n (Some t) (Some i) told).0 in
+      let fit = not-false _ (or_parts (is_ill_typed_at_place s.known (stands (known_initializer h.tree s i) (typed_spot vt))) false parts.4).0 in
+      let heads = subst (λ b. first_in (first_in_expression h.tree task s) (cond b (members_of y) (y ∷ [])) ≡ None) whole parts.2 in record {
+        right = (option_or_parts (first_in_expression h.tree task s y) _ heads).0;
+        named = rule_none (unbound_name_in_type h.tree s.names t) rule.Name (option_or_parts (rule_if (unbound_name_in_type h.tree s.names t) rule.Name) _ (option_or_parts (first_in_type h.tree s.names t) None parts.0).0).0;
+        known = owned_known s.next from b.1.known;
+        fit = sym (λ j. fits s.known (is_begun j) (is_wanted j)) ∙ fit;
+      }
+
   -- `var x : t = e` of a number, truth, index, pointer or space
   pub typed_goes : (n : Name) (t : TypeTerm) (y : Expression) (h : Here) → IsPlain (var_type h.tree h.scope (Some t) None) → is_difference h.scope.names y ≡ false →
       FormGoes task args roots h (var_form n (Some t) (Some (plain_initializer y)))
   typed_goes n t y h plain whole m r told w wr st0 st =
       let s = h.scope in
       let i : Initializer = plain_initializer y in
-      let form = var_form n (Some t) (Some i) in
       let wanted = var_type h.tree s (Some t) (Some i) in
       let from = type_of h.tree s y in
-      let parts = parts_of_form h.tree task s r.sound r.scope form told in
-      let b = begun_sound h.tree task s r.sound r.scope n (Some t) i told in
-      let vt = variable_type h.tree s (Some t) (Some i) in
-      let is_begun : known_initializer h.tree s i ≡ owned s.next from = unless_false (is_flawed_initializer h.tree s i) (initializer_type h.tree s s.next i) b.0 in
-      let is_wanted : vt ≡ wanted = sym (unless_both (is_collection vt) _ vt b.2) ∙ (variable_known h.tree task s r.sound r.scope n (Some t) (Some i) told).0 in
-      let fit = not-false _ (or_parts (is_ill_typed_at_place s.known (stands (known_initializer h.tree s i) (typed_spot vt))) false parts.4).0 in
-      let both = fits_plain s.next s.known from wanted plain (sym (λ j. fits s.known (is_begun j) (is_wanted j)) ∙ fit) in
-      let heads = subst (λ b. first_in (first_in_expression h.tree task s) (cond b (members_of y) (y ∷ [])) ≡ None) whole parts.2 in
-      let told_y = (option_or_parts (first_in_expression h.tree task s y) _ heads).0 in
-      let named = rule_none (unbound_name_in_type h.tree s.names t) rule.Name (option_or_parts (rule_if (unbound_name_in_type h.tree s.names t) rule.Name) _ (option_or_parts (first_in_type h.tree s.names t) None parts.0).0).0 in
-      let written = written_type h m t r named plain in
+      let typing = typed_parts n t y h m r whole told in
+      let both = fits_plain s.next s.known from wanted plain typing.fit in
+      let written = written_type h m t r typing.named plain in
       let none = tells_none task args roots s wanted plain in
       let tells : known_of_child s.next from ++ known_of_type wanted ≡ [] = (λ j. both.1 j ++ known_of_type wanted) ∙ none.type in
-      let after = scope_after h.tree s form in
+      let after = scope_after h.tree s (var_form n (Some t) (Some i)) in
       in_turn_goes task args roots (inst h) m s.next after (value h y st0) (λ v z. converted h (typed h y) wanted (regions_reached s z.names (reaches_of wanted)) v z) (λ v. bind v)
       (then_goes (inst h) m s s.next after (value h y st0) (λ v z. and_then (converted h (typed h y) wanted (regions_reached s z.names (reaches_of wanted)) v z) (λ v. bind v))
-      (evaluates task args roots h m y r wr told_y st0 st) (λ v z st is.
+      (evaluates task args roots h m y r wr typing.right st0 st) (λ v z st is.
       then_goes (inst h) m s s.next after (converted h (typed h y) wanted (regions_reached s z.names (reaches_of wanted)) v z) (λ v. bind v)
-      (converted_plain (inst h) m s h s.known from wanted (regions_reached s z.names (reaches_of wanted)) v z (owned_known s.next from b.1.known) plain both.0 (written.reach z st) is.is_of st) (λ a z st is.
+      (converted_plain (inst h) m s h s.known from wanted (regions_reached s z.names (reaches_of wanted)) v z typing.known plain both.0 (written.reach z st) is.is_of st) (λ a z st is.
       begun task args roots h m n (Some t) (Some i) r a z st (record {
         is_of = is_of_too s.next m (put s.next a m) (put_agrees s.next a m) wanted a written.below is;
         holds = λ k c. absurd (Has-from_Contains [] k (subst (λ ks. Contains ks k) tells c));
