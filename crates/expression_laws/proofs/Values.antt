@@ -1,7 +1,7 @@
 -- Expressions without a breach: their values are of their types, and what they read is covered.
 use Rattle.check_rules.proofs.Untold.{rule_none, standing_none}
 use Rattle.plain_values.proofs.Plain.{option_or_parts}
-use Rattle.std.proofs.Common.{List, [], ◌∷◌, Bool, None, false, true, refl, ap, sym, subst, ℕ, ℤ, zero, suc, ◌≡◌, ◌∙◌, ◌<◌, ◌≤◌, not, get_or, map, cond}
+use Rattle.std.proofs.Common.{List, [], ◌∷◌, Bool, None, false, true, refl, ap, sym, subst, ℕ, ℤ, zero, suc, ◌≡◌, ◌∙◌, ◌≤◌, not, get_or, map, cond}
 use Rattle.std.proofs.lemmas.Bool.{and_parts, not-false}
 use Rattle.regent_tree.specs.Accesses.{converted, regions_reached, regions_written, standing, take_element, take_field}
 use Rattle.regent_tree.specs.Evaluation.{answered, called, first_type, linked, other_types, stepped, typed, value, values}
@@ -35,7 +35,7 @@ use Rattle.expression_laws.proofs.Knowing.{known_as_meant}
 use Rattle.check_laws.proofs.Parts.{after_operator, contrary, element_known, field_known, surely}
 use Rattle.expression_laws.specs.Kinds.{ArgumentsInScope, GoInto, IsOfType, IsWellScoped, NamesFit, is_number, is_pointer, is_truth, number_stood_for}
 use Rattle.fact_laws.specs.Regions.{IsColour, Interpretation}
-use Rattle.expression_laws.specs.Sound.{AreSoundAnswers, ArePassed, IsValueOf, IsSoundAnswer, Instance, IsSoundPlace, IsSoundState, KeepsSound}
+use Rattle.expression_laws.specs.Sound.{AreInStore, AreSoundAnswers, ArePassed, IsValueOf, IsSoundAnswer, Instance, IsSoundPlace, IsSoundState, KeepsSound}
 use Rattle.expression_laws.specs.Writing.{AreLinked, AreStepped, AreWritten, IsWritten}
 use Rattle.expression_laws.proofs.Names.{named_fits, pointer_args, reached, said_named}
 use Rattle.expression_laws.proofs.Operators.{after, arithmetic_is, as_number_is, as_truth, cast_is, chosen, computes_numbers, converted_passes, operand_any, signed_counted, signed_is, signs_value, size_is, standing_any, standing_is, value_from_number, weaker}
@@ -94,7 +94,7 @@ module _ (task : TaskTree) (args : List Value) (roots : ℕ) (m : Interpretation
     where
       answered_is : (w : State) → IsSoundState x m h.scope w → (c : Called) → IsSoundAnswer m h.tree name w.store c → Is (result_type h.tree (task_named h.tree name).result) (answered c w)
       answered_is w st (came_back v store text) is = (
-        record { names = st.names; counted = st.counted; rooted = λ i root n k. subst (λ c. root < c) (sym is.1) (st.rooted i root n k); grown = subst (λ c. roots ≤ c) (sym is.1) st.grown; covered = st.covered },
+        record { names = st.names; counted = st.counted; rooted = subst (λ c. AreInStore m c) (sym is.1) st.rooted; grown = subst (λ c. roots ≤ c) (sym is.1) st.grown; covered = st.covered },
         is.0,
       )
       answered_is w st (broke f text) is = st.covered

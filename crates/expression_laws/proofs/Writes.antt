@@ -1,6 +1,6 @@
 -- What assignments, `fill` and partition operations do to fields is covered.
 use Rattle.plain_values.proofs.Plain.{option_or_parts}
-use Rattle.std.proofs.Common.{List, [], ◌∷◌, ◌++◌, Bool, None, Option, false, true, refl, ap, sym, subst, ℕ, ℤ, zero, suc, ◌≡◌, ◌∙◌, ◌&&◌, ◌==◌, ◌<◌, ◌≤◌, length, not, inl, inr, get_or, cond, flat_map}
+use Rattle.std.proofs.Common.{List, [], ◌∷◌, ◌++◌, Bool, None, Option, false, true, refl, ap, sym, subst, ℕ, ℤ, zero, suc, ◌≡◌, ◌∙◌, ◌&&◌, ◌==◌, ◌≤◌, length, not, inl, inr, get_or, cond, flat_map}
 use Rattle.std.proofs.lemmas.Bool.{and_parts, or_parts, eq-eqb, not-false}
 use Rattle.std.proofs.lemmas.List.{length-set}
 use Rattle.std.specs.List.{list_any}
@@ -38,7 +38,7 @@ use Rattle.check_laws.proofs.Parts.{contrary, element_known, field_known}
 use Rattle.expression_laws.specs.Kinds.{ArgumentsInScope, GoInto, IsOfType, IsWellScoped, is_pointer, is_partition_of}
 use Rattle.expression_laws.specs.Needs.{mode_of}
 use Rattle.fact_laws.specs.Regions.{Interpretation, StandsFor}
-use Rattle.expression_laws.specs.Sound.{AreSoundAnswers, AreCovered, Instance, IsSoundPlace, IsSoundState, KeepsSound}
+use Rattle.expression_laws.specs.Sound.{AreInStore, AreSoundAnswers, AreCovered, Instance, IsSoundPlace, IsSoundState, KeepsSound}
 use Rattle.expression_laws.specs.Writing.{AreStepped, IsWritten}
 use Rattle.expression_laws.proofs.Covers.{may_covers}
 use Rattle.expression_laws.proofs.Operators.{after, converted_passes, weaker}
@@ -126,7 +126,7 @@ module _ (task : TaskTree) (args : List Value) (roots : ℕ) (m : Interpretation
       let split = lacks_parts ws (flat_map (wanted_of_region h.tree Write (region_type k sp types t)) fs) lacking in
       after (λ g. goes_on ≡ g) (converted h from (field_type h.tree sp types f) [] v u) _ (converted_any from (field_type h.tree sp types f) [] v u st) (λ a w st is.
       fill_is from v k sp types t r fs _ parts.1 split.1 stands
-      (record { names = st.names; counted = st.counted; rooted = λ i root p k. subst (λ c. root < c) (sym (fill_long w.store r.root _ r.points _)) (st.rooted i root p k); grown = subst (λ c. roots ≤ c) (sym (fill_long w.store r.root _ r.points _)) st.grown; covered = many_covered w.touches _ st.covered (region_covered Write k sp types t f r here split.0 stands) }))
+      (record { names = st.names; counted = st.counted; rooted = subst (λ c. AreInStore m c) (sym (fill_long w.store r.root _ r.points _)) st.rooted; grown = subst (λ c. roots ≤ c) (sym (fill_long w.store r.root _ r.points _)) st.grown; covered = many_covered w.touches _ st.covered (region_covered Write k sp types t f r here split.0 stands) }))
 
   -- ---- targets
 
@@ -235,7 +235,7 @@ module _ (task : TaskTree) (args : List Value) (roots : ℕ) (m : Interpretation
         record {
           names = st.names;
           counted = st.counted;
-          rooted = λ j root p k. subst (λ c. root < c) (sym (write_long u.store (get_or rs i no_region).root _ n _)) (st.rooted j root p k);
+          rooted = subst (λ c. AreInStore m c) (sym (write_long u.store (get_or rs i no_region).root _ n _)) st.rooted;
           grown = subst (λ c. roots ≤ c) (sym (write_long u.store (get_or rs i no_region).root _ n _)) st.grown;
           covered = one_covered task args roots m h sound sound_task scope well_scoped place u.touches _ st.covered
               (subst (λ c. is_covered h.tree roots task args (record { root = (get_or rs i no_region).root; field = field_place h.tree sp f; point = n; access = c }) ≡ true)

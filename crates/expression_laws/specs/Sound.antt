@@ -3,7 +3,7 @@
 -- What is fixed at a place of the text: the facts hold, the roots that were made are the task's own, and
 -- the regions of parameters are those of the arguments. What a state keeps: names have values of their
 -- kinds, and each touch so far is covered.
-use Rattle.std.specs.Prelude.{Contains, List, [], ◌∷◌, false, get_or, length, true, ℕ, ◌<◌, ◌≡◌, ◌≤◌}
+use Rattle.std.specs.Prelude.{Contains, List, [], ◌∷◌, false, get_or, length, true, ℕ, ℤ, ◌<◌, ◌≡◌, ◌≤◌}
 use Rattle.regent_tree.specs.Cover.{is_covered}
 use Rattle.regent_tree.specs.Evaluation.{first_type, other_types}
 use Rattle.regent_tree.specs.Running.{Calls, Called, Result, State, broke, came_back, fails, gives}
@@ -12,13 +12,13 @@ use Rattle.regent_tree.specs.StaticTypes.{task_named}
 use Rattle.regent_tree.specs.Store.{Store, Touch}
 use Rattle.regent_tree.specs.Syntax.{Expression, Expressions, Name, TaskTree, Tree, an_expr, no_expr}
 use Rattle.regent_tree.specs.Typing.{colour_of, param_types, result_type, type_of}
-use Rattle.regent_tree.specs.Values.{Value, a_truth, region_of}
+use Rattle.regent_tree.specs.Values.{Partition, Region, Value, a_truth, no_region, partition_of, region_of}
 use Rattle.regent_tree.specs.declared.facts.Known.{Known}
 use Rattle.regent_tree.specs.declared.facts.Known.TheVariants.{Made}
 use Rattle.check_rules.specs.types.Sorts.{is_region, type_at}
 use Rattle.regent_tree.specs.declared.typing.StaticType.{StaticType}
 use Rattle.expression_laws.specs.Kinds.{IsOfType, NamesFit, number_stood_for}
-use Rattle.fact_laws.specs.Regions.{AllHold, IsColour, IsIn, Interpretation}
+use Rattle.fact_laws.specs.Regions.{AllHold, IsColour, IsIn, Interpretation, child_at}
 
 -- a task instance: its program, its task, its arguments, and the roots that were there when it began
 pub record Instance : Type 0 where
@@ -44,14 +44,27 @@ pub record IsSoundPlace (x : Instance) (m : Interpretation) (s : Scope) : Type 0
 abbrev pub AreCovered : Instance → List Touch → Type 0
 AreCovered x touches = (t : Touch) → Contains touches t → is_covered x.tree x.roots x.task x.args t ≡ true
 
--- points of regions are of roots that are there
-abbrev pub AreRooted : Interpretation → ℕ → Type 0
-AreRooted m count = (i root n : ℕ) → IsIn (m.region i) root n → root < count
+-- each point of a region is of a root that is there
+abbrev pub IsInStore : ℕ → Region → Type 0
+IsInStore count r = (root point : ℕ) → IsIn r root point → root < count
+
+-- so it is with the regions of names, and with the children of partitions
+pub record AreInStore (m : Interpretation) (count : ℕ) : Type 0 where
+  pub regions : (i : ℕ) → IsInStore count (m.region i)
+  pub children : (i : ℕ) (colour : ℤ) → IsInStore count (child_at (m.partition i) colour)
+
+-- a partition of no colours
+abbrev pub no_partition : Partition
+no_partition = record { root = 0; disjoint = false; sets = [] }
+
+-- a value that is no region and no partition
+abbrev pub IsNoCollection : Value → Type 0
+IsNoCollection v = (region_of v ≡ no_region) × (partition_of v ≡ no_partition)
 
 pub record IsSoundState (x : Instance) (m : Interpretation) (s : Scope) (u : State) : Type 0 where
   pub names : NamesFit m s u.names
   pub counted : length u.names ≡ length s.names
-  pub rooted : AreRooted m (length u.store)
+  pub rooted : AreInStore m (length u.store)
   pub grown : x.roots ≤ length u.store
   pub covered : AreCovered x u.touches
 

@@ -1,7 +1,7 @@
 -- The example's facts hold of its regions.
-use Rattle.std.proofs.Common.{arith, List, false, true, sym, ◌||◌, ◌==◌, ◌∙◌, refl, subst, ◌≡◌, ◌≢◌, ◌⊎◌, inl, inr}
+use Rattle.std.proofs.Common.{arith, false, true, sym, ◌||◌, ◌==◌, ◌∙◌, refl, subst, ◌≡◌, ◌≢◌, ◌⊎◌, inl, inr}
 use Rattle.std.proofs.lemmas.Bool.{eqb-true, or_cases}
-use Rattle.std.specs.Prelude.{[], ◌∷◌, ℕ, ℤ, pos, negsuc, zero, suc, ◌<◌}
+use Rattle.std.specs.Prelude.{[], ◌∷◌, ℕ, ℤ, pos, negsuc, zero, suc}
 use Rattle.plain_values.specs.Points.{has}
 use Rattle.regent_tree.proofs.Members.{Has, Has-from_Contains}
 use Rattle.regent_tree.specs.Values.{Region}
@@ -9,7 +9,7 @@ use Rattle.regent_tree.specs.declared.facts.Colour.TheVariants.{Constant}
 use Rattle.regent_tree.specs.declared.facts.Known.{Known}
 use Rattle.regent_tree.specs.declared.facts.Term.TheVariants.{Child, Name}
 use Rattle.fact_laws.specs.Example.{ExampleFactsHold, ExampleIsAnswered, example_facts, example_interpretation, example_region, halves}
-use Rattle.fact_laws.specs.Regions.{AllLieWithinSome, Holds, IsNew, IsPartitionOf, LiesWithin, SharesNoPoint, child_at}
+use Rattle.fact_laws.specs.Regions.{AllLieWithinSome, Holds, IsNew, LiesWithin, SharesNoPoint, child_at}
 use Rattle.fact_laws.proofs.Facts.{other_roots_share_no_point}
 
 one_of_two : (a b n : ℕ) → has (a ∷ b ∷ []) n ≡ true → (n ≡ a) ⊎ (n ≡ b)

@@ -1,9 +1,9 @@
 -- What is derived from what is known holds where what is known does: by induction on the derivation.
-use Rattle.std.proofs.Common.{arith, List, true, refl, ap, sym, subst, ◌≡◌, ◌≢◌, ◌∙◌}
-use Rattle.std.specs.Prelude.{[], ◌∷◌, IsTrue, get_or, length, pos, suc, zero, ℕ, ◌≤◌}
+use Rattle.std.proofs.Common.{arith, List, true, refl, ap, sym, subst, ◌≡◌, ◌∙◌}
+use Rattle.std.specs.Prelude.{[], ◌∷◌, IsTrue, get_or, length, suc, zero, ℕ, ◌≤◌}
 use Rattle.plain_values.specs.Points.{has}
 use Rattle.regent_tree.specs.Facts.{are_disjoint, is_certain, is_subregion}
-use Rattle.regent_tree.specs.Values.{Partition, Region}
+use Rattle.regent_tree.specs.Values.{Region}
 use Rattle.regent_tree.specs.declared.facts.Colour.TheVariants.{Constant, Loop, Unknown}
 use Rattle.regent_tree.specs.declared.facts.Known.{Known}
 use Rattle.regent_tree.specs.declared.facts.Term.{Term}
@@ -11,8 +11,8 @@ use Rattle.regent_tree.specs.declared.facts.Term.TheVariants.{Name, Child}
 use Rattle.constraint_check.specs.Derivations.{IsBelow, same, told_within, through, child, variable, IsApart, told_apart, turned, children, inside, made, IsSubregion}
 use Rattle.constraint_check.proofs.Table.{is_subregion-derivable}
 use Rattle.constraint_check.proofs.Apartness.{are_disjoint-derivable}
-use Rattle.fact_laws.specs.Laws.{AnswersHold, AnswersHoldOf, DerivedHold, DerivedRelationsHold, LackingColoursAreEmpty, OtherRootsShareNoPoint}
-use Rattle.fact_laws.specs.Regions.{AllHold, AllLieWithinEach, AllLieWithinSome, AreApart, Interpretation, IsIn, LiesWithin, SharesNoPoint, StandsFor, child_at}
+use Rattle.fact_laws.specs.Laws.{AnswersHold, DerivedRelationsHold, LackingColoursAreEmpty, OtherRootsShareNoPoint}
+use Rattle.fact_laws.specs.Regions.{AllHold, AllLieWithinEach, AllLieWithinSome, AreApart, Interpretation, LiesWithin, SharesNoPoint, StandsFor, child_at}
 
 pub other_roots_share_no_point : OtherRootsShareNoPoint
 other_roots_share_no_point a b differ root point x y = differ (x.0 ∙ sym y.0)

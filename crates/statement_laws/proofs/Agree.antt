@@ -18,7 +18,7 @@ use Rattle.regent_tree.specs.declared.facts.Term.{Term}
 use Rattle.regent_tree.specs.declared.facts.Term.TheVariants.{Name, Child}
 use Rattle.regent_tree.proofs.Members.{Contains-from_Has, Has-append_cases, Has-append_left, Has-from_Contains}
 use Rattle.fact_laws.specs.Regions.{AllHold, Holds, IsColour, IsIn, LiesWithin, Interpretation, SharesNoPoint, StandsFor, child_at}
-use Rattle.expression_laws.specs.Sound.{AreGivenRegions, AreOwnRoots, AreRooted, Instance, IsSoundPlace}
+use Rattle.expression_laws.specs.Sound.{AreGivenRegions, AreOwnRoots, AreInStore, Instance, IsInStore, IsSoundPlace, no_partition}
 use Rattle.statement_laws.specs.Steady.{AgreeBelow, FactsBelow, FactBelow, KnowsMore, IsFresh, IsStaticPlace}
 use Rattle.expression_laws.specs.Kinds.{ColourBelow, TermBelow, TermsBelow, TypeBelow}
 
@@ -237,9 +237,27 @@ grown_place x m s t static a place = record {
   params = given_too s.next m (emptied s.next m) (emptied_agrees s.next m) x s static (omega (arith)) place.params;
 }
 
-pub emptied_rooted : (n : ℕ) (m : Interpretation) (count : ℕ) → AreRooted m count → AreRooted (emptied n m) count
-emptied_rooted n m count are i root p is = here (nat_lt i n) is
+pub none_in_store : (count : ℕ) → IsInStore count no_region
+none_in_store count root p is = absurd (nothing_in root p is)
+
+pub child_in_store : (count : ℕ) (c : ℤ) → IsInStore count (child_at no_partition c)
+child_in_store count c root p is = absurd (no_child c root p is)
+
+pub emptied_in_store : (n : ℕ) (m : Interpretation) (count : ℕ) → AreInStore m count → AreInStore (emptied n m) count
+emptied_in_store n m count are =
+    record { regions = λ i. region i (nat_lt i n); children = λ i c. child i c (nat_lt i n) }
   where
-    here : (b : Bool) → IsIn (cond b (m.region i) no_region) root p → root < count
-    here true is = are i root p is
-    here false is = absurd (nothing_in root p is)
+    region : (i : ℕ) (b : Bool) → IsInStore count (cond b (m.region i) no_region)
+    region i true = are.regions i
+    region i false = none_in_store count
+
+    child : (i : ℕ) (c : ℤ) (b : Bool) → IsInStore count (child_at (cond b (m.partition i) no_partition) c)
+    child i c true = are.children i c
+    child i c false = child_in_store count c
+
+-- a store has more roots
+pub in_longer_store : (m : Interpretation) (count long : ℕ) → count ≤ long → AreInStore m count → AreInStore m long
+in_longer_store m count long less are = record {
+  regions = λ i root p is. let l = are.regions i root p is in omega (arith, l, less);
+  children = λ i c root p is. let l = are.children i c root p is in omega (arith, l, less);
+}

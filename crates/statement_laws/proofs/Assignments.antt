@@ -1,5 +1,5 @@
 -- A value that is assigned to a variable is of its type, and no other name has its place.
-use Rattle.std.proofs.Common.{arith, Bool, List, [], ◌∷◌, None, Some, false, true, not, refl, ap, sym, subst, ℕ, suc, ◌≡◌, ◌≢◌, ◌∙◌, ◌<◌, ◌==◌, ◌||◌, ◌&&◌, ◌⊎◌, inl, inr, cond, get_or, length}
+use Rattle.std.proofs.Common.{arith, Bool, List, [], ◌∷◌, None, false, true, not, refl, ap, sym, subst, ℕ, ◌≡◌, ◌≢◌, ◌∙◌, ◌<◌, ◌==◌, ◌||◌, ◌&&◌, ◌⊎◌, inl, inr, cond, get_or, length}
 use Rattle.std.proofs.lemmas.Bool.{eqb-true, not-false, or_parts}
 use Rattle.std.proofs.lemmas.List.{get_or-set_other, get_or-set_same, length-set}
 use Rattle.std.specs.List.{list_any}
@@ -9,11 +9,11 @@ use Rattle.regent_tree.specs.Accesses.{converted, standing}
 use Rattle.regent_tree.specs.Evaluation.{typed, value}
 use Rattle.regent_tree.specs.Execution.{right_side, updated, with_regions_of, write_name}
 use Rattle.regent_tree.specs.Lookup.{is_bound}
-use Rattle.regent_tree.specs.Running.{Here, Result, State}
+use Rattle.regent_tree.specs.Running.{Here, State}
 use Rattle.regent_tree.specs.Scopes.{Scope, bound_as, bound_to, unbound}
-use Rattle.regent_tree.specs.Syntax.{Expression, Form, Name, access_expr, assign_form, no_step}
-use Rattle.regent_tree.specs.Typing.{reaches_of, type_of}
-use Rattle.regent_tree.specs.Values.{Region, Value, a_number, a_truth}
+use Rattle.regent_tree.specs.Syntax.{Expression, Name, assign_form, no_step}
+use Rattle.regent_tree.specs.Typing.{reaches_of}
+use Rattle.regent_tree.specs.Values.{Region, Value, a_truth}
 use Rattle.regent_tree.specs.declared.facts.Known.{Known}
 use Rattle.regent_tree.specs.declared.statement.How.{How}
 use Rattle.regent_tree.specs.declared.statement.How.TheVariants as how
@@ -33,13 +33,13 @@ use Rattle.check_rules.specs.rules.Types.{is_ill_typed_at_place}
 use Rattle.check_rules.specs.types.Fitting.{fits}
 use Rattle.check_rules.specs.types.KnownTypes.{known_type}
 use Rattle.check_rules.specs.types.Params.{type_unless}
-use Rattle.check_rules.specs.types.Sorts.{is_collection, is_integer, is_unknown_type, may_be}
+use Rattle.check_rules.specs.types.Sorts.{is_collection, is_integer, is_unknown_type}
 use Rattle.check_laws.proofs.Parts.{contrary, surely}
 use Rattle.check_laws.proofs.Scopes.{found_by_number}
 use Rattle.check_laws.proofs.Variables.{parts_of_form}
 use Rattle.fact_laws.specs.Regions.{Interpretation}
 use Rattle.expression_laws.specs.Kinds.{GoInto, IsBoundTo, IsOfType, NamesFit, is_index, is_nothing, is_number, is_partition_of, is_pointer, is_region_of, is_space, is_truth}
-use Rattle.expression_laws.specs.Sound.{Instance, IsSoundState, IsValueOf, KeepsSound}
+use Rattle.expression_laws.specs.Sound.{Instance, IsSoundState, KeepsSound}
 use Rattle.expression_laws.specs.Writing.{IsWritten}
 use Rattle.expression_laws.proofs.Knowing.{known_as_meant}
 use Rattle.expression_laws.proofs.Names.{named_fits}

@@ -1,15 +1,14 @@
 -- What holds where the example's body begins.
-use Rattle.std.proofs.Common.{arith, Bool, List, [], ◌∷◌, false, true, refl, ap, cond, sym, subst, ℕ, zero, suc, ◌==◌, ◌≡◌, ◌<◌}
-use Rattle.std.specs.List.{Contains}
+use Rattle.std.proofs.Common.{arith, [], false, true, refl, ap, cond, sym, subst, ℕ, zero, suc, ◌==◌, ◌≡◌, ◌<◌}
 use Rattle.regent_tree.proofs.Members.{Has-from_Contains}
 use Rattle.regent_tree.specs.Scopes.{Scope, bound_as, scope_of, unbound}
 use Rattle.check_rules.specs.types.Sorts.{is_region, type_at}
 use Rattle.expression_laws.specs.Kinds.{IsWellScoped, IsWellScopedBinding, NamesFit, is_region_of}
-use Rattle.expression_laws.specs.Sound.{AreGivenRegions, AreRooted, Instance, IsSoundPlace, IsSoundState}
+use Rattle.expression_laws.specs.Sound.{AreGivenRegions, Instance, IsInStore, IsSoundPlace, IsSoundState}
 use Rattle.regent_tree.specs.Typing.{param_types}
 use Rattle.statement_laws.specs.Example.{ExampleHolds, example_args, example_interpretation, example_state, example_task, example_tree}
 use Rattle.statement_laws.specs.Steady.{IsStaticPlace}
-use Rattle.statement_laws.proofs.Agree.{nothing_in}
+use Rattle.statement_laws.proofs.Agree.{child_in_store, none_in_store}
 use Rattle.statement_laws.proofs.States.{unbound_fits}
 
 abbrev x : Instance
@@ -41,9 +40,9 @@ names_fit : NamesFit example_interpretation s example_state.names
 names_fit zero = record { is_of = is_region_of refl; colour = λ e. absurd cc }
 names_fit (suc i) = unbound_fits example_interpretation (suc i) (bound_as s.names (suc i)) _ (no_other i)
 
-rooted : AreRooted example_interpretation 1
-rooted zero root n is = let e = is.0 in omega (arith, e)
-rooted (suc i) root n is = absurd (nothing_in root n is)
+in_store : (i : ℕ) → IsInStore 1 (example_interpretation.region i)
+in_store zero = λ root n is. let e = is.0 in omega (arith, e)
+in_store (suc i) = none_in_store 1
 
 static_place : IsStaticPlace x s
 static_place = record {
@@ -64,7 +63,7 @@ sound_state : IsSoundState x example_interpretation s example_state
 sound_state = record {
   names = names_fit;
   counted = refl;
-  rooted = rooted;
+  rooted = record { regions = in_store; children = λ i c. child_in_store 1 c };
   grown = omega (arith);
   covered = λ t c. absurd (Has-from_Contains [] t c);
 }

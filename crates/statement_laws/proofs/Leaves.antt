@@ -1,7 +1,7 @@
 -- Statements without a block and without a new name.
 use Rattle.check_rules.proofs.Untold.{rule_none}
 use Rattle.plain_values.proofs.Plain.{option_or_parts}
-use Rattle.std.proofs.Common.{List, [], ◌∷◌, ◌++◌, None, Option, Some, false, true, refl, sym, subst, ℕ, ◌≡◌, ◌∙◌, ◌||◌, not, get_or, map, flat_map}
+use Rattle.std.proofs.Common.{List, [], ◌∷◌, ◌++◌, None, Option, Some, false, true, refl, sym, subst, ℕ, ◌≡◌, ◌||◌, not, get_or, map, flat_map}
 use Rattle.std.proofs.lemmas.Bool.{and_parts, or_parts, not-false}
 use Rattle.std.specs.List.{list_any}
 use Rattle.regent_tree.specs.Accesses.{converted}
@@ -53,7 +53,6 @@ use Rattle.statement_laws.specs.Places.{FormGoes, IsReady}
 use Rattle.statement_laws.proofs.Going.{either_goes, stays_goes, stays_here, then_goes}
 use Rattle.statement_laws.proofs.Loops.{evaluates}
 use Rattle.expression_laws.proofs.Values.{called_is, values_are}
-use Rattle.std.proofs.Common.{◌&&◌}
 use Rattle.regent_tree.specs.Accesses.{aimed}
 use Rattle.regent_tree.specs.Evaluation.{stepped}
 use Rattle.regent_tree.specs.Execution.{before_last, last_field, write_field}
@@ -63,7 +62,7 @@ use Rattle.check_rules.specs.first.FirstInExpressions.{first_of_step, first_of_t
 use Rattle.check_rules.specs.types.KnownTypes.{takings, known_type_after_step, known_type_after_steps}
 use Rattle.check_rules.specs.rules.Privileges.{wanted_of_last}
 use Rattle.check_rules.specs.types.TypedForms.{element_of, field_of}
-use Rattle.check_rules.specs.types.Sorts.{is_space, is_unknown_type}
+use Rattle.check_rules.specs.types.Sorts.{is_space}
 use Rattle.check_rules.specs.scopes.Sound.{IsSound}
 use Rattle.check_rules.specs.rules.Targets.{ends_in_element, ends_in_no_place}
 use Rattle.check_laws.specs.SoundScopes.{IsKnown, IsSoundScope}
@@ -115,14 +114,14 @@ args_told tree task s (an_expr y es) e =
     let parts = option_or_parts (first_in_expression tree task s y) _ e in
     λ j. option_or (parts.0 j) (args_told tree task s es parts.1 j)
 
-record IsRegionType (t : StaticType) : Type 0 where
-  kind : Kind
-  space : ℕ
-  arguments : List Reach
-  term : Term
-  is : t ≡ region_type kind space arguments term
+pub record IsRegionType (t : StaticType) : Type 0 where
+  pub kind : Kind
+  pub space : ℕ
+  pub arguments : List Reach
+  pub term : Term
+  pub is : t ≡ region_type kind space arguments term
 
-region_like : (t : StaticType) → is_region t ≡ true → IsRegionType t
+pub region_like : (t : StaticType) → is_region t ≡ true → IsRegionType t
 region_like (region_type k s args t) e = record { kind = k; space = s; arguments = args; term = t; is = refl }
 region_like (integer_type w) e = absurd cc
 region_like truth_type e = absurd cc

@@ -11,5 +11,6 @@ pub mod Bodies
 pub mod Assignments
 pub mod Variables
 pub mod TypedVariables
+pub mod Regions
 pub mod Tasks
 pub mod Example

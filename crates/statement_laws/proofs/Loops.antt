@@ -1,61 +1,47 @@
 -- Loops keep what is so at a place: later bindings stand for nothing before each turn.
-use Rattle.plain_values.proofs.Plain.{option_or_parts}
-use Rattle.std.proofs.Common.{arith, Bool, List, [], ◌∷◌, ◌++◌, None, Option, Some, false, true, refl, ap, sym, subst, ℕ, ℤ, zero, suc, ◌≡◌, ◌∙◌, ◌<◌, ◌≤◌, ◌||◌, length, take, cond}
-use Rattle.std.proofs.lemmas.Bool.{ltb-true}
-use Rattle.std.proofs.lemmas.List.{length-append, length-take-le}
-use Rattle.std.specs.Prelude.{nat_lt}
+use Rattle.std.proofs.Common.{arith, List, [], ◌∷◌, ◌++◌, None, Option, Some, false, true, refl, ap, subst, ℕ, ℤ, zero, suc, ◌≡◌, ◌∙◌, ◌≤◌, ◌||◌, length, cond}
+use Rattle.std.proofs.lemmas.List.{length-append}
 use Rattle.regent_tree.specs.Evaluation.{value}
-use Rattle.regent_tree.specs.Execution.{Going, after_arm, after_arms, after_statement, exec, exec_arms, exec_block, exec_else, goes_on, going_on, leaving, on_line, returned, scoped, turning}
+use Rattle.regent_tree.specs.Execution.{Going, goes_on, going_on, leaving, returned, turning}
 use Rattle.regent_tree.specs.Running.{Called, Calls, broke, came_back, Here, Result, Run, State, and_then, fails, fault, given, gives, if_true, pay, pay_from, ◌>>=◌}
 use Rattle.regent_tree.specs.Scopes.{Scope, past}
 use Rattle.regent_tree.specs.StaticTypes.{task_named}
-use Rattle.regent_tree.specs.Syntax.{Arms, Block, Expression, Form, Name, Otherwise, TaskTree, Tree, a_statement, an_arm, assert_form, assign_form, call_form, do_form, else_block, fill_form, for_in_form, for_to_form, if_form, no_arm, no_else, no_statement, print_form, return_form, then_statement, var_form, while_form}
-use Rattle.regent_tree.specs.Typing.{result_type, scope_after, scope_after_arms, scope_after_block, scope_after_else, type_of}
-use Rattle.regent_tree.specs.Values.{Value, no_region, region_of, truth_of}
+use Rattle.regent_tree.specs.Syntax.{Expression, Name, TaskTree, Tree}
+use Rattle.regent_tree.specs.Typing.{result_type}
+use Rattle.regent_tree.specs.Values.{Value, truth_of}
 use Rattle.regent_tree.specs.declared.outcome.FaultKind.TheVariants.{Turns}
 use Rattle.regent_tree.specs.declared.types.TypeTerm.{TypeTerm}
 use Rattle.check_rules.specs.first.FirstInExpressions.{first_in_expression}
-use Rattle.check_rules.specs.first.FirstInStatements.{first_in_arms, first_in_block, first_in_else, first_of_form, first_within}
 use Rattle.check_rules.specs.types.Declarations.{is_no_result_type}
 use Rattle.regent_tree.specs.declared.types.NumberTerm.TheVariants as number
 use Rattle.regent_tree.specs.declared.types.TypeTerm.TheVariants as typed_as
-use Rattle.check_rules.specs.scopes.Sound.{IsSound, IsSoundTask}
 use Rattle.check_laws.specs.SoundScopes.{IsSoundScope}
-use Rattle.check_laws.proofs.Variables.{parts_of_form}
 use Rattle.expression_laws.specs.Kinds.{IsOfType, TypeBelow}
-use Rattle.fact_laws.specs.Regions.{IsIn, Interpretation}
-use Rattle.expression_laws.specs.Sound.{AreSoundAnswers, AreRooted, IsValueOf, Instance, IsSoundAnswer, IsSoundPlace, IsSoundState, KeepsSound}
-use Rattle.statement_laws.specs.Steady.{AgreeBelow, GoesOnSound, KnowsMore, IsSoundAfter, IsStaticPlace}
+use Rattle.fact_laws.specs.Regions.{Interpretation}
+use Rattle.expression_laws.specs.Sound.{IsNoCollection, AreSoundAnswers, IsValueOf, Instance, IsSoundAnswer, IsSoundPlace, IsSoundState, KeepsSound}
+use Rattle.statement_laws.specs.Steady.{GoesOnSound, KnowsMore, IsStaticPlace}
 use Rattle.expression_laws.specs.Writing.{IsWritten}
-use Rattle.statement_laws.specs.WrittenStatements.{AreWrittenArms, IsWrittenBlock, IsWrittenElse, IsWrittenForm}
-use Rattle.statement_laws.proofs.Agree.{agree_back, agree_same, agree_then, emptied, emptied_agrees, emptied_rooted, grows_none, grows_then, in_left, place_too}
-use Rattle.check_rules.specs.first.Rules.{first_in}
-use Rattle.check_rules.specs.types.Parts.{tests_of}
-use Rattle.std.specs.List.{Contains}
-use Rattle.regent_tree.specs.declared.facts.Known.TheVariants.{Made}
+use Rattle.statement_laws.proofs.Agree.{agree_back, agree_then, emptied, place_too}
 use Rattle.std.proofs.Common.{inl, inr, pos, ◌+ℤ◌}
 use Rattle.lane_kernels.specs.declared.numbers.Width.{Width}
 use Rattle.plain_values.specs.Points.{points}
-use Rattle.regent_tree.specs.Execution.{counting, items_of, looping, round, rounds}
-use Rattle.regent_tree.specs.Numbers.{distance}
+use Rattle.regent_tree.specs.Execution.{counting, items_of, round, rounds}
 use Rattle.regent_tree.specs.Scopes.{bound_as, with_name}
-use Rattle.regent_tree.specs.Typing.{arithmetic_type, taken_from, width_of_type}
-use Rattle.regent_tree.specs.Values.{a_number, a_pointer, an_index, number_of, point_target}
+use Rattle.regent_tree.specs.Typing.{taken_from}
+use Rattle.regent_tree.specs.Values.{a_number, a_pointer, an_index, point_target}
 use Rattle.regent_tree.specs.declared.typing.StaticType.{StaticType}
 use Rattle.regent_tree.specs.declared.typing.StaticType.TheVariants.{Index as index_type, Integer as integer_type, Ispace as ispace_type, Nothing as no_type, Partition as partition_type, Pointer as pointer_type, Region as region_type, Truth as truth_type, Unknown as unknown_type}
 use Rattle.regent_tree.proofs.Members.{Has, Has-map_cases}
 use Rattle.check_rules.specs.types.Sorts.{is_region, is_space}
-use Rattle.expression_laws.specs.Kinds.{IsWellScoped, is_index, is_number, is_pointer, is_region_of, is_space as is_space_of}
-use Rattle.statement_laws.proofs.Agree.{fact_up, nothing_in}
-use Rattle.statement_laws.proofs.Scopes.{bounds_whole, count_next, differ, domain_sort, loop_next, whole_sum}
-use Rattle.statement_laws.proofs.States.{bound_fits, put, put_agrees}
-use Rattle.statement_laws.proofs.Types.{type_in}
-use Rattle.expression_laws.proofs.Operators.{weaker}
-use Rattle.statement_laws.proofs.Scopes.{IsMore, grows_past, names_arms, names_else, arm_next, block_next, else_next, grown_arms, grown_block, grown_else, grown_form, more_block, said_arms, static_after, static_past}
-use Rattle.statement_laws.proofs.States.{is_of_too, left_fits, skipped, state_same, state_too}
+use Rattle.expression_laws.specs.Kinds.{IsWellScoped, is_index, is_pointer, is_region_of, is_space as is_space_of}
+use Rattle.statement_laws.proofs.Agree.{fact_up}
+use Rattle.statement_laws.proofs.Scopes.{differ}
+use Rattle.statement_laws.proofs.States.{bound_fits, put, put_agrees, plain_children, plain_region, put_in_store}
+use Rattle.statement_laws.proofs.Scopes.{IsMore}
+use Rattle.statement_laws.proofs.States.{is_of_too, skipped}
 use Rattle.expression_laws.proofs.Values.{value_is}
 use Rattle.statement_laws.specs.Places.{IsReady}
-use Rattle.statement_laws.proofs.Going.{then_goes, either_goes, rebased, in_order, stays_here, stays_goes, leaves, back_again}
+use Rattle.statement_laws.proofs.Going.{then_goes, either_goes, rebased, in_order, leaves, back_again}
 
 module _ (task : TaskTree) (args : List Value) (roots : ℕ) where
   abbrev inst : Here → Instance
@@ -150,14 +136,7 @@ module _ (task : TaskTree) (args : List Value) (roots : ℕ) where
       placed = λ p. more.placed (refl, p);
     }
 
-    bound_rooted : (v : Value) (count : ℕ) → region_of v ≡ no_region → AreRooted m0 count → AreRooted (put h.scope.next v m0) count
-    bound_rooted v count none are i root p is = here (nat_lt i h.scope.next) is
-      where
-        here : (c : Bool) → IsIn (cond c (m0.region i) (region_of v)) root p → root < count
-        here true is = are i root p is
-        here false is = absurd (nothing_in root p (subst (λ q. IsIn q root p) none is))
-
-    round_goes : (v : Value) → IsOfType m0 ty v → region_of v ≡ no_region → (u : State) → IsSoundState (inst h) m0 h.scope u → Turns_go (round h v body u)
+    round_goes : (v : Value) → IsOfType m0 ty v → IsNoCollection v → (u : State) → IsSoundState (inst h) m0 h.scope u → Turns_go (round h v body u)
     round_goes v is none u st = paid u st u.turns
       where
         bound_turn : (w : State) → IsSoundState (inst h) m0 h.scope w → Turns_go (leaving (length w.names) (body (record w { names = w.names ++ v ∷ [] })))
@@ -169,7 +148,7 @@ module _ (task : TaskTree) (args : List Value) (roots : ℕ) where
             let inner : IsSoundState (inst h) b (with_name h.scope n ty true) (record w { names = w.names ++ v ∷ [] }) = record {
               names = bound_fits h.scope n ty true m0 w.names v r.scope r.static.well_scoped r.static.placed st.counted st.names (is_of_too h.scope.next m0 b e ty v below is);
               counted = length-append w.names (v ∷ []) ∙ omega (arith, count);
-              rooted = bound_rooted v (length w.store) none st.rooted;
+              rooted = put_in_store h.scope.next v m0 (length w.store) st.rooted (plain_region (length w.store) v none) (plain_children (length w.store) v none);
               grown = st.grown;
               covered = st.covered;
             } in
@@ -191,7 +170,7 @@ module _ (task : TaskTree) (args : List Value) (roots : ℕ) where
     no_turn : (u : State) → IsSoundState (inst h) m0 h.scope u → Turns_go (gives goes_on u)
     no_turn u st = skipped (inst h) m0 h.scope (past h.scope t) u r.scope r.static grows refl r.place st
 
-    pub rounds_go : (vs : List Value) → ((v : Value) → Has vs v → IsOfType m0 ty v × (region_of v ≡ no_region)) → (u : State) → IsSoundState (inst h) m0 h.scope u → Turns_go (rounds h vs body u)
+    pub rounds_go : (vs : List Value) → ((v : Value) → Has vs v → IsOfType m0 ty v × (IsNoCollection v)) → (u : State) → IsSoundState (inst h) m0 h.scope u → Turns_go (rounds h vs body u)
     rounds_go [] are u st = no_turn u st
     rounds_go (v ∷ vs) are u st =
         let is = are v (inl refl) in
@@ -200,17 +179,17 @@ module _ (task : TaskTree) (args : List Value) (roots : ℕ) where
     pub counting_goes : (w : Width) → ((z : ℤ) → IsOfType m0 ty (a_number w z)) → (k : ℕ) (i : ℤ) (u : State) → IsSoundState (inst h) m0 h.scope u → Turns_go (counting h k w i body u)
     counting_goes w is zero i u st = no_turn u st
     counting_goes w is (suc k) i u st =
-        next_turn (round h (a_number w i) body u) (counting h k w (i +ℤ pos 1) body) (round_goes (a_number w i) (is i) refl u st) (counting_goes w is k (i +ℤ pos 1))
+        next_turn (round h (a_number w i) body u) (counting h k w (i +ℤ pos 1) body) (round_goes (a_number w i) (is i) (refl, refl) u st) (counting_goes w is k (i +ℤ pos 1))
 
   -- what a loop over a region or space takes
   pub items_are : (m : Interpretation) (t : StaticType) (v : Value) → (is_region t || is_space t) ≡ true → IsOfType m t v → (w : Value) → Has (items_of v) w →
-      IsOfType m (taken_from t) w × (region_of w ≡ no_region)
+      IsOfType m (taken_from t) w × IsNoCollection w
   items_are m (region_type k sp types t) v e (is_region_of {r = q} stands) w g =
       let n = Has-map_cases (λ n. a_pointer (point_target n 1) (q ∷ [])) q.points w g in
-      subst (λ z. IsOfType m (pointer_type k sp types (Some t ∷ [])) z × (region_of z ≡ no_region)) n.2 (is_pointer (stands, tt), refl)
+      subst (λ z. IsOfType m (pointer_type k sp types (Some t ∷ [])) z × IsNoCollection z) n.2 (is_pointer (stands, tt), (refl, refl))
   items_are m (ispace_type k) v e (is_space_of {n = q}) w g =
       let n = Has-map_cases (λ i. an_index (pos i)) (points q) w g in
-      subst (λ z. IsOfType m (index_type k) z × (region_of z ≡ no_region)) n.2 (is_index, refl)
+      subst (λ z. IsOfType m (index_type k) z × IsNoCollection z) n.2 (is_index, (refl, refl))
   items_are m (integer_type y) v e is w g = absurd cc
   items_are m truth_type v e is w g = absurd cc
   items_are m (index_type k) v e is w g = absurd cc

@@ -1,61 +1,39 @@
 -- Statements without a breach keep what is so at a place, and each touch that they make is covered.
 use Rattle.plain_values.proofs.Plain.{option_or_parts}
-use Rattle.std.proofs.Common.{arith, Bool, List, [], ◌∷◌, ◌++◌, None, Option, Some, false, true, refl, ap, sym, subst, ℕ, ℤ, zero, suc, ◌≡◌, ◌∙◌, ◌<◌, ◌≤◌, ◌||◌, length, take, cond}
-use Rattle.std.proofs.lemmas.Bool.{ltb-true}
-use Rattle.std.proofs.lemmas.List.{length-append, length-take-le}
-use Rattle.std.specs.Prelude.{nat_lt}
+use Rattle.std.proofs.Common.{arith, List, None, true, refl, sym, subst, ℕ, ◌≡◌, ◌∙◌, length}
 use Rattle.regent_tree.specs.Evaluation.{value}
-use Rattle.regent_tree.specs.Execution.{Going, after_arm, after_arms, after_statement, exec, exec_arms, exec_block, exec_else, goes_on, going_on, leaving, on_line, returned, scoped, turning}
-use Rattle.regent_tree.specs.Running.{Called, Calls, broke, came_back, Here, Result, Run, State, and_then, fails, fault, given, gives, if_true, pay, pay_from, ◌>>=◌}
+use Rattle.regent_tree.specs.Execution.{Going, after_arm, after_arms, after_statement, exec, exec_arms, exec_block, exec_else, leaving, on_line, scoped}
+use Rattle.regent_tree.specs.Running.{Here, Result, Run, State, fails, gives, if_true, ◌>>=◌}
 use Rattle.regent_tree.specs.Scopes.{Scope, past}
-use Rattle.regent_tree.specs.StaticTypes.{task_named}
-use Rattle.regent_tree.specs.Syntax.{Arms, Block, Expression, Form, Name, Otherwise, TaskTree, Tree, a_statement, an_arm, assert_form, assign_form, call_form, do_form, else_block, fill_form, for_in_form, for_to_form, if_form, no_arm, no_else, no_statement, print_form, return_form, then_statement, var_form, while_form}
-use Rattle.regent_tree.specs.Typing.{result_type, scope_after, scope_after_arms, scope_after_block, scope_after_else, type_of}
-use Rattle.regent_tree.specs.Values.{Value, no_region, region_of, truth_of}
-use Rattle.regent_tree.specs.declared.outcome.FaultKind.TheVariants.{Turns}
-use Rattle.regent_tree.specs.declared.types.TypeTerm.{TypeTerm}
+use Rattle.regent_tree.specs.Syntax.{Arms, Block, Form, Otherwise, TaskTree, a_statement, an_arm, assert_form, assign_form, call_form, do_form, else_block, fill_form, for_in_form, for_to_form, if_form, no_arm, no_else, no_statement, print_form, return_form, then_statement, var_form, while_form}
+use Rattle.regent_tree.specs.Typing.{scope_after, scope_after_arms, scope_after_block, scope_after_else, type_of}
+use Rattle.regent_tree.specs.Values.{Value, truth_of}
 use Rattle.check_rules.specs.first.FirstInExpressions.{first_in_expression}
-use Rattle.check_rules.specs.first.FirstInStatements.{first_in_arms, first_in_block, first_in_else, first_of_form, first_within}
-use Rattle.check_rules.specs.types.Declarations.{is_no_result_type}
-use Rattle.regent_tree.specs.declared.types.NumberTerm.TheVariants as number
-use Rattle.regent_tree.specs.declared.types.TypeTerm.TheVariants as typed_as
-use Rattle.check_rules.specs.scopes.Sound.{IsSound, IsSoundTask}
-use Rattle.check_laws.specs.SoundScopes.{IsSoundScope}
+use Rattle.check_rules.specs.first.FirstInStatements.{first_in_arms, first_in_block, first_in_else}
 use Rattle.check_laws.proofs.Variables.{parts_of_form}
 use Rattle.expression_laws.specs.Kinds.{IsOfType, TypeBelow}
-use Rattle.fact_laws.specs.Regions.{IsIn, Interpretation}
-use Rattle.expression_laws.specs.Sound.{AreSoundAnswers, AreRooted, IsValueOf, Instance, IsSoundAnswer, IsSoundPlace, IsSoundState, KeepsSound}
-use Rattle.statement_laws.specs.Steady.{AgreeBelow, GoesOnSound, KnowsMore, IsSoundAfter, IsStaticPlace}
-use Rattle.expression_laws.specs.Writing.{IsWritten}
-use Rattle.statement_laws.specs.WrittenStatements.{AreWrittenArms, IsWrittenBlock, IsWrittenElse, IsWrittenForm}
-use Rattle.statement_laws.proofs.Agree.{agree_back, agree_same, agree_then, emptied, emptied_agrees, emptied_rooted, grows_none, grows_then, in_left, place_too}
+use Rattle.fact_laws.specs.Regions.{Interpretation}
+use Rattle.expression_laws.specs.Sound.{IsValueOf, Instance, IsSoundPlace, IsSoundState, KeepsSound}
+use Rattle.statement_laws.specs.Steady.{GoesOnSound, KnowsMore}
+use Rattle.statement_laws.specs.WrittenStatements.{AreWrittenArms, IsWrittenBlock, IsWrittenElse}
+use Rattle.statement_laws.proofs.Agree.{emptied, emptied_agrees, emptied_in_store, grows_none, grows_then, in_left, place_too}
 use Rattle.check_rules.specs.first.Rules.{first_in}
 use Rattle.check_rules.specs.types.Parts.{tests_of}
 use Rattle.std.specs.List.{Contains}
 use Rattle.regent_tree.specs.declared.facts.Known.TheVariants.{Made}
-use Rattle.std.proofs.Common.{inl, inr, pos, ◌+ℤ◌}
-use Rattle.lane_kernels.specs.declared.numbers.Width.{Width}
-use Rattle.plain_values.specs.Points.{points}
-use Rattle.regent_tree.specs.Execution.{counting, items_of, looping, round, rounds}
+use Rattle.regent_tree.specs.Execution.{counting, items_of, looping, rounds}
 use Rattle.regent_tree.specs.Numbers.{distance}
-use Rattle.regent_tree.specs.Scopes.{bound_as, with_name}
+use Rattle.regent_tree.specs.Scopes.{with_name}
 use Rattle.regent_tree.specs.Typing.{arithmetic_type, taken_from, width_of_type}
-use Rattle.regent_tree.specs.Values.{a_number, a_pointer, an_index, number_of, point_target}
-use Rattle.regent_tree.specs.declared.typing.StaticType.{StaticType}
-use Rattle.regent_tree.specs.declared.typing.StaticType.TheVariants.{Index as index_type, Integer as integer_type, Ispace as ispace_type, Nothing as no_type, Partition as partition_type, Pointer as pointer_type, Region as region_type, Truth as truth_type, Unknown as unknown_type}
-use Rattle.regent_tree.proofs.Members.{Has, Has-map_cases}
-use Rattle.check_rules.specs.types.Sorts.{is_region, is_space}
-use Rattle.expression_laws.specs.Kinds.{IsWellScoped, is_index, is_number, is_pointer, is_region_of, is_space as is_space_of}
-use Rattle.statement_laws.proofs.Agree.{fact_up, nothing_in}
-use Rattle.statement_laws.proofs.Scopes.{bounds_whole, count_next, differ, domain_sort, loop_next, whole_sum}
-use Rattle.statement_laws.proofs.States.{bound_fits, put, put_agrees}
+use Rattle.regent_tree.specs.Values.{a_number, number_of}
+use Rattle.expression_laws.specs.Kinds.{is_number}
+use Rattle.statement_laws.proofs.Scopes.{bounds_whole, count_next, domain_sort, loop_next, whole_sum}
 use Rattle.statement_laws.proofs.Types.{type_in}
 use Rattle.expression_laws.proofs.Operators.{weaker}
-use Rattle.statement_laws.proofs.Scopes.{IsMore, grows_past, names_arms, names_else, arm_next, block_next, else_next, grown_arms, grown_block, grown_else, grown_form, more_block, said_arms, static_after, static_past}
-use Rattle.statement_laws.proofs.States.{is_of_too, left_fits, skipped, state_same, state_too}
-use Rattle.expression_laws.proofs.Values.{value_is}
+use Rattle.statement_laws.proofs.Scopes.{grows_past, names_arms, names_else, arm_next, block_next, else_next, grown_arms, grown_block, grown_else, grown_form, more_block, said_arms, static_after, static_past}
+use Rattle.statement_laws.proofs.States.{skipped, state_same, state_too}
 use Rattle.statement_laws.specs.Places.{FormGoes, IsReady}
-use Rattle.statement_laws.proofs.Going.{then_goes, either_goes, rebased, in_order, stays_here, stays_goes, leaves, back_again}
+use Rattle.statement_laws.proofs.Going.{then_goes, either_goes, rebased, in_order, stays_here, leaves}
 use Rattle.statement_laws.proofs.Loops.{evaluates, moved_on, turning_goes, rounds_go, counting_goes, items_are, taken_below, static_bound, further}
 
 module _ (task : TaskTree) (args : List Value) (roots : ℕ) where
@@ -106,7 +84,7 @@ module _ (task : TaskTree) (args : List Value) (roots : ℕ) where
           let grown = grown_block h.tree task r.sound h.scope body r.scope r.static.well_scoped w in
           let less = grown.next in
           let r0 = moved_on task args roots h m m0 h.scope h.line r r.scope r.static (place_too n m m0 (emptied_agrees n m) (inst h) h.scope r.static refl r.place) in
-          let st0 = state_too (inst h) h.scope m m0 u r.scope r.static.well_scoped (emptied_agrees n m) (emptied_rooted n m (length u.store) st.rooted) st in
+          let st0 = state_too (inst h) h.scope m m0 u r.scope r.static.well_scoped (emptied_agrees n m) (emptied_in_store n m (length u.store) st.rooted) st in
           rebased (inst h) m m0 n n (past h.scope t) (exec h (while_form test body) u) (emptied_agrees n m) (omega (arith))
           (turning_goes task args roots h m t r0 (grows_past h.scope h.scope t refl (omega (arith)) grown) (value h test) (scoped (exec_block h body))
           (λ w st. weaker (inst h) m0 h.scope (value h test w) (evaluates task args roots h m0 test r0 wr.0 told w st) (λ a k. tt))
@@ -132,7 +110,7 @@ module _ (task : TaskTree) (args : List Value) (roots : ℕ) where
           let grown = grown_block h.tree task r.sound s1 body next.0 next.1 next.2 in
           let static1 = static_bound task args roots (inst h) s n ty r.static next.1 in
           let r0 = moved_on task args roots h m m0 s h.line r r.scope r.static (place_too k m m0 (emptied_agrees k m) (inst h) s r.static refl r.place) in
-          let st0 = state_too (inst h) s m m0 u r.scope r.static.well_scoped (emptied_agrees k m) (emptied_rooted k m (length u.store) st.rooted) st in
+          let st0 = state_too (inst h) s m m0 u r.scope r.static.well_scoped (emptied_agrees k m) (emptied_in_store k m (length u.store) st.rooted) st in
           rebased (inst h) m m0 k k (past s t) (exec h (for_in_form demanded n domain body) u) (emptied_agrees k m) (omega (arith))
           (then_goes (inst h) m0 s k (past s t) (value h domain u) (λ v. rounds h (items_of v) (exec_block (looping h n ty) body))
           (evaluates task args roots h m0 domain r0 wr.0 told u st0) (λ v w st is.
@@ -155,7 +133,7 @@ module _ (task : TaskTree) (args : List Value) (roots : ℕ) where
           let grown = grown_block h.tree task r.sound s1 body next.0 next.1 next.2 in
           let static1 = static_bound task args roots (inst h) s n ty r.static next.1 in
           let r0 = moved_on task args roots h m m0 s h.line r r.scope r.static (place_too k m m0 (emptied_agrees k m) (inst h) s r.static refl r.place) in
-          let st0 = state_too (inst h) s m m0 u r.scope r.static.well_scoped (emptied_agrees k m) (emptied_rooted k m (length u.store) st.rooted) st in
+          let st0 = state_too (inst h) s m m0 u r.scope r.static.well_scoped (emptied_agrees k m) (emptied_in_store k m (length u.store) st.rooted) st in
           rebased (inst h) m m0 k k (past s t) (exec h (for_to_form demanded n from to body) u) (emptied_agrees k m) (omega (arith))
           (then_goes (inst h) m0 s k (past s t) (value h from u) (λ a. value h to >>= λ b. counting h (distance (number_of a) (number_of b)) (width_of_type ty) (number_of a) (exec_block (looping h n ty) body))
           (evaluates task args roots h m0 from r0 wr.0 heads.0 u st0) (λ a w st is.

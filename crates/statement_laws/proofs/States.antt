@@ -1,5 +1,5 @@
 -- States where one more name is bound, and where a block's names are taken away.
-use Rattle.std.proofs.Common.{arith, Bool, List, [], ◌∷◌, ◌++◌, None, Some, false, true, refl, ap, sym, subst, ℕ, suc, ◌≡◌, ◌∙◌, ◌<◌, ◌==◌, ◌⊎◌, inl, inr, cond, get_or, length, take}
+use Rattle.std.proofs.Common.{arith, ℤ, Bool, List, [], ◌∷◌, ◌++◌, None, Some, false, true, refl, ap, sym, subst, ℕ, suc, ◌≡◌, ◌∙◌, ◌<◌, ◌==◌, ◌⊎◌, inl, inr, cond, get_or, length, take}
 use Rattle.std.proofs.lemmas.Bool.{cond-false, cond-true, eqb-true, lt-ltb}
 use Rattle.std.proofs.lemmas.List.{get_or-take, get_or_append_left}
 use Rattle.std.proofs.Math.Seq.{get_or-append_seam}
@@ -14,10 +14,10 @@ use Rattle.regent_tree.specs.declared.typing.StaticType.{StaticType}
 use Rattle.regent_tree.specs.declared.typing.StaticType.TheVariants.{Index as index_type, Integer as integer_type, Ispace as ispace_type, Nothing as no_type, Partition as partition_type, Pointer as pointer_type, Region as region_type, Truth as truth_type, Unknown as unknown_type}
 use Rattle.check_laws.specs.SoundScopes.{Falls, IsSoundScope}
 use Rattle.expression_laws.specs.Kinds.{GoInto, IsBoundTo, IsOfType, IsWellScoped, NamesFit, TermsBelow, TypeBelow, is_index, is_nothing, is_number, is_partition_of, is_pointer, is_region_of, is_space, is_truth, is_unknown, number_stood_for}
-use Rattle.fact_laws.specs.Regions.{Interpretation}
-use Rattle.expression_laws.specs.Sound.{AreRooted, Instance, IsSoundPlace, IsSoundState}
+use Rattle.fact_laws.specs.Regions.{Interpretation, child_at}
+use Rattle.expression_laws.specs.Sound.{AreInStore, Instance, IsInStore, IsNoCollection, IsSoundPlace, IsSoundState}
 use Rattle.statement_laws.specs.Steady.{AgreeBelow, ArePlaced, KnowsMore, IsSoundAfter, IsStaticPlace}
-use Rattle.statement_laws.proofs.Agree.{emptied, emptied_agrees, emptied_rooted, grown_place, stands_too}
+use Rattle.statement_laws.proofs.Agree.{child_in_store, none_in_store, emptied, emptied_agrees, emptied_in_store, grown_place, stands_too}
 
 -- ---- values where bindings stand for the same
 
@@ -102,6 +102,26 @@ put_region i v m = cond-false (nat_lt i i) (m.region i) (region_of v) (not_below
 pub put_partition : (i : ℕ) (v : Value) (m : Interpretation) → (put i v m).partition i ≡ partition_of v
 put_partition i v m = cond-false (nat_lt i i) (m.partition i) (partition_of v) (not_below i)
 
+pub put_in_store : (i : ℕ) (v : Value) (m : Interpretation) (count : ℕ) → AreInStore m count → IsInStore count (region_of v) →
+    ((c : ℤ) → IsInStore count (child_at (partition_of v) c)) → AreInStore (put i v m) count
+put_in_store i v m count are region children =
+    record { regions = λ j. region_at j (nat_lt j i); children = λ j c. child_of j c (nat_lt j i) }
+  where
+    region_at : (j : ℕ) (b : Bool) → IsInStore count (cond b (m.region j) (region_of v))
+    region_at j true = are.regions j
+    region_at j false = region
+
+    child_of : (j : ℕ) (c : ℤ) (b : Bool) → IsInStore count (child_at (cond b (m.partition j) (partition_of v)) c)
+    child_of j c true = are.children j c
+    child_of j c false = children c
+
+-- what is no collection has no points
+pub plain_region : (count : ℕ) (v : Value) → IsNoCollection v → IsInStore count (region_of v)
+plain_region count v none = subst (IsInStore count) (sym none.0) (none_in_store count)
+
+pub plain_children : (count : ℕ) (v : Value) → IsNoCollection v → (c : ℤ) → IsInStore count (child_at (partition_of v) c)
+plain_children count v none c = subst (λ q. IsInStore count (child_at q c)) (sym none.1) (child_in_store count c)
+
 pub bound_fits : (s : Scope) (n : Name) (t : StaticType) (by_loop : Bool) (m : Interpretation) (names : List Value) (v : Value) → IsSoundScope s → IsWellScoped s → ArePlaced s.names →
     length names ≡ length s.names → NamesFit m s names → IsOfType (put s.next v m) t v → NamesFit (put s.next v m) (with_name s n t by_loop) (names ++ v ∷ [])
 bound_fits s n t by_loop m names v scope well_scoped placed counted fit is i = here (s.next == i) refl
@@ -139,7 +159,7 @@ left_fits s t m names scope placed more fit i = elim (found_below s.next s.names
 -- ---- what was never reached
 
 -- states are the same where bindings stand for the same
-pub state_too : (x : Instance) (s : Scope) (m b : Interpretation) (u : State) → IsSoundScope s → IsWellScoped s → AgreeBelow s.next m b → AreRooted b (length u.store) →
+pub state_too : (x : Instance) (s : Scope) (m b : Interpretation) (u : State) → IsSoundScope s → IsWellScoped s → AgreeBelow s.next m b → AreInStore b (length u.store) →
     IsSoundState x m s u → IsSoundState x b s u
 state_too x s m b u scope well_scoped e rooted st =
     record { names = names_too s m b u.names scope well_scoped e st.names; counted = st.counted; rooted = rooted; grown = st.grown; covered = st.covered }
@@ -162,5 +182,5 @@ skipped x m s t u scope static grows same place st = record {
   agree = emptied_agrees s.next m;
   place = grown_place x m s t static grows place;
   state = state_same x s t (emptied s.next m) u same
-      (state_too x s m (emptied s.next m) u scope static.well_scoped (emptied_agrees s.next m) (emptied_rooted s.next m (length u.store) st.rooted) st);
+      (state_too x s m (emptied s.next m) u scope static.well_scoped (emptied_agrees s.next m) (emptied_in_store s.next m (length u.store) st.rooted) st);
 }

@@ -1,23 +1,16 @@
 -- The body of a task in a program without a breach: each touch that it makes is covered.
-use Rattle.std.proofs.Common.{List, [], ℕ, ◌≡◌}
+use Rattle.std.proofs.Common.{ℕ}
 use Rattle.regent_tree.specs.Execution.{Going, exec_block, goes_on, returned}
 use Rattle.regent_tree.specs.Meaning.{body_of}
-use Rattle.regent_tree.specs.Running.{Calls, Here, Result, State, fails, gives}
+use Rattle.regent_tree.specs.Running.{Result, fails, gives}
 use Rattle.regent_tree.specs.Scopes.{Scope, scope_of}
-use Rattle.regent_tree.specs.Syntax.{Form, TaskTree, Tree}
 use Rattle.regent_tree.specs.Typing.{scope_after_block}
-use Rattle.regent_tree.specs.Values.{Value}
-use Rattle.check_rules.specs.Breaches.{breaches}
-use Rattle.check_rules.specs.scopes.Sound.{StandsIn}
 use Rattle.fact_laws.specs.Regions.{Interpretation}
-use Rattle.expression_laws.specs.Sound.{AreSoundAnswers, AreCovered, Instance, IsSoundPlace, IsSoundState}
-use Rattle.statement_laws.specs.Steady.{GoesOnSound, IsStaticPlace}
-use Rattle.statement_laws.specs.WrittenStatements.{IsWrittenBlock}
+use Rattle.expression_laws.specs.Sound.{AreCovered, Instance}
+use Rattle.statement_laws.specs.Steady.{GoesOnSound}
 use Rattle.statement_laws.proofs.Bodies.{body_told}
 use Rattle.statement_laws.proofs.Leaves.{leaves_go}
-use Rattle.statement_laws.specs.Untreated.{IsUntreated}
-use Rattle.statement_laws.proofs.TypedVariables.{variables_go}
-use Rattle.statement_laws.specs.Places.{FormGoes}
+use Rattle.statement_laws.proofs.Regions.{variables_go}
 use Rattle.statement_laws.proofs.Statements.{block_goes, form_goes}
 use Rattle.statement_laws.specs.Laws.{BodiesAreCovered, StatementsKeep, state_of}
 

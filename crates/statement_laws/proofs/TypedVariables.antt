@@ -1,86 +1,66 @@
 -- A variable with a type and an initializer: its first value is converted to the type.
 use Rattle.check_rules.proofs.Untold.{rule_none}
 use Rattle.plain_values.proofs.Plain.{option_or_parts}
-use Rattle.std.proofs.Common.{arith, Bool, List, [], ◌∷◌, ◌++◌, None, Option, Some, false, true, refl, ap, sym, subst, ℕ, suc, ◌≡◌, ◌∙◌, ◌<◌, ◌≤◌, inl, inr, cond, length}
-use Rattle.std.proofs.lemmas.List.{length-append}
+use Rattle.std.proofs.Common.{Bool, List, [], ◌∷◌, ◌++◌, None, Some, false, true, refl, sym, subst, ℕ, ◌≡◌, ◌∙◌, cond, length}
 use Rattle.std.specs.List.{Contains}
-use Rattle.std.specs.Prelude.{nat_lt}
-use Rattle.plain_values.specs.Points.{points}
 use Rattle.regent_tree.specs.Evaluation.{value}
-use Rattle.regent_tree.specs.Execution.{Going, bind}
-use Rattle.regent_tree.specs.Running.{Here, Result, Run, State, and_then, fails, gives}
+use Rattle.regent_tree.specs.Execution.{bind}
+use Rattle.regent_tree.specs.Running.{Here, State, and_then}
 use Rattle.regent_tree.specs.Scopes.{Scope, known_of_type}
-use Rattle.regent_tree.specs.Initializers.{make_root}
-use Rattle.regent_tree.specs.StaticTypes.{field_kinds, place_of_space}
-use Rattle.regent_tree.specs.Store.{new_root}
-use Rattle.regent_tree.specs.Syntax.{Expression, Name, Initializer, TaskTree, plain_initializer, region_initializer, var_form}
-use Rattle.regent_tree.specs.Typing.{known_of_child, known_of_initializer, owned, scope_after, type_of, var_type}
-use Rattle.regent_tree.specs.Values.{Value, a_region, region_of, size_of}
+use Rattle.regent_tree.specs.Syntax.{Expression, Name, Initializer, TaskTree, plain_initializer, var_form}
+use Rattle.regent_tree.specs.Typing.{known_of_child, owned, scope_after, type_of, var_type}
+use Rattle.regent_tree.specs.Values.{Value}
 use Rattle.regent_tree.specs.declared.facts.Known.{Known}
 use Rattle.regent_tree.specs.declared.facts.Known.TheVariants.{Made}
-use Rattle.regent_tree.specs.declared.types.SpaceUse.{SpaceUse}
 use Rattle.regent_tree.specs.declared.types.TypeTerm.{TypeTerm}
 use Rattle.regent_tree.specs.declared.typing.StaticType.{StaticType}
 use Rattle.regent_tree.proofs.Members.{Has-from_Contains}
 use Rattle.check_rules.specs.first.FirstInExpressions.{first_in_expression}
 use Rattle.check_laws.proofs.Variables.{parts_of_form}
-use Rattle.regent_tree.specs.Values.{no_region}
 use Rattle.regent_tree.specs.declared.typing.StaticType.TheVariants.{Index as index_type, Integer as integer_type, Ispace as ispace_type, Nothing as no_type, Partition as partition_type, Pointer as pointer_type, Region as region_type, Truth as truth_type, Unknown as unknown_type}
 use Rattle.check_rules.specs.rules.Partitions.{is_difference}
+use Rattle.check_rules.specs.first.FirstInStatements.{first_of_form}
 use Rattle.check_rules.specs.first.Rules.{first_in}
 use Rattle.check_rules.specs.scopes.Variables.{members_of}
-use Rattle.statement_laws.proofs.Agree.{nothing_in}
 use Rattle.statement_laws.proofs.States.{is_of_too}
-use Rattle.statement_laws.proofs.Types.{type_in}
-use Rattle.expression_laws.specs.Kinds.{IsOfType, is_index, is_number, is_pointer, is_region_of, is_space, is_truth}
-use Rattle.fact_laws.specs.Regions.{Holds, IsIn, Interpretation}
-use Rattle.expression_laws.specs.Sound.{AreRooted, Instance, IsSoundState}
-use Rattle.statement_laws.specs.Steady.{GoesOnSound}
-use Rattle.statement_laws.proofs.Agree.{given_too, holds_too, in_either, own_too}
+use Rattle.expression_laws.specs.Kinds.{IsOfType, is_space}
+use Rattle.fact_laws.specs.Regions.{Interpretation}
+use Rattle.expression_laws.specs.Sound.{Instance, IsSoundState}
 use Rattle.statement_laws.specs.Places.{FormGoes, IsReady}
 use Rattle.statement_laws.proofs.Going.{then_goes}
 use Rattle.statement_laws.proofs.Loops.{evaluates}
-use Rattle.statement_laws.proofs.States.{bound_fits, put, put_agrees, put_region}
+use Rattle.statement_laws.proofs.States.{put, put_agrees}
 use Rattle.std.proofs.Common.{◌&&◌, map}
-use Rattle.regent_tree.specs.Execution.{exec}
 use Rattle.regent_tree.specs.Accesses.{regions_reached}
 use Rattle.regent_tree.specs.Scopes.{in_scope}
-use Rattle.regent_tree.specs.StaticTypes.{looked_up, written_pointer}
-use Rattle.regent_tree.specs.Values.{a_pointer, null_target}
+use Rattle.regent_tree.specs.StaticTypes.{looked_up}
 use Rattle.regent_tree.specs.declared.types.NumberTerm.TheVariants as number
 use Rattle.regent_tree.specs.declared.types.TypeTerm.TheVariants as typed_as
 use Rattle.check_rules.specs.first.FirstInExpressions.{first_in_type}
 use Rattle.check_rules.specs.rules.Names.{unbound_name_in_type}
 use Rattle.check_rules.specs.first.Rules.{rule_if}
 use Rattle.check_rules.specs.types.Sorts.{is_collection, is_unknown_type}
-use Rattle.check_rules.specs.scopes.Variables.{bound_type, variable_type}
+use Rattle.check_rules.specs.scopes.Variables.{variable_type}
 use Rattle.check_rules.specs.declared.rule.Rule.TheVariants as rule
-use Rattle.check_laws.specs.SoundScopes.{IsKnown}
-use Rattle.check_laws.proofs.Parts.{contrary}
 use Rattle.check_laws.proofs.Variables.{variable_known}
 use Rattle.expression_laws.proofs.Names.{pointer_args, reached}
 use Rattle.statement_laws.proofs.Types.{args_below}
-use Rattle.std.proofs.Common.{◌⊎◌, inl, inr}
-use Rattle.regent_tree.specs.Syntax.{Form, assert_form, assign_form, at_step, both_initializer, by_field_initializer, call_form, do_form, either_initializer, equal_initializer, field_step, fill_form, for_in_form, for_to_form, if_form, image_initializer, no_step, preimage_initializer, print_form, return_form, while_form}
-use Rattle.statement_laws.specs.Untreated.{IsPlain, IsUntreated}
-use Rattle.statement_laws.proofs.Assignments.{set_goes}
-use Rattle.statement_laws.proofs.Leaves.{IsRest}
-use Rattle.std.proofs.Common.{not}
+use Rattle.statement_laws.specs.Untreated.{IsPlain}
+use Rattle.statement_laws.proofs.States.{plain_children, plain_region}
 use Rattle.std.proofs.lemmas.Bool.{not-false, or_parts}
 use Rattle.regent_tree.specs.Accesses.{converted}
 use Rattle.regent_tree.specs.Evaluation.{typed}
 use Rattle.regent_tree.specs.Typing.{reaches_of}
 use Rattle.check_rules.specs.rules.Standing.{stands, typed_spot}
 use Rattle.check_rules.specs.rules.Types.{is_ill_typed_at_place}
-use Rattle.check_rules.specs.scopes.Variables.{declared_type, is_flawed_initializer, known_initializer}
+use Rattle.check_rules.specs.scopes.Variables.{is_flawed_initializer, known_initializer}
 use Rattle.check_rules.specs.types.Fitting.{fits}
 use Rattle.check_laws.proofs.Parts.{unless_false}
 use Rattle.check_laws.proofs.Variables.{begun_sound}
 use Rattle.expression_laws.specs.Kinds.{GoInto, TypeBelow}
 use Rattle.expression_laws.specs.Sound.{KeepsSound}
-use Rattle.expression_laws.proofs.Knowing.{known_as_meant}
 use Rattle.statement_laws.proofs.Assignments.{converted_is}
-use Rattle.statement_laws.proofs.Variables.{begun, in_turn_goes, region_goes, plain_goes, tells_none, unset_goes}
+use Rattle.statement_laws.proofs.Variables.{begun, in_turn_goes, tells_none}
 use Rattle.regent_tree.specs.Values.{Region}
 use Rattle.regent_tree.specs.Typing.{initializer_type}
 
@@ -178,99 +158,55 @@ module _ (task : TaskTree) (args : List Value) (roots : ℕ) where
   written_type h m (typed_as.Region k s) r named p = absurd p
   written_type h m (typed_as.Partition d q s) r named p = absurd p
 
+  -- what isn't told of a variable with a type and an expression
+  pub record IsTyped (h : Here) (t : TypeTerm) (y : Expression) : Type 0 where
+    pub right : first_in_expression h.tree task h.scope y ≡ None
+    pub named : unbound_name_in_type h.tree h.scope.names t ≡ false
+    pub known : is_unknown_type (type_of h.tree h.scope y) ≡ false
+    pub fit : fits h.scope.known (owned h.scope.next (type_of h.tree h.scope y)) (var_type h.tree h.scope (Some t) None) ≡ true
+
+  pub typed_parts : (n : Name) (t : TypeTerm) (y : Expression) (h : Here) (m : Interpretation) → IsReady task args roots m h → is_difference h.scope.names y ≡ false →
+      first_of_form h.tree task h.scope (var_form n (Some t) (Some (plain_initializer y))) ≡ None → IsTyped h t y
+  typed_parts n t y h m r whole told =
+      let s = h.scope in
+      let i : Initializer = plain_initializer y in
+      let from = type_of h.tree s y in
+      let parts = parts_of_form h.tree task s r.sound r.scope (var_form n (Some t) (Some i)) told in
+      let b = begun_sound h.tree task s r.sound r.scope n (Some t) i told in
+      let vt = variable_type h.tree s (Some t) (Some i) in
+      let is_begun : known_initializer h.tree s i ≡ owned s.next from = unless_false (is_flawed_initializer h.tree s i) (initializer_type h.tree s s.next i) b.0 in
+      let is_wanted : vt ≡ var_type h.tree s (Some t) None = sym (unless_both (is_collection vt) _ vt b.2) ∙ (variable_known h.tree task s r.sound r.scope n (Some t) (Some i) told).0 in
+      let fit = not-false _ (or_parts (is_ill_typed_at_place s.known (stands (known_initializer h.tree s i) (typed_spot vt))) false parts.4).0 in
+      let heads = subst (λ b. first_in (first_in_expression h.tree task s) (cond b (members_of y) (y ∷ [])) ≡ None) whole parts.2 in record {
+        right = (option_or_parts (first_in_expression h.tree task s y) _ heads).0;
+        named = rule_none (unbound_name_in_type h.tree s.names t) rule.Name (option_or_parts (rule_if (unbound_name_in_type h.tree s.names t) rule.Name) _ (option_or_parts (first_in_type h.tree s.names t) None parts.0).0).0;
+        known = owned_known s.next from b.1.known;
+        fit = sym (λ j. fits s.known (is_begun j) (is_wanted j)) ∙ fit;
+      }
+
   -- `var x : t = e` of a number, truth, index, pointer or space
   pub typed_goes : (n : Name) (t : TypeTerm) (y : Expression) (h : Here) → IsPlain (var_type h.tree h.scope (Some t) None) → is_difference h.scope.names y ≡ false →
       FormGoes task args roots h (var_form n (Some t) (Some (plain_initializer y)))
   typed_goes n t y h plain whole m r told w wr st0 st =
       let s = h.scope in
       let i : Initializer = plain_initializer y in
-      let form = var_form n (Some t) (Some i) in
       let wanted = var_type h.tree s (Some t) (Some i) in
       let from = type_of h.tree s y in
-      let parts = parts_of_form h.tree task s r.sound r.scope form told in
-      let b = begun_sound h.tree task s r.sound r.scope n (Some t) i told in
-      let vt = variable_type h.tree s (Some t) (Some i) in
-      let is_begun : known_initializer h.tree s i ≡ owned s.next from = unless_false (is_flawed_initializer h.tree s i) (initializer_type h.tree s s.next i) b.0 in
-      let is_wanted : vt ≡ wanted = sym (unless_both (is_collection vt) _ vt b.2) ∙ (variable_known h.tree task s r.sound r.scope n (Some t) (Some i) told).0 in
-      let fit = not-false _ (or_parts (is_ill_typed_at_place s.known (stands (known_initializer h.tree s i) (typed_spot vt))) false parts.4).0 in
-      let both = fits_plain s.next s.known from wanted plain (sym (λ j. fits s.known (is_begun j) (is_wanted j)) ∙ fit) in
-      let heads = subst (λ b. first_in (first_in_expression h.tree task s) (cond b (members_of y) (y ∷ [])) ≡ None) whole parts.2 in
-      let told_y = (option_or_parts (first_in_expression h.tree task s y) _ heads).0 in
-      let named = rule_none (unbound_name_in_type h.tree s.names t) rule.Name (option_or_parts (rule_if (unbound_name_in_type h.tree s.names t) rule.Name) _ (option_or_parts (first_in_type h.tree s.names t) None parts.0).0).0 in
-      let written = written_type h m t r named plain in
+      let typing = typed_parts n t y h m r whole told in
+      let both = fits_plain s.next s.known from wanted plain typing.fit in
+      let written = written_type h m t r typing.named plain in
       let none = tells_none task args roots s wanted plain in
       let tells : known_of_child s.next from ++ known_of_type wanted ≡ [] = (λ j. both.1 j ++ known_of_type wanted) ∙ none.type in
-      let after = scope_after h.tree s form in
+      let after = scope_after h.tree s (var_form n (Some t) (Some i)) in
       in_turn_goes task args roots (inst h) m s.next after (value h y st0) (λ v z. converted h (typed h y) wanted (regions_reached s z.names (reaches_of wanted)) v z) (λ v. bind v)
       (then_goes (inst h) m s s.next after (value h y st0) (λ v z. and_then (converted h (typed h y) wanted (regions_reached s z.names (reaches_of wanted)) v z) (λ v. bind v))
-      (evaluates task args roots h m y r wr told_y st0 st) (λ v z st is.
+      (evaluates task args roots h m y r wr typing.right st0 st) (λ v z st is.
       then_goes (inst h) m s s.next after (converted h (typed h y) wanted (regions_reached s z.names (reaches_of wanted)) v z) (λ v. bind v)
-      (converted_plain (inst h) m s h s.known from wanted (regions_reached s z.names (reaches_of wanted)) v z (owned_known s.next from b.1.known) plain both.0 (written.reach z st) is.is_of st) (λ a z st is.
+      (converted_plain (inst h) m s h s.known from wanted (regions_reached s z.names (reaches_of wanted)) v z typing.known plain both.0 (written.reach z st) is.is_of st) (λ a z st is.
       begun task args roots h m n (Some t) (Some i) r a z st (record {
         is_of = is_of_too s.next m (put s.next a m) (put_agrees s.next a m) wanted a written.below is;
         holds = λ k c. absurd (Has-from_Contains [] k (subst (λ ks. Contains ks k) tells c));
         own = λ i c. absurd (Has-from_Contains [] (Made i) (subst (λ ks. Contains ks (Made i)) tells c));
-        rooted = λ root p at. absurd (nothing_in root p (subst (λ q. IsIn q root p) (none.empty m a is) at));
+        kept = plain_region (length z.store) a (none.empty m a is);
+        children = plain_children (length z.store) a (none.empty m a is);
       }))))
-
-  -- ---- all variables but those of which the laws don't speak yet
-
-  plain_or : (t : StaticType) → IsPlain t ⊎ (IsPlain t → ⊥)
-  plain_or (integer_type w) = inl tt
-  plain_or truth_type = inl tt
-  plain_or (index_type k) = inl tt
-  plain_or (pointer_type k sp types terms) = inl tt
-  plain_or (ispace_type k) = inl tt
-  plain_or (region_type k sp types t) = inr (λ h. h)
-  plain_or (partition_type d r p) = inr (λ h. h)
-  plain_or no_type = inr (λ h. h)
-  plain_or unknown_type = inr (λ h. h)
-
-  pub variables_go : ((form : Form) (h : Here) → IsUntreated h form → FormGoes task args roots h form) → (form : Form) (h : Here) → IsRest task args roots form → FormGoes task args roots h form
-  variables_go left (assign_form n no_step k y) h rest m r e w wr u st = set_goes task args roots n k y h m r e w wr u st
-  variables_go left (var_form n (Some t) (Some (plain_initializer y))) h rest m r e w wr u st = elim (plain_or (var_type h.tree h.scope (Some t) None)) [
-    | inl is ↦ whole (is_difference h.scope.names y) refl is
-    | inr other ↦ left (var_form n (Some t) (Some (plain_initializer y))) h (λ is q. other is) m r e w wr u st
-  ]
-    where
-      whole : (b : Bool) → is_difference h.scope.names y ≡ b → IsPlain (var_type h.tree h.scope (Some t) None) →
-          GoesOnSound (inst h) m h.scope.next (scope_after h.tree h.scope (var_form n (Some t) (Some (plain_initializer y)))) (exec h (var_form n (Some t) (Some (plain_initializer y))) u)
-      whole false q is = typed_goes n t y h is q m r e w wr u st
-      whole true q is = left (var_form n (Some t) (Some (plain_initializer y))) h (λ is p. contrary (sym q ∙ p)) m r e w wr u st
-  variables_go left (var_form n (Some t) (Some (region_initializer y s))) h rest m r e w wr u st = left (var_form n (Some t) (Some (region_initializer y s))) h tt m r e w wr u st
-  variables_go left (var_form n (Some t) (Some (equal_initializer a y))) h rest m r e w wr u st = left (var_form n (Some t) (Some (equal_initializer a y))) h tt m r e w wr u st
-  variables_go left (var_form n (Some t) (Some (by_field_initializer a f y))) h rest m r e w wr u st = left (var_form n (Some t) (Some (by_field_initializer a f y))) h tt m r e w wr u st
-  variables_go left (var_form n (Some t) (Some (image_initializer a p b f))) h rest m r e w wr u st = left (var_form n (Some t) (Some (image_initializer a p b f))) h tt m r e w wr u st
-  variables_go left (var_form n (Some t) (Some (preimage_initializer a p b f))) h rest m r e w wr u st = left (var_form n (Some t) (Some (preimage_initializer a p b f))) h tt m r e w wr u st
-  variables_go left (var_form n (Some t) (Some (both_initializer p q))) h rest m r e w wr u st = left (var_form n (Some t) (Some (both_initializer p q))) h tt m r e w wr u st
-  variables_go left (var_form n (Some t) (Some (either_initializer p q))) h rest m r e w wr u st = left (var_form n (Some t) (Some (either_initializer p q))) h tt m r e w wr u st
-  variables_go left (var_form n (Some t) None) h rest m r e w wr u st = unset_goes task args roots n t h m r e w wr u st
-  variables_go left (var_form n None None) h rest m r e w wr u st = absurd (contrary (parts_of_form h.tree task h.scope r.sound r.scope (var_form n None None) e).1)
-  variables_go left (var_form n None (Some (region_initializer y s))) h rest m r e w wr u st = region_goes task args roots n y s h m r e w wr u st
-  variables_go left (var_form n None (Some (plain_initializer y))) h rest m r e w wr u st = elim (plain_or (type_of h.tree h.scope y)) [
-    | inl is ↦ whole (is_difference h.scope.names y) refl is
-    | inr other ↦ left (var_form n None (Some (plain_initializer y))) h (λ is q. other is) m r e w wr u st
-  ]
-    where
-      whole : (b : Bool) → is_difference h.scope.names y ≡ b → IsPlain (type_of h.tree h.scope y) →
-          GoesOnSound (inst h) m h.scope.next (scope_after h.tree h.scope (var_form n None (Some (plain_initializer y)))) (exec h (var_form n None (Some (plain_initializer y))) u)
-      whole false q is = plain_goes task args roots n y h is q m r e w wr u st
-      whole true q is = left (var_form n None (Some (plain_initializer y))) h (λ is p. contrary (sym q ∙ p)) m r e w wr u st
-  variables_go left (var_form n None (Some (equal_initializer a y))) h rest m r e w wr u st = left (var_form n None (Some (equal_initializer a y))) h tt m r e w wr u st
-  variables_go left (var_form n None (Some (by_field_initializer a f y))) h rest m r e w wr u st = left (var_form n None (Some (by_field_initializer a f y))) h tt m r e w wr u st
-  variables_go left (var_form n None (Some (image_initializer a p b f))) h rest m r e w wr u st = left (var_form n None (Some (image_initializer a p b f))) h tt m r e w wr u st
-  variables_go left (var_form n None (Some (preimage_initializer a p b f))) h rest m r e w wr u st = left (var_form n None (Some (preimage_initializer a p b f))) h tt m r e w wr u st
-  variables_go left (var_form n None (Some (both_initializer p q))) h rest m r e w wr u st = left (var_form n None (Some (both_initializer p q))) h tt m r e w wr u st
-  variables_go left (var_form n None (Some (either_initializer p q))) h rest m r e w wr u st = left (var_form n None (Some (either_initializer p q))) h tt m r e w wr u st
-  variables_go left (assign_form n (field_step f steps) k y) h rest m r e w wr u st = absurd rest
-  variables_go left (assign_form n (at_step z steps) k y) h rest m r e w wr u st = absurd rest
-  variables_go left (if_form arms other) h rest m r e w wr u st = absurd rest
-  variables_go left (while_form test body) h rest m r e w wr u st = absurd rest
-  variables_go left (for_in_form d n domain body) h rest m r e w wr u st = absurd rest
-  variables_go left (for_to_form d n from to body) h rest m r e w wr u st = absurd rest
-  variables_go left (do_form body) h rest m r e w wr u st = absurd rest
-  variables_go left (fill_form n fs y) h rest m r e w wr u st = absurd rest
-  variables_go left (assert_form y) h rest m r e w wr u st = absurd rest
-  variables_go left (print_form alias format es) h rest m r e w wr u st = absurd rest
-  variables_go left (call_form f es) h rest m r e w wr u st = absurd rest
-  variables_go left (return_form y) h rest m r e w wr u st = absurd rest

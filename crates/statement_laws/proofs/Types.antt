@@ -1,7 +1,7 @@
 -- Types of expressions of which nothing is told speak of what is in scope.
 use Rattle.check_rules.proofs.Untold.{rule_none}
 use Rattle.plain_values.proofs.Plain.{option_or_parts}
-use Rattle.std.proofs.Common.{arith, Bool, List, [], ◌∷◌, ◌++◌, None, Option, Some, false, true, refl, ap, sym, subst, ℕ, ◌≡◌, ◌∙◌, ◌<◌, ◌≤◌, ◌==◌, cond, length, map, not, suc, inl, inr}
+use Rattle.std.proofs.Common.{arith, Bool, List, [], ◌∷◌, None, Option, Some, false, true, refl, ap, sym, subst, ℕ, ◌≡◌, ◌∙◌, ◌<◌, ◌≤◌, ◌==◌, cond, length, map, not, suc}
 use Rattle.std.proofs.lemmas.Bool.{eqb-true, or_parts, not-false}
 use Rattle.regent_tree.specs.Lookup.{has_field, is_bound, type_named}
 use Rattle.regent_tree.specs.Scopes.{Scope, bound_as, in_scope, with_name}
@@ -40,31 +40,15 @@ use Rattle.check_laws.proofs.Scopes.{found_by_number}
 use Rattle.expression_laws.specs.Kinds.{ArgumentsInScope, AreArguments, ColourBelow, IsArgument, IsNamedByOwnNumber, IsWellScopedBinding, IsWellScoped, TermBelow, TermsBelow, TypeBelow}
 use Rattle.statement_laws.specs.Steady.{IsTypeInScope}
 use Rattle.statement_laws.proofs.Agree.{type_up}
-use Rattle.std.specs.List.{Contains}
-use Rattle.std.specs.Prelude.{option_to_list}
-use Rattle.regent_tree.proofs.Members.{Has, Has-from_Contains}
-use Rattle.regent_tree.specs.Lookup.{has_space}
-use Rattle.regent_tree.specs.Scopes.{known_of_type}
-use Rattle.regent_tree.specs.Syntax.{Initializer, both_initializer, by_field_initializer, either_initializer, equal_initializer, image_initializer, plain_initializer, preimage_initializer, region_initializer, var_form}
-use Rattle.regent_tree.specs.Typing.{reaches_of, known_of_child, known_of_initializer, owned, scope_after, initializer_type, var_type}
+use Rattle.regent_tree.specs.Typing.{reaches_of}
 use Rattle.regent_tree.specs.declared.expression.Arithmetic.TheVariants.{Subtract}
-use Rattle.regent_tree.specs.declared.facts.Known.{Known}
-use Rattle.regent_tree.specs.declared.facts.Known.TheVariants.{Made, PartOf, Within}
-use Rattle.regent_tree.specs.declared.types.Kind.TheVariants.{Int1d}
-use Rattle.regent_tree.specs.declared.types.SpaceUse.{SpaceUse}
 use Rattle.check_rules.specs.first.FirstInExpressions.{first_in_links, first_of_operator}
-use Rattle.check_rules.specs.first.FirstInStatements.{first_of_form, first_of_initializer}
 use Rattle.check_rules.specs.types.KnownTypes.{known_type_after_operator}
-use Rattle.check_rules.specs.rules.Names.{unbound_name_in_use}
 use Rattle.check_rules.specs.rules.Partitions.{is_difference}
 use Rattle.check_rules.specs.first.Rules.{first_in}
 use Rattle.check_rules.specs.types.TypedForms.{computing}
-use Rattle.check_rules.specs.scopes.Variables.{expressions_in_initializer, members_of}
-use Rattle.check_laws.specs.SoundScopes.{IsPlaced}
-use Rattle.check_laws.proofs.Variables.{parts_of_form, variable_known}
-use Rattle.statement_laws.specs.Steady.{FactBelow, KnowsMore, IsFresh}
-use Rattle.statement_laws.proofs.Agree.{in_either, term_up}
-use Rattle.expression_laws.proofs.Names.{refs_args, field_args, pointer_args, said_named}
+use Rattle.check_rules.specs.scopes.Variables.{members_of}
+use Rattle.expression_laws.proofs.Names.{field_args, pointer_args, said_named}
 use Rattle.expression_laws.proofs.Values.{unless_known}
 
 -- ---- numbers of regions in scope

@@ -1,43 +1,24 @@
 -- Types of variables speak of what is in scope, and what a variable tells is of its own number.
 use Rattle.check_rules.proofs.Untold.{rule_none}
 use Rattle.plain_values.proofs.Plain.{option_or_parts}
-use Rattle.std.proofs.Common.{arith, Bool, List, [], ◌∷◌, ◌++◌, None, Option, Some, false, true, refl, ap, sym, subst, ℕ, ◌≡◌, ◌∙◌, ◌<◌, ◌≤◌, ◌==◌, cond, length, map, not, suc, inl, inr}
-use Rattle.std.proofs.lemmas.Bool.{eqb-true, or_parts, not-false}
-use Rattle.regent_tree.specs.Lookup.{has_field, is_bound, type_named}
-use Rattle.regent_tree.specs.Scopes.{Scope, bound_as, in_scope, with_name}
-use Rattle.regent_tree.specs.StaticTypes.{Looking, Reach, field_place, field_term, looked_up, number_type, space_at, task_named, type_said, written_pointer}
-use Rattle.regent_tree.specs.Syntax.{Expression, Links, Name, Steps, TaskTree, Tree, a_link, access_expr, at_step, call_expr, cast_expr, chain_expr, convert_expr, field_step, is_null_expr, no_link, no_step, null_expr, number_expr, prefix_expr, space_expr, truth_expr}
-use Rattle.regent_tree.specs.Typing.{arithmetic_type, child_type, colour_of, counting_as, linked_type, operated, result_type, signed_type, stepped_type, type_of, type_of_element, type_of_field}
-use Rattle.regent_tree.specs.declared.expression.Operator.{Operator}
-use Rattle.regent_tree.specs.declared.expression.Operator.TheVariants.{And, Compare, Compute, Or}
-use Rattle.regent_tree.specs.declared.expression.Sign.{Sign}
-use Rattle.regent_tree.specs.declared.expression.Sign.TheVariants.{Minus, Not}
-use Rattle.regent_tree.specs.declared.facts.Colour.TheVariants.{Loop, Unknown as UnknownColour}
-use Rattle.regent_tree.specs.declared.facts.Term.{Term}
+use Rattle.std.proofs.Common.{arith, List, [], ◌∷◌, ◌++◌, None, Option, Some, false, refl, subst, ◌≡◌, map, not, suc, inl, inr}
+use Rattle.std.proofs.lemmas.Bool.{or_parts}
+use Rattle.regent_tree.specs.Scopes.{Scope, in_scope}
+use Rattle.regent_tree.specs.StaticTypes.{looked_up, type_said, written_pointer}
+use Rattle.regent_tree.specs.Syntax.{Name, TaskTree, Tree}
+use Rattle.regent_tree.specs.Typing.{type_of}
 use Rattle.regent_tree.specs.declared.facts.Term.TheVariants as term
-use Rattle.regent_tree.specs.declared.types.NumberTerm.{NumberTerm}
 use Rattle.regent_tree.specs.declared.types.NumberTerm.TheVariants as number
 use Rattle.regent_tree.specs.declared.types.TypeTerm.{TypeTerm}
 use Rattle.regent_tree.specs.declared.types.TypeTerm.TheVariants as typed
-use Rattle.regent_tree.specs.declared.typing.Bound.{Bound}
 use Rattle.regent_tree.specs.declared.typing.StaticType.{StaticType}
 use Rattle.regent_tree.specs.declared.typing.StaticType.TheVariants.{Index as index_type, Integer as integer_type, Ispace as ispace_type, Nothing as no_type, Partition as partition_type, Pointer as pointer_type, Region as region_type, Truth as truth_type, Unknown as unknown_type}
-use Rattle.check_rules.specs.types.Declarations.{is_no_field_type, is_no_result_type}
-use Rattle.check_rules.specs.first.FirstInExpressions.{first_in_expression, first_in_steps, first_in_type, first_of_standing, first_of_step, first_of_taking}
-use Rattle.check_rules.specs.types.KnownTypes.{known_type}
-use Rattle.check_rules.specs.rules.Names.{is_unknown_field, unbound_name_in_type}
-use Rattle.check_rules.specs.types.Params.{term_at}
-use Rattle.check_rules.specs.first.Rules.{rule_if}
-use Rattle.check_rules.specs.types.TypedForms.{element_of, field_of}
-use Rattle.check_rules.specs.types.Sorts.{is_region}
+use Rattle.check_rules.specs.first.FirstInExpressions.{first_in_expression, first_in_type}
+use Rattle.check_rules.specs.rules.Names.{unbound_name_in_type}
 use Rattle.check_rules.specs.scopes.Sound.{IsSound}
-use Rattle.check_rules.specs.rules.Standing.{number_spot, stands}
 use Rattle.check_rules.specs.declared.rule.Rule.TheVariants as rule
-use Rattle.check_laws.specs.SoundScopes.{Falls, IsKnown, IsSoundScope}
-use Rattle.expression_laws.proofs.Knowing.{known_as_meant}
-use Rattle.check_laws.proofs.Parts.{contrary, element_known, field_known}
-use Rattle.check_laws.proofs.Scopes.{found_by_number}
-use Rattle.expression_laws.specs.Kinds.{ArgumentsInScope, AreArguments, ColourBelow, IsArgument, IsNamedByOwnNumber, IsWellScopedBinding, IsWellScoped, TermBelow, TermsBelow, TypeBelow}
+use Rattle.check_laws.specs.SoundScopes.{IsSoundScope}
+use Rattle.expression_laws.specs.Kinds.{ArgumentsInScope, AreArguments, IsNamedByOwnNumber, IsWellScoped, TypeBelow}
 use Rattle.statement_laws.specs.Steady.{IsTypeInScope}
 use Rattle.statement_laws.proofs.Agree.{type_up}
 use Rattle.std.specs.List.{Contains}
@@ -46,26 +27,21 @@ use Rattle.regent_tree.proofs.Members.{Has, Has-from_Contains}
 use Rattle.regent_tree.specs.Lookup.{has_space}
 use Rattle.regent_tree.specs.Scopes.{known_of_type}
 use Rattle.regent_tree.specs.Syntax.{Initializer, both_initializer, by_field_initializer, either_initializer, equal_initializer, image_initializer, plain_initializer, preimage_initializer, region_initializer, var_form}
-use Rattle.regent_tree.specs.Typing.{reaches_of, known_of_child, known_of_initializer, owned, scope_after, initializer_type, var_type}
-use Rattle.regent_tree.specs.declared.expression.Arithmetic.TheVariants.{Subtract}
+use Rattle.regent_tree.specs.Typing.{known_of_child, known_of_initializer, owned, scope_after, initializer_type, var_type}
 use Rattle.regent_tree.specs.declared.facts.Known.{Known}
 use Rattle.regent_tree.specs.declared.facts.Known.TheVariants.{Made, PartOf, Within}
 use Rattle.regent_tree.specs.declared.types.Kind.TheVariants.{Int1d}
 use Rattle.regent_tree.specs.declared.types.SpaceUse.{SpaceUse}
-use Rattle.check_rules.specs.first.FirstInExpressions.{first_in_links, first_of_operator}
 use Rattle.check_rules.specs.first.FirstInStatements.{first_of_form, first_of_initializer}
-use Rattle.check_rules.specs.types.KnownTypes.{known_type_after_operator}
 use Rattle.check_rules.specs.rules.Names.{unbound_name_in_use}
 use Rattle.check_rules.specs.rules.Partitions.{is_difference}
 use Rattle.check_rules.specs.first.Rules.{first_in}
-use Rattle.check_rules.specs.types.TypedForms.{computing}
-use Rattle.check_rules.specs.scopes.Variables.{expressions_in_initializer, members_of}
+use Rattle.check_rules.specs.scopes.Variables.{expressions_in_initializer}
 use Rattle.check_laws.specs.SoundScopes.{IsPlaced}
 use Rattle.check_laws.proofs.Variables.{parts_of_form, variable_known}
 use Rattle.statement_laws.specs.Steady.{FactBelow, KnowsMore, IsFresh}
 use Rattle.statement_laws.proofs.Agree.{in_either, term_up}
-use Rattle.expression_laws.proofs.Names.{refs_args, field_args, pointer_args, said_named}
-use Rattle.expression_laws.proofs.Values.{unless_known}
+use Rattle.expression_laws.proofs.Names.{refs_args, pointer_args}
 use Rattle.statement_laws.proofs.Types.{plain_in, args_below}
 
 module _ (tree : Tree) (task : TaskTree) (s : Scope) (sound : IsSound tree) (scope : IsSoundScope s) (well_scoped : IsWellScoped s) where

@@ -1,10 +1,9 @@
 -- Variables: a new binding stands for its first value, and what it tells holds.
 use Rattle.check_rules.proofs.Untold.{rule_none}
 use Rattle.plain_values.proofs.Plain.{option_or_parts}
-use Rattle.std.proofs.Common.{arith, Bool, List, [], ◌∷◌, ◌++◌, None, Option, Some, false, true, refl, ap, sym, subst, ℕ, suc, ◌≡◌, ◌∙◌, ◌<◌, ◌≤◌, inl, inr, cond, length}
+use Rattle.std.proofs.Common.{arith, ℤ, Bool, List, [], ◌∷◌, ◌++◌, None, Option, Some, false, true, refl, ap, sym, subst, ℕ, suc, ◌≡◌, ◌∙◌, ◌≤◌, inl, inr, cond, length}
 use Rattle.std.proofs.lemmas.List.{length-append}
 use Rattle.std.specs.List.{Contains}
-use Rattle.std.specs.Prelude.{nat_lt}
 use Rattle.plain_values.specs.Points.{points}
 use Rattle.regent_tree.specs.Evaluation.{value}
 use Rattle.regent_tree.specs.Execution.{Going, bind}
@@ -24,23 +23,22 @@ use Rattle.regent_tree.specs.declared.typing.StaticType.{StaticType}
 use Rattle.regent_tree.proofs.Members.{Has-from_Contains}
 use Rattle.check_rules.specs.first.FirstInExpressions.{first_in_expression}
 use Rattle.check_laws.proofs.Variables.{parts_of_form}
-use Rattle.regent_tree.specs.Values.{no_region}
+use Rattle.regent_tree.specs.Values.{partition_of}
 use Rattle.regent_tree.specs.declared.typing.StaticType.TheVariants.{Index as index_type, Integer as integer_type, Ispace as ispace_type, Nothing as no_type, Partition as partition_type, Pointer as pointer_type, Region as region_type, Truth as truth_type, Unknown as unknown_type}
 use Rattle.check_rules.specs.rules.Partitions.{is_difference}
 use Rattle.check_rules.specs.first.Rules.{first_in}
 use Rattle.check_rules.specs.scopes.Variables.{members_of}
-use Rattle.statement_laws.proofs.Agree.{nothing_in}
 use Rattle.statement_laws.proofs.States.{is_of_too}
 use Rattle.statement_laws.proofs.Types.{type_in}
 use Rattle.expression_laws.specs.Kinds.{IsOfType, is_index, is_number, is_pointer, is_region_of, is_space, is_truth}
-use Rattle.fact_laws.specs.Regions.{Holds, IsIn, Interpretation}
-use Rattle.expression_laws.specs.Sound.{AreRooted, Instance, IsSoundState}
+use Rattle.fact_laws.specs.Regions.{Holds, IsIn, Interpretation, child_at}
+use Rattle.expression_laws.specs.Sound.{IsInStore, IsNoCollection, AreInStore, Instance, IsSoundState}
 use Rattle.statement_laws.specs.Steady.{GoesOnSound}
-use Rattle.statement_laws.proofs.Agree.{given_too, holds_too, in_either, own_too}
+use Rattle.statement_laws.proofs.Agree.{child_in_store, in_longer_store, given_too, holds_too, in_either, own_too}
 use Rattle.statement_laws.specs.Places.{FormGoes, IsReady}
 use Rattle.statement_laws.proofs.Going.{then_goes}
 use Rattle.statement_laws.proofs.Loops.{evaluates}
-use Rattle.statement_laws.proofs.States.{bound_fits, put, put_agrees, put_region}
+use Rattle.statement_laws.proofs.States.{bound_fits, put, put_agrees, put_region, plain_children, plain_region, put_in_store}
 use Rattle.std.proofs.Common.{◌&&◌, map}
 use Rattle.regent_tree.specs.Execution.{exec}
 use Rattle.regent_tree.specs.Accesses.{regions_reached}
@@ -60,11 +58,8 @@ use Rattle.check_laws.proofs.Parts.{contrary}
 use Rattle.check_laws.proofs.Variables.{variable_known}
 use Rattle.expression_laws.proofs.Names.{pointer_args, reached}
 use Rattle.statement_laws.proofs.Types.{args_below}
-use Rattle.std.proofs.Common.{◌⊎◌, inl, inr}
-use Rattle.regent_tree.specs.Syntax.{Form, assert_form, assign_form, at_step, both_initializer, by_field_initializer, call_form, do_form, either_initializer, equal_initializer, field_step, fill_form, for_in_form, for_to_form, if_form, image_initializer, no_step, preimage_initializer, print_form, return_form, while_form}
-use Rattle.statement_laws.specs.Untreated.{IsPlain, IsUntreated}
-use Rattle.statement_laws.proofs.Assignments.{set_goes}
-use Rattle.statement_laws.proofs.Leaves.{IsRest}
+use Rattle.std.proofs.Common.{inl, inr}
+use Rattle.statement_laws.specs.Untreated.{IsPlain}
 
 abbrev number_made : Known → ℕ
 number_made (Made i) = i
@@ -82,14 +77,8 @@ module _ (task : TaskTree) (args : List Value) (roots : ℕ) where
     pub is_of : IsOfType (put h.scope.next v m) ty v
     pub holds : (k : Known) → Contains told k → Holds (put h.scope.next v m) k
     pub own : (i : ℕ) → Contains told (Made i) → (root p : ℕ) → IsIn ((put h.scope.next v m).region i) root p → roots ≤ root
-    pub rooted : (root p : ℕ) → IsIn (region_of v) root p → root < count
-
-  put_rooted : (i : ℕ) (v : Value) (m : Interpretation) (count : ℕ) → AreRooted m count → ((root p : ℕ) → IsIn (region_of v) root p → root < count) → AreRooted (put i v m) count
-  put_rooted i v m count are is j root p at = here (nat_lt j i) at
-    where
-      here : (c : Bool) → IsIn (cond c (m.region j) (region_of v)) root p → root < count
-      here true at = are j root p at
-      here false at = is root p at
+    pub kept : IsInStore count (region_of v)
+    pub children : (c : ℤ) → IsInStore count (child_at (partition_of v) c)
 
   pub begun : (h : Here) (m : Interpretation) (n : Name) (t : Option TypeTerm) (start : Option Initializer) → IsReady task args roots m h → (v : Value) (u : State) → IsSoundState (inst h) m h.scope u →
       Begins h m (var_type h.tree h.scope t start) (known_of_initializer h.tree h.scope h.scope.next start ++ known_of_type (var_type h.tree h.scope t start)) v (length u.store) →
@@ -117,18 +106,18 @@ module _ (task : TaskTree) (args : List Value) (roots : ℕ) where
         state = record {
           names = bound_fits s n ty false m u.names v r.scope r.static.well_scoped r.static.placed st.counted st.names begins.is_of;
           counted = length-append u.names (v ∷ []) ∙ omega (arith, count);
-          rooted = put_rooted s.next v m (length u.store) st.rooted begins.rooted;
+          rooted = put_in_store s.next v m (length u.store) st.rooted begins.kept begins.children;
           grown = st.grown;
           covered = st.covered;
         };
       }
 
   -- a new region shares no point with those that are bound already
-  new_apart : (i : ℕ) (v : Value) (m : Interpretation) (count : ℕ) → AreRooted m count → (region_of v).root ≡ count → Holds (put i v m) (Made i)
+  new_apart : (i : ℕ) (v : Value) (m : Interpretation) (count : ℕ) → AreInStore m count → (region_of v).root ≡ count → Holds (put i v m) (Made i)
   new_apart i v m count are same j less root p a b =
       let first = subst (λ q. IsIn q root p) (put_region i v m) a in
       let second = subst (λ q. IsIn q root p) (sym ((put_agrees i v m).regions j less)) b in
-      let below = are j root p second in
+      let below = are.regions j root p second in
       let is = sym same ∙ first.0 in
       absurd (omega (arith, below, is))
 
@@ -160,7 +149,7 @@ module _ (task : TaskTree) (args : List Value) (roots : ℕ) where
           (record {
             names = st.names;
             counted = st.counted;
-            rooted = λ i root p at. let below = st.rooted i root p at in omega (arith, long, below);
+            rooted = in_longer_store m count (length store) (omega (arith, long)) st.rooted;
             grown = omega (arith, long, grown);
             covered = st.covered;
           })
@@ -177,7 +166,8 @@ module _ (task : TaskTree) (args : List Value) (roots : ℕ) where
                   omega (arith, is, grown)
               | inr g ↦ absurd g
             ];
-            rooted = λ root p at. let is = at.0 in omega (arith, long, is);
+            kept = λ root p at. let is = at.0 in omega (arith, long, is);
+            children = child_in_store (length store);
           })
 
   -- ---- values that are no collections
@@ -187,29 +177,29 @@ module _ (task : TaskTree) (args : List Value) (roots : ℕ) where
     pub same : owned s.next t ≡ t
     pub child : known_of_child s.next t ≡ []
     pub type : known_of_type t ≡ []
-    pub empty : (m : Interpretation) (v : Value) → IsOfType m t v → region_of v ≡ no_region
+    pub empty : (m : Interpretation) (v : Value) → IsOfType m t v → IsNoCollection v
 
   pub tells_none : (s : Scope) (t : StaticType) → IsPlain t → TellsNone s t
   tells_none s (integer_type w) h = record { same = refl; child = refl; type = refl; empty = λ m v is. none m v is }
     where
-      none : (m : Interpretation) (v : Value) → IsOfType m (integer_type w) v → region_of v ≡ no_region
-      none m v is_number = refl
+      none : (m : Interpretation) (v : Value) → IsOfType m (integer_type w) v → IsNoCollection v
+      none m v is_number = (refl, refl)
   tells_none s truth_type h = record { same = refl; child = refl; type = refl; empty = λ m v is. none m v is }
     where
-      none : (m : Interpretation) (v : Value) → IsOfType m truth_type v → region_of v ≡ no_region
-      none m v is_truth = refl
+      none : (m : Interpretation) (v : Value) → IsOfType m truth_type v → IsNoCollection v
+      none m v is_truth = (refl, refl)
   tells_none s (index_type k) h = record { same = refl; child = refl; type = refl; empty = λ m v is. none m v is }
     where
-      none : (m : Interpretation) (v : Value) → IsOfType m (index_type k) v → region_of v ≡ no_region
-      none m v is_index = refl
+      none : (m : Interpretation) (v : Value) → IsOfType m (index_type k) v → IsNoCollection v
+      none m v is_index = (refl, refl)
   tells_none s (pointer_type k sp types terms) h = record { same = refl; child = refl; type = refl; empty = λ m v is. none m v is }
     where
-      none : (m : Interpretation) (v : Value) → IsOfType m (pointer_type k sp types terms) v → region_of v ≡ no_region
-      none m v (is_pointer go) = refl
+      none : (m : Interpretation) (v : Value) → IsOfType m (pointer_type k sp types terms) v → IsNoCollection v
+      none m v (is_pointer go) = (refl, refl)
   tells_none s (ispace_type k) h = record { same = refl; child = refl; type = refl; empty = λ m v is. none m v is }
     where
-      none : (m : Interpretation) (v : Value) → IsOfType m (ispace_type k) v → region_of v ≡ no_region
-      none m v is_space = refl
+      none : (m : Interpretation) (v : Value) → IsOfType m (ispace_type k) v → IsNoCollection v
+      none m v is_space = (refl, refl)
   tells_none s (region_type k sp types t) h = absurd h
   tells_none s (partition_type d r p) h = absurd h
   tells_none s no_type h = absurd h
@@ -236,7 +226,8 @@ module _ (task : TaskTree) (args : List Value) (roots : ℕ) where
         is_of = subst (λ t. IsOfType (put s.next v m) t v) (sym none.same) (is_of_too s.next m (put s.next v m) (put_agrees s.next v m) ty v below is.is_of);
         holds = λ k c. absurd (Has-from_Contains [] k (subst (λ ks. Contains ks k) tells c));
         own = λ i c. absurd (Has-from_Contains [] (Made i) (subst (λ ks. Contains ks (Made i)) tells c));
-        rooted = λ root p at. absurd (nothing_in root p (subst (λ q. IsIn q root p) (none.empty m v is.is_of) at));
+        kept = plain_region (length z.store) v (none.empty m v is.is_of);
+        children = plain_children (length z.store) v (none.empty m v is.is_of);
       }))
 
   -- ---- variables without a start value
@@ -247,13 +238,14 @@ module _ (task : TaskTree) (args : List Value) (roots : ℕ) where
 
   -- a first value of a type that tells nothing
   zero_goes : (h : Here) (m : Interpretation) (n : Name) (t : TypeTerm) → IsReady task args roots m h → (v : Value) (u : State) → IsSoundState (inst h) m h.scope u →
-      known_of_type (var_type h.tree h.scope (Some t) None) ≡ [] → IsOfType (put h.scope.next v m) (var_type h.tree h.scope (Some t) None) v → region_of v ≡ no_region →
+      known_of_type (var_type h.tree h.scope (Some t) None) ≡ [] → IsOfType (put h.scope.next v m) (var_type h.tree h.scope (Some t) None) v → IsNoCollection v →
       GoesOnSound (inst h) m h.scope.next (scope_after h.tree h.scope (var_form n (Some t) None)) (bind v u)
   zero_goes h m n t r v u st tells is none = begun h m n (Some t) None r v u st (record {
     is_of = is;
     holds = λ k c. absurd (Has-from_Contains [] k (subst (λ ks. Contains ks k) tells c));
     own = λ i c. absurd (Has-from_Contains [] (Made i) (subst (λ ks. Contains ks (Made i)) tells c));
-    rooted = λ root p at. absurd (nothing_in root p (subst (λ q. IsIn q root p) none at));
+    kept = plain_region (length u.store) v none;
+    children = plain_children (length u.store) v none;
   })
 
   -- `var x : t`
@@ -270,17 +262,17 @@ module _ (task : TaskTree) (args : List Value) (roots : ℕ) where
 
       by : (q : TypeTerm) → is_collection (var_type h.tree h.scope (Some q) None) ≡ false → unbound_name_in_type h.tree h.scope.names q ≡ false →
           GoesOnSound (inst h) m h.scope.next (scope_after h.tree h.scope (var_form n (Some q) None)) (exec h (var_form n (Some q) None) u)
-      by (typed_as.Number number.Int32) c named = zero_goes h m n (typed_as.Number number.Int32) r _ u st refl is_number refl
-      by (typed_as.Number number.Int64) c named = zero_goes h m n (typed_as.Number number.Int64) r _ u st refl is_number refl
-      by (typed_as.Number (number.Index k)) c named = zero_goes h m n (typed_as.Number (number.Index k)) r _ u st refl is_index refl
-      by typed_as.Truth c named = zero_goes h m n typed_as.Truth r _ u st refl is_truth refl
+      by (typed_as.Number number.Int32) c named = zero_goes h m n (typed_as.Number number.Int32) r _ u st refl is_number (refl, refl)
+      by (typed_as.Number number.Int64) c named = zero_goes h m n (typed_as.Number number.Int64) r _ u st refl is_number (refl, refl)
+      by (typed_as.Number (number.Index k)) c named = zero_goes h m n (typed_as.Number (number.Index k)) r _ u st refl is_index (refl, refl)
+      by typed_as.Truth c named = zero_goes h m n typed_as.Truth r _ u st refl is_truth (refl, refl)
       by (typed_as.Pointer p) c named =
           let are = pointer_args h.scope r.scope h.tree p named in
           let terms = map (looked_up (in_scope h.scope)) p.regions in
           let v : Value = a_pointer null_target (regions_reached h.scope u.names terms) in
           let is : IsOfType m (written_pointer h.tree (in_scope h.scope) p) v = is_pointer (reached m h.scope u.names r.static.well_scoped st.names terms are.1) in
           zero_goes h m n (typed_as.Pointer p) r v u st refl
-          (is_of_too h.scope.next m (put h.scope.next v m) (put_agrees h.scope.next v m) (written_pointer h.tree (in_scope h.scope) p) v (args_below h.scope r.scope terms are.1) is) refl
+          (is_of_too h.scope.next m (put h.scope.next v m) (put_agrees h.scope.next v m) (written_pointer h.tree (in_scope h.scope) p) v (args_below h.scope r.scope terms are.1) is) (refl, refl)
       by (typed_as.Ispace k) c named = absurd (contrary c)
       by (typed_as.Region k s) c named = absurd (contrary c)
       by (typed_as.Partition d q s) c named = absurd (contrary c)

@@ -15,12 +15,19 @@ IsPlain no_type = ⊥
 IsPlain unknown_type = ⊥
 IsPlain t = Unit {0}
 
--- A variable that begins with a partition operation or as a region or partition that is there already, and one
--- of a region with a type that is written.
+-- a type of values that a variable may begin as, but for what partition operations give
+abbrev pub IsBegun : StaticType → Type 0
+IsBegun (partition_type d r p) = ⊥
+IsBegun no_type = ⊥
+IsBegun unknown_type = ⊥
+IsBegun t = Unit {0}
+
+-- A variable that begins with a partition operation, and one of a region that is made and has a type that is
+-- written.
 abbrev pub IsUntreated : Here → Form → Type 0
-IsUntreated h (var_form n (Some t) (Some (plain_initializer e))) = IsPlain (var_type h.tree h.scope (Some t) None) → is_difference h.scope.names e ≡ false → ⊥
-IsUntreated h (var_form n (Some t) (Some start)) = Unit {0}
+IsUntreated h (var_form n (Some t) (Some (plain_initializer e))) = IsBegun (var_type h.tree h.scope (Some t) None) → is_difference h.scope.names e ≡ false → ⊥
+IsUntreated h (var_form n (Some t) (Some initializer)) = Unit {0}
 IsUntreated h (var_form n None (Some (region_initializer e u))) = ⊥
-IsUntreated h (var_form n None (Some (plain_initializer e))) = IsPlain (type_of h.tree h.scope e) → is_difference h.scope.names e ≡ false → ⊥
-IsUntreated h (var_form n None (Some start)) = Unit {0}
+IsUntreated h (var_form n None (Some (plain_initializer e))) = IsBegun (type_of h.tree h.scope e) → is_difference h.scope.names e ≡ false → ⊥
+IsUntreated h (var_form n None (Some initializer)) = Unit {0}
 IsUntreated h form = ⊥

@@ -8,11 +8,11 @@ IsWrittenInitializer (region_initializer e u) = IsWritten e
 IsWrittenInitializer (equal_initializer r e) = IsWritten e
 IsWrittenInitializer (by_field_initializer r f e) = IsWritten e
 IsWrittenInitializer (plain_initializer e) = IsWritten e
-IsWrittenInitializer start = Unit {0}
+IsWrittenInitializer initializer = Unit {0}
 
 abbrev mutual
   pub IsWrittenForm : Form → Type 0
-  IsWrittenForm (var_form n t (Some start)) = IsWrittenInitializer start
+  IsWrittenForm (var_form n t (Some initializer)) = IsWrittenInitializer initializer
   IsWrittenForm (var_form n t None) = Unit {0}
   IsWrittenForm (if_form arms other) = AreWrittenArms arms × IsWrittenElse other
   IsWrittenForm (while_form test body) = IsWritten test × IsWrittenBlock body
