@@ -1,4 +1,4 @@
-use Rattle.std.proofs.Common.{◌≡◌, ◌∙◌, ℤ, pos, Bool, true, false, FitsSigned, Some, ap, sym, subst, w64, rules, of_z, to_z}
+use Rattle.std.proofs.Common.{◌≡◌, ◌∙◌, pos, false, Some, ap, sym, subst, w64, rules, of_z, to_z}
 use Rattle.std.proofs.lemmas.Int.{to_z-of_z}
 use Rattle.std.specs.Ordering.{int_eq}
 use Rattle.std.specs.Int.{int_wrapping_div}

@@ -1,4 +1,4 @@
-use Rattle.std.proofs.Common.{rules, ◌≡◌, refl, ap, sym, ◌∙◌, arith, reverse}
+use Rattle.std.proofs.Common.{rules, arith, reverse}
 use Rattle.std.proofs.lemmas.List.{reverse-append}
 use Rattle.task_machine.proofs.Taking.{none_left, one_pends, one_more}
 use Rattle.task_machine.proofs.calls.take_values.Goals as goal

@@ -1,4 +1,4 @@
-use Rattle.std.proofs.Common.{◌≡◌, sym, subst, ap, ◌∙◌, None, Some, ℤ, true, arith, length, ◌<◌}
+use Rattle.std.proofs.Common.{◌≡◌, sym, subst, ap, ◌∙◌, None, ℤ, true, arith, length, ◌<◌}
 use Rattle.std.specs.List.{position_from}
 use Rattle.task_machine.specs.Holding.{Holding, put_at}
 use Rattle.task_machine.specs.Parts.{find, found, found_cell, is_needed, is_part_of, missing, refused, set_part}

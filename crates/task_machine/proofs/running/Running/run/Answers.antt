@@ -1,4 +1,4 @@
-use Rattle.std.proofs.Common.{rules, ◌≡◌, refl, ap, sym, ◌∙◌, length}
+use Rattle.std.proofs.Common.{rules, refl, ap, sym, ◌∙◌, length}
 use Rattle.std.proofs.lemmas.Option.{slice_get_read}
 use Rattle.task_machine.proofs.Coming.{next_goes, jump_goes, stop_ends, last_ends}
 use Rattle.task_machine.specs.Segments.{after}

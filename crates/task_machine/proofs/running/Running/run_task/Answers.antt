@@ -1,4 +1,4 @@
-use Rattle.std.proofs.Common.{rules, ◌≡◌, refl, ap, sym, ◌∙◌, length}
+use Rattle.std.proofs.Common.{rules, refl, ap, ◌∙◌, length}
 use Rattle.std.proofs.lemmas.Option.{slice_get_read}
 use Rattle.task_machine.specs.Acts.{machine_at}
 use Rattle.task_machine.specs.Segments.{after, stop_from}
