@@ -11,7 +11,7 @@ loop-place-preserved c =
     let number = get_or held.values i (pos 0) in
     let inside : i < length held.values = search (rules) in
     let is : c.in_ok-given.given ≡ give_back c.args.kind held.mode c.args.root.0 c.args.field
-        c.in-Some.point number c.loop-place.given = search (rules) in
+    c.in-Some.point number c.loop-place.given = search (rules) in
     let point : Some c.in-Some.point ≡ slice_get held.points i = search (rules) in
     given_next c.args.kind held.mode c.args.root.0 c.args.field held.points held.values i
     c.in-Some.point number c.loop-place.given c.in_ok-given.given _ point
