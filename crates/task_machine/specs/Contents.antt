@@ -35,15 +35,13 @@ with_number r field point z = record r {
   fields = slice_set r.fields field (slice_set (get_or r.fields field []) point z);
 }
 
-abbrev pub keep_in : List Root → ℕ → ℕ → ℕ → ℤ → List Root
-keep_in [] root field point z = []
-keep_in (r ∷ rs) root field point z = cond (r.id.0 == root)
-    (record r { image = with_number r.image field point z } ∷ rs)
-    (r ∷ keep_in rs root field point z)
+abbrev pub kept_in : ℕ → ℕ → ℕ → ℤ → Root → Root
+kept_in root field point z r = cond (r.id.0 == root)
+    (record r { image = with_number r.image field point z }) r
 
 abbrev pub keep : Contents → ℕ → ℕ → ℕ → ℤ → Contents
 keep contents root field point z =
-    record contents { roots = keep_in contents.roots root field point z }
+    record contents { roots = map (kept_in root field point z) contents.roots }
 
 -- with a new root, whose number is how many were made before it
 abbrev pub with_root : RootImage → Contents → Contents

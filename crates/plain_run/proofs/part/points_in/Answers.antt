@@ -1,6 +1,5 @@
 use Rattle.std.proofs.Common.{sym, subst, ◌∙◌, ap, ◌+◌, drop}
-use Rattle.region_tree.specs.Requirements.{Requirement, is_of}
-use Rattle.region_tree.specs.Modes.{is_as}
+use Rattle.region_tree.specs.Requirements.{Requirement}
 use Rattle.region_tree.proofs.Dividing.{IsGathered}
 use Rattle.plain_run.proofs.Gathering.{gathered_next, passed_next}
 use Rattle.plain_run.proofs.part.points_in.Goals as goal

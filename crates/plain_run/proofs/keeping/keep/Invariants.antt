@@ -1,0 +1,7 @@
+use Rattle.std.proofs.Common.{◌≡◌, map}
+use Rattle.task_machine.specs.Contents.{kept_in}
+use Rattle.plain_run.proofs.keeping.keep.Given as goal
+
+abbrev pub invariant-loop-held : goal.invariant-loop-held
+invariant-loop-held l =
+    l.kept.items ≡ map (kept_in l.root.0 l.field l.point l.number) l.yielded
