@@ -1,8 +1,8 @@
 -- The defaults of flags say nothing new, and no last check of a command fails.
-use Rattle.std.proofs.Common.{◌≡◌, ◌∙◌, ℕ, Bool, cond, true, false, not, List, [], ◌∷◌, ◌++◌, Option, Some, None, refl, ap, ap₂, sym, codes, option_map, bytes_eq, ◌&&◌, ◌||◌, is_some, option_and_then, slice_get, fold}
+use Rattle.std.proofs.Common.{◌≡◌, ◌∙◌, Bool, cond, true, false, not, List, [], ◌∷◌, ◌++◌, Option, Some, refl, ap, sym, codes, bytes_eq, ◌&&◌, ◌||◌, option_and_then, slice_get, fold}
 use Rattle.std.specs.Prelude.{unwrap_or}
 use Rattle.std.specs.List.{list_any}
-use Rattle.clap.specs.Walk.{Row, Rule, Text, all_of, first_of, has_row, reading_by, with_default, with_values}
+use Rattle.clap.specs.Walk.{Row, Text, all_of, first_of, has_row, reading_by, with_default, with_values}
 use Rattle.clap.specs.Takes.{is_given}
 use Rattle.clap.specs.Kinds.{Kinds, or_else}
 use Rattle.clap.specs.Faults.{check_fault, default_fault, defaults_fault}
@@ -11,7 +11,7 @@ use Rattle.clap.specs.declared.parser.matches.ValueSource.TheVariants.{DefaultVa
 use Rattle.command_words.specs.Matched.{is_set, said_in}
 use Rattle.command_words.specs.Settings.{Setting, dump, name_of, same_setting, takes_value, trace, turns, workers}
 use Rattle.command_words.proofs.Rules.{level, rule, rules, words_rule}
-use Rattle.command_words.proofs.Rows.{first_is, has_is, none_found, not_words, other_row, own_name, same_is, same_row}
+use Rattle.command_words.proofs.Rows.{first_is, flag_apart, none_found, not_words, other_row, own_name, same_is, same_row}
 
 -- ---- the rows
 
@@ -78,17 +78,10 @@ flag_kept t s rows = go (takes_value t) refl
     go true e = ap (flag_of s) (option_kept t rows e)
     go false e = ap (flag_of s) (flag_default t rows e) ∙ chosen (has_row (name_of t) rows) refl
 
-option_apart : (t s : Setting) → takes_value s ≡ true → takes_value t ≡ false → same_setting t s ≡ false
-option_apart t s option_s flag_t = go (same_setting t s) refl
-  where
-    go : (b : Bool) → same_setting t s ≡ b → b ≡ false
-    go false e = refl
-    go true e = let is : takes_value t ≡ takes_value s = ap takes_value (same_is t s e) in cc
-
 option_first : (t s : Setting) (rows : List Row) → takes_value s ≡ true → first_of (name_of s) (with_default rows (rule t)) ≡ first_of (name_of s) rows
 option_first t s rows takes =
     first_is (name_of s) (with_default rows (rule t))
-    ∙ ap (option_and_then (λ vs. slice_get vs 0)) (other_kept t (name_of s) rows (option_apart t s takes))
+    ∙ ap (option_and_then (λ vs. slice_get vs 0)) (other_kept t (name_of s) rows (λ flag_t. flag_apart t s flag_t takes))
     ∙ sym (first_is (name_of s) rows)
 
 one_default : (t : Setting) (rows : List Row) → said_in (with_default rows (rule t)) ≡ said_in rows

@@ -1,12 +1,12 @@
 -- The forms of words, and what clap sees in a word of each.
-use Rattle.std.proofs.Common.{◌≡◌, ◌∙◌, ℕ, Bool, cond, true, false, List, [], ◌∷◌, ◌++◌, Option, Some, None, length, refl, ap, sym, subst, bytes_eq, if◌then◌else◌, IsUtf8, encode_utf8_all, slice_get, eqb, ◌&&◌, arith, ◌⊎◌, inl, inr, eqb-true}
+use Rattle.std.proofs.Common.{◌≡◌, ◌∙◌, ℕ, Bool, true, false, [], ◌∷◌, Option, Some, None, length, refl, ap, sym, subst, bytes_eq, if◌then◌else◌, IsUtf8, encode_utf8_all, slice_get, eqb, arith, ◌⊎◌, inl, inr, eqb-true}
 use Rattle.std.specs.List.{after_first, before_first, list_any}
 use Rattle.std.specs.Char.{encode_utf8}
 use Rattle.std.specs.Str.{chars}
 use Rattle.std.proofs.lemmas.Str.{chars-encodes}
 use Rattle.clap.specs.Lexer.{long_of, short_of}
 use Rattle.command_words.specs.Settings.{Text}
-use Rattle.command_words.specs.Uses.{Form, dashed, double_form, form_of, plain, separator, setting, setting_form}
+use Rattle.command_words.specs.Uses.{dashed, form_of, plain, separator, setting}
 
 abbrev pub dashes : Text
 dashes = 45 ∷ 45 ∷ []

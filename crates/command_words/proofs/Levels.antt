@@ -1,16 +1,12 @@
 -- What a parse makes of the words behind a command, and of all the words.
-use Rattle.std.proofs.Common.{◌≡◌, ◌∙◌, ℕ, Bool, cond, true, false, not, List, [], ◌∷◌, ◌++◌, map, Option, Some, None, refl, ap, ap₂, sym, codes, option_map, bytes_eq, ◌&&◌, ◌||◌, is_some, option_and_then, find, fold, append_assoc, slice_get, IsUtf8}
-use Rattle.std.specs.Option.{option_map_or}
-use Rattle.clap.specs.Lexer.{long_of, short_of}
-use Rattle.clap.specs.Walk.{Held, Names, Row, Rule, Walk, answers_to, finished, idle, nothing_held, rows_after, settled, stop_after, subcommand_met, walk, walk_from, walked, with_default}
-use Rattle.clap.specs.Simple.{App, Shape, argument_words, entered, label_of, names_of, rows_at, subcommand_of}
+use Rattle.std.proofs.Common.{◌≡◌, ◌∙◌, false, List, [], ◌∷◌, Some, None, refl, ap, ap₂, sym, fold}
+use Rattle.clap.specs.Walk.{Held, Row, Walk, finished, idle, nothing_held, rows_after, settled, walk_from, walked, with_default}
 use Rattle.clap.specs.Kinds.{Kinds, or_else}
-use Rattle.clap.specs.Faults.{check_fault, defaults_fault, entered_fault, fault_of, level_fault, settle_fault, turn_fault, walk_fault}
-use Rattle.command_words.specs.Settings.{CommandName, Setting, Text, check, command_named, run, sample, settings_of}
-use Rattle.command_words.specs.Uses.{Use, Uses, uses}
-use Rattle.command_words.specs.Parser.{regent}
-use Rattle.command_words.proofs.Rules.{level, levels, rule, rules, top}
-use Rattle.command_words.proofs.Walking.{at, clean, guard, guard_both, held, rows_of_uses, walk_rows}
+use Rattle.clap.specs.Faults.{level_fault, settle_fault, turn_fault, walk_fault}
+use Rattle.command_words.specs.Settings.{Setting, Text}
+use Rattle.command_words.specs.Uses.{uses}
+use Rattle.command_words.proofs.Rules.{level, rules}
+use Rattle.command_words.proofs.Walking.{clean, guard, guard_both, rows_of_uses, walk_rows}
 use Rattle.command_words.proofs.Steps.{AreTexts, ready_idle, walk_is}
 use Rattle.command_words.proofs.Defaults.{checks_none, defaults_none}
 

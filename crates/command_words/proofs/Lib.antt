@@ -10,3 +10,4 @@ pub mod Top
 pub mod Whole
 pub mod Numbers
 pub mod Reading
+pub mod Examples

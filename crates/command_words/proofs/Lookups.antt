@@ -1,13 +1,12 @@
 -- What the rows of all uses say is what the uses say.
-use Rattle.std.proofs.Common.{◌≡◌, ◌∙◌, ℕ, Bool, cond, true, false, not, List, [], ◌∷◌, ◌++◌, map, Option, Some, None, refl, ap, ap₂, sym, codes, option_map, bytes_eq, ◌&&◌, ◌||◌, is_some, append_assoc, option_and_then, slice_get, append-nil}
-use Rattle.std.specs.Prelude.{unwrap_or}
+use Rattle.std.proofs.Common.{◌≡◌, ◌∙◌, Bool, cond, true, false, not, List, [], ◌∷◌, ◌++◌, Option, Some, None, refl, ap, ap₂, sym, codes, ◌&&◌, ◌||◌, is_some, append_assoc, option_and_then, slice_get, append-nil}
 use Rattle.std.specs.List.{list_all, list_any}
 use Rattle.clap.specs.Walk.{Row, Text, all_of, first_of, has_row}
 use Rattle.command_words.specs.Matched.{is_set, said_in}
-use Rattle.command_words.specs.Commands.{Said, said_by}
+use Rattle.command_words.specs.Commands.{said_by}
 use Rattle.command_words.specs.Settings.{Setting, dump, name_of, same_setting, takes_value, trace, turns, workers}
 use Rattle.command_words.specs.Uses.{Use, flag, has_flag, is_of, is_repeated, is_single, option, positional, positional_words, value_of}
-use Rattle.command_words.proofs.Rows.{AllFit, Fits, first_is, found_after, has_is, same_is, same_turned, setting_after, words_after, words_in, words_next}
+use Rattle.command_words.proofs.Rows.{AllFit, Fits, first_is, found_after, has_is, same_is, same_turned, setting_after, flag_apart, words_after, words_in, words_next}
 use Rattle.command_words.proofs.Walking.{after, guard, is_new, rows_of_all}
 
 -- a step that passes, and what comes after it
@@ -89,17 +88,10 @@ setting_found s (u ∷ us) rows end fit e =
 abbrev first_text : Option (List Text) → Option Text
 first_text = option_and_then (λ vs. slice_get vs 0)
 
-both_ways : (t s : Setting) → takes_value t ≡ false → takes_value s ≡ true → same_setting t s ≡ false
-both_ways t s flag_t option_s = go (same_setting t s) refl
-  where
-    go : (b : Bool) → same_setting t s ≡ b → b ≡ false
-    go false e = refl
-    go true e = let is : takes_value t ≡ takes_value s = ap takes_value (same_is t s e) in cc
-
 value_told : (s : Setting) (us : List Use) → takes_value s ≡ true → AllFit us → first_text (told s us) ≡ value_of s us
 value_told s [] takes fit = refl
 value_told s (flag t ∷ us) takes fit =
-    ap (λ b. first_text (cond b (Some (codes "true" ∷ [])) (told s us))) (both_ways t s fit.0 takes) ∙ value_told s us takes fit.1
+    ap (λ b. first_text (cond b (Some (codes "true" ∷ [])) (told s us))) (flag_apart t s fit.0 takes) ∙ value_told s us takes fit.1
 value_told s (option t v ∷ us) takes fit = go (same_setting t s) (value_told s us takes fit.1)
   where
     go : (b : Bool) → first_text (told s us) ≡ value_of s us → first_text (cond b (Some (v ∷ [])) (told s us)) ≡ cond b (Some v) (value_of s us)
@@ -115,7 +107,7 @@ flag_told s (flag t ∷ us) takes fit = go (same_setting t s) (flag_told s us ta
     go true e = refl
     go false e = e
 flag_told s (option t v ∷ us) takes fit =
-    let apart : same_setting t s ≡ false = same_turned t s ∙ both_ways s t takes fit.0 in
+    let apart : same_setting t s ≡ false = same_turned t s ∙ flag_apart s t takes fit.0 in
     ap (λ b. is_set (first_text (cond b (Some (v ∷ [])) (told s us)))) apart
     ∙ flag_told s us takes fit.1
     ∙ ap (λ b. b || has_flag s us) (sym apart)

@@ -1,8 +1,8 @@
 -- Numbers, from their texts.
-use Rattle.std.proofs.Common.{◌≡◌, ◌∙◌, ℕ, ◌<◌, ◌≤◌, ◌^◌, Bool, cond, true, false, ◌&&◌, List, [], ◌∷◌, length, Option, Some, None, refl, ap, ap₂, sym, arith, nat_le}
+use Rattle.std.proofs.Common.{◌≡◌, ◌∙◌, ℕ, ◌<◌, ◌≤◌, ◌^◌, Bool, cond, true, false, ◌&&◌, [], ◌∷◌, length, Some, None, refl, ap, sym, arith, nat_le}
 use Rattle.std.specs.Char.{digit_value, is_digit}
 use Rattle.std.specs.List.{list_all}
-use Rattle.std.specs.Str.Parse.{AllDigits, digits_value}
+use Rattle.std.specs.Str.Parse.{AllDigits}
 use Rattle.std.proofs.lemmas.Bool.{le-leb, leb-true, lt-ltb, ltb-true}
 use Rattle.command_words.specs.Commands.{is_number, number, value}
 use Rattle.command_words.specs.Matched.{IsNumber, IsNumberOf}
@@ -62,11 +62,3 @@ module _ (least most : ℕ) (word : Text) where
         ap Some is.1
         ∙ ap (λ b. cond b (Some (value word)) None)
         (sym (both (is_number word) (in_limits least most word) here (both (nat_le least (value word)) (nat_le (value word) most) above below)))
-
-    pub out_of_limits : (least ≤ n → n ≤ most → ⊥) → None ≡ number least most word
-    out_of_limits out = refused (is_number word && in_limits least most word) (λ e.
-        let h = split (is_number word) (in_limits least most word) e in
-        let i = split (nat_le least (value word)) (nat_le (value word) most) h.1 in
-        let above : least ≤ value word = leb-true least (value word) i.0 in
-        let below : value word ≤ most = leb-true (value word) most i.1 in
-        out (rw is.1 above) (rw is.1 below))

@@ -1,13 +1,12 @@
 -- What the code makes of clap's answer is what the words say.
-use Rattle.std.proofs.Common.{◌≡◌, ◌∙◌, ◌≢◌, ◌⊎◌, ℕ, Bool, true, false, List, [], ◌∷◌, map, Option, Some, None, refl, ap, sym, subst, ⊎_elim, option_map, option_and_then, IsUtf8}
-use Rattle.std.specs.Prelude.{String, string_bytes}
+use Rattle.std.proofs.Common.{◌≡◌, ◌∙◌, ◌≢◌, true, false, List, [], ◌∷◌, Option, Some, None, refl, ap, sym, subst, ⊎_elim, option_map, option_and_then}
+use Rattle.std.specs.Prelude.{String}
 use Rattle.std.proofs.lemmas.Str.{IsUtf8-string_bytes}
-use Rattle.clap.specs.Words.{App, FailsBy, HasKind, HasMatchesOf, IsAmong, Kinds, Row, fault_of, found_of, is_simple, is_simple_and_free, kind_of, rows_of, subcommand_name_of, subcommand_of, subcommand_rows_of}
+use Rattle.clap.specs.Words.{App, HasKind, HasMatchesOf, IsAmong, Kinds, Row, fault_of, is_simple, is_simple_and_free, kind_of, subcommand_name_of, subcommand_of, subcommand_rows_of}
 use Rattle.clap.specs.declared.error.Error.{Error}
 use Rattle.clap.specs.declared.error.kind.ErrorKind.{ErrorKind}
 use Rattle.clap.specs.declared.error.kind.ErrorKind.TheVariants.{OutOfMemory}
 use Rattle.clap.specs.declared.parser.matches.ArgMatches.{ArgMatches}
-use Rattle.clap.specs.declared.parser.matches.ArgMatches.TheViews.{out-ArgMatches, out-SubCommand}
 use Rattle.command_words.specs.Commands.{command}
 use Rattle.command_words.specs.Given.{texts}
 use Rattle.command_words.specs.Parser.{regent}
@@ -59,10 +58,3 @@ both_halves (Some p) n rows name here = λ i. Some (some_is p.0 n name i, some_i
 pub entered_is : (m : ArgMatches) (n : Text) (rows : List Row) → subcommand_name_of m ≡ Some n → option_map (λ (p : Text × List Row). p.1) (subcommand_rows_of m) ≡ Some rows
     → subcommand_rows_of m ≡ Some (n, rows)
 entered_is m n rows name here = both_halves (subcommand_rows_of m) n rows (sym (name_of_rows m) ∙ name) here
-
-pub not_entered : (m : ArgMatches) → subcommand_name_of m ≡ None → subcommand_rows_of m ≡ None
-not_entered m none = go (subcommand_rows_of m) (sym (name_of_rows m) ∙ none)
-  where
-    go : (o : Option (Text × List Row)) → option_map (λ (p : Text × List Row). p.0) o ≡ None → o ≡ None
-    go None e = refl
-    go (Some p) e = cc

@@ -1,18 +1,15 @@
 -- What is found in the rows that uses leave.
-use Rattle.std.proofs.Common.{◌≡◌, ◌∙◌, ℕ, Bool, cond, true, false, not, List, [], ◌∷◌, ◌++◌, map, Option, Some, None, refl, ap, ap₂, sym, codes, option_map, bytes_eq, find, ◌&&◌, ◌||◌, is_some, append_assoc, subst, option_and_then, slice_get, fold, if◌then◌else◌, append-nil}
+use Rattle.std.proofs.Common.{◌≡◌, ◌∙◌, Bool, cond, true, false, not, List, [], ◌∷◌, ◌++◌, Option, Some, None, refl, ap, sym, codes, option_map, bytes_eq, find, ◌||◌, is_some, option_and_then, slice_get}
 use Rattle.std.specs.Prelude.{unwrap_or}
-use Rattle.std.specs.List.{list_all, list_any}
 use Rattle.std.proofs.lemmas.Slice.Eq.{bytes_eq-Decides}
-use Rattle.clap.specs.Walk.{Row, Rule, Text, all_of, at_row, first_of, has_row, reading_by, more_values, stronger, used, with_default, with_values, without}
+use Rattle.clap.specs.Walk.{Row, Text, all_of, first_of, has_row, reading_by, more_values, stronger, with_values, without}
 use Rattle.clap.specs.declared.builder.value_parser.Reading.{Reading}
 use Rattle.clap.specs.declared.parser.matches.ValueSource.{ValueSource}
-use Rattle.clap.specs.declared.parser.matches.ValueSource.TheVariants.{CommandLine, DefaultValue}
-use Rattle.command_words.specs.Commands.{Said, said_by}
-use Rattle.command_words.specs.Matched.{is_set, said_in}
+use Rattle.clap.specs.declared.parser.matches.ValueSource.TheVariants.{CommandLine}
 use Rattle.command_words.specs.Settings.{Setting, dump, name_of, same_setting, takes_value, trace, turns, workers}
-use Rattle.command_words.specs.Uses.{Use, flag, has_flag, is_of, is_repeated, is_single, option, positional, positional_words, value_of}
-use Rattle.command_words.proofs.Rules.{rule, rules, words_rule}
-use Rattle.command_words.proofs.Walking.{after, is_new, rows_of_all}
+use Rattle.command_words.specs.Uses.{Use, flag, option, positional}
+use Rattle.command_words.proofs.Rules.{rule, words_rule}
+use Rattle.command_words.proofs.Walking.{after, is_new}
 
 -- ---- rows of one id
 
@@ -112,6 +109,14 @@ same_turned trace turns = refl
 same_turned trace dump = refl
 same_turned trace trace = refl
 
+-- a flag is no option
+pub flag_apart : (t s : Setting) → takes_value t ≡ false → takes_value s ≡ true → same_setting t s ≡ false
+flag_apart t s flag_t option_s = go (same_setting t s) refl
+  where
+    go : (b : Bool) → same_setting t s ≡ b → b ≡ false
+    go false e = refl
+    go true e = let is : takes_value t ≡ takes_value s = ap takes_value (same_is t s e) in cc
+
 pub own_name : (t : Setting) → bytes_eq (name_of t) (name_of t) ≡ true
 own_name workers = refl
 own_name turns = refl
@@ -142,18 +147,9 @@ abbrev pub AllFit : List Use → Type 0
 AllFit [] = Unit {0}
 AllFit (u ∷ us) = Fits u × AllFit us
 
-abbrev no_rows : Bool → Type 0
-no_rows b = not b ≡ true
-
 not_true : (b : Bool) → not b ≡ true → b ≡ false
 not_true true e = cc
 not_true false e = refl
-
--- the values that a use gives
-abbrev values_in : Use → List Text
-values_in (flag t) = codes "true" ∷ []
-values_in (option t v) = v ∷ []
-values_in (positional w) = w ∷ []
 
 abbrev set_with : Setting → List Text → List Row → List Row
 set_with t vs rows = with_values (name_of t) (reading_by (rule t)) CommandLine vs rows

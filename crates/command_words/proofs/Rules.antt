@@ -1,15 +1,11 @@
 -- The commands as clap builds them, and what it finds in their rules.
-use Rattle.std.proofs.Common.{◌≡◌, ◌∙◌, ℕ, Bool, cond, true, false, not, List, [], ◌∷◌, ◌++◌, map, Option, Some, None, refl, ap, sym, codes, option_map, bytes_eq, find, ◌||◌, ◌&&◌}
+use Rattle.std.proofs.Common.{◌≡◌, ◌∙◌, ℕ, Bool, cond, true, false, List, [], ◌∷◌, ◌++◌, map, Option, Some, None, refl, ap, codes, option_map, bytes_eq, ◌||◌, ◌&&◌}
 use Rattle.std.proofs.lemmas.Slice.Eq.{bytes_eq-Decides}
-use Rattle.clap.specs.Walk.{Row, Rule, arg_by_id, arg_by_index, arg_by_long, arg_by_short, has_row, takes_values}
-use Rattle.clap.specs.Simple.{App, Shape, built, filled, new_app, new_rule, new_shape, with_index, with_rule, with_subcommand}
-use Rattle.clap.specs.Kinds.{Kinds, or_else}
-use Rattle.clap.specs.Faults.{is_simple_and_free, use_fault}
-use Rattle.clap.specs.declared.error.kind.ErrorKind.{ErrorKind}
-use Rattle.clap.specs.declared.error.kind.ErrorKind.TheVariants as kind
-use Rattle.clap.specs.declared.builder.action.ArgAction.TheVariants.{Set, SetTrue, Append}
+use Rattle.clap.specs.Walk.{Rule, arg_by_id, arg_by_index, arg_by_long, arg_by_short}
+use Rattle.clap.specs.Simple.{Shape, built, filled, new_shape, with_index}
+use Rattle.clap.specs.Faults.{is_simple_and_free}
 use Rattle.command_words.specs.Parser.{regent, setting_rule, word_rule}
-use Rattle.command_words.specs.Settings.{Setting, Text, check, dump, name_of, run, sample, setting_named, settings_of, takes_value, trace, turns, workers}
+use Rattle.command_words.specs.Settings.{Setting, Text, check, dump, name_of, run, sample, setting_named, settings_of, trace, turns, workers}
 
 -- the command that is given to clap is one of which its contract tells all
 pub is_free : is_simple_and_free regent ≡ true

@@ -1,18 +1,18 @@
 -- Clap's walk over the words behind a command leaves the rows of the uses that the words say, and is
 -- at fault where they say none.
-use Rattle.std.proofs.Common.{◌≡◌, ◌∙◌, ℕ, Bool, cond, true, false, not, List, [], ◌∷◌, map, Option, Some, None, refl, ap, ap₂, sym, codes, option_map, bytes_eq, ◌&&◌, IsUtf8, if◌then◌else◌, is_some}
+use Rattle.std.proofs.Common.{◌≡◌, ◌∙◌, Bool, cond, true, false, List, [], ◌∷◌, map, Option, Some, None, refl, ap, ap₂, sym, codes, option_map, bytes_eq, IsUtf8, is_some}
 use Rattle.std.specs.Option.{option_map_or}
 use Rattle.clap.specs.Lexer.{long_of, short_of}
-use Rattle.clap.specs.Walk.{Held, Row, Rule, Step, Waiting, Walk, after_flag, after_step, arg_by_id, arg_by_long, flag_met, has_row, idle, long_met, next, option, option_met, option_word, plain_word, positional, settled, takes_values, used, used_by_id, value}
+use Rattle.clap.specs.Walk.{Held, Row, Rule, Step, Waiting, after_flag, after_step, arg_by_long, flag_met, idle, long_met, next, option, option_met, option_word, plain_word, positional, takes_values, used, used_by_id, value}
 use Rattle.clap.specs.Kinds.{Kinds, or_else}
-use Rattle.clap.specs.Faults.{long_fault, option_fault, react_fault, settle_fault, step_fault, use_fault}
+use Rattle.clap.specs.Faults.{long_fault, option_fault, react_fault, step_fault, use_fault}
 use Rattle.clap.specs.declared.error.kind.ErrorKind.TheVariants as kind
 use Rattle.command_words.specs.Settings.{Setting, Text, dump, name_of, setting_named, takes_value, trace, turns, workers}
 use Rattle.command_words.specs.Uses.{Form, Use, Uses, at_option, at_flag, at_setting, at_word, dashed, form_of, is_plain, plain, separator, setting, uses, with_use}
 use Rattle.command_words.specs.Uses as say
 use Rattle.command_words.proofs.Rules.{by_id, by_long, known_by_name, level, rule, rules}
-use Rattle.command_words.proofs.Forms.{Looks, dashes, first_char, looks, looks_dashed, looks_plain, looks_separate, looks_set}
-use Rattle.command_words.proofs.Walking.{after, at, at_fault, clean, dashed_fault, fault_at, flag_clean, guard, guard_both, guard_none, held, is_new, long_unclean, no_value, option_clean, positional_after, positional_step, rows_at, rows_of_all, rows_of_uses, seen, takes_is, took_fault, took_rows, trailing_rows, unclean_first, walk_rows, with_use_rows}
+use Rattle.command_words.proofs.Forms.{dashes, first_char, looks, looks_dashed, looks_plain, looks_separate, looks_set}
+use Rattle.command_words.proofs.Walking.{after, at, at_fault, clean, dashed_fault, fault_at, flag_clean, guard, guard_both, guard_none, held, is_new, long_unclean, no_value, option_clean, positional_after, positional_step, rows_at, rows_of_all, rows_of_uses, seen, takes_is, took_fault, took_rows, trailing_rows, walk_rows, with_use_rows}
 
 -- nothing waits for a value
 pub data Ready : Waiting → Type 0 where

@@ -1,19 +1,17 @@
 -- What a parse makes of all the words: it finds the command that the second word names, or it fails.
-use Rattle.std.proofs.Common.{◌≡◌, ◌∙◌, ℕ, Bool, cond, true, false, not, List, [], ◌∷◌, ◌++◌, map, length, Option, Some, None, refl, ap, ap₂, sym, codes, option_map, bytes_eq, ◌&&◌, ◌||◌, is_some, option_and_then, find, fold, append_assoc, slice_get, IsUtf8, append-nil}
-use Rattle.std.specs.Prelude.{drop}
-use Rattle.std.specs.Char.{encode_utf8}
+use Rattle.std.proofs.Common.{◌≡◌, ◌∙◌, ℕ, Bool, cond, true, false, List, [], ◌∷◌, ◌++◌, length, Option, Some, None, refl, ap, ap₂, sym, codes, option_map, bytes_eq, ◌||◌, is_some, fold, append_assoc, slice_get, IsUtf8, append-nil}
 use Rattle.std.specs.Str.{chars}
 use Rattle.std.specs.Option.{option_map_or}
 use Rattle.clap.specs.Lexer.{long_of, short_of}
-use Rattle.clap.specs.Walk.{Held, Names, Row, Rule, Walk, after_step, finished, idle, long_or_other, nothing_held, rows_after, settled, short_or_plain, subcommand_met, subcommand_or_other, trailing, walk_from, walked}
-use Rattle.clap.specs.Simple.{App, Shape, entered, names_of, subcommand_of}
+use Rattle.clap.specs.Walk.{Names, Walk, after_step, finished, idle, long_or_other, nothing_held, rows_after, settled, short_or_plain, subcommand_met, subcommand_or_other, trailing, walk_from, walked}
+use Rattle.clap.specs.Simple.{App, entered, names_of, subcommand_of}
 use Rattle.clap.specs.Kinds.{Kinds, or_else}
-use Rattle.clap.specs.Faults.{bundle_fault, bundle_step_fault, check_fault, defaults_fault, entered_fault, fault_of, flag_word_fault, flags_fault, other_fault, settle_fault, short_fault, step_fault, turn_fault, walk_fault}
+use Rattle.clap.specs.Faults.{bundle_fault, bundle_step_fault, check_fault, defaults_fault, entered_fault, fault_of, flag_word_fault, flags_fault, other_fault, settle_fault, step_fault, turn_fault, walk_fault}
 use Rattle.clap.proofs.OnLiterals.{clap_on_literals}
-use Rattle.command_words.specs.Settings.{CommandName, Setting, Text, check, command_named, run, sample, settings_of}
-use Rattle.command_words.proofs.Forms.{Looks, dashes, first_char, looks, looks_dashed, looks_plain, looks_separate, looks_set}
+use Rattle.command_words.specs.Settings.{CommandName, Text, check, command_named, run, sample, settings_of}
+use Rattle.command_words.proofs.Forms.{dashes, first_char, looks, looks_dashed, looks_plain, looks_separate, looks_set}
 use Rattle.command_words.specs.Parser.{regent}
-use Rattle.command_words.proofs.Rules.{level, levels, rules, top}
+use Rattle.command_words.proofs.Rules.{levels, rules, top}
 use Rattle.command_words.proofs.Walking.{at, clean, unclean_first}
 use Rattle.command_words.proofs.Levels.{or_else_none, words_fault}
 
@@ -140,9 +138,6 @@ dashed_turn w fs f c is some =
     (step_fault top 1 (short_or_plain [] idle w o nothing_held).0 (short_or_plain [] idle w o nothing_held).1))) is
     ∙ unclean_first [] [] (bundle_fault [] false (f ∷ fs) nothing_held) _
     (ap (λ o. clean (bundle_step_fault [] false o (f ∷ fs) 0 nothing_held (flags_fault [] false (length fs)))) some)
-
-walked_separate : Text → Walk
-walked_separate w = after_step [] w first nothing_held (trailing 1)
 
 trailing_fault : (w : Text) (words : List Text) → clean (or_else (walk_fault top names (at nothing_held idle true) words) (last_fault (fold (walked [] names) (at nothing_held idle true) words))) ≡ false
 unfolding walk_fault defaults_fault

@@ -1,20 +1,20 @@
 -- What clap's walk over the words behind a command comes to.
-use Rattle.std.proofs.Common.{◌≡◌, ◌∙◌, ℕ, Bool, cond, true, false, not, List, [], ◌∷◌, map, Option, Some, None, refl, ap, ap₂, sym, codes, option_map, bytes_eq, slice_get, length, ◌&&◌, IsUtf8, if◌then◌else◌, ◌++◌}
+use Rattle.std.proofs.Common.{◌≡◌, ◌∙◌, ℕ, Bool, cond, true, false, not, List, [], ◌∷◌, map, Option, Some, None, refl, ap, ap₂, sym, codes, bytes_eq, slice_get, length, ◌&&◌, ◌++◌}
 use Rattle.std.specs.Prelude.{drop, is_some, unwrap_or}
 use Rattle.std.specs.Char.{encode_utf8}
 use Rattle.std.specs.Option.{option_map_or}
 use Rattle.std.specs.Str.{chars}
 use Rattle.clap.specs.Lexer.{long_of, short_of}
-use Rattle.clap.specs.Walk.{Held, Row, Rule, Step, Waiting, Walk, after_flag, after_step, arg_by_id, arg_by_index, arg_by_long, arg_by_short, has_row, idle, is_pending, long_or_other, long_word, option, plain_word, positional, settled, short_or_plain, subcommand_met, subcommand_or_other, takes_several, takes_values, to_positional, trailing, used, used_by_id, value, walked, word_met}
+use Rattle.clap.specs.Walk.{Held, Row, Rule, Step, Waiting, Walk, after_step, arg_by_long, has_row, idle, is_pending, long_or_other, long_word, option, positional, settled, short_or_plain, subcommand_met, subcommand_or_other, takes_values, to_positional, trailing, used, used_by_id, value, walked}
 use Rattle.clap.specs.Simple.{Shape}
 use Rattle.clap.specs.Kinds.{Kinds, or_else}
 use Rattle.clap.specs.Faults.{bundle_fault, bundle_step_fault, flag_word_fault, flags_fault, long_fault, option_fault, other_fault, positional_fault, react_fault, settle_fault, short_fault, step_fault, stray_fault, turn_fault, use_fault}
 use Rattle.clap.specs.declared.error.kind.ErrorKind.TheVariants as kind
-use Rattle.command_words.specs.Settings.{Setting, Text, dump, name_of, setting_named, takes_value, trace, turns, workers}
+use Rattle.command_words.specs.Settings.{Setting, Text, dump, name_of, takes_value, trace, turns, workers}
 use Rattle.command_words.specs.Uses.{Form, Use, Uses, at_setting, at_word, flag, form_of, is_plain, uses, with_use}
 use Rattle.command_words.specs.Uses as say
-use Rattle.command_words.proofs.Rules.{by_id, by_index, by_long, by_short, by_words, level, rule, rules, words_rule}
-use Rattle.command_words.proofs.Forms.{Looks, dashes, first_char, looks, looks_dashed, looks_plain, looks_separate, looks_set}
+use Rattle.command_words.proofs.Rules.{by_index, by_short, by_words, level, rule, rules, words_rule}
+use Rattle.command_words.proofs.Forms.{dashes}
 
 -- ---- what a list of uses leaves
 

@@ -1,5 +1,5 @@
 -- The command that the words say is what is read from clap's answer, and a refusal is one of clap's.
-use Rattle.std.proofs.Common.{◌≡◌, ◌∙◌, ℕ, Bool, cond, true, false, not, List, [], ◌∷◌, map, Option, Some, None, refl, ap, ap₂, sym, option_map, is_some, option_and_then, IsUtf8}
+use Rattle.std.proofs.Common.{◌≡◌, ◌∙◌, Bool, cond, true, false, List, [], ◌∷◌, map, Option, Some, None, refl, ap, sym, is_some, option_and_then}
 use Rattle.clap.specs.Walk.{Row, rows_after}
 use Rattle.clap.specs.Simple.{subcommand_of}
 use Rattle.clap.specs.Kinds.{Kinds}

@@ -1,5 +1,5 @@
 -- What the words of the command line say: a command, or nothing where they are refused.
-use Rattle.std.specs.Prelude.{ℕ, ◌≡◌, ◌&&◌, ◌^◌, Bool, true, false, List, [], ◌∷◌, Option, Some, None, length, nat_le, option_and_then, option_map, unwrap_or, if◌then◌else◌}
+use Rattle.std.specs.Prelude.{ℕ, ◌&&◌, ◌^◌, Bool, List, [], ◌∷◌, Option, Some, None, length, nat_le, option_and_then, option_map, unwrap_or, if◌then◌else◌}
 use Rattle.std.specs.Char.{is_digit}
 use Rattle.std.specs.List.{list_all}
 use Rattle.std.specs.Str.Parse.{digits_value}
@@ -43,6 +43,13 @@ default_workers = 4
 
 abbrev pub default_turns : ℕ
 default_turns = 1000000
+
+-- the number of workers and of turns, where these are named
+abbrev pub workers_or_default : Option ℕ → ℕ
+workers_or_default named = unwrap_or named default_workers
+
+abbrev pub turns_or_default : Option ℕ → ℕ
+turns_or_default named = unwrap_or named default_turns
 
 -- ---- commands
 

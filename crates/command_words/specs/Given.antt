@@ -1,5 +1,5 @@
 -- The commands and what words say, as the code has them.
-use Rattle.std.specs.Prelude.{List, [], Option, unwrap_or, Some, None, String, map, option_map, string_bytes, vec_items}
+use Rattle.std.specs.Prelude.{List, [], unwrap_or, String, map, option_map, string_bytes}
 use Rattle.command_words.specs.Commands.{Command, Run, Said, checks, runs, samples}
 use Rattle.command_words.specs.Settings.{Text}
 use Rattle.command_words.specs.declared.commands.Command.{Command as GivenCommand}

@@ -1,5 +1,5 @@
 -- What the rows that clap found say.
-use Rattle.std.specs.Prelude.{ℕ, ◌≡◌, ◌≤◌, ◌<◌, ◌^◌, length, Bool, false, List, [], ◌∷◌, Option, Some, None, bytes_eq, codes, unwrap_or}
+use Rattle.std.specs.Prelude.{ℕ, ◌≡◌, ◌≤◌, ◌<◌, ◌^◌, length, Bool, false, List, [], Option, Some, None, bytes_eq, codes, unwrap_or}
 use Rattle.std.specs.Str.Parse.{IsNumeral, digits_value}
 use Rattle.clap.specs.Walk.{Row, all_of, first_of}
 use Rattle.command_words.specs.Commands.{Said}

@@ -1,5 +1,8 @@
 //! What the words say.
 
+ghost use Rattle.std.specs.Prelude.{◌≡◌};
+ghost use Rattle.command_words.specs.Commands.{turns_or_default, workers_or_default};
+
 /// The greatest number of workers that may be named.
 pub const MOST_WORKERS: u64 = 64;
 
@@ -9,11 +12,19 @@ pub const MOST_TURNS: u64 = 1 << 40;
 /// The greatest number of cells of a sample.
 pub const MOST_CELLS: u64 = 64;
 
-/// How many workers there are where none are named.
-pub const DEFAULT_WORKERS: u64 = 4;
+/// How many workers there are: the number that is named, or the one that holds without it.
+pub fn workers_or_default(named: Option<u64>) -> u64
+    ensures { result ≡ workers_or_default named }
+{
+    named.unwrap_or(4)
+}
 
-/// How many turns a run has where their number isn't named.
-pub const DEFAULT_TURNS: u64 = 1_000_000;
+/// How many turns a run has: the number that is named, or the one that holds without it.
+pub fn turns_or_default(named: Option<u64>) -> u64
+    ensures { result ≡ turns_or_default named }
+{
+    named.unwrap_or(1_000_000)
+}
 
 /// A program that is run. The words of its numbers aren't read yet: which numbers they may be depends on
 /// the program.

@@ -1,5 +1,5 @@
 use Rattle.std.proofs.Common.{◌∙◌}
-use Rattle.command_words.proofs.Numbers.{no_number, out_of_limits, the_number}
+use Rattle.command_words.proofs.Numbers.{no_number, the_number}
 use Rattle.command_words.proofs.number.number.Goals as goal
 
 pub returns-in_err-value : goal.returns-in_err-value

@@ -2,7 +2,7 @@ use Rattle.std.proofs.Common.{◌≡◌, ◌∙◌, Bool, true, false, not, ◌&
 use Rattle.std.proofs.lemmas.Result.{IfOk-weaker}
 use Rattle.clap.specs.Words.{App, app_of, with_subcommand}
 use Rattle.clap.specs.Simple.{app_of_fields}
-use Rattle.command_words.specs.Parser.{check_app, named_app, regent, run_app, sample_app, wants_command}
+use Rattle.command_words.specs.Parser.{check_app, named_app, run_app, sample_app, wants_command}
 use Rattle.command_words.proofs.parser.regent.Goals as goal
 
 -- a plain command has no global argument

@@ -1,7 +1,7 @@
 use Rattle.std.proofs.Common.{◌≡◌, ◌∙◌, ap₂, codes}
 use Rattle.std.proofs.lemmas.Result.{IfOk-weaker}
 use Rattle.clap.specs.Words.{app_of, with_rule}
-use Rattle.command_words.specs.Parser.{named_app, run_app, with_setting}
+use Rattle.command_words.specs.Parser.{named_app, with_setting}
 use Rattle.command_words.specs.Settings.{dump, trace, turns, workers}
 use Rattle.command_words.proofs.parser.run.Goals as goal
 

@@ -1,9 +1,9 @@
-use Rattle.std.proofs.Common.{◌∙◌, Some, None, ap, sym, option_map, option_and_then}
-use Rattle.clap.specs.Words.{App, app_of, found_of, rows_of, subcommand_rows_of}
+use Rattle.std.proofs.Common.{◌∙◌, ap, sym, option_map, option_and_then}
+use Rattle.clap.specs.Words.{app_of, found_of, rows_of}
 use Rattle.command_words.specs.Commands.{command_of}
 use Rattle.command_words.specs.Given.{command_given, texts}
 use Rattle.command_words.specs.Settings.{command_named}
-use Rattle.command_words.proofs.Reading.{are_texts, entered_is, not_entered, refused_is, taken_is}
+use Rattle.command_words.proofs.Reading.{are_texts, entered_is, refused_is, taken_is}
 use Rattle.command_words.proofs.Whole.{command_by}
 use Rattle.command_words.proofs.read.command.Goals as goal
 
