@@ -12,3 +12,4 @@ pub mod Casting
 pub mod Spots
 pub mod Filling
 pub mod Reading
+pub mod Hints

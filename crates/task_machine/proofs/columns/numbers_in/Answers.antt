@@ -1,4 +1,4 @@
-use Rattle.std.proofs.Common.{◌≡◌, sym, ap, ◌∙◌, List, [], ◌∷◌, ◌++◌, ◌+◌, ℕ, ℤ, None, Some, drop, length, length-append, arith}
+use Rattle.std.proofs.Common.{◌≡◌, sym, ap, ◌∙◌, [], ◌∷◌, ◌++◌, ◌+◌, drop, length, length-append, arith}
 use Rattle.std.proofs.lemmas.Int.{to_z-of_z}
 use Rattle.task_machine.specs.Regions.{numbers_in}
 use Rattle.task_machine.proofs.Filling.{drop_get}

@@ -1,6 +1,4 @@
-use Rattle.std.proofs.Common.{◌≡◌, sym, subst, ℤ, None, Some, set, length, get_or}
-use Rattle.region_tree.specs.Pieces.{Held}
-use Rattle.task_machine.specs.Parts.{set_beside, value_beside}
+use Rattle.std.proofs.Common.{sym}
 use Rattle.task_machine.proofs.Spots.{past_set}
 use Rattle.task_machine.proofs.holdings.entry_of.Goals as goal
 

@@ -1,4 +1,4 @@
-use Rattle.std.proofs.Common.{◌≡◌, List, ℕ, map, take}
+use Rattle.std.proofs.Common.{◌≡◌, map, take}
 use Rattle.task_machine.specs.declared.value.RegionValue.{RegionValue}
 use Rattle.task_machine.proofs.partitioning.sets_of.Given as goal
 

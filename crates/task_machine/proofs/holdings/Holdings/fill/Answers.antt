@@ -1,4 +1,4 @@
-use Rattle.std.proofs.Common.{◌≡◌, sym, subst, ap, ◌∙◌, List, ◌∷◌, ◌+◌, ℕ, drop, None, Some, ℤ, to_z, of_z, w64}
+use Rattle.std.proofs.Common.{◌≡◌, sym, subst, ◌∙◌, List, ◌∷◌, ◌+◌, drop, None, Some, ℤ, to_z, of_z, w64}
 use Rattle.std.proofs.lemmas.Int.{to_z-of_z}
 use Rattle.task_machine.specs.declared.frame.Frame.{Frame}
 use Rattle.task_machine.specs.declared.value.Value.{Value}
