@@ -16,3 +16,4 @@ pub mod Casting
 pub mod Spots
 pub mod Filling
 pub mod Reading
+pub mod Hints

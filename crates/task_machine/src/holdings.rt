@@ -20,14 +20,20 @@ use std::mem;
 pub(crate) struct Holdings {
     needs: Needs,
     parts: Vec<Part>,
+    /// For some fields each, the place of the part that was found last.
+    found: [usize; 16],
 }
 
 impl Model for Holdings {
-    ghost use Rattle.task_machine.specs.Holding.{Holding};
+    ghost use Rattle.std.specs.Prelude.{◌≡◌, All, length};
+    ghost use Rattle.task_machine.specs.Holding.{Holding, IsKnown};
 
     ghost Value = { Holding };
 
     ghost view = { λ h. record { needs = h.needs.items; parts = h.parts.items } };
+
+    ghost invariant = { λ h. (length h.found ≡ 16)
+        × All (IsKnown h.needs.items h.parts.items) h.found };
 }
 
 /// Where a number stands: by the place of its part, that of its piece there, and that of its point in
@@ -73,6 +79,7 @@ impl Holdings {
         Holdings {
             needs,
             parts: parts.into_vec(),
+            found: [usize::MAX; 16],
         }
     }
 
@@ -80,7 +87,7 @@ impl Holdings {
         ensures needs { result.0.items ≡ self.needs }
         ensures parts { result.1 ≡ self.parts }
     {
-        let Holdings { needs, parts } = self;
+        let Holdings { needs, parts, .. } = self;
         (needs, Sequence::from_vec(parts))
     }
 
@@ -98,16 +105,53 @@ impl Holdings {
         ensures err { IfErr result (λ l.
             find self.old.needs self.old.parts root.0 field point ≡ lacking l) }
     {
-        if !is_needed(self.needs.items.as_slice(), root, field) {
-            return Err(Lack::Refused);
-        }
-        let Some(part) = place_of_part(self.parts.as_slice(), root, field) else {
-            return Err(Lack::Missing);
+        let place = match self.place(root, field) {
+            Ok(place) => place,
+            Err(lack) => return Err(lack),
         };
-        let Some(element) = find_in(&self.parts[part], part, point) else {
+        let Some(element) = find_in(&self.parts[place], place, point) else {
             return Err(Lack::Refused);
         };
         Ok(element)
+    }
+
+    /// The place of the part of a root's field, which may be known from before.
+    fn place(&mut self, root: RootId, field: u8) -> Result<usize, Lack>
+        ensures same { self.new ≡ self.old }
+        ensures needed { IfOk result (λ _. is_needed self.old.needs root.0 field ≡ true) }
+        ensures place { IfOk result (λ k.
+            position_from (is_part_of root.0 field) 0 self.old.parts ≡ Some k) }
+        ensures err { IfErr result (λ l. (p : ℕ)
+            → find self.old.needs self.old.parts root.0 field p ≡ lacking l) }
+    {
+        if let Some(place) = self.known(root, field) {
+            return Ok(place);
+        }
+        let place = match place_in(&self.needs, self.parts.as_slice(), root, field) {
+            Ok(place) => place,
+            Err(lack) => return Err(lack),
+        };
+        self.found[field as usize % 16] = place;
+        Ok(place)
+    }
+
+    /// The place of the part of a root's field, where it was found last.
+    fn known(&self, root: RootId, field: u8) -> Option<usize>
+        ensures needed { IfSome result (λ _. is_needed self.now.needs root.0 field ≡ true) }
+        ensures place { IfSome result (λ k.
+            position_from (is_part_of root.0 field) 0 self.now.parts ≡ Some k) }
+    {
+        let place = self.found[field as usize % 16];
+        let parts = self.parts.as_slice();
+        if place >= parts.len() {
+            return None;
+        }
+        let part = &parts[place];
+        if part.root.0 == root.0 && part.field == field {
+            Some(place)
+        } else {
+            None
+        }
     }
 
     /// The part of a root's field.
@@ -148,6 +192,24 @@ fn is_needed(needs: &[Need], root: RootId, field: u8) -> bool
         }
     }
     false
+}
+
+/// The place of the first part of a root's field that is needed.
+#[tactic(auto, using(crate::proofs::Spots::find_missing, crate::proofs::Spots::find_none))]
+fn place_in(needs: &Needs, parts: &[Part], root: RootId, field: u8) -> Result<usize, Lack>
+    ensures needed { IfOk result (λ _. is_needed needs.now.items root.0 field ≡ true) }
+    ensures place { IfOk result (λ k.
+        position_from (is_part_of root.0 field) 0 parts.now ≡ Some k) }
+    ensures err { IfErr result (λ l. (p : ℕ)
+        → find needs.now.items parts.now root.0 field p ≡ lacking l) }
+{
+    if !is_needed(needs.items.as_slice(), root, field) {
+        return Err(Lack::Refused);
+    }
+    match place_of_part(parts, root, field) {
+        Some(place) => Ok(place),
+        None => Err(Lack::Missing),
+    }
 }
 
 /// The place of the first part of a root's field.
