@@ -11,6 +11,7 @@ use regent_tree::{Arithmetic, Comparison};
 
 /// The result of an operator at 64 bits; None for a division by 0.
 #[tactic(auto, using(std::proofs::lemmas::Int::wrapping_add_is, std::proofs::lemmas::Int::wrapping_sub_is, std::proofs::lemmas::Int::wrapping_mul_is))]
+#[inline(always)]
 fn compute_wide(operator: Arithmetic, a: i64, b: i64) -> Option<i64>
     ensures { result ≡ computed operator W64 a b }
 {
@@ -36,6 +37,7 @@ fn compute_wide(operator: Arithmetic, a: i64, b: i64) -> Option<i64>
 }
 
 /// The result of an operator at a width; None for a division by 0.
+#[inline(always)]
 pub(crate) fn compute(operator: Arithmetic, width: Width, a: i64, b: i64) -> Option<i64>
     ensures { result ≡ computed operator width a b }
 {
@@ -46,6 +48,7 @@ pub(crate) fn compute(operator: Arithmetic, width: Width, a: i64, b: i64) -> Opt
 }
 
 /// Whether a comparison of two numbers holds.
+#[inline(always)]
 pub(crate) fn compare(comparison: Comparison, a: i64, b: i64) -> bool
     ensures { result ≡ compared comparison a b }
 {
@@ -60,6 +63,7 @@ pub(crate) fn compare(comparison: Comparison, a: i64, b: i64) -> bool
 }
 
 /// A truth as it is kept.
+#[inline(always)]
 pub(crate) fn kept_truth(truth: bool) -> i64
     ensures { result ≡ kept_truth truth }
 {

@@ -24,6 +24,7 @@ const DEEPEST: u8 = 64;
 
 impl Running {
     /// Yields a call, which costs a turn; its pending child is pushed.
+    #[inline(never)]
     fn issue(&mut self, pc: u32, task: u32, args: Vec<Value>, line: u32) -> Result<Act, AllocError>
         ensures { IfOk result (λ act. (below : List MachineValue) →
             Does (λ m. calling task line (taken args.items m.frame.stack) (with_stack below m))
@@ -50,6 +51,7 @@ impl Running {
         Ok(self.stop_at(next, Yield::Calls(calls)))
     }
 
+    #[inline(never)]
     pub(crate) fn call(
         &mut self,
         pc: u32,
@@ -72,6 +74,7 @@ impl Running {
         }
     }
 
+    #[inline(never)]
     pub(crate) fn print(&mut self, pc: u32, parts: &Sequence<PrintPart>) -> Result<Act, AllocError>
         ensures { IfOk result (Does (print parts.now) pc self.old self.new) }
     {
@@ -101,14 +104,14 @@ impl Running {
     pub(crate) fn end(&mut self, pc: u32) -> Act
         ensures { Does (stops (End None)) pc self.old self.new result }
     {
-        Act::Stop(Yield::End(None))
+        self.stop_at(pc, Yield::End(None))
     }
 
     pub(crate) fn end_with(&mut self, pc: u32) -> Act
         ensures { Does end_with pc self.old self.new result }
     {
         match self.frame.stack.pop_number() {
-            Some(z) => Act::Stop(Yield::End(Some(z))),
+            Some(z) => self.stop_at(pc, Yield::End(Some(z))),
             None => Act::broken(),
         }
     }
@@ -123,6 +126,7 @@ fn is_pending(value: &Value) -> bool
 
 /// Takes so many values off a stack's top, the lowest first. None where there are fewer, or one is
 /// pending; then what is left isn't said.
+#[inline(never)]
 fn take_values(
     alloc: Global,
     stack: &mut Stack,
@@ -165,6 +169,7 @@ fn count_numbers(parts: &[PrintPart]) -> usize
 }
 
 /// The text of parts, with values for their numbers; None where one is no number.
+#[inline(never)]
 fn text_of(
     alloc: Global,
     parts: &[PrintPart],

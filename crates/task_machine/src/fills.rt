@@ -82,6 +82,7 @@ impl Holdings {
 }
 
 impl Running {
+    #[inline(never)]
     pub(crate) fn fill(
         &mut self,
         pc: u32,

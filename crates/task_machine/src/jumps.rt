@@ -15,6 +15,7 @@ use task_code::{Instr, Line};
 
 /// Whether a jump may go back to this instruction: each round then takes a turn, or leaves for a later
 /// place.
+#[inline(always)]
 fn turns_back(from: u32, instr: &Instr) -> bool
     ensures { result ≡ turns_back from instr.now }
 {
@@ -26,6 +27,7 @@ fn turns_back(from: u32, instr: &Instr) -> bool
 }
 
 /// Whether a jump may go from a place to another.
+#[inline(always)]
 fn may_jump(body: &[Line], from: u32, to: u32) -> bool
     ensures { result ≡ may_jump body.now from to }
 {
@@ -39,6 +41,7 @@ fn may_jump(body: &[Line], from: u32, to: u32) -> bool
 }
 
 impl Running {
+    #[inline(always)]
     pub(crate) fn jump(&mut self, body: &[Line], pc: u32, to: u32) -> Act
         ensures { Does (λ m. jump body.now to m.frame.stack m) pc self.old self.new result }
     {
@@ -49,6 +52,7 @@ impl Running {
         }
     }
 
+    #[inline(always)]
     pub(crate) fn jump_if_not(&mut self, body: &[Line], pc: u32, to: u32) -> Act
         ensures { Does (jump_if_not body.now to) pc self.old self.new result }
     {
@@ -88,6 +92,7 @@ impl Running {
         Ok(self.jump(body, pc, to))
     }
 
+    #[inline(always)]
     pub(crate) fn turn(&mut self, pc: u32, line: u32) -> Act
         ensures { Does (turn line) pc self.old self.new result }
     {
@@ -99,6 +104,7 @@ impl Running {
     }
 
     /// Goes to the place behind a loop.
+    #[inline(always)]
     fn leave(&mut self, pc: u32, exit: u32) -> Act
         ensures { Does (leave exit) pc self.old self.new result }
     {
@@ -110,6 +116,7 @@ impl Running {
     }
 
     /// Takes a turn for the next round of a loop: its variable gets a number, and its counter is raised.
+    #[inline(always)]
     fn round(&mut self, pc: u32, counter: u32, variable: u32, z: i64, count: i64, line: u32) -> Act
         requires slot { counter < length self.old.frame.slots }
         requires room { count <ℤ pos (2 ^ 63 - 1) }
@@ -130,6 +137,7 @@ impl Running {
         Act::Next
     }
 
+    #[inline(always)]
     pub(crate) fn next_number(
         &mut self,
         pc: u32,
@@ -157,6 +165,7 @@ impl Running {
     }
 
     #[tactic(auto, using(crate::proofs::Rounds::next_point_by))]
+    #[inline(never)]
     pub(crate) fn next_point(
         &mut self,
         pc: u32,

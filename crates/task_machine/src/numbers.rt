@@ -18,6 +18,7 @@ use std::alloc::AllocError;
 
 impl Running {
     /// Pushes a value, and goes on.
+    #[inline(always)]
     pub(crate) fn push(&mut self, pc: u32, value: Value) -> Result<Act, AllocError>
         ensures { IfOk result (Does (λ m. next (value ∷ m.frame.stack) m) pc self.old self.new) }
     {
@@ -25,6 +26,7 @@ impl Running {
         Ok(Act::Next)
     }
 
+    #[inline(always)]
     pub(crate) fn load(&mut self, pc: u32, slot: u32) -> Result<Act, AllocError>
         ensures { IfOk result (Does (λ m. load m (slice_get m.frame.slots slot)) pc self.old self.new) }
     {
@@ -41,6 +43,7 @@ impl Running {
         }
     }
 
+    #[inline(always)]
     pub(crate) fn store(&mut self, pc: u32, slot: u32) -> Act
         ensures { Does (λ m. store slot m.frame.stack m) pc self.old self.new result }
     {
@@ -63,6 +66,7 @@ impl Running {
         }
     }
 
+    #[inline(always)]
     pub(crate) fn arithmetic(
         &mut self,
         pc: u32,
@@ -87,6 +91,7 @@ impl Running {
         }
     }
 
+    #[inline(always)]
     pub(crate) fn comparison(&mut self, pc: u32, kind: Comparison) -> Result<Act, AllocError>
         ensures { IfOk result (Does (comparison kind) pc self.old self.new) }
     {
@@ -112,6 +117,7 @@ impl Running {
         Ok(Act::Next)
     }
 
+    #[inline(always)]
     pub(crate) fn wrap(&mut self, pc: u32, width: Width) -> Result<Act, AllocError>
         ensures { IfOk result (Does (replaced (wrapped width)) pc self.old self.new) }
     {

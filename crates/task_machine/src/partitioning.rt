@@ -68,6 +68,7 @@ impl Running {
         )
     }
 
+    #[inline(never)]
     pub(crate) fn equal(&mut self, pc: u32, slot: u32, line: u32) -> Result<Act, AllocError>
         ensures { IfOk result (Does (equal slot line) pc self.old self.new) }
     {
@@ -86,6 +87,7 @@ impl Running {
         Ok(self.make(pc, region, sets, disjoint))
     }
 
+    #[inline(never)]
     pub(crate) fn meet(
         &mut self,
         pc: u32,
@@ -112,6 +114,7 @@ impl Running {
         Ok(self.make(pc, region, sets, disjoint))
     }
 
+    #[inline(never)]
     pub(crate) fn join(
         &mut self,
         pc: u32,
@@ -137,6 +140,7 @@ impl Running {
         Ok(self.make(pc, region, sets, disjoint))
     }
 
+    #[inline(never)]
     pub(crate) fn minus(
         &mut self,
         pc: u32,
@@ -162,6 +166,7 @@ impl Running {
         Ok(self.make(pc, region, sets, disjoint))
     }
 
+    #[inline(never)]
     pub(crate) fn by_field(
         &mut self,
         pc: u32,
@@ -198,6 +203,7 @@ impl Running {
         }
     }
 
+    #[inline(never)]
     pub(crate) fn image(
         &mut self,
         pc: u32,
@@ -243,6 +249,7 @@ impl Running {
         }
     }
 
+    #[inline(never)]
     pub(crate) fn preimage(
         &mut self,
         pc: u32,

@@ -156,6 +156,7 @@ fn number_to_cast(kept: i64) -> i64
 }
 
 impl Running {
+    #[inline(never)]
     pub(crate) fn point(&mut self, pc: u32, line: u32) -> Result<Act, AllocError>
         ensures { IfOk result (Does (λ m. on_number m.frame.stack m
             (λ z st. point (target_kept z) line st m)) pc self.old self.new) }
@@ -172,6 +173,7 @@ impl Running {
         }
     }
 
+    #[inline(never)]
     pub(crate) fn is_null(&mut self, pc: u32) -> Result<Act, AllocError>
         ensures { IfOk result (Does (replaced is_null) pc self.old self.new) }
     {
@@ -183,6 +185,7 @@ impl Running {
         Ok(Act::Next)
     }
 
+    #[inline(never)]
     pub(crate) fn same_pointers(&mut self, pc: u32) -> Result<Act, AllocError>
         ensures { IfOk result (Does (compare (λ b. b)) pc self.old self.new) }
     {
@@ -197,6 +200,7 @@ impl Running {
         Ok(Act::Next)
     }
 
+    #[inline(never)]
     pub(crate) fn other_pointers(&mut self, pc: u32) -> Result<Act, AllocError>
         ensures { IfOk result (Does (compare not) pc self.old self.new) }
     {
@@ -211,6 +215,7 @@ impl Running {
         Ok(Act::Next)
     }
 
+    #[inline(never)]
     pub(crate) fn move_pointer(&mut self, pc: u32, places: &Sequence<u8>) -> Result<Act, AllocError>
         ensures { IfOk result (Does (λ m. on_number m.frame.stack m
             (λ z st. move places.now (target_kept z) st m)) pc self.old self.new) }
@@ -253,6 +258,7 @@ impl Running {
         Ok(Act::Next)
     }
 
+    #[inline(never)]
     pub(crate) fn cast(&mut self, pc: u32, regions: &Sequence<u32>) -> Result<Act, AllocError>
         ensures { IfOk result (Does (λ m. on_number m.frame.stack m
             (λ z st. cast (regions_in m.frame.slots regions.now) z st m)) pc self.old self.new) }
@@ -268,6 +274,7 @@ impl Running {
     }
 
     #[tactic(auto, using(crate::proofs::Casting::cast_pointer_is))]
+    #[inline(never)]
     pub(crate) fn cast_pointer(
         &mut self,
         pc: u32,

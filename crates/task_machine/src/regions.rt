@@ -38,6 +38,7 @@ fn coloured(children: &Sequence<RegionValue>, number: i64) -> Option<&RegionValu
 }
 
 impl Running {
+    #[inline(never)]
     pub(crate) fn space(&mut self, pc: u32, line: u32) -> Result<Act, AllocError>
         ensures { IfOk result (Does (λ m. on_number m.frame.stack m
             (λ z st. space z line st m)) pc self.old self.new) }
@@ -55,6 +56,7 @@ impl Running {
         }
     }
 
+    #[inline(never)]
     pub(crate) fn colors(&mut self, pc: u32, slot: u32) -> Result<Act, AllocError>
         ensures { IfOk result (Does (colors slot) pc self.old self.new) }
     {
@@ -71,6 +73,7 @@ impl Running {
         self.push(pc, Value::Space(space))
     }
 
+    #[inline(never)]
     pub(crate) fn new_root(&mut self, pc: u32, code: &Code, fields: u32) -> Act
         ensures { Does (new_root code.now fields) pc self.old self.new result }
     {
@@ -85,6 +88,7 @@ impl Running {
         }
     }
 
+    #[inline(never)]
     pub(crate) fn child(&mut self, pc: u32, slot: u32, line: u32) -> Result<Act, AllocError>
         ensures { IfOk result (Does (child slot line) pc self.old self.new) }
     {

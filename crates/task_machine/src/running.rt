@@ -1,11 +1,10 @@
 //! The state of a run.
 
-ghost use Rattle.std.specs.Prelude.{◌≡◌, suc};
-ghost use Rattle.task_machine.specs.Acts.{Does};
+ghost use Rattle.std.specs.Prelude.{◌≡◌, Some, None, suc};
+ghost use Rattle.task_machine.specs.Acts.{Does, told};
 ghost use Rattle.task_machine.specs.Machine.{at, yields};
-ghost use Rattle.task_machine.specs.declared.outcome.Yield.TheVariants as yield;
-ghost use Rattle.task_machine.specs.declared.outcome.Yield.TheVariants.{MachineFault};
-ghost use Rattle.task_machine.specs.declared.running.Act.TheVariants.{Stop};
+ghost use Rattle.task_machine.specs.declared.running.Act.TheVariants as act;
+ghost use Rattle.task_machine.specs.declared.running.Act.TheVariants.{Broken, Stop};
 
 use crate::frame::Frame;
 use crate::holdings::Holdings;
@@ -21,44 +20,63 @@ pub(crate) struct Running {
     pub(crate) frame: Frame,
     pub(crate) held: Holdings,
     pub(crate) text: Sequence<u8>,
+    /// What the segment yields, where it has stopped to go on later, or has ended.
+    pub(crate) ends: Option<Yield>,
     pub(crate) alloc: Global,
 }
 
 /// What follows an instruction.
-#[derive(Drop)]
+#[derive(Clone, Copy)]
 pub(crate) enum Act {
     /// The next place.
     Next,
     /// Another place.
     Jump(u32),
-    /// The segment ends.
-    Stop(Yield),
+    /// The segment ends since the code does what no compiled program does.
+    Broken,
+    Fault(Fault),
+    /// The segment ends for what the state has in `ends`.
+    Stop,
 }
 
 impl Act {
-    /// The segment ends since the code does what no compiled program does.
+    #[inline(always)]
     pub(crate) fn broken() -> Act
-        ensures { result ≡ Stop MachineFault }
+        ensures { result ≡ Broken }
     {
-        Act::Stop(Yield::MachineFault)
+        Act::Broken
     }
 
     /// The segment ends with a fault.
+    #[inline(always)]
     pub(crate) fn fault(kind: FaultKind, line: u32) -> Act
-        ensures { result ≡ Stop (yield.Fault (record { kind = kind; line = line })) }
+        ensures { result ≡ act.Fault (record { kind = kind; line = line }) }
     {
-        Act::Stop(Yield::Fault(Fault { kind, line }))
+        Act::Fault(Fault { kind, line })
     }
 }
 
 impl Running {
     /// The segment ends at a place, where the frame goes on.
     pub(crate) fn stop_at(&mut self, pc: u32, ends: Yield) -> Act
-        ensures act { result ≡ Stop ends }
-        ensures frame { self.new ≡ record self.old { frame = record self.old.frame { pc = pc } } }
+        ensures act { result ≡ Stop }
+        ensures state { self.new
+            ≡ record self.old { frame = record self.old.frame { pc = pc }; ends = Some ends } }
     {
         self.frame.pc = pc;
-        Act::Stop(ends)
+        self.ends = Some(ends);
+        Act::Stop
+    }
+
+    /// What the segment yields, which is taken out.
+    pub(crate) fn take_ends(&mut self) -> Yield
+        ensures value { result ≡ told self.old.ends }
+        ensures state { self.new ≡ record self.old { ends = None } }
+    {
+        match self.ends.take() {
+            Some(ends) => ends,
+            None => Yield::MachineFault,
+        }
     }
 
     /// The segment ends behind the instruction at a place, and yields something, where the place behind

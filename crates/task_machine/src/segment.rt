@@ -44,6 +44,7 @@ impl Running {
             frame,
             held: Holdings::new(needs, parts),
             text: Sequence::new(alloc),
+            ends: None,
             alloc,
         }
     }
@@ -73,6 +74,7 @@ impl Running {
             frame,
             held,
             text,
+            ends: _ends,
             alloc: _alloc,
         } = self;
         let (needs, parts) = held.into_parts();

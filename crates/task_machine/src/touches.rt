@@ -92,6 +92,7 @@ pub(crate) fn same_width(a: Width, b: Width) -> bool
 }
 
 impl Running {
+    #[inline(never)]
     pub(crate) fn read(
         &mut self,
         pc: u32,
@@ -125,6 +126,7 @@ impl Running {
     }
 
     /// `Write` and `Reduce`, by the mode of the access.
+    #[inline(never)]
     pub(crate) fn set(
         &mut self,
         pc: u32,

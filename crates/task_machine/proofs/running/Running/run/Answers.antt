@@ -1,6 +1,7 @@
 use Rattle.std.proofs.Common.{rules, refl, ap, sym, ◌∙◌, length}
 use Rattle.std.proofs.lemmas.Option.{slice_get_read}
-use Rattle.task_machine.proofs.Coming.{next_goes, jump_goes, stop_ends, last_ends}
+use Rattle.task_machine.proofs.Coming.{next_goes, jump_goes, broken_ends, fault_ends, stop_ends, last_ends}
+use Rattle.task_machine.specs.Acts.{shown_after}
 use Rattle.task_machine.specs.Segments.{after}
 use Rattle.task_machine.proofs.running.Running.run.Goals as goal
 
@@ -42,10 +43,27 @@ loop-line-preserved c =
     (search rules) c.in-Jump.to c.in-Jump.is).same
     ∙ c.loop-line.invariant
 
-pub returns-in-Stop : goal.returns-in-Stop
-returns-in-Stop c =
-    stop_ends c.args.code.now c.args.body.now c.loop-line.self c.act.new.self c.loop-line.pc c.in-Some.line.now
+pub returns-in-Broken : goal.returns-in-Broken
+returns-in-Broken c =
+    broken_ends c.args.code.now c.args.body.now c.loop-line.self c.act.new.self c.loop-line.pc c.in-Some.line.now
     c.in_ok-act.field-0 (search rules)
     (slice_get_read c.args.body.now (length c.args.body.now) c.loop-line.pc c.in-Some.line.now refl (search rules) (search rules))
-    (search rules) c.in-Stop.ends c.in-Stop.is
+    (search rules) c.in-Broken.is
+    ∙ ap after c.loop-line.invariant
+
+pub returns-in-Fault : goal.returns-in-Fault
+returns-in-Fault c =
+    fault_ends c.args.code.now c.args.body.now c.loop-line.self c.act.new.self c.loop-line.pc c.in-Some.line.now
+    c.in_ok-act.field-0 (search rules)
+    (slice_get_read c.args.body.now (length c.args.body.now) c.loop-line.pc c.in-Some.line.now refl (search rules) (search rules))
+    (search rules) c.in-Fault.fault c.in-Fault.is
+    ∙ ap after c.loop-line.invariant
+
+pub returns-in-Stop : goal.returns-in-Stop
+returns-in-Stop c =
+    ap (shown_after c.take_ends.result) c.take_ends.ensures.state
+    ∙ stop_ends c.args.code.now c.args.body.now c.loop-line.self c.act.new.self c.loop-line.pc c.in-Some.line.now
+    c.in_ok-act.field-0 (search rules)
+    (slice_get_read c.args.body.now (length c.args.body.now) c.loop-line.pc c.in-Some.line.now refl (search rules) (search rules))
+    (search rules) c.in-Stop.is c.take_ends.result (search rules)
     ∙ ap after c.loop-line.invariant
