@@ -142,7 +142,7 @@ module _ (code : Code) (turns : ℕ) where
             (twice code t.body (anywhere code t.body i.frame.turns)) t i e p (omega (arith, l, q)) l
             (ends_soon code t.body i.frame.turns (here i) refl)
 
-  -- ---- with two numbers of calls that are enough at a depth
+  -- ---- with two numbers of nested instances that are enough at a depth
 
   runs_same : (b : Bounds) → ((f : Frame) → enough_segments code f ≤ b.segments f) → (m l : ℕ) (i : Instance) →
       0 < m → 0 < l → 64 < i.frame.depth + m → 64 < i.frame.depth + l →
@@ -158,17 +158,17 @@ module _ (code : Code) (turns : ℕ) where
 
 -- the bounds of the definition
 abbrev own_bounds : Code → Bounds
-own_bounds code = record { segments = enough_segments code; calls = 64; spent = λ i. Broke None i.text }
+own_bounds code = record { segments = enough_segments code; nested = 64; spent = λ i. Broke None i.text }
 
 pub instances_run_whole : InstancesRunWhole
 instances_run_whole code turns b i large deep =
-    runs_same code turns b large.segments b.calls 64 i (omega (arith, large.calls)) (omega arith)
-    (omega (arith, deep, large.calls)) (omega (arith, deep))
+    runs_same code turns b large.segments b.nested 64 i (omega (arith, large.nested)) (omega arith)
+    (omega (arith, deep, large.nested)) (omega (arith, deep))
 
 pub called_run_whole : CalledRunWhole
-called_run_whole code turns calls i deep some far =
+called_run_whole code turns left i deep some far =
     let own = own_bounds code in
-    sym (runs_same code turns own (λ f. omega arith) 64 calls i (omega arith) some (omega (arith, deep)) far)
+    sym (runs_same code turns own (λ f. omega arith) 64 left i (omega arith) some (omega (arith, deep)) far)
     ∙ runs_same code turns own (λ f. omega arith) 64 64 i (omega arith) (omega arith)
     (omega (arith, deep)) (omega (arith, deep))
 

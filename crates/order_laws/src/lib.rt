@@ -6,7 +6,7 @@ ghost use Rattle.order_laws.specs.Calls.{depth_has_a_limit, fault_of_child_decid
 ghost use Rattle.order_laws.specs.Roots.{read_sees_reduction, reductions_are_folded, roots_of_child_are_gone, sets_that_leave_break};
 ghost use Rattle.order_laws.specs.Starts.{absent_start_is_void, job_is_started, narrow_start_is_void, needy_start_is_void, wrong_inputs_are_void};
 
-/// The bounds in the definition of the run in order cut no run short: with more segments or more calls
+/// The bounds in the definition of the run in order cut no run short: with more segments or more instances
 /// nested it ends alike, whatever would come where they ran out.
 pub fn runs_are_whole()
     ensures jobs { JobsRunWhole }
