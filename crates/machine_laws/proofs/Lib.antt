@@ -1,3 +1,4 @@
 pub mod Yields
+pub mod Kept
 pub mod Parts
 pub mod Wrapped

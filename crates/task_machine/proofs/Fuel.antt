@@ -31,11 +31,11 @@ module _ (code : Code) (body : List Line) where
     pub few : steps < n
 
   -- the steps with so many turns left: from a turn on, and from any place
-  abbrev behind_turn : ℕ → ℕ
+  abbrev pub behind_turn : ℕ → ℕ
   behind_turn zero = 1
   behind_turn (suc n) = behind_turn n + 2 * length body + 2
 
-  abbrev anywhere : ℕ → ℕ
+  abbrev pub anywhere : ℕ → ℕ
   anywhere n = behind_turn n + 2 * length body + 1
 
   weaker : (m : Machine) (k n : ℕ) → k ≤ n → Bounded m k → Bounded m n
@@ -60,7 +60,7 @@ module _ (code : Code) (body : List Line) where
   }
 
   -- a place with an instruction is in the body
-  inside : (pc : ℕ) (l : Line) → fetch body pc ≡ Some l → pc < length body
+  pub inside : (pc : ℕ) (l : Line) → fetch body pc ≡ Some l → pc < length body
   inside pc l e = ⊎_elim
       (λ h. slice_get_within body pc l (sym (ap (λ b. elim b [ true ↦ slice_get body pc | false ↦ None ]) (lt-ltb pc (2 ^ 32) h)) ∙ e))
       (λ h. absurd (none-some l (sym (ap (λ b. elim b [ true ↦ slice_get body pc | false ↦ None ]) (le-ltb pc (2 ^ 32) h)) ∙ e)))
@@ -86,7 +86,7 @@ module _ (code : Code) (body : List Line) where
   by_head : (n d from : ℕ) (j : Machine) (s : Stepped) → step code body j ≡ s → Head from j.frame s →
       j.frame.turns ≡ n → length body ≤ from + suc d → Further n d → Afterwards n →
       Bounded j (behind_turn n + 2 * d + 2)
-  by_head n d from j _ e (head_stops y m) t l further after = now j m _ y (omega arith) e
+  by_head n d from j _ e (head_stops y m o) t l further after = now j m _ y (omega arith) e
   by_head n d from j _ e (head_turns m q) t l further after = turn_bounded n d j m e (q ∙ t) after
   by_head n d from j _ e (head_leaves m q far) t l further after =
       weaker j (suc (behind_turn n + 2 * d + 1)) _ (omega arith)
@@ -148,7 +148,7 @@ module _ (code : Code) (body : List Line) where
       subst (λ m. Bounded j (anywhere m)) (sym same) (stops_soon n j (r ∙ same))) i t (omega arith)
 
   -- the bound is the fuel of a segment
-  enough_is : (n : ℕ) → anywhere n ≡ 2 * (n + 1) * (length body + 1)
+  pub enough_is : (n : ℕ) → anywhere n ≡ 2 * (n + 1) * (length body + 1)
   enough_is zero = omega arith
   enough_is (suc n) =
       let a = length body + 1 in

@@ -1,0 +1,6 @@
+pub mod Waits
+pub mod Rounds
+pub mod Ends
+pub mod Resuming
+pub mod Whole
+pub mod Computed

@@ -1,0 +1,5 @@
+pub mod Bounds
+pub mod Words
+pub mod Starts
+pub mod Calls
+pub mod Roots
