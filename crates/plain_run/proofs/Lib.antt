@@ -1,2 +1,5 @@
+mod Calling
 mod Gathering
+mod Needing
+mod Stopping
 mod Walking

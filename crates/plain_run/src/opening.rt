@@ -67,8 +67,12 @@ fn add_region(
 }
 
 /// Adds the needs of the first fields of a new root. A field above the 256th counts as a want of memory.
-pub fn add_root_needs(needs: &mut Vec<Need>, root: RootId, fields: usize) -> Result<(), AllocError>
-    ensures { OnOk result (needs.new.items ≡ needs.old.items ++ root_needs root.0 fields) }
+pub fn add_root_needs(
+    needs: &mut Sequence<Need>,
+    root: RootId,
+    fields: usize,
+) -> Result<(), AllocError>
+    ensures { OnOk result (needs.new ≡ needs.old ++ root_needs root.0 fields) }
 {
     for field in 0..fields {
         let field = u8::try_from(field).map_err(|_| AllocError)?;

@@ -3,4 +3,4 @@ use Rattle.task_machine.specs.Makes.{root_needs}
 use Rattle.plain_run.proofs.opening.add_root_needs.Given as goal
 
 abbrev pub invariant-loop-field : goal.invariant-loop-field
-invariant-loop-field l = l.needs.items ≡ l.initial.needs.items ++ root_needs l.root.0 l.field
+invariant-loop-field l = l.needs ≡ l.initial.needs ++ root_needs l.root.0 l.field

@@ -1,0 +1,6 @@
+use Rattle.std.proofs.Common.{◌≡◌, ◌++◌, pos, replicate}
+use Rattle.task_machine.specs.declared.value.Value.TheVariants.{Number}
+use Rattle.plain_run.proofs.frames.add_zeros.Given as goal
+
+abbrev pub invariant-loop-place : goal.invariant-loop-place
+invariant-loop-place l = l.slots ≡ l.initial.slots ++ replicate l._place (Number (pos 0))

@@ -1,0 +1,7 @@
+use Rattle.std.proofs.Common.{◌≡◌, ◌++◌, drop, map}
+use Rattle.task_machine.specs.declared.value.Value.TheVariants.{Number}
+use Rattle.plain_run.proofs.outcomes.numbers.Given as goal
+
+abbrev pub invariant-loop-input : goal.invariant-loop-input
+invariant-loop-input l = l.values.items ++ map Number (drop l.input-index l.inputs)
+    ≡ map Number l.inputs
