@@ -1,5 +1,7 @@
 //! Segments of code by hand, with memory at hand.
 
+ghost use Rattle.std.specs.Prelude.{◌<◌};
+
 use crate::{
     After, Before, Frame, PartitionValue, RegionValue, Stack, Value, Yield, run, run_segment,
 };
@@ -18,11 +20,13 @@ const ROOT: RootId = RootId(0);
 const NODE: Node = Node(0);
 
 /// The instructions, on the lines from 1.
-fn lines<const N: usize>(alloc: Global, body: [Instr; N]) -> Result<Sequence<Line>, AllocError> {
+fn lines<const N: usize>(alloc: Global, body: [Instr; N]) -> Result<Sequence<Line>, AllocError>
+    requires { N < 1000 }
+{
     let mut lines = Sequence::new(alloc);
-    let mut line = 0;
+    let mut line: u32 = 0;
     for instr in body {
-        line += 1;
+        line = line.saturating_add(1);
         lines.push(Line { instr, line })?;
     }
     Ok(lines)
@@ -114,11 +118,9 @@ fn part(alloc: Global) -> Result<Part, AllocError> {
 }
 
 /// What a body leaves, on the part.
-fn left_by<const N: usize>(
-    alloc: Global,
-    turns: u64,
-    body: [Instr; N],
-) -> Result<After, AllocError> {
+fn left_by<const N: usize>(alloc: Global, turns: u64, body: [Instr; N]) -> Result<After, AllocError>
+    requires { N < 1000 }
+{
     let mut parts = Sequence::new(alloc);
     parts.push(part(alloc)?)?;
     let code = code(alloc, 5, lines(alloc, body)?)?;

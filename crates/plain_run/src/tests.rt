@@ -1,0 +1,175 @@
+//! Jobs by hand, with memory at hand.
+
+ghost use Rattle.std.specs.Prelude.{◌<◌};
+
+use crate::run_in_order;
+use lane_kernels::{FieldKind, Mode, Width};
+use plain_values::{Sequence, Shared};
+use regent_tree::{Ending, Outcome, RootImage};
+use std::alloc::{AllocError, Global};
+use std::test::Fail;
+use task_code::{Code, FieldCode, Instr, Job, Line, NeedCode, PrintPart, SpaceCode, TaskCode};
+
+/// The instructions, on the lines from 1.
+fn lines<const N: usize>(alloc: Global, body: [Instr; N]) -> Result<Sequence<Line>, AllocError>
+    requires { N < 1000 }
+{
+    let mut lines = Sequence::new(alloc);
+    let mut line: u32 = 0;
+    for instr in body {
+        line = line.saturating_add(1);
+        lines.push(Line { instr, line })?;
+    }
+    Ok(lines)
+}
+
+/// A task with this body, and with two slots.
+fn task(
+    alloc: Global,
+    params: u8,
+    needs: &[NeedCode],
+    body: Sequence<Line>,
+) -> Result<TaskCode, AllocError> {
+    Ok(TaskCode {
+        params,
+        result: false,
+        needs: Sequence::from_slice(alloc, needs)?,
+        slots: 2,
+        body,
+    })
+}
+
+/// What a job of these tasks and one field space, of a field of 64 bits, comes to.
+fn outcome_of(
+    alloc: Global,
+    tasks: Sequence<TaskCode>,
+    inputs: &[i64],
+) -> Result<Outcome, AllocError> {
+    let mut fields = Sequence::new(alloc);
+    fields.push(FieldCode {
+        name: Sequence::from_slice(alloc, b"x")?,
+        kind: FieldKind::Int64,
+    })?;
+    let mut spaces = Sequence::new(alloc);
+    spaces.push(SpaceCode {
+        name: Sequence::from_slice(alloc, b"f")?,
+        fields,
+    })?;
+    let code = Code {
+        tasks,
+        spaces,
+        start: 0,
+    };
+    let job = Job {
+        code: Shared::new(alloc, code)?,
+        inputs: Sequence::from_slice(alloc, inputs)?,
+        turns: 10,
+    };
+    run_in_order(alloc, &job)
+}
+
+/// Pops a number and prints it on a line of its own.
+fn print(alloc: Global) -> Result<Instr, AllocError> {
+    let mut parts = Sequence::new(alloc);
+    parts.push(PrintPart::Number)?;
+    parts.push(PrintPart::Text(Sequence::from_slice(alloc, b"\n")?))?;
+    Ok(Instr::Print(parts))
+}
+
+/// The region of the first slot.
+fn first(alloc: Global) -> Result<Sequence<u32>, AllocError> {
+    Sequence::from_slice(alloc, &[0])
+}
+
+const WRITING: NeedCode = NeedCode {
+    param: 0,
+    field: 0,
+    mode: Mode::Write,
+};
+
+/// A task that makes a root of three points and calls the next task with it; then it prints what stands
+/// at point 1.
+fn caller(alloc: Global) -> Result<TaskCode, AllocError> {
+    let body = lines(
+        alloc,
+        [
+            Instr::Num(3),
+            Instr::Space,
+            Instr::NewRoot(0),
+            Instr::Store(0),
+            Instr::Load(0),
+            Instr::Call(1, 1),
+            Instr::Drop,
+            Instr::Num(1),
+            Instr::At(0),
+            Instr::Read(first(alloc)?, 0),
+            print(alloc)?,
+            Instr::Return,
+        ],
+    )?;
+    task(alloc, 0, &[], body)
+}
+
+/// A task that writes 7 at point 1 of the region that it is given.
+fn writer(alloc: Global) -> Result<TaskCode, AllocError> {
+    let body = lines(
+        alloc,
+        [
+            Instr::Num(7),
+            Instr::Num(1),
+            Instr::At(0),
+            Instr::Write(first(alloc)?, 0, Width::W64),
+            Instr::Return,
+        ],
+    )?;
+    task(alloc, 1, &[WRITING], body)
+}
+
+/// A task without a statement.
+fn only_task(alloc: Global) -> Result<Sequence<TaskCode>, AllocError> {
+    let body = lines(alloc, [Instr::Return])?;
+    let mut tasks = Sequence::new(alloc);
+    tasks.push(task(alloc, 0, &[], body)?)?;
+    Ok(tasks)
+}
+
+/// A task without a statement is finished, with no text and no roots.
+#[test]
+fn empty_task(rt: HostRuntime) -> Result<(), Fail> {
+    let alloc = rt.alloc();
+    let outcome = outcome_of(alloc, only_task(alloc)?, &[])?;
+    assert_eq!(rt; outcome.text.len(), 0);
+    assert_eq!(rt; outcome.ending, Ending::Finished(Sequence::new(alloc)));
+    Ok(())
+}
+
+/// A job that has an input for no parameter is void.
+#[test]
+fn void_job(rt: HostRuntime) -> Result<(), Fail> {
+    let alloc = rt.alloc();
+    let outcome = outcome_of(alloc, only_task(alloc)?, &[4])?;
+    assert_eq!(rt; outcome.text.len(), 0);
+    assert_eq!(rt; outcome.ending, Ending::Broken);
+    Ok(())
+}
+
+/// What a called task wrote stands in the root behind the call.
+#[test]
+fn called_task_writes(rt: HostRuntime) -> Result<(), Fail> {
+    let alloc = rt.alloc();
+    let mut tasks = Sequence::new(alloc);
+    tasks.push(caller(alloc)?)?;
+    tasks.push(writer(alloc)?)?;
+    let outcome = outcome_of(alloc, tasks, &[])?;
+    assert!(rt; *outcome.text.as_slice() == *b"7\n".as_slice());
+    let mut fields = Sequence::new(alloc);
+    fields.push(Sequence::from_slice(alloc, &[0, 7, 0])?)?;
+    let mut roots = Sequence::new(alloc);
+    roots.push(RootImage {
+        space: 0,
+        count: 3,
+        fields,
+    })?;
+    assert_eq!(rt; outcome.ending, Ending::Finished(roots));
+    Ok(())
+}
