@@ -14,10 +14,10 @@ use Rattle.regent_tree.specs.Accesses.{space_in, args_in}
 use Rattle.regent_tree.specs.Execution.{before_last, last_field}
 use Rattle.task_code.specs.declared.instr.Instr.{Instr}
 use Rattle.task_code.specs.declared.instr.Instr.TheVariants as instr
-use Rattle.code_gen.specs.Pieces.{Piece, empty, ◌⨟◌, over}
-use Rattle.code_gen.specs.Slots.{Where, typed, spare, bound, slot_named, slots_of, own_slot}
-use Rattle.code_gen.specs.Instructions.{one, converted_code, slot_after}
-use Rattle.code_gen.specs.Expressions.{expr_code}
+use Rattle.code_rules.specs.Pieces.{Piece, empty, ◌⨟◌, over}
+use Rattle.code_rules.specs.Slots.{Where, typed, spare, bound, slot_named, slots_of, own_slot}
+use Rattle.code_rules.specs.Instructions.{one, converted_code, slot_after}
+use Rattle.code_rules.specs.Expressions.{expr_code}
 
 -- the slot of the region into which a pointer goes, after these steps
 abbrev pub slot_behind : Where → ℕ → StaticType → ℕ → Steps → ℕ

@@ -11,9 +11,9 @@ use Rattle.regent_tree.specs.Typing.{operated, type_of_field, type_of_element, p
 use Rattle.regent_tree.specs.Evaluation.{first_type, other_types}
 use Rattle.regent_tree.specs.Operators.{compares_pointers}
 use Rattle.task_code.specs.declared.instr.Instr.TheVariants as instr
-use Rattle.code_gen.specs.Pieces.{Piece, empty, ◌⨟◌, over}
-use Rattle.code_gen.specs.Slots.{Where, typed, spare, bound, slot_named, own_slot}
-use Rattle.code_gen.specs.Instructions.{place_of_task, one, standing_code, operand_code, converted_code, operating, signs_code, as_number_code, cast_code, field_code, element_code, kept_code, slot_after, load_code}
+use Rattle.code_rules.specs.Pieces.{Piece, empty, ◌⨟◌, over}
+use Rattle.code_rules.specs.Slots.{Where, typed, spare, bound, slot_named, own_slot}
+use Rattle.code_rules.specs.Instructions.{place_of_task, one, standing_code, operand_code, converted_code, operating, signs_code, as_number_code, cast_code, field_code, element_code, kept_code, slot_after, load_code}
 
 abbrev pub count : Expressions → ℕ
 count no_expr = 0

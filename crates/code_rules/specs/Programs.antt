@@ -11,12 +11,12 @@ use Rattle.task_code.specs.declared.code.Line.{Line}
 use Rattle.task_code.specs.declared.code.SpaceCode.{SpaceCode}
 use Rattle.task_code.specs.declared.code.TaskCode.{TaskCode}
 use Rattle.task_code.specs.declared.instr.Instr.TheVariants as instr
-use Rattle.code_gen.specs.Pieces.{Piece, op, ◌⨟◌, lines}
-use Rattle.code_gen.specs.Instructions.{tasks_of, place_of_task}
-use Rattle.code_gen.specs.Statements.{block_code}
-use Rattle.code_gen.specs.Slots.{Where}
-use Rattle.code_gen.specs.Needs.{needs_of_clauses}
-use Rattle.code_gen.specs.Used.{slots_of_lines}
+use Rattle.code_rules.specs.Pieces.{Piece, op, ◌⨟◌, lines}
+use Rattle.code_rules.specs.Instructions.{tasks_of, place_of_task}
+use Rattle.code_rules.specs.Statements.{block_code}
+use Rattle.code_rules.specs.Slots.{Where}
+use Rattle.code_rules.specs.Needs.{needs_of_clauses}
+use Rattle.code_rules.specs.Used.{slots_of_lines}
 
 abbrev pub place_of : Tree → TaskTree → Where
 place_of tree t = record {

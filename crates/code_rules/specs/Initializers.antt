@@ -11,10 +11,10 @@ use Rattle.regent_tree.specs.StaticTypes.{Reach, field_place, place_of_space}
 use Rattle.regent_tree.specs.Typing.{parent_of, reaches_of, is_pointer}
 use Rattle.regent_tree.specs.Accesses.{space_in}
 use Rattle.task_code.specs.declared.instr.Instr.TheVariants as instr
-use Rattle.code_gen.specs.Pieces.{Piece, empty, ◌⨟◌}
-use Rattle.code_gen.specs.Slots.{Where, typed, beside, bound, slot_named, slot_bound}
-use Rattle.code_gen.specs.Instructions.{one, converted_code}
-use Rattle.code_gen.specs.Expressions.{expr_code}
+use Rattle.code_rules.specs.Pieces.{Piece, empty, ◌⨟◌}
+use Rattle.code_rules.specs.Slots.{Where, typed, beside, bound, slot_named, slot_bound}
+use Rattle.code_rules.specs.Instructions.{one, converted_code}
+use Rattle.code_rules.specs.Expressions.{expr_code}
 
 -- where the next name is bound
 abbrev pub new_place : Where → ℕ

@@ -9,3 +9,5 @@ pub mod Statements
 pub mod Needs
 pub mod Used
 pub mod Programs
+pub mod Emitted
+pub mod Laws

@@ -6,13 +6,13 @@ use Rattle.regent_tree.specs.StaticTypes.{task_named}
 use Rattle.regent_tree.specs.Scopes.{with_name, past as past_scope}
 use Rattle.regent_tree.specs.Typing.{arithmetic_type, params_at, var_type, scope_after, scope_after_block, scope_after_arms, taken_from, is_pointer}
 use Rattle.task_code.specs.declared.instr.Instr.TheVariants as instr
-use Rattle.code_gen.specs.Pieces.{Piece, empty, ◌⨟◌, branch, loop, rounds}
-use Rattle.code_gen.specs.Slots.{Where, typed, slot, counter, beside, spare, bound, slot_named}
-use Rattle.code_gen.specs.Instructions.{place_of_task, one, converted_code}
-use Rattle.code_gen.specs.Expressions.{expr_code, exprs_code, count}
-use Rattle.code_gen.specs.Initializers.{new_place, initializer_code}
-use Rattle.code_gen.specs.Assignments.{right_code, target_code, fill_code}
-use Rattle.code_gen.specs.Prints.{parts_of}
+use Rattle.code_rules.specs.Pieces.{Piece, empty, ◌⨟◌, branch, loop, rounds}
+use Rattle.code_rules.specs.Slots.{Where, typed, slot, counter, beside, spare, bound, slot_named}
+use Rattle.code_rules.specs.Instructions.{place_of_task, one, converted_code}
+use Rattle.code_rules.specs.Expressions.{expr_code, exprs_code, count}
+use Rattle.code_rules.specs.Initializers.{new_place, initializer_code}
+use Rattle.code_rules.specs.Assignments.{right_code, target_code, fill_code}
+use Rattle.code_rules.specs.Prints.{parts_of}
 
 abbrev pub on_line : Where → ℕ → Where
 on_line w line = record w { line = line }

@@ -23,8 +23,8 @@ use Rattle.regent_tree.specs.Typing.{operated, are_pointers, reaches_of, positio
 use Rattle.regent_tree.specs.Accesses.{space_in}
 use Rattle.task_code.specs.declared.instr.Instr.{Instr}
 use Rattle.task_code.specs.declared.instr.Instr.TheVariants as instr
-use Rattle.code_gen.specs.Pieces.{Piece, empty, op, ◌⨟◌}
-use Rattle.code_gen.specs.Slots.{Where, slots_of, spare, stays}
+use Rattle.code_rules.specs.Pieces.{Piece, empty, op, ◌⨟◌}
+use Rattle.code_rules.specs.Slots.{Where, slots_of, spare, stays}
 
 abbrev pub tasks_of : Tree → List TaskTree
 tasks_of [] = []
