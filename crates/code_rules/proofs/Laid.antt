@@ -21,7 +21,7 @@ replaced [] x y rest = refl
 replaced (z ∷ b) x y rest = ap (λ (ls : List Line). z ∷ ls) (replaced b x y rest)
 
 -- the place behind a piece is as many places further as it has instructions
-reaches : (p : Piece) (pc : ℕ) → past p pc ≡ pc + length (lines p pc)
+pub reaches : (p : Piece) (pc : ℕ) → past p pc ≡ pc + length (lines p pc)
 reaches empty pc = omega arith
 reaches (op i line) pc = omega arith
 reaches (a ⨟ b) pc =
