@@ -1,0 +1,5 @@
+pub mod Bodies
+pub mod ExpressionSizes
+pub mod Laid
+pub mod Sizes
+pub mod StatementSizes

@@ -1,0 +1,13 @@
+pub mod Pieces
+pub mod Slots
+pub mod Instructions
+pub mod Expressions
+pub mod Initializers
+pub mod Assignments
+pub mod Prints
+pub mod Statements
+pub mod Needs
+pub mod Used
+pub mod Programs
+pub mod Emitted
+pub mod Laws

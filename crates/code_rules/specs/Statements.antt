@@ -1,0 +1,81 @@
+-- The code of statements. Nothing is left on the stack.
+use Rattle.std.specs.Prelude.{ℕ, pos, [], true, Some, None}
+use Rattle.regent_tree.specs.declared.typing.StaticType.{StaticType}
+use Rattle.regent_tree.specs.Syntax.{Name, a_statement, Form, var_form, if_form, while_form, for_in_form, for_to_form, do_form, fill_form, assert_form, print_form, call_form, assign_form, return_form, Block, no_statement, then_statement, Arms, no_arm, an_arm, Otherwise, no_else, else_block}
+use Rattle.regent_tree.specs.StaticTypes.{task_named}
+use Rattle.regent_tree.specs.Scopes.{with_name, past as past_scope}
+use Rattle.regent_tree.specs.Typing.{arithmetic_type, params_at, var_type, scope_after, scope_after_block, scope_after_arms, taken_from, is_pointer}
+use Rattle.task_code.specs.declared.instr.Instr.TheVariants as instr
+use Rattle.code_rules.specs.Pieces.{Piece, empty, ◌⨟◌, branch, loop, rounds}
+use Rattle.code_rules.specs.Slots.{Where, typed, slot, counter, beside, spare, bound, slot_named}
+use Rattle.code_rules.specs.Instructions.{place_of_task, one, converted_code}
+use Rattle.code_rules.specs.Expressions.{expr_code, exprs_code, count}
+use Rattle.code_rules.specs.Initializers.{new_place, initializer_code}
+use Rattle.code_rules.specs.Assignments.{right_code, target_code, fill_code}
+use Rattle.code_rules.specs.Prints.{parts_of}
+
+abbrev pub on_line : Where → ℕ → Where
+on_line w line = record w { line = line }
+
+abbrev pub looping : Where → Name → StaticType → Where
+looping w n t = record w { scope = with_name w.scope n t true }
+
+abbrev pub after_form : Where → Form → Where
+after_form w form = record w { scope = scope_after w.tree w.scope form }
+
+abbrev pub after_arm : Where → Block → Where
+after_arm w body = record w { scope = past_scope w.scope (scope_after_block w.tree w.scope body) }
+
+abbrev pub after_arms : Where → Arms → Where
+after_arms w arms = record w { scope = scope_after_arms w.tree w.scope arms }
+
+abbrev mutual
+  pub form_code : Where → Form → Piece
+  form_code w (var_form n term initializer) =
+      initializer_code w term (var_type w.tree w.scope term initializer) initializer
+      ⨟ one w (instr.Store (slot w (new_place w)))
+  form_code w (if_form arms other) = arms_code w w arms (else_code (after_arms w arms) other)
+  form_code w (while_form test body) =
+      loop w.line (expr_code w 0 test) (block_code w body)
+  form_code w (for_in_form demanded n domain body) =
+      let t = taken_from (typed w domain) in
+      expr_code w 0 domain ⨟ one w (instr.Store (beside w (new_place w)))
+      ⨟ one w (instr.Num (pos 0)) ⨟ one w (instr.Store (counter w (new_place w)))
+      ⨟ rounds (instr.NextPoint (beside w (new_place w)) (counter w (new_place w))
+      (slot w (new_place w)) (is_pointer t)) w.line (block_code (looping w n t) body)
+  form_code w (for_to_form demanded n from to body) =
+      let t = arithmetic_type (typed w from) (typed w to) in
+      expr_code w 0 from ⨟ expr_code w 0 to
+      ⨟ one w (instr.Store (beside w (new_place w))) ⨟ one w (instr.Store (counter w (new_place w)))
+      ⨟ rounds (instr.NextNumber (counter w (new_place w)) (beside w (new_place w))
+      (slot w (new_place w))) w.line (block_code (looping w n t) body)
+  form_code w (do_form body) = block_code w body
+  form_code w (fill_form r fields e) =
+      expr_code w 0 e ⨟ one w (instr.Store (spare w 0))
+      ⨟ fill_code w (typed w e) (bound w r).static_type (slot_named w r) fields
+  form_code w (assert_form e) = expr_code w 0 e ⨟ one w instr.Assert
+  form_code w (print_form alias format args) =
+      exprs_code w 0 [] args ⨟ one w (instr.Print (parts_of [] format))
+  form_code w (call_form task args) =
+      exprs_code w 0 (params_at w.tree w.scope (task_named w.tree task) args) args
+      ⨟ one w (instr.Call (place_of_task w.tree task) (count args)) ⨟ one w instr.Drop
+  form_code w (assign_form n steps h e) =
+      right_code w n steps h e ⨟ target_code w n steps h
+  form_code w (return_form None) = one w instr.Return
+  form_code w (return_form (Some e)) =
+      expr_code w 0 e ⨟ converted_code w (typed w e) w.result ⨟ one w instr.ReturnValue
+
+  -- each test stands in the scope of the `if` itself, and a block behind the arms before it
+  pub arms_code : Where → Where → Arms → Piece → Piece
+  arms_code own w no_arm other = other
+  arms_code own w (an_arm test body rest) other = expr_code own 0 test
+      ⨟ branch w.line (block_code w body) (arms_code own (after_arm w body) rest other)
+
+  pub else_code : Where → Otherwise → Piece
+  else_code w no_else = empty
+  else_code w (else_block body) = block_code w body
+
+  pub block_code : Where → Block → Piece
+  block_code w no_statement = empty
+  block_code w (then_statement (a_statement line form) rest) =
+      form_code (on_line w line) form ⨟ block_code (after_form w form) rest
