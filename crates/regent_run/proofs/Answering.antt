@@ -5,33 +5,34 @@ use Rattle.run_io.specs.Source.{next_left}
 use Rattle.regent_run.specs.declared.verdict.Verdict.{Verdict}
 use Rattle.regent_run.specs.declared.verdict.Verdict.TheVariants as verdict
 use Rattle.regent_run.specs.Answers.{IsAnswered, IsBegunOnce, IsNotBegun, IsOfText, IsReadWhole, Takes, UnlessStopped}
-use Rattle.regent_run.specs.Begins.{Begins, IsBegunBy}
+use Rattle.regent_run.specs.Begins.{Begins, BeginsNamed}
 use Rattle.regent_run.specs.Calls.{Call}
 use Rattle.regent_run.specs.Programs.{OfNextText}
 use Rattle.regent_run.specs.Reading.{IsSteady, ReadsToEnd}
 use Rattle.regent_run.specs.Verdicts.{IsDelivered, Says, status_of}
-use Rattle.regent_run.specs.Words.{Command, command}
+use Rattle.regent_run.specs.Words.{Request, request}
 use Rattle.regent_run.proofs.Coming.{comes_to, complete_at}
 use Rattle.regent_run.proofs.Writing.{ends_as, prints_or_tells, sure_as, written}
 
 -- words that are refused name nothing
-none_named : {X : Type 0} (words : List (List ℕ)) (named : Command) → command words ≡ Some named → command words ≡ None → X
-none_named words named is none = let e : None ≡ Some named = sym none ∙ is in absurd cc
+none_named : {X : Type 0} (asked : Option Request) (named : Request) → asked ≡ Some named → asked ≡ None → X
+none_named asked named is none = let e : None ≡ Some named = sym none ∙ is in absurd cc
 
-refused : (words : List (List ℕ)) (later : Option (List (List ℕ))) (before now : ℕ) (v : Verdict) → Says words later before now v → command words ≡ None → status_of v ≡ 2
-refused words later before now verdict.Usage said none = refl
-refused words later before now verdict.Unread said none = none_named words said.0 said.1 none
-refused words later before now verdict.NoMemory said none = none_named words said.0 said.1 none
-refused words later before now (verdict.NoProgram message) said none = none_named words said.0 said.1 none
-refused words later before now (verdict.PastLimit passed) said none = none_named words said.0 said.1 none
-refused words later before now (verdict.Refused message) said none = none_named words said.0 said.1 none
-refused words later before now verdict.NotBuilt said none = none_named words said.0 said.1 none
-refused words later before now verdict.OtherInputs said none = none_named words said.0 said.1 none
-refused words later before now (verdict.Finished text) said none = none_named words said.0 said.1 none
-refused words later before now verdict.Accepted said none = none_named words said.0 said.1 none
+refused : (asked : Option Request) (later : Option (List (List ℕ))) (before now : ℕ) (v : Verdict) → Says asked later before now v → asked ≡ None → (status_of v ≡ 2) ⊎ (status_of v ≡ 7)
+refused asked later before now verdict.Usage said none = inl refl
+refused asked later before now verdict.Unread said none = none_named asked said.0 said.1 none
+refused asked later before now verdict.NoMemory said none = inr refl
+refused asked later before now (verdict.NoProgram message) said none = none_named asked said.0 said.1 none
+refused asked later before now (verdict.PastLimit passed) said none = none_named asked said.0 said.1 none
+refused asked later before now (verdict.Refused message) said none = none_named asked said.0 said.1 none
+refused asked later before now verdict.NotBuilt said none = none_named asked said.0 said.1 none
+refused asked later before now verdict.OtherInputs said none = none_named asked said.0 said.1 none
+refused asked later before now (verdict.Finished text traces) said none = none_named asked said.0 said.1 none
+refused asked later before now verdict.Accepted said none = none_named asked said.0 said.1 none
 
-stopped_or_two : (call : Call) (v : Verdict) (answer : ℕ) → IsDelivered v answer call.out call.err → status_of v ≡ 2 → UnlessStopped 2 answer
-stopped_or_two call v answer (inl w) two = inl (w.status ∙ two)
+stopped_or_two : (call : Call) (v : Verdict) (answer : ℕ) → IsDelivered v answer call.out call.err → (status_of v ≡ 2) ⊎ (status_of v ≡ 7) → UnlessStopped 2 answer
+stopped_or_two call v answer (inl w) (inl two) = inl (w.status ∙ two)
+stopped_or_two call v answer (inl w) (inr seven) = inr (inl (w.status ∙ seven))
 stopped_or_two call v answer (inr (inl o)) two = inr (inr o.status)
 stopped_or_two call v answer (inr (inr e)) two = inr (inr e.status)
 
@@ -45,46 +46,51 @@ steady_source before now (verdict.PastLimit passed) h isnt = h
 steady_source before now (verdict.Refused message) h isnt = h
 steady_source before now verdict.NotBuilt h isnt = h
 steady_source before now verdict.OtherInputs h isnt = h
-steady_source before now (verdict.Finished text) h isnt = h
+steady_source before now (verdict.Finished text traces) h isnt = h
 steady_source before now verdict.Accepted h isnt = h
 
 -- ---- what was read
 
 abbrev BeginsIn : Call → Verdict → Type 0
-BeginsIn call v = Begins call.words call.source.begins call.source.begins_now call.source.names call.source.names_now v
+BeginsIn call v = Begins (request call.words) call.source.begins call.source.begins_now call.source.names call.source.names_now v
 
 abbrev EndsIn : Call → Verdict → Type 0
 EndsIn call v = ReadsToEnd (option_map next_left call.source.later) call.source.left_now v
 
-maybe_begun : (call : Call) (named : Command) → command call.words ≡ Some named →
-    IsNotBegun call ⊎ IsBegunBy named.file call.source.begins call.source.begins_now call.source.names call.source.names_now → IsNotBegun call ⊎ IsBegunOnce call
-maybe_begun call named is (inl u) = inl u
-maybe_begun call named is (inr b) = inr (record { named = named; words_name = is; begun = b })
+abbrev BeginsAsked : Call → Type 0
+BeginsAsked call = BeginsNamed (request call.words) call.source.begins call.source.begins_now call.source.names call.source.names_now
+
+begun_once : (call : Call) → BeginsAsked call → IsBegunOnce call
+begun_once call h = record { named = h.named; words_name = h.is_asked; begun = h.begun }
+
+maybe_begun : (call : Call) → IsNotBegun call ⊎ BeginsAsked call → IsNotBegun call ⊎ IsBegunOnce call
+maybe_begun call (inl u) = inl u
+maybe_begun call (inr b) = inr (begun_once call b)
 
 -- a text that was read was begun
 begun_as : (call : Call) (v : Verdict) → BeginsIn call v → IsOfText (status_of v) → IsBegunOnce call
 begun_as call verdict.Usage h is = absurd (is.0 refl)
 begun_as call verdict.Unread h is = absurd (is.1 refl)
 begun_as call verdict.NoMemory h is = absurd (is.3 refl)
-begun_as call (verdict.NoProgram message) h is = record { named = h.named; words_name = h.words_name; begun = h.begun }
-begun_as call (verdict.PastLimit passed) h is = record { named = h.named; words_name = h.words_name; begun = h.begun }
-begun_as call (verdict.Refused message) h is = record { named = h.named; words_name = h.words_name; begun = h.begun }
-begun_as call verdict.NotBuilt h is = record { named = h.named; words_name = h.words_name; begun = h.begun }
-begun_as call verdict.OtherInputs h is = record { named = h.named; words_name = h.words_name; begun = h.begun }
-begun_as call (verdict.Finished text) h is = record { named = h.named; words_name = h.words_name; begun = h.begun }
-begun_as call verdict.Accepted h is = record { named = h.named; words_name = h.words_name; begun = h.begun }
+begun_as call (verdict.NoProgram message) h is = begun_once call h
+begun_as call (verdict.PastLimit passed) h is = begun_once call h
+begun_as call (verdict.Refused message) h is = begun_once call h
+begun_as call verdict.NotBuilt h is = begun_once call h
+begun_as call verdict.OtherInputs h is = begun_once call h
+begun_as call (verdict.Finished text traces) h is = begun_once call h
+begun_as call verdict.Accepted h is = begun_once call h
 
 begins_as : (call : Call) (v : Verdict) → BeginsIn call v → IsNotBegun call ⊎ IsBegunOnce call
 begins_as call verdict.Usage h = inl h
-begins_as call verdict.Unread h = inr (record { named = h.named; words_name = h.words_name; begun = h.begun })
-begins_as call verdict.NoMemory h = maybe_begun call h.named h.words_name h.begun
-begins_as call (verdict.NoProgram message) h = inr (record { named = h.named; words_name = h.words_name; begun = h.begun })
-begins_as call (verdict.PastLimit passed) h = inr (record { named = h.named; words_name = h.words_name; begun = h.begun })
-begins_as call (verdict.Refused message) h = inr (record { named = h.named; words_name = h.words_name; begun = h.begun })
-begins_as call verdict.NotBuilt h = inr (record { named = h.named; words_name = h.words_name; begun = h.begun })
-begins_as call verdict.OtherInputs h = inr (record { named = h.named; words_name = h.words_name; begun = h.begun })
-begins_as call (verdict.Finished text) h = inr (record { named = h.named; words_name = h.words_name; begun = h.begun })
-begins_as call verdict.Accepted h = inr (record { named = h.named; words_name = h.words_name; begun = h.begun })
+begins_as call verdict.Unread h = inr (begun_once call h)
+begins_as call verdict.NoMemory h = maybe_begun call h
+begins_as call (verdict.NoProgram message) h = inr (begun_once call h)
+begins_as call (verdict.PastLimit passed) h = inr (begun_once call h)
+begins_as call (verdict.Refused message) h = inr (begun_once call h)
+begins_as call verdict.NotBuilt h = inr (begun_once call h)
+begins_as call verdict.OtherInputs h = inr (begun_once call h)
+begins_as call (verdict.Finished text traces) h = inr (begun_once call h)
+begins_as call verdict.Accepted h = inr (begun_once call h)
 
 -- a text that isn't too long was read to its end
 next_read : (later : Option (List (List ℕ))) (now : Option (List ℕ)) → IfSome (option_map next_left later) (λ text. length text ≤ 1048576 → IfSome now (λ left. left ≡ [])) →
@@ -101,7 +107,7 @@ whole_as call (verdict.PastLimit passed) h is = next_read call.source.later call
 whole_as call (verdict.Refused message) h is = next_read call.source.later call.source.left_now h
 whole_as call verdict.NotBuilt h is = next_read call.source.later call.source.left_now h
 whole_as call verdict.OtherInputs h is = next_read call.source.later call.source.left_now h
-whole_as call (verdict.Finished text) h is = next_read call.source.later call.source.left_now h
+whole_as call (verdict.Finished text traces) h is = next_read call.source.later call.source.left_now h
 whole_as call verdict.Accepted h is = next_read call.source.later call.source.left_now h
 
 -- ---- the whole
@@ -110,12 +116,12 @@ whole_as call verdict.Accepted h is = next_read call.source.later call.source.le
 of_text : (call : Call) (v : Verdict) (answer : ℕ) → IsDelivered v answer call.out call.err → IsOfText answer → IsOfText (status_of v)
 of_text call v answer d is = subst (λ (n : ℕ). IsOfText n) (written v answer call.out call.err d is.2).status is
 
-pub answered : (call : Call) (v : Verdict) (answer : ℕ) → Says call.words call.source.later call.source.faults call.source.faults_now v → BeginsIn call v → Takes 1048577 call → EndsIn call v →
+pub answered : (call : Call) (v : Verdict) (answer : ℕ) → Says (request call.words) call.source.later call.source.faults call.source.faults_now v → BeginsIn call v → Takes 1048577 call → EndsIn call v →
     IsSteady call.source.faults call.source.faults_now v → IsDelivered v answer call.out call.err → IsAnswered call answer
 answered call v answer said begins takes end steady d =
     record {
       ends = ends_as call v answer d (prints_or_tells call v said);
-      refuses = λ none. stopped_or_two call v answer d (refused call.words call.source.later call.source.faults call.source.faults_now v said none);
+      refuses = λ none. stopped_or_two call v answer d (refused (request call.words) call.source.later call.source.faults call.source.faults_now v said none);
       comes = comes_to call call.source.later v answer said d;
       complete = complete_at call call.source.later v answer said d;
       sure = sure_as call v answer d (prints_or_tells call v said);

@@ -8,12 +8,13 @@ use Rattle.regent_run.specs.Answers.{NoneRose, UnlessUnread}
 use Rattle.regent_run.specs.Calls.{Call, SinkChange}
 use Rattle.regent_run.specs.Programs.{Comes, OfNextText, finishes, has_a_breach, has_other_inputs, is_accepted, is_no_program, is_not_built, passes_a_limit}
 use Rattle.regent_run.specs.Verdicts.{IsDelivered, Says, SaysOfText, status_of}
-use Rattle.regent_run.specs.Words.{Command, Deed, command, runs}
+use Rattle.command_words.specs.Commands.{Run}
+use Rattle.regent_run.specs.Words.{Deed, Request, request, runs}
 use Rattle.regent_run.proofs.Statuses.{one_status}
 
 -- what a text comes to that is run
-says_run : (text : List ℕ) (deed : Deed) (numbers : List (List ℕ)) (n : ℕ) → deed ≡ runs numbers → Comes text (runs numbers) n → Comes text deed n
-says_run text deed numbers n is c = subst (λ (d : Deed). Comes text d n) (sym is) c
+says_run : (text : List ℕ) (deed : Deed) (r : Run) (n : ℕ) → deed ≡ runs r → Comes text (runs r) n → Comes text deed n
+says_run text deed r n is c = subst (λ (d : Deed). Comes text d n) (sym is) c
 
 -- the verdict's status is what the text comes to, but where it can't be read or memory ran out
 pub says_comes : (texts : List (List ℕ)) (deed : Deed) (before now : ℕ) (v : Verdict) → SaysOfText (Some texts) deed before now v →
@@ -26,33 +27,33 @@ says_comes texts deed before now (verdict.PastLimit l) h = inr (inr (passes_a_li
 says_comes texts deed before now (verdict.Refused m) h = inr (inr (has_a_breach h.3))
 says_comes texts deed before now verdict.NotBuilt h = inr (inr (says_run (next_left texts) deed h.0 10 h.1 (is_not_built h.2)))
 says_comes texts deed before now verdict.OtherInputs h = inr (inr (says_run (next_left texts) deed h.0 9 h.1 (has_other_inputs h.2)))
-says_comes texts deed before now (verdict.Finished p) h =
-    let r = h.2 in
+says_comes texts deed before now (verdict.Finished p traces) h =
+    let r = h.3 in
     inr (inr (says_run (next_left texts) deed h.0 0 h.1
     (finishes (record { tree = r.tree; reads = r.reads; sound = r.sound; form = r.form; inputs = map Some r.inputs; given = r.given; fits = r.fits }))))
 says_comes texts deed before now verdict.Accepted h = inr (inr (subst (λ (d : Deed). Comes (next_left texts) d 0) (sym h.0) (is_accepted h.1)))
 
 -- words name one file, and one thing to do with it
-renamed : (words : List (List ℕ)) (a b : Command) (later : Option (List (List ℕ))) (before now : ℕ) (v : Verdict) → command words ≡ Some a → command words ≡ Some b →
+renamed : (asked : Option Request) (a b : Request) (later : Option (List (List ℕ))) (before now : ℕ) (v : Verdict) → asked ≡ Some a → asked ≡ Some b →
     SaysOfText later b.deed before now v → SaysOfText later a.deed before now v
-renamed words a b later before now v p q h =
+renamed asked a b later before now v p q h =
     let e : Some b ≡ Some a = sym q ∙ p in
     let same : b ≡ a = ap (λ o. unwrap_or o a) e in
-    subst (λ (c : Command). SaysOfText later c.deed before now v) same h
+    subst (λ (c : Request). SaysOfText later c.deed before now v) same h
 
--- a verdict is of the words that name a file
-pub says_named : (words : List (List ℕ)) (later : Option (List (List ℕ))) (before now : ℕ) (v : Verdict) (named : Command) → command words ≡ Some named →
-    Says words later before now v → SaysOfText later named.deed before now v
-says_named words later before now verdict.Usage named is said = let e : None ≡ Some named = sym said ∙ is in absurd cc
-says_named words later before now verdict.Unread named is said = renamed words named said.0 later before now verdict.Unread is said.1 said.2
-says_named words later before now verdict.NoMemory named is said = renamed words named said.0 later before now verdict.NoMemory is said.1 said.2
-says_named words later before now (verdict.NoProgram m) named is said = renamed words named said.0 later before now (verdict.NoProgram m) is said.1 said.2
-says_named words later before now (verdict.PastLimit l) named is said = renamed words named said.0 later before now (verdict.PastLimit l) is said.1 said.2
-says_named words later before now (verdict.Refused m) named is said = renamed words named said.0 later before now (verdict.Refused m) is said.1 said.2
-says_named words later before now verdict.NotBuilt named is said = renamed words named said.0 later before now verdict.NotBuilt is said.1 said.2
-says_named words later before now verdict.OtherInputs named is said = renamed words named said.0 later before now verdict.OtherInputs is said.1 said.2
-says_named words later before now (verdict.Finished p) named is said = renamed words named said.0 later before now (verdict.Finished p) is said.1 said.2
-says_named words later before now verdict.Accepted named is said = renamed words named said.0 later before now verdict.Accepted is said.1 said.2
+-- a verdict is of the file that is asked for
+pub says_named : (asked : Option Request) (later : Option (List (List ℕ))) (before now : ℕ) (v : Verdict) (named : Request) → asked ≡ Some named →
+    Says asked later before now v → SaysOfText later named.deed before now v
+says_named asked later before now verdict.Usage named is said = let e : None ≡ Some named = sym said ∙ is in absurd cc
+says_named asked later before now verdict.Unread named is said = renamed asked named said.0 later before now verdict.Unread is said.1 said.2
+says_named asked later before now verdict.NoMemory named is said = tt
+says_named asked later before now (verdict.NoProgram m) named is said = renamed asked named said.0 later before now (verdict.NoProgram m) is said.1 said.2
+says_named asked later before now (verdict.PastLimit l) named is said = renamed asked named said.0 later before now (verdict.PastLimit l) is said.1 said.2
+says_named asked later before now (verdict.Refused m) named is said = renamed asked named said.0 later before now (verdict.Refused m) is said.1 said.2
+says_named asked later before now verdict.NotBuilt named is said = renamed asked named said.0 later before now verdict.NotBuilt is said.1 said.2
+says_named asked later before now verdict.OtherInputs named is said = renamed asked named said.0 later before now verdict.OtherInputs is said.1 said.2
+says_named asked later before now (verdict.Finished p traces) named is said = renamed asked named said.0 later before now (verdict.Finished p traces) is said.1 said.2
+says_named asked later before now verdict.Accepted named is said = renamed asked named said.0 later before now verdict.Accepted is said.1 said.2
 
 comes_on : (text : List ℕ) (deed : Deed) (before now n answer : ℕ) (v : Verdict) (out err : SinkChange) → IsDelivered v answer out err → Comes text deed n →
     ((status_of v ≡ 3) × Rose before now) ⊎ ((status_of v ≡ 7) ⊎ Comes text deed (status_of v)) → UnlessUnread n answer
@@ -62,12 +63,12 @@ comes_on text deed before now n answer v out err (inl w) c (inr (inr d)) = inl (
 comes_on text deed before now n answer v out err (inr (inl o)) c s = inl (inr (inr o.status))
 comes_on text deed before now n answer v out err (inr (inr e)) c s = inl (inr (inr e.status))
 
-pub comes_to : (call : Call) (later : Option (List (List ℕ))) (v : Verdict) (answer : ℕ) → Says call.words later call.source.faults call.source.faults_now v → IsDelivered v answer call.out call.err →
-    (named : Command) → command call.words ≡ Some named → OfNextText later (λ text. (n : ℕ) → Comes text named.deed n → UnlessUnread n answer)
+pub comes_to : (call : Call) (later : Option (List (List ℕ))) (v : Verdict) (answer : ℕ) → Says (request call.words) later call.source.faults call.source.faults_now v → IsDelivered v answer call.out call.err →
+    (named : Request) → request call.words ≡ Some named → OfNextText later (λ text. (n : ℕ) → Comes text named.deed n → UnlessUnread n answer)
 comes_to call None v answer said d named is = tt
 comes_to call (Some texts) v answer said d named is = λ n c.
     comes_on (next_left texts) named.deed call.source.faults call.source.faults_now n answer v call.out call.err d c
-    (says_comes texts named.deed call.source.faults call.source.faults_now v (says_named call.words (Some texts) call.source.faults call.source.faults_now v named is said))
+    (says_comes texts named.deed call.source.faults call.source.faults_now v (says_named (request call.words) (Some texts) call.source.faults call.source.faults_now v named is said))
 
 -- where nothing failed, the answer is what the text comes to, or memory ran out
 complete_on : (text : List ℕ) (deed : Deed) (call : Call) (n answer : ℕ) (v : Verdict) → IsDelivered v answer call.out call.err → NoneRose call → Comes text deed n →
@@ -78,9 +79,9 @@ complete_on text deed call n answer v (inl w) none c (inr (inr d)) = inl (w.stat
 complete_on text deed call n answer v (inr (inl o)) none c s = absurd (none.out_kept o.output.cause)
 complete_on text deed call n answer v (inr (inr e)) none c s = absurd (none.err_kept e.errors.cause)
 
-pub complete_at : (call : Call) (later : Option (List (List ℕ))) (v : Verdict) (answer : ℕ) → Says call.words later call.source.faults call.source.faults_now v → IsDelivered v answer call.out call.err →
-    NoneRose call → (named : Command) → command call.words ≡ Some named → OfNextText later (λ text. (n : ℕ) → Comes text named.deed n → (answer ≡ n) ⊎ (answer ≡ 7))
+pub complete_at : (call : Call) (later : Option (List (List ℕ))) (v : Verdict) (answer : ℕ) → Says (request call.words) later call.source.faults call.source.faults_now v → IsDelivered v answer call.out call.err →
+    NoneRose call → (named : Request) → request call.words ≡ Some named → OfNextText later (λ text. (n : ℕ) → Comes text named.deed n → (answer ≡ n) ⊎ (answer ≡ 7))
 complete_at call None v answer said d none named is = tt
 complete_at call (Some texts) v answer said d none named is = λ n c.
     complete_on (next_left texts) named.deed call n answer v d none c
-    (says_comes texts named.deed call.source.faults call.source.faults_now v (says_named call.words (Some texts) call.source.faults call.source.faults_now v named is said))
+    (says_comes texts named.deed call.source.faults call.source.faults_now v (says_named (request call.words) (Some texts) call.source.faults call.source.faults_now v named is said))

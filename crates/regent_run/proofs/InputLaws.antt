@@ -1,11 +1,8 @@
 -- Inputs, one word after the other.
-use Rattle.std.proofs.Common.{◌≡◌, ◌∙◌, ℕ, ℤ, suc, zero, ◌+◌, ◌<◌, List, [], ◌∷◌, ◌++◌, length, get_or, take, refl, ap, sym, subst, Option, Some, None, arith, append_assoc, Bool, true, false, ◌&&◌, map}
-use Rattle.std.proofs.lemmas.List.{append-nil}
-use Rattle.std.specs.Prelude.{String, string_bytes}
+use Rattle.std.proofs.Common.{◌≡◌, ◌∙◌, ℕ, ℤ, suc, zero, ◌+◌, ◌<◌, List, [], ◌∷◌, ◌++◌, length, get_or, take, refl, ap, sym, subst, Option, Some, None, arith, Bool, true, false, ◌&&◌, map}
 use Rattle.regent_tree.specs.declared.types.Param.{Param}
 use Rattle.straight_run.specs.Inputs.{are_inputs}
 use Rattle.regent_run.specs.Inputs.{AreInputs, IsInput}
-use Rattle.regent_run.specs.Words.{texts}
 
 more_inputs : (ws : List (List ℕ)) (zs : List (Option ℤ)) (w : List ℕ) (z : Option ℤ) → AreInputs ws zs → IsInput w z → AreInputs (ws ++ w ∷ []) (zs ++ z ∷ [])
 more_inputs [] [] w z h i = (i, tt)
@@ -13,22 +10,16 @@ more_inputs [] (y ∷ zs) w z h i = absurd h
 more_inputs (v ∷ ws) [] w z h i = absurd h
 more_inputs (v ∷ ws) (y ∷ zs) w z h i = (h.0, more_inputs ws zs w z h.1 i)
 
-texts-snoc : {A : Type 0} (words : List (String A)) (i : ℕ) (d : String A) → i < length words → texts (take (i + 1) words) ≡ texts (take i words) ++ string_bytes (get_or words i d) ∷ []
-texts-snoc [] i d h = absurd (omega arith)
-texts-snoc (w ∷ words) zero d h = refl
-texts-snoc (w ∷ words) (suc i) d h = let e : suc i + 1 ≡ suc (i + 1) = omega arith in rw e (ap (λ ws. string_bytes w ∷ ws) (texts-snoc words i d (omega arith)))
+map-snoc : {A : Type 0} (v : A → List ℕ) (words : List A) (i : ℕ) (d : A) → i < length words → map v (take (i + 1) words) ≡ map v (take i words) ++ v (get_or words i d) ∷ []
+map-snoc v [] i d h = absurd (omega arith)
+map-snoc v (w ∷ words) zero d h = refl
+map-snoc v (w ∷ words) (suc i) d h = let e : suc i + 1 ≡ suc (i + 1) = omega arith in rw e (ap (λ ws. v w ∷ ws) (map-snoc v words i d (omega arith)))
 
-pub input_on : {A : Type 0} (words : List (String A)) (i : ℕ) (word : String A) (before : List (List ℕ)) (zs : List (Option ℤ)) (z : Option ℤ) → i < length words →
-    word ≡ get_or words i word → IsInput (string_bytes word) z → AreInputs (before ++ texts (take i words)) zs →
-    AreInputs (before ++ texts (take (i + 1) words)) (zs ++ z ∷ [])
-input_on words i word before zs z h is input so_far =
-    subst (λ (ws : List (List ℕ)). AreInputs ws (zs ++ z ∷ []))
-    (append_assoc before (texts (take i words)) (string_bytes word ∷ [])
-    ∙ ap (λ ws. before ++ ws) (ap (λ v. texts (take i words) ++ string_bytes v ∷ []) is ∙ sym (texts-snoc words i word h)))
-    (more_inputs (before ++ texts (take i words)) zs (string_bytes word) z so_far input)
-
-pub no_inputs : (before : List (List ℕ)) (zs : List (Option ℤ)) → AreInputs before zs → AreInputs (before ++ []) zs
-no_inputs before zs h = subst (λ (ws : List (List ℕ)). AreInputs ws zs) (sym (append-nil before)) h
+pub input_on : {A : Type 0} (v : A → List ℕ) (words : List A) (i : ℕ) (d : A) (zs : List (Option ℤ)) (z : Option ℤ) → i < length words →
+    IsInput (v (get_or words i d)) z → AreInputs (map v (take i words)) zs → AreInputs (map v (take (i + 1) words)) (zs ++ z ∷ [])
+input_on v words i d zs z h is so_far =
+    subst (λ (ws : List (List ℕ)). AreInputs ws (zs ++ z ∷ [])) (sym (map-snoc v words i d h))
+    (more_inputs (map v (take i words)) zs (v (get_or words i d)) z so_far is)
 
 -- words have one list of inputs
 one_input : (w : List ℕ) (a b : Option ℤ) → IsInput w a → IsInput w b → a ≡ b

@@ -12,8 +12,8 @@ use Rattle.regent_run.specs.declared.verdict.Verdict.TheVariants as verdict
 use Rattle.regent_lex.specs.declared.fault.LexKind.{LexKind}
 use Rattle.regent_lex.specs.declared.fault.LexKind.TheVariants.{BadByte, Unclosed, NumberTooLarge, NameTooLong}
 use Rattle.regent_run.specs.Programs.{IsRun, limit_in_token, syntax_line}
-use Rattle.regent_run.specs.Verdicts.{IsNoProgram, Judges, JudgesAccepted, JudgesProgram, TellsFault, SaysOfText}
-use Rattle.regent_run.specs.Words.{Deed, checks, runs}
+use Rattle.regent_run.specs.Verdicts.{IsNoProgram, Judges, JudgesAccepted, JudgesProgram, Says, SaysOfText, TellsFault}
+use Rattle.regent_run.specs.Words.{Deed, Request, checks, runs}
 use Rattle.check_rules.specs.Breaches.{breaches}
 use Rattle.straight_run.specs.Answers.{Prints}
 use Rattle.straight_run.specs.Inputs.{are_inputs}
@@ -41,18 +41,18 @@ is_run text tree numbers printed inputs reads sound given p =
 accepted_judges : (text : List ℕ) (tree : Tree) (deed : Deed) (v : Verdict) → Reads text (Ok tree) → breaches tree ≡ [] → JudgesAccepted tree deed v → Judges text deed v
 accepted_judges text tree checks v reads sound h =
     subst (λ (w : Verdict). Judges text checks w) (sym h) (refl, record { tree = tree; reads = reads; sound = sound })
-accepted_judges text tree (runs numbers) verdict.Usage reads sound h = h
-accepted_judges text tree (runs numbers) verdict.Unread reads sound h = h
-accepted_judges text tree (runs numbers) verdict.NoMemory reads sound h = tt
-accepted_judges text tree (runs numbers) (verdict.NoProgram message) reads sound h = absurd h
-accepted_judges text tree (runs numbers) (verdict.PastLimit passed) reads sound h = absurd h
-accepted_judges text tree (runs numbers) (verdict.Refused message) reads sound h = absurd h
-accepted_judges text tree (runs numbers) verdict.NotBuilt reads sound h = (numbers, refl, record { tree = tree; reads = reads; sound = sound; form = h })
-accepted_judges text tree (runs numbers) verdict.OtherInputs reads sound h =
-    (numbers, refl, record { tree = tree; reads = reads; sound = sound; form = h.0; inputs = h.1; given = h.2; other = h.3 })
-accepted_judges text tree (runs numbers) (verdict.Finished printed) reads sound h =
-    (numbers, refl, is_run text tree numbers printed.items h.0 reads sound h.1 h.2)
-accepted_judges text tree (runs numbers) verdict.Accepted reads sound h = absurd h
+accepted_judges text tree (runs r) verdict.Usage reads sound h = h
+accepted_judges text tree (runs r) verdict.Unread reads sound h = h
+accepted_judges text tree (runs r) verdict.NoMemory reads sound h = tt
+accepted_judges text tree (runs r) (verdict.NoProgram message) reads sound h = absurd h
+accepted_judges text tree (runs r) (verdict.PastLimit passed) reads sound h = absurd h
+accepted_judges text tree (runs r) (verdict.Refused message) reads sound h = absurd h
+accepted_judges text tree (runs r) verdict.NotBuilt reads sound h = (r, refl, record { tree = tree; reads = reads; sound = sound; form = h })
+accepted_judges text tree (runs r) verdict.OtherInputs reads sound h =
+    (r, refl, record { tree = tree; reads = reads; sound = sound; form = h.0; inputs = h.1; given = h.2; other = h.3 })
+accepted_judges text tree (runs r) (verdict.Finished printed traces) reads sound h =
+    (r, refl, h.0, is_run text tree r.numbers printed.items h.1 reads sound h.2 h.3)
+accepted_judges text tree (runs r) verdict.Accepted reads sound h = absurd h
 
 -- a text that was read comes to what its program comes to
 pub program_judges : (text : List ℕ) (deed : Deed) (tree : Tree) (v : Verdict) → Reads text (Ok tree) → JudgesProgram tree deed v → Judges text deed v
@@ -65,7 +65,7 @@ program_judges text deed tree (verdict.NoProgram message) reads h = accepted_jud
 program_judges text deed tree (verdict.PastLimit passed) reads h = accepted_judges text tree deed (verdict.PastLimit passed) reads h.0 h.1
 program_judges text deed tree verdict.NotBuilt reads h = accepted_judges text tree deed verdict.NotBuilt reads h.0 h.1
 program_judges text deed tree verdict.OtherInputs reads h = accepted_judges text tree deed verdict.OtherInputs reads h.0 h.1
-program_judges text deed tree (verdict.Finished printed) reads h = accepted_judges text tree deed (verdict.Finished printed) reads h.0 h.1
+program_judges text deed tree (verdict.Finished printed traces) reads h = accepted_judges text tree deed (verdict.Finished printed traces) reads h.0 h.1
 program_judges text deed tree verdict.Accepted reads h = accepted_judges text tree deed verdict.Accepted reads h.0 h.1
 
 -- ---- from the bytes that were read to the text that the begin left
@@ -86,7 +86,7 @@ says_of_read deed (verdict.PastLimit passed) texts before now h = h
 says_of_read deed (verdict.Refused message) texts before now h = h
 says_of_read deed verdict.NotBuilt texts before now h = h
 says_of_read deed verdict.OtherInputs texts before now h = h
-says_of_read deed (verdict.Finished printed) texts before now h = h
+says_of_read deed (verdict.Finished printed traces) texts before now h = h
 says_of_read deed verdict.Accepted texts before now h = h
 
 -- a text that is too long comes to that alone, however it goes on
@@ -115,9 +115,9 @@ long_judges text read rest deed verdict.NotBuilt is long h =
 long_judges text read rest deed verdict.OtherInputs is long h =
     let b = h.2 in
     (h.0, h.1, record { tree = b.tree; reads = still_long text read rest _ is long b.reads; sound = b.sound; form = b.form; inputs = b.inputs; given = b.given; other = b.other })
-long_judges text read rest deed (verdict.Finished printed) is long h =
-    let b = h.2 in
-    (h.0, h.1, record { tree = b.tree; reads = still_long text read rest _ is long b.reads; sound = b.sound; form = b.form; inputs = b.inputs; given = b.given; fits = b.fits; means = b.means })
+long_judges text read rest deed (verdict.Finished printed traces) is long h =
+    let b = h.3 in
+    (h.0, h.1, h.2, record { tree = b.tree; reads = still_long text read rest _ is long b.reads; sound = b.sound; form = b.form; inputs = b.inputs; given = b.given; fits = b.fits; means = b.means })
 long_judges text read rest deed verdict.Accepted is long h =
     let b = h.1 in
     (h.0, record { tree = b.tree; reads = still_long text read rest _ is long b.reads; sound = b.sound })
@@ -137,11 +137,11 @@ says_nothing read deed (verdict.PastLimit passed) before now h = tt
 says_nothing read deed (verdict.Refused message) before now h = (h.0, h.1, h.2, tt)
 says_nothing read deed verdict.NotBuilt before now h = (h.0, h.1, tt)
 says_nothing read deed verdict.OtherInputs before now h = (h.0, h.1, tt)
-says_nothing read deed (verdict.Finished printed) before now h = (h.0, h.1, tt)
+says_nothing read deed (verdict.Finished printed traces) before now h = (h.0, h.1, h.2, tt)
 says_nothing read deed verdict.Accepted before now h = (h.0, tt)
 
 -- what is judged of the bytes that were read is said of the text
-pub says_of_text : (later : Option (List (List ℕ))) (read : List ℕ) (left : Option (List ℕ)) (deed : Deed) (v : Verdict) (before now : ℕ) →
+says_of_text : (later : Option (List (List ℕ))) (read : List ℕ) (left : Option (List ℕ)) (deed : Deed) (v : Verdict) (before now : ℕ) →
     Moves (option_map next_left later) read left → (length read ≤ 1048576 → IfSome left (λ rest. rest ≡ [])) → Judges read deed v → SaysOfText later deed before now v
 says_of_text None read left deed v before now moves whole h = says_nothing read deed v before now h
 says_of_text (Some texts) read left deed v before now moves whole h =
@@ -150,6 +150,23 @@ says_of_text (Some texts) read left deed v before now moves whole h =
     (says_on (next_left texts) read p.0 deed v p.2
     (λ short. let w : IfSome (Some p.0) (λ rest. rest ≡ []) = subst (λ (o : Option (List ℕ)). IfSome o (λ rest. rest ≡ [])) p.1 (whole short) in w)
     (cases_lt 1048576 (length read)) h)
+
+-- of the file that is asked for
+says_of_file : (r : Request) (later : Option (List (List ℕ))) (before now : ℕ) (v : Verdict) → SaysOfText later r.deed before now v → Says (Some r) later before now v
+says_of_file r later before now verdict.Usage h = absurd h
+says_of_file r later before now verdict.Unread h = (r, refl, h)
+says_of_file r later before now verdict.NoMemory h = tt
+says_of_file r later before now (verdict.NoProgram message) h = (r, refl, h)
+says_of_file r later before now (verdict.PastLimit passed) h = (r, refl, h)
+says_of_file r later before now (verdict.Refused message) h = (r, refl, h)
+says_of_file r later before now verdict.NotBuilt h = (r, refl, h)
+says_of_file r later before now verdict.OtherInputs h = (r, refl, h)
+says_of_file r later before now (verdict.Finished printed traces) h = (r, refl, h)
+says_of_file r later before now verdict.Accepted h = (r, refl, h)
+
+pub says_asked : (r : Request) (later : Option (List (List ℕ))) (read : List ℕ) (left : Option (List ℕ)) (v : Verdict) (before now : ℕ) →
+    Moves (option_map next_left later) read left → (length read ≤ 1048576 → IfSome left (λ rest. rest ≡ [])) → Judges read r.deed v → Says (Some r) later before now v
+says_asked r later read left v before now moves whole h = says_of_file r later before now v (says_of_text later read left r.deed v before now moves whole h)
 
 -- a token's fault that passes no limit is an error of syntax
 syntax_told : (kind : LexKind) (line : ℕ) → None ≡ limit_in_token kind → syntax_line (Lex kind line) ≡ Some line
@@ -167,5 +184,5 @@ tells_token kind line (verdict.PastLimit passed) none h = absurd h
 tells_token kind line (verdict.Refused message) none h = h
 tells_token kind line verdict.NotBuilt none h = h
 tells_token kind line verdict.OtherInputs none h = h
-tells_token kind line (verdict.Finished printed) none h = h
+tells_token kind line (verdict.Finished printed traces) none h = h
 tells_token kind line verdict.Accepted none h = h

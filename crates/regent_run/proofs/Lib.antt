@@ -1,4 +1,3 @@
-pub mod WordLaws
 pub mod InputLaws
 pub mod Judging
 pub mod Statuses

@@ -1,11 +1,13 @@
 -- How a call ends: what was printed or told, and what a failed write leaves.
-use Rattle.std.proofs.Common.{◌≡◌, ◌≢◌, ℕ, ◌≤◌, ◌<◌, ◌⊎◌, inl, inr, List, [], Option, Some, None, length, refl, sym, ap, subst, ◌∙◌, arith}
+use Rattle.std.proofs.Common.{◌≡◌, ◌≢◌, Bool, ℕ, ◌≤◌, ◌<◌, ◌⊎◌, inl, inr, List, [], Option, Some, None, length, refl, sym, ap, subst, ◌∙◌, arith}
 use Rattle.std.proofs.lemmas.List.{append-nil}
 use Rattle.run_io.specs.Sink.{Adds}
 use Rattle.regent_run.specs.declared.verdict.Verdict.{Verdict}
 use Rattle.regent_run.specs.declared.verdict.Verdict.TheVariants as verdict
-use Rattle.regent_run.specs.Answers.{Ends, Fails, IsPrinted, IsSureOfErrors, IsSureOfOutput, accepted, finished, inputs, limit, line_failed, no_memory, not_built, print_failed, prints, syntax, tells, types, unread, usage}
+use Rattle.regent_run.specs.Answers.{Ends, Fails, IsPrinted, IsSureOfErrors, IsSureOfOutput, accepted, finished, inputs, limit, line_failed, no_memory, not_built, print_failed, prints, syntax, tells, trace_failed, types, unread, usage}
 use Rattle.regent_run.specs.Calls.{Call, SinkChange}
+use Rattle.regent_run.specs.Texts.{trace_text}
+use Rattle.regent_run.specs.Words.{request}
 use Rattle.regent_run.specs.Verdicts.{HasGained, HasFailed, IsDelivered, IsUntouched, IsWritten, Says, out_text, err_text, status_of}
 
 adds_nothing : (before now : Option (List ℕ)) → Adds before [] now → now ≡ before
@@ -29,17 +31,17 @@ no_stop (verdict.PastLimit passed) h = absurd cc
 no_stop (verdict.Refused message) h = absurd cc
 no_stop verdict.NotBuilt h = absurd cc
 no_stop verdict.OtherInputs h = absurd cc
-no_stop (verdict.Finished text) h = absurd cc
+no_stop (verdict.Finished text traces) h = absurd cc
 no_stop verdict.Accepted h = absurd cc
 
--- a verdict prints and has no line, or it has a line and prints nothing
+-- a verdict prints, with a trace or none, or it has a line and prints nothing
 abbrev Printing : Call → Verdict → Type 0
-Printing call v = (status_of v ≡ 0) × (err_text v ≡ []) × IsPrinted call (out_text v)
+Printing call v = (status_of v ≡ 0) × IsPrinted call (out_text v) (err_text v)
 
 abbrev Telling : Call → Verdict → Type 0
 Telling call v = (out_text v ≡ []) × Fails call (status_of v) (err_text v)
 
-pub prints_or_tells : (call : Call) (v : Verdict) → Says call.words call.source.later call.source.faults call.source.faults_now v → Printing call v ⊎ Telling call v
+pub prints_or_tells : (call : Call) (v : Verdict) → Says (request call.words) call.source.later call.source.faults call.source.faults_now v → Printing call v ⊎ Telling call v
 prints_or_tells call verdict.Usage said = inr (refl, usage said)
 prints_or_tells call verdict.Unread said = inr (refl, unread said.2)
 prints_or_tells call verdict.NoMemory said = inr (refl, no_memory)
@@ -56,29 +58,30 @@ prints_or_tells call verdict.NotBuilt said =
 prints_or_tells call verdict.OtherInputs said =
     let told = said.2 in
     inr (refl, inputs told.0 (record { named = said.0; words_name = said.1; same = told.1 }) told.2)
-prints_or_tells call (verdict.Finished text) said =
+prints_or_tells call (verdict.Finished text traces) said =
     let told = said.2 in
-    inl (refl, refl, finished told.0 (record { named = said.0; words_name = said.1; same = told.1 }) told.2)
+    inl (
+      refl,
+      subst (λ (b : Bool). IsPrinted call text.items (trace_text b)) (sym told.2)
+          (finished told.0 (record { named = said.0; words_name = said.1; same = told.1 }) told.3),
+    )
 prints_or_tells call verdict.Accepted said =
     let told = said.2 in
-    inl (refl, refl, accepted (record { named = said.0; words_name = said.1; same = told.0 }) told.1)
+    inl (refl, accepted (record { named = said.0; words_name = said.1; same = told.0 }) told.1)
 
 pub ends_as : (call : Call) (v : Verdict) (answer : ℕ) → IsDelivered v answer call.out call.err → Printing call v ⊎ Telling call v → Ends call answer
 ends_as call v answer (inl w) (inl p) =
     subst (λ (n : ℕ). Ends call n) (sym (w.status ∙ p.0))
-    (prints p.2 (record {
-      output = w.output.gained;
-      errors = (untouched call.err (subst (λ (b : List ℕ). HasGained b call.err) p.1 w.errors)).kept;
-    }))
+    (prints p.1 (record { output = w.output.gained; errors = w.errors.gained }))
 ends_as call v answer (inl w) (inr t) =
     subst (λ (n : ℕ). Ends call n) (sym w.status)
     (tells t.1 (record {
       output = (untouched call.out (subst (λ (b : List ℕ). HasGained b call.out) t.0 w.output)).kept;
       errors = w.errors.gained;
     }))
-ends_as call v answer (inr (inl o)) (inl p) = subst (λ (n : ℕ). Ends call n) (sym o.status) (print_failed p.2 o.output o.errors)
+ends_as call v answer (inr (inl o)) (inl p) = subst (λ (n : ℕ). Ends call n) (sym o.status) (print_failed p.1 o.output o.errors)
 ends_as call v answer (inr (inl o)) (inr t) = no_failure call.out (subst (λ (b : List ℕ). HasFailed b call.out) t.0 o.output)
-ends_as call v answer (inr (inr e)) (inl p) = no_failure call.err (subst (λ (b : List ℕ). HasFailed b call.err) p.1 e.errors)
+ends_as call v answer (inr (inr e)) (inl p) = subst (λ (n : ℕ). Ends call n) (sym e.status) (trace_failed p.1 e.output e.errors)
 ends_as call v answer (inr (inr e)) (inr t) =
     subst (λ (n : ℕ). Ends call n) (sym e.status)
     (line_failed t.1 (untouched call.out (subst (λ (b : List ℕ). HasGained b call.out) t.0 e.output)) e.errors)
@@ -88,13 +91,16 @@ pub sure_as : (call : Call) (v : Verdict) (answer : ℕ) → IsDelivered v answe
     IsSureOfOutput call → IsSureOfErrors call → answer ≢ 4
 sure_as call v answer (inl w) k output errors is = no_stop v (sym is ∙ w.status)
 sure_as call v answer (inr (inl o)) (inl p) output errors is =
-    let fits : length (out_text v) ≤ call.out.sure = output (out_text v) p.2 in
+    let fits : length (out_text v) ≤ call.out.sure = output (out_text v) (err_text v) p.1 in
     let unsure : call.out.sure < length (out_text v) = o.output.unsure in
     absurd (omega arith)
 sure_as call v answer (inr (inl o)) (inr t) output errors is = no_failure call.out (subst (λ (b : List ℕ). HasFailed b call.out) t.0 o.output)
-sure_as call v answer (inr (inr e)) (inl p) output errors is = no_failure call.err (subst (λ (b : List ℕ). HasFailed b call.err) p.1 e.errors)
+sure_as call v answer (inr (inr e)) (inl p) output errors is =
+    let fits : length (err_text v) ≤ call.err.sure = errors.traces (out_text v) (err_text v) p.1 in
+    let unsure : call.err.sure < length (err_text v) = e.errors.unsure in
+    absurd (omega arith)
 sure_as call v answer (inr (inr e)) (inr t) output errors is =
-    let fits : length (err_text v) ≤ call.err.sure = errors (status_of v) (err_text v) t.1 in
+    let fits : length (err_text v) ≤ call.err.sure = errors.lines (status_of v) (err_text v) t.1 in
     let unsure : call.err.sure < length (err_text v) = e.errors.unsure in
     absurd (omega arith)
 

@@ -4,14 +4,15 @@ use Rattle.std.specs.Option.{option_map}
 use Rattle.run_io.specs.Faults.{Rose}
 use Rattle.run_io.specs.Sink.{Adds}
 use Rattle.run_io.specs.Source.{next_left}
+use Rattle.command_words.specs.Commands.{Run}
 use Rattle.regent_run.specs.Begins.{IsBegunBy, IsUnbegun}
 use Rattle.regent_run.specs.Calls.{Call}
 use Rattle.regent_run.specs.declared.limit.Limit.{Limit}
 use Rattle.regent_run.specs.Programs.{Comes, HasBreach, HasOtherInputs, HasSyntaxError, IsAccepted, IsNotBuilt, IsRun, OfNextText, PassesLimit}
 use Rattle.regent_run.specs.Reading.{TakesAtMost}
-use Rattle.regent_run.specs.Texts.{accepted_text, usage_message, read_message, memory_message, syntax_message, breach_message, limit_message, not_built_message, inputs_message}
-use Rattle.regent_run.specs.Verdicts.{HasFailed, IsUntouched}
-use Rattle.regent_run.specs.Words.{Asks, Command, checks, command, runs}
+use Rattle.regent_run.specs.Texts.{accepted_text, trace_text, usage_message, read_message, memory_message, syntax_message, breach_message, limit_message, not_built_message, inputs_message}
+use Rattle.regent_run.specs.Verdicts.{HasFailed, HasGained, IsUntouched}
+use Rattle.regent_run.specs.Words.{Asks, Request, checks, request, runs}
 
 -- this holds of the text that the call's next begin leaves, where the source tells it
 abbrev pub OfText : Call → (List ℕ → Type 0) → Type 0
@@ -19,16 +20,18 @@ OfText call P = OfNextText call.source.later P
 
 -- ---- what a call comes to, and how it ends
 
--- what a command prints: a run what the program prints, by the meaning of its text, and a check the line
--- that the text is accepted
-pub data IsPrinted (call : Call) : List ℕ → Type 0 where
-  finished : (numbers : List (List ℕ)) {printed : List ℕ} → Asks call.words (runs numbers) →
-      OfText call (λ text. IsRun text numbers printed) → IsPrinted call printed
-  accepted : Asks call.words checks → OfText call IsAccepted → IsPrinted call accepted_text
+-- What a command prints, and its trace: a run what the program prints, by the meaning of its text, with a
+-- trace where that is asked for; a check the line that the text is accepted. No root is left, so there is
+-- nothing to dump.
+pub data IsPrinted (call : Call) : List ℕ → List ℕ → Type 0 where
+  finished : (r : Run) {printed : List ℕ} → Asks call.words (runs r) →
+      OfText call (λ text. IsRun text r.numbers printed) →
+      IsPrinted call printed (trace_text r.traces)
+  accepted : Asks call.words checks → OfText call IsAccepted → IsPrinted call accepted_text []
 
 -- the status of an error, and the line that tells it
 pub data Fails (call : Call) : ℕ → List ℕ → Type 0 where
-  usage : command call.words ≡ None → Fails call 2 usage_message
+  usage : request call.words ≡ None → Fails call 2 usage_message
   unread : Rose call.source.faults call.source.faults_now → Fails call 3 read_message
   syntax : (line : ℕ) → OfText call (λ text. HasSyntaxError text line) →
       Fails call 5 (syntax_message line)
@@ -37,15 +40,15 @@ pub data Fails (call : Call) : ℕ → List ℕ → Type 0 where
   no_memory : Fails call 7 memory_message
   limit : (passed : Limit) → OfText call (λ text. PassesLimit text passed) →
       Fails call 8 (limit_message passed)
-  inputs : (numbers : List (List ℕ)) → Asks call.words (runs numbers) →
-      OfText call (λ text. HasOtherInputs text numbers) → Fails call 9 inputs_message
-  not_built : (numbers : List (List ℕ)) → Asks call.words (runs numbers) → OfText call IsNotBuilt →
+  inputs : (r : Run) → Asks call.words (runs r) →
+      OfText call (λ text. HasOtherInputs text r.numbers) → Fails call 9 inputs_message
+  not_built : (r : Run) → Asks call.words (runs r) → OfText call IsNotBuilt →
       Fails call 10 not_built_message
 
--- the output has gained what is printed, and the error output nothing
-pub record HasPrinted (printed : List ℕ) (call : Call) : Type 0 where
+-- the output has gained what is printed, and the error output the trace
+pub record HasPrinted (printed trace : List ℕ) (call : Call) : Type 0 where
   pub output : Adds call.out.held printed call.out.held_now
-  pub errors : call.err.held_now ≡ call.err.held
+  pub errors : Adds call.err.held trace call.err.held_now
 
 -- the error output has gained the line, and the output nothing
 pub record HasTold (message : List ℕ) (call : Call) : Type 0 where
@@ -55,11 +58,14 @@ pub record HasTold (message : List ℕ) (call : Call) : Type 0 where
 -- How a call ends, with its status. Where a write failed, which its sink wasn't sure of, the status is 4,
 -- and nothing was written after it.
 pub data Ends (call : Call) : ℕ → Type 0 where
-  prints : {printed : List ℕ} → IsPrinted call printed → HasPrinted printed call → Ends call 0
+  prints : {printed trace : List ℕ} → IsPrinted call printed trace → HasPrinted printed trace call →
+      Ends call 0
   tells : {status : ℕ} {message : List ℕ} → Fails call status message → HasTold message call →
       Ends call status
-  print_failed : {printed : List ℕ} → IsPrinted call printed → HasFailed printed call.out →
-      IsUntouched call.err → Ends call 4
+  print_failed : {printed trace : List ℕ} → IsPrinted call printed trace →
+      HasFailed printed call.out → IsUntouched call.err → Ends call 4
+  trace_failed : {printed trace : List ℕ} → IsPrinted call printed trace →
+      HasGained printed call.out → HasFailed trace call.err → Ends call 4
   line_failed : {status : ℕ} {message : List ℕ} → Fails call status message → IsUntouched call.out →
       HasFailed message call.err → Ends call 4
 
@@ -75,7 +81,7 @@ UnlessUnread status answer = UnlessStopped status answer ⊎ (answer ≡ 3)
 
 -- where the words name a file, its text comes to this status alone, unless the call was stopped
 abbrev pub ComesTo : Call → ℕ → Type 0
-ComesTo call answer = (named : Command) → command call.words ≡ Some named →
+ComesTo call answer = (named : Request) → request call.words ≡ Some named →
     OfText call (λ text. (n : ℕ) → Comes text named.deed n → UnlessUnread n answer)
 
 -- no count of faults rose in the call
@@ -86,19 +92,22 @@ pub record NoneRose (call : Call) : Type 0 where
 
 -- then it is this status, unless memory ran out
 abbrev pub IsComplete : Call → ℕ → Type 0
-IsComplete call answer = NoneRose call → (named : Command) → command call.words ≡ Some named →
+IsComplete call answer = NoneRose call → (named : Request) → request call.words ≡ Some named →
     OfText call (λ text. (n : ℕ) → Comes text named.deed n → (answer ≡ n) ⊎ (answer ≡ 7))
 
 -- ---- sinks that are sure
 
 -- the output is sure of what the command prints
 abbrev pub IsSureOfOutput : Call → Type 0
-IsSureOfOutput call = (printed : List ℕ) → IsPrinted call printed → length printed ≤ call.out.sure
+IsSureOfOutput call = (printed trace : List ℕ) → IsPrinted call printed trace →
+    length printed ≤ call.out.sure
 
--- the error output is sure of each line that the call may come to
-abbrev pub IsSureOfErrors : Call → Type 0
-IsSureOfErrors call = (status : ℕ) (message : List ℕ) → Fails call status message →
-    length message ≤ call.err.sure
+-- the error output is sure of the trace, and of each line that the call may come to
+pub record IsSureOfErrors (call : Call) : Type 0 where
+  pub traces : (printed trace : List ℕ) → IsPrinted call printed trace →
+      length trace ≤ call.err.sure
+  pub lines : (status : ℕ) (message : List ℕ) → Fails call status message →
+      length message ≤ call.err.sure
 
 -- ---- what is read
 
@@ -109,8 +118,8 @@ IsNotBegun call =
 
 -- the source was begun once more, by the file that the words name
 pub record IsBegunOnce (call : Call) : Type 0 where
-  pub named : Command
-  pub words_name : command call.words ≡ Some named
+  pub named : Request
+  pub words_name : request call.words ≡ Some named
   pub begun : IsBegunBy named.file call.source.begins call.source.begins_now
       call.source.names call.source.names_now
 
@@ -135,7 +144,7 @@ pub record IsAnswered (call : Call) (answer : ℕ) : Type 0 where
   -- It ends in one of the ways above: what it prints or tells is so.
   pub ends : Ends call answer
   -- Words that are refused come to 2.
-  pub refuses : command call.words ≡ None → UnlessStopped 2 answer
+  pub refuses : request call.words ≡ None → UnlessStopped 2 answer
   -- A text with its command comes to one of 0, 5, 6, 8, 9 and 10 at most, and that is the answer
   -- unless the call was stopped. So where nothing failed, it is the answer, or memory ran out.
   pub comes : ComesTo call answer

@@ -17,6 +17,7 @@ use Rattle.straight_run.specs.RunningForm.{is_running, main_task}
 use Rattle.regent_run.specs.declared.limit.Limit.{Limit}
 use Rattle.regent_run.specs.declared.limit.Limit.TheVariants as limit
 use Rattle.regent_run.specs.Inputs.{AreInputs}
+use Rattle.command_words.specs.Commands.{Run}
 use Rattle.regent_run.specs.Words.{Deed, checks, runs}
 
 -- the line of a fault that is an error of syntax
@@ -94,7 +95,7 @@ pub record HasOtherInputs (text : List ℕ) (numbers : List (List ℕ)) : Type 0
   pub other : are_inputs (main_task tree).params inputs ≡ false
 
 -- the text is an accepted program of the running form, the words are the numbers that it takes, and what
--- it means is to finish with what is printed, whatever the turns
+-- it means is to finish with what is printed and no roots, whatever the turns
 pub record IsRun (text : List ℕ) (numbers : List (List ℕ)) (printed : List ℕ) : Type 0 where
   pub tree : Tree
   pub reads : Reads text (Ok tree)
@@ -118,14 +119,13 @@ pub record TakesNumbers (text : List ℕ) (numbers : List (List ℕ)) : Type 0 w
 
 -- the status that a text comes to, where this is to be done with it
 pub data Comes (text : List ℕ) : Deed → ℕ → Type 0 where
-  finishes : {numbers : List (List ℕ)} → TakesNumbers text numbers → Comes text (runs numbers) 0
+  finishes : {r : Run} → TakesNumbers text r.numbers → Comes text (runs r) 0
   is_accepted : IsAccepted text → Comes text checks 0
   is_no_program : {deed : Deed} {line : ℕ} → HasSyntaxError text line → Comes text deed 5
   has_a_breach : {deed : Deed} {rule line : ℕ} → HasBreach text rule line → Comes text deed 6
   passes_a_limit : {deed : Deed} {passed : Limit} → PassesLimit text passed → Comes text deed 8
-  has_other_inputs : {numbers : List (List ℕ)} → HasOtherInputs text numbers →
-      Comes text (runs numbers) 9
-  is_not_built : {numbers : List (List ℕ)} → IsNotBuilt text → Comes text (runs numbers) 10
+  has_other_inputs : {r : Run} → HasOtherInputs text r.numbers → Comes text (runs r) 9
+  is_not_built : {r : Run} → IsNotBuilt text → Comes text (runs r) 10
 
 -- what holds of the text that the next begin leaves, where the source tells it
 abbrev pub OfNextText : Option (List (List ℕ)) → (List ℕ → Type 0) → Type 0

@@ -1,12 +1,17 @@
--- What a check writes to the output, and the messages that go to the error output. Each ends with a
--- line feed (10).
-use Rattle.std.specs.Prelude.{ℕ, List, [], ◌∷◌, ◌++◌, codes}
+-- What a check writes to the output, and the trace and the messages that go to the error output. Each
+-- ends with a line feed (10).
+use Rattle.std.specs.Prelude.{ℕ, Bool, true, false, List, [], ◌∷◌, ◌++◌, codes}
 use Rattle.std.specs.Fmt.{decimal}
 use Rattle.regent_run.specs.declared.limit.Limit.{Limit}
 use Rattle.regent_run.specs.declared.limit.Limit.TheVariants.{Text, Name, Number, Nesting, Tasks, Spaces, Fields, Parameters, Regions}
 
 abbrev pub accepted_text : List ℕ
 accepted_text = codes "accepted" ++ 10 ∷ []
+
+-- the trace of a run in order, where it is asked for
+abbrev pub trace_text : Bool → List ℕ
+trace_text true = codes "in order" ++ 10 ∷ []
+trace_text false = []
 
 abbrev pub usage_message : List ℕ
 usage_message = codes "error: usage" ++ 10 ∷ []

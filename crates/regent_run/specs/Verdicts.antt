@@ -5,8 +5,9 @@ use Rattle.run_io.specs.Sink.{Adds, AddsPrefix}
 use Rattle.regent_run.specs.Calls.{SinkChange}
 use Rattle.regent_run.specs.declared.verdict.Verdict.{Verdict}
 use Rattle.regent_run.specs.declared.verdict.Verdict.TheVariants.{Usage, Unread, NoMemory, NoProgram, PastLimit, Refused, NotBuilt, OtherInputs, Finished, Accepted}
-use Rattle.regent_run.specs.Words.{Command, Deed, checks, command, runs}
-use Rattle.regent_run.specs.Texts.{accepted_text, usage_message, read_message, memory_message, syntax_message, breach_message, limit_message, not_built_message, inputs_message}
+use Rattle.command_words.specs.Commands.{Run}
+use Rattle.regent_run.specs.Words.{Deed, Request, checks, runs}
+use Rattle.regent_run.specs.Texts.{accepted_text, trace_text, usage_message, read_message, memory_message, syntax_message, breach_message, limit_message, not_built_message, inputs_message}
 use Rattle.check_rules.specs.Breaches.{breaches, breaks}
 use Rattle.regent_tree.specs.Syntax.{Tree}
 use Rattle.regent_reader.specs.declared.fault.ReadFault.{ReadFault}
@@ -25,12 +26,12 @@ status_of (PastLimit passed) = 8
 status_of (Refused message) = 6
 status_of NotBuilt = 10
 status_of OtherInputs = 9
-status_of (Finished text) = 0
+status_of (Finished text traces) = 0
 status_of Accepted = 0
 
 -- what goes to the output, and what to the error output
 abbrev pub out_text : Verdict → List ℕ
-out_text (Finished text) = text.items
+out_text (Finished text traces) = text.items
 out_text Accepted = accepted_text
 out_text _ = []
 
@@ -43,7 +44,7 @@ err_text (PastLimit passed) = limit_message passed
 err_text (Refused message) = string_bytes message
 err_text NotBuilt = not_built_message
 err_text OtherInputs = inputs_message
-err_text (Finished text) = []
+err_text (Finished text traces) = trace_text traces
 err_text Accepted = []
 
 -- what a verdict says of a text, where this is to be done with it
@@ -56,26 +57,25 @@ Judges text deed (NoProgram message) =
 Judges text deed (PastLimit passed) = PassesLimit text passed
 Judges text deed (Refused message) = (rule : ℕ) × (line : ℕ)
     × (string_bytes message ≡ breach_message rule line) × HasBreach text rule line
-Judges text deed NotBuilt = (numbers : List (List ℕ)) × (deed ≡ runs numbers) × IsNotBuilt text
-Judges text deed OtherInputs =
-    (numbers : List (List ℕ)) × (deed ≡ runs numbers) × HasOtherInputs text numbers
-Judges text deed (Finished printed) =
-    (numbers : List (List ℕ)) × (deed ≡ runs numbers) × IsRun text numbers printed.items
+Judges text deed NotBuilt = (r : Run) × (deed ≡ runs r) × IsNotBuilt text
+Judges text deed OtherInputs = (r : Run) × (deed ≡ runs r) × HasOtherInputs text r.numbers
+Judges text deed (Finished printed traces) = (r : Run) × (deed ≡ runs r) × (traces ≡ r.traces)
+    × IsRun text r.numbers printed.items
 Judges text deed Accepted = (deed ≡ checks) × IsAccepted text
 
--- what it says of an accepted program that is run with the words of numbers
-abbrev pub JudgesRun : Tree → List (List ℕ) → Verdict → Type 0
-JudgesRun tree numbers NoMemory = Unit {0}
-JudgesRun tree numbers NotBuilt = is_running tree ≡ false
-JudgesRun tree numbers OtherInputs = (is_running tree ≡ true) × (inputs : List (Option ℤ))
-    × AreInputs numbers inputs × (are_inputs (main_task tree).params inputs ≡ false)
-JudgesRun tree numbers (Finished printed) =
-    (inputs : List (Option ℤ)) × AreInputs numbers inputs × Prints tree inputs printed.items
-JudgesRun tree numbers _ = ⊥
+-- what it says of an accepted program that is run
+abbrev pub JudgesRun : Tree → Run → Verdict → Type 0
+JudgesRun tree r NoMemory = Unit {0}
+JudgesRun tree r NotBuilt = is_running tree ≡ false
+JudgesRun tree r OtherInputs = (is_running tree ≡ true) × (inputs : List (Option ℤ))
+    × AreInputs r.numbers inputs × (are_inputs (main_task tree).params inputs ≡ false)
+JudgesRun tree r (Finished printed traces) = (traces ≡ r.traces) × (inputs : List (Option ℤ))
+    × AreInputs r.numbers inputs × Prints tree inputs printed.items
+JudgesRun tree r _ = ⊥
 
 -- and of one with which this is to be done
 abbrev pub JudgesAccepted : Tree → Deed → Verdict → Type 0
-JudgesAccepted tree (runs numbers) v = JudgesRun tree numbers v
+JudgesAccepted tree (runs r) v = JudgesRun tree r v
 JudgesAccepted tree checks v = v ≡ Accepted
 
 -- the message of a breach of the tree
@@ -114,18 +114,20 @@ SaysOfText later deed before now (Refused message) = (rule : ℕ) × (line : ℕ
     × (string_bytes message ≡ breach_message rule line)
     × OfNextText later (λ text. HasBreach text rule line)
 SaysOfText later deed before now NotBuilt =
-    (numbers : List (List ℕ)) × (deed ≡ runs numbers) × OfNextText later IsNotBuilt
-SaysOfText later deed before now OtherInputs = (numbers : List (List ℕ)) × (deed ≡ runs numbers)
-    × OfNextText later (λ text. HasOtherInputs text numbers)
-SaysOfText later deed before now (Finished printed) = (numbers : List (List ℕ))
-    × (deed ≡ runs numbers) × OfNextText later (λ text. IsRun text numbers printed.items)
+    (r : Run) × (deed ≡ runs r) × OfNextText later IsNotBuilt
+SaysOfText later deed before now OtherInputs = (r : Run) × (deed ≡ runs r)
+    × OfNextText later (λ text. HasOtherInputs text r.numbers)
+SaysOfText later deed before now (Finished printed traces) = (r : Run) × (deed ≡ runs r)
+    × (traces ≡ r.traces) × OfNextText later (λ text. IsRun text r.numbers printed.items)
 SaysOfText later deed before now Accepted = (deed ≡ checks) × OfNextText later IsAccepted
 
--- what a verdict says: the words are refused, or the text that they name comes to it
-abbrev pub Says : List (List ℕ) → Option (List (List ℕ)) → ℕ → ℕ → Verdict → Type 0
-Says words later before now Usage = command words ≡ None
-Says words later before now v =
-    (named : Command) × (command words ≡ Some named) × SaysOfText later named.deed before now v
+-- What a verdict says where this is asked for: nothing can be done, or the text of the file comes to it,
+-- or memory ran out.
+abbrev pub Says : Option Request → Option (List (List ℕ)) → ℕ → ℕ → Verdict → Type 0
+Says asked later before now Usage = asked ≡ None
+Says asked later before now NoMemory = Unit {0}
+Says asked later before now v =
+    (named : Request) × (asked ≡ Some named) × SaysOfText later named.deed before now v
 
 -- the message of a line, unless memory ran out
 abbrev pub IsNoProgram : ℕ → Verdict → Type 0

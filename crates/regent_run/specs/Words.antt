@@ -1,78 +1,48 @@
--- What the words of the command line say.
-use Rattle.std.specs.Prelude.{ℕ, ◌≡◌, ◌==◌, ◌++◌, Bool, false, List, [], ◌∷◌, Option, Some, None, bytes_eq, codes, map, option_and_then, string_bytes, String, if◌then◌else◌}
-use Rattle.std.specs.Option.{option_map}
-use Rattle.regent_run.specs.declared.words.Deed.{Deed as LentDeed}
-use Rattle.regent_run.specs.declared.words.Deed.TheVariants as deed
-use Rattle.regent_run.specs.declared.words.Named.{Named}
+-- What the words of the command line ask for.
+use Rattle.std.specs.Prelude.{ℕ, ◌≡◌, Bool, List, Option, Some, None, ◌==◌, option_and_then, unwrap_or, if◌then◌else◌}
+use Rattle.command_words.specs.Commands.{Command, Run, command}
+use Rattle.command_words.specs.Commands as said
+use Rattle.command_words.specs.Given.{run_given}
+use Rattle.regent_run.specs.declared.requests.Deed.{Deed as LentDeed}
+use Rattle.regent_run.specs.declared.requests.Deed.TheVariants as deed
+use Rattle.regent_run.specs.declared.requests.Request.{Request as LentRequest}
 
--- a word that could be an option: two bytes or more, and the first is `-` (45)
-abbrev pub is_option : List ℕ → Bool
-is_option [] = false
-is_option (b ∷ []) = false
-is_option (b ∷ c ∷ bytes) = b == 45
-
-abbrev pub is_separator : List ℕ → Bool
-is_separator word = bytes_eq word (codes "--")
-
--- The words that aren't options: the first word `--` is left out, and all behind it stand for
--- themselves. None where an option stands before it, since there is none yet.
-abbrev pub positional : List (List ℕ) → Option (List (List ℕ))
-positional [] = Some []
-positional (word ∷ words) =
-    if is_separator word then Some words
-    else if is_option word then None
-    else option_map (λ more. word ∷ more) (positional words)
-
--- what is to be done with a file: it is run with the numbers that these words spell, or checked
+-- what is to be done with the text of a file: its program is run, or it is checked
 pub data Deed : Type 0 where
-  runs : List (List ℕ) → Deed
+  runs : Run → Deed
   checks : Deed
 
--- a file, and what is to be done with it
-pub record Command : Type 0 where
+-- a file, and what is to be done with its text
+pub record Request : Type 0 where
   pub file : List ℕ
   pub deed : Deed
 
--- to run: a file and numbers
-abbrev pub to_run : List (List ℕ) → Option Command
-to_run [] = None
-to_run (file ∷ numbers) = Some (record { file = file; deed = runs numbers })
+-- Where no worker is named, or none at all, a program runs in order.
+abbrev pub is_in_order : Run → Bool
+is_in_order r = unwrap_or r.workers_named 0 == 0
 
--- to check: one file and no other word
-abbrev pub to_check : List (List ℕ) → Option Command
-to_check [] = None
-to_check (file ∷ []) = Some (record { file = file; deed = checks })
-to_check (file ∷ word ∷ words) = None
+-- What a command asks for. None where it can't be done yet: a run with workers, and a sample.
+abbrev pub asked_by : Command → Option Request
+asked_by (said.runs r) =
+    if is_in_order r then Some (record { file = r.file; deed = runs r }) else None
+asked_by (said.checks file) = Some (record { file = file; deed = checks })
+asked_by (said.samples workers cells) = None
 
--- the command of this name, with these positional words
-abbrev pub command_of : List ℕ → List (List ℕ) → Option Command
-command_of name words =
-    if bytes_eq name (codes "run") then to_run words
-    else if bytes_eq name (codes "check") then to_check words
-    else None
-
--- What the words say: behind the program's name stand the command's name and its words. None where
--- the words are refused.
-abbrev pub command : List (List ℕ) → Option Command
-command [] = None
-command (program ∷ []) = None
-command (program ∷ name ∷ words) = option_and_then (command_of name) (positional words)
+-- What the words ask for. None where they are refused: they say no command, or one that can't be done yet.
+abbrev pub request : List (List ℕ) → Option Request
+request words = option_and_then asked_by (command words)
 
 -- the words name a file, and this is to be done with it
 pub record Asks (words : List (List ℕ)) (deed : Deed) : Type 0 where
-  pub named : Command
-  pub words_name : command words ≡ Some named
+  pub named : Request
+  pub words_name : request words ≡ Some named
   pub same : named.deed ≡ deed
 
--- the bytes of each word
-abbrev pub texts : {A : Type 0} → List (String A) → List (List ℕ)
-texts words = map string_bytes words
+-- ---- the same as the code has it
 
--- ---- the same of the words that are lent
+abbrev pub deed_given : LentDeed → Deed
+deed_given (deed.Run r) = runs (run_given r.now)
+deed_given deed.Check = checks
 
-abbrev pub deed_of : LentDeed → Deed
-deed_of (deed.Run before behind) = runs (texts before.now ++ texts behind.now)
-deed_of deed.Check = checks
-
-abbrev pub command_named : Named → Command
-command_named named = record { file = named.file.now; deed = deed_of named.deed }
+abbrev pub request_given : LentRequest → Request
+request_given r = record { file = r.file.now; deed = deed_given r.deed }

@@ -1,8 +1,7 @@
 //! The numbers that words spell.
 
-ghost use Rattle.std.specs.Prelude.{◌≡◌, ◌++◌, IfOk, List, ℕ};
+ghost use Rattle.std.specs.Prelude.{◌≡◌, IfOk, map};
 ghost use Rattle.regent_run.specs.Inputs.{AreInputs, IsInput, digits_in};
-ghost use Rattle.regent_run.specs.Words.{texts};
 
 use std::alloc::{AllocError, Global};
 
@@ -26,29 +25,13 @@ fn input_of(word: &str) -> Option<i64>
     word.parse::<i64>().ok()
 }
 
-/// The inputs so far with those of more words.
-fn with_inputs(
-    mut inputs: Vec<Option<i64>>,
-    words: &[String],
-) -> Result<Vec<Option<i64>>, AllocError>
-    ensures { (before : List (List ℕ)) → AreInputs before inputs.items →
-        IfOk result (λ more. AreInputs (before ++ texts words.now) more.items) }
+/// The inputs of the words.
+pub fn inputs_of(alloc: Global, words: &[&str]) -> Result<Vec<Option<i64>>, AllocError>
+    ensures { IfOk result (λ inputs. AreInputs (map (λ word. word.now) words.now) inputs.items) }
 {
+    let mut inputs = Vec::new(alloc);
     for word in words {
-        inputs.push(input_of(word.as_str()))?;
+        inputs.push(input_of(word))?;
     }
     Ok(inputs)
-}
-
-/// The inputs of the words before and behind a separator.
-pub fn inputs_of(
-    alloc: Global,
-    before: &[String],
-    behind: &[String],
-) -> Result<Vec<Option<i64>>, AllocError>
-    ensures { IfOk result (λ inputs.
-        AreInputs (texts before.now ++ texts behind.now) inputs.items) }
-{
-    let inputs = with_inputs(Vec::new(alloc), before)?;
-    with_inputs(inputs, behind)
 }

@@ -1,22 +1,24 @@
 //! From words and a source to a verdict.
 
-ghost use Rattle.std.specs.Prelude.{◌≡◌, ◌≤◌, ◌++◌, None};
+ghost use Rattle.std.specs.Prelude.{◌≡◌, ◌≤◌, None, Some};
 ghost use Rattle.std.specs.Option.{option_map};
 ghost use Rattle.regent_tree.specs.Limits.{WithinLimits};
 ghost use Rattle.regent_tree.specs.PlainProgram.{tree_of};
 ghost use Rattle.regent_reader.specs.declared.fault.ReadFault.TheVariants.{Lex};
 ghost use Rattle.run_io.specs.Source.{next_left};
-ghost use Rattle.regent_run.specs.Begins.{Begins, BeginsFile};
+ghost use Rattle.command_words.specs.Given.{run_given, texts};
+ghost use Rattle.regent_run.specs.Begins.{Begins};
 ghost use Rattle.regent_run.specs.Programs.{limit_counted, limit_in_token};
 ghost use Rattle.regent_run.specs.Reading.{IsSteady, TakesAtMost, ReadsToEnd};
-ghost use Rattle.regent_run.specs.Verdicts.{IsNoProgram, IsRefused, Judges, JudgesAccepted, JudgesProgram, JudgesRun, TellsFault, Says, SaysOfText};
-ghost use Rattle.regent_run.specs.Words.{command, deed_of, texts};
+ghost use Rattle.regent_run.specs.Verdicts.{IsNoProgram, IsRefused, Judges, JudgesAccepted, JudgesProgram, JudgesRun, TellsFault, Says};
+ghost use Rattle.regent_run.specs.Words.{deed_given, request, request_given};
 
 use crate::inputs::inputs_of;
 use crate::limit::Limit;
+use crate::requests::{Deed, Request, asked_by};
 use crate::text::{NoText, read_text};
 use crate::verdict::Verdict;
-use crate::words::{Deed, Named, command};
+use command_words::{Run, WordsFault, command};
 use regent_lex::LexKind;
 use regent_reader::{ReadFault, read};
 use regent_tree::{Counted, Program};
@@ -93,34 +95,37 @@ fn broken_rule(alloc: Global, rule: u8, line: u32) -> Verdict
 }
 
 /// What an accepted program comes to that is run.
-fn judge_run(alloc: Global, program: &Program, before: &[String], behind: &[String]) -> Verdict
-    ensures { JudgesRun (tree_of program.now) (texts before.now ++ texts behind.now) result }
+fn judge_run(alloc: Global, program: &Program, asked: &Run<'_>) -> Verdict
+    ensures { JudgesRun (tree_of program.now) (run_given asked.now) result }
 {
-    let Ok(inputs) = inputs_of(alloc, before, behind) else {
+    let Ok(inputs) = inputs_of(alloc, asked.numbers.as_slice()) else {
         return Verdict::NoMemory;
     };
     match run(alloc, program, inputs.as_slice()) {
         Ok(Answer::NotRunning) => Verdict::NotBuilt,
         Ok(Answer::OtherInputs) => Verdict::OtherInputs,
-        Ok(Answer::Printed(text)) => Verdict::Finished { text },
+        Ok(Answer::Printed(text)) => Verdict::Finished {
+            text,
+            trace: asked.trace,
+        },
         Err(_) => Verdict::NoMemory,
     }
 }
 
 /// What an accepted program comes to.
-fn judge_accepted(alloc: Global, program: &Program, deed: &Deed<'_>) -> Verdict
-    ensures { JudgesAccepted (tree_of program.now) (deed_of deed.now) result }
+fn judge_accepted(alloc: Global, program: &Program, deed: &Deed<'_, '_>) -> Verdict
+    ensures { JudgesAccepted (tree_of program.now) (deed_given deed.now) result }
 {
     match deed {
-        Deed::Run { before, behind } => judge_run(alloc, program, before, behind),
+        Deed::Run(asked) => judge_run(alloc, program, asked),
         Deed::Check => Verdict::Accepted,
     }
 }
 
 /// What a program comes to.
-fn judge_program(alloc: Global, program: Program, deed: &Deed<'_>) -> Verdict
+fn judge_program(alloc: Global, program: Program, deed: &Deed<'_, '_>) -> Verdict
     requires { WithinLimits (tree_of program) }
-    ensures { JudgesProgram (tree_of program) (deed_of deed.now) result }
+    ensures { JudgesProgram (tree_of program) (deed_given deed.now) result }
 {
     match check(alloc, program) {
         Ok(accepted) => judge_accepted(alloc, accepted.program(), deed),
@@ -130,8 +135,8 @@ fn judge_program(alloc: Global, program: Program, deed: &Deed<'_>) -> Verdict
 }
 
 /// What a text comes to.
-fn judge_text(alloc: Global, text: &[u8], deed: &Deed<'_>) -> Verdict
-    ensures { Judges text.now (deed_of deed.now) result }
+fn judge_text(alloc: Global, text: &[u8], deed: &Deed<'_, '_>) -> Verdict
+    ensures { Judges text.now (deed_given deed.now) result }
 {
     match read(alloc, text) {
         Ok(program) => judge_program(alloc, program, deed),
@@ -140,10 +145,10 @@ fn judge_text(alloc: Global, text: &[u8], deed: &Deed<'_>) -> Verdict
 }
 
 /// What the text of a file comes to.
-fn judge_file<S: Source>(alloc: Global, named: &Named<'_>, source: &mut S) -> Verdict
-    ensures said { SaysOfText (S.later source.old) (deed_of named.now.deed)
+fn judge_file<S: Source>(alloc: Global, asked: &Request<'_, '_>, source: &mut S) -> Verdict
+    ensures said { Says (Some (request_given asked.now)) (S.later source.old)
         (S.faults source.old) (S.faults source.new) result }
-    ensures begins { BeginsFile named.now.file.now (S.begins source.old) (S.begins source.new)
+    ensures begins { Begins (Some (request_given asked.now)) (S.begins source.old) (S.begins source.new)
         (S.names source.old) (S.names source.new) result }
     ensures takes { TakesAtMost 1048577 (option_map next_left (S.later source.old))
         (S.left source.old) (S.left source.new) }
@@ -151,11 +156,11 @@ fn judge_file<S: Source>(alloc: Global, named: &Named<'_>, source: &mut S) -> Ve
     ensures faults { S.faults source.old ≤ S.faults source.new }
     ensures steady { IsSteady (S.faults source.old) (S.faults source.new) result }
 {
-    let Ok(name) = String::from_str(alloc, named.file) else {
+    let Ok(name) = String::from_str(alloc, asked.file) else {
         return Verdict::NoMemory;
     };
     match read_text(alloc, source, name) {
-        Ok(text) => judge_text(alloc, text.as_slice(), &named.deed),
+        Ok(text) => judge_text(alloc, text.as_slice(), &asked.deed),
         Err(NoText::Failed) => Verdict::Unread,
         Err(NoText::Memory) => Verdict::NoMemory,
     }
@@ -163,9 +168,9 @@ fn judge_file<S: Source>(alloc: Global, named: &Named<'_>, source: &mut S) -> Ve
 
 /// What the words and the source come to.
 pub fn judge<S: Source>(alloc: Global, words: &[String], source: &mut S) -> Verdict
-    ensures untouched { command (texts words.now) ≡ None → source.new ≡ source.old }
-    ensures said { Says (texts words.now) (S.later source.old) (S.faults source.old) (S.faults source.new) result }
-    ensures begins { Begins (texts words.now) (S.begins source.old) (S.begins source.new)
+    ensures untouched { request (texts words.now) ≡ None → source.new ≡ source.old }
+    ensures said { Says (request (texts words.now)) (S.later source.old) (S.faults source.old) (S.faults source.new) result }
+    ensures begins { Begins (request (texts words.now)) (S.begins source.old) (S.begins source.new)
         (S.names source.old) (S.names source.new) result }
     ensures takes { TakesAtMost 1048577 (option_map next_left (S.later source.old))
         (S.left source.old) (S.left source.new) }
@@ -173,8 +178,13 @@ pub fn judge<S: Source>(alloc: Global, words: &[String], source: &mut S) -> Verd
     ensures faults { S.faults source.old ≤ S.faults source.new }
     ensures steady { IsSteady (S.faults source.old) (S.faults source.new) result }
 {
-    match command(words) {
+    let said = match command(alloc, words) {
+        Ok(said) => said,
+        Err(WordsFault::Refused) => return Verdict::Usage,
+        Err(WordsFault::Memory(_)) => return Verdict::NoMemory,
+    };
+    match asked_by(&said) {
+        Some(asked) => judge_file(alloc, &asked, source),
         None => Verdict::Usage,
-        Some(named) => judge_file(alloc, &named, source),
     }
 }

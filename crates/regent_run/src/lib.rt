@@ -3,20 +3,21 @@
 #![tactic(auto)]
 
 ghost use Rattle.std.specs.Prelude.{◌≡◌, None};
+ghost use Rattle.command_words.specs.Given.{texts};
 ghost use Rattle.regent_run.specs.Answers.{IsAnswered};
 ghost use Rattle.regent_run.specs.Calls.{call_of, sink_change, source_change};
-ghost use Rattle.regent_run.specs.Words.{command, texts};
+ghost use Rattle.regent_run.specs.Words.{request};
 
 mod inputs;
 mod judge;
 mod laws;
 mod limit;
 mod program;
+mod requests;
 #[cfg(test)]
 mod tests;
 mod text;
 mod verdict;
-mod words;
 
 use judge::judge;
 pub use laws::texts_have_one_status;
@@ -26,12 +27,13 @@ use std::alloc::Global;
 
 /// Does what the words say, and gives the status.
 ///
-/// The words are `regent run FILE [NUMBER ..]` or `regent check FILE`; behind a word `--` none is an
-/// option. The file's text is that which the source leaves when it is begun by that name. The
+/// The words are those that `command_words` takes; what can't be done yet, a run with workers or a sample,
+/// is refused as well. The file's text is that which the source leaves when it is begun by that name. The
 /// statuses: 0 the program finished or is accepted, 2 the words are refused, 3 the text can't be read,
 /// 4 a write failed, 5 the text is no program, 6 the program breaches a rule, 7 memory ran out, 8 the
 /// text passes a limit, 9 the numbers aren't those that the program takes, 10 the program can't be run
-/// yet. What is printed, or `accepted`, goes to `out`, and then one line about an error to `err`.
+/// yet. What is printed, or `accepted`, goes to `out`, and then the trace that is asked for, or one
+/// line about an error, to `err`.
 pub fn regent_run<S: Source, K: Sink, E: Sink>(
     alloc: Global,
     words: &Vec<String>,
@@ -44,7 +46,7 @@ pub fn regent_run<S: Source, K: Sink, E: Sink>(
         (source_change S.Source source.old source.new)
         (sink_change K.Sink out.old out.new) (sink_change E.Sink err.old err.new)) result }
     // Where the words are refused, the source stays as it is.
-    ensures untouched { command (texts words.now.items) ≡ None → source.new ≡ source.old }
+    ensures untouched { request (texts words.now.items) ≡ None → source.new ≡ source.old }
 {
     let verdict = judge(alloc, words.as_slice(), source);
     verdict.deliver(out, err)

@@ -2,6 +2,7 @@
 
 ghost use Rattle.std.specs.Prelude.{◌≡◌};
 ghost use Rattle.regent_run.specs.Calls.{sink_change};
+ghost use Rattle.regent_run.specs.Texts.{trace_text};
 ghost use Rattle.regent_run.specs.Verdicts.{IsDelivered, out_text, err_text, status_of};
 
 use crate::limit::Limit;
@@ -25,10 +26,17 @@ pub enum Verdict {
     NotBuilt,
     /// The words aren't the numbers that the program takes.
     OtherInputs,
-    /// The program has printed this text.
-    Finished { text: Vec<u8> },
+    /// The program has printed this text. Its trace may have been asked for.
+    Finished { text: Vec<u8>, trace: bool },
     /// The program is accepted, and that is all that was asked.
     Accepted,
+}
+
+/// The trace of a run in order, where it is asked for.
+fn trace_text(traces: bool) -> &'static [u8]
+    ensures { result.now ≡ trace_text traces }
+{
+    if traces { b"in order\n" } else { b"" }
 }
 
 impl Verdict {
@@ -53,7 +61,7 @@ impl Verdict {
         ensures { result.now ≡ out_text self.now }
     {
         match self {
-            Verdict::Finished { text } => text.as_slice(),
+            Verdict::Finished { text, .. } => text.as_slice(),
             Verdict::Accepted => b"accepted\n",
             _ => b"",
         }
@@ -72,7 +80,8 @@ impl Verdict {
             Verdict::Refused { message } => message.as_bytes(),
             Verdict::NotBuilt => b"error: not built\n",
             Verdict::OtherInputs => b"error: inputs\n",
-            Verdict::Finished { .. } | Verdict::Accepted => b"",
+            Verdict::Finished { trace, .. } => trace_text(*trace),
+            Verdict::Accepted => b"",
         }
     }
 

@@ -1,9 +1,8 @@
-use Rattle.std.proofs.Common.{[]}
-use Rattle.regent_run.specs.Inputs.{AreInputs}
-use Rattle.regent_run.specs.Words.{texts}
+use Rattle.regent_run.proofs.InputLaws.{input_on}
 use Rattle.regent_run.proofs.inputs.inputs_of.Goals as goal
 
-pub returns : goal.returns
-returns c =
-    let start : AreInputs [] c.new.result.items = rw c.new.ensures.items tt in
-    c.with_inputs-2.ensures (texts c.args.before.now) (c.in_ok-inputs.ensures [] start)
+pub loop-word-preserved : goal.loop-word-preserved
+loop-word-preserved c =
+    rw c.in_ok-push.ensures.items
+    (input_on (λ word. word.now) c.args.words.now c.loop-word.word-index _ c.loop-word.inputs.items c.input_of.result
+    c.loop-word-test.true c.input_of.ensures c.loop-word.invariant)

@@ -1,9 +1,9 @@
 use Rattle.regent_tree.specs.PlainProgram.{tree_of}
-use Rattle.regent_run.specs.Words.{deed_of}
+use Rattle.regent_run.specs.Words.{deed_given}
 use Rattle.regent_run.proofs.Judging.{program_judges}
 use Rattle.regent_run.proofs.judge.judge_text.Goals as goal
 
 pub returns-in-Ok : goal.returns-in-Ok
 returns-in-Ok c =
-    program_judges c.args.text.now (deed_of c.args.deed.now) (tree_of c.in-Ok.program) c.judge_program.result
+    program_judges c.args.text.now (deed_given c.args.deed.now) (tree_of c.in-Ok.program) c.judge_program.result
     c.in-Ok.ensures.reads c.judge_program.ensures
