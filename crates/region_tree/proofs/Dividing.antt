@@ -1,7 +1,7 @@
 -- The points of a field, divided by the join of the modes.
-use Rattle.std.proofs.Common.{◌≡◌, ◌≢◌, ℕ, ◌+◌, ◌<◌, Bool, true, false, not, ◌&&◌, ◌||◌, cond}
-use Rattle.std.proofs.Common.{⊎_elim, Some, None, List, [], ◌∷◌, ◌++◌, length, get_or, refl, sym}
-use Rattle.std.proofs.Common.{ap, ◌∙◌, subst, arith, drop, Result, Ok, Err}
+use Rattle.std.proofs.Common.{◌≡◌, ◌≢◌, ℕ, Bool, true, false, not, ◌&&◌, ◌||◌, cond}
+use Rattle.std.proofs.Common.{⊎_elim, Some, None, List, [], ◌∷◌, ◌++◌, refl, sym}
+use Rattle.std.proofs.Common.{ap, ◌∙◌, subst, arith, Result, Ok, Err}
 use Rattle.std.proofs.lemmas.Bool.{cases_Bool, cond-true, cond-false, false≢true}
 use Rattle.std.specs.List.{list_any, list_all}
 use Rattle.std.specs.List.Sorted.{IsStrictlyIncreasing}
@@ -12,16 +12,12 @@ use Rattle.plain_values.specs.Points.{IsPoints, has, union_of, minus_of}
 use Rattle.point_sets.proofs.Rising.{members_decide, has-filter, has-minus_of, has-union_of}
 use Rattle.point_sets.proofs.Rising.{rising-filter, rising-union_of}
 use Rattle.point_sets.specs.declared.TheConstants.{POINT_LIMIT}
-use Rattle.region_tree.specs.Modes.{is_as, is_required, is_wanted}
+use Rattle.region_tree.specs.Modes.{is_as, is_required}
 use Rattle.region_tree.specs.Requirements.{Requirement, is_of, is_at, is_mode, modes_at, mode_at}
 use Rattle.region_tree.specs.Requirements.{join_from, same_mode, points_joined, points_required}
 use Rattle.region_tree.proofs.Joins.{from_Some, modes_at-here, modes_at-not, same_mode-tells}
 use Rattle.region_tree.proofs.Joins.{same_mode-itself}
 use Rattle.std.proofs.lemmas.List.Folds.{list_any-append}
-use Rattle.std.proofs.lemmas.List.{drop_more}
-use Rattle.region_tree.specs.Needs.{requirement_of, requirements_of}
-use Rattle.region_tree.specs.Trees.{RegionTree, set_at}
-use Rattle.region_tree.specs.declared.needs.Need.{Need}
 use Rattle.std.specs.Result.{IfOk}
 
 -- ---- the test of any mode at a point
@@ -312,36 +308,6 @@ pub without_shared : (rs : List Requirement) (root field : ℕ) (points : List �
 without_shared rs root field points h =
     joined-from_members rs root field Write points h.set.rising
     (λ p. h.members p ∙ written_is (modes_at rs root field p))
-
--- ---- steps over needs
-
-module _ (t : RegionTree) (needs : List Need) (i : ℕ) (d : Need) (l : i < length needs)
-    (root field : ℕ) (mode : Mode) (same : Bool) (all : List Requirement) (points : List ℕ)
-    (h : IsGathered root field mode same all (requirements_of t (drop i needs)) points) where
-  next_left : IsGathered root field mode same all
-      (requirement_of t (get_or needs i d) ∷ requirements_of t (drop (i + 1) needs)) points
-  next_left =
-      subst (λ (ns : List Need). IsGathered root field mode same all (requirements_of t ns) points)
-      (drop_more needs i d l) h
-
-  pub gathered_need : (set after : List ℕ) →
-      is_wanted root field mode same (get_or needs i d) ≡ true →
-      set ≡ set_at t (get_or needs i d).node.0 → after ≡ union_of points set →
-      IsPoints POINT_LIMIT after → IsGathered root field mode same all
-      (requirements_of t (drop (i + 1) needs)) after
-  gathered_need set after e is made good =
-      let r = requirement_of t (get_or needs i d) in
-      let whole = made ∙ ap (union_of points) is in
-      subst (IsGathered root field mode same all (requirements_of t (drop (i + 1) needs)))
-      (sym whole) (gathered_wanted root field mode same all r
-      (requirements_of t (drop (i + 1) needs)) points next_left e
-      (subst (IsPoints POINT_LIMIT) whole good))
-
-  pub passed_need : is_wanted root field mode same (get_or needs i d) ≡ false →
-      IsGathered root field mode same all (requirements_of t (drop (i + 1) needs)) points
-  passed_need e =
-      gathered_unwanted root field mode same all (requirement_of t (get_or needs i d))
-      (requirements_of t (drop (i + 1) needs)) points next_left e
 
 pub needed_members : (rs : List Requirement) (root field : ℕ) (own others s : List ℕ) →
     s ≡ union_of own others → ((p : ℕ) →

@@ -4,7 +4,7 @@ use Rattle.std.proofs.Common.{None, List, [], ◌∷◌, length, get_or, map, fi
 use Rattle.std.proofs.Common.{arith}
 use Rattle.std.proofs.lemmas.Bool.{cond-true, cond-false, cases_Bool, false≢true}
 use Rattle.std.specs.List.{list_all}
-use Rattle.lane_kernels.specs.Modes.{joined, same_op}
+use Rattle.lane_kernels.specs.Modes.{joined}
 use Rattle.lane_kernels.specs.declared.numbers.Mode.{Mode}
 use Rattle.lane_kernels.specs.declared.numbers.Mode.TheVariants.{Read, Write, Reduce}
 use Rattle.lane_kernels.proofs.SameOps.{same_op-itself, same_op-tells}

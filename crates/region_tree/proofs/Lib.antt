@@ -1,6 +1,7 @@
 pub mod Apart
 pub mod Covering
 pub mod Dividing
+pub mod Gathering
 pub mod Growth
 pub mod Interfering
 pub mod Joins

@@ -16,11 +16,6 @@ abbrev pub is_required : List Mode → Bool
 is_required [] = false
 is_required (m ∷ ms) = true
 
--- whether a need is for a field of a root, in a mode or in another one
-abbrev pub is_wanted : ℕ → ℕ → Mode → Bool → Need → Bool
-is_wanted root field m same n =
-    (n.root.0 == root) && (n.field == field) && is_as m same n.mode
-
 -- whether a need has another one's mode, if it is of that one's field
 abbrev pub is_in_mode : Need → Need → Bool
 is_in_mode n other =

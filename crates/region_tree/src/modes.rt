@@ -31,7 +31,7 @@ fn is_at(tree: &Tree, need: &Need, root: RootId, field: u8, point: u32) -> bool
 }
 
 /// One more mode, joined to the earlier ones.
-fn join_onto(joined: Option<Mode>, mode: Mode) -> Option<Mode>
+pub fn join_onto(joined: Option<Mode>, mode: Mode) -> Option<Mode>
     ensures { result ≡ join_onto joined mode }
 {
     match joined {

@@ -1,15 +1,14 @@
 use Rattle.std.proofs.Common.{List, ◌+◌, take, sym, subst}
 use Rattle.std.proofs.lemmas.List.{take_more, take_all}
 use Rattle.lane_kernels.specs.declared.numbers.Mode.{Mode}
-use Rattle.region_tree.specs.Needs.{requirements_of}
 use Rattle.region_tree.proofs.Dividing.{IsWithout, shared_modes, without_more, without_shared}
-use Rattle.region_tree.proofs.part.points_written.Goals as goal
+use Rattle.region_tree.proofs.required_part.points_written.Goals as goal
 use Rattle.plain_values.specs.Points.{IsPoints, minus_of}
 use Rattle.point_sets.specs.declared.TheConstants.{POINT_LIMIT}
 
 pub loop-mode-preserved : goal.loop-mode-preserved
 loop-mode-preserved c =
-    let rs = requirements_of c.args.tree.now c.args.needs.now in
+    let rs = c.args.needs.now in
     let i = c.loop-mode.mode-index in
     let after = c.in_ok-points-2.points in
     let is = c.in_ok-points-2.ensures.value in
@@ -23,7 +22,7 @@ loop-mode-preserved c =
 
 pub returns : goal.returns
 returns c =
-    let rs = requirements_of c.args.tree.now c.args.needs.now in
+    let rs = c.args.needs.now in
     without_shared rs c.args.root.0 c.args.field c.loop-mode.points
     (subst (λ (ms : List Mode). IsWithout rs c.args.root.0 c.args.field ms c.loop-mode.points)
     (take_all c.loop-mode.mode-index shared_modes c.loop-mode-test.false) c.loop-mode.invariant)

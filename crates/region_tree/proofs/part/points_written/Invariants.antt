@@ -1,9 +1,0 @@
-use Rattle.region_tree.specs.Needs.{requirements_of}
-use Rattle.std.proofs.Common.{take}
-use Rattle.region_tree.proofs.Dividing.{IsWithout}
-use Rattle.region_tree.proofs.part.points_written.Given as goal
-
-abbrev pub invariant-loop-mode : goal.invariant-loop-mode
-invariant-loop-mode l =
-    IsWithout (requirements_of l.tree l.needs) l.root.0 l.field (take l.mode-index l.mode-items)
-    l.points
