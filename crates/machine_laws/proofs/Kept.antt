@@ -5,15 +5,15 @@ use Rattle.regent_tree.specs.declared.outcome.Fault.{Fault}
 use Rattle.task_code.specs.declared.code.Code.{Code}
 use Rattle.task_code.specs.declared.code.Line.{Line}
 use Rattle.task_code.specs.declared.code.TaskCode.{TaskCode}
-use Rattle.task_machine.specs.declared.frame.Before.{Before}
-use Rattle.task_machine.specs.declared.frame.Frame.{Frame}
-use Rattle.task_machine.specs.declared.outcome.Yield.TheVariants as yield
-use Rattle.task_machine.specs.declared.value.Value.{Value}
-use Rattle.task_machine.specs.Jumps.{fetch}
-use Rattle.task_machine.specs.Machine.{Machine, Stepped}
-use Rattle.task_machine.specs.Segments.{Stopped, act_at, enough, on_stop, opened, run, step, stop_of, stopped_by, stopped_in}
-use Rattle.task_machine.proofs.StepKinds.{Asking, Fixed, Kind, over, called, makes, wants, awaits, nexted, printed, jumped, turned, fixed, key_of, slot_of}
-use Rattle.task_machine.proofs.InstructionKinds.{act_kind}
+use Rattle.machine_terms.specs.declared.frame.Before.{Before}
+use Rattle.machine_terms.specs.declared.frame.Frame.{Frame}
+use Rattle.machine_terms.specs.declared.outcome.Yield.TheVariants as yield
+use Rattle.machine_terms.specs.declared.value.Value.{Value}
+use Rattle.machine_terms.specs.Jumps.{fetch}
+use Rattle.machine_terms.specs.Machine.{Machine, Stepped}
+use Rattle.machine_terms.specs.Segments.{Stopped, act_at, enough, on_stop, opened, run, step, stop_of, stopped_by, stopped_in}
+use Rattle.machine_terms.proofs.StepKinds.{Asking, Fixed, Kind, over, called, makes, wants, awaits, nexted, printed, jumped, turned, fixed, key_of, slot_of}
+use Rattle.machine_terms.proofs.InstructionKinds.{act_kind}
 
 -- ---- steps
 

@@ -5,8 +5,8 @@ use Rattle.std.specs.Prelude.{length}
 use Rattle.std.proofs.lemmas.List.{length-map}
 use Rattle.region_tree.specs.Pieces.{Held}
 use Rattle.region_tree.specs.declared.piece.Part.{Part}
-use Rattle.task_machine.proofs.KeptParts.{bare_part, bare_piece}
-use Rattle.task_machine.specs.Segments.{stop_of}
+use Rattle.machine_terms.proofs.KeptParts.{bare_part, bare_piece}
+use Rattle.machine_terms.specs.Segments.{stop_of}
 use Rattle.machine_laws.proofs.Kept.{stop_fixed}
 use Rattle.machine_laws.specs.Parts.{PieceIsKept, PartIsKept, SegmentsKeepParts}
 

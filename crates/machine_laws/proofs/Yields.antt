@@ -5,12 +5,12 @@ use Rattle.std.proofs.lemmas.Bool.{eq-eqb}
 use Rattle.task_code.specs.declared.code.Code.{Code}
 use Rattle.task_code.specs.declared.code.Line.{Line}
 use Rattle.task_code.specs.declared.code.TaskCode.{TaskCode}
-use Rattle.task_machine.specs.declared.frame.Before.{Before}
-use Rattle.task_machine.specs.declared.outcome.Yield.{Yield}
-use Rattle.task_machine.specs.declared.outcome.Yield.TheVariants as yield
-use Rattle.task_machine.specs.Machine.{Machine, stops}
-use Rattle.task_machine.specs.Segments.{Stopped, step, on_stop, run, enough, stopped_by, stopped_in, after, opened}
-use Rattle.task_machine.proofs.Fuel.{Halts, halts_now, halts_later, halts_printing, stops_in_fuel}
+use Rattle.machine_terms.specs.declared.frame.Before.{Before}
+use Rattle.machine_terms.specs.declared.outcome.Yield.{Yield}
+use Rattle.machine_terms.specs.declared.outcome.Yield.TheVariants as yield
+use Rattle.machine_terms.specs.Machine.{Machine, stops}
+use Rattle.machine_terms.specs.Segments.{Stopped, step, on_stop, run, enough, stopped_by, stopped_in, after, opened}
+use Rattle.machine_terms.proofs.Fuel.{Halts, halts_now, halts_later, halts_printing, stops_in_fuel}
 use Rattle.machine_laws.specs.Yields.{Begins, Comes, comes_here, comes_going, comes_printing, SegmentsYield}
 
 module _ (code : Code) (body : List Line) where

@@ -11,9 +11,9 @@ use Rattle.region_tree.specs.declared.needs.Need.{Need}
 use Rattle.region_tree.specs.declared.piece.Part.{Part}
 use Rattle.task_code.specs.declared.instr.Instr.{Instr}
 use Rattle.task_code.specs.declared.instr.Instr.TheVariants as instr
-use Rattle.task_machine.specs.declared.frame.Before.{Before}
-use Rattle.task_machine.specs.declared.outcome.Yield.TheVariants as yield
-use Rattle.task_machine.specs.Segments.{segment}
+use Rattle.machine_terms.specs.declared.frame.Before.{Before}
+use Rattle.machine_terms.specs.declared.outcome.Yield.TheVariants as yield
+use Rattle.machine_terms.specs.Segments.{segment}
 use Rattle.machine_laws.specs.Words.{num, pointer, region, need, held, part, alone, ends, breaks, gives}
 
 -- A task with a region of the points 2 and 3 of root 0, which needs field 0 there in a mode and holds it,

@@ -2,8 +2,8 @@
 use Rattle.std.specs.Prelude.{ℕ, [], ◌∷◌, ◌^◌, ◌-◌}
 use Rattle.regent_tree.specs.declared.outcome.FaultKind.TheVariants.{Turns, Depth}
 use Rattle.task_code.specs.declared.instr.Instr.TheVariants as instr
-use Rattle.task_machine.specs.declared.frame.Before.{Before}
-use Rattle.task_machine.specs.declared.outcome.Yield.TheVariants as yield
+use Rattle.machine_terms.specs.declared.frame.Before.{Before}
+use Rattle.machine_terms.specs.declared.outcome.Yield.TheVariants as yield
 use Rattle.machine_laws.specs.Words.{task, code_of, num, number, frame, ends, breaks, faults}
 
 -- A call of a task with so many arguments; there is one other task, of two parameters. The turns, the

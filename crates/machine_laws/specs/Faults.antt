@@ -4,9 +4,9 @@ use Rattle.lane_kernels.specs.declared.numbers.Width.TheVariants.{W32, W64}
 use Rattle.regent_tree.specs.declared.outcome.FaultKind.TheVariants.{DivideByZero, OutOfRegion, NullPointer, BadColor, AssertFailed, Turns, Depth, BadSize}
 use Rattle.task_code.specs.declared.instr.Instr.{Instr}
 use Rattle.task_code.specs.declared.instr.Instr.TheVariants as instr
-use Rattle.task_machine.specs.declared.frame.Before.{Before}
-use Rattle.task_machine.specs.declared.outcome.Yield.TheVariants as yield
-use Rattle.task_machine.specs.declared.value.Value.TheVariants as value
+use Rattle.machine_terms.specs.declared.frame.Before.{Before}
+use Rattle.machine_terms.specs.declared.outcome.Yield.TheVariants as yield
+use Rattle.machine_terms.specs.declared.value.Value.TheVariants as value
 use Rattle.machine_laws.specs.Calls.{calling}
 use Rattle.machine_laws.specs.Partitions.{partition}
 use Rattle.machine_laws.specs.Words.{num, null, region, alone, ends, faults, gives}

@@ -2,9 +2,9 @@
 use Rattle.std.specs.Prelude.{ℕ, List, [], ◌∷◌, Some, None}
 use Rattle.regent_tree.specs.declared.outcome.FaultKind.TheVariants.{BadColor}
 use Rattle.task_code.specs.declared.instr.Instr.TheVariants as instr
-use Rattle.task_machine.specs.declared.frame.Before.{Before}
-use Rattle.task_machine.specs.declared.outcome.Yield.TheVariants as yield
-use Rattle.task_machine.specs.declared.value.Value.{Value}
+use Rattle.machine_terms.specs.declared.frame.Before.{Before}
+use Rattle.machine_terms.specs.declared.outcome.Yield.TheVariants as yield
+use Rattle.machine_terms.specs.declared.value.Value.{Value}
 use Rattle.machine_laws.specs.Words.{task, code_of, num, number, frame, alone, ends, breaks, faults}
 
 -- A code with one task, of one slot, which returns at once; a frame of one of its tasks.

@@ -3,9 +3,9 @@ use Rattle.std.specs.Prelude.{ℕ, ℤ, pos, [], ◌∷◌, Bool, true, false}
 use Rattle.lane_kernels.specs.declared.numbers.Width.TheVariants.{W64}
 use Rattle.regent_tree.specs.declared.outcome.FaultKind.TheVariants.{Turns}
 use Rattle.task_code.specs.declared.instr.Instr.TheVariants as instr
-use Rattle.task_machine.specs.declared.frame.Before.{Before}
-use Rattle.task_machine.specs.declared.value.Value.{Value}
-use Rattle.task_machine.specs.declared.value.Value.TheVariants as value
+use Rattle.machine_terms.specs.declared.frame.Before.{Before}
+use Rattle.machine_terms.specs.declared.value.Value.{Value}
+use Rattle.machine_terms.specs.declared.value.Value.TheVariants as value
 use Rattle.machine_laws.specs.Words.{num, null, pointer, number, region, alone, breaks, faults, gives}
 
 -- ---- loops

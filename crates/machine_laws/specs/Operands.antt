@@ -5,10 +5,10 @@ use Rattle.regent_tree.specs.declared.outcome.FaultKind.TheVariants.{Turns}
 use Rattle.task_code.specs.declared.instr.Instr.{Instr}
 use Rattle.task_code.specs.declared.instr.Instr.TheVariants as instr
 use Rattle.task_code.specs.declared.instr.PrintPart.TheVariants as print_part
-use Rattle.task_machine.specs.declared.frame.Before.{Before}
-use Rattle.task_machine.specs.declared.outcome.Yield.TheVariants as yield
-use Rattle.task_machine.specs.declared.value.Value.{Value}
-use Rattle.task_machine.specs.declared.value.Value.TheVariants as value
+use Rattle.machine_terms.specs.declared.frame.Before.{Before}
+use Rattle.machine_terms.specs.declared.outcome.Yield.TheVariants as yield
+use Rattle.machine_terms.specs.declared.value.Value.{Value}
+use Rattle.machine_terms.specs.declared.value.Value.TheVariants as value
 use Rattle.machine_laws.specs.Words.{task, code_of, num, number, region, frame, alone, ends, breaks, faults, gives}
 
 -- ---- operands

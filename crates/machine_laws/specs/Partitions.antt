@@ -6,13 +6,13 @@ use Rattle.region_tree.specs.declared.needs.Need.{Need}
 use Rattle.region_tree.specs.declared.piece.Part.{Part}
 use Rattle.regent_tree.specs.declared.outcome.FaultKind.TheVariants.{BadColor, BadSize}
 use Rattle.task_code.specs.declared.instr.Instr.TheVariants as instr
-use Rattle.task_machine.specs.declared.frame.Before.{Before}
-use Rattle.task_machine.specs.declared.outcome.Made.TheVariants as made
-use Rattle.task_machine.specs.declared.outcome.Yield.TheVariants as yield
-use Rattle.task_machine.specs.declared.value.PartitionValue.{PartitionValue}
-use Rattle.task_machine.specs.declared.value.RegionValue.{RegionValue}
-use Rattle.task_machine.specs.declared.value.Value.{Value}
-use Rattle.task_machine.specs.declared.value.Value.TheVariants as value
+use Rattle.machine_terms.specs.declared.frame.Before.{Before}
+use Rattle.machine_terms.specs.declared.outcome.Made.TheVariants as made
+use Rattle.machine_terms.specs.declared.outcome.Yield.TheVariants as yield
+use Rattle.machine_terms.specs.declared.value.PartitionValue.{PartitionValue}
+use Rattle.machine_terms.specs.declared.value.RegionValue.{RegionValue}
+use Rattle.machine_terms.specs.declared.value.Value.{Value}
+use Rattle.machine_terms.specs.declared.value.Value.TheVariants as value
 use Rattle.machine_laws.specs.Words.{num, null, number, region_of, region, need, held, part, alone, ends, breaks, faults, gives}
 
 -- a disjoint partition of a root

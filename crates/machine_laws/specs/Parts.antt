@@ -3,8 +3,8 @@ use Rattle.std.specs.List.{AllZip}
 use Rattle.std.specs.Prelude.{◌≡◌, length}
 use Rattle.region_tree.specs.Pieces.{Held}
 use Rattle.region_tree.specs.declared.piece.Part.{Part}
-use Rattle.task_machine.specs.declared.frame.Before.{Before}
-use Rattle.task_machine.specs.Segments.{segment}
+use Rattle.machine_terms.specs.declared.frame.Before.{Before}
+use Rattle.machine_terms.specs.Segments.{segment}
 
 -- a piece of the same points in the same mode, with as many numbers
 pub record PieceIsKept (old new : Held) : Type 0 where

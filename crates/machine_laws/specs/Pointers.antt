@@ -7,7 +7,7 @@ use Rattle.lane_kernels.specs.declared.numbers.Width.TheVariants.{W64}
 use Rattle.regent_tree.specs.declared.outcome.FaultKind.TheVariants.{OutOfRegion, NullPointer}
 use Rattle.task_code.specs.declared.instr.Instr.{Instr}
 use Rattle.task_code.specs.declared.instr.Instr.TheVariants as instr
-use Rattle.task_machine.specs.declared.frame.Before.{Before}
+use Rattle.machine_terms.specs.declared.frame.Before.{Before}
 use Rattle.machine_laws.specs.Words.{null, pointer, number, region, need, held, part, alone, breaks, faults, gives}
 
 -- A task with two regions of root 0, of the points 1 and 2 and of the points 2 and 3, and a number. It

@@ -7,14 +7,14 @@ use Rattle.lane_kernels.specs.declared.numbers.Width.TheVariants.{W32}
 use Rattle.region_tree.specs.declared.piece.Part.{Part}
 use Rattle.task_code.specs.declared.instr.Instr.TheVariants as instr
 use Rattle.task_code.specs.declared.instr.PrintPart.TheVariants as print_part
-use Rattle.task_machine.specs.declared.frame.Before.{Before}
-use Rattle.task_machine.specs.declared.frame.Frame.{Frame}
-use Rattle.task_machine.specs.declared.outcome.Made.TheVariants as made
-use Rattle.task_machine.specs.declared.outcome.Yield.{Yield}
-use Rattle.task_machine.specs.declared.outcome.Yield.TheVariants as yield
-use Rattle.task_machine.specs.declared.value.Value.{Value}
-use Rattle.task_machine.specs.declared.value.Value.TheVariants as value
-use Rattle.task_machine.specs.Segments.{segment}
+use Rattle.machine_terms.specs.declared.frame.Before.{Before}
+use Rattle.machine_terms.specs.declared.frame.Frame.{Frame}
+use Rattle.machine_terms.specs.declared.outcome.Made.TheVariants as made
+use Rattle.machine_terms.specs.declared.outcome.Yield.{Yield}
+use Rattle.machine_terms.specs.declared.outcome.Yield.TheVariants as yield
+use Rattle.machine_terms.specs.declared.value.Value.{Value}
+use Rattle.machine_terms.specs.declared.value.Value.TheVariants as value
+use Rattle.machine_terms.specs.Segments.{segment}
 use Rattle.machine_laws.specs.Words.{task, code_of, num, pointer, number, region, need, held, part, frame, alone, ends, gives}
 
 -- a segment yields and prints a text, and what it leaves goes on so

@@ -4,9 +4,9 @@ use Rattle.lane_kernels.specs.declared.numbers.FieldKind.TheVariants.{Int64}
 use Rattle.regent_tree.specs.declared.outcome.FaultKind.TheVariants.{BadSize}
 use Rattle.task_code.specs.declared.code.FieldCode.{FieldCode}
 use Rattle.task_code.specs.declared.instr.Instr.TheVariants as instr
-use Rattle.task_machine.specs.declared.frame.Before.{Before}
-use Rattle.task_machine.specs.declared.outcome.Made.TheVariants as made
-use Rattle.task_machine.specs.declared.outcome.Yield.TheVariants as yield
+use Rattle.machine_terms.specs.declared.frame.Before.{Before}
+use Rattle.machine_terms.specs.declared.outcome.Made.TheVariants as made
+use Rattle.machine_terms.specs.declared.outcome.Yield.TheVariants as yield
 use Rattle.machine_laws.specs.Words.{task, code_of, num, null, frame, alone, ends, breaks, faults}
 
 -- so many fields

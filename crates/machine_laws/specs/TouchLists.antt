@@ -7,8 +7,8 @@ use Rattle.lane_kernels.specs.declared.numbers.Op.TheVariants.{Sum}
 use Rattle.lane_kernels.specs.declared.numbers.Width.TheVariants.{W64}
 use Rattle.regent_tree.specs.Store.{Touch}
 use Rattle.task_code.specs.declared.instr.Instr.TheVariants as instr
-use Rattle.task_machine.specs.declared.frame.Before.{Before}
-use Rattle.task_machine.specs.Touches.{segment_touches}
+use Rattle.machine_terms.specs.declared.frame.Before.{Before}
+use Rattle.machine_terms.specs.Touches.{segment_touches}
 use Rattle.machine_laws.specs.Accesses.{filling, holding, in_mode}
 use Rattle.machine_laws.specs.Frames.{faulting_later}
 use Rattle.machine_laws.specs.Partitions.{by_field_of, imaging, needs, parts, preimaging}

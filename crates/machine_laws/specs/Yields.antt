@@ -4,11 +4,11 @@ use Rattle.regent_tree.specs.declared.outcome.Fault.{Fault}
 use Rattle.task_code.specs.declared.code.Code.{Code}
 use Rattle.task_code.specs.declared.code.Line.{Line}
 use Rattle.task_code.specs.declared.code.TaskCode.{TaskCode}
-use Rattle.task_machine.specs.declared.frame.Before.{Before}
-use Rattle.task_machine.specs.declared.outcome.Yield.{Yield}
-use Rattle.task_machine.specs.declared.outcome.Yield.TheVariants as yield
-use Rattle.task_machine.specs.Machine.{Machine, goes, prints, stops}
-use Rattle.task_machine.specs.Segments.{step, run, after, segment, opened}
+use Rattle.machine_terms.specs.declared.frame.Before.{Before}
+use Rattle.machine_terms.specs.declared.outcome.Yield.{Yield}
+use Rattle.machine_terms.specs.declared.outcome.Yield.TheVariants as yield
+use Rattle.machine_terms.specs.Machine.{Machine, goes, prints, stops}
+use Rattle.machine_terms.specs.Segments.{step, run, after, segment, opened}
 
 -- The task of a frame is there, has as many slots as the frame, and no fault is kept for later.
 pub record Begins (b : Before) (t : TaskCode) : Type 0 where

@@ -5,9 +5,9 @@ use Rattle.regent_tree.specs.declared.outcome.Fault.{Fault}
 use Rattle.task_code.specs.declared.code.Code.{Code}
 use Rattle.task_code.specs.declared.code.Line.{Line}
 use Rattle.task_code.specs.declared.code.TaskCode.{TaskCode}
-use Rattle.task_machine.specs.declared.frame.Before.{Before}
-use Rattle.task_machine.specs.Machine.{Machine, Stepped, goes, prints, stops}
-use Rattle.task_machine.specs.Segments.{step, run, on_stop, enough, Stopped, opened, stopped_by, stopped_in, stop_of}
+use Rattle.machine_terms.specs.declared.frame.Before.{Before}
+use Rattle.machine_terms.specs.Machine.{Machine, Stepped, goes, prints, stops}
+use Rattle.machine_terms.specs.Segments.{step, run, on_stop, enough, Stopped, opened, stopped_by, stopped_in, stop_of}
 use Rattle.machine_laws.proofs.Kept.{by_slots}
 use Rattle.order_laws.proofs.Waits.{AfterStep, AfterStop, Within}
 

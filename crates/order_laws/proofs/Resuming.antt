@@ -11,25 +11,25 @@ use Rattle.task_code.specs.declared.code.Line.{Line}
 use Rattle.task_code.specs.declared.code.TaskCode.{TaskCode}
 use Rattle.task_code.specs.declared.instr.Instr.{Instr}
 use Rattle.task_code.specs.declared.instr.Instr.TheVariants as instr
-use Rattle.task_machine.specs.declared.frame.Frame.{Frame}
-use Rattle.task_machine.specs.declared.order.Ended.{Ended}
-use Rattle.task_machine.specs.declared.order.Ended.TheVariants.{CameBack, Broke}
-use Rattle.task_machine.specs.declared.order.Instance.{Instance}
-use Rattle.task_machine.specs.declared.order.Resumed.{Resumed}
-use Rattle.task_machine.specs.declared.order.Resumed.TheVariants.{GoesOn, IsOver}
-use Rattle.task_machine.specs.declared.outcome.CallOut.{CallOut}
-use Rattle.task_machine.specs.declared.outcome.Made.TheVariants as made
-use Rattle.task_machine.specs.declared.outcome.Yield.{Yield}
-use Rattle.task_machine.specs.declared.outcome.Yield.TheVariants as yield
-use Rattle.task_machine.specs.declared.value.Value.TheVariants.{Number, Pending}
-use Rattle.task_machine.specs.Copies.{part_from}
-use Rattle.task_machine.specs.Machine.{Machine}
-use Rattle.task_machine.specs.Makes.{is_sound, make_partition}
-use Rattle.task_machine.specs.Opening.{opening, requirements_on}
-use Rattle.task_machine.specs.Orders.{Runner, after_call, begun, breaks, call_all, call_task, call_within, give_all, on_resumed, resume_in, settled, until_over}
-use Rattle.task_machine.specs.Parts.{is_part_of, part_of}
-use Rattle.task_machine.specs.Segments.{frame_after}
-use Rattle.task_machine.proofs.StepKinds.{slot_of}
+use Rattle.machine_terms.specs.declared.frame.Frame.{Frame}
+use Rattle.machine_terms.specs.declared.order.Ended.{Ended}
+use Rattle.machine_terms.specs.declared.order.Ended.TheVariants.{CameBack, Broke}
+use Rattle.machine_terms.specs.declared.order.Instance.{Instance}
+use Rattle.machine_terms.specs.declared.order.Resumed.{Resumed}
+use Rattle.machine_terms.specs.declared.order.Resumed.TheVariants.{GoesOn, IsOver}
+use Rattle.machine_terms.specs.declared.outcome.CallOut.{CallOut}
+use Rattle.machine_terms.specs.declared.outcome.Made.TheVariants as made
+use Rattle.machine_terms.specs.declared.outcome.Yield.{Yield}
+use Rattle.machine_terms.specs.declared.outcome.Yield.TheVariants as yield
+use Rattle.machine_terms.specs.declared.value.Value.TheVariants.{Number, Pending}
+use Rattle.machine_terms.specs.Copies.{part_from}
+use Rattle.machine_terms.specs.Machine.{Machine}
+use Rattle.machine_terms.specs.Makes.{is_sound, make_partition}
+use Rattle.machine_terms.specs.Opening.{opening, requirements_on}
+use Rattle.machine_terms.specs.Orders.{Runner, after_call, begun, breaks, call_all, call_task, call_within, give_all, on_resumed, resume_in, settled, until_over}
+use Rattle.machine_terms.specs.Parts.{is_part_of, part_of}
+use Rattle.machine_terms.specs.Segments.{frame_after}
+use Rattle.machine_terms.proofs.StepKinds.{slot_of}
 use Rattle.order_laws.proofs.Waits.{AfterStop, Answers, Passed, Within}
 
 -- of the instance that goes on

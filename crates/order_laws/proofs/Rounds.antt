@@ -4,12 +4,12 @@ use Rattle.std.specs.Prelude.{length, nat_lt}
 use Rattle.std.proofs.lemmas.Bool.{le-ltb, cases_lt}
 use Rattle.task_code.specs.declared.code.Code.{Code}
 use Rattle.task_code.specs.declared.code.Line.{Line}
-use Rattle.task_machine.specs.Machine.{Machine, Stepped}
-use Rattle.task_machine.specs.Jumps.{fetch, goes_back}
-use Rattle.task_machine.specs.Segments.{act, act_at, step}
-use Rattle.task_machine.proofs.StepKinds.{Kind, over, called, makes, wants, awaits, nexted, printed, jumped, turned}
-use Rattle.task_machine.proofs.LoopHeads.{Head, head_stops, head_turns, head_leaves, head_kind}
-use Rattle.task_machine.proofs.Fuel.{behind_turn, anywhere, inside}
+use Rattle.machine_terms.specs.Machine.{Machine, Stepped}
+use Rattle.machine_terms.specs.Jumps.{fetch, goes_back}
+use Rattle.machine_terms.specs.Segments.{act, act_at, step}
+use Rattle.machine_terms.proofs.StepKinds.{Kind, over, called, makes, wants, awaits, nexted, printed, jumped, turned}
+use Rattle.machine_terms.proofs.LoopHeads.{Head, head_stops, head_turns, head_leaves, head_kind}
+use Rattle.machine_terms.proofs.Fuel.{behind_turn, anywhere, inside}
 use Rattle.machine_laws.proofs.Kept.{asked, step_kind}
 use Rattle.order_laws.proofs.Waits.{AfterStep, Quiet, Rounds, Within, more, over_stop, settle, step_map, twice, weaker}
 

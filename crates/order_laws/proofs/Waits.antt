@@ -6,16 +6,16 @@ use Rattle.task_code.specs.declared.code.Code.{Code}
 use Rattle.task_code.specs.declared.code.Line.{Line}
 use Rattle.task_code.specs.declared.instr.Instr.{Instr}
 use Rattle.task_code.specs.declared.instr.Instr.TheVariants as instr
-use Rattle.task_machine.specs.declared.frame.Frame.{Frame}
-use Rattle.task_machine.specs.declared.outcome.Yield.{Yield}
-use Rattle.task_machine.specs.declared.outcome.Yield.TheVariants as yield
-use Rattle.task_machine.specs.declared.value.Value.{Value}
-use Rattle.task_machine.specs.declared.value.Value.TheVariants.{Number, Pending}
-use Rattle.task_machine.specs.Machine.{Machine, Stepped, goes, prints, stops}
-use Rattle.task_machine.specs.Jumps.{fetch}
-use Rattle.task_machine.specs.Parts.{part_of}
-use Rattle.task_machine.specs.Segments.{step}
-use Rattle.task_machine.proofs.StepKinds.{Kind, over, called, makes, wants, awaits, nexted, printed, jumped, turned, IsOver, key_of, slot_of}
+use Rattle.machine_terms.specs.declared.frame.Frame.{Frame}
+use Rattle.machine_terms.specs.declared.outcome.Yield.{Yield}
+use Rattle.machine_terms.specs.declared.outcome.Yield.TheVariants as yield
+use Rattle.machine_terms.specs.declared.value.Value.{Value}
+use Rattle.machine_terms.specs.declared.value.Value.TheVariants.{Number, Pending}
+use Rattle.machine_terms.specs.Machine.{Machine, Stepped, goes, prints, stops}
+use Rattle.machine_terms.specs.Jumps.{fetch}
+use Rattle.machine_terms.specs.Parts.{part_of}
+use Rattle.machine_terms.specs.Segments.{step}
+use Rattle.machine_terms.proofs.StepKinds.{Kind, over, called, makes, wants, awaits, nexted, printed, jumped, turned, IsOver, key_of, slot_of}
 use Rattle.machine_laws.proofs.Kept.{asked, key_at, slot_at, step_kind}
 
 -- ---- what a machine is given

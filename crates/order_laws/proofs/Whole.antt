@@ -8,21 +8,21 @@ use Rattle.task_code.specs.declared.code.Code.{Code}
 use Rattle.task_code.specs.declared.code.Line.{Line}
 use Rattle.task_code.specs.declared.code.TaskCode.{TaskCode}
 use Rattle.task_code.specs.declared.job.Job.{Job}
-use Rattle.task_machine.specs.declared.frame.Frame.{Frame}
-use Rattle.task_machine.specs.declared.order.Ended.TheVariants.{Broke}
-use Rattle.task_machine.specs.declared.order.Instance.{Instance}
-use Rattle.task_machine.specs.declared.order.Resumed.{Resumed}
-use Rattle.task_machine.specs.declared.order.Resumed.TheVariants.{GoesOn, IsOver}
-use Rattle.task_machine.specs.declared.outcome.CallOut.{CallOut}
-use Rattle.task_machine.specs.declared.outcome.Yield.{Yield}
-use Rattle.task_machine.specs.declared.outcome.Yield.TheVariants as yield
-use Rattle.task_machine.specs.Contents.{no_contents}
-use Rattle.task_machine.specs.Jobs.{outcome, may_start, void_outcome, first_frame, run_first}
-use Rattle.task_machine.specs.Machine.{Machine}
-use Rattle.task_machine.specs.Opening.{opening, requirements_on}
-use Rattle.task_machine.specs.Orders.{Runner, after_call, before_of, begun, breaks, call_all, call_task, call_within, enough_segments, give_all, no_task, on_resumed, resume_after, resume_in, run_segments, runs, until_over}
-use Rattle.task_machine.specs.Segments.{after, frame_after, opened, stop_of, stopped_in}
-use Rattle.task_machine.proofs.Fuel.{anywhere, enough_is}
+use Rattle.machine_terms.specs.declared.frame.Frame.{Frame}
+use Rattle.machine_terms.specs.declared.order.Ended.TheVariants.{Broke}
+use Rattle.machine_terms.specs.declared.order.Instance.{Instance}
+use Rattle.machine_terms.specs.declared.order.Resumed.{Resumed}
+use Rattle.machine_terms.specs.declared.order.Resumed.TheVariants.{GoesOn, IsOver}
+use Rattle.machine_terms.specs.declared.outcome.CallOut.{CallOut}
+use Rattle.machine_terms.specs.declared.outcome.Yield.{Yield}
+use Rattle.machine_terms.specs.declared.outcome.Yield.TheVariants as yield
+use Rattle.machine_terms.specs.Contents.{no_contents}
+use Rattle.machine_terms.specs.Jobs.{outcome, may_start, void_outcome, first_frame, run_first}
+use Rattle.machine_terms.specs.Machine.{Machine}
+use Rattle.machine_terms.specs.Opening.{opening, requirements_on}
+use Rattle.machine_terms.specs.Orders.{Runner, after_call, before_of, begun, breaks, call_all, call_task, call_within, enough_segments, give_all, no_task, on_resumed, resume_after, resume_in, run_segments, runs, until_over}
+use Rattle.machine_terms.specs.Segments.{after, frame_after, opened, stop_of, stopped_in}
+use Rattle.machine_terms.proofs.Fuel.{anywhere, enough_is}
 use Rattle.machine_laws.proofs.Kept.{stop_fixed}
 use Rattle.order_laws.specs.Bounds.{Bounds, AreLarge, CalledRunWhole, InstancesRunWhole, JobsRunWhole, run_first_within, runs_within, segments_within}
 use Rattle.order_laws.proofs.Waits.{AfterStop, Within, twice, twice_is}

@@ -4,13 +4,13 @@ use Rattle.regent_tree.specs.declared.outcome.Outcome.{Outcome}
 use Rattle.task_code.specs.declared.code.Code.{Code}
 use Rattle.task_code.specs.declared.code.TaskCode.{TaskCode}
 use Rattle.task_code.specs.declared.job.Job.{Job}
-use Rattle.task_machine.specs.declared.frame.Frame.{Frame}
-use Rattle.task_machine.specs.declared.order.Ended.{Ended}
-use Rattle.task_machine.specs.declared.order.Instance.{Instance}
-use Rattle.task_machine.specs.Contents.{no_contents}
-use Rattle.task_machine.specs.Jobs.{outcome, may_start, void_outcome, first_frame, order_run}
-use Rattle.task_machine.specs.Orders.{Runner, begun, before_of, enough_segments, resume_after, runs, until_over}
-use Rattle.task_machine.specs.Segments.{segment}
+use Rattle.machine_terms.specs.declared.frame.Frame.{Frame}
+use Rattle.machine_terms.specs.declared.order.Ended.{Ended}
+use Rattle.machine_terms.specs.declared.order.Instance.{Instance}
+use Rattle.machine_terms.specs.Contents.{no_contents}
+use Rattle.machine_terms.specs.Jobs.{outcome, may_start, void_outcome, first_frame, order_run}
+use Rattle.machine_terms.specs.Orders.{Runner, begun, before_of, enough_segments, resume_after, runs, until_over}
+use Rattle.machine_terms.specs.Segments.{segment}
 
 -- How many segments an instance may have that begins in a frame, how many instances may nest, and how
 -- an instance ends where either runs out.

@@ -11,7 +11,7 @@ use Rattle.task_code.specs.declared.job.Job.{Job}
 use Rattle.task_code.specs.declared.instr.Instr.{Instr}
 use Rattle.task_code.specs.declared.instr.Instr.TheVariants as instr
 use Rattle.task_code.specs.declared.instr.PrintPart.TheVariants as print_part
-use Rattle.task_machine.specs.Jobs.{order_run}
+use Rattle.machine_terms.specs.Jobs.{order_run}
 use Rattle.machine_laws.specs.Words.{lines_from, num}
 
 -- ---- code

@@ -4,16 +4,16 @@ use Rattle.regent_tree.specs.declared.outcome.Outcome.{Outcome}
 use Rattle.task_code.specs.declared.code.Code.{Code}
 use Rattle.task_code.specs.declared.code.TaskCode.{TaskCode}
 use Rattle.task_code.specs.declared.job.Job.{Job}
-use Rattle.task_machine.specs.declared.order.Ended.{Ended}
-use Rattle.task_machine.specs.declared.order.Instance.{Instance}
-use Rattle.task_machine.specs.declared.order.Resumed.{Resumed}
-use Rattle.task_machine.specs.declared.order.Resumed.TheVariants.{GoesOn, IsOver}
-use Rattle.task_machine.specs.declared.outcome.CallOut.{CallOut}
-use Rattle.task_machine.specs.Contents.{no_contents}
-use Rattle.task_machine.specs.Jobs.{first_frame, may_start, outcome, run_first, void_outcome}
-use Rattle.task_machine.specs.Opening.{opening, requirements_on}
-use Rattle.task_machine.specs.Orders.{Runner, before_of, begun, breaks, call_all, call_task, call_within, enough_segments, on_resumed, resume_after, run_segments, runs, until_over}
-use Rattle.task_machine.specs.Segments.{segment}
+use Rattle.machine_terms.specs.declared.order.Ended.{Ended}
+use Rattle.machine_terms.specs.declared.order.Instance.{Instance}
+use Rattle.machine_terms.specs.declared.order.Resumed.{Resumed}
+use Rattle.machine_terms.specs.declared.order.Resumed.TheVariants.{GoesOn, IsOver}
+use Rattle.machine_terms.specs.declared.outcome.CallOut.{CallOut}
+use Rattle.machine_terms.specs.Contents.{no_contents}
+use Rattle.machine_terms.specs.Jobs.{first_frame, may_start, outcome, run_first, void_outcome}
+use Rattle.machine_terms.specs.Opening.{opening, requirements_on}
+use Rattle.machine_terms.specs.Orders.{Runner, before_of, begun, breaks, call_all, call_task, call_within, enough_segments, on_resumed, resume_after, run_segments, runs, until_over}
+use Rattle.machine_terms.specs.Segments.{segment}
 
 on_resumed_twice : (r : Resumed) (f g h : Instance → Resumed) →
     ((i : Instance) → f i ≡ on_resumed (g i) h) → on_resumed r f ≡ on_resumed (on_resumed r g) h

@@ -2,7 +2,7 @@
 use Rattle.std.proofs.Common.{◌≡◌, ℕ, Option, Some, None, List, [], ◌∷◌, ◌++◌, refl, sym, ap, ◌∙◌}
 use Rattle.std.proofs.lemmas.List.{append_assoc}
 use Rattle.region_tree.specs.Requirements.{Requirement}
-use Rattle.task_machine.specs.Opening.{required_before, with_points}
+use Rattle.machine_terms.specs.Opening.{required_before, with_points}
 
 -- earlier requirements in front of the others, if these are there
 abbrev pub behind : List Requirement → Option (List Requirement) → Option (List Requirement)

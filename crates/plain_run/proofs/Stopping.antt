@@ -3,15 +3,15 @@ use Rattle.std.proofs.Common.{◌≡◌, List, [], Option, Some, None, refl, ap,
 use Rattle.region_tree.specs.declared.piece.Part.{Part}
 use Rattle.region_tree.specs.declared.tree.RootId.{RootId}
 use Rattle.task_code.specs.declared.code.Code.{Code}
-use Rattle.task_machine.specs.declared.frame.Frame.{Frame}
-use Rattle.task_machine.specs.declared.order.Ended.TheVariants.{CameBack}
-use Rattle.task_machine.specs.declared.order.Instance.{Instance}
-use Rattle.task_machine.specs.declared.outcome.After.{After}
-use Rattle.task_machine.specs.declared.outcome.Yield.{Yield}
-use Rattle.task_machine.specs.declared.outcome.Yield.TheVariants as yield
-use Rattle.task_machine.specs.Copies.{give_parts}
-use Rattle.task_machine.specs.Orders.{before_of, conclude, with_parts}
-use Rattle.task_machine.specs.Segments.{segment}
+use Rattle.machine_terms.specs.declared.frame.Frame.{Frame}
+use Rattle.machine_terms.specs.declared.order.Ended.TheVariants.{CameBack}
+use Rattle.machine_terms.specs.declared.order.Instance.{Instance}
+use Rattle.machine_terms.specs.declared.outcome.After.{After}
+use Rattle.machine_terms.specs.declared.outcome.Yield.{Yield}
+use Rattle.machine_terms.specs.declared.outcome.Yield.TheVariants as yield
+use Rattle.machine_terms.specs.Copies.{give_parts}
+use Rattle.machine_terms.specs.Orders.{before_of, conclude, with_parts}
+use Rattle.machine_terms.specs.Segments.{segment}
 use Rattle.plain_run.specs.Stops.{stop_behind, stop_in}
 use Rattle.plain_run.specs.declared.order.Stop.{Stop}
 use Rattle.plain_run.specs.declared.order.Stop.TheVariants.{HasEnded}

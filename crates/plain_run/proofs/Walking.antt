@@ -3,8 +3,8 @@ use Rattle.std.proofs.Common.{◌≡◌, ℕ, ◌+◌, Some, None, List, [], ◌
 use Rattle.std.proofs.Common.{ℤ}
 use Rattle.lane_kernels.specs.declared.numbers.FieldKind.{FieldKind}
 use Rattle.lane_kernels.specs.declared.numbers.Mode.{Mode}
-use Rattle.task_machine.specs.declared.order.Contents.{Contents}
-use Rattle.task_machine.specs.Copies.{give_back, give_points}
+use Rattle.machine_terms.specs.declared.order.Contents.{Contents}
+use Rattle.machine_terms.specs.Copies.{give_back, give_points}
 use Rattle.std.proofs.lemmas.Bool.{cases_lt}
 use Rattle.std.proofs.lemmas.List.{append_assoc, drop_more}
 use Rattle.std.proofs.lemmas.Option.{slice_get-get_or, slice_get_past}

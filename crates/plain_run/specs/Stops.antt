@@ -1,10 +1,10 @@
 -- What a segment leaves of a task instance.
 use Rattle.std.specs.Prelude.{Option, Some, None}
-use Rattle.task_machine.specs.declared.frame.Frame.{Frame}
-use Rattle.task_machine.specs.declared.order.Instance.{Instance}
-use Rattle.task_machine.specs.declared.outcome.After.{After}
-use Rattle.task_machine.specs.declared.outcome.Yield.{Yield}
-use Rattle.task_machine.specs.Orders.{conclude, with_parts}
+use Rattle.machine_terms.specs.declared.frame.Frame.{Frame}
+use Rattle.machine_terms.specs.declared.order.Instance.{Instance}
+use Rattle.machine_terms.specs.declared.outcome.After.{After}
+use Rattle.machine_terms.specs.declared.outcome.Yield.{Yield}
+use Rattle.machine_terms.specs.Orders.{conclude, with_parts}
 use Rattle.plain_run.specs.declared.order.Stop.{Stop}
 use Rattle.plain_run.specs.declared.order.Stop.TheVariants.{WaitsFor, HasEnded}
 

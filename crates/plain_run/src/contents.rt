@@ -1,14 +1,14 @@
 //! What the roots hold.
 
 ghost use Rattle.std.specs.Prelude.{◌≡◌, [], pos, get_or, length};
-ghost use Rattle.task_machine.specs.Contents.{image_in, kept_at, kind_of, kinds_of};
+ghost use Rattle.machine_terms.specs.Contents.{image_in, kept_at, kind_of, kinds_of};
 ghost use Rattle.lane_kernels.specs.declared.numbers.FieldKind.TheVariants.{Truth};
 
 use lane_kernels::FieldKind;
+use machine_terms::{Contents, Root};
 use regent_tree::RootImage;
 use region_tree::RootId;
 use task_code::Code;
-use task_machine::{Contents, Root};
 
 /// The kept number of a field at a point.
 pub fn kept_at(contents: &Contents, root: RootId, field: u8, point: u32) -> i64

@@ -1,20 +1,20 @@
 //! Parts that are copied out of the roots, and that go back into them.
 
 ghost use Rattle.std.specs.Prelude.{◌≡◌, map, replicate, IfOk};
-ghost use Rattle.task_machine.specs.Contents.{kept_at};
-ghost use Rattle.task_machine.specs.Copies.{give_back, give_parts, give_pieces, give_points};
-ghost use Rattle.task_machine.specs.Copies.{part_from, piece_of};
+ghost use Rattle.machine_terms.specs.Contents.{kept_at};
+ghost use Rattle.machine_terms.specs.Copies.{give_back, give_parts, give_pieces, give_points};
+ghost use Rattle.machine_terms.specs.Copies.{part_from, piece_of};
 
 use crate::contents::{kept_at, kind_of};
 use crate::keeping::keep;
 use crate::part::part;
 use lane_kernels::{FieldKind, Mode};
+use machine_terms::{Contents, Required};
 use plain_values::Sequence;
 use point_sets::PointSet;
 use region_tree::{Part, Piece, RootId};
 use std::alloc::{AllocError, Global};
 use task_code::Code;
-use task_machine::{Contents, Required};
 
 /// The part for a field of a root, by what is needed there.
 pub fn part_from(

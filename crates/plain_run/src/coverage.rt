@@ -8,9 +8,9 @@ ghost use Rattle.region_tree.specs.Requirements.{is_within, mode_at};
 
 use crate::modes::{is_subsumed, mode_at};
 use lane_kernels::Mode;
+use machine_terms::Required;
 use point_sets::PointSet;
 use region_tree::RootId;
-use task_machine::Required;
 
 /// Whether the modes at each point of each of our requirements are covered by theirs.
 pub fn within(ours: &[Required], theirs: &[Required]) -> bool

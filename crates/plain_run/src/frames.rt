@@ -1,15 +1,15 @@
 //! Frames in which tasks begin.
 
 ghost use Rattle.std.specs.Prelude.{◌≡◌, ◌++◌, pos, replicate, IfOk, OnOk};
-ghost use Rattle.task_machine.specs.declared.value.Value.TheVariants.{Number as a_number};
-ghost use Rattle.task_machine.specs.Opening.{opening};
+ghost use Rattle.machine_terms.specs.declared.value.Value.TheVariants.{Number as a_number};
+ghost use Rattle.machine_terms.specs.Opening.{opening};
 
 use crate::opening::needs_on;
+use machine_terms::{Frame, Stack, Value};
 use plain_values::Sequence;
 use region_tree::Needs;
 use std::alloc::{AllocError, Global};
 use task_code::TaskCode;
-use task_machine::{Frame, Stack, Value};
 
 /// The frame in which a task begins: the arguments in the first slots, 0 in the others.
 pub fn opening(

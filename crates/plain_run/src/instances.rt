@@ -1,22 +1,22 @@
 //! A task instance between two of its segments.
 
 ghost use Rattle.std.specs.Prelude.{◌≡◌, pos, get_or, IfOk};
-ghost use Rattle.task_machine.specs.Contents.{no_contents};
-ghost use Rattle.task_machine.specs.Orders.{after_call, await, begun, breaks, conclude};
-ghost use Rattle.task_machine.specs.Orders.{fetch_part, give_all, make, result_of};
-ghost use Rattle.task_machine.specs.declared.order.Ended.TheVariants.{Broke};
-ghost use Rattle.task_machine.specs.declared.outcome.Yield.TheVariants as yield;
+ghost use Rattle.machine_terms.specs.Contents.{no_contents};
+ghost use Rattle.machine_terms.specs.Orders.{after_call, await, begun, breaks, conclude};
+ghost use Rattle.machine_terms.specs.Orders.{fetch_part, give_all, make, result_of};
+ghost use Rattle.machine_terms.specs.declared.order.Ended.TheVariants.{Broke};
+ghost use Rattle.machine_terms.specs.declared.outcome.Yield.TheVariants as yield;
 
 use crate::copies::{give_parts, part_from};
 use crate::making::{closed, is_sound, settled};
 use crate::roots::{make_partition, make_root};
+use machine_terms::{Contents, Ended, Frame, Instance, Made, Required, Resumed, Stack, Yield};
 use plain_values::Sequence;
 use regent_tree::Fault;
 use region_tree::{Needs, RootId};
 use std::alloc::{AllocError, Global};
 use std::mem;
 use task_code::Code;
-use task_machine::{Contents, Ended, Frame, Instance, Made, Required, Resumed, Stack, Yield};
 
 /// Before anything is made.
 pub fn no_contents(alloc: Global) -> Contents

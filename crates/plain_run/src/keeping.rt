@@ -1,13 +1,13 @@
 //! Numbers that go into the roots.
 
 ghost use Rattle.std.specs.Prelude.{◌≡◌, slice_set, get_or, IfOk, []};
-ghost use Rattle.task_machine.specs.Contents.{keep, kept_in, with_number};
+ghost use Rattle.machine_terms.specs.Contents.{keep, kept_in, with_number};
 
+use machine_terms::{Contents, Root};
 use plain_values::Sequence;
 use regent_tree::RootImage;
 use region_tree::RootId;
 use std::alloc::{AllocError, Global};
-use task_machine::{Contents, Root};
 
 /// The contents with another kept number of a field at a point.
 pub fn keep(

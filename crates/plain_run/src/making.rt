@@ -3,15 +3,15 @@
 ghost use Rattle.std.specs.Prelude.{◌≡◌, IfOk, map, not};
 ghost use Rattle.std.specs.List.{list_all};
 ghost use Rattle.plain_values.specs.Points.{meets, within};
-ghost use Rattle.task_machine.specs.Contents.{closed, is_among};
-ghost use Rattle.task_machine.specs.Makes.{are_apart, is_sound};
-ghost use Rattle.task_machine.specs.Orders.{settled};
+ghost use Rattle.machine_terms.specs.Contents.{closed, is_among};
+ghost use Rattle.machine_terms.specs.Makes.{are_apart, is_sound};
+ghost use Rattle.machine_terms.specs.Orders.{settled};
 
+use machine_terms::{Contents, Root, Value};
 use plain_values::Sequence;
 use point_sets::PointSet;
 use region_tree::RootId;
 use std::alloc::{AllocError, Global};
-use task_machine::{Contents, Root, Value};
 
 /// Whether sets lie in a region, and are apart where they are said to be.
 pub fn is_sound(parent: &PointSet, sets: &[PointSet], disjoint: bool) -> bool

@@ -4,8 +4,8 @@ ghost use Rattle.std.specs.Prelude.{◌≡◌};
 ghost use Rattle.region_tree.specs.Requirements.{is_at, is_subsumed, join_onto, mode_at};
 
 use lane_kernels::Mode;
+use machine_terms::Required;
 use region_tree::RootId;
-use task_machine::Required;
 
 /// The join of the modes in which a field of a root is required at a point.
 pub fn mode_at(needs: &[Required], root: RootId, field: u8, point: u32) -> Option<Mode>

@@ -1,16 +1,16 @@
 //! What a task instance needs.
 
 ghost use Rattle.std.specs.Prelude.{◌≡◌, ◌++◌, [], Some, slice_get, IfOk, OnOk};
-ghost use Rattle.task_machine.specs.Makes.{root_needs};
-ghost use Rattle.task_machine.specs.Opening.{need_on, needs_on};
-ghost use Rattle.task_machine.specs.Pointers.{region_in};
+ghost use Rattle.machine_terms.specs.Makes.{root_needs};
+ghost use Rattle.machine_terms.specs.Opening.{need_on, needs_on};
+ghost use Rattle.machine_terms.specs.Pointers.{region_in};
 
 use lane_kernels::Mode;
+use machine_terms::{RegionValue, Value};
 use plain_values::Sequence;
 use region_tree::{Need, Node, RootId};
 use std::alloc::{AllocError, Global};
 use task_code::NeedCode;
-use task_machine::{RegionValue, Value};
 
 /// What declared needs are on arguments. A region without points is never needed.
 pub fn needs_on(

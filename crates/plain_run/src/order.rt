@@ -1,13 +1,13 @@
 //! The run in order.
 
 ghost use Rattle.std.specs.Prelude.{◌≡◌, [], suc, Some, slice_get, IfOk};
-ghost use Rattle.task_machine.specs.Contents.{no_contents};
-ghost use Rattle.task_machine.specs.Jobs.{first_frame, order_run, run_first};
-ghost use Rattle.task_machine.specs.Opening.{opening, requirements_on};
-ghost use Rattle.task_machine.specs.Orders.{before_of, begun, call_all, call_task, call_within, on_resumed};
-ghost use Rattle.task_machine.specs.Orders.{enough_segments, resume, resume_after, run_segments, runs};
-ghost use Rattle.task_machine.specs.Segments.{segment};
-ghost use Rattle.task_machine.specs.declared.outcome.After.{After};
+ghost use Rattle.machine_terms.specs.Contents.{no_contents};
+ghost use Rattle.machine_terms.specs.Jobs.{first_frame, order_run, run_first};
+ghost use Rattle.machine_terms.specs.Opening.{opening, requirements_on};
+ghost use Rattle.machine_terms.specs.Orders.{before_of, begun, call_all, call_task, call_within, on_resumed};
+ghost use Rattle.machine_terms.specs.Orders.{enough_segments, resume, resume_after, run_segments, runs};
+ghost use Rattle.machine_terms.specs.Segments.{segment};
+ghost use Rattle.machine_terms.specs.declared.outcome.After.{After};
 ghost use Rattle.plain_run.specs.Stops.{stop_behind};
 
 use crate::coverage::within;
@@ -18,13 +18,14 @@ use crate::instances::{
 };
 use crate::outcomes::{first_frame, may_start, outcome, void_outcome};
 use crate::requiring::requirements_on;
+use machine_terms::{After, CallOut, Ended, Frame, Instance, Required, Resumed, Yield};
 use plain_values::Sequence;
 use regent_tree::Outcome;
 use region_tree::{Part, RootId};
 use std::alloc::{AllocError, Global};
 use std::mem;
 use task_code::{Code, Job, TaskCode};
-use task_machine::{After, CallOut, Ended, Frame, Instance, Required, Resumed, Yield, run};
+use task_machine::run;
 
 /// Runs a job in order: a task instance runs from segment to segment, and each call runs whole where it
 /// is made.

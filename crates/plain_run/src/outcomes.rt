@@ -2,17 +2,17 @@
 
 ghost use Rattle.std.specs.Prelude.{◌≡◌, [], map, IfOk};
 ghost use Rattle.region_tree.specs.declared.tree.RootId.{RootId as root_id};
-ghost use Rattle.task_machine.specs.Contents.{image_in, image_of};
-ghost use Rattle.task_machine.specs.Jobs.{ending_of, first_frame, may_start, outcome, void_outcome};
-ghost use Rattle.task_machine.specs.declared.value.Value.TheVariants as value;
+ghost use Rattle.machine_terms.specs.Contents.{image_in, image_of};
+ghost use Rattle.machine_terms.specs.Jobs.{ending_of, first_frame, may_start, outcome, void_outcome};
+ghost use Rattle.machine_terms.specs.declared.value.Value.TheVariants as value;
 
 use crate::frames::opening;
+use machine_terms::{Contents, Ended, Frame, Root, Value};
 use plain_values::Sequence;
 use regent_tree::{Ending, Fault, Outcome, RootImage};
 use region_tree::RootId;
 use std::alloc::{AllocError, Global};
 use task_code::{Job, TaskCode};
-use task_machine::{Contents, Ended, Frame, Root, Value};
 
 /// The outcome of a run by how its first task ended.
 pub fn outcome(alloc: Global, ended: Ended) -> Result<Outcome, AllocError>

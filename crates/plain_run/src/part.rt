@@ -10,10 +10,10 @@ ghost use Rattle.region_tree.specs.Requirements.{is_of, modes_at, part_of};
 ghost use Rattle.region_tree.specs.Requirements.{part_of_mode, parts_of_modes, points_joined};
 
 use lane_kernels::{Mode, Op};
+use machine_terms::Required;
 use point_sets::PointSet;
 use region_tree::RootId;
 use std::alloc::{AllocError, Global};
-use task_machine::Required;
 
 /// All modes, in the order of parts.
 const MODES: [Mode; 6] = [

@@ -1,18 +1,18 @@
 //! What a task instance needs, with the points.
 
 ghost use Rattle.std.specs.Prelude.{◌≡◌, ◌++◌, [], slice_get, IfOk, OnOk};
-ghost use Rattle.task_machine.specs.Makes.{root_requirements};
-ghost use Rattle.task_machine.specs.Opening.{required_on, requirements_on, with_points};
-ghost use Rattle.task_machine.specs.Pointers.{region_in};
+ghost use Rattle.machine_terms.specs.Makes.{root_requirements};
+ghost use Rattle.machine_terms.specs.Opening.{required_on, requirements_on, with_points};
+ghost use Rattle.machine_terms.specs.Pointers.{region_in};
 
 use crate::contents::fields_of;
 use lane_kernels::Mode;
+use machine_terms::{Contents, RegionValue, Required, Value};
 use plain_values::{Sequence, Shared};
 use point_sets::PointSet;
 use region_tree::RootId;
 use std::alloc::{AllocError, Global};
 use task_code::{Code, NeedCode};
-use task_machine::{Contents, RegionValue, Required, Value};
 
 /// What declared needs require on arguments; None where a parameter is no region, or its root has no such
 /// field. A region without points is never needed.

@@ -3,23 +3,23 @@
 ghost use Rattle.std.specs.Prelude.{◌≡◌, [], ◌∷◌, ◌++◌, map, replicate, IfOk, OnOk};
 ghost use Rattle.regent_tree.specs.Store.{new_root};
 ghost use Rattle.regent_tree.specs.Values.{kept_zero};
-ghost use Rattle.task_machine.specs.Contents.{kinds_of, with_root};
-ghost use Rattle.task_machine.specs.Makes.{fields_needed, make_partition, make_root, region_with};
-ghost use Rattle.task_machine.specs.Makes.{root_needs, root_requirements};
-ghost use Rattle.task_machine.specs.declared.value.Value.TheVariants.{Region};
+ghost use Rattle.machine_terms.specs.Contents.{kinds_of, with_root};
+ghost use Rattle.machine_terms.specs.Makes.{fields_needed, make_partition, make_root, region_with};
+ghost use Rattle.machine_terms.specs.Makes.{root_needs, root_requirements};
+ghost use Rattle.machine_terms.specs.declared.value.Value.TheVariants.{Region};
 
 use crate::contents::count_fields;
 use crate::opening::add_root_needs;
 use crate::requiring::add_root_requirements;
 use index_spaces::Ispace;
 use lane_kernels::FieldKind;
+use machine_terms::{Contents, Frame, Instance, PartitionValue, RegionValue, Root, Value};
 use plain_values::{Sequence, Shared};
 use point_sets::PointSet;
 use regent_tree::RootImage;
 use region_tree::{Node, RootId};
 use std::alloc::{AllocError, Global};
 use task_code::{Code, FieldCode};
-use task_machine::{Contents, Frame, Instance, PartitionValue, RegionValue, Root, Value};
 
 /// What a new root holds: the zeros of its fields' kinds.
 fn new_root(alloc: Global, code: &Code, size: u32, space: u32) -> Result<RootImage, AllocError>

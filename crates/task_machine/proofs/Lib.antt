@@ -1,13 +1,5 @@
 pub mod Widths
 pub mod Quotients
-pub mod KeptParts
-pub mod StepKinds
-pub mod NumberKinds
-pub mod RegionKinds
-pub mod InstructionKinds
-pub mod LoopHeads
-pub mod Fuel
-pub mod Ending
 pub mod Rounds
 pub mod Taking
 pub mod Coming

@@ -4,7 +4,7 @@ ghost use Rattle.std.specs.Prelude.{◌≡◌};
 ghost use Rattle.lane_kernels.specs.declared.numbers.Width.TheVariants.{W64};
 ghost use Rattle.regent_tree.specs.Numbers.{compared, computed};
 ghost use Rattle.regent_tree.specs.Values.{kept_truth};
-ghost use Rattle.task_machine.specs.Numbers.{negated};
+ghost use Rattle.machine_terms.specs.Numbers.{negated};
 
 use lane_kernels::Width;
 use regent_tree::{Arithmetic, Comparison};

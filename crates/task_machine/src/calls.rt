@@ -3,17 +3,15 @@
 ghost use Rattle.std.specs.Prelude.{◌≡◌, [], Some, None, IfOk, List, slice_get, string_bytes};
 ghost use Rattle.std.specs.Fmt.{signed_decimal};
 ghost use Rattle.task_machine.specs.Acts.{Does, with_stack};
-ghost use Rattle.task_machine.specs.declared.value.Value.{Value as MachineValue};
-ghost use Rattle.task_machine.specs.Calls.{assert, call, calling, count_numbers, end_with, print, text_of};
-ghost use Rattle.task_machine.specs.Calls.{is_pending, take_values, taken};
-ghost use Rattle.task_machine.specs.Stacks.{taken_off};
-ghost use Rattle.task_machine.specs.declared.outcome.Yield.TheVariants.{End};
-ghost use Rattle.task_machine.specs.Machine.{stops};
+ghost use Rattle.machine_terms.specs.declared.value.Value.{Value as MachineValue};
+ghost use Rattle.machine_terms.specs.Calls.{assert, call, calling, count_numbers, end_with, print, text_of};
+ghost use Rattle.machine_terms.specs.Calls.{is_pending, take_values, taken};
+ghost use Rattle.task_machine.specs.Takings.{taken_off};
+ghost use Rattle.machine_terms.specs.declared.outcome.Yield.TheVariants.{End};
+ghost use Rattle.machine_terms.specs.Machine.{stops};
 
-use crate::outcome::{CallOut, Yield};
 use crate::running::{Act, Running};
-use crate::stack::Stack;
-use crate::value::Value;
+use machine_terms::{CallOut, Stack, Value, Yield};
 use plain_values::Sequence;
 use regent_tree::FaultKind;
 use std::alloc::{AllocError, Global};

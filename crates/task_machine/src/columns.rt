@@ -3,13 +3,13 @@
 ghost use Rattle.std.specs.Prelude.{◌≡◌, IfOk, IfSome, length};
 ghost use Rattle.regent_tree.specs.Initializers.{keeps_pointers};
 ghost use Rattle.task_machine.specs.Columns.{IsAsLong, columned};
-ghost use Rattle.task_machine.specs.Regions.{column_of, numbers_in, readable};
-ghost use Rattle.task_machine.specs.Parts.{cell_at};
-ghost use Rattle.task_machine.specs.declared.frame.Frame.{Frame};
+ghost use Rattle.machine_terms.specs.Regions.{column_of, numbers_in, readable};
+ghost use Rattle.machine_terms.specs.Parts.{cell_at};
+ghost use Rattle.machine_terms.specs.declared.frame.Frame.{Frame};
 
 use crate::holdings::{Holdings, Lack, find_in};
-use crate::value::RegionValue;
 use lane_kernels::{FieldKind, Mode};
+use machine_terms::RegionValue;
 use plain_values::Sequence;
 use point_sets::PointSet;
 use region_tree::Part;

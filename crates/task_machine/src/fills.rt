@@ -3,20 +3,19 @@
 ghost use Rattle.std.specs.Prelude.{◌≡◌, IfOk};
 ghost use Rattle.task_machine.specs.Acts.{Does};
 ghost use Rattle.task_machine.specs.Fills.{behind};
-ghost use Rattle.task_machine.specs.Machine.{Machine, Stepped, next};
-ghost use Rattle.task_machine.specs.Parts.{find};
-ghost use Rattle.task_machine.specs.Regions.{fill, fill_cell, fill_points};
-ghost use Rattle.task_machine.specs.declared.frame.Frame.{Frame};
-ghost use Rattle.task_machine.specs.declared.value.Value.{Value as MachineValue};
+ghost use Rattle.machine_terms.specs.Machine.{Machine, Stepped, next};
+ghost use Rattle.machine_terms.specs.Parts.{find};
+ghost use Rattle.machine_terms.specs.Regions.{fill, fill_cell, fill_points};
+ghost use Rattle.machine_terms.specs.declared.frame.Frame.{Frame};
+ghost use Rattle.machine_terms.specs.declared.value.Value.{Value as MachineValue};
 ghost use Rattle.std.specs.Prelude.{List};
 
 use crate::holdings::{Holdings, Lack};
-use crate::outcome::Yield;
 use crate::pointers::region_in;
 use crate::running::{Act, Running};
 use crate::touches::same_width;
-use crate::value::Value;
 use lane_kernels::{Mode, Width};
+use machine_terms::{Value, Yield};
 use point_sets::PointSet;
 use region_tree::RootId;
 use std::alloc::AllocError;

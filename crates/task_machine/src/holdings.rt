@@ -4,9 +4,9 @@ ghost use Rattle.std.specs.Prelude.{◌≡◌, ◌==◌, ◌&&◌, ℤ, IfErr, I
 ghost use Rattle.std.specs.Prelude.{ℕ, slice_get, slice_set, true};
 ghost use Rattle.std.specs.List.{position_from};
 ghost use Rattle.task_machine.specs.Holding.{lacking, put_at, put_in_pieces};
-ghost use Rattle.task_machine.specs.Parts.{cell_at, find, found, is_needed, is_part_of};
-ghost use Rattle.task_machine.specs.Parts.{part_of};
-ghost use Rattle.task_machine.specs.Parts.{set_beside, set_cell, set_part, value_beside};
+ghost use Rattle.machine_terms.specs.Parts.{cell_at, find, found, is_needed, is_part_of};
+ghost use Rattle.machine_terms.specs.Parts.{part_of};
+ghost use Rattle.machine_terms.specs.Parts.{set_beside, set_cell, set_part, value_beside};
 
 use lane_kernels::{FieldKind, Mode};
 use plain_values::Sequence;

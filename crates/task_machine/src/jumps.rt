@@ -2,13 +2,13 @@
 
 ghost use Rattle.std.specs.Prelude.{◌≡◌, ◌∷◌, ℕ, ℤ, pos, IfOk, Some, None, slice_get, Bool, true, false, length, ◌<◌, ◌<ℤ◌, ◌^◌, ◌-◌};
 ghost use Rattle.task_machine.specs.Acts.{Does};
-ghost use Rattle.task_machine.specs.Jumps.{and_jump, jump, jump_if_not, leave, may_jump, next_number};
-ghost use Rattle.task_machine.specs.Jumps.{next_point, or_jump, round, turn, turns_back};
-ghost use Rattle.task_machine.specs.Machine.{on_turn};
+ghost use Rattle.machine_terms.specs.Jumps.{and_jump, jump, jump_if_not, leave, may_jump, next_number};
+ghost use Rattle.machine_terms.specs.Jumps.{next_point, or_jump, round, turn, turns_back};
+ghost use Rattle.machine_terms.specs.Machine.{on_turn};
 
 use crate::points::{Upcoming, loop_value, next_of};
 use crate::running::{Act, Running};
-use crate::value::Value;
+use machine_terms::Value;
 use regent_tree::FaultKind;
 use std::alloc::AllocError;
 use task_code::{Instr, Line};

@@ -4,15 +4,14 @@ ghost use Rattle.std.specs.Prelude.{◌≡◌, IfOk};
 ghost use Rattle.std.specs.List.{list_all};
 ghost use Rattle.plain_values.specs.Points.{within};
 ghost use Rattle.task_machine.specs.Acts.{Does};
-ghost use Rattle.task_machine.specs.Regions.{by_field, equal, image, join, lie_in, meet};
-ghost use Rattle.task_machine.specs.Regions.{minus, partition, preimage, sets_of};
+ghost use Rattle.machine_terms.specs.Regions.{by_field, equal, image, join, lie_in, meet};
+ghost use Rattle.machine_terms.specs.Regions.{minus, partition, preimage, sets_of};
 
 use crate::columns::Column;
-use crate::outcome::{Made, Yield};
 use crate::pointers::region_in;
 use crate::regions::partition_in;
 use crate::running::{Act, Running};
-use crate::value::{PartitionValue, RegionValue, Value};
+use machine_terms::{Made, PartitionValue, RegionValue, Value, Yield};
 use partitions::{COLOUR_LIMIT, both, by_field, either_of, equal, image, preimage, without};
 use plain_values::Sequence;
 use point_sets::PointSet;

@@ -7,15 +7,15 @@ ghost use Rattle.regent_tree.specs.Values.{Region, holds, kept_target, null_targ
 ghost use Rattle.regent_tree.specs.Values.{point_target, target_kept};
 ghost use Rattle.task_machine.specs.Acts.{Does};
 ghost use Rattle.task_machine.specs.Casts.{cast_from, number_to_cast};
-ghost use Rattle.task_machine.specs.Machine.{on_number};
-ghost use Rattle.task_machine.specs.Numbers.{replaced};
-ghost use Rattle.task_machine.specs.Pointers.{are_same, cast, cast_pointer, compare, element};
-ghost use Rattle.task_machine.specs.Pointers.{is_null, move, plain_region, point, region_in};
-ghost use Rattle.task_machine.specs.Pointers.{region_slot, regions_in};
+ghost use Rattle.machine_terms.specs.Machine.{on_number};
+ghost use Rattle.machine_terms.specs.Numbers.{replaced};
+ghost use Rattle.machine_terms.specs.Pointers.{are_same, cast, cast_pointer, compare, element};
+ghost use Rattle.machine_terms.specs.Pointers.{is_null, move, plain_region, point, region_in};
+ghost use Rattle.machine_terms.specs.Pointers.{region_slot, regions_in};
 
 use crate::arithmetic::kept_truth;
 use crate::running::{Act, Running};
-use crate::value::{RegionValue, Value};
+use machine_terms::{RegionValue, Value};
 use plain_values::Sequence;
 use point_sets::PointSet;
 use regent_tree::FaultKind;

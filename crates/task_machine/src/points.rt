@@ -1,11 +1,11 @@
 //! The points that a loop goes over.
 
 ghost use Rattle.std.specs.Prelude.{◌≡◌, ◌<ℤ◌, ◌^◌, ◌-◌, ℕ, pos};
-ghost use Rattle.task_machine.specs.Jumps.{point_at, size_of, taken};
+ghost use Rattle.machine_terms.specs.Jumps.{point_at, size_of, taken};
 ghost use Rattle.task_machine.specs.Rounds.{next_of};
 ghost use Rattle.task_machine.specs.declared.points.Upcoming.TheVariants.{Point};
 
-use crate::value::Value;
+use machine_terms::Value;
 
 /// What a loop over points comes to next.
 #[derive(Clone, Copy)]

@@ -2,14 +2,13 @@
 
 ghost use Rattle.std.specs.Prelude.{◌≡◌, IfNone, IfOk, IfSome, None, Some, slice_get};
 ghost use Rattle.task_machine.specs.Acts.{Does};
-ghost use Rattle.task_machine.specs.Machine.{on_number};
-ghost use Rattle.task_machine.specs.Regions.{child, colors, coloured, new_root};
-ghost use Rattle.task_machine.specs.Regions.{partition_in, space};
+ghost use Rattle.machine_terms.specs.Machine.{on_number};
+ghost use Rattle.machine_terms.specs.Regions.{child, colors, coloured, new_root};
+ghost use Rattle.machine_terms.specs.Regions.{partition_in, space};
 
-use crate::outcome::{Made, Yield};
 use crate::running::{Act, Running};
-use crate::value::{PartitionValue, RegionValue, Value};
 use index_spaces::Ispace;
+use machine_terms::{Made, PartitionValue, RegionValue, Value, Yield};
 use plain_values::Sequence;
 use regent_tree::FaultKind;
 use std::alloc::AllocError;

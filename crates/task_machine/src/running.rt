@@ -2,13 +2,12 @@
 
 ghost use Rattle.std.specs.Prelude.{◌≡◌, Some, None, suc};
 ghost use Rattle.task_machine.specs.Acts.{Does, told};
-ghost use Rattle.task_machine.specs.Machine.{at, yields};
+ghost use Rattle.machine_terms.specs.Machine.{at, yields};
 ghost use Rattle.task_machine.specs.declared.running.Act.TheVariants as act;
 ghost use Rattle.task_machine.specs.declared.running.Act.TheVariants.{Broken, Stop};
 
-use crate::frame::Frame;
 use crate::holdings::Holdings;
-use crate::outcome::Yield;
+use machine_terms::{Frame, Yield};
 use plain_values::Sequence;
 use regent_tree::{Fault, FaultKind};
 use std::alloc::Global;

@@ -2,13 +2,13 @@
 
 ghost use Rattle.std.specs.Prelude.{◌≡◌, [], IfOk};
 ghost use Rattle.task_machine.specs.Acts.{opened_as, shown_after, task_after};
-ghost use Rattle.task_machine.specs.Segments.{frame_after, segment};
+ghost use Rattle.machine_terms.specs.Segments.{frame_after, segment};
 
-use crate::frame::Frame;
+use crate::copies::copy_parts;
 use crate::holdings::Holdings;
-use crate::outcome::{After, Yield};
 use crate::running::Running;
-use plain_values::Sequence;
+use machine_terms::{After, Before, Frame, Ran, Yield};
+use plain_values::{Sequence, Shared};
 use region_tree::{Needs, Part};
 use std::alloc::{AllocError, Global};
 use std::mem;
@@ -28,6 +28,23 @@ pub fn run(
     let mut running = Running::open(alloc, frame, parts);
     let ends = running.run_task(code)?;
     Ok(running.close(ends))
+}
+
+/// Runs a segment on a copy of its frame and its parts.
+pub fn run_segment(alloc: Global, before: Shared<Before>) -> Result<Ran, AllocError>
+    ensures { IfOk result (λ ran. ran ≡ before) }
+{
+    let after = run_copied(alloc, before.get())?;
+    Ok(Ran::new(before, after))
+}
+
+/// What a segment leaves.
+fn run_copied(alloc: Global, before: &Before) -> Result<After, AllocError>
+    ensures { IfOk result (λ after. after ≡ segment before.now) }
+{
+    let frame = before.frame.copy(alloc)?;
+    let parts = copy_parts(alloc, before.parts.as_slice())?;
+    run(alloc, before.code.get(), frame, parts)
 }
 
 impl Running {

@@ -6,15 +6,14 @@ ghost use Rattle.lane_kernels.specs.declared.numbers.Mode.TheVariants as mode;
 ghost use Rattle.regent_tree.specs.Values.{target_kept};
 ghost use Rattle.task_machine.specs.Acts.{Does};
 ghost use Rattle.task_machine.specs.Aims.{aimed};
-ghost use Rattle.task_machine.specs.Machine.{broken, stops};
-ghost use Rattle.task_machine.specs.Pointers.{aim_through, read, same_width, set, written};
+ghost use Rattle.machine_terms.specs.Machine.{broken, stops};
+ghost use Rattle.machine_terms.specs.Pointers.{aim_through, read, same_width, set, written};
 
 use crate::holdings::Lack;
-use crate::outcome::Yield;
 use crate::pointers::{Pointer, region_in};
 use crate::running::{Act, Running};
-use crate::value::Value;
 use lane_kernels::{Mode, Op, Width};
+use machine_terms::{Value, Yield};
 use plain_values::Sequence;
 use regent_tree::FaultKind;
 use region_tree::RootId;

@@ -2,9 +2,9 @@ use Rattle.std.proofs.Common.{rules, ◌≡◌, sym, ap, subst, ◌∙◌}
 use Rattle.std.specs.Result.{IfOk}
 use Rattle.lane_kernels.specs.Numbers.{applied, width_of}
 use Rattle.lane_kernels.specs.declared.numbers.Mode.{Mode}
-use Rattle.task_machine.specs.declared.order.Contents.{Contents}
-use Rattle.task_machine.specs.Contents.{keep, kept_at}
-use Rattle.task_machine.specs.Copies.{give_back}
+use Rattle.machine_terms.specs.declared.order.Contents.{Contents}
+use Rattle.machine_terms.specs.Contents.{keep, kept_at}
+use Rattle.machine_terms.specs.Copies.{give_back}
 use Rattle.plain_run.proofs.copies.give_back.Goals as goal
 
 pub returns-in-Reduce : goal.returns-in-Reduce

@@ -1,5 +1,5 @@
 use Rattle.std.proofs.Common.{◌≡◌, drop}
-use Rattle.task_machine.specs.Copies.{give_pieces}
+use Rattle.machine_terms.specs.Copies.{give_pieces}
 use Rattle.plain_run.proofs.copies.give_pieces.Given as goal
 
 abbrev pub invariant-loop-held : goal.invariant-loop-held

@@ -1,6 +1,6 @@
 use Rattle.std.proofs.Common.{rules, ◌≡◌, ◌<◌, length, get_or, pos, Some, slice_get}
 use Rattle.std.proofs.lemmas.List.{drop_more}
-use Rattle.task_machine.specs.Copies.{give_back}
+use Rattle.machine_terms.specs.Copies.{give_back}
 use Rattle.plain_run.proofs.Walking.{given_next}
 use Rattle.plain_run.proofs.copies.give_points.Goals as goal
 

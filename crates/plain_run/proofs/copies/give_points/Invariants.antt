@@ -1,5 +1,5 @@
 use Rattle.std.proofs.Common.{◌≡◌, drop}
-use Rattle.task_machine.specs.Copies.{give_points}
+use Rattle.machine_terms.specs.Copies.{give_points}
 use Rattle.plain_run.proofs.copies.give_points.Given as goal
 
 abbrev pub invariant-loop-place : goal.invariant-loop-place

@@ -1,5 +1,5 @@
 use Rattle.std.proofs.Common.{rules, ◌≡◌, ◌++◌, ◌∷◌, []}
-use Rattle.task_machine.specs.Contents.{kept_at}
+use Rattle.machine_terms.specs.Contents.{kept_at}
 use Rattle.plain_run.proofs.Walking.{mapped_next}
 use Rattle.plain_run.proofs.copies.numbers_at.Goals as goal
 

@@ -1,5 +1,5 @@
 use Rattle.std.proofs.Common.{◌≡◌, ◌++◌, drop, map}
-use Rattle.task_machine.specs.Contents.{kept_at}
+use Rattle.machine_terms.specs.Contents.{kept_at}
 use Rattle.plain_run.proofs.copies.numbers_at.Given as goal
 
 abbrev pub invariant-loop-place : goal.invariant-loop-place

@@ -1,5 +1,5 @@
 use Rattle.std.proofs.Common.{◌≡◌, map}
-use Rattle.task_machine.specs.Copies.{piece_of}
+use Rattle.machine_terms.specs.Copies.{piece_of}
 use Rattle.plain_run.proofs.copies.part_from.Given as goal
 
 abbrev pub invariant-loop-points : goal.invariant-loop-points

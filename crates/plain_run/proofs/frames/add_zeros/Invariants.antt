@@ -1,5 +1,5 @@
 use Rattle.std.proofs.Common.{◌≡◌, ◌++◌, pos, replicate}
-use Rattle.task_machine.specs.declared.value.Value.TheVariants.{Number}
+use Rattle.machine_terms.specs.declared.value.Value.TheVariants.{Number}
 use Rattle.plain_run.proofs.frames.add_zeros.Given as goal
 
 abbrev pub invariant-loop-place : goal.invariant-loop-place

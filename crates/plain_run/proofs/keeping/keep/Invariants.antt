@@ -1,5 +1,5 @@
 use Rattle.std.proofs.Common.{◌≡◌, map}
-use Rattle.task_machine.specs.Contents.{kept_in}
+use Rattle.machine_terms.specs.Contents.{kept_in}
 use Rattle.plain_run.proofs.keeping.keep.Given as goal
 
 abbrev pub invariant-loop-held : goal.invariant-loop-held

@@ -1,5 +1,5 @@
 use Rattle.std.proofs.Common.{◌≡◌, drop}
-use Rattle.task_machine.specs.Makes.{are_apart}
+use Rattle.machine_terms.specs.Makes.{are_apart}
 use Rattle.plain_run.proofs.making.are_apart.Given as goal
 
 abbrev pub invariant-loop-place : goal.invariant-loop-place

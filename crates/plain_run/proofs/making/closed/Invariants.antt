@@ -1,5 +1,5 @@
 use Rattle.std.proofs.Common.{◌≡◌, filter, not}
-use Rattle.task_machine.specs.Contents.{is_among}
+use Rattle.machine_terms.specs.Contents.{is_among}
 use Rattle.plain_run.proofs.making.closed.Given as goal
 
 abbrev pub invariant-loop-held : goal.invariant-loop-held

@@ -1,5 +1,5 @@
 use Rattle.std.proofs.Common.{◌≡◌, drop}
-use Rattle.task_machine.specs.Contents.{is_among}
+use Rattle.machine_terms.specs.Contents.{is_among}
 use Rattle.plain_run.proofs.making.is_among.Given as goal
 
 abbrev pub invariant-loop-id : goal.invariant-loop-id

@@ -1,5 +1,5 @@
 use Rattle.std.proofs.Common.{◌≡◌, map}
-use Rattle.task_machine.specs.Orders.{settled}
+use Rattle.machine_terms.specs.Orders.{settled}
 use Rattle.plain_run.proofs.making.settled.Given as goal
 
 abbrev pub invariant-loop-value : goal.invariant-loop-value

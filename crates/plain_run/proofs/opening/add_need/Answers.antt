@@ -1,8 +1,8 @@
 use Rattle.std.proofs.Common.{rules, ◌≡◌, ◌++◌, [], None, Option, ◌≤◌, length, slice_get, sym, ap, ◌∙◌}
 use Rattle.std.proofs.lemmas.Option.{slice_get_past}
-use Rattle.task_machine.specs.Opening.{need_on}
-use Rattle.task_machine.specs.Pointers.{region_in}
-use Rattle.task_machine.specs.declared.value.Value.{Value}
+use Rattle.machine_terms.specs.Opening.{need_on}
+use Rattle.machine_terms.specs.Pointers.{region_in}
+use Rattle.machine_terms.specs.declared.value.Value.{Value}
 use Rattle.plain_run.proofs.opening.add_need.Goals as goal
 
 pub returns-in-None : goal.returns-in-None

@@ -1,5 +1,5 @@
 use Rattle.std.proofs.Common.{◌≡◌, ◌++◌}
-use Rattle.task_machine.specs.Makes.{root_needs}
+use Rattle.machine_terms.specs.Makes.{root_needs}
 use Rattle.plain_run.proofs.opening.add_root_needs.Given as goal
 
 abbrev pub invariant-loop-field : goal.invariant-loop-field

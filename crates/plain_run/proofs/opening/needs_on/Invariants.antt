@@ -1,5 +1,5 @@
 use Rattle.std.proofs.Common.{◌≡◌, ◌++◌, drop}
-use Rattle.task_machine.specs.Opening.{needs_on}
+use Rattle.machine_terms.specs.Opening.{needs_on}
 use Rattle.plain_run.proofs.opening.needs_on.Given as goal
 
 abbrev pub invariant-loop-need : goal.invariant-loop-need

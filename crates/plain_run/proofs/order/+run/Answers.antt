@@ -1,9 +1,9 @@
 use Rattle.std.proofs.Common.{rules, ◌≡◌, ◌<◌, true, false, Option, List, nat_le, length, suc, sym, ap, ◌∙◌}
 use Rattle.std.proofs.lemmas.Result.{IfOk-weaker}
 use Rattle.region_tree.specs.Requirements.{Requirement}
-use Rattle.task_machine.specs.declared.frame.Frame.{Frame}
-use Rattle.task_machine.specs.Opening.{opening}
-use Rattle.task_machine.specs.Orders.{call_within, runs}
+use Rattle.machine_terms.specs.declared.frame.Frame.{Frame}
+use Rattle.machine_terms.specs.Opening.{opening}
+use Rattle.machine_terms.specs.Orders.{call_within, runs}
 use Rattle.plain_run.proofs.Calling.{call_begun, call_next, level_below, segment_last, segment_next, too_many}
 use Rattle.plain_run.proofs.order.+run.Goals as goal
 

@@ -1,5 +1,5 @@
 use Rattle.std.proofs.Common.{◌≡◌, ◌+◌, ◌*◌}
-use Rattle.task_machine.specs.Orders.{call_all, run_segments, runs}
+use Rattle.machine_terms.specs.Orders.{call_all, run_segments, runs}
 use Rattle.plain_run.proofs.order.+run.Given as goal
 
 abbrev pub decreases-runs : goal.decreases-runs

@@ -1,11 +1,11 @@
 use Rattle.std.proofs.Common.{◌≡◌, [], sym, ap, ◌∙◌}
 use Rattle.std.proofs.lemmas.Result.{IfOk-weaker}
 use Rattle.task_code.specs.declared.code.Code.{Code}
-use Rattle.task_machine.specs.declared.order.Ended.{Ended}
-use Rattle.task_machine.specs.declared.order.Instance.{Instance}
-use Rattle.task_machine.specs.Contents.{no_contents}
-use Rattle.task_machine.specs.Jobs.{first_frame, outcome}
-use Rattle.task_machine.specs.Orders.{begun, runs}
+use Rattle.machine_terms.specs.declared.order.Ended.{Ended}
+use Rattle.machine_terms.specs.declared.order.Instance.{Instance}
+use Rattle.machine_terms.specs.Contents.{no_contents}
+use Rattle.machine_terms.specs.Jobs.{first_frame, outcome}
+use Rattle.machine_terms.specs.Orders.{begun, runs}
 use Rattle.plain_run.proofs.Calling.{first_run}
 use Rattle.plain_run.proofs.order.run_first.Goals as goal
 

@@ -1,5 +1,5 @@
 use Rattle.std.proofs.Common.{◌≡◌, drop}
-use Rattle.task_machine.specs.Contents.{image_in}
+use Rattle.machine_terms.specs.Contents.{image_in}
 use Rattle.plain_run.proofs.outcomes.image_in.Given as goal
 
 abbrev pub invariant-loop-held : goal.invariant-loop-held

@@ -1,6 +1,6 @@
 use Rattle.std.proofs.Common.{◌≡◌, ◌++◌, drop, map}
 use Rattle.region_tree.specs.declared.tree.RootId.{RootId}
-use Rattle.task_machine.specs.Contents.{image_of}
+use Rattle.machine_terms.specs.Contents.{image_of}
 use Rattle.plain_run.proofs.outcomes.images_of.Given as goal
 
 abbrev pub invariant-loop-id : goal.invariant-loop-id

@@ -1,5 +1,5 @@
 use Rattle.std.proofs.Common.{◌≡◌, ◌++◌, drop, map}
-use Rattle.task_machine.specs.declared.value.Value.TheVariants.{Number}
+use Rattle.machine_terms.specs.declared.value.Value.TheVariants.{Number}
 use Rattle.plain_run.proofs.outcomes.numbers.Given as goal
 
 abbrev pub invariant-loop-input : goal.invariant-loop-input

@@ -1,5 +1,5 @@
 use Rattle.std.proofs.Common.{◌≡◌, ◌++◌}
-use Rattle.task_machine.specs.Makes.{root_requirements}
+use Rattle.machine_terms.specs.Makes.{root_requirements}
 use Rattle.plain_run.proofs.requiring.add_root_requirements.Given as goal
 
 abbrev pub invariant-loop-field : goal.invariant-loop-field

@@ -1,5 +1,5 @@
 use Rattle.std.proofs.Common.{◌≡◌, drop}
-use Rattle.task_machine.specs.Opening.{requirements_on}
+use Rattle.machine_terms.specs.Opening.{requirements_on}
 use Rattle.plain_run.proofs.Needing.{behind}
 use Rattle.plain_run.proofs.requiring.requirements_on.Given as goal
 

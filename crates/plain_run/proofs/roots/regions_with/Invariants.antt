@@ -1,5 +1,5 @@
 use Rattle.std.proofs.Common.{◌≡◌, map}
-use Rattle.task_machine.specs.Makes.{region_with}
+use Rattle.machine_terms.specs.Makes.{region_with}
 use Rattle.plain_run.proofs.roots.regions_with.Given as goal
 
 abbrev pub invariant-loop-set : goal.invariant-loop-set

@@ -1,5 +1,5 @@
 use Rattle.std.proofs.Common.{◌≡◌, ◌+◌, ◌≤◌, drop}
-use Rattle.task_machine.specs.Calls.{count_numbers}
+use Rattle.machine_terms.specs.Calls.{count_numbers}
 use Rattle.task_machine.proofs.calls.count_numbers.Given as goal
 
 abbrev pub invariant-loop-part : goal.invariant-loop-part

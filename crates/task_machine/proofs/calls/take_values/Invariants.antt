@@ -1,5 +1,5 @@
 use Rattle.std.proofs.Common.{◌≡◌, ◌-◌, ◌≤◌, [], reverse}
-use Rattle.task_machine.specs.Calls.{take_values}
+use Rattle.machine_terms.specs.Calls.{take_values}
 use Rattle.task_machine.proofs.calls.take_values.Given as goal
 
 abbrev pub invariant-loop : goal.invariant-loop

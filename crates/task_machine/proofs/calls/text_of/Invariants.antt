@@ -1,5 +1,5 @@
 use Rattle.std.proofs.Common.{◌≡◌, ◌≤◌, drop}
-use Rattle.task_machine.specs.Calls.{before_text, text_of}
+use Rattle.machine_terms.specs.Calls.{before_text, text_of}
 use Rattle.task_machine.proofs.calls.text_of.Given as goal
 
 abbrev pub invariant-loop-part : goal.invariant-loop-part

@@ -1,6 +1,6 @@
 use Rattle.std.proofs.Common.{◌≡◌, sym, ap, ◌∙◌, [], ◌∷◌, ◌++◌, ◌+◌, drop, length, length-append, arith}
 use Rattle.std.proofs.lemmas.Int.{to_z-of_z}
-use Rattle.task_machine.specs.Regions.{numbers_in}
+use Rattle.machine_terms.specs.Regions.{numbers_in}
 use Rattle.task_machine.proofs.Filling.{drop_get}
 use Rattle.task_machine.proofs.Reading.{behind_next, behind_numbers, numbers_next, numbers_stop}
 use Rattle.task_machine.proofs.columns.numbers_in.Goals as goal

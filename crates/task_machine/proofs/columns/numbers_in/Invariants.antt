@@ -1,5 +1,5 @@
 use Rattle.std.proofs.Common.{◌≡◌, drop, length}
-use Rattle.task_machine.specs.Regions.{numbers_in}
+use Rattle.machine_terms.specs.Regions.{numbers_in}
 use Rattle.task_machine.proofs.Reading.{behind_numbers}
 use Rattle.task_machine.proofs.columns.numbers_in.Given as goal
 

@@ -1,5 +1,5 @@
 use Rattle.std.proofs.Common.{◌≡◌, drop}
-use Rattle.task_machine.specs.Parts.{is_needed}
+use Rattle.machine_terms.specs.Parts.{is_needed}
 use Rattle.task_machine.proofs.holdings.is_needed.Given as goal
 
 abbrev pub invariant-loop-need : goal.invariant-loop-need

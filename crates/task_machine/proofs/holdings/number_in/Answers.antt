@@ -2,7 +2,7 @@ use Rattle.std.proofs.Common.{◌≡◌, sym, subst, ◌∙◌, ℤ, None, Some,
 use Rattle.std.proofs.lemmas.Int.{to_z-of_z}
 use Rattle.std.specs.Prelude.{slice_get}
 use Rattle.region_tree.specs.Pieces.{Held}
-use Rattle.task_machine.specs.Parts.{set_beside, value_beside}
+use Rattle.machine_terms.specs.Parts.{set_beside, value_beside}
 use Rattle.task_machine.proofs.Spots.{beside_none, beside_place}
 use Rattle.task_machine.proofs.holdings.number_in.Goals as goal
 

@@ -1,6 +1,6 @@
 use Rattle.std.proofs.Common.{◌≡◌, drop}
 use Rattle.std.specs.List.{position_from}
-use Rattle.task_machine.specs.Parts.{is_part_of}
+use Rattle.machine_terms.specs.Parts.{is_part_of}
 use Rattle.task_machine.proofs.holdings.place_of_part.Given as goal
 
 abbrev pub invariant-loop-place : goal.invariant-loop-place

@@ -1,5 +1,5 @@
 use Rattle.std.proofs.Common.{◌≡◌, map, take}
-use Rattle.task_machine.specs.declared.value.RegionValue.{RegionValue}
+use Rattle.machine_terms.specs.declared.value.RegionValue.{RegionValue}
 use Rattle.task_machine.proofs.partitioning.sets_of.Given as goal
 
 abbrev pub invariant-loop-child : goal.invariant-loop-child

@@ -1,6 +1,6 @@
 use Rattle.std.proofs.Common.{◌≡◌, None, drop}
 use Rattle.task_machine.specs.Casts.{cast_from}
-use Rattle.task_machine.specs.Pointers.{regions_in}
+use Rattle.machine_terms.specs.Pointers.{regions_in}
 use Rattle.task_machine.proofs.pointers.cast_to.Given as goal
 
 abbrev pub invariant-loop-place : goal.invariant-loop-place

@@ -1,9 +1,9 @@
 use Rattle.std.proofs.Common.{◌≡◌, sym, subst, ◌∙◌, List, ◌∷◌, ◌+◌, drop, None, Some, ℤ, to_z, of_z, w64}
 use Rattle.std.proofs.lemmas.Int.{to_z-of_z}
-use Rattle.task_machine.specs.declared.frame.Frame.{Frame}
-use Rattle.task_machine.specs.declared.value.Value.{Value}
+use Rattle.machine_terms.specs.declared.frame.Frame.{Frame}
+use Rattle.machine_terms.specs.declared.value.Value.{Value}
 use Rattle.task_machine.specs.Fills.{behind}
-use Rattle.task_machine.specs.Regions.{fill_points}
+use Rattle.machine_terms.specs.Regions.{fill_points}
 use Rattle.task_machine.proofs.Filling.{IsFilled, drop_get, filled_next}
 use Rattle.task_machine.proofs.holdings.Holdings.fill.Goals as goal
 

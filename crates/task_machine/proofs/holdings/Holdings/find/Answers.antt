@@ -1,7 +1,7 @@
 use Rattle.std.proofs.Common.{◌≡◌, sym, subst, ap, ◌∙◌, arith, length, ◌<◌, get_or, List}
 use Rattle.region_tree.specs.declared.piece.Part.{Part}
 use Rattle.task_machine.specs.Holding.{Holding}
-use Rattle.task_machine.specs.Parts.{found, found_cell}
+use Rattle.machine_terms.specs.Parts.{found, found_cell}
 use Rattle.task_machine.proofs.Spots.{IsPartAt, find_at, part_at, part_within, put_found}
 use Rattle.task_machine.proofs.holdings.Holdings.find.Goals as goal
 

@@ -2,7 +2,7 @@ use Rattle.std.proofs.Common.{◌≡◌, ◌<◌, ◌%◌, List, sym, subst, Som
 use Rattle.std.specs.List.{position_from}
 use Rattle.region_tree.specs.declared.piece.Part.{Part}
 use Rattle.task_machine.specs.Holding.{Holding}
-use Rattle.task_machine.specs.Parts.{is_needed, is_part_of}
+use Rattle.machine_terms.specs.Parts.{is_needed, is_part_of}
 use Rattle.task_machine.proofs.Hints.{known_at, known_needed}
 use Rattle.task_machine.proofs.holdings.Holdings.known.Goals as goal
 

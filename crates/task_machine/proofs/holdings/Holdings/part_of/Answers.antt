@@ -1,7 +1,7 @@
 use Rattle.std.proofs.Common.{◌≡◌, sym, subst, ap, ◌∙◌, None, Some, ℕ, true, arith, length, ◌<◌}
 use Rattle.std.specs.List.{position_from}
 use Rattle.task_machine.specs.Holding.{Holding}
-use Rattle.task_machine.specs.Parts.{find, is_needed, is_part_of, missing, part_of}
+use Rattle.machine_terms.specs.Parts.{find, is_needed, is_part_of, missing, part_of}
 use Rattle.task_machine.proofs.Spots.{IsPartAt, find_missing, part_at, part_within}
 use Rattle.task_machine.proofs.holdings.Holdings.part_of.Goals as goal
 

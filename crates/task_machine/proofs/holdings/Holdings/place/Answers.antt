@@ -3,7 +3,7 @@ use Rattle.std.specs.List.{position_from}
 use Rattle.std.proofs.lemmas.List.{length-set}
 use Rattle.std.proofs.lemmas.List.Elements.{All-set}
 use Rattle.task_machine.specs.Holding.{IsKnown}
-use Rattle.task_machine.specs.Parts.{is_part_of}
+use Rattle.machine_terms.specs.Parts.{is_part_of}
 use Rattle.task_machine.proofs.Hints.{known_place}
 use Rattle.task_machine.proofs.holdings.Holdings.place.Goals as goal
 

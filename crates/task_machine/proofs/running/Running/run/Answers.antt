@@ -2,7 +2,7 @@ use Rattle.std.proofs.Common.{rules, refl, ap, sym, ◌∙◌, length}
 use Rattle.std.proofs.lemmas.Option.{slice_get_read}
 use Rattle.task_machine.proofs.Coming.{next_goes, jump_goes, broken_ends, fault_ends, stop_ends, last_ends}
 use Rattle.task_machine.specs.Acts.{shown_after}
-use Rattle.task_machine.specs.Segments.{after}
+use Rattle.machine_terms.specs.Segments.{after}
 use Rattle.task_machine.proofs.running.Running.run.Goals as goal
 
 pub loop-line-smaller-in-Some-checked_add : goal.loop-line-smaller-in-Some-checked_add

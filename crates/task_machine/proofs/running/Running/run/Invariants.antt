@@ -1,7 +1,7 @@
 use Rattle.std.proofs.Common.{◌≡◌}
 use Rattle.task_machine.specs.Acts.{machine_at}
-use Rattle.task_machine.specs.Segments.{stop_from}
-use Rattle.task_machine.proofs.Ending.{steps_left}
+use Rattle.machine_terms.specs.Segments.{stop_from}
+use Rattle.machine_terms.proofs.Ending.{steps_left}
 use Rattle.task_machine.proofs.running.Running.run.Given as goal
 
 abbrev pub invariant-loop-line : goal.invariant-loop-line

@@ -1,7 +1,7 @@
 use Rattle.std.proofs.Common.{rules, refl, ap, ◌∙◌, length}
 use Rattle.std.proofs.lemmas.Option.{slice_get_read}
 use Rattle.task_machine.specs.Acts.{machine_at}
-use Rattle.task_machine.specs.Segments.{after, stop_from}
+use Rattle.machine_terms.specs.Segments.{after, stop_from}
 use Rattle.task_machine.proofs.Tasks.{no_task, other_slots, faults_later, runs_on}
 use Rattle.task_machine.proofs.running.Running.run_task.Goals as goal
 

@@ -1,0 +1,16 @@
+pub mod Machine
+pub mod Numbers
+pub mod Jumps
+pub mod Parts
+pub mod Pointers
+pub mod Regions
+pub mod Calls
+pub mod Segments
+pub mod Touches
+pub mod Stacks
+pub mod Contents
+pub mod Copies
+pub mod Opening
+pub mod Makes
+pub mod Orders
+pub mod Jobs
