@@ -8,3 +8,5 @@ pub mod Blocks
 pub mod Parameters
 pub mod Meant
 pub mod Trees
+pub mod Onward
+pub mod Bodies

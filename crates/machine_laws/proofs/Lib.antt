@@ -1,4 +1,3 @@
 pub mod Yields
-pub mod Kept
 pub mod Parts
 pub mod Wrapped

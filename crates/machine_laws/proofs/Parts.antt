@@ -7,7 +7,7 @@ use Rattle.region_tree.specs.Pieces.{Held}
 use Rattle.region_tree.specs.declared.piece.Part.{Part}
 use Rattle.machine_terms.proofs.KeptParts.{bare_part, bare_piece}
 use Rattle.machine_terms.specs.Segments.{stop_of}
-use Rattle.machine_laws.proofs.Kept.{stop_fixed}
+use Rattle.machine_terms.proofs.Kept.{stop_fixed}
 use Rattle.machine_laws.specs.Parts.{PieceIsKept, PartIsKept, SegmentsKeepParts}
 
 each_kept : {A : Type 0} (bared : A → A) (R : A → A → Type 0) →

@@ -41,9 +41,9 @@ module _ (ask : Asking) where
           Kind ask m (when b (yield_call task vs st (with_turns p m)) (faults Depth line (with_turns p m)))
       deep p e true d = when_kind ask m (nat_lt (suc m.frame.children) (2 ^ 64)) _ _
           (when_kind ask m (nat_lt (suc m.frame.pc) (2 ^ 32)) _ _
-          (called _ _ (record { task = refl; slots = refl; later = refl; depth = refl; needs = refl; parts = refl }) e refl d)
-          (over _ _ tt (record { task = refl; slots = refl; later = refl; depth = refl; needs = refl; parts = refl })))
-          (over _ _ tt (record { task = refl; slots = refl; later = refl; depth = refl; needs = refl; parts = refl }))
+          (called _ _ (record { task = refl; slots = refl; later = refl; depth = refl; own = refl; needs = refl; parts = refl }) e refl d)
+          (over _ _ tt (record { task = refl; slots = refl; later = refl; depth = refl; own = refl; needs = refl; parts = refl })))
+          (over _ _ tt (record { task = refl; slots = refl; later = refl; depth = refl; own = refl; needs = refl; parts = refl }))
       deep p e false d = over _ _ tt (fixed_turns p m)
 
   call_kind : (o : Option TaskCode) (task n line : ℕ) (m : Machine) → Kind ask m (call_task o task n line m)
@@ -165,7 +165,7 @@ module _ (ask : Asking) where
       (λ q. on_number m.frame.stack m (λ z st. child_at (coloured q.children z) line st m)) (fixed _)
       (λ q. number_kind ask _ m.frame.stack m _ (fixed _) (λ z st e. child_kind ask (coloured q.children z) line st m))
   act_kind code instr.Turn line m keyed held = turn_kind ask m.frame.turns line m _ refl (λ p e.
-      turned _ (record { task = refl; slots = refl; later = refl; depth = refl; needs = refl; parts = refl }) e)
+      turned _ (record { task = refl; slots = refl; later = refl; depth = refl; own = refl; needs = refl; parts = refl }) e)
   act_kind code (instr.NextNumber c l v to) line m keyed held =
       count_kind ask c v to line m (slice_get m.frame.slots c) (slice_get m.frame.slots l)
   act_kind code (instr.NextPoint s c v ptr to) line m keyed held =

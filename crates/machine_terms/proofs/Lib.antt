@@ -6,3 +6,4 @@ pub mod InstructionKinds
 pub mod LoopHeads
 pub mod Fuel
 pub mod Ending
+pub mod Kept

@@ -24,7 +24,7 @@ module _ (ask : Asking) where
   pub store_kind : (s : ℕ) (st : List Value) (m : Machine) → Kind ask m (store s st m)
   store_kind s [] m = stops_kind ask _ m tt
   store_kind s (v ∷ st) m = when_kind ask m (nat_lt s (length m.frame.slots)) _ _
-      (nexted _ (record { task = refl; slots = length-set m.frame.slots s v; later = refl; depth = refl; needs = refl; parts = refl }) refl refl)
+      (nexted _ (record { task = refl; slots = length-set m.frame.slots s v; later = refl; depth = refl; own = refl; needs = refl; parts = refl }) refl refl)
       (stops_kind ask _ m tt)
 
   pub discard_kind : (st : List Value) (m : Machine) → Kind ask m (discard st m)
@@ -61,6 +61,7 @@ module _ (ask : Asking) where
         slots = length-set (slice_set m.frame.slots v (Number z)) c _ ∙ length-set m.frame.slots v (Number z);
         later = refl;
         depth = refl;
+        own = refl;
         needs = refl;
         parts = refl;
       }) e)

@@ -74,7 +74,7 @@ module _ (ask : Asking) where
   pub set_found_kind : (root f n : ℕ) (o : Option ℤ) (st : List Value) (m : Machine) →
       Kind ask m (set_found root f n o st m)
   set_found_kind root f n None st m = stops_kind ask _ m tt
-  set_found_kind root f n (Some z) st m = nexted _ (record { task = refl; slots = refl; later = refl; depth = refl; needs = refl; parts = set_part_bare m.parts root f n z }) refl refl
+  set_found_kind root f n (Some z) st m = nexted _ (record { task = refl; slots = refl; later = refl; depth = refl; own = refl; needs = refl; parts = set_part_bare m.parts root f n z }) refl refl
 
   pub set_cell_kind : (a : Mode) (w : Width) (root : RootId) (f n : ℕ) (z : ℤ) (o : Found) (st : List Value) (m : Machine) →
       ask.key ≡ Some (root.0, f) → (o ≡ missing → IsMissing m root.0 f) →
@@ -132,7 +132,7 @@ module _ (ask : Asking) where
       ask.key ≡ Some (root.0, g) → Filling f m → Kind ask f (fill_points root.0 g w z xs st m)
   fill_kind f root g w z [] st m d e =
       let k = filling_fixed f m e in
-      nexted _ (record { task = k.task; slots = k.slots; later = k.later; depth = k.depth; needs = k.needs; parts = k.parts }) (ap (λ (x : Frame). x.turns) e.frame) (ap (λ (x : Frame). suc x.pc) e.frame)
+      nexted _ (record { task = k.task; slots = k.slots; later = k.later; depth = k.depth; own = k.own; needs = k.needs; parts = k.parts }) (ap (λ (x : Frame). x.turns) e.frame) (ap (λ (x : Frame). suc x.pc) e.frame)
   fill_kind f root g w z (x ∷ xs) st m d e =
       fill_cell_kind f root g w x z (find m.frame.needs.items m.parts root.0 g x) m (fill_points root.0 g w z xs st) e d
       (λ h. missing_is m root.0 g x h)

@@ -28,6 +28,7 @@ pub record Fixed (f g : Machine) : Type 0 where
   pub slots : length g.frame.slots ≡ length f.frame.slots
   pub later : g.frame.later ≡ f.frame.later
   pub depth : g.frame.depth ≡ f.frame.depth
+  pub own : g.frame.own ≡ f.frame.own
   pub needs : g.frame.needs ≡ f.frame.needs
   pub parts : bare g.parts ≡ bare f.parts
 
@@ -105,19 +106,20 @@ filling_fixed f m e = record {
   slots = ap (λ (x : Frame). length x.slots) e.frame;
   later = ap (λ (x : Frame). x.later) e.frame;
   depth = ap (λ (x : Frame). x.depth) e.frame;
+  own = ap (λ (x : Frame). x.own) e.frame;
   needs = ap (λ (x : Frame). x.needs) e.frame;
   parts = e.parts;
 }
 
 -- a machine itself, at another place with another stack, and with other turns
 pub fixed : (f : Machine) → Fixed f f
-fixed f = record { task = refl; slots = refl; later = refl; depth = refl; needs = refl; parts = refl }
+fixed f = record { task = refl; slots = refl; later = refl; depth = refl; own = refl; needs = refl; parts = refl }
 
 pub fixed_at : (pc : ℕ) (st : List Value) (m : Machine) → Fixed m (at pc st m)
-fixed_at pc st m = record { task = refl; slots = refl; later = refl; depth = refl; needs = refl; parts = refl }
+fixed_at pc st m = record { task = refl; slots = refl; later = refl; depth = refl; own = refl; needs = refl; parts = refl }
 
 pub fixed_turns : (n : ℕ) (m : Machine) → Fixed m (with_turns n m)
-fixed_turns n m = record { task = refl; slots = refl; later = refl; depth = refl; needs = refl; parts = refl }
+fixed_turns n m = record { task = refl; slots = refl; later = refl; depth = refl; own = refl; needs = refl; parts = refl }
 
 module _ (ask : Asking) where
   -- ---- the words of which instructions are made

@@ -8,7 +8,7 @@ use Rattle.task_code.specs.declared.code.TaskCode.{TaskCode}
 use Rattle.machine_terms.specs.declared.frame.Before.{Before}
 use Rattle.machine_terms.specs.Machine.{Machine, Stepped, goes, prints, stops}
 use Rattle.machine_terms.specs.Segments.{step, run, on_stop, enough, Stopped, opened, stopped_by, stopped_in, stop_of}
-use Rattle.machine_laws.proofs.Kept.{by_slots}
+use Rattle.machine_terms.proofs.Kept.{by_slots}
 use Rattle.order_laws.proofs.Waits.{AfterStep, AfterStop, Within}
 
 module _ (code : Code) (body : List Line) where

@@ -3,4 +3,3 @@ pub mod Rounds
 pub mod Ends
 pub mod Resuming
 pub mod Whole
-pub mod Computed

@@ -111,7 +111,7 @@ module _ (code : Code) (turns : ℕ) (child : Runner) where
   on_frames f (GoesOn i) more h k = k i h
   on_frames f (IsOver e) more h k = tt
 
-  calls_frames : (cs : List CallOut) (f : Frame) (i : Instance) → i.frame ≡ f →
+  pub calls_frames : (cs : List CallOut) (f : Frame) (i : Instance) → i.frame ≡ f →
       Frames f (call_all code turns child cs i)
   calls_frames [] f i e = e
   calls_frames (c ∷ cs) f i e =

@@ -10,7 +10,7 @@ use Rattle.machine_terms.specs.Segments.{act, act_at, step}
 use Rattle.machine_terms.proofs.StepKinds.{Kind, over, called, makes, wants, awaits, nexted, printed, jumped, turned}
 use Rattle.machine_terms.proofs.LoopHeads.{Head, head_stops, head_turns, head_leaves, head_kind}
 use Rattle.machine_terms.proofs.Fuel.{behind_turn, anywhere, inside}
-use Rattle.machine_laws.proofs.Kept.{asked, step_kind}
+use Rattle.machine_terms.proofs.Kept.{asked, step_kind}
 use Rattle.order_laws.proofs.Waits.{AfterStep, Quiet, Rounds, Within, more, over_stop, settle, step_map, twice, weaker}
 
 module _ (code : Code) (body : List Line) where

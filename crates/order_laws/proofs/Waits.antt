@@ -16,7 +16,7 @@ use Rattle.machine_terms.specs.Jumps.{fetch}
 use Rattle.machine_terms.specs.Parts.{part_of}
 use Rattle.machine_terms.specs.Segments.{step}
 use Rattle.machine_terms.proofs.StepKinds.{Kind, over, called, makes, wants, awaits, nexted, printed, jumped, turned, IsOver, key_of, slot_of}
-use Rattle.machine_laws.proofs.Kept.{asked, key_at, slot_at, step_kind}
+use Rattle.machine_terms.proofs.Kept.{asked, key_at, slot_at, step_kind}
 
 -- ---- what a machine is given
 

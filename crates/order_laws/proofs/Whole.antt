@@ -23,7 +23,7 @@ use Rattle.machine_terms.specs.Opening.{opening, requirements_on}
 use Rattle.machine_terms.specs.Orders.{Runner, after_call, before_of, begun, breaks, call_all, call_task, call_within, enough_segments, give_all, no_task, on_resumed, resume_after, resume_in, run_segments, runs, until_over}
 use Rattle.machine_terms.specs.Segments.{after, frame_after, opened, stop_of, stopped_in}
 use Rattle.machine_terms.proofs.Fuel.{anywhere, enough_is}
-use Rattle.machine_laws.proofs.Kept.{stop_fixed}
+use Rattle.machine_terms.proofs.Kept.{stop_fixed}
 use Rattle.order_laws.specs.Bounds.{Bounds, AreLarge, CalledRunWhole, InstancesRunWhole, JobsRunWhole, run_first_within, runs_within, segments_within}
 use Rattle.order_laws.proofs.Waits.{AfterStop, Within, twice, twice_is}
 use Rattle.order_laws.proofs.Rounds.{ends_soon}

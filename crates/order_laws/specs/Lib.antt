@@ -1,5 +1,1 @@
 pub mod Bounds
-pub mod Words
-pub mod Starts
-pub mod Calls
-pub mod Roots

@@ -7,7 +7,6 @@ pub mod Going
 pub mod Loops
 pub mod Statements
 pub mod Leaves
-pub mod Bodies
 pub mod Assignments
 pub mod Variables
 pub mod TypedVariables

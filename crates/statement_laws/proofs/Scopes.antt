@@ -8,16 +8,16 @@ use Rattle.regent_tree.specs.Typing.{arithmetic_type, scope_after, scope_after_a
 use Rattle.regent_tree.specs.declared.typing.StaticType.{StaticType}
 use Rattle.regent_tree.specs.declared.typing.StaticType.TheVariants.{Index as index_type, Integer as integer_type, Ispace as ispace_type, Nothing as no_type, Partition as partition_type, Pointer as pointer_type, Region as region_type, Truth as truth_type, Unknown as unknown_type}
 use Rattle.check_rules.specs.first.FirstInExpressions.{first_in_expression}
-use Rattle.check_rules.specs.first.FirstInStatements.{first_in_arms, first_in_block, first_in_else, first_of_form, first_within, told_on}
+use Rattle.check_rules.specs.first.FirstInStatements.{first_in_arms, first_in_block, first_in_else, first_of_form, first_within}
 use Rattle.check_rules.specs.types.KnownTypes.{known_type}
 use Rattle.check_rules.specs.types.Sorts.{is_integer, is_region, is_space}
 use Rattle.lane_kernels.specs.declared.numbers.Width.{Width}
 use Rattle.regent_tree.specs.Numbers.{wider}
 use Rattle.check_rules.specs.scopes.Sound.{IsSound}
 use Rattle.check_laws.specs.SoundScopes.{IsSoundScope}
-use Rattle.check_laws.proofs.Blocks.{arms_known, block_known, count_scope, form_known, head_known, loop_scope, nested}
-use Rattle.check_rules.proofs.Untold.{told_none}
+use Rattle.check_laws.proofs.Blocks.{count_scope, head_known, loop_scope}
 use Rattle.check_laws.proofs.Parts.{surely}
+use Rattle.check_laws.proofs.Onward.{arm_next, block_next, else_next}
 use Rattle.check_laws.proofs.Variables.{parts_of_form}
 use Rattle.expression_laws.specs.Kinds.{ArgumentsInScope, IsNamedByOwnNumber, IsWellScoped, TypeBelow}
 use Rattle.statement_laws.specs.Steady.{ArePlaced, KnowsMore, IsStaticPlace, IsTypeInScope}
@@ -89,31 +89,6 @@ module _ (tree : Tree) (task : TaskTree) (sound : IsSound tree) where
       subst (λ t. (is_region t || is_space t) ≡ true) head.1 is
 
   -- ---- where nothing is told of what comes next
-
-  pub block_next : (s : Scope) (line : ℕ) (form : Form) (rest : Block) → IsSoundScope s → first_in_block tree task s (then_statement (a_statement line form) rest) ≡ None →
-      (first_of_form tree task s form ≡ None) × (first_within tree task s form ≡ None) × IsSoundScope (scope_after tree s form)
-      × (first_in_block tree task (scope_after tree s form) rest ≡ None)
-  block_next s line form rest scope e =
-      let parts = option_or_parts (told_on line (first_of_form tree task s form)) _ e in
-      let more = option_or_parts (first_within tree task s form) _ parts.1 in
-      let told = told_none line _ parts.0 in
-      let here = form_known tree task sound s form scope told more.0 in
-      (told, more.0, subst IsSoundScope here.0 here.1, subst (λ t. first_in_block tree task t rest ≡ None) here.0 more.1)
-
-  pub arm_next : (s : Scope) (test : Expression) (body : Block) (rest : Arms) → IsSoundScope s → first_in_arms tree task s (an_arm test body rest) ≡ None →
-      (first_in_block tree task s body ≡ None) × IsSoundScope (past s (scope_after_block tree s body))
-      × (first_in_arms tree task (past s (scope_after_block tree s body)) rest ≡ None)
-  arm_next s test body rest scope e =
-      let parts = option_or_parts (first_in_block tree task s body) _ e in
-      let inner = nested tree task sound s body scope (block_known tree task sound s body scope parts.0) in
-      (parts.0, subst IsSoundScope inner.0 inner.1, subst (λ t. first_in_arms tree task t rest ≡ None) inner.0 parts.1)
-
-  pub else_next : (s : Scope) (arms : Arms) (other : Otherwise) → IsSoundScope s → first_within tree task s (if_form arms other) ≡ None →
-      (first_in_arms tree task s arms ≡ None) × IsSoundScope (scope_after_arms tree s arms) × (first_in_else tree task (scope_after_arms tree s arms) other ≡ None)
-  else_next s arms other scope e =
-      let parts = option_or_parts (first_in_arms tree task s arms) _ e in
-      let a = arms_known tree task sound s arms scope parts.0 in
-      (parts.0, subst IsSoundScope a.0 a.1, subst (λ t. first_in_else tree task t other ≡ None) a.0 parts.1)
 
   pub loop_next : (s : Scope) (demanded : Bool) (n : Name) (domain : Expression) (body : Block) → IsSoundScope s → IsWellScoped s →
       first_of_form tree task s (for_in_form demanded n domain body) ≡ None → first_within tree task s (for_in_form demanded n domain body) ≡ None →
@@ -202,7 +177,7 @@ module _ (tree : Tree) (task : TaskTree) (sound : IsSound tree) where
         KnowsMore s (scope_after tree s form)
     grown_form s (var_form n t start) scope well_scoped e w = var_grows tree task s sound scope well_scoped n t start e
     grown_form s (if_form arms other) scope well_scoped e w =
-        let next = else_next s arms other scope w in
+        let next = else_next tree task sound s arms other scope w in
         grows_then s (scope_after_arms tree s arms) (scope_after_else tree (scope_after_arms tree s arms) other)
         (grown_arms s arms scope well_scoped next.0)
         (grown_else (scope_after_arms tree s arms) other next.1 (said_arms s arms (grown_arms s arms scope well_scoped next.0).next well_scoped) next.2)
@@ -226,7 +201,7 @@ module _ (tree : Tree) (task : TaskTree) (sound : IsSound tree) where
     pub grown_block : (s : Scope) (b : Block) → IsSoundScope s → IsWellScoped s → first_in_block tree task s b ≡ None → KnowsMore s (scope_after_block tree s b)
     grown_block s no_statement scope well_scoped e = grows_none s s refl (omega (arith))
     grown_block s (then_statement (a_statement line form) rest) scope well_scoped e =
-        let next = block_next s line form rest scope e in
+        let next = block_next tree task sound s line form rest scope e in
         grows_then s (scope_after tree s form) (scope_after_block tree (scope_after tree s form) rest)
         (grown_form s form scope well_scoped next.0 next.1)
         (grown_block (scope_after tree s form) rest next.2 (said_after s form scope well_scoped next.0 (grown_form s form scope well_scoped next.0 next.1).next) next.3)
@@ -234,7 +209,7 @@ module _ (tree : Tree) (task : TaskTree) (sound : IsSound tree) where
     pub grown_arms : (s : Scope) (arms : Arms) → IsSoundScope s → IsWellScoped s → first_in_arms tree task s arms ≡ None → KnowsMore s (scope_after_arms tree s arms)
     grown_arms s no_arm scope well_scoped e = grows_none s s refl (omega (arith))
     grown_arms s (an_arm test body rest) scope well_scoped e =
-        let next = arm_next s test body rest scope e in
+        let next = arm_next tree task sound s test body rest scope e in
         let behind = past s (scope_after_block tree s body) in
         grows_then s behind (scope_after_arms tree behind rest)
         (grows_past s s (scope_after_block tree s body) refl (omega (arith)) (grown_block s body scope well_scoped next.0))
@@ -298,7 +273,7 @@ module _ (tree : Tree) (task : TaskTree) (sound : IsSound tree) where
   pub more_block : (s : Scope) (b : Block) → IsSoundScope s → IsWellScoped s → first_in_block tree task s b ≡ None → IsMore s (scope_after_block tree s b)
   more_block s no_statement scope well_scoped e = same_more s s refl
   more_block s (then_statement (a_statement line form) rest) scope well_scoped e =
-      let next = block_next s line form rest scope e in
+      let next = block_next tree task sound s line form rest scope e in
       let grown = grown_form s form scope well_scoped next.0 next.1 in
       more_then s (scope_after tree s form) (scope_after_block tree (scope_after tree s form) rest) grown.next (more_after s form)
       (more_block (scope_after tree s form) rest next.2 (said_after s form scope well_scoped next.0 grown.next) next.3)

@@ -1,4 +1,5 @@
 -- Statements without a breach keep what is so at a place, and each touch that they make is covered.
+use Rattle.check_laws.proofs.Onward.{arm_next, block_next, else_next}
 use Rattle.plain_values.proofs.Plain.{option_or_parts}
 use Rattle.std.proofs.Common.{arith, List, None, true, refl, sym, subst, ℕ, ◌≡◌, ◌∙◌, length}
 use Rattle.regent_tree.specs.Evaluation.{value}
@@ -30,7 +31,7 @@ use Rattle.expression_laws.specs.Kinds.{is_number}
 use Rattle.statement_laws.proofs.Scopes.{bounds_whole, count_next, domain_sort, loop_next, whole_sum}
 use Rattle.statement_laws.proofs.Types.{type_in}
 use Rattle.expression_laws.proofs.Operators.{weaker}
-use Rattle.statement_laws.proofs.Scopes.{grows_past, names_arms, names_else, arm_next, block_next, else_next, grown_arms, grown_block, grown_else, grown_form, more_block, said_arms, static_after, static_past}
+use Rattle.statement_laws.proofs.Scopes.{grows_past, names_arms, names_else, grown_arms, grown_block, grown_else, grown_form, more_block, said_arms, static_after, static_past}
 use Rattle.statement_laws.proofs.States.{skipped, state_same, state_too}
 use Rattle.statement_laws.specs.Places.{FormGoes, IsReady}
 use Rattle.statement_laws.proofs.Going.{then_goes, either_goes, rebased, in_order, stays_here, leaves}

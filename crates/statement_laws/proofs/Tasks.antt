@@ -8,7 +8,7 @@ use Rattle.regent_tree.specs.Typing.{scope_after_block}
 use Rattle.fact_laws.specs.Regions.{Interpretation}
 use Rattle.expression_laws.specs.Sound.{AreCovered, Instance}
 use Rattle.statement_laws.specs.Steady.{GoesOnSound}
-use Rattle.statement_laws.proofs.Bodies.{body_told}
+use Rattle.check_laws.proofs.Bodies.{body_told}
 use Rattle.statement_laws.proofs.Leaves.{leaves_go}
 use Rattle.statement_laws.proofs.Regions.{variables_go}
 use Rattle.statement_laws.proofs.Statements.{block_goes, form_goes}

@@ -8,7 +8,7 @@ use Rattle.task_code.specs.declared.code.TaskCode.{TaskCode}
 use Rattle.task_code.specs.declared.instr.Instr.{Instr}
 use Rattle.task_code.specs.declared.instr.Instr.TheVariants as instr
 use Rattle.machine_laws.specs.Words.{num, pointer}
-use Rattle.order_laws.specs.Words.{task, plain, need, say, say_number, root_in, started, gives, leaves, root_of}
+use Rattle.order_examples.specs.Words.{task, plain, need, say, say_number, root_in, started, gives, leaves, root_of}
 
 -- a number is added to point 1 of the region in a slot
 abbrev pub add_to : List Instr → List Instr

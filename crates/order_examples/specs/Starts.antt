@@ -4,7 +4,7 @@ use Rattle.lane_kernels.specs.declared.numbers.Mode.TheVariants as mode
 use Rattle.regent_tree.specs.declared.outcome.Ending.TheVariants.{Finished, Broken}
 use Rattle.task_code.specs.declared.instr.Instr.{Instr}
 use Rattle.task_code.specs.declared.instr.Instr.TheVariants as instr
-use Rattle.order_laws.specs.Words.{task, plain, need, say, job, gives}
+use Rattle.order_examples.specs.Words.{task, plain, need, say, job, gives}
 
 -- a body that prints an a
 abbrev pub speaking : List Instr

@@ -2,8 +2,8 @@
 use Rattle.std.specs.Fmt.{digits}
 use Rattle.std.specs.Int.{int_wrap}
 use Rattle.std.specs.Prelude.{refl}
-use Rattle.order_laws.specs.Calls.{values_come_back}
-use Rattle.order_laws.specs.Roots.{reductions_are_folded, read_sees_reduction}
+use Rattle.order_examples.specs.Calls.{values_come_back}
+use Rattle.order_examples.specs.Roots.{reductions_are_folded, read_sees_reduction}
 
 pub values_hold : values_come_back
 unfolding digits

@@ -50,6 +50,7 @@ fixed_then f g h a b = record {
   slots = b.slots ∙ a.slots;
   later = b.later ∙ a.later;
   depth = b.depth ∙ a.depth;
+  own = b.own ∙ a.own;
   needs = b.needs ∙ a.needs;
   parts = b.parts ∙ a.parts;
 }

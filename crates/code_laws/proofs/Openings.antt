@@ -1,0 +1,194 @@
+-- Where the body of a task begins, its instance agrees with the meaning's state.
+use Rattle.std.proofs.Common.{◌≡◌, ⊎_elim, ℕ, zero, suc, ◌+◌, ◌-◌, ◌^◌, ◌<◌, ◌≤◌, List, [], ◌∷◌, ◌++◌, Bool, true, false, Some, None, refl, sym, ap, ◌∙◌, subst, arith, length-append}
+use Rattle.std.specs.Prelude.{cond, get_or, length, map, reverse, replicate, slice_get, nat_lt}
+use Rattle.std.proofs.lemmas.Bool.{cases_lt, lt-ltb, le-ltb}
+use Rattle.std.proofs.lemmas.List.{length-map, length-replicate, reverse-append, map-append}
+use Rattle.std.proofs.lemmas.Option.{none-some, same_Some}
+use Rattle.std.proofs.Math.ListN.{get_or-append, get_or-map}
+use Rattle.std.proofs.Math.Seq.{get_or-append_seam}
+use Rattle.regent_tree.specs.declared.types.Param.{Param}
+use Rattle.regent_tree.specs.declared.typing.Bound.{Bound}
+use Rattle.regent_tree.specs.declared.typing.StaticType.{StaticType}
+use Rattle.regent_tree.specs.Meaning.{entered_as, entered, body_of, opening}
+use Rattle.regent_tree.specs.Running.{Calls}
+use Rattle.regent_tree.specs.Scopes.{Scope, scope_of, bound_params}
+use Rattle.regent_tree.specs.Syntax.{TaskTree, Tree}
+use Rattle.regent_tree.specs.Typing.{param_types}
+use Rattle.regent_tree.specs.Values.{Value}
+use Rattle.task_code.specs.declared.code.Line.{Line}
+use Rattle.machine_terms.specs.declared.order.Instance.{Instance}
+use Rattle.machine_terms.specs.Contents.{no_contents}
+use Rattle.machine_terms.specs.Jumps.{fetch}
+use Rattle.machine_terms.specs.Opening as frames
+use Rattle.machine_terms.specs.Orders.{begun}
+use Rattle.code_rules.specs.Programs.{task_code}
+use Rattle.code_rules.specs.Slots.{slot}
+use Rattle.code_rules.specs.Used.{greatest, slots_of_lines, slots_used}
+use Rattle.code_laws.specs.Programs.{AreTaken}
+use Rattle.code_laws.specs.Standing.{Agrees, AreOf, Aside, IsOf, SlotsFit, blank, machine_value, nothing, of_index, of_integer, of_partition, of_pointer, of_region, of_space, of_truth, where_of}
+use Rattle.code_laws.specs.Steps.{Setting}
+use Rattle.code_laws.proofs.Names.{typed_more}
+
+-- ---- arguments as a task has them
+
+entered_value : (s : Scope) (vs : List Value) (t : StaticType) (v : Value) → IsOf t v →
+    (IsOf t (entered_as s vs t v)) × (machine_value (entered_as s vs t v) ≡ machine_value v)
+entered_value s vs _ _ (of_integer w z p) = (of_integer w z p, refl)
+entered_value s vs _ _ (of_truth b) = (of_truth b, refl)
+entered_value s vs _ _ (of_index k z) = (of_index k z, refl)
+entered_value s vs _ _ (of_pointer k sp args rs t regions) = (of_pointer k sp args rs t _, refl)
+entered_value s vs _ _ (of_space k n) = (of_space k n, refl)
+entered_value s vs _ _ (of_region k sp args r q) = (of_region k sp args r q, refl)
+entered_value s vs _ _ (of_partition d r p q) = (of_partition d r p q, refl)
+
+entered_taken : (s : Scope) (vs : List Value) (ts : List StaticType) (us : List Value) → AreTaken ts us →
+    AreTaken ts (entered s vs ts us) × (map machine_value (entered s vs ts us) ≡ map machine_value us)
+entered_taken s vs [] [] a = (tt, refl)
+entered_taken s vs (t ∷ ts) (u ∷ us) a =
+    let one = entered_value s vs t u a.0 in
+    let more = entered_taken s vs ts us a.1 in (
+      (one.0, more.0),
+      ap (λ v. v ∷ map machine_value (entered s vs ts us)) one.1 ∙ ap (λ ms. machine_value u ∷ ms) more.1,
+    )
+entered_taken s vs [] (u ∷ us) a = absurd a
+entered_taken s vs (t ∷ ts) [] a = absurd a
+
+-- names in the places of their order
+abbrev AreFrom : ℕ → List Bound → Type 0
+AreFrom i [] = Unit {0}
+AreFrom i (b ∷ bs) = (b.place ≡ i + length bs) × AreFrom i bs
+
+from_behind : (i : ℕ) (bs : List Bound) (b : Bound) → b.place ≡ i → AreFrom (suc i) bs → AreFrom i (bs ++ b ∷ [])
+from_behind i [] b e a = (omega (arith, e), tt)
+from_behind i (c ∷ bs) b e a =
+    (omega (arith, a.0, length-append bs (b ∷ [])), from_behind i bs b e a.1)
+
+params_from : (tree : Tree) (all : List Param) (i : ℕ) (ps : List Param) → AreFrom i (bound_params tree all i ps)
+params_from tree all i [] = tt
+params_from tree all i (p ∷ ps) =
+    from_behind i (bound_params tree all (suc i) ps) _ refl (params_from tree all (suc i) ps)
+
+length_one : {A : Type 0} (xs : List A) (a : A) → length (xs ++ a ∷ []) ≡ suc (length xs)
+length_one [] a = refl
+length_one (x ∷ xs) a = ap (λ n. suc n) (length_one xs a)
+
+pub params_length : (tree : Tree) (all : List Param) (i : ℕ) (ps : List Param) →
+    length (bound_params tree all i ps) ≡ length ps
+params_length tree all i [] = refl
+params_length tree all i (p ∷ ps) =
+    length_one (bound_params tree all (suc i) ps) _ ∙ ap (λ n. suc n) (params_length tree all (suc i) ps)
+
+-- values of types, where the last comes first
+record TakenLast (ts : List StaticType) (t : StaticType) (vs : List Value) : Type 0 where
+  before : List Value
+  last : Value
+  are : vs ≡ before ++ last ∷ []
+  taken : AreTaken ts before
+  typed : IsOf t last
+
+taken_last : (ts : List StaticType) (t : StaticType) (vs : List Value) → AreTaken (ts ++ t ∷ []) vs → TakenLast ts t vs
+taken_last [] t (v ∷ []) a = record { before = []; last = v; are = refl; taken = tt; typed = a.0 }
+taken_last [] t (v ∷ (u ∷ vs)) a = absurd a.1
+taken_last [] t [] a = absurd a
+taken_last (s ∷ ts) t [] a = absurd a
+taken_last (s ∷ ts) t (v ∷ vs) a =
+    let m = taken_last ts t vs a.1 in
+    record { before = v ∷ m.before; last = m.last; are = ap (λ us. v ∷ us) m.are; taken = (a.0, m.taken); typed = m.typed }
+
+pub taken_length : (ts : List StaticType) (vs : List Value) → AreTaken ts vs → length vs ≡ length ts
+taken_length [] [] a = refl
+taken_length (t ∷ ts) (v ∷ vs) a = ap (λ n. suc n) (taken_length ts vs a.1)
+taken_length [] (v ∷ vs) a = absurd a
+taken_length (t ∷ ts) [] a = absurd a
+
+abbrev pub types_in : List Bound → List StaticType
+types_in bs = map (λ (b : Bound). b.static_type) (reverse bs)
+
+pub types_cons : (b : Bound) (bs : List Bound) → types_in (b ∷ bs) ≡ types_in bs ++ b.static_type ∷ []
+types_cons b bs = ap (map (λ (b : Bound). b.static_type)) (reverse-append (b ∷ []) bs)
+    ∙ map-append (λ (b : Bound). b.static_type) (reverse bs) (b ∷ [])
+
+pub types_length : (bs : List Bound) → length (types_in bs) ≡ length bs
+types_length [] = refl
+types_length (b ∷ bs) = ap length (types_cons b bs)
+    ∙ length-append (types_in bs) (b.static_type ∷ []) ∙ omega (arith, types_length bs)
+
+names_typed : (bs : List Bound) (vs : List Value) → AreFrom 0 bs → AreTaken (types_in bs) vs → AreOf bs vs
+names_typed [] vs from a = tt
+names_typed (b ∷ bs) vs from a =
+    let m = taken_last (types_in bs) b.static_type vs (subst (λ ts. AreTaken ts vs) (types_cons b bs) a) in
+    let long : length m.before ≡ length bs = taken_length (types_in bs) m.before m.taken ∙ types_length bs in
+    let place : b.place ≡ length m.before = omega (arith, from.0, long) in
+    subst (AreOf (b ∷ bs)) (sym m.are) (
+      omega (arith, from.0),
+      subst (IsOf b.static_type) (sym (ap (λ p. get_or (m.before ++ m.last ∷ []) p nothing) place
+          ∙ get_or-append_seam m.before m.last [] nothing)) m.typed,
+      typed_more bs m.before (m.last ∷ []) (omega (arith, long)) (names_typed bs m.before from.1 m.taken),
+    )
+
+-- each line's slots are there
+pub greatest_left : (a b : ℕ) → (a ≤ greatest a b) × (b ≤ greatest a b)
+greatest_left a b = ⊎_elim
+    (λ e. subst (λ c. (a ≤ cond c b a) × (b ≤ cond c b a)) (sym (lt-ltb a b e)) (omega (arith, e), omega arith))
+    (λ e. subst (λ c. (a ≤ cond c b a) × (b ≤ cond c b a)) (sym (le-ltb a b e)) (omega arith, omega (arith, e)))
+    (cases_lt a b)
+
+slots_there : (least : ℕ) (ls : List Line) (k : ℕ) (l : Line) → slice_get ls k ≡ Some l →
+    slots_used l.instr ≤ slots_of_lines least ls
+slots_there least [] k l e = absurd (none-some l e)
+slots_there least (m ∷ ls) zero l e =
+    subst (λ (k : Line). slots_used k.instr ≤ greatest (slots_used m.instr) (slots_of_lines least ls)) (same_Some m l e)
+    (greatest_left (slots_used m.instr) (slots_of_lines least ls)).0
+slots_there least (m ∷ ls) (suc k) l e =
+    omega (arith, slots_there least ls k l e, (greatest_left (slots_used m.instr) (slots_of_lines least ls)).1)
+
+-- the slots of a task are enough for each of its lines
+pub fits_slots : (x : Setting) (tree : Tree) (t : TaskTree) → x.body ≡ (task_code tree t).body →
+    SlotsFit x (task_code tree t).slots
+fits_slots x tree t e pc l f = by (nat_lt pc (2 ^ 32)) (subst (λ b. fetch b pc ≡ Some l) e f)
+  where
+    by : (b : Bool) → elim b [ true ↦ slice_get (task_code tree t).body pc | false ↦ None ] ≡ Some l →
+        slots_used l.instr ≤ (task_code tree t).slots
+    by true e = slots_there (length t.params) _ pc l e
+    by false e = absurd (none-some l e)
+
+-- nothing is put aside where a task begins
+abbrev pub before_all : ℕ → Aside
+before_all turns = record { upto = 0; slots = []; turns = turns }
+
+module _ (tree : Tree) (turns : ℕ) (calls : Calls) (t : TaskTree) (place : ℕ) (vs : List Value) where
+  abbrev pub first : Instance
+  first = begun (frames.opening turns 1 place (task_code tree t) (map machine_value vs)) [] no_contents
+
+  pub opens : (x : Setting) → AreTaken (param_types tree t) vs → length vs ≤ (task_code tree t).slots →
+      Agrees x (length t.params) (task_code tree t).slots (before_all turns) (body_of tree calls t) (opening tree turns t vs []) first
+  opens x takes room =
+      let code = task_code tree t in
+      let sc = scope_of tree t in
+      let e = entered_taken sc vs (param_types tree t) vs takes in
+      let us = entered sc vs (param_types tree t) vs in
+      let w = where_of (length t.params) (body_of tree calls t) in
+      let ms = map machine_value vs in
+      let long : length us ≡ length t.params = taken_length (param_types tree t) us e.0 ∙ types_length sc.names
+      ∙ params_length tree t.params 0 t.params in
+      let same : length ms ≡ length us = ap length (sym e.1) ∙ length-map us machine_value in
+      record {
+        names = λ k l.
+            let low : k < length t.params = omega (arith, l, long) in
+            let at : slot w k ≡ k = omega (arith, low) in
+            ap (λ n. get_or (ms ++ replicate (code.slots - length ms) blank) n blank) at
+            ∙ get_or-append ms (replicate (code.slots - length ms) blank) blank k (omega (arith, l, same))
+            ∙ ap (λ ys. get_or ys k blank) (sym e.1) ∙ get_or-map machine_value us k nothing;
+        hidden = λ k a b. absurd (omega (arith, b));
+        typed = names_typed sc.names us (params_from tree t.params 0 t.params) e.0;
+        count = taken_length (param_types tree t) us e.0 ∙ types_length sc.names;
+        inside = omega arith;
+        slots_are = length-append ms (replicate (code.slots - length ms) blank)
+            ∙ ap (λ n. length ms + n) (length-replicate (code.slots - length ms) blank)
+            ∙ omega (arith, subst (λ n. n ≤ code.slots) (sym (length-map vs machine_value)) room);
+        turns = refl;
+        bound = omega arith;
+        text = refl;
+        own = refl;
+        store = refl;
+      }

@@ -1,0 +1,309 @@
+-- What statements do in a row: jumps, turns, tests, blocks, and the ends of a task.
+use Rattle.std.proofs.Common.{◌≡◌, ℕ, zero, suc, ◌<◌, ◌≤◌, ⊎_elim, List, [], ◌∷◌, Bool, true, false, Some, refl, sym, ap, ◌∙◌, subst, arith}
+use Rattle.std.specs.Prelude.{get_or, length, slice_set, nat_lt, cond}
+use Rattle.std.proofs.lemmas.Bool.{lt-ltb, le-ltb, cases_lt}
+use Rattle.regent_tree.specs.declared.outcome.FaultKind.TheVariants.{Turns, AssertFailed}
+use Rattle.regent_tree.specs.declared.statement.How.TheVariants as how
+use Rattle.regent_tree.specs.declared.typing.StaticType.{StaticType}
+use Rattle.regent_tree.specs.declared.typing.StaticType.TheVariants.{Integer as integer_type, Truth as truth_type}
+use Rattle.regent_tree.specs.Lookup.{is_bound}
+use Rattle.regent_tree.specs.Scopes.{bound_to}
+use Rattle.regent_tree.specs.Syntax.{Name, Expression, access_expr, no_step, Block}
+use Rattle.regent_tree.specs.Typing.{owned, scope_after_block}
+use Rattle.regent_tree.specs.Values.{Value, a_number, a_truth, truth_of, kept_truth}
+use Rattle.regent_tree.specs.Running.{State, Here, Run, Result, gives, fails, given, and_then, if_true, fault, pay_from}
+use Rattle.regent_tree.specs.Execution.{Going, goes_on, returned, going_on, leaving, scoped, with_regions_of, write_name, exec_block}
+use Rattle.task_code.specs.declared.code.Line.{Line}
+use Rattle.task_code.specs.declared.instr.Instr.TheVariants as instr
+use Rattle.machine_terms.specs.Machine.{goes, when, broken, at, on_turn, next}
+use Rattle.machine_terms.specs.Jumps.{fetch, goes_back}
+use Rattle.machine_terms.specs.declared.order.Ended.TheVariants.{Broke}
+use Rattle.machine_terms.specs.declared.order.Instance.{Instance}
+use Rattle.machine_terms.specs.declared.order.Resumed.TheVariants.{IsOver}
+use Rattle.code_rules.specs.Pieces.{empty, op, past}
+use Rattle.code_rules.specs.Slots.{slot_named}
+use Rattle.code_rules.specs.Expressions.{expr_code}
+use Rattle.code_rules.specs.Initializers.{beside_code, plain_code}
+use Rattle.code_rules.specs.Used.{greatest, above_all}
+use Rattle.code_laws.specs.Steps.{Setting, machine_of, placed, on_step, Leads, Ends}
+use Rattle.code_laws.specs.Standing.{Stands, machine_value, IsOf, AreOf, of_integer, of_truth, nothing, Aside, where_of, Agrees, SlotsFit, Does}
+use Rattle.code_laws.specs.Scalars.{CountsDown, IsScalar, scalar_integer, scalar_truth}
+use Rattle.code_laws.proofs.Runs.{Said, leads_twice, leads_end, leads_by, ends_by}
+use Rattle.code_laws.proofs.Values.{jump_later}
+use Rattle.code_laws.proofs.Good.{valued}
+use Rattle.code_laws.proofs.Names.{Grown, block_grown}
+use Rattle.code_laws.proofs.States.{stored, stores, changed, cut}
+
+-- ---- plain start values
+
+pub beside_empty : (params : ℕ) (h : Here) (t : StaticType) (e : Expression) → IsScalar t →
+    beside_code (where_of params h) t e ≡ empty
+beside_empty params h _ (access_expr n no_step) (scalar_integer w) = refl
+beside_empty params h _ (access_expr n no_step) scalar_truth = refl
+beside_empty params h _ e p = refl
+
+pub owned_plain : (n : ℕ) (t : StaticType) → IsScalar t → t ≡ owned n t
+owned_plain n _ (scalar_integer w) = refl
+owned_plain n _ scalar_truth = refl
+
+-- the code of a plain start value is that of the expression
+pub plain_past : (params : ℕ) (h : Here) (t : StaticType) (e : Expression) (pc n : ℕ) → IsScalar t →
+    past (plain_code (where_of params h) (owned n t) e) pc
+    ≡ past (expr_code (where_of params h) 0 e) pc
+plain_past params h _ e pc n (scalar_integer w) =
+    ap (λ p. past p (past (expr_code (where_of params h) 0 e) pc))
+    (beside_empty params h (integer_type w) e (scalar_integer w))
+plain_past params h _ e pc n scalar_truth =
+    ap (λ p. past p (past (expr_code (where_of params h) 0 e) pc))
+    (beside_empty params h truth_type e scalar_truth)
+
+pub plain_stands : (body : List Line) (params : ℕ) (h : Here) (t : StaticType) (e : Expression) (pc n : ℕ) →
+    IsScalar t → Stands body pc (plain_code (where_of params h) (owned n t) e) →
+    Stands body pc (expr_code (where_of params h) 0 e)
+plain_stands body params h _ e pc n (scalar_integer w) f = f.0
+plain_stands body params h _ e pc n scalar_truth f = f.0
+
+-- a value that carries no regions
+pub plain_kept : (u : StaticType) (old v : Value) → IsScalar u → IsOf u v → with_regions_of old v ≡ v
+plain_kept _ old _ (scalar_integer w) (of_integer _ z _) = refl
+plain_kept _ old _ scalar_truth (of_truth b) = refl
+
+-- the greater of two numbers
+greatest_least : (a b n : ℕ) → greatest a b ≤ n → (a ≤ n) × (b ≤ n)
+greatest_least a b n l = ⊎_elim
+    (λ e. let g : b ≤ n = subst (λ c. cond c b a ≤ n) (lt-ltb a b e) l in (omega (arith, e, g), g))
+    (λ e. let g : a ≤ n = subst (λ c. cond c b a ≤ n) (le-ltb a b e) l in (g, omega (arith, e, g)))
+    (cases_lt a b)
+
+pub three_least : (a b c n : ℕ) → above_all (a ∷ b ∷ c ∷ []) ≤ n → (suc a ≤ n) × (suc b ≤ n) × (suc c ≤ n)
+three_least a b c n l =
+    let p = greatest_least (suc a) (above_all (b ∷ c ∷ [])) n l in
+    let q = greatest_least (suc b) (above_all (c ∷ [])) n p.1 in
+    let r = greatest_least (suc c) 0 n q.1 in
+    (p.0, q.0, r.0)
+
+-- ---- the same state in another scope with the same names
+
+pub same_scope : (x : Setting) (params slots : ℕ) (aside : Aside) (h h2 : Here) (s : State) (i : Instance) →
+    h.scope.names ≡ h2.scope.names → Agrees x params slots aside h s i → Agrees x params slots aside h2 s i
+same_scope x params slots aside h h2 s i e g = record {
+  names = g.names;
+  hidden = g.hidden;
+  typed = subst (λ bs. AreOf bs s.names) e g.typed;
+  count = g.count ∙ ap length e;
+  inside = g.inside;
+  slots_are = g.slots_are;
+  turns = g.turns;
+  bound = g.bound;
+  text = g.text;
+  own = g.own;
+  store = g.store;
+}
+
+module _ (x : Setting) (params slots : ℕ) (fit : SlotsFit x slots) (counts : CountsDown) where
+  -- ---- what is done, in a row
+
+  pub does_before : (aside : Aside) (pc : ℕ) (h : Here) (i j : Instance) (r : Result Going) → Leads x i j →
+      Does x params slots aside j pc h r → Does x params slots aside i pc h r
+  does_before aside pc h i j (gives goes_on s) l d = (d.0, leads_twice x l d.1, d.2)
+  does_before aside pc h i j (gives (returned v) s) l d = (d.0, d.1, leads_end x l d.2, d.3, d.4, d.5, d.6)
+  does_before aside pc h i j (fails f s) l d = leads_end x l d
+
+  pub does_said : (aside : Aside) (pc : ℕ) (h : Here) → Said x (λ i r. Does x params slots aside i pc h r)
+  does_said aside pc h = record {
+    before = λ i j r l d. does_before aside pc h i j r l d;
+    failing = λ i f s e. e;
+  }
+
+  -- another statement behind one that goes on
+  pub then_going : (aside aside2 : Aside) (pc pc2 : ℕ) (h h2 : Here) (i : Instance) (r : Result Going)
+      (rest : Run Going) → Does x params slots aside i pc h r →
+      ((s : State) (j : Instance) → Agrees x params slots aside h s j →
+      Does x params slots aside2 (placed pc [] j) pc2 h2 (rest s)) →
+      Does x params slots aside2 i pc2 h2 (and_then r (λ g. going_on rest g))
+  then_going aside aside2 pc pc2 h h2 i (gives goes_on s) rest d more =
+      does_before aside2 pc2 h2 i _ (rest s) d.1 (more s d.0 d.2)
+  then_going aside aside2 pc pc2 h h2 i (gives (returned v) s) rest d more = d
+  then_going aside aside2 pc pc2 h h2 i (fails f s) rest d more = d
+
+  -- a jump behind a statement
+  pub then_leads : (aside : Aside) (pc pc2 : ℕ) (h : Here) (i : Instance) (r : Result Going) →
+      Does x params slots aside i pc h r →
+      ((j : Instance) → Leads x (placed pc [] j) (placed pc2 [] j)) →
+      Does x params slots aside i pc2 h r
+  then_leads aside pc pc2 h i (gives goes_on s) d l = (d.0, leads_twice x d.1 (l d.0), d.2)
+  then_leads aside pc pc2 h i (gives (returned v) s) d l = d
+  then_leads aside pc pc2 h i (fails f s) d l = d
+
+  -- another scope with the same names
+  pub does_as : (aside : Aside) (pc : ℕ) (h h2 : Here) (i : Instance) (r : Result Going) →
+      h.scope.names ≡ h2.scope.names → Does x params slots aside i pc h r →
+      Does x params slots aside i pc h2 r
+  does_as aside pc h h2 i (gives goes_on s) e d =
+      (d.0, d.1, same_scope x params slots aside h h2 s d.0 e d.2)
+  does_as aside pc h h2 i (gives (returned v) s) e d = d
+  does_as aside pc h h2 i (fails f s) e d = d
+
+  -- a block leaves its names
+  pub does_cut : (aside : Aside) (pc n : ℕ) (h h2 : Here) (i : Instance) (r : Result Going) →
+      Grown h.scope.names h2.scope.names → n ≡ length h.scope.names → aside.upto ≤ n →
+      Does x params slots aside i pc h2 r → Does x params slots aside i pc h (leaving n r)
+  does_cut aside pc n h h2 i (gives goes_on s) w e up d =
+      (d.0, d.1, cut x params slots fit aside h h2 n s d.0 w e up d.2)
+  does_cut aside pc n h h2 i (gives (returned v) s) w e up d = (d.0, d.1, d.2, d.3, d.4, d.5, d.6)
+  does_cut aside pc n h h2 i (fails f s) w e up d = d
+
+  -- ---- jumps
+
+  pub jumps_later : (pc to line : ℕ) (i : Instance) → pc < to → Stands x.body pc (op (instr.Jump to) line) →
+      Leads x (placed pc [] i) (placed to [] i)
+  jumps_later pc to line i l f = leads_by x _ _ (instr.Jump to) line f
+      (ap (on_step x (placed pc [] i)) (jump_later x.body to [] (machine_of (placed pc [] i)) l))
+
+  -- a jump back to a turn
+  pub jumps_back : (pc to line line2 : ℕ) (i : Instance) → Stands x.body to (op instr.Turn line2) →
+      Stands x.body pc (op (instr.Jump to) line) → Leads x (placed pc [] i) (placed to [] i)
+  jumps_back pc to line line2 i t f = leads_by x _ _ (instr.Jump to) line f
+      (ap (λ b. on_step x (placed pc [] i) (when b (goes (at to [] (machine_of (placed pc [] i))))
+      (broken (machine_of (placed pc [] i))))) (may (nat_lt pc to)))
+    where
+      may : (b : Bool) → elim b [ true ↦ true | false ↦ goes_back pc (fetch x.body to) ] ≡ true
+      may true = refl
+      may false = ap (goes_back pc) t
+
+  -- a test: on true it goes on, on false it goes to a later place
+  pub tests : (pc to line : ℕ) (i : Instance) (v : Value) (s : State) (A B : Run Going)
+      (T : Instance → Result Going → Type 0) → Said x T → IsOf truth_type v → pc < to →
+      Stands x.body pc (op (instr.JumpIfNot to) line) →
+      T (placed (suc pc) [] i) (A s) → T (placed to [] i) (B s) →
+      T (valued pc [] v i) (if_true (truth_of v) A B s)
+  tests pc to line i _ s A B T said (of_truth true) l f this that =
+      said.before _ _ _ (leads_by x _ _ (instr.JumpIfNot to) line f refl) this
+  tests pc to line i _ s A B T said (of_truth false) l f this that =
+      said.before _ _ _ (leads_by x _ _ (instr.JumpIfNot to) line f
+      (ap (on_step x (valued pc [] (a_truth false) i))
+      (jump_later x.body to [] (machine_of (valued pc [] (a_truth false) i)) l))) that
+
+  -- ---- turns
+
+  abbrev pub fewer_turns : ℕ → Instance → Instance
+  fewer_turns n i = record i { frame = record i.frame { turns = n } }
+
+  pub relimit : (aside : Aside) (k : ℕ) (h : Here) (s : State) (i : Instance) → s.turns ≤ k →
+      Agrees x params slots aside h s i → Agrees x params slots (record aside { turns = k }) h s i
+  relimit aside k h s i l g = record {
+    names = g.names;
+    hidden = g.hidden;
+    typed = g.typed;
+    count = g.count;
+    inside = g.inside;
+    slots_are = g.slots_are;
+    turns = g.turns;
+    bound = l;
+    text = g.text;
+    own = g.own;
+    store = g.store;
+  }
+
+  -- a turn is paid, or there is none
+  pub pays_from : (n : ℕ) (aside : Aside) (pc pc2 : ℕ) (h h2 : Here) (s : State) (i : Instance)
+      (T : Instance → Result Going → Type 0) → Said x T → (K : Unit {0} → Run Going) →
+      Agrees x params slots aside h s i → s.turns ≡ n → Stands x.body pc (op instr.Turn h.line) →
+      ((s2 : State) (j : Instance) → suc s2.turns ≡ s.turns → Agrees x params slots aside h s2 j →
+      T (placed (suc pc) [] j) (K tt s2)) →
+      T (placed pc [] i) (and_then (pay_from n h s) K)
+  pays_from zero aside pc pc2 h h2 s i T said K g e f more = said.failing _ _ s
+      (ends_by x _ _ instr.Turn h.line f
+      (ap (λ n. on_step x (placed pc [] i) (on_turn n h.line (machine_of (placed pc [] i)) (λ p. next [] p)))
+      (g.turns ∙ e)
+      ∙ ap (λ t. IsOver (Broke (Some (record { kind = Turns; line = h.line })) t)) g.text))
+  pays_from (suc n) aside pc pc2 h h2 s i T said K g e f more = said.before _ _ _
+      (leads_by x _ _ instr.Turn h.line f
+      (ap (λ n. on_step x (placed pc [] i) (on_turn n h.line (machine_of (placed pc [] i)) (λ p. next [] p)))
+      (g.turns ∙ e)))
+      (more (record s { turns = n }) (record i { frame = record i.frame { turns = n } }) (sym e) (record {
+        names = g.names;
+        hidden = g.hidden;
+        typed = g.typed;
+        count = g.count;
+        inside = g.inside;
+        slots_are = g.slots_are;
+        turns = refl;
+        bound = omega (arith, g.bound, e);
+        text = g.text;
+        own = g.own;
+        store = g.store;
+      }))
+
+  pub no_turn : (aside : Aside) (pc : ℕ) (h : Here) (s : State) (i : Instance) →
+      Agrees x params slots aside h s i → s.turns ≡ 0 → Stands x.body pc (op instr.Turn h.line) →
+      Ends x (placed pc [] i) (Broke (Some (record { kind = Turns; line = h.line })) s.text)
+  no_turn aside pc h s i g e f = ends_by x _ _ instr.Turn h.line f
+      (ap (λ n. on_step x (placed pc [] i) (on_turn n h.line (machine_of (placed pc [] i)) (λ p. next [] p)))
+      (g.turns ∙ e)
+      ∙ ap (λ t. IsOver (Broke (Some (record { kind = Turns; line = h.line })) t)) g.text)
+
+  -- ---- assignments
+
+  pub writes_name : (aside : Aside) (h : Here) (n : Name) (v : Value) (s : State) (pc : ℕ) (i : Instance) →
+      IsScalar (bound_to h.scope.names n).static_type → IsOf (bound_to h.scope.names n).static_type v →
+      is_bound h.scope.names n ≡ true → Agrees x params slots aside h s i →
+      Stands x.body pc (op (instr.Store (slot_named (where_of params h) n)) h.line) →
+      Does x params slots aside (valued pc [] v i) (suc pc) h (write_name h n how.Set v s)
+  writes_name aside h n v s pc i p ty b g f =
+      let old = get_or s.names (bound_to h.scope.names n).place nothing in
+      let k = slot_named (where_of params h) n in
+      let room : k < slots = omega (arith, fit pc _ f) in
+      subst (λ u. Does x params slots aside (valued pc [] v i) (suc pc) h
+      (gives goes_on (record s { names = slice_set s.names (bound_to h.scope.names n).place u })))
+      (sym (plain_kept _ old v p ty)) (
+        stored k (machine_value v) i,
+        stores x params slots fit k pc h.line (machine_value v) [] i g.slots_are f,
+        changed x params slots fit aside h s i n v b room ty g,
+      )
+
+  -- ---- asserts and returns
+
+  pub asserts : (aside : Aside) (h : Here) (v : Value) (s : State) (pc : ℕ) (i : Instance) → IsOf truth_type v →
+      Agrees x params slots aside h s i → Stands x.body pc (op instr.Assert h.line) →
+      Does x params slots aside (valued pc [] v i) (suc pc) h
+      (if_true (truth_of v) (given goes_on) (fault h AssertFailed) s)
+  asserts aside h _ s pc i (of_truth true) g f = (i, leads_by x _ _ instr.Assert h.line f refl, g)
+  asserts aside h _ s pc i (of_truth false) g f = ends_by x _ _ instr.Assert h.line f
+      (ap (λ t. IsOver (Broke (Some (record { kind = AssertFailed; line = h.line })) t)) g.text)
+
+  pub returns : (aside : Aside) (h : Here) (u : StaticType) (v : Value) (s : State) (pc pc2 : ℕ) (i : Instance) →
+      IsScalar u → IsOf u v → Agrees x params slots aside h s i →
+      Stands x.body pc (op instr.ReturnValue h.line) →
+      Does x params slots aside (valued pc [] v i) pc2 h (gives (returned v) s)
+  returns aside h _ _ s pc pc2 i (scalar_integer w) (of_integer _ z _) g f = (
+    Some z,
+    valued pc [] (a_number w z) i,
+    ends_by x _ _ instr.ReturnValue h.line f refl,
+    refl,
+    g.text,
+    g.own,
+    g.store,
+  )
+  returns aside h _ _ s pc pc2 i scalar_truth (of_truth b) g f = (
+    Some (kept_truth b),
+    valued pc [] (a_truth b) i,
+    ends_by x _ _ instr.ReturnValue h.line f refl,
+    refl,
+    g.text,
+    g.own,
+    g.store,
+  )
+
+  -- ---- blocks and loops
+
+  -- a block in its own scope
+  pub scoped_by : (aside : Aside) (h : Here) (body : Block) (s : State) (pc : ℕ) (i j : Instance) →
+      Agrees x params slots aside h s j →
+      Does x params slots aside i pc (record h { scope = scope_after_block h.tree h.scope body })
+      (exec_block h body s) →
+      Does x params slots aside i pc h (scoped (exec_block h body) s)
+  scoped_by aside h body s pc i j g d =
+      does_cut aside pc (length s.names) h (record h { scope = scope_after_block h.tree h.scope body }) i
+      (exec_block h body s) (block_grown h.tree h.scope body) g.count g.inside d
+

@@ -1,0 +1,113 @@
+-- The run in order of a program over scalars is what the program means.
+use Rattle.std.proofs.Common.{◌≡◌, ℕ, ◌≤◌, ℤ, List, [], ◌∷◌, true, refl, sym, ap, ◌∙◌, arith}
+use Rattle.std.specs.Prelude.{cond, length, map, nat_le, ◌==◌, ◌&&◌}
+use Rattle.std.proofs.lemmas.Bool.{le-leb, eq-eqb}
+use Rattle.regent_tree.specs.Execution.{Going, goes_on, returned}
+use Rattle.regent_tree.specs.Meaning.{body_of, calls_at, inputs_of, opening, outcome}
+use Rattle.regent_tree.specs.Running.{Result, fails, gives}
+use Rattle.regent_tree.specs.Scopes.{scope_of}
+use Rattle.regent_tree.specs.StaticTypes.{entry_name, task_named}
+use Rattle.regent_tree.specs.Syntax.{TaskTree, Tree}
+use Rattle.regent_tree.specs.Typing.{param_types, scope_after_block}
+use Rattle.regent_tree.specs.declared.outcome.Ending.TheVariants.{Finished}
+use Rattle.regent_tree.specs.declared.typing.StaticType.{StaticType}
+use Rattle.task_code.specs.declared.code.Line.{Line}
+use Rattle.task_code.specs.declared.instr.Instr.TheVariants as instr
+use Rattle.machine_terms.specs.declared.order.Ended.{Ended}
+use Rattle.machine_terms.specs.declared.value.Value.TheVariants as machine
+use Rattle.machine_terms.specs.Contents.{image_of}
+use Rattle.machine_terms.specs.Copies.{give_parts}
+use Rattle.machine_terms.specs.Jobs.{may_start, outcome as run_outcome, run_first, void_outcome}
+use Rattle.machine_terms.specs.Opening as frames
+use Rattle.machine_terms.specs.Orders.{begun, runs}
+use Rattle.machine_terms.specs.Contents.{no_contents}
+use Rattle.region_tree.specs.declared.tree.RootId.{RootId}
+use Rattle.code_rules.specs.Instructions.{place_of_task}
+use Rattle.code_rules.specs.Pieces.{op, past}
+use Rattle.code_rules.specs.Programs.{body_piece, code_of, place_of, task_code}
+use Rattle.code_rules.specs.Statements.{block_code}
+use Rattle.code_rules.specs.Used.{slots_of_lines, slots_used}
+use Rattle.code_laws.specs.Programs.{ScalarsRunAsMeant, job_of, scalar_setting}
+use Rattle.code_laws.specs.Standing.{Does, Stands, machine_value}
+use Rattle.code_laws.specs.Steps.{Ends, Setting, placed}
+use Rattle.code_laws.proofs.Counts.{counts_down}
+use Rattle.code_laws.proofs.Openings.{before_all, first, fits_slots, greatest_left, opens, params_length, taken_length, types_length}
+use Rattle.code_laws.proofs.Places.{stands_alone}
+use Rattle.code_laws.proofs.Runs.{ends_by, leads_end}
+use Rattle.code_laws.proofs.Segments.{segments_give}
+use Rattle.code_laws.proofs.Statements.{block_runs}
+
+-- the inputs are numbers
+inputs_kept : (ts : List StaticType) (zs : List ℤ) → length zs ≡ length ts →
+    map machine_value (inputs_of ts zs) ≡ map machine.Number zs
+inputs_kept [] [] e = refl
+inputs_kept [] (z ∷ zs) e = absurd (omega (arith, e))
+inputs_kept (t ∷ ts) [] e = absurd (omega (arith, e))
+inputs_kept (t ∷ ts) (z ∷ zs) e = ap (λ vs. machine.Number z ∷ vs) (inputs_kept ts zs (omega (arith, e)))
+
+least_slots : (least : ℕ) (ls : List Line) → least ≤ slots_of_lines least ls
+least_slots least [] = omega arith
+least_slots least (l ∷ ls) = omega (arith, least_slots least ls, (greatest_left (slots_used l.instr) (slots_of_lines least ls)).1)
+
+module _ (tree : Tree) (turns : ℕ) (t : TaskTree) where
+  abbrev x : Setting
+  x = scalar_setting tree turns t
+
+  -- what the body comes to is told as the meaning tells it
+  abbrev IsTold : Result Going → Ended → Type 0
+  IsTold r e = run_outcome e ≡ outcome r
+
+  by_end : (i : _) (r : Result Going) → Does x (length t.params) (task_code tree t).slots (before_all turns) i
+      (past (block_code (place_of tree t) t.body) 0)
+      (record (body_of tree (calls_at tree turns 63) t) { scope = scope_after_block tree (scope_of tree t) t.body }) r →
+      Stands (task_code tree t).body (past (block_code (place_of tree t) t.body) 0) (op instr.Return 0) →
+      (e : Ended) × Ends x i e × IsTold r e
+  by_end i (gives goes_on s) d f =
+      let k = placed (past (block_code (place_of tree t) t.body) 0) [] d.0 in (
+        _,
+        leads_end x d.1 (ends_by x k _ instr.Return 0 f refl),
+        ap (λ own. record { text = d.0.text; ending = Finished (map (λ (r : RootId). image_of (give_parts d.0.parts d.0.contents) r.0) own) }) d.2.own
+            ∙ ap (λ text. record { text = text; ending = Finished [] }) d.2.text
+            ∙ sym (ap (λ store. record { text = s.text; ending = Finished store }) d.2.store),
+      )
+  by_end i (gives (returned v) s) d f = (
+    _,
+    d.2,
+    ap (λ own. record { text = d.1.text; ending = Finished (map (λ (r : RootId). image_of (give_parts d.1.parts d.1.contents) r.0) own) }) d.5
+        ∙ ap (λ text. record { text = text; ending = Finished [] }) d.4
+        ∙ sym (ap (λ store. record { text = s.text; ending = Finished store }) d.6),
+  )
+  by_end i (fails k s) d f = (_, d, refl)
+
+pub scalars_run_as_meant : ScalarsRunAsMeant
+scalars_run_as_meant tree inputs turns p =
+    let t = task_named tree (entry_name tree) in
+    let code = task_code tree t in
+    let place = place_of_task tree (entry_name tree) in
+    let job = job_of tree inputs turns in
+    let ts = param_types tree t in
+    let vs = inputs_of ts inputs in
+    let x = scalar_setting tree turns t in
+    let h = body_of tree (calls_at tree turns 63) t in
+    let i = first tree turns (calls_at tree turns 63) t place vs in
+    let params : length ts ≡ length t.params = types_length (scope_of tree t).names ∙ params_length tree t.params 0 t.params in
+    let same : map machine_value vs ≡ map machine.Number inputs = inputs_kept ts inputs (p.count ∙ sym params) in
+    let room : length t.params ≤ code.slots = least_slots (length t.params) code.body in
+    let few : length vs ≤ code.slots = omega (arith, taken_length ts vs p.taken, params, room) in
+    let g = opens tree turns (calls_at tree turns 63) t place vs x p.taken few in
+    let low : length t.params ≤ length h.scope.names = omega (arith, params_length tree t.params 0 t.params) in
+    let stands = stands_alone (body_piece tree t) p.small in
+    let done = by_end tree turns t i _ (block_runs x (length t.params) code.slots (fits_slots x tree t refl) counts_down
+    (before_all turns) h t.body (opening tree turns t vs []) 0 i low p.typed g stands.0) stands.1 in
+    let many : (length i.frame.slots == code.slots) ≡ true = eq-eqb (length i.frame.slots) code.slots g.slots_are in
+    let ran : runs (code_of tree) turns 64 i ≡ done.0 =
+    segments_give x code done.0 i (record { task = p.start; body = refl; slots = many; later = refl }) done.1 in
+    let begins : may_start job code ≡ true =
+    ap (λ ns. (length ns == 0) && (length inputs == length t.params) && nat_le (length t.params) code.slots) p.needs
+    ∙ ap (λ b. b && nat_le (length t.params) code.slots) (eq-eqb (length inputs) (length t.params) p.count)
+    ∙ le-leb (length t.params) code.slots room in
+    ap (run_first job) p.start
+    ∙ ap (λ b. cond b (run_outcome (runs (code_of tree) turns 64 (begun (frames.opening turns 1 place code (map machine.Number inputs)) [] no_contents))) void_outcome) begins
+    ∙ ap (λ ms. run_outcome (runs (code_of tree) turns 64 (begun (frames.opening turns 1 place code ms) [] no_contents))) (sym same)
+    ∙ ap run_outcome ran
+    ∙ done.2

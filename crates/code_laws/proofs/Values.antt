@@ -1,0 +1,99 @@
+-- What single instructions do with values.
+use Rattle.std.proofs.Common.{◌≡◌, ℕ, suc, ◌<◌, ◌≤◌, List, [], ◌∷◌, Bool, true, false, Some, refl, ap, subst, arith}
+use Rattle.std.specs.Prelude.{get_or, length, bytes_eq, cond, ◌||◌}
+use Rattle.std.proofs.lemmas.Bool.{lt-ltb}
+use Rattle.lane_kernels.specs.declared.numbers.Width.{Width}
+use Rattle.regent_tree.specs.declared.expression.Arithmetic.{Arithmetic}
+use Rattle.regent_tree.specs.declared.expression.Arithmetic.TheVariants as arithmetic
+use Rattle.regent_tree.specs.declared.expression.Comparison.{Comparison}
+use Rattle.regent_tree.specs.declared.expression.Comparison.TheVariants as comparison
+use Rattle.regent_tree.specs.declared.typing.Bound.{Bound}
+use Rattle.regent_tree.specs.Lookup.{is_bound}
+use Rattle.regent_tree.specs.Scopes.{bound_to}
+use Rattle.regent_tree.specs.Syntax.{Name}
+use Rattle.regent_tree.specs.Values.{Value, a_number, a_truth, an_index, a_pointer, a_space, a_region, a_partition}
+use Rattle.task_code.specs.declared.code.Code.{Code}
+use Rattle.task_code.specs.declared.code.Line.{Line}
+use Rattle.machine_terms.specs.declared.value.Value.{Value as MachineValue}
+use Rattle.machine_terms.specs.Machine.{Machine, goes, at, next, when, broken}
+use Rattle.machine_terms.specs.Numbers.{load, arithmetic as computes, comparison as compares}
+use Rattle.machine_terms.specs.Jumps.{jump, goes_back, fetch}
+use Rattle.machine_terms.specs.Segments.{act}
+use Rattle.code_rules.specs.Pieces.{Piece, empty, op, ◌⨟◌, over, branch, loop, rounds, past}
+use Rattle.code_rules.specs.Instructions.{computing, comparing}
+use Rattle.code_laws.specs.Standing.{machine_value, IsOf, AreOf, nothing}
+
+-- ---- places
+
+pub past_later : (p : Piece) (pc : ℕ) → pc ≤ past p pc
+past_later empty pc = omega arith
+past_later (op i line) pc = omega arith
+past_later (a ⨟ b) pc = omega (arith, past_later a pc, past_later b (past a pc))
+past_later (over k line a) pc = omega (arith, past_later a (suc pc))
+past_later (branch line a b) pc =
+    omega (arith, past_later a (suc pc), past_later b (suc (past a (suc pc))))
+past_later (loop line test a) pc =
+    omega (arith, past_later a (suc (suc pc)), past_later test (past a (suc (suc pc))))
+past_later (rounds k line a) pc = omega (arith, past_later a (suc pc))
+
+-- a jump to a later place goes there
+pub jump_later : (body : List Line) (to : ℕ) (st : List MachineValue) (m : Machine) →
+    m.frame.pc < to → jump body to st m ≡ goes (at to st m)
+jump_later body to st m h = ap
+    (λ b. when (elim b [ true ↦ true | false ↦ goes_back m.frame.pc (fetch body to) ])
+    (goes (at to st m)) (broken m))
+    (lt-ltb m.frame.pc to h)
+
+-- ---- loads
+
+pub load_value : (v : Value) (m : Machine) →
+    load m (Some (machine_value v)) ≡ next (machine_value v ∷ m.frame.stack) m
+load_value (a_number w z) m = refl
+load_value (a_truth b) m = refl
+load_value (an_index z) m = refl
+load_value (a_pointer t rs) m = refl
+load_value (a_space n) m = refl
+load_value (a_region r) m = refl
+load_value (a_partition p) m = refl
+
+abbrev IsNo : Bool → Type 0
+IsNo false = Unit {0}
+IsNo true = ⊥
+
+pub not_true : false ≡ true → ⊥
+not_true e = subst IsNo e tt
+
+-- a name in scope has a value of its type, at a place among these
+pub record Named (bs : List Bound) (names : List Value) (b : Bound) : Type 0 where
+  pub typed : IsOf b.static_type (get_or names b.place nothing)
+  pub below : b.place < length bs
+
+pub named : (bs : List Bound) (names : List Value) (n : Name) → AreOf bs names →
+    is_bound bs n ≡ true → Named bs names (bound_to bs n)
+named [] names n a h = absurd (not_true h)
+named (b ∷ bs) names n a h = chosen (bytes_eq b.name n) (named bs names n a.2) h
+  where
+    chosen : (c : Bool) → (is_bound bs n ≡ true → Named bs names (bound_to bs n)) →
+        (c || is_bound bs n) ≡ true → Named (b ∷ bs) names (cond c b (bound_to bs n))
+    chosen true more e = record { typed = a.1; below = omega (arith, a.0) }
+    chosen false more e =
+        let m = more e in record { typed = m.typed; below = omega (arith, m.below) }
+
+-- ---- operators
+
+pub act_computing : (code : Code) (body : List Line) (o : Arithmetic) (w : Width) (line : ℕ)
+    (m : Machine) → act code body (computing o w) line m ≡ computes o w line m
+act_computing code body arithmetic.Add w line m = refl
+act_computing code body arithmetic.Subtract w line m = refl
+act_computing code body arithmetic.Multiply w line m = refl
+act_computing code body arithmetic.Divide w line m = refl
+act_computing code body arithmetic.Remainder w line m = refl
+
+pub act_comparing : (code : Code) (body : List Line) (c : Comparison) (line : ℕ) (m : Machine) →
+    act code body (comparing c false) line m ≡ compares c m
+act_comparing code body comparison.Equal line m = refl
+act_comparing code body comparison.NotEqual line m = refl
+act_comparing code body comparison.Less line m = refl
+act_comparing code body comparison.AtMost line m = refl
+act_comparing code body comparison.Greater line m = refl
+act_comparing code body comparison.AtLeast line m = refl

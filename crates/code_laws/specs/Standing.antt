@@ -1,0 +1,154 @@
+-- Where code stands, and how an instance agrees with a state of the meaning.
+use Rattle.std.specs.Prelude.{◌≡◌, ℕ, suc, ◌<◌, ◌≤◌, ℤ, pos, false, List, [], ◌∷◌, map, length, Option, Some, get_or, Bool}
+use Rattle.lane_kernels.specs.Numbers.{FitsWidth}
+use Rattle.lane_kernels.specs.declared.numbers.Width.{Width}
+use Rattle.task_code.specs.declared.code.Line.{Line}
+use Rattle.task_code.specs.declared.instr.Instr.TheVariants as instr
+use Rattle.regent_tree.specs.declared.typing.Bound.{Bound}
+use Rattle.regent_tree.specs.declared.typing.StaticType.{StaticType}
+use Rattle.regent_tree.specs.declared.typing.StaticType.TheVariants.{Integer as integer_type, Truth as truth_type, Index as index_type, Pointer as pointer_type, Ispace as ispace_type, Region as region_type, Partition as partition_type}
+use Rattle.regent_tree.specs.declared.types.Kind.{Kind}
+use Rattle.regent_tree.specs.declared.facts.Term.{Term}
+use Rattle.regent_tree.specs.StaticTypes.{Reach}
+use Rattle.regent_tree.specs.Values.{Target, Region, Partition, Value, a_number, a_truth, an_index, a_pointer, a_space, a_region, a_partition, kept_number}
+use Rattle.regent_tree.specs.Running.{State, Here, Result, gives, fails}
+use Rattle.regent_tree.specs.Execution.{Going, goes_on, returned}
+use Rattle.machine_terms.specs.declared.order.Ended.{Ended}
+use Rattle.machine_terms.specs.declared.order.Ended.TheVariants.{Broke, CameBack}
+use Rattle.machine_terms.specs.declared.order.Instance.{Instance}
+use Rattle.machine_terms.specs.declared.value.Value.{Value as MachineValue}
+use Rattle.machine_terms.specs.declared.value.Value.TheVariants as machine
+use Rattle.machine_terms.specs.Copies.{give_parts}
+use Rattle.machine_terms.specs.Jumps.{fetch}
+use Rattle.machine_terms.specs.Makes.{region_with}
+use Rattle.machine_terms.specs.Orders.{result_of}
+use Rattle.code_rules.specs.Pieces.{Piece, empty, op, ◌⨟◌, over, branch, loop, rounds, past, line_of}
+use Rattle.code_rules.specs.Slots.{Where, slot, counter, beside}
+use Rattle.code_rules.specs.Used.{slots_used}
+use Rattle.code_laws.specs.Steps.{Setting, placed, Leads, Ends}
+
+-- a piece stands in a body at a place
+abbrev pub Stands : List Line → ℕ → Piece → Type 0
+Stands body pc empty = Unit {0}
+Stands body pc (op i line) = fetch body pc ≡ Some (line_of i line)
+Stands body pc (a ⨟ b) = Stands body pc a × Stands body (past a pc) b
+Stands body pc (over k line a) =
+    (fetch body pc ≡ Some (line_of (k (past a (suc pc))) line)) × Stands body (suc pc) a
+Stands body pc (branch line a b) =
+    (fetch body pc ≡ Some (line_of (instr.JumpIfNot (suc (past a (suc pc)))) line))
+    × Stands body (suc pc) a
+    × (fetch body (past a (suc pc))
+    ≡ Some (line_of (instr.Jump (past (branch line a b) pc)) line))
+    × Stands body (suc (past a (suc pc))) b
+Stands body pc (loop line test a) =
+    (fetch body pc ≡ Some (line_of (instr.Jump (past a (suc (suc pc)))) line))
+    × (fetch body (suc pc) ≡ Some (line_of instr.Turn line))
+    × Stands body (suc (suc pc)) a
+    × Stands body (past a (suc (suc pc))) test
+    × (fetch body (past test (past a (suc (suc pc))))
+    ≡ Some (line_of (instr.JumpIfNot (past (loop line test a) pc)) line))
+    × (fetch body (suc (past test (past a (suc (suc pc)))))
+    ≡ Some (line_of (instr.Jump (suc pc)) line))
+Stands body pc (rounds k line a) =
+    (fetch body pc ≡ Some (line_of (k (past (rounds k line a) pc)) line))
+    × Stands body (suc pc) a
+    × (fetch body (past a (suc pc)) ≡ Some (line_of (instr.Jump pc) line))
+
+-- what the machine has for a value; in a run in order regions have no node
+abbrev pub machine_value : Value → MachineValue
+machine_value (a_space n) = machine.Space n
+machine_value (a_region r) = machine.Region (region_with r.root r.points)
+machine_value (a_partition p) = machine.Partition (record {
+  root = record { 0 = p.root };
+  disjoint = p.disjoint;
+  children = map (region_with p.root) p.sets;
+})
+machine_value v = machine.Number (kept_number v)
+
+-- a value is of a static type; a number fits its width
+pub data IsOf : StaticType → Value → Type 0 where
+  of_integer : (w : Width) (z : ℤ) → FitsWidth w z → IsOf (integer_type w) (a_number w z)
+  of_truth : (b : Bool) → IsOf truth_type (a_truth b)
+  of_index : (k : Kind) (z : ℤ) → IsOf (index_type k) (an_index z)
+  of_pointer : (k : Kind) (sp : ℕ) (args rs : List Reach) (t : Target) (regions : List Region) →
+      IsOf (pointer_type k sp args rs) (a_pointer t regions)
+  of_space : (k : Kind) (n : ℕ) → IsOf (ispace_type k) (a_space n)
+  of_region : (k : Kind) (sp : ℕ) (args : List Reach) (r : Term) (q : Region) →
+      IsOf (region_type k sp args r) (a_region q)
+  of_partition : (d : Bool) (r p : ℕ) (q : Partition) → IsOf (partition_type d r p) (a_partition q)
+
+-- a value, and a machine's, where there is none
+abbrev pub nothing : Value
+nothing = a_truth false
+
+abbrev pub blank : MachineValue
+blank = machine.Number (pos 0)
+
+-- each name in scope has the place behind those that were bound before it, and a value of its type
+abbrev pub AreOf : List Bound → List Value → Type 0
+AreOf [] names = Unit {0}
+AreOf (b ∷ bs) names = (b.place ≡ length bs) × IsOf b.static_type (get_or names b.place nothing)
+    × AreOf bs names
+
+abbrev pub where_of : ℕ → Here → Where
+where_of params h = record {
+  tree = h.tree;
+  scope = h.scope;
+  result = h.result;
+  params = params;
+  line = h.line;
+}
+
+-- the slots when the round of the innermost loop began, how many names were in scope there, and a
+-- bound of the turns that were left
+pub record Aside : Type 0 where
+  pub upto : ℕ
+  pub slots : List MachineValue
+  pub turns : ℕ
+
+-- An instance agrees with a state: the names stand in their slots, the turns and the text are alike.
+-- The slots beside those of names that were in scope when the innermost loop's round began are as
+-- they were then.
+pub record Agrees (x : Setting) (params slots : ℕ) (o : Aside) (h : Here) (s : State) (i : Instance) : Type 0 where
+  pub names : (p : ℕ) → p < length s.names →
+      get_or i.frame.slots (slot (where_of params h) p) blank
+      ≡ machine_value (get_or s.names p nothing)
+  pub hidden : (p : ℕ) → params ≤ p → p < o.upto →
+      (get_or i.frame.slots (counter (where_of params h) p) blank
+      ≡ get_or o.slots (counter (where_of params h) p) blank)
+      × (get_or i.frame.slots (beside (where_of params h) p) blank
+      ≡ get_or o.slots (beside (where_of params h) p) blank)
+  pub typed : AreOf h.scope.names s.names
+  pub count : length s.names ≡ length h.scope.names
+  pub inside : o.upto ≤ length s.names
+  pub slots_are : length i.frame.slots ≡ slots
+  pub turns : i.frame.turns ≡ s.turns
+  pub bound : s.turns ≤ o.turns
+  pub text : i.text ≡ s.text
+  pub own : i.frame.own ≡ []
+  pub store : s.store ≡ []
+
+-- each instruction names slots that are there
+abbrev pub SlotsFit : Setting → ℕ → Type 0
+SlotsFit x slots = (pc : ℕ) (l : Line) → fetch x.body pc ≡ Some l → slots_used l.instr ≤ slots
+
+-- From an instance the run comes to what a step of the meaning gives, in a shape; or it ends with the
+-- fault.
+abbrev pub Comes : {A : Type 0} → Setting → Instance → (A → Instance → Instance) →
+    (A → State → Instance → Type 0) → Result A → Type 0
+Comes x i shape Good (gives a s) =
+    (j : Instance) × Leads x i (shape a j) × Good a s j
+Comes x i shape Good (fails f s) = Ends x i (Broke (Some f) s.text)
+
+-- an instance that comes back with a value or none
+abbrev pub back : Option ℤ → Instance → Ended
+back result j = CameBack result j.frame.own (give_parts j.parts j.contents) j.text
+
+-- a value that was returned ends the run
+abbrev pub Does : Setting → ℕ → ℕ → Aside → Instance → ℕ → Here → Result Going → Type 0
+Does x params slots o i pc h (gives goes_on s) =
+    (j : Instance) × Leads x i (placed pc [] j) × Agrees x params slots o h s j
+Does x params slots o i pc h (gives (returned v) s) =
+    (result : Option ℤ) × (j : Instance) × Ends x i (back result j)
+    × (result_of result ≡ kept_number v) × (j.text ≡ s.text) × (j.frame.own ≡ []) × (s.store ≡ [])
+Does x params slots o i pc h (fails f s) = Ends x i (Broke (Some f) s.text)

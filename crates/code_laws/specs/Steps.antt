@@ -1,0 +1,58 @@
+-- A task instance in a run in order, instruction by instruction: what a segment stops for is done at
+-- once, and the instance goes on.
+use Rattle.std.specs.Prelude.{◌≡◌, ℕ, zero, suc, ◌+◌, List, ◌++◌, None}
+use Rattle.regent_tree.specs.declared.typing.StaticType.{StaticType}
+use Rattle.task_code.specs.declared.code.Code.{Code}
+use Rattle.task_code.specs.declared.code.Line.{Line}
+use Rattle.machine_terms.specs.declared.order.Ended.{Ended}
+use Rattle.machine_terms.specs.declared.order.Ended.TheVariants.{Broke}
+use Rattle.machine_terms.specs.declared.order.Instance.{Instance}
+use Rattle.machine_terms.specs.declared.order.Resumed.{Resumed}
+use Rattle.machine_terms.specs.declared.order.Resumed.TheVariants.{GoesOn}
+use Rattle.machine_terms.specs.declared.value.Value.{Value}
+use Rattle.machine_terms.specs.Machine.{Machine, Stepped, goes, prints, stops}
+use Rattle.machine_terms.specs.Orders.{Runner, resume_in, until_over}
+use Rattle.machine_terms.specs.Segments.{frame_after, step}
+
+-- The code of all tasks, the turns of each instance, what calls give, the code of the task, and its
+-- result's type.
+pub record Setting : Type 0 where
+  pub code : Code
+  pub turns : ℕ
+  pub child : Runner
+  pub body : List Line
+  pub result : StaticType
+
+abbrev pub machine_of : Instance → Machine
+machine_of i = record { frame = i.frame; parts = i.parts }
+
+abbrev pub has_machine : Machine → Instance → Instance
+has_machine m i = record i { frame = m.frame; parts = m.parts }
+
+-- the instance at a place, with a stack
+abbrev pub placed : ℕ → List Value → Instance → Instance
+placed pc st i = record i { frame = record i.frame { pc = pc; stack = st } }
+
+abbrev pub on_step : Setting → Instance → Stepped → Resumed
+on_step x i (goes m) = GoesOn (has_machine m i)
+on_step x i (prints t m) = GoesOn (record (has_machine m i) { text = i.text ++ t })
+on_step x i (stops y m) =
+    resume_in x.code x.turns x.child (frame_after y m.frame) y (has_machine m i)
+
+abbrev pub advance : Setting → Instance → Resumed
+advance x i = on_step x i (step x.code x.body (machine_of i))
+
+-- at most so many instructions and waits
+abbrev pub run_steps : Setting → ℕ → Instance → Ended
+run_steps x zero i = Broke None i.text
+run_steps x (suc k) i = until_over (advance x i) (run_steps x k)
+
+-- from one instance the run comes to another one, in a number of steps
+pub record Leads (x : Setting) (i j : Instance) : Type 0 where
+  pub steps : ℕ
+  pub by : (k n : ℕ) → n ≡ steps + k → run_steps x n i ≡ run_steps x k j
+
+-- the run ends so, with any number of further steps
+pub record Ends (x : Setting) (i : Instance) (e : Ended) : Type 0 where
+  pub steps : ℕ
+  pub by : (k n : ℕ) → n ≡ steps + k → run_steps x n i ≡ e

@@ -1,0 +1,27 @@
+//! Laws of the compiler: code that a program is compiled to does what the program means.
+//!
+//! The laws are stated under specs/. Each function has an empty body; its contract is a law.
+#![tactic(auto)]
+
+ghost use Rattle.code_laws.specs.Example.{ExampleHolds};
+ghost use Rattle.code_laws.specs.Programs.{ScalarsRunAsMeant};
+ghost use Rattle.code_laws.specs.ScalarPrograms.{ScalarProgramsRunAsMeant};
+
+/// Where the entry task's body is typed and treats scalars alone, the run in order of its code is what the
+/// program means: its text, and its end or its first fault with the line.
+#[tactic(auto, using(crate::proofs::Top::scalars_run_as_meant))]
+pub fn scalars_run_as_meant()
+    ensures { ScalarsRunAsMeant }
+{}
+
+/// So it is for each accepted program over scalars.
+#[tactic(auto, using(crate::proofs::ScalarRuns::scalar_programs_run_as_meant))]
+pub fn scalar_programs_run_as_meant()
+    ensures { ScalarProgramsRunAsMeant }
+{}
+
+/// A program and a number of which each premise of the law holds.
+#[tactic(auto, using(crate::proofs::Example::example_holds))]
+pub fn example_holds()
+    ensures { ExampleHolds }
+{}

@@ -1,0 +1,4 @@
+pub mod Words
+pub mod Starts
+pub mod Calls
+pub mod Roots
