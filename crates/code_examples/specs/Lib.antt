@@ -1,0 +1,9 @@
+pub mod Numbers
+pub mod Statements
+pub mod Calls
+pub mod Limits
+pub mod Reductions
+pub mod Partitions
+pub mod Images
+pub mod Pointers
+pub mod Children
