@@ -91,7 +91,7 @@ impl Running {
     ) -> Result<Act, AllocError>
         ensures { IfOk result (Does (fill slot field width) pc self.old self.new) }
     {
-        let Some(region) = region_in(&self.frame.slots, slot) else {
+        let Some(region) = region_in(&self.slots, slot) else {
             return Ok(Act::broken());
         };
         let Some(z) = self.frame.stack.pop_number() else {
@@ -102,7 +102,7 @@ impl Running {
             None => Ok(Act::Next),
             Some(Lack::Refused) => Ok(Act::broken()),
             Some(Lack::Missing) => {
-                self.frame.stack.push(Value::Number(z))?;
+                self.frame.stack.push_number(z)?;
                 Ok(self.stop_at(pc, Yield::Want { root, field }))
             }
         }

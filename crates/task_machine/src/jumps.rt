@@ -28,7 +28,7 @@ fn turns_back(from: u32, instr: &Instr) -> bool
 
 /// Whether a jump may go from a place to another.
 #[inline(always)]
-fn may_jump(body: &[Line], from: u32, to: u32) -> bool
+pub(crate) fn may_jump(body: &[Line], from: u32, to: u32) -> bool
     ensures { result ≡ may_jump body.now from to }
 {
     if from < to {
@@ -75,7 +75,7 @@ impl Running {
         if z != 0 {
             return Ok(Act::Next);
         }
-        self.frame.stack.push(Value::Number(0))?;
+        self.frame.stack.push_number(0)?;
         Ok(self.jump(body, pc, to))
     }
 
@@ -88,7 +88,7 @@ impl Running {
         if z == 0 {
             return Ok(Act::Next);
         }
-        self.frame.stack.push(Value::Number(1))?;
+        self.frame.stack.push_number(1)?;
         Ok(self.jump(body, pc, to))
     }
 
@@ -118,7 +118,7 @@ impl Running {
     /// Takes a turn for the next round of a loop: its variable gets a number, and its counter is raised.
     #[inline(always)]
     fn round(&mut self, pc: u32, counter: u32, variable: u32, z: i64, count: i64, line: u32) -> Act
-        requires slot { counter < length self.old.frame.slots }
+        requires slot { counter < length self.old.slots }
         requires room { count <ℤ pos (2 ^ 63 - 1) }
         ensures { Does (λ m. on_turn m.frame.turns line m (round counter variable z count))
             pc self.old self.new result }
@@ -127,13 +127,11 @@ impl Running {
             return Act::fault(FaultKind::Turns, line);
         }
         self.frame.turns -= 1;
-        if variable as usize >= self.frame.slots.len() {
+        if variable as usize >= self.slots.len() {
             return Act::broken();
         }
-        self.frame.slots.set(variable as usize, Value::Number(z));
-        self.frame
-            .slots
-            .set(counter as usize, Value::Number(count + 1));
+        self.slots.set_number(variable, z);
+        self.slots.set_number(counter, count + 1);
         Act::Next
     }
 
@@ -149,7 +147,7 @@ impl Running {
     ) -> Act
         ensures { Does (next_number counter limit variable exit line) pc self.old self.new result }
     {
-        let slots = self.frame.slots.as_slice();
+        let slots = self.slots.as_slice();
         let (Some(Value::Number(i)), Some(Value::Number(n))) = (
             slots.get(counter as usize),
             slots.get(limit as usize),
@@ -178,7 +176,7 @@ impl Running {
     ) -> Act
         ensures { Does (next_point domain counter variable pointer exit line) pc self.old self.new result }
     {
-        let slots = self.frame.slots.as_slice();
+        let slots = self.slots.as_slice();
         let (Some(domain), Some(Value::Number(count))) = (
             slots.get(domain as usize),
             slots.get(counter as usize),

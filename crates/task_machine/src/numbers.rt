@@ -29,7 +29,7 @@ impl Running {
     pub(crate) fn load(&mut self, pc: u32, slot: u32) -> Result<Act, AllocError>
         ensures { IfOk result (Does (λ m. load m (slice_get m.frame.slots slot)) pc self.old self.new) }
     {
-        match self.frame.slots.as_slice().get(slot as usize) {
+        match self.slots.as_slice().get(slot as usize) {
             None => Ok(Act::broken()),
             Some(Value::Pending(child)) => {
                 let child = *child;
@@ -49,10 +49,10 @@ impl Running {
         let Some(value) = self.frame.stack.pop() else {
             return Act::broken();
         };
-        if slot as usize >= self.frame.slots.len() {
+        if slot as usize >= self.slots.len() {
             return Act::broken();
         }
-        self.frame.slots.set(slot as usize, value);
+        self.slots.set(slot, value);
         Act::Next
     }
 
@@ -83,7 +83,7 @@ impl Running {
         };
         match compute(operator, width, a, b) {
             Some(z) => {
-                self.frame.stack.push(Value::Number(z))?;
+                self.frame.stack.push_number(z)?;
                 Ok(Act::Next)
             }
             None => Ok(Act::fault(FaultKind::DivideByZero, line)),
@@ -101,7 +101,7 @@ impl Running {
             return Ok(Act::broken());
         };
         let truth = kept_truth(compare(kind, a, b));
-        self.frame.stack.push(Value::Number(truth))?;
+        self.frame.stack.push_number(truth)?;
         Ok(Act::Next)
     }
 
@@ -112,7 +112,7 @@ impl Running {
             return Ok(Act::broken());
         };
         let z = negate(width, z);
-        self.frame.stack.push(Value::Number(z))?;
+        self.frame.stack.push_number(z)?;
         Ok(Act::Next)
     }
 
@@ -124,7 +124,7 @@ impl Running {
             return Ok(Act::broken());
         };
         let z = width.wrap(z);
-        self.frame.stack.push(Value::Number(z))?;
+        self.frame.stack.push_number(z)?;
         Ok(Act::Next)
     }
 
@@ -135,7 +135,7 @@ impl Running {
             return Ok(Act::broken());
         };
         let truth = kept_truth(z == 0);
-        self.frame.stack.push(Value::Number(truth))?;
+        self.frame.stack.push_number(truth)?;
         Ok(Act::Next)
     }
 }

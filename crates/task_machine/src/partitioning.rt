@@ -72,7 +72,7 @@ impl Running {
         ensures { IfOk result (Does (equal slot line) pc self.old self.new) }
     {
         let alloc = self.held.allocator();
-        let Some(region) = region_in(&self.frame.slots, slot) else {
+        let Some(region) = region_in(&self.slots, slot) else {
             return Ok(Act::broken());
         };
         let Some(colours) = self.frame.stack.pop_space() else {
@@ -97,13 +97,13 @@ impl Running {
         ensures { IfOk result (Does (meet first second slot) pc self.old self.new) }
     {
         let alloc = self.held.allocator();
-        let Some(p) = partition_in(&self.frame.slots, first) else {
+        let Some(p) = partition_in(&self.slots, first) else {
             return Ok(Act::broken());
         };
-        let Some(q) = partition_in(&self.frame.slots, second) else {
+        let Some(q) = partition_in(&self.slots, second) else {
             return Ok(Act::broken());
         };
-        let Some(region) = region_in(&self.frame.slots, slot) else {
+        let Some(region) = region_in(&self.slots, slot) else {
             return Ok(Act::broken());
         };
         let region = region.copy()?;
@@ -124,13 +124,13 @@ impl Running {
         ensures { IfOk result (Does (join first second slot) pc self.old self.new) }
     {
         let alloc = self.held.allocator();
-        let Some(p) = partition_in(&self.frame.slots, first) else {
+        let Some(p) = partition_in(&self.slots, first) else {
             return Ok(Act::broken());
         };
-        let Some(q) = partition_in(&self.frame.slots, second) else {
+        let Some(q) = partition_in(&self.slots, second) else {
             return Ok(Act::broken());
         };
-        let Some(region) = region_in(&self.frame.slots, slot) else {
+        let Some(region) = region_in(&self.slots, slot) else {
             return Ok(Act::broken());
         };
         let region = region.copy()?;
@@ -150,13 +150,13 @@ impl Running {
         ensures { IfOk result (Does (minus first second slot) pc self.old self.new) }
     {
         let alloc = self.held.allocator();
-        let Some(p) = partition_in(&self.frame.slots, first) else {
+        let Some(p) = partition_in(&self.slots, first) else {
             return Ok(Act::broken());
         };
-        let Some(q) = partition_in(&self.frame.slots, second) else {
+        let Some(q) = partition_in(&self.slots, second) else {
             return Ok(Act::broken());
         };
-        let Some(region) = region_in(&self.frame.slots, slot) else {
+        let Some(region) = region_in(&self.slots, slot) else {
             return Ok(Act::broken());
         };
         let region = region.copy()?;
@@ -176,7 +176,7 @@ impl Running {
         ensures { IfOk result (Does (by_field slot field line) pc self.old self.new) }
     {
         let alloc = self.held.allocator();
-        let Some(region) = region_in(&self.frame.slots, slot) else {
+        let Some(region) = region_in(&self.slots, slot) else {
             return Ok(Act::broken());
         };
         let Some(colours) = self.frame.stack.pop_space() else {
@@ -214,13 +214,13 @@ impl Running {
         ensures { IfOk result (Does (image slot divided through field) pc self.old self.new) }
     {
         let alloc = self.held.allocator();
-        let Some(parent) = region_in(&self.frame.slots, slot) else {
+        let Some(parent) = region_in(&self.slots, slot) else {
             return Ok(Act::broken());
         };
-        let Some(partition) = partition_in(&self.frame.slots, divided) else {
+        let Some(partition) = partition_in(&self.slots, divided) else {
             return Ok(Act::broken());
         };
-        let Some(region) = region_in(&self.frame.slots, through) else {
+        let Some(region) = region_in(&self.slots, through) else {
             return Ok(Act::broken());
         };
         let sets = sets_of(alloc, partition)?;
@@ -260,13 +260,13 @@ impl Running {
         ensures { IfOk result (Does (preimage slot divided through field) pc self.old self.new) }
     {
         let alloc = self.held.allocator();
-        let Some(parent) = region_in(&self.frame.slots, slot) else {
+        let Some(parent) = region_in(&self.slots, slot) else {
             return Ok(Act::broken());
         };
-        let Some(partition) = partition_in(&self.frame.slots, divided) else {
+        let Some(partition) = partition_in(&self.slots, divided) else {
             return Ok(Act::broken());
         };
-        let Some(region) = region_in(&self.frame.slots, through) else {
+        let Some(region) = region_in(&self.slots, through) else {
             return Ok(Act::broken());
         };
         let (points, among) = (parent.points.get(), region.points.get());

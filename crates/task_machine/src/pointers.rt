@@ -15,6 +15,7 @@ ghost use Rattle.machine_terms.specs.Pointers.{region_slot, regions_in};
 
 use crate::arithmetic::kept_truth;
 use crate::running::{Act, Running};
+use crate::slots::Slots;
 use machine_terms::{RegionValue, Value};
 use plain_values::Sequence;
 use point_sets::PointSet;
@@ -63,7 +64,7 @@ pub(crate) fn are_same(a: i64, b: i64) -> bool
 }
 
 /// The region in a slot.
-pub(crate) fn region_in(slots: &Sequence<Value>, slot: u32) -> Option<&RegionValue>
+pub(crate) fn region_in(slots: &Slots, slot: u32) -> Option<&RegionValue>
     ensures some { IfSome result (λ r. region_in (slice_get slots.now slot) ≡ Some r.now) }
     ensures none { IfNone result (region_in (slice_get slots.now slot) ≡ None) }
 {
@@ -75,7 +76,7 @@ pub(crate) fn region_in(slots: &Sequence<Value>, slot: u32) -> Option<&RegionVal
 
 /// The point of a number, where a set holds it.
 #[tactic(auto, using(crate::proofs::Casting::none_held_below, crate::proofs::Casting::none_held_past))]
-fn held_point(points: &PointSet, number: i64) -> Option<u32>
+pub(crate) fn held_point(points: &PointSet, number: i64) -> Option<u32>
     ensures some { IfSome result (λ n. (number ≡ pos n) × (has points.now n ≡ true)) }
     ensures none { IfNone result (holds points.now number ≡ false) }
 {
@@ -122,7 +123,7 @@ fn cast_on(
 /// The number that is kept of the pointer to a number's point through the first region of some slots
 /// that holds it; None where a slot has no region.
 #[tactic(auto, using(crate::proofs::Casting::cast_step))]
-fn cast_to(slots: &Sequence<Value>, regions: &[u32], number: i64) -> Result<Option<i64>, AllocError>
+fn cast_to(slots: &Slots, regions: &[u32], number: i64) -> Result<Option<i64>, AllocError>
     ensures { IfOk result (λ r. r ≡ cast_from None 0 (regions_in slots.now regions.now) number) }
 {
     let mut found = None;
@@ -166,7 +167,7 @@ impl Running {
         };
         match Pointer::kept(z) {
             Some(p) => {
-                self.frame.stack.push(Value::Number(i64::from(p.point)))?;
+                self.frame.stack.push_number(i64::from(p.point))?;
                 Ok(Act::Next)
             }
             None => Ok(Act::fault(FaultKind::NullPointer, line)),
@@ -181,7 +182,7 @@ impl Running {
             return Ok(Act::broken());
         };
         let truth = kept_truth(Pointer::kept(z).is_none());
-        self.frame.stack.push(Value::Number(truth))?;
+        self.frame.stack.push_number(truth)?;
         Ok(Act::Next)
     }
 
@@ -196,7 +197,7 @@ impl Running {
             return Ok(Act::broken());
         };
         let truth = kept_truth(are_same(a, b));
-        self.frame.stack.push(Value::Number(truth))?;
+        self.frame.stack.push_number(truth)?;
         Ok(Act::Next)
     }
 
@@ -211,7 +212,7 @@ impl Running {
             return Ok(Act::broken());
         };
         let truth = kept_truth(!are_same(a, b));
-        self.frame.stack.push(Value::Number(truth))?;
+        self.frame.stack.push_number(truth)?;
         Ok(Act::Next)
     }
 
@@ -235,7 +236,7 @@ impl Running {
                 Pointer { point, position }.number()
             }
         };
-        self.frame.stack.push(Value::Number(moved))?;
+        self.frame.stack.push_number(moved)?;
         Ok(Act::Next)
     }
 
@@ -246,7 +247,7 @@ impl Running {
         let Some(z) = self.frame.stack.pop_number() else {
             return Ok(Act::broken());
         };
-        let Some(region) = region_in(&self.frame.slots, slot) else {
+        let Some(region) = region_in(&self.slots, slot) else {
             return Ok(Act::broken());
         };
         let Some(point) = held_point(region.points.get(), z) else {
@@ -254,7 +255,7 @@ impl Running {
         };
         let position = 1;
         let pointer = Pointer { point, position }.number();
-        self.frame.stack.push(Value::Number(pointer))?;
+        self.frame.stack.push_number(pointer)?;
         Ok(Act::Next)
     }
 
@@ -266,10 +267,10 @@ impl Running {
         let Some(z) = self.frame.stack.pop_number() else {
             return Ok(Act::broken());
         };
-        let Some(kept) = cast_to(&self.frame.slots, regions.as_slice(), z)? else {
+        let Some(kept) = cast_to(&self.slots, regions.as_slice(), z)? else {
             return Ok(Act::broken());
         };
-        self.frame.stack.push(Value::Number(kept))?;
+        self.frame.stack.push_number(kept)?;
         Ok(Act::Next)
     }
 
@@ -288,10 +289,10 @@ impl Running {
             return Ok(Act::broken());
         };
         let number = number_to_cast(z);
-        let Some(kept) = cast_to(&self.frame.slots, regions.as_slice(), number)? else {
+        let Some(kept) = cast_to(&self.slots, regions.as_slice(), number)? else {
             return Ok(Act::broken());
         };
-        self.frame.stack.push(Value::Number(kept))?;
+        self.frame.stack.push_number(kept)?;
         Ok(Act::Next)
     }
 }

@@ -7,6 +7,7 @@ ghost use Rattle.machine_terms.specs.Regions.{child, colors, coloured, new_root}
 ghost use Rattle.machine_terms.specs.Regions.{partition_in, space};
 
 use crate::running::{Act, Running};
+use crate::slots::Slots;
 use index_spaces::Ispace;
 use machine_terms::{Made, PartitionValue, RegionValue, Value, Yield};
 use plain_values::Sequence;
@@ -15,7 +16,7 @@ use std::alloc::AllocError;
 use task_code::Code;
 
 /// The partition in a slot.
-pub(crate) fn partition_in(slots: &Sequence<Value>, slot: u32) -> Option<&PartitionValue>
+pub(crate) fn partition_in(slots: &Slots, slot: u32) -> Option<&PartitionValue>
     ensures some { IfSome result (λ p. partition_in (slice_get slots.now slot) ≡ Some p.now) }
     ensures none { IfNone result (partition_in (slice_get slots.now slot) ≡ None) }
 {
@@ -59,7 +60,7 @@ impl Running {
     pub(crate) fn colors(&mut self, pc: u32, slot: u32) -> Result<Act, AllocError>
         ensures { IfOk result (Does (colors slot) pc self.old self.new) }
     {
-        let Some(partition) = partition_in(&self.frame.slots, slot) else {
+        let Some(partition) = partition_in(&self.slots, slot) else {
             return Ok(Act::broken());
         };
         let count = partition.children.get().len();
@@ -91,7 +92,7 @@ impl Running {
     pub(crate) fn child(&mut self, pc: u32, slot: u32, line: u32) -> Result<Act, AllocError>
         ensures { IfOk result (Does (child slot line) pc self.old self.new) }
     {
-        let Some(partition) = partition_in(&self.frame.slots, slot) else {
+        let Some(partition) = partition_in(&self.slots, slot) else {
             return Ok(Act::broken());
         };
         let Some(z) = self.frame.stack.pop_number() else {
