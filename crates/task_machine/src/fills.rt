@@ -81,6 +81,7 @@ impl Holdings {
 }
 
 impl Running {
+    /// Pops a number, and writes it to a field at each point of the region in a slot.
     #[inline(never)]
     pub(crate) fn fill(
         &mut self,

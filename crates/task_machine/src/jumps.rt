@@ -41,6 +41,7 @@ pub(crate) fn may_jump(body: &[Line], from: u32, to: u32) -> bool
 }
 
 impl Running {
+    /// Goes to a place, where a jump may go there.
     #[inline(always)]
     pub(crate) fn jump(&mut self, body: &[Line], pc: u32, to: u32) -> Act
         ensures { Does (λ m. jump body.now to m.frame.stack m) pc self.old self.new result }
@@ -52,6 +53,7 @@ impl Running {
         }
     }
 
+    /// Pops a number, and jumps on 0.
     #[inline(always)]
     pub(crate) fn jump_if_not(&mut self, body: &[Line], pc: u32, to: u32) -> Act
         ensures { Does (jump_if_not body.now to) pc self.old self.new result }
@@ -66,6 +68,7 @@ impl Running {
         }
     }
 
+    /// Pops a number; on 0 it pushes 0 and jumps.
     pub(crate) fn and_jump(&mut self, body: &[Line], pc: u32, to: u32) -> Result<Act, AllocError>
         ensures { IfOk result (Does (and_jump body.now to) pc self.old self.new) }
     {
@@ -79,6 +82,7 @@ impl Running {
         Ok(self.jump(body, pc, to))
     }
 
+    /// Pops a number; on another than 0 it pushes 1 and jumps.
     pub(crate) fn or_jump(&mut self, body: &[Line], pc: u32, to: u32) -> Result<Act, AllocError>
         ensures { IfOk result (Does (or_jump body.now to) pc self.old self.new) }
     {
@@ -92,6 +96,7 @@ impl Running {
         Ok(self.jump(body, pc, to))
     }
 
+    /// Takes a turn.
     #[inline(always)]
     pub(crate) fn turn(&mut self, pc: u32, line: u32) -> Act
         ensures { Does (turn line) pc self.old self.new result }
@@ -135,6 +140,7 @@ impl Running {
         Act::Next
     }
 
+    /// The head of a loop over numbers: the next round, or its exit.
     #[inline(always)]
     pub(crate) fn next_number(
         &mut self,
@@ -162,6 +168,7 @@ impl Running {
         }
     }
 
+    /// The head of a loop over the points of a space or region: the next round, or its exit.
     #[tactic(auto, using(crate::proofs::Rounds::next_point_by))]
     #[inline(never)]
     pub(crate) fn next_point(

@@ -25,6 +25,7 @@ impl Running {
         Ok(Act::Next)
     }
 
+    /// Pushes the value of a slot; of a child that is pending there the value is awaited.
     #[inline(always)]
     pub(crate) fn load(&mut self, pc: u32, slot: u32) -> Result<Act, AllocError>
         ensures { IfOk result (Does (λ m. load m (slice_get m.frame.slots slot)) pc self.old self.new) }
@@ -42,6 +43,7 @@ impl Running {
         }
     }
 
+    /// Pops into a slot.
     #[inline(always)]
     pub(crate) fn store(&mut self, pc: u32, slot: u32) -> Act
         ensures { Does (λ m. store slot m.frame.stack m) pc self.old self.new result }
@@ -56,6 +58,7 @@ impl Running {
         Act::Next
     }
 
+    /// Pops.
     pub(crate) fn discard(&mut self, pc: u32) -> Act
         ensures { Does (λ m. discard m.frame.stack m) pc self.old self.new result }
     {
@@ -65,6 +68,7 @@ impl Running {
         }
     }
 
+    /// Pops two numbers, the right one first, and pushes what an operator makes of them.
     #[inline(always)]
     pub(crate) fn arithmetic(
         &mut self,
@@ -90,6 +94,7 @@ impl Running {
         }
     }
 
+    /// Pops two numbers, the right one first, and pushes whether they compare so.
     #[inline(always)]
     pub(crate) fn comparison(&mut self, pc: u32, kind: Comparison) -> Result<Act, AllocError>
         ensures { IfOk result (Does (comparison kind) pc self.old self.new) }
@@ -105,6 +110,7 @@ impl Running {
         Ok(Act::Next)
     }
 
+    /// Replaces the number on top by its negative at a width.
     pub(crate) fn negate(&mut self, pc: u32, width: Width) -> Result<Act, AllocError>
         ensures { IfOk result (Does (replaced (negated width)) pc self.old self.new) }
     {
@@ -116,6 +122,7 @@ impl Running {
         Ok(Act::Next)
     }
 
+    /// Replaces the number on top by what is left of it at a width.
     #[inline(always)]
     pub(crate) fn wrap(&mut self, pc: u32, width: Width) -> Result<Act, AllocError>
         ensures { IfOk result (Does (replaced (wrapped width)) pc self.old self.new) }
@@ -128,6 +135,7 @@ impl Running {
         Ok(Act::Next)
     }
 
+    /// Replaces 0 on top by 1, and each other number by 0.
     pub(crate) fn invert(&mut self, pc: u32) -> Result<Act, AllocError>
         ensures { IfOk result (Does (replaced inverted) pc self.old self.new) }
     {

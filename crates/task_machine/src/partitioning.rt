@@ -67,6 +67,7 @@ impl Running {
         )
     }
 
+    /// Pops a colour space, and has the region in a slot divided in blocks.
     #[inline(never)]
     pub(crate) fn equal(&mut self, pc: u32, slot: u32, line: u32) -> Result<Act, AllocError>
         ensures { IfOk result (Does (equal slot line) pc self.old self.new) }
@@ -86,6 +87,7 @@ impl Running {
         Ok(self.make(pc, region, sets, disjoint))
     }
 
+    /// Has the partition made of what two partitions share, colour by colour.
     #[inline(never)]
     pub(crate) fn meet(
         &mut self,
@@ -113,6 +115,7 @@ impl Running {
         Ok(self.make(pc, region, sets, disjoint))
     }
 
+    /// Has the partition made of what either of two partitions has, colour by colour.
     #[inline(never)]
     pub(crate) fn join(
         &mut self,
@@ -139,6 +142,7 @@ impl Running {
         Ok(self.make(pc, region, sets, disjoint))
     }
 
+    /// Has the partition made of what one partition has and another lacks, colour by colour.
     #[inline(never)]
     pub(crate) fn minus(
         &mut self,
@@ -165,6 +169,7 @@ impl Running {
         Ok(self.make(pc, region, sets, disjoint))
     }
 
+    /// Pops a colour space, and has the region in a slot divided by the numbers of a field.
     #[inline(never)]
     pub(crate) fn by_field(
         &mut self,
@@ -202,6 +207,7 @@ impl Running {
         }
     }
 
+    /// Has the partition made of the points to which a field points from those of each colour.
     #[inline(never)]
     pub(crate) fn image(
         &mut self,
@@ -248,6 +254,7 @@ impl Running {
         }
     }
 
+    /// Has the partition made of the points from which a field points to those of each colour.
     #[inline(never)]
     pub(crate) fn preimage(
         &mut self,

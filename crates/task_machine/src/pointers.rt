@@ -157,6 +157,7 @@ fn number_to_cast(kept: i64) -> i64
 }
 
 impl Running {
+    /// Replaces a pointer on top by its point.
     #[inline(never)]
     pub(crate) fn point(&mut self, pc: u32, line: u32) -> Result<Act, AllocError>
         ensures { IfOk result (Does (λ m. on_number m.frame.stack m
@@ -174,6 +175,7 @@ impl Running {
         }
     }
 
+    /// Replaces a pointer on top by whether it is null.
     #[inline(never)]
     pub(crate) fn is_null(&mut self, pc: u32) -> Result<Act, AllocError>
         ensures { IfOk result (Does (replaced is_null) pc self.old self.new) }
@@ -186,6 +188,7 @@ impl Running {
         Ok(Act::Next)
     }
 
+    /// Pops two pointers, and pushes whether both are null or have the same point.
     #[inline(never)]
     pub(crate) fn same_pointers(&mut self, pc: u32) -> Result<Act, AllocError>
         ensures { IfOk result (Does (compare (λ b. b)) pc self.old self.new) }
@@ -201,6 +204,7 @@ impl Running {
         Ok(Act::Next)
     }
 
+    /// Pops two pointers, and pushes whether that is not so.
     #[inline(never)]
     pub(crate) fn other_pointers(&mut self, pc: u32) -> Result<Act, AllocError>
         ensures { IfOk result (Does (compare not) pc self.old self.new) }
@@ -216,6 +220,7 @@ impl Running {
         Ok(Act::Next)
     }
 
+    /// Gives a pointer on top the position that stands in a list at its old one.
     #[inline(never)]
     pub(crate) fn move_pointer(&mut self, pc: u32, places: &Sequence<u8>) -> Result<Act, AllocError>
         ensures { IfOk result (Does (λ m. on_number m.frame.stack m
@@ -240,6 +245,7 @@ impl Running {
         Ok(Act::Next)
     }
 
+    /// Replaces a number on top by the pointer to its point through the region in a slot.
     pub(crate) fn element(&mut self, pc: u32, slot: u32, line: u32) -> Result<Act, AllocError>
         ensures { IfOk result (Does (λ m. on_number m.frame.stack m
             (λ z st. element (region_slot m slot) z line st m)) pc self.old self.new) }
@@ -259,6 +265,7 @@ impl Running {
         Ok(Act::Next)
     }
 
+    /// Replaces a number on top by the pointer to its point through the first of some regions that has it.
     #[inline(never)]
     pub(crate) fn cast(&mut self, pc: u32, regions: &Sequence<u32>) -> Result<Act, AllocError>
         ensures { IfOk result (Does (λ m. on_number m.frame.stack m
@@ -274,6 +281,7 @@ impl Running {
         Ok(Act::Next)
     }
 
+    /// Does the same with the point of a pointer on top.
     #[tactic(auto, using(crate::proofs::Casting::cast_pointer_is))]
     #[inline(never)]
     pub(crate) fn cast_pointer(

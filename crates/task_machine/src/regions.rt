@@ -38,6 +38,7 @@ fn coloured(children: &Sequence<RegionValue>, number: i64) -> Option<&RegionValu
 }
 
 impl Running {
+    /// Replaces a number on top by the index space of so many points.
     #[inline(never)]
     pub(crate) fn space(&mut self, pc: u32, line: u32) -> Result<Act, AllocError>
         ensures { IfOk result (Does (λ m. on_number m.frame.stack m
@@ -56,6 +57,7 @@ impl Running {
         }
     }
 
+    /// Pushes the colour space of the partition in a slot.
     #[inline(never)]
     pub(crate) fn colors(&mut self, pc: u32, slot: u32) -> Result<Act, AllocError>
         ensures { IfOk result (Does (colors slot) pc self.old self.new) }
@@ -73,6 +75,7 @@ impl Running {
         self.push(pc, Value::Space(space))
     }
 
+    /// Pops an index space, and has a root made over it.
     #[inline(never)]
     pub(crate) fn new_root(&mut self, pc: u32, code: &Code, fields: u32) -> Act
         ensures { Does (new_root code.now fields) pc self.old self.new result }
@@ -88,6 +91,7 @@ impl Running {
         }
     }
 
+    /// Replaces a colour on top by the region that the partition in a slot has for it.
     #[inline(never)]
     pub(crate) fn child(&mut self, pc: u32, slot: u32, line: u32) -> Result<Act, AllocError>
         ensures { IfOk result (Does (child slot line) pc self.old self.new) }

@@ -94,6 +94,7 @@ pub(crate) fn same_width(a: Width, b: Width) -> bool
 }
 
 impl Running {
+    /// Replaces a pointer on top by the number of a field at its point.
     #[inline(never)]
     pub(crate) fn read(
         &mut self,
