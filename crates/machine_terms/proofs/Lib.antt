@@ -7,3 +7,4 @@ pub mod LoopHeads
 pub mod Fuel
 pub mod Ending
 pub mod Kept
+pub mod Tops

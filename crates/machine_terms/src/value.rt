@@ -1,6 +1,7 @@
 //! Values of slots and of the stack.
 
 ghost use Rattle.std.specs.Prelude.{◌≡◌, IfOk};
+ghost use Rattle.machine_terms.specs.declared.value.Value.TheVariants.{Number};
 
 use index_spaces::Ispace;
 use plain_values::{Sequence, Shared};
@@ -64,6 +65,17 @@ impl PartitionValue {
 }
 
 impl Value {
+    /// Puts a number in the value's place.
+    #[inline(always)]
+    pub fn set_number(&mut self, z: i64)
+        ensures { self.new ≡ Number z }
+    {
+        match self {
+            Value::Number(old) => *old = z,
+            other => replace(other, z),
+        }
+    }
+
     /// A second value that is the same. What a region or partition holds is shared.
     pub fn copy(&self) -> Result<Value, AllocError>
         ensures { IfOk result (λ r. r ≡ self.now) }
@@ -76,4 +88,13 @@ impl Value {
             Value::Pending(child) => Ok(Value::Pending(*child)),
         }
     }
+}
+
+/// Drops a value, and puts a number in its place.
+#[cold]
+#[inline(never)]
+fn replace(value: &mut Value, z: i64)
+    ensures { value.new ≡ Number z }
+{
+    *value = Value::Number(z);
 }

@@ -49,6 +49,7 @@ impl Running {
         Ok(self.stop_at(next, Yield::Calls(calls)))
     }
 
+    /// Pops the arguments of a task, and yields the call.
     #[inline(never)]
     pub(crate) fn call(
         &mut self,
@@ -72,6 +73,7 @@ impl Running {
         }
     }
 
+    /// Pops the numbers of a print, and writes its text behind what was printed before.
     #[inline(never)]
     pub(crate) fn print(&mut self, pc: u32, parts: &Sequence<PrintPart>) -> Result<Act, AllocError>
         ensures { IfOk result (Does (print parts.now) pc self.old self.new) }
@@ -89,6 +91,7 @@ impl Running {
         }
     }
 
+    /// Pops a truth, and is a fault where it is 0.
     pub(crate) fn assert(&mut self, pc: u32, line: u32) -> Act
         ensures { Does (assert line) pc self.old self.new result }
     {
@@ -99,12 +102,14 @@ impl Running {
         }
     }
 
+    /// Ends the task instance without a value.
     pub(crate) fn end(&mut self, pc: u32) -> Act
         ensures { Does (stops (End None)) pc self.old self.new result }
     {
         self.stop_at(pc, Yield::End(None))
     }
 
+    /// Pops a number, and ends the task instance with it.
     pub(crate) fn end_with(&mut self, pc: u32) -> Act
         ensures { Does end_with pc self.old self.new result }
     {

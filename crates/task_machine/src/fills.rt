@@ -81,6 +81,7 @@ impl Holdings {
 }
 
 impl Running {
+    /// Pops a number, and writes it to a field at each point of the region in a slot.
     #[inline(never)]
     pub(crate) fn fill(
         &mut self,
@@ -91,7 +92,7 @@ impl Running {
     ) -> Result<Act, AllocError>
         ensures { IfOk result (Does (fill slot field width) pc self.old self.new) }
     {
-        let Some(region) = region_in(&self.frame.slots, slot) else {
+        let Some(region) = region_in(&self.slots, slot) else {
             return Ok(Act::broken());
         };
         let Some(z) = self.frame.stack.pop_number() else {
@@ -102,7 +103,7 @@ impl Running {
             None => Ok(Act::Next),
             Some(Lack::Refused) => Ok(Act::broken()),
             Some(Lack::Missing) => {
-                self.frame.stack.push(Value::Number(z))?;
+                self.frame.stack.push_number(z)?;
                 Ok(self.stop_at(pc, Yield::Want { root, field }))
             }
         }

@@ -96,6 +96,7 @@ impl Holdings {
     }
 
     /// What stands at a point of a root's field.
+    #[inline(always)]
     pub(crate) fn find(&mut self, root: RootId, field: u8, point: u32) -> Result<Element, Lack>
         ensures same { self.new ≡ self.old }
         ensures ok { IfOk result (λ e. find self.old.needs self.old.parts root.0 field point
@@ -116,6 +117,7 @@ impl Holdings {
     }
 
     /// The place of the part of a root's field, which may be known from before.
+    #[inline(always)]
     fn place(&mut self, root: RootId, field: u8) -> Result<usize, Lack>
         ensures same { self.new ≡ self.old }
         ensures needed { IfOk result (λ _. is_needed self.old.needs root.0 field ≡ true) }
@@ -136,6 +138,7 @@ impl Holdings {
     }
 
     /// The place of the part of a root's field, where it was found last.
+    #[inline(always)]
     fn known(&self, root: RootId, field: u8) -> Option<usize>
         ensures needed { IfSome result (λ _. is_needed self.now.needs root.0 field ≡ true) }
         ensures place { IfSome result (λ k.
@@ -171,6 +174,7 @@ impl Holdings {
     }
 
     /// Puts a number in the place of another.
+    #[inline(always)]
     pub(crate) fn put(&mut self, spot: Spot, value: i64)
         ensures needs { self.new.needs ≡ self.old.needs }
         ensures parts { self.new.parts ≡ put_at self.old.parts spot value }
@@ -225,6 +229,7 @@ fn place_of_part(parts: &[Part], root: RootId, field: u8) -> Option<usize>
 }
 
 /// A point's number in a part, whose place is given.
+#[inline(always)]
 pub(crate) fn find_in(part: &Part, place: usize, point: u32) -> Option<Element>
     ensures some { IfSome result (λ e.
         cell_at part.now.pieces point ≡ Some (record { mode = e.mode; value = e.value })) }
@@ -250,6 +255,7 @@ pub(crate) fn find_in(part: &Part, place: usize, point: u32) -> Option<Element>
 }
 
 /// A point's number in the first piece that has the point.
+#[inline(always)]
 fn entry_of(pieces: &[Piece], point: u32) -> Option<Entry>
     ensures some { IfSome result (λ e.
         cell_at pieces.now point ≡ Some (record { mode = e.mode; value = e.value })) }
@@ -272,6 +278,7 @@ fn entry_of(pieces: &[Piece], point: u32) -> Option<Entry>
 }
 
 /// The place of a point in a piece, and its number.
+#[inline(always)]
 fn number_in(piece: &Piece, point: u32) -> Option<(usize, i64)>
     ensures some { IfSome result (λ r.
         value_beside piece.now.points piece.now.values point ≡ Some r.1) }
@@ -294,6 +301,7 @@ fn number_in(piece: &Piece, point: u32) -> Option<(usize, i64)>
 }
 
 /// The number at a place of a piece.
+#[inline(always)]
 fn value_at(piece: &Piece, place: usize) -> Option<i64>
     ensures { result ≡ slice_get piece.now.values place }
 {
@@ -304,6 +312,7 @@ fn value_at(piece: &Piece, place: usize) -> Option<i64>
 }
 
 /// Puts a number in the place of another, in the pieces of a part.
+#[inline(always)]
 fn put_in(alloc: Global, pieces: &mut Sequence<Piece>, spot: Spot, value: i64)
     ensures { pieces.new ≡ put_in_pieces pieces.old spot.piece spot.place value }
 {
@@ -315,6 +324,7 @@ fn put_in(alloc: Global, pieces: &mut Sequence<Piece>, spot: Spot, value: i64)
 }
 
 /// Puts a number in the place of another, in a piece.
+#[inline(always)]
 fn put_in_piece(piece: &mut Piece, place: usize, value: i64)
     ensures points { piece.new.points ≡ piece.old.points }
     ensures mode { piece.new.mode ≡ piece.old.mode }

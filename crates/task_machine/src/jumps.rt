@@ -28,7 +28,7 @@ fn turns_back(from: u32, instr: &Instr) -> bool
 
 /// Whether a jump may go from a place to another.
 #[inline(always)]
-fn may_jump(body: &[Line], from: u32, to: u32) -> bool
+pub(crate) fn may_jump(body: &[Line], from: u32, to: u32) -> bool
     ensures { result ≡ may_jump body.now from to }
 {
     if from < to {
@@ -41,6 +41,7 @@ fn may_jump(body: &[Line], from: u32, to: u32) -> bool
 }
 
 impl Running {
+    /// Goes to a place, where a jump may go there.
     #[inline(always)]
     pub(crate) fn jump(&mut self, body: &[Line], pc: u32, to: u32) -> Act
         ensures { Does (λ m. jump body.now to m.frame.stack m) pc self.old self.new result }
@@ -52,6 +53,7 @@ impl Running {
         }
     }
 
+    /// Pops a number, and jumps on 0.
     #[inline(always)]
     pub(crate) fn jump_if_not(&mut self, body: &[Line], pc: u32, to: u32) -> Act
         ensures { Does (jump_if_not body.now to) pc self.old self.new result }
@@ -66,6 +68,7 @@ impl Running {
         }
     }
 
+    /// Pops a number; on 0 it pushes 0 and jumps.
     pub(crate) fn and_jump(&mut self, body: &[Line], pc: u32, to: u32) -> Result<Act, AllocError>
         ensures { IfOk result (Does (and_jump body.now to) pc self.old self.new) }
     {
@@ -75,10 +78,11 @@ impl Running {
         if z != 0 {
             return Ok(Act::Next);
         }
-        self.frame.stack.push(Value::Number(0))?;
+        self.frame.stack.push_number(0)?;
         Ok(self.jump(body, pc, to))
     }
 
+    /// Pops a number; on another than 0 it pushes 1 and jumps.
     pub(crate) fn or_jump(&mut self, body: &[Line], pc: u32, to: u32) -> Result<Act, AllocError>
         ensures { IfOk result (Does (or_jump body.now to) pc self.old self.new) }
     {
@@ -88,10 +92,11 @@ impl Running {
         if z == 0 {
             return Ok(Act::Next);
         }
-        self.frame.stack.push(Value::Number(1))?;
+        self.frame.stack.push_number(1)?;
         Ok(self.jump(body, pc, to))
     }
 
+    /// Takes a turn.
     #[inline(always)]
     pub(crate) fn turn(&mut self, pc: u32, line: u32) -> Act
         ensures { Does (turn line) pc self.old self.new result }
@@ -118,7 +123,7 @@ impl Running {
     /// Takes a turn for the next round of a loop: its variable gets a number, and its counter is raised.
     #[inline(always)]
     fn round(&mut self, pc: u32, counter: u32, variable: u32, z: i64, count: i64, line: u32) -> Act
-        requires slot { counter < length self.old.frame.slots }
+        requires slot { counter < length self.old.slots }
         requires room { count <ℤ pos (2 ^ 63 - 1) }
         ensures { Does (λ m. on_turn m.frame.turns line m (round counter variable z count))
             pc self.old self.new result }
@@ -127,16 +132,15 @@ impl Running {
             return Act::fault(FaultKind::Turns, line);
         }
         self.frame.turns -= 1;
-        if variable as usize >= self.frame.slots.len() {
+        if variable as usize >= self.slots.len() {
             return Act::broken();
         }
-        self.frame.slots.set(variable as usize, Value::Number(z));
-        self.frame
-            .slots
-            .set(counter as usize, Value::Number(count + 1));
+        self.slots.set_number(variable, z);
+        self.slots.set_number(counter, count + 1);
         Act::Next
     }
 
+    /// The head of a loop over numbers: the next round, or its exit.
     #[inline(always)]
     pub(crate) fn next_number(
         &mut self,
@@ -149,7 +153,7 @@ impl Running {
     ) -> Act
         ensures { Does (next_number counter limit variable exit line) pc self.old self.new result }
     {
-        let slots = self.frame.slots.as_slice();
+        let slots = self.slots.as_slice();
         let (Some(Value::Number(i)), Some(Value::Number(n))) = (
             slots.get(counter as usize),
             slots.get(limit as usize),
@@ -164,6 +168,7 @@ impl Running {
         }
     }
 
+    /// The head of a loop over the points of a space or region: the next round, or its exit.
     #[tactic(auto, using(crate::proofs::Rounds::next_point_by))]
     #[inline(never)]
     pub(crate) fn next_point(
@@ -178,7 +183,7 @@ impl Running {
     ) -> Act
         ensures { Does (next_point domain counter variable pointer exit line) pc self.old self.new result }
     {
-        let slots = self.frame.slots.as_slice();
+        let slots = self.slots.as_slice();
         let (Some(domain), Some(Value::Number(count))) = (
             slots.get(domain as usize),
             slots.get(counter as usize),

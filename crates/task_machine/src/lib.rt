@@ -6,6 +6,7 @@ mod calls;
 mod columns;
 mod copies;
 mod fills;
+mod frequent;
 mod holdings;
 mod jumps;
 mod numbers;
@@ -15,6 +16,7 @@ mod points;
 mod regions;
 mod running;
 mod segment;
+mod slots;
 mod steps;
 #[cfg(test)]
 mod tests;

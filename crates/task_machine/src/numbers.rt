@@ -25,11 +25,12 @@ impl Running {
         Ok(Act::Next)
     }
 
+    /// Pushes the value of a slot; of a child that is pending there the value is awaited.
     #[inline(always)]
     pub(crate) fn load(&mut self, pc: u32, slot: u32) -> Result<Act, AllocError>
         ensures { IfOk result (Does (λ m. load m (slice_get m.frame.slots slot)) pc self.old self.new) }
     {
-        match self.frame.slots.as_slice().get(slot as usize) {
+        match self.slots.as_slice().get(slot as usize) {
             None => Ok(Act::broken()),
             Some(Value::Pending(child)) => {
                 let child = *child;
@@ -42,6 +43,7 @@ impl Running {
         }
     }
 
+    /// Pops into a slot.
     #[inline(always)]
     pub(crate) fn store(&mut self, pc: u32, slot: u32) -> Act
         ensures { Does (λ m. store slot m.frame.stack m) pc self.old self.new result }
@@ -49,13 +51,14 @@ impl Running {
         let Some(value) = self.frame.stack.pop() else {
             return Act::broken();
         };
-        if slot as usize >= self.frame.slots.len() {
+        if slot as usize >= self.slots.len() {
             return Act::broken();
         }
-        self.frame.slots.set(slot as usize, value);
+        self.slots.set(slot, value);
         Act::Next
     }
 
+    /// Pops.
     pub(crate) fn discard(&mut self, pc: u32) -> Act
         ensures { Does (λ m. discard m.frame.stack m) pc self.old self.new result }
     {
@@ -65,6 +68,7 @@ impl Running {
         }
     }
 
+    /// Pops two numbers, the right one first, and pushes what an operator makes of them.
     #[inline(always)]
     pub(crate) fn arithmetic(
         &mut self,
@@ -83,13 +87,14 @@ impl Running {
         };
         match compute(operator, width, a, b) {
             Some(z) => {
-                self.frame.stack.push(Value::Number(z))?;
+                self.frame.stack.push_number(z)?;
                 Ok(Act::Next)
             }
             None => Ok(Act::fault(FaultKind::DivideByZero, line)),
         }
     }
 
+    /// Pops two numbers, the right one first, and pushes whether they compare so.
     #[inline(always)]
     pub(crate) fn comparison(&mut self, pc: u32, kind: Comparison) -> Result<Act, AllocError>
         ensures { IfOk result (Does (comparison kind) pc self.old self.new) }
@@ -101,10 +106,11 @@ impl Running {
             return Ok(Act::broken());
         };
         let truth = kept_truth(compare(kind, a, b));
-        self.frame.stack.push(Value::Number(truth))?;
+        self.frame.stack.push_number(truth)?;
         Ok(Act::Next)
     }
 
+    /// Replaces the number on top by its negative at a width.
     pub(crate) fn negate(&mut self, pc: u32, width: Width) -> Result<Act, AllocError>
         ensures { IfOk result (Does (replaced (negated width)) pc self.old self.new) }
     {
@@ -112,10 +118,11 @@ impl Running {
             return Ok(Act::broken());
         };
         let z = negate(width, z);
-        self.frame.stack.push(Value::Number(z))?;
+        self.frame.stack.push_number(z)?;
         Ok(Act::Next)
     }
 
+    /// Replaces the number on top by what is left of it at a width.
     #[inline(always)]
     pub(crate) fn wrap(&mut self, pc: u32, width: Width) -> Result<Act, AllocError>
         ensures { IfOk result (Does (replaced (wrapped width)) pc self.old self.new) }
@@ -124,10 +131,11 @@ impl Running {
             return Ok(Act::broken());
         };
         let z = width.wrap(z);
-        self.frame.stack.push(Value::Number(z))?;
+        self.frame.stack.push_number(z)?;
         Ok(Act::Next)
     }
 
+    /// Replaces 0 on top by 1, and each other number by 0.
     pub(crate) fn invert(&mut self, pc: u32) -> Result<Act, AllocError>
         ensures { IfOk result (Does (replaced inverted) pc self.old self.new) }
     {
@@ -135,7 +143,7 @@ impl Running {
             return Ok(Act::broken());
         };
         let truth = kept_truth(z == 0);
-        self.frame.stack.push(Value::Number(truth))?;
+        self.frame.stack.push_number(truth)?;
         Ok(Act::Next)
     }
 }

@@ -67,12 +67,13 @@ impl Running {
         )
     }
 
+    /// Pops a colour space, and has the region in a slot divided in blocks.
     #[inline(never)]
     pub(crate) fn equal(&mut self, pc: u32, slot: u32, line: u32) -> Result<Act, AllocError>
         ensures { IfOk result (Does (equal slot line) pc self.old self.new) }
     {
         let alloc = self.held.allocator();
-        let Some(region) = region_in(&self.frame.slots, slot) else {
+        let Some(region) = region_in(&self.slots, slot) else {
             return Ok(Act::broken());
         };
         let Some(colours) = self.frame.stack.pop_space() else {
@@ -86,6 +87,7 @@ impl Running {
         Ok(self.make(pc, region, sets, disjoint))
     }
 
+    /// Has the partition made of what two partitions share, colour by colour.
     #[inline(never)]
     pub(crate) fn meet(
         &mut self,
@@ -97,13 +99,13 @@ impl Running {
         ensures { IfOk result (Does (meet first second slot) pc self.old self.new) }
     {
         let alloc = self.held.allocator();
-        let Some(p) = partition_in(&self.frame.slots, first) else {
+        let Some(p) = partition_in(&self.slots, first) else {
             return Ok(Act::broken());
         };
-        let Some(q) = partition_in(&self.frame.slots, second) else {
+        let Some(q) = partition_in(&self.slots, second) else {
             return Ok(Act::broken());
         };
-        let Some(region) = region_in(&self.frame.slots, slot) else {
+        let Some(region) = region_in(&self.slots, slot) else {
             return Ok(Act::broken());
         };
         let region = region.copy()?;
@@ -113,6 +115,7 @@ impl Running {
         Ok(self.make(pc, region, sets, disjoint))
     }
 
+    /// Has the partition made of what either of two partitions has, colour by colour.
     #[inline(never)]
     pub(crate) fn join(
         &mut self,
@@ -124,13 +127,13 @@ impl Running {
         ensures { IfOk result (Does (join first second slot) pc self.old self.new) }
     {
         let alloc = self.held.allocator();
-        let Some(p) = partition_in(&self.frame.slots, first) else {
+        let Some(p) = partition_in(&self.slots, first) else {
             return Ok(Act::broken());
         };
-        let Some(q) = partition_in(&self.frame.slots, second) else {
+        let Some(q) = partition_in(&self.slots, second) else {
             return Ok(Act::broken());
         };
-        let Some(region) = region_in(&self.frame.slots, slot) else {
+        let Some(region) = region_in(&self.slots, slot) else {
             return Ok(Act::broken());
         };
         let region = region.copy()?;
@@ -139,6 +142,7 @@ impl Running {
         Ok(self.make(pc, region, sets, disjoint))
     }
 
+    /// Has the partition made of what one partition has and another lacks, colour by colour.
     #[inline(never)]
     pub(crate) fn minus(
         &mut self,
@@ -150,13 +154,13 @@ impl Running {
         ensures { IfOk result (Does (minus first second slot) pc self.old self.new) }
     {
         let alloc = self.held.allocator();
-        let Some(p) = partition_in(&self.frame.slots, first) else {
+        let Some(p) = partition_in(&self.slots, first) else {
             return Ok(Act::broken());
         };
-        let Some(q) = partition_in(&self.frame.slots, second) else {
+        let Some(q) = partition_in(&self.slots, second) else {
             return Ok(Act::broken());
         };
-        let Some(region) = region_in(&self.frame.slots, slot) else {
+        let Some(region) = region_in(&self.slots, slot) else {
             return Ok(Act::broken());
         };
         let region = region.copy()?;
@@ -165,6 +169,7 @@ impl Running {
         Ok(self.make(pc, region, sets, disjoint))
     }
 
+    /// Pops a colour space, and has the region in a slot divided by the numbers of a field.
     #[inline(never)]
     pub(crate) fn by_field(
         &mut self,
@@ -176,7 +181,7 @@ impl Running {
         ensures { IfOk result (Does (by_field slot field line) pc self.old self.new) }
     {
         let alloc = self.held.allocator();
-        let Some(region) = region_in(&self.frame.slots, slot) else {
+        let Some(region) = region_in(&self.slots, slot) else {
             return Ok(Act::broken());
         };
         let Some(colours) = self.frame.stack.pop_space() else {
@@ -202,6 +207,7 @@ impl Running {
         }
     }
 
+    /// Has the partition made of the points to which a field points from those of each colour.
     #[inline(never)]
     pub(crate) fn image(
         &mut self,
@@ -214,13 +220,13 @@ impl Running {
         ensures { IfOk result (Does (image slot divided through field) pc self.old self.new) }
     {
         let alloc = self.held.allocator();
-        let Some(parent) = region_in(&self.frame.slots, slot) else {
+        let Some(parent) = region_in(&self.slots, slot) else {
             return Ok(Act::broken());
         };
-        let Some(partition) = partition_in(&self.frame.slots, divided) else {
+        let Some(partition) = partition_in(&self.slots, divided) else {
             return Ok(Act::broken());
         };
-        let Some(region) = region_in(&self.frame.slots, through) else {
+        let Some(region) = region_in(&self.slots, through) else {
             return Ok(Act::broken());
         };
         let sets = sets_of(alloc, partition)?;
@@ -248,6 +254,7 @@ impl Running {
         }
     }
 
+    /// Has the partition made of the points from which a field points to those of each colour.
     #[inline(never)]
     pub(crate) fn preimage(
         &mut self,
@@ -260,13 +267,13 @@ impl Running {
         ensures { IfOk result (Does (preimage slot divided through field) pc self.old self.new) }
     {
         let alloc = self.held.allocator();
-        let Some(parent) = region_in(&self.frame.slots, slot) else {
+        let Some(parent) = region_in(&self.slots, slot) else {
             return Ok(Act::broken());
         };
-        let Some(partition) = partition_in(&self.frame.slots, divided) else {
+        let Some(partition) = partition_in(&self.slots, divided) else {
             return Ok(Act::broken());
         };
-        let Some(region) = region_in(&self.frame.slots, through) else {
+        let Some(region) = region_in(&self.slots, through) else {
             return Ok(Act::broken());
         };
         let (points, among) = (parent.points.get(), region.points.get());

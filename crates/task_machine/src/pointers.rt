@@ -15,6 +15,7 @@ ghost use Rattle.machine_terms.specs.Pointers.{region_slot, regions_in};
 
 use crate::arithmetic::kept_truth;
 use crate::running::{Act, Running};
+use crate::slots::Slots;
 use machine_terms::{RegionValue, Value};
 use plain_values::Sequence;
 use point_sets::PointSet;
@@ -63,7 +64,7 @@ pub(crate) fn are_same(a: i64, b: i64) -> bool
 }
 
 /// The region in a slot.
-pub(crate) fn region_in(slots: &Sequence<Value>, slot: u32) -> Option<&RegionValue>
+pub(crate) fn region_in(slots: &Slots, slot: u32) -> Option<&RegionValue>
     ensures some { IfSome result (λ r. region_in (slice_get slots.now slot) ≡ Some r.now) }
     ensures none { IfNone result (region_in (slice_get slots.now slot) ≡ None) }
 {
@@ -75,7 +76,7 @@ pub(crate) fn region_in(slots: &Sequence<Value>, slot: u32) -> Option<&RegionVal
 
 /// The point of a number, where a set holds it.
 #[tactic(auto, using(crate::proofs::Casting::none_held_below, crate::proofs::Casting::none_held_past))]
-fn held_point(points: &PointSet, number: i64) -> Option<u32>
+pub(crate) fn held_point(points: &PointSet, number: i64) -> Option<u32>
     ensures some { IfSome result (λ n. (number ≡ pos n) × (has points.now n ≡ true)) }
     ensures none { IfNone result (holds points.now number ≡ false) }
 {
@@ -122,7 +123,7 @@ fn cast_on(
 /// The number that is kept of the pointer to a number's point through the first region of some slots
 /// that holds it; None where a slot has no region.
 #[tactic(auto, using(crate::proofs::Casting::cast_step))]
-fn cast_to(slots: &Sequence<Value>, regions: &[u32], number: i64) -> Result<Option<i64>, AllocError>
+fn cast_to(slots: &Slots, regions: &[u32], number: i64) -> Result<Option<i64>, AllocError>
     ensures { IfOk result (λ r. r ≡ cast_from None 0 (regions_in slots.now regions.now) number) }
 {
     let mut found = None;
@@ -156,6 +157,7 @@ fn number_to_cast(kept: i64) -> i64
 }
 
 impl Running {
+    /// Replaces a pointer on top by its point.
     #[inline(never)]
     pub(crate) fn point(&mut self, pc: u32, line: u32) -> Result<Act, AllocError>
         ensures { IfOk result (Does (λ m. on_number m.frame.stack m
@@ -166,13 +168,14 @@ impl Running {
         };
         match Pointer::kept(z) {
             Some(p) => {
-                self.frame.stack.push(Value::Number(i64::from(p.point)))?;
+                self.frame.stack.push_number(i64::from(p.point))?;
                 Ok(Act::Next)
             }
             None => Ok(Act::fault(FaultKind::NullPointer, line)),
         }
     }
 
+    /// Replaces a pointer on top by whether it is null.
     #[inline(never)]
     pub(crate) fn is_null(&mut self, pc: u32) -> Result<Act, AllocError>
         ensures { IfOk result (Does (replaced is_null) pc self.old self.new) }
@@ -181,10 +184,11 @@ impl Running {
             return Ok(Act::broken());
         };
         let truth = kept_truth(Pointer::kept(z).is_none());
-        self.frame.stack.push(Value::Number(truth))?;
+        self.frame.stack.push_number(truth)?;
         Ok(Act::Next)
     }
 
+    /// Pops two pointers, and pushes whether both are null or have the same point.
     #[inline(never)]
     pub(crate) fn same_pointers(&mut self, pc: u32) -> Result<Act, AllocError>
         ensures { IfOk result (Does (compare (λ b. b)) pc self.old self.new) }
@@ -196,10 +200,11 @@ impl Running {
             return Ok(Act::broken());
         };
         let truth = kept_truth(are_same(a, b));
-        self.frame.stack.push(Value::Number(truth))?;
+        self.frame.stack.push_number(truth)?;
         Ok(Act::Next)
     }
 
+    /// Pops two pointers, and pushes whether that is not so.
     #[inline(never)]
     pub(crate) fn other_pointers(&mut self, pc: u32) -> Result<Act, AllocError>
         ensures { IfOk result (Does (compare not) pc self.old self.new) }
@@ -211,10 +216,11 @@ impl Running {
             return Ok(Act::broken());
         };
         let truth = kept_truth(!are_same(a, b));
-        self.frame.stack.push(Value::Number(truth))?;
+        self.frame.stack.push_number(truth)?;
         Ok(Act::Next)
     }
 
+    /// Gives a pointer on top the position that stands in a list at its old one.
     #[inline(never)]
     pub(crate) fn move_pointer(&mut self, pc: u32, places: &Sequence<u8>) -> Result<Act, AllocError>
         ensures { IfOk result (Does (λ m. on_number m.frame.stack m
@@ -235,10 +241,11 @@ impl Running {
                 Pointer { point, position }.number()
             }
         };
-        self.frame.stack.push(Value::Number(moved))?;
+        self.frame.stack.push_number(moved)?;
         Ok(Act::Next)
     }
 
+    /// Replaces a number on top by the pointer to its point through the region in a slot.
     pub(crate) fn element(&mut self, pc: u32, slot: u32, line: u32) -> Result<Act, AllocError>
         ensures { IfOk result (Does (λ m. on_number m.frame.stack m
             (λ z st. element (region_slot m slot) z line st m)) pc self.old self.new) }
@@ -246,7 +253,7 @@ impl Running {
         let Some(z) = self.frame.stack.pop_number() else {
             return Ok(Act::broken());
         };
-        let Some(region) = region_in(&self.frame.slots, slot) else {
+        let Some(region) = region_in(&self.slots, slot) else {
             return Ok(Act::broken());
         };
         let Some(point) = held_point(region.points.get(), z) else {
@@ -254,10 +261,11 @@ impl Running {
         };
         let position = 1;
         let pointer = Pointer { point, position }.number();
-        self.frame.stack.push(Value::Number(pointer))?;
+        self.frame.stack.push_number(pointer)?;
         Ok(Act::Next)
     }
 
+    /// Replaces a number on top by the pointer to its point through the first of some regions that has it.
     #[inline(never)]
     pub(crate) fn cast(&mut self, pc: u32, regions: &Sequence<u32>) -> Result<Act, AllocError>
         ensures { IfOk result (Does (λ m. on_number m.frame.stack m
@@ -266,13 +274,14 @@ impl Running {
         let Some(z) = self.frame.stack.pop_number() else {
             return Ok(Act::broken());
         };
-        let Some(kept) = cast_to(&self.frame.slots, regions.as_slice(), z)? else {
+        let Some(kept) = cast_to(&self.slots, regions.as_slice(), z)? else {
             return Ok(Act::broken());
         };
-        self.frame.stack.push(Value::Number(kept))?;
+        self.frame.stack.push_number(kept)?;
         Ok(Act::Next)
     }
 
+    /// Does the same with the point of a pointer on top.
     #[tactic(auto, using(crate::proofs::Casting::cast_pointer_is))]
     #[inline(never)]
     pub(crate) fn cast_pointer(
@@ -288,10 +297,10 @@ impl Running {
             return Ok(Act::broken());
         };
         let number = number_to_cast(z);
-        let Some(kept) = cast_to(&self.frame.slots, regions.as_slice(), number)? else {
+        let Some(kept) = cast_to(&self.slots, regions.as_slice(), number)? else {
             return Ok(Act::broken());
         };
-        self.frame.stack.push(Value::Number(kept))?;
+        self.frame.stack.push_number(kept)?;
         Ok(Act::Next)
     }
 }

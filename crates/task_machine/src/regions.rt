@@ -7,6 +7,7 @@ ghost use Rattle.machine_terms.specs.Regions.{child, colors, coloured, new_root}
 ghost use Rattle.machine_terms.specs.Regions.{partition_in, space};
 
 use crate::running::{Act, Running};
+use crate::slots::Slots;
 use index_spaces::Ispace;
 use machine_terms::{Made, PartitionValue, RegionValue, Value, Yield};
 use plain_values::Sequence;
@@ -15,7 +16,7 @@ use std::alloc::AllocError;
 use task_code::Code;
 
 /// The partition in a slot.
-pub(crate) fn partition_in(slots: &Sequence<Value>, slot: u32) -> Option<&PartitionValue>
+pub(crate) fn partition_in(slots: &Slots, slot: u32) -> Option<&PartitionValue>
     ensures some { IfSome result (λ p. partition_in (slice_get slots.now slot) ≡ Some p.now) }
     ensures none { IfNone result (partition_in (slice_get slots.now slot) ≡ None) }
 {
@@ -37,6 +38,7 @@ fn coloured(children: &Sequence<RegionValue>, number: i64) -> Option<&RegionValu
 }
 
 impl Running {
+    /// Replaces a number on top by the index space of so many points.
     #[inline(never)]
     pub(crate) fn space(&mut self, pc: u32, line: u32) -> Result<Act, AllocError>
         ensures { IfOk result (Does (λ m. on_number m.frame.stack m
@@ -55,11 +57,12 @@ impl Running {
         }
     }
 
+    /// Pushes the colour space of the partition in a slot.
     #[inline(never)]
     pub(crate) fn colors(&mut self, pc: u32, slot: u32) -> Result<Act, AllocError>
         ensures { IfOk result (Does (colors slot) pc self.old self.new) }
     {
-        let Some(partition) = partition_in(&self.frame.slots, slot) else {
+        let Some(partition) = partition_in(&self.slots, slot) else {
             return Ok(Act::broken());
         };
         let count = partition.children.get().len();
@@ -72,6 +75,7 @@ impl Running {
         self.push(pc, Value::Space(space))
     }
 
+    /// Pops an index space, and has a root made over it.
     #[inline(never)]
     pub(crate) fn new_root(&mut self, pc: u32, code: &Code, fields: u32) -> Act
         ensures { Does (new_root code.now fields) pc self.old self.new result }
@@ -87,11 +91,12 @@ impl Running {
         }
     }
 
+    /// Replaces a colour on top by the region that the partition in a slot has for it.
     #[inline(never)]
     pub(crate) fn child(&mut self, pc: u32, slot: u32, line: u32) -> Result<Act, AllocError>
         ensures { IfOk result (Does (child slot line) pc self.old self.new) }
     {
-        let Some(partition) = partition_in(&self.frame.slots, slot) else {
+        let Some(partition) = partition_in(&self.slots, slot) else {
             return Ok(Act::broken());
         };
         let Some(z) = self.frame.stack.pop_number() else {

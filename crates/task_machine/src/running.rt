@@ -7,16 +7,18 @@ ghost use Rattle.task_machine.specs.declared.running.Act.TheVariants as act;
 ghost use Rattle.task_machine.specs.declared.running.Act.TheVariants.{Broken, Stop};
 
 use crate::holdings::Holdings;
+use crate::slots::Slots;
 use machine_terms::{Frame, Yield};
 use plain_values::Sequence;
 use regent_tree::{Fault, FaultKind};
 use std::alloc::Global;
 
 /// A frame that runs on the parts that it holds. While it runs, the place of its instruction stands
-/// beside it, and its needs stand with the parts.
+/// beside it, its needs stand with the parts, and its slots by themselves.
 #[derive(Drop)]
 pub(crate) struct Running {
     pub(crate) frame: Frame,
+    pub(crate) slots: Slots,
     pub(crate) held: Holdings,
     pub(crate) text: Sequence<u8>,
     /// What the segment yields, where it has stopped to go on later, or has ended.

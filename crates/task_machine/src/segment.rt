@@ -7,6 +7,7 @@ ghost use Rattle.machine_terms.specs.Segments.{frame_after, segment};
 use crate::copies::copy_parts;
 use crate::holdings::Holdings;
 use crate::running::Running;
+use crate::slots::Slots;
 use machine_terms::{After, Before, Frame, Ran, Yield};
 use plain_values::{Sequence, Shared};
 use region_tree::{Needs, Part};
@@ -57,8 +58,10 @@ impl Running {
             items: Sequence::new(alloc),
         };
         let needs = mem::replace(&mut frame.needs, none);
+        let slots = mem::replace(&mut frame.slots, Sequence::new(alloc));
         Running {
             frame,
+            slots: Slots::new(slots),
             held: Holdings::new(needs, parts),
             text: Sequence::new(alloc),
             ends: None,
@@ -74,7 +77,7 @@ impl Running {
         let Some(task) = code.tasks.as_slice().get(self.frame.task as usize) else {
             return Ok(Yield::MachineFault);
         };
-        if self.frame.slots.len() != task.slots as usize {
+        if self.slots.len() != task.slots as usize {
             return Ok(Yield::MachineFault);
         }
         match self.frame.later {
@@ -89,13 +92,22 @@ impl Running {
     {
         let Running {
             frame,
+            slots,
             held,
             text,
             ends: _ends,
             alloc: _alloc,
         } = self;
         let (needs, parts) = held.into_parts();
-        let frame = kept_frame(&ends, Frame { needs, ..frame });
+        let slots = slots.into_sequence();
+        let frame = kept_frame(
+            &ends,
+            Frame {
+                slots,
+                needs,
+                ..frame
+            },
+        );
         After {
             frame,
             parts,

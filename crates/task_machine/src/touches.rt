@@ -12,6 +12,7 @@ ghost use Rattle.machine_terms.specs.Pointers.{aim_through, read, same_width, se
 use crate::holdings::Lack;
 use crate::pointers::{Pointer, region_in};
 use crate::running::{Act, Running};
+use crate::slots::Slots;
 use lane_kernels::{Mode, Op, Width};
 use machine_terms::{Value, Yield};
 use plain_values::Sequence;
@@ -27,7 +28,8 @@ pub(crate) enum Aim {
     Nowhere,
 }
 
-fn aim_through(slots: &Sequence<Value>, regions: &Sequence<u32>, number: i64) -> Aim
+#[inline(always)]
+pub(crate) fn aim_through(slots: &Slots, regions: &Sequence<u32>, number: i64) -> Aim
     ensures { aimed result ≡ aim_through slots.now regions.now (target_kept number) }
 {
     let Some(pointer) = Pointer::kept(number) else {
@@ -50,7 +52,8 @@ fn aim_through(slots: &Sequence<Value>, regions: &Sequence<u32>, number: i64) ->
 }
 
 /// The number that takes the place of one that is held in a mode, where an access allows it.
-fn written(access: Mode, held: Mode, width: Width, old: i64, number: i64) -> Option<i64>
+#[inline(always)]
+pub(crate) fn written(access: Mode, held: Mode, width: Width, old: i64, number: i64) -> Option<i64>
     ensures { result ≡ written access held width old number }
 {
     match (access, held) {
@@ -91,6 +94,7 @@ pub(crate) fn same_width(a: Width, b: Width) -> bool
 }
 
 impl Running {
+    /// Replaces a pointer on top by the number of a field at its point.
     #[inline(never)]
     pub(crate) fn read(
         &mut self,
@@ -104,7 +108,7 @@ impl Running {
         let Some(z) = self.frame.stack.pop_number() else {
             return Ok(Act::broken());
         };
-        match aim_through(&self.frame.slots, regions, z) {
+        match aim_through(&self.slots, regions, z) {
             Aim::Nowhere => Ok(Act::broken()),
             Aim::Fails(kind) => Ok(Act::fault(kind, line)),
             Aim::At(root, point) => match self.held.find(root, field, point) {
@@ -112,12 +116,12 @@ impl Running {
                     if let Mode::Reduce(_) = element.mode {
                         return Ok(Act::broken());
                     }
-                    self.frame.stack.push(Value::Number(element.value))?;
+                    self.frame.stack.push_number(element.value)?;
                     Ok(Act::Next)
                 }
                 Err(Lack::Refused) => Ok(Act::broken()),
                 Err(Lack::Missing) => {
-                    self.frame.stack.push(Value::Number(z))?;
+                    self.frame.stack.push_number(z)?;
                     Ok(self.stop_at(pc, Yield::Want { root, field }))
                 }
             },
@@ -144,7 +148,7 @@ impl Running {
         let Some(v) = self.frame.stack.pop_number() else {
             return Ok(Act::broken());
         };
-        match aim_through(&self.frame.slots, regions, p) {
+        match aim_through(&self.slots, regions, p) {
             Aim::Nowhere => Ok(Act::broken()),
             Aim::Fails(kind) => Ok(Act::fault(kind, line)),
             Aim::At(root, point) => match self.held.find(root, field, point) {
@@ -160,8 +164,8 @@ impl Running {
                 }
                 Err(Lack::Refused) => Ok(Act::broken()),
                 Err(Lack::Missing) => {
-                    self.frame.stack.push(Value::Number(v))?;
-                    self.frame.stack.push(Value::Number(p))?;
+                    self.frame.stack.push_number(v)?;
+                    self.frame.stack.push_number(p)?;
                     Ok(self.stop_at(pc, Yield::Want { root, field }))
                 }
             },

@@ -2,8 +2,24 @@ use Rattle.std.proofs.Common.{rules, refl, ap, sym, ◌∙◌, length}
 use Rattle.std.proofs.lemmas.Option.{slice_get_read}
 use Rattle.task_machine.proofs.Coming.{next_goes, jump_goes, broken_ends, fault_ends, stop_ends, last_ends}
 use Rattle.task_machine.specs.Acts.{shown_after}
+use Rattle.task_machine.specs.declared.running.Act.TheVariants.{Jump}
 use Rattle.machine_terms.specs.Segments.{after}
 use Rattle.task_machine.proofs.running.Running.run.Goals as goal
+
+pub loop-line-smaller-in-Some-act_at_once : goal.loop-line-smaller-in-Some-act_at_once
+loop-line-smaller-in-Some-act_at_once c =
+    (jump_goes c.args.code.now c.args.body.now c.loop-line.self c.act_at_once.new.self c.loop-line.pc c.in-Some.line.now
+    (Jump c.in-Some-act_at_once.to) (search rules)
+    (slice_get_read c.args.body.now (length c.args.body.now) c.loop-line.pc c.in-Some.line.now refl (search rules) (search rules))
+    (c.in-Some-act_at_once.ensures.done c.args.code.now) c.in-Some-act_at_once.to refl).fewer
+
+pub loop-line-preserved-in-Some-act_at_once : goal.loop-line-preserved-in-Some-act_at_once
+loop-line-preserved-in-Some-act_at_once c =
+    sym (jump_goes c.args.code.now c.args.body.now c.loop-line.self c.act_at_once.new.self c.loop-line.pc c.in-Some.line.now
+    (Jump c.in-Some-act_at_once.to) (search rules)
+    (slice_get_read c.args.body.now (length c.args.body.now) c.loop-line.pc c.in-Some.line.now refl (search rules) (search rules))
+    (c.in-Some-act_at_once.ensures.done c.args.code.now) c.in-Some-act_at_once.to refl).same
+    ∙ c.loop-line.invariant
 
 pub loop-line-smaller-in-Some-checked_add : goal.loop-line-smaller-in-Some-checked_add
 loop-line-smaller-in-Some-checked_add c =
