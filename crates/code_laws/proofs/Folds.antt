@@ -198,10 +198,13 @@ module _ (x : Setting) (params slots : ℕ) (fit : SlotsFit x slots) (counts : C
       ap (λ k. slice_set s.names place (a_number w k)) (that refl) ∙ ap (slice_set s.names place) (sym is)
       ∙ set-get_or s.names place nothing in
       subst (λ ns. Does x params slots aside (placed pc (machine.Number (pos 0) ∷ []) j) (suc (suc (suc pc))) h
-      (gives goes_on (record s { names = ns }))) (sym kept)
-      (j, leads_by x _ (placed (suc (suc (suc pc))) [] j) (instr.JumpIfNot (suc (suc (suc pc)))) h.line f.0
-      (ap (on_step x (placed pc (machine.Number (pos 0) ∷ []) j))
-      (jump_later x.body (suc (suc (suc pc))) [] (machine_of (placed pc (machine.Number (pos 0) ∷ []) j)) (omega (arith)))), g)
+      (gives goes_on (record s { names = ns }))) (sym kept) (
+        j,
+        leads_by x _ (placed (suc (suc (suc pc))) [] j) (instr.JumpIfNot (suc (suc (suc pc)))) h.line f.0
+            (ap (on_step x (placed pc (machine.Number (pos 0) ∷ []) j))
+            (jump_later x.body (suc (suc (suc pc))) [] (machine_of (placed pc (machine.Number (pos 0) ∷ []) j)) (omega (arith)))),
+        g,
+      )
 
   least : (h : Here) (n : Name) (w : Width) (z y : ℤ) (s : State) (pc : ℕ) (i : Instance) → params ≤ length h.scope.names →
       is_bound h.scope.names n ≡ true → (bound_to h.scope.names n).static_type ≡ integer_type w →

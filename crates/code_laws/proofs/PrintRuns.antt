@@ -68,8 +68,7 @@ module _ (x : Setting) (params slots : ℕ) (fit : SlotsFit x slots) (aside : As
       let ps = parts_of [] format in
       let m = machine_of (placed pc (pushed_all vs []) i) in
       let w = format_written format vs good.0 (e ∙ ap Some (sym good.1)) in
-      let text = printed format (map number_of vs) in
-      (
+      let text = printed format (map number_of vs) in (
         record i { text = i.text ++ text },
         leads_by x _ _ (instr.Print ps) h.line f
             (ap (λ k. on_step x (placed pc (pushed_all vs []) i) (printing ps (take_values k (pushed_all vs []) []) m)) w.0

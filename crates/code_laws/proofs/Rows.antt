@@ -306,4 +306,3 @@ module _ (x : Setting) (params slots : ℕ) (fit : SlotsFit x slots) (counts : C
   scoped_by aside h body s pc i j g d =
       does_cut aside pc (length s.names) h (record h { scope = scope_after_block h.tree h.scope body }) i
       (exec_block h body s) (block_grown h.tree h.scope body) g.count g.inside d
-
