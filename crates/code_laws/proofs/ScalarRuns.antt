@@ -40,7 +40,8 @@ use Rattle.check_rules.specs.rules.Repeats.{Given}
 use Rattle.lane_kernels.specs.Numbers.{FitsWidth}
 use Rattle.regent_tree.proofs.Members.{Contains-from_Has, Has, Has-map}
 use Rattle.code_laws.specs.Programs.{AreTaken, IsScalarRun}
-use Rattle.code_laws.specs.ScalarPrograms.{AreInputs, IsScalarProgramRun, ScalarProgramsRunAsMeant, is_scalar_item, is_scalar_task, is_scalar_term, is_scalar_if_said, is_empty, is_scalar_block}
+use Rattle.scalar_form.specs.ScalarForm.{is_scalar_item, is_scalar_task, is_scalar_term, is_scalar_if_said, is_empty, is_scalar_block}
+use Rattle.code_laws.specs.ScalarPrograms.{AreInputs, IsScalarProgramRun, ScalarProgramsRunAsMeant}
 use Rattle.code_laws.proofs.Typing.{AllScalar, AreKept, kept_left, kept_right, no_way_back}
 use Rattle.std.proofs.Common.{◌≡◌, Bool, List, [], ◌∷◌, ◌++◌, None, Some, false, true, refl, ap, sym, subst, ℕ, suc, ◌+◌, ◌∙◌, inl, inr, not, ℤ, map, cond, arith, ◌<◌, ◌^◌}
 use Rattle.std.specs.Prelude.{bytes_eq, length, slice_get, ◌||◌, ◌&&◌, All, option_map, filter, flat_map}

@@ -26,7 +26,7 @@ use Rattle.check_laws.proofs.Variables.{begun_sound, target_of_form, parts_of_fo
 use Rattle.code_laws.proofs.Names.{arms_names, else_names}
 use Rattle.check_laws.proofs.Onward.{arm_next, block_next, else_next}
 use Rattle.regent_tree.specs.Typing.{arithmetic_type, result_type, scope_after, scope_after_arms, scope_after_block, type_of, var_type, owned}
-use Rattle.code_laws.specs.ScalarPrograms.{are_scalar_arms, are_scalar_expressions, is_scalar_block, is_scalar_else, is_scalar_expression, is_scalar_form, is_scalar_if_said, is_scalar_term, is_scalar_value}
+use Rattle.scalar_form.specs.ScalarForm.{are_scalar_arms, are_scalar_expressions, is_scalar_block, is_scalar_else, is_scalar_expression, is_scalar_form, is_scalar_if_said, is_scalar_term, is_scalar_value}
 use Rattle.check_rules.specs.rules.Statements.{all_stand, known_result, spot_of_target}
 use Rattle.code_rules.specs.Slots.{Where}
 use Rattle.check_rules.specs.rules.Standing.{Spot, integer_spot, stands, truth_spot, typed_spot}

@@ -1,0 +1,2 @@
+pub mod ScalarForm
+pub mod Seen

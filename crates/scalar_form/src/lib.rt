@@ -1,0 +1,9 @@
+//! Whether a program treats scalars alone: numbers and truths, in one task.
+#![tactic(auto)]
+
+mod expressions;
+mod program;
+mod statements;
+mod types;
+
+pub use program::is_scalar;
