@@ -1,5 +1,11 @@
 mod Calling
+mod ColumnLaws
+mod Fetching
 mod Gathering
+mod Giving
+mod Lending
 mod Needing
-mod Stopping
+mod Placing
+mod Resuming
+mod Returning
 mod Walking

@@ -3,8 +3,7 @@ use Rattle.std.proofs.Common.{◌≡◌, ℕ, ◌+◌, Some, None, List, [], ◌
 use Rattle.std.proofs.Common.{ℤ}
 use Rattle.lane_kernels.specs.declared.numbers.FieldKind.{FieldKind}
 use Rattle.lane_kernels.specs.declared.numbers.Mode.{Mode}
-use Rattle.machine_terms.specs.declared.order.Contents.{Contents}
-use Rattle.machine_terms.specs.Copies.{give_back, give_points}
+use Rattle.plain_run.specs.Columns.{number_given, points_given}
 use Rattle.std.proofs.lemmas.Bool.{cases_lt}
 use Rattle.std.proofs.lemmas.List.{append_assoc, drop_more}
 use Rattle.std.proofs.lemmas.Option.{slice_get-get_or, slice_get_past}
@@ -29,12 +28,12 @@ mapped_next f xs i p y done after e is pushed h =
     ap (λ l. done ++ map f l) (sym (next_of xs i p e)) ∙ h
 
 -- one more number that goes back
-pub given_next : (kind : FieldKind) (m : Mode) (root field : ℕ) (ps : List ℕ) (zs : List ℤ) (i p : ℕ)
-    (z : ℤ) (given after all : Contents) → Some p ≡ slice_get ps i →
-    drop i zs ≡ z ∷ drop (i + 1) zs → after ≡ give_back kind m root field p z given →
-    give_points kind m root field (drop i ps) (drop i zs) given ≡ all →
-    give_points kind m root field (drop (i + 1) ps) (drop (i + 1) zs) after ≡ all
-given_next kind m root field ps zs i p z given after all e here is h =
-    ap (give_points kind m root field (drop (i + 1) ps) (drop (i + 1) zs)) is ∙
-    ap (λ l. give_points kind m root field l (z ∷ drop (i + 1) zs) given) (sym (next_of ps i p e)) ∙
-    ap (λ l. give_points kind m root field (drop i ps) l given) (sym here) ∙ h
+pub given_next : (kind : FieldKind) (m : Mode) (ps : List ℕ) (zs : List ℤ) (i p : ℕ) (z : ℤ)
+    (given after all : List ℤ) → Some p ≡ slice_get ps i → drop i zs ≡ z ∷ drop (i + 1) zs →
+    after ≡ number_given kind m p z given →
+    points_given kind m (drop i ps) (drop i zs) given ≡ all →
+    points_given kind m (drop (i + 1) ps) (drop (i + 1) zs) after ≡ all
+given_next kind m ps zs i p z given after all e here is h =
+    ap (points_given kind m (drop (i + 1) ps) (drop (i + 1) zs)) is ∙
+    ap (λ l. points_given kind m l (z ∷ drop (i + 1) zs) given) (sym (next_of ps i p e)) ∙
+    ap (λ l. points_given kind m (drop i ps) l given) (sym here) ∙ h

@@ -1,43 +1,16 @@
 //! What the roots hold.
 
-ghost use Rattle.std.specs.Prelude.{◌≡◌, [], pos, get_or, length};
-ghost use Rattle.machine_terms.specs.Contents.{image_in, kept_at, kind_of, kinds_of};
+ghost use Rattle.std.specs.Prelude.{◌≡◌, pos, get_or, length};
+ghost use Rattle.machine_terms.specs.Contents.{image_in, kind_of, kinds_of};
 ghost use Rattle.lane_kernels.specs.declared.numbers.FieldKind.TheVariants.{Truth};
 
 use lane_kernels::FieldKind;
 use machine_terms::{Contents, Root};
-use regent_tree::RootImage;
 use region_tree::RootId;
 use task_code::Code;
 
-/// The kept number of a field at a point.
-pub fn kept_at(contents: &Contents, root: RootId, field: u8, point: u32) -> i64
-    ensures { result ≡ kept_at contents.now root.0 field point }
-{
-    kept_in(contents.roots.as_slice(), root, field, point)
-}
-
-fn kept_in(roots: &[Root], root: RootId, field: u8, point: u32) -> i64
-    ensures { result ≡ get_or (get_or (image_in roots.now root.0).fields field []) point (pos 0) }
-{
-    for held in roots {
-        if held.id.0 == root.0 {
-            return number_at(&held.image, field, point);
-        }
-    }
-    0
-}
-
-fn number_at(image: &RootImage, field: u8, point: u32) -> i64
-    ensures { result ≡ get_or (get_or image.now.fields field []) point (pos 0) }
-{
-    match image.fields.as_slice().get(field as usize) {
-        Some(column) => number_in(column.as_slice(), point),
-        None => 0,
-    }
-}
-
-fn number_in(column: &[i64], point: u32) -> i64
+/// The number at a place, or 0.
+pub fn number_in(column: &[i64], point: u32) -> i64
     ensures { result ≡ get_or column.now point (pos 0) }
 {
     match column.get(point as usize) {

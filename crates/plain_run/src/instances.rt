@@ -3,12 +3,14 @@
 ghost use Rattle.std.specs.Prelude.{◌≡◌, pos, get_or, IfOk};
 ghost use Rattle.machine_terms.specs.Contents.{no_contents};
 ghost use Rattle.machine_terms.specs.Orders.{after_call, await, begun, breaks, conclude};
-ghost use Rattle.machine_terms.specs.Orders.{fetch_part, give_all, make, result_of};
-ghost use Rattle.machine_terms.specs.declared.order.Ended.TheVariants.{Broke};
-ghost use Rattle.machine_terms.specs.declared.outcome.Yield.TheVariants as yield;
+ghost use Rattle.machine_terms.specs.Orders.{give_all, make, result_of};
+ghost use Rattle.machine_terms.specs.declared.order.Contents.{Contents as contents};
+ghost use Rattle.machine_terms.specs.declared.order.Ended.TheVariants.{Broke, CameBack};
+ghost use Rattle.plain_run.specs.Loans.{Stands, whole};
 
-use crate::copies::{give_parts, part_from};
+use crate::holder::Holder;
 use crate::making::{closed, is_sound, settled};
+use crate::returns::give_parts;
 use crate::roots::{make_partition, make_root};
 use machine_terms::{Contents, Ended, Frame, Instance, Made, Required, Resumed, Stack, Yield};
 use plain_values::Sequence;
@@ -57,23 +59,6 @@ pub fn breaks(instance: Instance) -> Resumed
     ensures { result ≡ breaks instance }
 {
     Resumed::IsOver(broke(None, instance))
-}
-
-/// The instance with the part that it wants.
-pub fn fetch_part(
-    alloc: Global,
-    code: &Code,
-    root: RootId,
-    field: u8,
-    instance: Instance,
-) -> Result<Instance, AllocError>
-    ensures { IfOk result (λ i. i ≡ fetch_part code.now root.0 field instance) }
-{
-    let mut after = instance;
-    let needs = after.needs.as_slice();
-    let part = part_from(alloc, code, &after.contents, needs, root, field)?;
-    after.parts.push(part)?;
-    Ok(after)
 }
 
 /// The instance with the value of a child that it waits for.
@@ -125,26 +110,15 @@ pub fn make(
 }
 
 /// The instance whose parts went back.
-pub fn give_all(alloc: Global, instance: Instance) -> Result<Instance, AllocError>
-    ensures { IfOk result (λ i. i ≡ give_all instance) }
+pub fn give_all(alloc: Global, holder: Holder) -> Result<Instance, AllocError>
+    ensures { IfOk result (λ i. (c : contents) → Stands c holder → i ≡ give_all (whole c holder)) }
 {
-    let Instance {
-        frame,
-        parts,
-        contents,
-        results,
-        needs,
-        text,
-    } = instance;
-    let contents = give_parts(alloc, parts.as_slice(), contents)?;
-    Ok(Instance {
-        frame,
-        parts: Sequence::new(alloc),
-        contents,
-        results,
-        needs,
-        text,
-    })
+    let Holder { instance, loans } = holder;
+    let mut after = instance;
+    let kept = mem::replace(&mut after.contents, no_contents(alloc));
+    let parts = mem::replace(&mut after.parts, Sequence::new(alloc));
+    after.contents = give_parts(alloc, parts, loans.as_slice(), kept)?;
+    Ok(after)
 }
 
 /// What follows in an instance behind a call that it made.
@@ -184,35 +158,33 @@ fn result_of(value: Option<i64>) -> i64
     }
 }
 
-/// How an instance ends behind a segment that left no frame.
-pub fn conclude(alloc: Global, ends: Yield, instance: Instance) -> Result<Ended, AllocError>
-    ensures { IfOk result (λ e. e ≡ conclude ends instance) }
+/// How an instance ends behind a segment that left no frame: where it comes back, its parts go back.
+pub fn conclude(alloc: Global, ends: Yield, holder: Holder) -> Result<Ended, AllocError>
+    ensures { IfOk result (λ e. (c : contents) → Stands c holder → e ≡ conclude ends (whole c holder)) }
 {
     match ends {
-        Yield::End(value) => come_back(alloc, value, instance),
-        Yield::Fault(fault) => Ok(broke(Some(fault), instance)),
-        _ => Ok(broke(None, instance)),
+        Yield::End(value) => Ok(come_back(value, give_all(alloc, holder)?)),
+        Yield::Fault(fault) => Ok(broke(Some(fault), holder.instance)),
+        _ => Ok(broke(None, holder.instance)),
     }
 }
 
-/// An instance comes back with a value or none: its parts go back.
-fn come_back(alloc: Global, value: Option<i64>, instance: Instance) -> Result<Ended, AllocError>
-    ensures { IfOk result (λ e. e ≡ conclude (yield.End value) instance) }
+/// An instance that holds no part comes back with a value or none.
+fn come_back(value: Option<i64>, instance: Instance) -> Ended
+    ensures { result ≡ CameBack value instance.frame.own instance.contents instance.text }
 {
     let Instance {
         frame,
-        parts,
         contents,
         text,
         ..
     } = instance;
-    let contents = give_parts(alloc, parts.as_slice(), contents)?;
-    Ok(Ended::CameBack {
+    Ended::CameBack {
         value,
         own: frame.own,
         contents,
         text,
-    })
+    }
 }
 
 /// A frame in which nothing stands but the roots that a task made.

@@ -7,14 +7,16 @@ ghost use Rattle.machine_terms.specs.Opening.{opening, requirements_on};
 ghost use Rattle.machine_terms.specs.Orders.{before_of, begun, call_all, call_task, call_within, on_resumed};
 ghost use Rattle.machine_terms.specs.Orders.{enough_segments, resume, resume_after, run_segments, runs};
 ghost use Rattle.machine_terms.specs.Segments.{segment};
-ghost use Rattle.machine_terms.specs.declared.outcome.After.{After};
-ghost use Rattle.plain_run.specs.Stops.{stop_behind};
+ghost use Rattle.machine_terms.specs.declared.order.Contents.{Contents as contents};
+ghost use Rattle.plain_run.specs.Loans.{Follows, Stands, whole};
 
+use crate::copies::fetch_part;
 use crate::coverage::within;
 use crate::frames::opening;
+use crate::holder::{Holder, Next, with_loans};
 use crate::instances::{
-    after_call, await_child, begun, breaks, broke, conclude, fetch_part, frame_of_roots, give_all,
-    make, no_contents,
+    after_call, await_child, begun, breaks, broke, conclude, frame_of_roots, give_all, make,
+    no_contents,
 };
 use crate::outcomes::{first_frame, may_start, outcome, void_outcome};
 use crate::requiring::requirements_on;
@@ -103,16 +105,19 @@ fn run_segments(
 ) -> Result<Ended, AllocError>
     ensures { IfOk result (λ e. e ≡ run_segments code.now turns (runs code.now turns below) count instance) }
 {
-    let mut now = instance;
+    let mut now = Holder {
+        instance,
+        loans: Sequence::new(alloc),
+    };
     let mut left = count;
     while left > 0 {
         match next_segment(alloc, code, turns, below, now)? {
-            Resumed::GoesOn(next) => now = next,
-            Resumed::IsOver(ended) => return Ok(ended),
+            Next::GoesOn(next) => now = next,
+            Next::IsOver(ended) => return Ok(ended),
         }
         left -= 1;
     }
-    Ok(broke(None, now))
+    Ok(broke(None, now.instance))
 }
 
 /// Runs an instance for one segment, and for what the segment stops for.
@@ -122,70 +127,48 @@ fn next_segment(
     code: &Code,
     turns: u64,
     below: u8,
-    instance: Instance,
-) -> Result<Resumed, AllocError>
-    ensures { IfOk result (λ r. r ≡ resume_after code.now turns (runs code.now turns below)
-        (segment (before_of code.now instance)) instance) }
+    holder: Holder,
+) -> Result<Next, AllocError>
+    ensures { IfOk result (λ n. (c : contents) → Stands c holder → Follows n (resume_after code.now turns
+        (runs code.now turns below) (segment (before_of code.now holder.instance)) (whole c holder))) }
 {
-    match run_segment(alloc, code, instance)? {
-        Stop::WaitsFor(ends, after) => resume(alloc, code, turns, below, ends, after),
-        Stop::HasEnded(ended) => Ok(Resumed::IsOver(ended)),
-    }
-}
-
-/// What a segment leaves of an instance.
-#[derive(Drop)]
-enum Stop {
-    /// The instance, and what it waits for.
-    WaitsFor(Yield, Instance),
-    /// How it ended.
-    HasEnded(Ended),
-}
-
-/// Runs an instance for one segment.
-fn run_segment(alloc: Global, code: &Code, instance: Instance) -> Result<Stop, AllocError>
-    ensures { IfOk result (λ s. s
-        ≡ stop_behind (segment (before_of code.now instance)) instance) }
-{
-    let own = instance.frame.own.copy()?;
-    let (frame, parts, rest) = lent(alloc, own, instance);
+    let own = holder.instance.frame.own.copy()?;
+    let (frame, parts, rest) = opened(alloc, own, holder);
     let after = run(alloc, code, frame, parts)?;
-    stop_behind(alloc, after, rest)
+    go_on(alloc, code, turns, below, after, rest)
 }
 
 /// The frame and the parts of an instance, and the rest of it with the roots that it made.
-fn lent(
-    alloc: Global,
-    own: Sequence<RootId>,
-    instance: Instance,
-) -> (Frame, Sequence<Part>, Instance)
-    requires { own ≡ instance.frame.own }
-    ensures frame { result.0 ≡ instance.frame }
-    ensures parts { result.1 ≡ instance.parts }
-    ensures rest { (a : After) → stop_behind a result.2 ≡ stop_behind a instance }
+fn opened(alloc: Global, own: Sequence<RootId>, holder: Holder) -> (Frame, Sequence<Part>, Holder)
+    requires { own ≡ holder.instance.frame.own }
+    ensures frame { result.0 ≡ holder.instance.frame }
+    ensures parts { result.1 ≡ holder.instance.parts }
+    ensures own { result.2.instance.frame.own ≡ holder.instance.frame.own }
+    ensures rest { result.2 ≡ record holder {
+      instance = record holder.instance {
+        frame = result.2.instance.frame;
+        parts = [];
+      };
+    } }
 {
-    let Instance {
-        frame,
-        parts,
-        contents,
-        results,
-        needs,
-        text,
-    } = instance;
-    let rest = Instance {
-        frame: frame_of_roots(alloc, own),
-        parts: Sequence::new(alloc),
-        contents,
-        results,
-        needs,
-        text,
-    };
+    let mut rest = holder;
+    let frame = mem::replace(&mut rest.instance.frame, frame_of_roots(alloc, own));
+    let parts = mem::replace(&mut rest.instance.parts, Sequence::new(alloc));
     (frame, parts, rest)
 }
 
-/// What a segment left of an instance, whose frame and parts were given to it.
-fn stop_behind(alloc: Global, after: After, instance: Instance) -> Result<Stop, AllocError>
-    ensures { IfOk result (λ s. s ≡ stop_behind after instance) }
+/// Goes on behind a segment of an instance, whose frame and parts were given to it.
+#[cycle(run)]
+fn go_on(
+    alloc: Global,
+    code: &Code,
+    turns: u64,
+    below: u8,
+    after: After,
+    rest: Holder,
+) -> Result<Next, AllocError>
+    ensures { IfOk result (λ n. (c : contents) → Stands c rest → Follows n
+        (resume_after code.now turns (runs code.now turns below) after (whole c rest))) }
 {
     let After {
         frame,
@@ -193,15 +176,15 @@ fn stop_behind(alloc: Global, after: After, instance: Instance) -> Result<Stop, 
         text,
         ends,
     } = after;
-    let mut left = instance;
-    left.text.extend(text.as_slice())?;
-    left.parts = parts;
+    let mut left = rest;
+    left.instance.text.extend(text.as_slice())?;
+    left.instance.parts = parts;
     match frame {
         Some(frame) => {
-            left.frame = frame;
-            Ok(Stop::WaitsFor(ends, left))
+            left.instance.frame = frame;
+            resume(alloc, code, turns, below, ends, left)
         }
-        None => Ok(Stop::HasEnded(conclude(alloc, ends, left)?)),
+        None => Ok(Next::IsOver(conclude(alloc, ends, left)?)),
     }
 }
 
@@ -213,23 +196,32 @@ fn resume(
     turns: u64,
     below: u8,
     ends: Yield,
-    instance: Instance,
-) -> Result<Resumed, AllocError>
-    ensures { IfOk result (λ r. r
-        ≡ resume code.now turns (runs code.now turns below) ends instance) }
+    holder: Holder,
+) -> Result<Next, AllocError>
+    ensures { IfOk result (λ n. (c : contents) → Stands c holder → Follows n
+        (resume code.now turns (runs code.now turns below) ends (whole c holder))) }
 {
     match ends {
         Yield::Calls(calls) => {
-            let ready = give_all(alloc, instance)?;
-            call_all(alloc, code, turns, below, calls, ready)
+            let ready = give_all(alloc, holder)?;
+            let resumed = call_all(alloc, code, turns, below, calls, ready)?;
+            Ok(with_loans(Sequence::new(alloc), resumed))
         }
         Yield::Want { root, field } => {
-            let after = fetch_part(alloc, code, root, field, instance)?;
-            Ok(Resumed::GoesOn(after))
+            let fetched = fetch_part(alloc, code, root, field, holder)?;
+            Ok(Next::GoesOn(fetched))
         }
-        Yield::Await(child) => Ok(Resumed::GoesOn(await_child(alloc, child, instance)?)),
-        Yield::Make(made) => make(alloc, code, made, instance),
-        Yield::End(_) | Yield::Fault(_) | Yield::MachineFault => Ok(breaks(instance)),
+        Yield::Await(child) => {
+            let settled = await_child(alloc, child, holder.instance)?;
+            Ok(with_loans(holder.loans, Resumed::GoesOn(settled)))
+        }
+        Yield::Make(made) => {
+            let next = make(alloc, code, made, holder.instance)?;
+            Ok(with_loans(holder.loans, next))
+        }
+        Yield::End(_) | Yield::Fault(_) | Yield::MachineFault => {
+            Ok(Next::IsOver(broke(None, holder.instance)))
+        }
     }
 }
 

@@ -3,7 +3,7 @@
 ghost use Rattle.std.specs.Prelude.{◌<◌};
 
 use crate::run_in_order;
-use lane_kernels::{FieldKind, Mode, Width};
+use lane_kernels::{FieldKind, Mode, Op, Width};
 use plain_values::{Sequence, Shared};
 use regent_tree::{Ending, Outcome, RootImage};
 use std::alloc::{AllocError, Global};
@@ -171,5 +171,78 @@ fn called_task_writes(rt: HostRuntime) -> Result<(), Fail> {
         fields,
     })?;
     assert_eq!(rt; outcome.ending, Ending::Finished(roots));
+    Ok(())
+}
+
+const FOLDING: NeedCode = NeedCode {
+    param: 0,
+    field: 0,
+    mode: Mode::Reduce(Op::Sum),
+};
+
+/// A task that adds 4 at point 1 of the region that it is given.
+fn adder(alloc: Global) -> Result<TaskCode, AllocError> {
+    let body = lines(
+        alloc,
+        [
+            Instr::Num(4),
+            Instr::Num(1),
+            Instr::At(0),
+            Instr::Reduce(first(alloc)?, 0, Op::Sum, Width::W64),
+            Instr::Return,
+        ],
+    )?;
+    task(alloc, 1, &[FOLDING], body)
+}
+
+/// A task that writes 5 at point 1 of a root of three points, calls the next task with the root and the
+/// one behind it with the region of point 1 alone, and prints what stands there.
+fn touching_caller(alloc: Global) -> Result<TaskCode, AllocError> {
+    let written = first(alloc)?;
+    let read = first(alloc)?;
+    let number = print(alloc)?;
+    let body = lines(
+        alloc,
+        [
+            Instr::Num(3),
+            Instr::Space,
+            Instr::NewRoot(0),
+            Instr::Store(0),
+            Instr::Num(5),
+            Instr::Num(1),
+            Instr::At(0),
+            Instr::Write(written, 0, Width::W64),
+            Instr::Load(0),
+            Instr::Call(1, 1),
+            Instr::Drop,
+            Instr::Num(3),
+            Instr::Space,
+            Instr::Equal(0),
+            Instr::Store(1),
+            Instr::Num(1),
+            Instr::Child(1),
+            Instr::Call(2, 1),
+            Instr::Drop,
+            Instr::Num(1),
+            Instr::At(0),
+            Instr::Read(read, 0),
+            number,
+            Instr::Return,
+        ],
+    )?;
+    task(alloc, 0, &[], body)
+}
+
+/// What is written goes back before a call, and what is folded behind it, over a whole root and over a
+/// point of it: 5 and 4 is 9, and 4 more.
+#[test]
+fn parts_go_back(rt: HostRuntime) -> Result<(), Fail> {
+    let alloc = rt.alloc();
+    let mut tasks = Sequence::new(alloc);
+    tasks.push(touching_caller(alloc)?)?;
+    tasks.push(adder(alloc)?)?;
+    tasks.push(adder(alloc)?)?;
+    let outcome = outcome_of(alloc, tasks, &[])?;
+    assert!(rt; *outcome.text.as_slice() == *b"13\n".as_slice());
     Ok(())
 }

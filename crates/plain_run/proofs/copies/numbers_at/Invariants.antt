@@ -1,8 +1,7 @@
-use Rattle.std.proofs.Common.{◌≡◌, ◌++◌, drop, map}
-use Rattle.machine_terms.specs.Contents.{kept_at}
+use Rattle.std.proofs.Common.{◌≡◌, ◌++◌, drop, map, get_or, pos}
 use Rattle.plain_run.proofs.copies.numbers_at.Given as goal
 
 abbrev pub invariant-loop-place : goal.invariant-loop-place
 invariant-loop-place l =
-    l.numbers.items ++ map (kept_at l.contents l.root.0 l.field) (drop l.place l.points)
-    ≡ map (kept_at l.contents l.root.0 l.field) l.points
+    l.numbers.items ++ map (λ p. get_or l.column p (pos 0)) (drop l.place l.points)
+    ≡ map (λ p. get_or l.column p (pos 0)) l.points

@@ -1,15 +1,19 @@
 use Rattle.std.proofs.Common.{◌≡◌, ◌+◌, ◌*◌}
 use Rattle.machine_terms.specs.Orders.{call_all, run_segments, runs}
+use Rattle.plain_run.proofs.Resuming.{RunsOn}
 use Rattle.plain_run.proofs.order.+run.Given as goal
 
 abbrev pub decreases-runs : goal.decreases-runs
 decreases-runs l = 16 * l.levels
 
 abbrev pub decreases-run_segments : goal.decreases-run_segments
-decreases-run_segments l = 16 * l.below + 8
+decreases-run_segments l = 16 * l.below + 9
 
 abbrev pub decreases-next_segment : goal.decreases-next_segment
-decreases-next_segment l = 16 * l.below + 7
+decreases-next_segment l = 16 * l.below + 8
+
+abbrev pub decreases-go_on : goal.decreases-go_on
+decreases-go_on l = 16 * l.below + 7
 
 abbrev pub decreases-resume : goal.decreases-resume
 decreases-resume l = 16 * l.below + 6
@@ -31,8 +35,8 @@ decreases-call_within l = 16 * l.below + 1
 
 abbrev pub invariant-run_segments-loop-left : goal.invariant-run_segments-loop-left
 invariant-run_segments-loop-left l =
-    run_segments l.code l.turns (runs l.code l.turns l.below) l.left l.now
-    ≡ run_segments l.code l.turns (runs l.code l.turns l.below) l.count l.fn.instance
+    RunsOn l.code l.turns (runs l.code l.turns l.below) l.left l.now
+    (run_segments l.code l.turns (runs l.code l.turns l.below) l.count l.fn.instance)
 
 abbrev pub decreases-run_segments-loop-left : goal.decreases-run_segments-loop-left
 decreases-run_segments-loop-left l = l.left

@@ -1,8 +1,8 @@
 use Rattle.std.proofs.Common.{rules, ◌≡◌, ◌<◌, length, get_or, pos, Some, slice_get}
 use Rattle.std.proofs.lemmas.List.{drop_more}
-use Rattle.machine_terms.specs.Copies.{give_back}
+use Rattle.plain_run.specs.Columns.{number_given}
 use Rattle.plain_run.proofs.Walking.{given_next}
-use Rattle.plain_run.proofs.copies.give_points.Goals as goal
+use Rattle.plain_run.proofs.returns.give_points.Goals as goal
 
 pub loop-place-preserved : goal.loop-place-preserved
 loop-place-preserved c =
@@ -10,9 +10,8 @@ loop-place-preserved c =
     let i = c.loop-place.place in
     let number = get_or held.values i (pos 0) in
     let inside : i < length held.values = search (rules) in
-    let is : c.in_ok-given.given ≡ give_back c.args.kind held.mode c.args.root.0 c.args.field
-    c.in-Some.point number c.loop-place.given = search (rules) in
+    let is : c.give_number.new.column ≡ number_given c.args.kind held.mode c.in-Some.point number c.loop-place.column = search (rules) in
     let point : Some c.in-Some.point ≡ slice_get held.points i = search (rules) in
-    given_next c.args.kind held.mode c.args.root.0 c.args.field held.points held.values i
-    c.in-Some.point number c.loop-place.given c.in_ok-given.given _ point
+    given_next c.args.kind held.mode held.points held.values i c.in-Some.point number
+    c.loop-place.column c.give_number.new.column _ point
     (drop_more held.values i (pos 0) inside) is c.loop-place.invariant
