@@ -1,5 +1,10 @@
 pub mod Bodies
 pub mod ExpressionSizes
+pub mod FewSlots
 pub mod Laid
+pub mod LowSlots
+pub mod PlainCode
 pub mod Sizes
+pub mod SlotsOfExpressions
+pub mod SlotsOfStatements
 pub mod StatementSizes

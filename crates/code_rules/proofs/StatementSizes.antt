@@ -24,12 +24,10 @@ use Rattle.code_rules.specs.Initializers.{names_child, new_place}
 use Rattle.code_rules.specs.Instructions.{one}
 use Rattle.code_rules.specs.Pieces.{◌⨟◌, empty}
 use Rattle.code_rules.specs.Slots.{beside}
-use Rattle.regent_tree.specs.Syntax.{Links, no_link, a_link, number_expr, truth_expr, chain_expr, prefix_expr, call_expr, convert_expr, is_null_expr, null_expr, cast_expr, space_expr}
+use Rattle.regent_tree.specs.Syntax.{number_expr, truth_expr, chain_expr, prefix_expr, call_expr, convert_expr, is_null_expr, null_expr, cast_expr, space_expr}
 use Rattle.regent_tree.specs.Typing.{width_of_type}
-use Rattle.regent_tree.specs.declared.expression.Arithmetic.TheVariants.{Add, Subtract, Multiply, Divide, Remainder}
-use Rattle.regent_tree.specs.declared.expression.Operator.TheVariants.{And, Or, Compare, Compute}
-use Rattle.regent_tree.specs.declared.typing.StaticType.TheVariants as type
 use Rattle.task_code.specs.declared.instr.Instr.TheVariants as instr
+use Rattle.code_rules.proofs.PlainCode.{plain_either}
 use Rattle.code_rules.proofs.ExpressionSizes.{both_nodes, all_nodes, converted_size, expr_size, exprs_size}
 
 either_size : (b : Bool) (p q : Piece) (n : ℕ) → size p ≤ n → size q ≤ n → size (cond b p q) ≤ n
@@ -62,78 +60,11 @@ general w t e =
     let b = beside_size w t e in
     omega (arith, a, b)
 
-abbrev IsSmall : Where → StaticType → Expression → Type 0
-IsSmall w t e = size (plain_code w t e) ≤ 2 + 16 * number_of_nodes (parts_of_expression e)
-
--- a difference, or what only begins as one
-taken_size : (w : Where) (d : Bool) (r own : ℕ) (p : Name) (e : Expression) (more : Links) →
-    IsSmall w (type.Partition d r own) (chain_expr (access_expr p no_step) (a_link (Compute Subtract) e more))
-taken_size w d r own p (number_expr z v) more = general w (type.Partition d r own) (chain_expr (access_expr p no_step) (a_link (Compute Subtract) (number_expr z v) more))
-taken_size w d r own p (truth_expr b) more = general w (type.Partition d r own) (chain_expr (access_expr p no_step) (a_link (Compute Subtract) (truth_expr b) more))
-taken_size w d r own p (chain_expr first others) more = general w (type.Partition d r own) (chain_expr (access_expr p no_step) (a_link (Compute Subtract) (chain_expr first others) more))
-taken_size w d r own p (prefix_expr signs e) more = general w (type.Partition d r own) (chain_expr (access_expr p no_step) (a_link (Compute Subtract) (prefix_expr signs e) more))
-taken_size w d r own p (call_expr task args) more = general w (type.Partition d r own) (chain_expr (access_expr p no_step) (a_link (Compute Subtract) (call_expr task args) more))
-taken_size w d r own p (convert_expr k e) more = general w (type.Partition d r own) (chain_expr (access_expr p no_step) (a_link (Compute Subtract) (convert_expr k e) more))
-taken_size w d r own p (is_null_expr e) more = general w (type.Partition d r own) (chain_expr (access_expr p no_step) (a_link (Compute Subtract) (is_null_expr e) more))
-taken_size w d r own p (null_expr k) more = general w (type.Partition d r own) (chain_expr (access_expr p no_step) (a_link (Compute Subtract) (null_expr k) more))
-taken_size w d r own p (cast_expr k e) more = general w (type.Partition d r own) (chain_expr (access_expr p no_step) (a_link (Compute Subtract) (cast_expr k e) more))
-taken_size w d r own p (space_expr k e) more = general w (type.Partition d r own) (chain_expr (access_expr p no_step) (a_link (Compute Subtract) (space_expr k e) more))
-taken_size w d r own p (access_expr q (field_step f rest)) more = general w (type.Partition d r own) (chain_expr (access_expr p no_step) (a_link (Compute Subtract) (access_expr q (field_step f rest)) more))
-taken_size w d r own p (access_expr q (at_step e rest)) more = general w (type.Partition d r own) (chain_expr (access_expr p no_step) (a_link (Compute Subtract) (access_expr q (at_step e rest)) more))
-taken_size w d r own p (access_expr q no_step) no_link = omega arith
-taken_size w d r own p (access_expr q no_step) (a_link o e more) = general w (type.Partition d r own) (chain_expr (access_expr p no_step) (a_link (Compute Subtract) (access_expr q no_step) (a_link o e more)))
-
-linked_size : (w : Where) (d : Bool) (r own : ℕ) (p : Name) (rest : Links) →
-    IsSmall w (type.Partition d r own) (chain_expr (access_expr p no_step) rest)
-linked_size w d r own p no_link = general w (type.Partition d r own) (chain_expr (access_expr p no_step) no_link)
-linked_size w d r own p (a_link Or e more) = general w (type.Partition d r own) (chain_expr (access_expr p no_step) (a_link Or e more))
-linked_size w d r own p (a_link And e more) = general w (type.Partition d r own) (chain_expr (access_expr p no_step) (a_link And e more))
-linked_size w d r own p (a_link (Compare c) e more) = general w (type.Partition d r own) (chain_expr (access_expr p no_step) (a_link (Compare c) e more))
-linked_size w d r own p (a_link (Compute Add) e more) = general w (type.Partition d r own) (chain_expr (access_expr p no_step) (a_link (Compute Add) e more))
-linked_size w d r own p (a_link (Compute Multiply) e more) = general w (type.Partition d r own) (chain_expr (access_expr p no_step) (a_link (Compute Multiply) e more))
-linked_size w d r own p (a_link (Compute Divide) e more) = general w (type.Partition d r own) (chain_expr (access_expr p no_step) (a_link (Compute Divide) e more))
-linked_size w d r own p (a_link (Compute Remainder) e more) = general w (type.Partition d r own) (chain_expr (access_expr p no_step) (a_link (Compute Remainder) e more))
-linked_size w d r own p (a_link (Compute Subtract) e more) = taken_size w d r own p e more
-
-chained_size : (w : Where) (d : Bool) (r own : ℕ) (first : Expression) (rest : Links) →
-    IsSmall w (type.Partition d r own) (chain_expr first rest)
-chained_size w d r own (number_expr z v) rest = general w (type.Partition d r own) (chain_expr (number_expr z v) rest)
-chained_size w d r own (truth_expr b) rest = general w (type.Partition d r own) (chain_expr (truth_expr b) rest)
-chained_size w d r own (chain_expr before others) rest = general w (type.Partition d r own) (chain_expr (chain_expr before others) rest)
-chained_size w d r own (prefix_expr signs e) rest = general w (type.Partition d r own) (chain_expr (prefix_expr signs e) rest)
-chained_size w d r own (call_expr task args) rest = general w (type.Partition d r own) (chain_expr (call_expr task args) rest)
-chained_size w d r own (convert_expr k e) rest = general w (type.Partition d r own) (chain_expr (convert_expr k e) rest)
-chained_size w d r own (is_null_expr e) rest = general w (type.Partition d r own) (chain_expr (is_null_expr e) rest)
-chained_size w d r own (null_expr k) rest = general w (type.Partition d r own) (chain_expr (null_expr k) rest)
-chained_size w d r own (cast_expr k e) rest = general w (type.Partition d r own) (chain_expr (cast_expr k e) rest)
-chained_size w d r own (space_expr k e) rest = general w (type.Partition d r own) (chain_expr (space_expr k e) rest)
-chained_size w d r own (access_expr p no_step) rest = linked_size w d r own p rest
-chained_size w d r own (access_expr p (field_step f steps)) rest = general w (type.Partition d r own) (chain_expr (access_expr p (field_step f steps)) rest)
-chained_size w d r own (access_expr p (at_step e steps)) rest = general w (type.Partition d r own) (chain_expr (access_expr p (at_step e steps)) rest)
-
-partition_size : (w : Where) (d : Bool) (r own : ℕ) (e : Expression) → IsSmall w (type.Partition d r own) e
-partition_size w d r own (number_expr z v) = general w (type.Partition d r own) (number_expr z v)
-partition_size w d r own (truth_expr b) = general w (type.Partition d r own) (truth_expr b)
-partition_size w d r own (chain_expr first rest) = chained_size w d r own first rest
-partition_size w d r own (prefix_expr signs e) = general w (type.Partition d r own) (prefix_expr signs e)
-partition_size w d r own (call_expr task args) = general w (type.Partition d r own) (call_expr task args)
-partition_size w d r own (convert_expr k e) = general w (type.Partition d r own) (convert_expr k e)
-partition_size w d r own (is_null_expr e) = general w (type.Partition d r own) (is_null_expr e)
-partition_size w d r own (null_expr k) = general w (type.Partition d r own) (null_expr k)
-partition_size w d r own (cast_expr k e) = general w (type.Partition d r own) (cast_expr k e)
-partition_size w d r own (space_expr k e) = general w (type.Partition d r own) (space_expr k e)
-partition_size w d r own (access_expr n steps) = general w (type.Partition d r own) (access_expr n steps)
-
-plain_size : (w : Where) (t : StaticType) (e : Expression) → IsSmall w t e
-plain_size w (type.Integer v) e = general w (type.Integer v) e
-plain_size w type.Truth e = general w type.Truth e
-plain_size w (type.Index k) e = general w (type.Index k) e
-plain_size w (type.Pointer k sp args rs) e = general w (type.Pointer k sp args rs) e
-plain_size w (type.Ispace k) e = general w (type.Ispace k) e
-plain_size w (type.Region k sp args r) e = general w (type.Region k sp args r) e
-plain_size w type.Nothing e = general w type.Nothing e
-plain_size w type.Unknown e = general w type.Unknown e
-plain_size w (type.Partition d r own) e = partition_size w d r own e
+plain_size : (w : Where) (t : StaticType) (e : Expression) →
+    size (plain_code w t e) ≤ 2 + 16 * number_of_nodes (parts_of_expression e)
+plain_size w t e = plain_either w t e
+    (λ (p : Piece). size p ≤ 2 + 16 * number_of_nodes (parts_of_expression e))
+    (general w t e) (λ p q i. omega arith)
 
 declared_size : (w : Where) (term : Option TypeTerm) (t : StaticType) (e : Expression) →
     size (declared_code w term t e) ≤ 2 + 16 * number_of_nodes (parts_of_expression e)
@@ -158,7 +89,7 @@ initializer_size w term t (Some (plain_initializer e)) = let a = declared_size w
 -- ---- assignments
 
 -- the steps before the last one have no more nodes
-before_nodes : (steps : Steps) →
+pub before_nodes : (steps : Steps) →
     number_of_nodes (parts_of_steps (before_last steps)) ≤ number_of_nodes (parts_of_steps steps)
 before_nodes no_step = omega arith
 before_nodes (field_step f no_step) = omega arith

@@ -16,3 +16,8 @@ LaidOut = (p : Piece) (body : List Line) → emitted body p ≡ body ++ lines p 
 abbrev pub BodiesAreShort : Type 0
 BodiesAreShort = (tree : Tree) → WithinLimits tree →
     All (λ (t : TaskTree). length (task_code tree t).body < 2 ^ 32) (tasks_of tree)
+
+-- Each task of a program within the limits uses fewer than 2^32 slots, so that 32 bits hold each slot's number.
+abbrev pub SlotsAreFew : Type 0
+SlotsAreFew = (tree : Tree) → WithinLimits tree →
+    All (λ (t : TaskTree). (task_code tree t).slots < 2 ^ 32) (tasks_of tree)
