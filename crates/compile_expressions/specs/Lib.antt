@@ -1,0 +1,5 @@
+pub mod Positions
+pub mod Here
+pub mod Leads
+pub mod Members
+pub mod Symbols
