@@ -1,0 +1,4 @@
+pub mod Words
+pub mod Schedules
+pub mod Faults
+pub mod Numbers

@@ -1,0 +1,14 @@
+pub mod Ground
+pub mod Processes
+pub mod Running
+pub mod Boards
+pub mod Journals
+pub mod Apart
+pub mod Ready
+pub mod Backs
+pub mod RootNumbers
+pub mod NumberedRuns
+pub mod NumberedBoards
+pub mod Renaming
+pub mod RootNames
+pub mod ByNumber

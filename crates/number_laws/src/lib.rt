@@ -1,0 +1,12 @@
+//! The laws of boards whose operations, seats and roots are numbers.
+#![tactic(auto)]
+
+ghost use Rattle.board_rules.specs.ByNumber.{FinishedByNumber};
+
+use board_rules::NumberedMachine;
+
+/// A finished board has the outcome of the run in order, though the two number their roots differently.
+#[tactic(auto, using(crate::proofs::ByNumber::finished_by_number))]
+pub fn finished_by_number<T: NumberedMachine>()
+    ensures { FinishedByNumber T.base T.numbered T.named T.machines T.naming T.rename T.is_job }
+{}

@@ -1,0 +1,4 @@
+pub mod SmallLaws
+pub mod Numbered
+pub mod NumberedLaws
+pub mod NumberedBoards
