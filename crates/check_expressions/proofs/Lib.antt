@@ -2,6 +2,5 @@ pub mod Made
 pub mod Places
 pub mod Lying
 pub mod Called
-pub mod Colours
 pub mod Members
 pub mod Prefixes

@@ -1,5 +1,2 @@
-pub mod Positions
-pub mod Here
 pub mod Leads
 pub mod Members
-pub mod Symbols

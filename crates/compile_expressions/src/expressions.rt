@@ -12,19 +12,18 @@ ghost use Rattle.code_rules.specs.Expressions.{count, expr_code, exprs_code, lin
 ghost use Rattle.code_rules.specs.Instructions.{signs_code, standing_code};
 ghost use Rattle.code_rules.specs.Pieces.{over, ◌⨟◌};
 ghost use Rattle.code_rules.specs.Slots.{typed};
-ghost use Rattle.compile_expressions.specs.Here.{where_of};
+ghost use Rattle.compile_types.specs.Here.{where_of};
 ghost use Rattle.compile_expressions.specs.Leads.{IsReached, Leads};
 ghost use Rattle.compile_expressions.specs.Members.{called_code, computed_code};
 
 use crate::body::Body;
-use crate::calls::{params_at, result_of};
-use crate::here::Here;
 use crate::reached::{Reached, field_taken, reached_element};
 use crate::single::{
     all_signs, as_number, cast, converted, element, keep, load, one, operand, operating, standing,
 };
-use crate::static_type::{operated, signed_type, type_of_name, written_pointer};
-use crate::typing::type_of;
+use compile_types::{
+    Here, operated, params_at, result_of, signed_type, type_of, type_of_name, written_pointer,
+};
 use regent_tree::{Expr, Link, Name, Operator, Sign, StaticType, Step};
 use static_types::{is_pointer, number_type};
 use std::alloc::AllocError;

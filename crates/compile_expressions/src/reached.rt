@@ -5,13 +5,12 @@ ghost use Rattle.regent_tree.specs.Plain.{expression_of, steps_in};
 ghost use Rattle.regent_tree.specs.Syntax.{field_step};
 ghost use Rattle.regent_tree.specs.Typing.{type_of_element};
 ghost use Rattle.code_rules.specs.Instructions.{slot_after};
-ghost use Rattle.compile_expressions.specs.Here.{where_of};
+ghost use Rattle.compile_types.specs.Here.{where_of};
 ghost use Rattle.compile_expressions.specs.Leads.{Leads};
 
 use crate::body::Body;
-use crate::here::Here;
 use crate::single::{field, slot_after};
-use crate::static_type::{type_of_element, type_of_field};
+use compile_types::{Here, type_of_element, type_of_field};
 use regent_tree::{Expr, Name, StaticType, Step};
 use std::alloc::AllocError;
 

@@ -6,13 +6,11 @@ ghost use Rattle.regent_tree.specs.StaticTypes.{field_place};
 ghost use Rattle.regent_tree.specs.Accesses.{space_in};
 ghost use Rattle.regent_tree.specs.Typing.{are_pointers, position_of, positions, reaches_of};
 ghost use Rattle.code_rules.specs.Emitted.{emitted};
-ghost use Rattle.compile_expressions.specs.Here.{where_of};
+ghost use Rattle.compile_types.specs.Here.{where_of};
 ghost use Rattle.code_rules.specs.Instructions.{as_number_code, cast_code, comparing, computing, converted_code, element_code, field_code, kept_code, load_code, one, operand_code, operating, place_of_task, sign_code, signs_code, slot_after, standing_code};
 
 use crate::body::Body;
-use crate::here::{Here, stays};
-use crate::positions::positions;
-use crate::static_type::{width_computed, width_of_type};
+use compile_types::{Here, positions, stays, width_computed, width_of_type};
 use regent_tree::{
     Arithmetic, Comparison, Name, NumberTerm, Operator, Sign, StaticType, Step, Width,
 };

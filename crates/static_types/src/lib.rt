@@ -1,6 +1,7 @@
 //! Static types: what type terms say, what operators give, and what fits what.
 #![tactic(auto)]
 
+mod elements;
 mod fields;
 mod fitting;
 mod formats;
@@ -12,6 +13,7 @@ mod sorts;
 mod stop;
 mod type_rules;
 
+pub use elements::{pointer_into, type_of_element};
 pub use fields::region_has;
 pub use fitting::{agree_all, alike, fits, fits_param, has_wild, is_region_like};
 pub use formats::prints;

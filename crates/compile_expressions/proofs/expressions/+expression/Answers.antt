@@ -2,7 +2,7 @@ use Rattle.regent_tree.proofs.Rows.{expressions_of_vec, links_of_vec, steps_of_v
 use Rattle.regent_tree.specs.Plain.{expressions_in}
 use Rattle.code_rules.specs.Emitted.{emitted}
 use Rattle.code_rules.specs.Expressions.{exprs_code}
-use Rattle.compile_expressions.specs.Here.{where_of}
+use Rattle.compile_types.specs.Here.{where_of}
 use Rattle.compile_expressions.proofs.Members.{args_on}
 use Rattle.compile_expressions.proofs.expressions.+expression.Goals as goal
 

@@ -3,7 +3,7 @@ use Rattle.regent_tree.specs.Plain.{expressions_in, links_in, steps_in}
 use Rattle.regent_tree.specs.Typing.{linked_type}
 use Rattle.code_rules.specs.Emitted.{emitted}
 use Rattle.code_rules.specs.Expressions.{exprs_code, links_code}
-use Rattle.compile_expressions.specs.Here.{where_of}
+use Rattle.compile_types.specs.Here.{where_of}
 use Rattle.compile_expressions.specs.Leads.{Leads}
 use Rattle.compile_expressions.proofs.expressions.+expression.Given as goal
 

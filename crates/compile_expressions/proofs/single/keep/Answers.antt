@@ -1,5 +1,5 @@
 use Rattle.std.proofs.Common.{rules}
-use Rattle.compile_expressions.specs.Here.{where_of}
+use Rattle.compile_types.specs.Here.{where_of}
 use Rattle.compile_expressions.proofs.Steps.{kept_with_steps}
 use Rattle.compile_expressions.proofs.single.keep.Goals as goal
 

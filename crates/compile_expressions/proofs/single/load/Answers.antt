@@ -1,6 +1,6 @@
 use Rattle.std.proofs.Common.{rules, ◌≡◌, true, refl}
 use Rattle.code_rules.specs.Slots.{stays}
-use Rattle.compile_expressions.specs.Here.{where_of}
+use Rattle.compile_types.specs.Here.{where_of}
 use Rattle.compile_expressions.proofs.Steps.{load_with_steps}
 use Rattle.compile_expressions.proofs.single.load.Goals as goal
 
