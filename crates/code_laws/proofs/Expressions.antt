@@ -1,14 +1,12 @@
 -- The code of an expression leaves its value on the stack, or ends with its fault.
 use Rattle.std.proofs.Common.{◌≡◌, ℕ, suc, ◌^◌, ◌<◌, ◌≤◌, ℤ, pos, List, ◌∷◌, Bool, true, false, Option, Some, None, refl, sym, ap, ◌∙◌, subst, arith}
-use Rattle.std.specs.Ordering.{int_eq}
-use Rattle.regent_tree.specs.declared.expression.Arithmetic.TheVariants.{Add, Subtract, Multiply, Divide, Remainder}
 use Rattle.lane_kernels.specs.declared.numbers.Width.TheVariants.{W32, W64}
 use Rattle.regent_tree.specs.declared.types.NumberTerm.{NumberTerm}
 use Rattle.std.proofs.lemmas.Int.{SFits-int_wrap}
 use Rattle.lane_kernels.specs.Numbers.{FitsWidth, wrapped, std_width}
-use Rattle.std.specs.Prelude.{get_or, length, not, nat_lt, slice_get, int_div, int_rem, ◌+ℤ◌, ◌-ℤ◌, ◌*ℤ◌}
+use Rattle.std.specs.Prelude.{get_or, length, not, nat_lt, slice_get}
 use Rattle.std.proofs.lemmas.Bool.{ltb-true}
-use Rattle.std.proofs.lemmas.Option.{slice_get-get_or, none-some, same_Some}
+use Rattle.std.proofs.lemmas.Option.{slice_get-get_or, none-some}
 use Rattle.lane_kernels.specs.declared.numbers.Width.{Width}
 use Rattle.regent_tree.specs.declared.expression.Arithmetic.{Arithmetic}
 use Rattle.regent_tree.specs.declared.expression.Comparison.{Comparison}
@@ -20,7 +18,7 @@ use Rattle.regent_tree.specs.declared.typing.StaticType.TheVariants.{Integer as 
 use Rattle.regent_tree.specs.Lookup.{is_bound}
 use Rattle.regent_tree.specs.Scopes.{bound_to}
 use Rattle.regent_tree.specs.Syntax.{Name, Expression, number_expr, truth_expr, chain_expr, prefix_expr, access_expr, call_expr, convert_expr, is_null_expr, null_expr, cast_expr, space_expr, Links, no_link, a_link, no_step, field_step, at_step}
-use Rattle.regent_tree.specs.Numbers.{computed, wider, unless_zero}
+use Rattle.regent_tree.specs.Numbers.{computed, wider}
 use Rattle.regent_tree.specs.Values.{Value, a_number, a_truth, kept_truth, truth_of, Region}
 use Rattle.regent_tree.specs.StaticTypes.{number_type}
 use Rattle.regent_tree.specs.Typing.{operated, linked_type, signed_type, are_pointers}
@@ -48,7 +46,7 @@ use Rattle.code_laws.specs.Standing.{Stands, machine_value, IsOf, of_integer, of
 use Rattle.code_laws.specs.Scalars.{IsInteger, an_integer, IsTruth, a_truth_type, AreAlike, two_integers, two_truths, IsScalar, scalar_integer, scalar_truth, SignsFit, of_a_truth, of_an_integer, not_before, minus_before, IsTyped, AreTypedLinks, IsIntegerTerm, term_32, term_64}
 use Rattle.code_laws.proofs.Runs.{leads_none, leads_twice, leads_by, ends_by, then, comes_before, comes_said}
 use Rattle.code_laws.proofs.Good.{valued, Good, Gives, pushes}
-use Rattle.code_laws.proofs.Values.{past_later, jump_later, load_value, named, act_computing, act_comparing}
+use Rattle.code_laws.proofs.Values.{past_later, jump_later, load_value, named, act_computing, act_comparing, computed_fits}
 
 -- an instruction stands at a place of 32 bits
 pub fetch_small : (body : List Line) (pc : ℕ) (l : Line) → fetch body pc ≡ Some l → pc < 2 ^ 32
@@ -58,18 +56,6 @@ fetch_small body pc l e = by (nat_lt pc (2 ^ 32)) refl e
         elim b [ true ↦ slice_get body pc | false ↦ None ] ≡ Some l → pc < 2 ^ 32
     by true q e = ltb-true pc (2 ^ 32) q
     by false q e = absurd (none-some l e)
-
--- what arithmetic gives fits
-unless_fits : (w : Width) (b : Bool) (y z : ℤ) → unless_zero b (wrapped w y) ≡ Some z → FitsWidth w z
-unless_fits w true y z e = absurd (none-some z e)
-unless_fits w false y z e = subst (FitsWidth w) (same_Some (wrapped w y) z e) (SFits-int_wrap (std_width w) y)
-
-computed_fits : (o : Arithmetic) (w : Width) (a b z : ℤ) → computed o w a b ≡ Some z → FitsWidth w z
-computed_fits Add w a b z e = unless_fits w false (a +ℤ b) z e
-computed_fits Subtract w a b z e = unless_fits w false (a -ℤ b) z e
-computed_fits Multiply w a b z e = unless_fits w false (a *ℤ b) z e
-computed_fits Divide w a b z e = unless_fits w (int_eq b (pos 0)) (int_div a b) z e
-computed_fits Remainder w a b z e = unless_fits w (int_eq b (pos 0)) (int_rem a b) z e
 
 module _ (x : Setting) (params slots : ℕ) (fit : SlotsFit x slots) (aside : Aside) where
   -- ---- arithmetic

@@ -19,6 +19,7 @@ use Rattle.regent_tree.specs.Values.{Value, a_number, kept_truth}
 use Rattle.regent_tree.specs.declared.statement.How.TheVariants as how
 use Rattle.regent_tree.specs.declared.typing.StaticType.{StaticType}
 use Rattle.regent_tree.specs.declared.typing.StaticType.TheVariants.{Integer as integer_type}
+use Rattle.task_code.specs.declared.instr.Instr.{Instr}
 use Rattle.task_code.specs.declared.instr.Instr.TheVariants as instr
 use Rattle.machine_terms.specs.declared.order.Instance.{Instance}
 use Rattle.machine_terms.specs.declared.value.Value.{Value as MachineValue}
@@ -108,37 +109,24 @@ module _ (x : Setting) (params slots : ℕ) (fit : SlotsFit x slots) (counts : C
   wraps w y pc line i f = leads_by x _ _ (instr.Wrap w) line f refl
 
   -- sums and products
-  sums : (h : Here) (n : Name) (w : Width) (z y : ℤ) (s : State) (pc : ℕ) (i : Instance) → is_bound h.scope.names n ≡ true →
-      (bound_to h.scope.names n).static_type ≡ integer_type w → get_or s.names (bound_to h.scope.names n).place nothing ≡ a_number w z →
-      Agrees x params slots aside h s i →
-      Stands x.body pc (fold_code (where_of params h) (slot_named (where_of params h) n) Sum w) → Folds h n Sum w z y s pc i
-  sums h n w z y s pc i b ty is g f =
-      let u = wrapped w y in
-      let r = wrapped w (u +ℤ z) in
-      let same : r ≡ applied Sum w z u = ap (wrapped w) (+ℤ_comm u z) in
-      subst (λ k. Does x params slots aside (placed pc (machine.Number y ∷ []) i) (suc (suc (suc (suc pc)))) h
-      (gives goes_on (record s { names = slice_set s.names (bound_to h.scope.names n).place (a_number w k) }))) same
+  computes : (o : Op) (k : Width → Instr) (h : Here) (n : Name) (w : Width) (z y r : ℤ) (s : State) (pc : ℕ) (i : Instance) →
+      is_bound h.scope.names n ≡ true → (bound_to h.scope.names n).static_type ≡ integer_type w →
+      get_or s.names (bound_to h.scope.names n).place nothing ≡ a_number w z → Agrees x params slots aside h s i →
+      wrapped w r ≡ applied o w z (wrapped w y) →
+      ((p : ℕ) → Stands x.body p (op (k w) h.line) →
+      Leads x (placed p (machine.Number z ∷ machine.Number (wrapped w y) ∷ []) i) (placed (suc p) (machine.Number (wrapped w r) ∷ []) i)) →
+      Stands x.body pc (op (instr.Wrap w) h.line ⨟ op (instr.Load (slot_named (where_of params h) n)) h.line
+      ⨟ op (k w) h.line ⨟ op (instr.Store (slot_named (where_of params h) n)) h.line) →
+      Does x params slots aside (placed pc (machine.Number y ∷ []) i) (suc (suc (suc (suc pc)))) h
+      (gives goes_on (folded h n o w z y s))
+  computes o k h n w z y r s pc i b ty is g same does f =
+      subst (λ v. Does x params slots aside (placed pc (machine.Number y ∷ []) i) (suc (suc (suc (suc pc)))) h
+      (gives goes_on (record s { names = slice_set s.names (bound_to h.scope.names n).place (a_number w v) }))) same
       (before (suc (suc (suc (suc pc)))) h _ _ _
       (leads_twice x (wraps w y pc h.line i f.0)
-      (leads_twice x (loads h n z w s (suc pc) h.line (machine.Number u ∷ []) i b is g f.1.0)
-      (leads_by x _ (placed (suc (suc (suc pc))) (machine.Number r ∷ []) i) (instr.Add w) h.line f.1.1.0 refl)))
-      (puts h n r w s (suc (suc (suc pc))) h.line i b ty (SFits-int_wrap (std_width w) (u +ℤ z)) g f.1.1.1))
-
-  products : (h : Here) (n : Name) (w : Width) (z y : ℤ) (s : State) (pc : ℕ) (i : Instance) → is_bound h.scope.names n ≡ true →
-      (bound_to h.scope.names n).static_type ≡ integer_type w → get_or s.names (bound_to h.scope.names n).place nothing ≡ a_number w z →
-      Agrees x params slots aside h s i →
-      Stands x.body pc (fold_code (where_of params h) (slot_named (where_of params h) n) Product w) → Folds h n Product w z y s pc i
-  products h n w z y s pc i b ty is g f =
-      let u = wrapped w y in
-      let r = wrapped w (u *ℤ z) in
-      let same : r ≡ applied Product w z u = ap (wrapped w) (*ℤ_comm u z) in
-      subst (λ k. Does x params slots aside (placed pc (machine.Number y ∷ []) i) (suc (suc (suc (suc pc)))) h
-      (gives goes_on (record s { names = slice_set s.names (bound_to h.scope.names n).place (a_number w k) }))) same
-      (before (suc (suc (suc (suc pc)))) h _ _ _
-      (leads_twice x (wraps w y pc h.line i f.0)
-      (leads_twice x (loads h n z w s (suc pc) h.line (machine.Number u ∷ []) i b is g f.1.0)
-      (leads_by x _ (placed (suc (suc (suc pc))) (machine.Number r ∷ []) i) (instr.Mul w) h.line f.1.1.0 refl)))
-      (puts h n r w s (suc (suc (suc pc))) h.line i b ty (SFits-int_wrap (std_width w) (u *ℤ z)) g f.1.1.1))
+      (leads_twice x (loads h n z w s (suc pc) h.line (machine.Number (wrapped w y) ∷ []) i b is g f.1.0)
+      (does (suc (suc pc)) f.1.1.0)))
+      (puts h n (wrapped w r) w s (suc (suc (suc pc))) h.line i b ty (SFits-int_wrap (std_width w) r) g f.1.1.1))
 
   -- ---- the least and the greatest
 
@@ -206,52 +194,49 @@ module _ (x : Setting) (params slots : ℕ) (fit : SlotsFit x slots) (counts : C
         g,
       )
 
-  least : (h : Here) (n : Name) (w : Width) (z y : ℤ) (s : State) (pc : ℕ) (i : Instance) → params ≤ length h.scope.names →
-      is_bound h.scope.names n ≡ true → (bound_to h.scope.names n).static_type ≡ integer_type w →
-      get_or s.names (bound_to h.scope.names n).place nothing ≡ a_number w z → FitsWidth w z → Agrees x params slots aside h s i →
-      Stands x.body pc (fold_code (where_of params h) (slot_named (where_of params h) n) Least w) → Folds h n Least w z y s pc i
-  least h n w z y s pc i low b ty is p g f =
+  compares : (o : Op) (k : Instr) (test : Bool) (h : Here) (n : Name) (w : Width) (z y : ℤ) (s : State) (pc : ℕ) (i : Instance) →
+      params ≤ length h.scope.names → is_bound h.scope.names n ≡ true →
+      (bound_to h.scope.names n).static_type ≡ integer_type w → get_or s.names (bound_to h.scope.names n).place nothing ≡ a_number w z →
+      (test ≡ true → applied o w z (wrapped w y) ≡ wrapped w y) → (test ≡ false → applied o w z (wrapped w y) ≡ z) →
+      Agrees x params slots aside h s i →
+      ((p : ℕ) (j : Instance) → Stands x.body p (op k h.line) →
+      Leads x (placed p (machine.Number z ∷ machine.Number (wrapped w y) ∷ []) j) (placed (suc p) (machine.Number (kept_truth test) ∷ []) j)) →
+      Stands x.body pc (op (instr.Wrap w) h.line ⨟ op (instr.Store (spare (where_of params h) 0)) h.line
+      ⨟ op (instr.Load (spare (where_of params h) 0)) h.line ⨟ op (instr.Load (slot_named (where_of params h) n)) h.line
+      ⨟ op k h.line ⨟ over instr.JumpIfNot h.line
+      (op (instr.Load (spare (where_of params h) 0)) h.line ⨟ op (instr.Store (slot_named (where_of params h) n)) h.line)) →
+      Does x params slots aside (placed pc (machine.Number y ∷ []) i)
+      (suc (suc (suc (suc (suc (suc (suc (suc pc)))))))) h (gives goes_on (folded h n o w z y s))
+  compares o k test h n w z y s pc i low b ty is this that g does f =
       let u = wrapped w y in
-      let q = SFits-int_wrap (std_width w) y in
-      let k = put_aside h u s (suc pc) i low g f.1.0 in
+      let q = put_aside h u s (suc pc) i low g f.1.0 in
       let j = stored (spare (where_of params h) 0) (machine.Number u) i in
       let pc5 = suc (suc (suc (suc (suc pc)))) in
       before (suc (suc (suc pc5))) h _ _ _
       (leads_twice x (wraps w y pc h.line i f.0)
-      (leads_twice x k.0
-      (leads_twice x (takes_aside h u s (suc (suc pc)) [] i k.1 g.slots_are f.1.1.0)
-      (leads_twice x (loads h n z w s (suc (suc (suc pc))) h.line (machine.Number u ∷ []) j b is k.1 f.1.1.1.0)
-      (leads_by x _ (placed pc5 (machine.Number (kept_truth (int_lt u z)) ∷ []) j) instr.Lt h.line f.1.1.1.1.0 refl)))))
-      (chooses h n w z u (applied Least w z u) (int_lt u z) s pc5 i b ty is q (min_right w z u q) (min_left w z u p)
-      g.slots_are k.1 f.1.1.1.1.1)
-
-  greatest : (h : Here) (n : Name) (w : Width) (z y : ℤ) (s : State) (pc : ℕ) (i : Instance) → params ≤ length h.scope.names →
-      is_bound h.scope.names n ≡ true → (bound_to h.scope.names n).static_type ≡ integer_type w →
-      get_or s.names (bound_to h.scope.names n).place nothing ≡ a_number w z → FitsWidth w z → Agrees x params slots aside h s i →
-      Stands x.body pc (fold_code (where_of params h) (slot_named (where_of params h) n) Greatest w) → Folds h n Greatest w z y s pc i
-  greatest h n w z y s pc i low b ty is p g f =
-      let u = wrapped w y in
-      let q = SFits-int_wrap (std_width w) y in
-      let k = put_aside h u s (suc pc) i low g f.1.0 in
-      let j = stored (spare (where_of params h) 0) (machine.Number u) i in
-      let pc5 = suc (suc (suc (suc (suc pc)))) in
-      before (suc (suc (suc pc5))) h _ _ _
-      (leads_twice x (wraps w y pc h.line i f.0)
-      (leads_twice x k.0
-      (leads_twice x (takes_aside h u s (suc (suc pc)) [] i k.1 g.slots_are f.1.1.0)
-      (leads_twice x (loads h n z w s (suc (suc (suc pc))) h.line (machine.Number u ∷ []) j b is k.1 f.1.1.1.0)
-      (leads_by x _ (placed pc5 (machine.Number (kept_truth (int_lt z u)) ∷ []) j) instr.Gt h.line f.1.1.1.1.0 refl)))))
-      (chooses h n w z u (applied Greatest w z u) (int_lt z u) s pc5 i b ty is q (max_right w z u q) (max_left w z u p)
-      g.slots_are k.1 f.1.1.1.1.1)
+      (leads_twice x q.0
+      (leads_twice x (takes_aside h u s (suc (suc pc)) [] i q.1 g.slots_are f.1.1.0)
+      (leads_twice x (loads h n z w s (suc (suc (suc pc))) h.line (machine.Number u ∷ []) j b is q.1 f.1.1.1.0)
+      (does (suc (suc (suc (suc pc)))) j f.1.1.1.1.0)))))
+      (chooses h n w z u (applied o w z u) test s pc5 i b ty is (SFits-int_wrap (std_width w) y) this that
+      g.slots_are q.1 f.1.1.1.1.1)
 
   by_operator : (o : Op) (h : Here) (n : Name) (w : Width) (z y : ℤ) (s : State) (pc : ℕ) (i : Instance) →
       params ≤ length h.scope.names → is_bound h.scope.names n ≡ true → (bound_to h.scope.names n).static_type ≡ integer_type w →
       get_or s.names (bound_to h.scope.names n).place nothing ≡ a_number w z → FitsWidth w z → Agrees x params slots aside h s i →
       Stands x.body pc (fold_code (where_of params h) (slot_named (where_of params h) n) o w) → Folds h n o w z y s pc i
-  by_operator Sum h n w z y s pc i low b ty is p g f = sums h n w z y s pc i b ty is g f
-  by_operator Product h n w z y s pc i low b ty is p g f = products h n w z y s pc i b ty is g f
-  by_operator Least h n w z y s pc i low b ty is p g f = least h n w z y s pc i low b ty is p g f
-  by_operator Greatest h n w z y s pc i low b ty is p g f = greatest h n w z y s pc i low b ty is p g f
+  by_operator Sum h n w z y s pc i low b ty is p g f = computes Sum instr.Add h n w z y (wrapped w y +ℤ z) s pc i b ty is g
+      (ap (wrapped w) (+ℤ_comm (wrapped w y) z)) (λ p k. leads_by x _ _ (instr.Add w) h.line k refl) f
+  by_operator Product h n w z y s pc i low b ty is p g f = computes Product instr.Mul h n w z y (wrapped w y *ℤ z) s pc i b ty is g
+      (ap (wrapped w) (*ℤ_comm (wrapped w y) z)) (λ p k. leads_by x _ _ (instr.Mul w) h.line k refl) f
+  by_operator Least h n w z y s pc i low b ty is p g f =
+      compares Least instr.Lt (int_lt (wrapped w y) z) h n w z y s pc i low b ty is
+      (min_right w z (wrapped w y) (SFits-int_wrap (std_width w) y)) (min_left w z (wrapped w y) p) g
+      (λ p j k. leads_by x _ _ instr.Lt h.line k refl) f
+  by_operator Greatest h n w z y s pc i low b ty is p g f =
+      compares Greatest instr.Gt (int_lt z (wrapped w y)) h n w z y s pc i low b ty is
+      (max_right w z (wrapped w y) (SFits-int_wrap (std_width w) y)) (max_left w z (wrapped w y) p) g
+      (λ p j k. leads_by x _ _ instr.Gt h.line k refl) f
 
   -- by the types of the value and of the variable
   by_types : (o : Op) (h : Here) (n : Name) (t u : StaticType) (v old : Value) (s : State) (pc : ℕ) (i : Instance) →

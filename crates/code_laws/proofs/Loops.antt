@@ -1,5 +1,5 @@
 -- Loops: the code of a loop does what its rounds mean.
-use Rattle.code_laws.proofs.Rows.{does_before, does_said, fewer_turns, jumps_back, no_turn, relimit, tests, then_going, three_least, pays_from}
+use Rattle.code_laws.proofs.Rows.{does_before, does_said, fewer, fewer_turns, jumps_back, no_turn, relimit, tests, then_going, three_least, pays_from}
 use Rattle.std.proofs.lemmas.Int.{ints}
 use Rattle.lane_kernels.specs.declared.numbers.Width.TheVariants.{W32, W64}
 use Rattle.lane_kernels.specs.Numbers.{FitsWidth}
@@ -217,19 +217,7 @@ module _ (x : Setting) (params slots : ℕ) (fit : SlotsFit x slots) (counts : C
       let room : v < length i.frame.slots = omega (arith, used.2, g.slots_are) in
       let s1 = record s { turns = m } in
       let i1 = fewer_turns x params slots fit counts m i in
-      let g1 : Agrees x params slots aside h s1 i1 = record {
-        names = g.names;
-        hidden = g.hidden;
-        typed = g.typed;
-        count = g.count;
-        inside = g.inside;
-        slots_are = g.slots_are;
-        turns = refl;
-        bound = omega (arith, g.bound, q);
-        text = g.text;
-        own = g.own;
-        store = g.store;
-      } in
+      let g1 = fewer x params slots fit counts m aside h s i (omega (arith, q)) g in
       let s2 = record s1 { names = s.names ++ a_number wd z ∷ [] } in
       let i2 = stored v (machine.Number z) i1 in
       let j = headed c v z m i in

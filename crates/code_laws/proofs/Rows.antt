@@ -189,6 +189,23 @@ module _ (x : Setting) (params slots : ℕ) (fit : SlotsFit x slots) (counts : C
   abbrev pub fewer_turns : ℕ → Instance → Instance
   fewer_turns n i = record i { frame = record i.frame { turns = n } }
 
+  -- what agrees still does with fewer turns
+  pub fewer : (n : ℕ) (aside : Aside) (h : Here) (s : State) (i : Instance) → n ≤ s.turns →
+      Agrees x params slots aside h s i → Agrees x params slots aside h (record s { turns = n }) (fewer_turns n i)
+  fewer n aside h s i l g = record {
+    names = g.names;
+    hidden = g.hidden;
+    typed = g.typed;
+    count = g.count;
+    inside = g.inside;
+    slots_are = g.slots_are;
+    turns = refl;
+    bound = omega (arith, g.bound, l);
+    text = g.text;
+    own = g.own;
+    store = g.store;
+  }
+
   pub relimit : (aside : Aside) (k : ℕ) (h : Here) (s : State) (i : Instance) → s.turns ≤ k →
       Agrees x params slots aside h s i → Agrees x params slots (record aside { turns = k }) h s i
   relimit aside k h s i l g = record {
@@ -221,19 +238,7 @@ module _ (x : Setting) (params slots : ℕ) (fit : SlotsFit x slots) (counts : C
       (leads_by x _ _ instr.Turn h.line f
       (ap (λ n. on_step x (placed pc [] i) (on_turn n h.line (machine_of (placed pc [] i)) (λ p. next [] p)))
       (g.turns ∙ e)))
-      (more (record s { turns = n }) (record i { frame = record i.frame { turns = n } }) (sym e) (record {
-        names = g.names;
-        hidden = g.hidden;
-        typed = g.typed;
-        count = g.count;
-        inside = g.inside;
-        slots_are = g.slots_are;
-        turns = refl;
-        bound = omega (arith, g.bound, e);
-        text = g.text;
-        own = g.own;
-        store = g.store;
-      }))
+      (more (record s { turns = n }) (fewer_turns n i) (sym e) (fewer n aside h s i (omega (arith, e)) g))
 
   pub no_turn : (aside : Aside) (pc : ℕ) (h : Here) (s : State) (i : Instance) →
       Agrees x params slots aside h s i → s.turns ≡ 0 → Stands x.body pc (op instr.Turn h.line) →

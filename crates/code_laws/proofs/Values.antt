@@ -1,7 +1,11 @@
 -- What single instructions do with values.
-use Rattle.std.proofs.Common.{◌≡◌, ℕ, suc, ◌<◌, ◌≤◌, List, [], ◌∷◌, Bool, true, false, Some, refl, ap, subst, arith}
-use Rattle.std.specs.Prelude.{get_or, length, bytes_eq, cond, ◌||◌}
+use Rattle.std.proofs.Common.{◌≡◌, ℕ, suc, ◌<◌, ◌≤◌, ℤ, pos, List, [], ◌∷◌, Bool, true, false, Some, refl, ap, subst, arith}
+use Rattle.std.specs.Ordering.{int_eq}
+use Rattle.std.specs.Prelude.{get_or, length, bytes_eq, cond, ◌||◌, int_div, int_rem, ◌+ℤ◌, ◌-ℤ◌, ◌*ℤ◌}
 use Rattle.std.proofs.lemmas.Bool.{lt-ltb}
+use Rattle.std.proofs.lemmas.Int.{SFits-int_wrap}
+use Rattle.std.proofs.lemmas.Option.{none-some, same_Some}
+use Rattle.lane_kernels.specs.Numbers.{FitsWidth, std_width, wrapped}
 use Rattle.lane_kernels.specs.declared.numbers.Width.{Width}
 use Rattle.regent_tree.specs.declared.expression.Arithmetic.{Arithmetic}
 use Rattle.regent_tree.specs.declared.expression.Arithmetic.TheVariants as arithmetic
@@ -9,6 +13,7 @@ use Rattle.regent_tree.specs.declared.expression.Comparison.{Comparison}
 use Rattle.regent_tree.specs.declared.expression.Comparison.TheVariants as comparison
 use Rattle.regent_tree.specs.declared.typing.Bound.{Bound}
 use Rattle.regent_tree.specs.Lookup.{is_bound}
+use Rattle.regent_tree.specs.Numbers.{computed, unless_zero}
 use Rattle.regent_tree.specs.Scopes.{bound_to}
 use Rattle.regent_tree.specs.Syntax.{Name}
 use Rattle.regent_tree.specs.Values.{Value, a_number, a_truth, an_index, a_pointer, a_space, a_region, a_partition}
@@ -97,3 +102,15 @@ act_comparing code body comparison.Less line m = refl
 act_comparing code body comparison.AtMost line m = refl
 act_comparing code body comparison.Greater line m = refl
 act_comparing code body comparison.AtLeast line m = refl
+
+-- what arithmetic gives fits
+unless_fits : (w : Width) (b : Bool) (y z : ℤ) → unless_zero b (wrapped w y) ≡ Some z → FitsWidth w z
+unless_fits w true y z e = absurd (none-some z e)
+unless_fits w false y z e = subst (FitsWidth w) (same_Some (wrapped w y) z e) (SFits-int_wrap (std_width w) y)
+
+pub computed_fits : (o : Arithmetic) (w : Width) (a b z : ℤ) → computed o w a b ≡ Some z → FitsWidth w z
+computed_fits arithmetic.Add w a b z e = unless_fits w false (a +ℤ b) z e
+computed_fits arithmetic.Subtract w a b z e = unless_fits w false (a -ℤ b) z e
+computed_fits arithmetic.Multiply w a b z e = unless_fits w false (a *ℤ b) z e
+computed_fits arithmetic.Divide w a b z e = unless_fits w (int_eq b (pos 0)) (int_div a b) z e
+computed_fits arithmetic.Remainder w a b z e = unless_fits w (int_eq b (pos 0)) (int_rem a b) z e
