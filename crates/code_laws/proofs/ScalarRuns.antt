@@ -14,7 +14,7 @@ use Rattle.regent_tree.specs.declared.typing.StaticType.{StaticType}
 use Rattle.regent_tree.specs.declared.types.TypeTerm.{TypeTerm}
 use Rattle.regent_tree.specs.declared.types.Param.{Param}
 use Rattle.code_rules.specs.Programs.{task_code}
-use Rattle.code_laws.proofs.Top.{scalars_run_as_meant}
+use Rattle.code_laws.proofs.Top.{scalars_leave_no_roots, scalars_run_as_meant}
 use Rattle.code_rules.specs.Instructions.{place_of_task, tasks_of}
 use Rattle.code_laws.proofs.Openings.{params_length, types_cons, types_in, types_length}
 use Rattle.regent_tree.specs.Typing.{param_types, width_of_type}
@@ -41,7 +41,7 @@ use Rattle.lane_kernels.specs.Numbers.{FitsWidth}
 use Rattle.regent_tree.proofs.Members.{Contains-from_Has, Has, Has-map}
 use Rattle.code_laws.specs.Programs.{AreTaken, IsScalarRun}
 use Rattle.scalar_form.specs.ScalarForm.{is_scalar_item, is_scalar_task, is_scalar_term, is_scalar_if_said, is_empty, is_scalar_block}
-use Rattle.code_laws.specs.ScalarPrograms.{AreInputs, IsScalarProgramRun, ScalarProgramsRunAsMeant}
+use Rattle.code_laws.specs.ScalarPrograms.{AreInputs, IsScalarProgramRun, ScalarProgramsLeaveNoRoots, ScalarProgramsRunAsMeant}
 use Rattle.code_laws.proofs.Typing.{AllScalar, AreKept, kept_left, kept_right, no_way_back}
 use Rattle.std.proofs.Common.{◌≡◌, Bool, List, [], ◌∷◌, ◌++◌, None, Some, false, true, refl, ap, sym, subst, ℕ, suc, ◌+◌, ◌∙◌, inl, inr, not, ℤ, map, cond, arith, ◌<◌, ◌^◌}
 use Rattle.std.specs.Prelude.{bytes_eq, length, slice_get, ◌||◌, ◌&&◌, All, option_map, filter, flat_map}
@@ -296,3 +296,6 @@ scalar_run tree inputs p =
 
 pub scalar_programs_run_as_meant : ScalarProgramsRunAsMeant
 scalar_programs_run_as_meant tree inputs turns p = scalars_run_as_meant tree inputs turns (scalar_run tree inputs p)
+
+pub scalar_programs_leave_no_roots : ScalarProgramsLeaveNoRoots
+scalar_programs_leave_no_roots tree inputs turns p = scalars_leave_no_roots tree inputs turns (scalar_run tree inputs p)

@@ -3,7 +3,7 @@ use Rattle.std.proofs.Common.{◌≡◌, ℕ, ◌≤◌, ℤ, List, [], ◌∷�
 use Rattle.std.specs.Prelude.{cond, length, map, nat_le, ◌==◌, ◌&&◌}
 use Rattle.std.proofs.lemmas.Bool.{le-leb, eq-eqb}
 use Rattle.regent_tree.specs.Execution.{Going, goes_on, returned}
-use Rattle.regent_tree.specs.Meaning.{body_of, calls_at, inputs_of, opening, outcome}
+use Rattle.regent_tree.specs.Meaning.{body_of, calls_at, inputs_of, meaning, opening, outcome}
 use Rattle.regent_tree.specs.Running.{Result, fails, gives}
 use Rattle.regent_tree.specs.Scopes.{scope_of}
 use Rattle.regent_tree.specs.StaticTypes.{entry_name, task_named}
@@ -27,7 +27,7 @@ use Rattle.code_rules.specs.Pieces.{op, past}
 use Rattle.code_rules.specs.Programs.{body_piece, code_of, place_of, task_code}
 use Rattle.code_rules.specs.Statements.{block_code}
 use Rattle.code_rules.specs.Used.{slots_of_lines, slots_used}
-use Rattle.code_laws.specs.Programs.{ScalarsRunAsMeant, job_of, scalar_setting}
+use Rattle.code_laws.specs.Programs.{IsScalarRun, LeavesNoRoots, RunsAsMeant, ScalarsRunAsMeant, job_of, scalar_setting}
 use Rattle.code_laws.specs.Standing.{Does, Stands, machine_value}
 use Rattle.code_laws.specs.Steps.{Ends, Setting, placed}
 use Rattle.code_laws.proofs.Counts.{counts_down}
@@ -61,7 +61,7 @@ module _ (tree : Tree) (turns : ℕ) (t : TaskTree) where
       (past (block_code (place_of tree t) t.body) 0)
       (record (body_of tree (calls_at tree turns 63) t) { scope = scope_after_block tree (scope_of tree t) t.body }) r →
       Stands (task_code tree t).body (past (block_code (place_of tree t) t.body) 0) (op instr.Return 0) →
-      (e : Ended) × Ends x i e × IsTold r e
+      (e : Ended) × Ends x i e × IsTold r e × LeavesNoRoots (outcome r).ending
   by_end i (gives goes_on s) d f =
       let k = placed (past (block_code (place_of tree t) t.body) 0) [] d.0 in (
         _,
@@ -69,6 +69,7 @@ module _ (tree : Tree) (turns : ℕ) (t : TaskTree) where
         ap (λ own. record { text = d.0.text; ending = Finished (map (λ (r : RootId). image_of (give_parts d.0.parts d.0.contents) r.0) own) }) d.2.own
             ∙ ap (λ text. record { text = text; ending = Finished [] }) d.2.text
             ∙ sym (ap (λ store. record { text = s.text; ending = Finished store }) d.2.store),
+        d.2.store,
       )
   by_end i (gives (returned v) s) d f = (
     _,
@@ -76,11 +77,13 @@ module _ (tree : Tree) (turns : ℕ) (t : TaskTree) where
     ap (λ own. record { text = d.1.text; ending = Finished (map (λ (r : RootId). image_of (give_parts d.1.parts d.1.contents) r.0) own) }) d.5
         ∙ ap (λ text. record { text = text; ending = Finished [] }) d.4
         ∙ sym (ap (λ store. record { text = s.text; ending = Finished store }) d.6),
+    d.6,
   )
-  by_end i (fails k s) d f = (_, d, refl)
+  by_end i (fails k s) d f = (_, d, refl, tt)
 
-pub scalars_run_as_meant : ScalarsRunAsMeant
-scalars_run_as_meant tree inputs turns p =
+scalars_end : (tree : Tree) (inputs : List ℤ) (turns : ℕ) → IsScalarRun tree inputs →
+    RunsAsMeant tree inputs turns × LeavesNoRoots (meaning tree inputs turns).ending
+scalars_end tree inputs turns p =
     let t = task_named tree (entry_name tree) in
     let code = task_code tree t in
     let place = place_of_task tree (entry_name tree) in
@@ -105,9 +108,18 @@ scalars_run_as_meant tree inputs turns p =
     let begins : may_start job code ≡ true =
     ap (λ ns. (length ns == 0) && (length inputs == length t.params) && nat_le (length t.params) code.slots) p.needs
     ∙ ap (λ b. b && nat_le (length t.params) code.slots) (eq-eqb (length inputs) (length t.params) p.count)
-    ∙ le-leb (length t.params) code.slots room in
-    ap (run_first job) p.start
-    ∙ ap (λ b. cond b (run_outcome (runs (code_of tree) turns 64 (begun (frames.opening turns 1 place code (map machine.Number inputs)) [] no_contents))) void_outcome) begins
-    ∙ ap (λ ms. run_outcome (runs (code_of tree) turns 64 (begun (frames.opening turns 1 place code ms) [] no_contents))) (sym same)
-    ∙ ap run_outcome ran
-    ∙ done.2
+    ∙ le-leb (length t.params) code.slots room in (
+      ap (run_first job) p.start
+          ∙ ap (λ b. cond b (run_outcome (runs (code_of tree) turns 64 (begun (frames.opening turns 1 place code (map machine.Number inputs)) [] no_contents))) void_outcome) begins
+          ∙ ap (λ ms. run_outcome (runs (code_of tree) turns 64 (begun (frames.opening turns 1 place code ms) [] no_contents))) (sym same)
+          ∙ ap run_outcome ran
+          ∙ done.2,
+      done.3,
+    )
+
+pub scalars_run_as_meant : ScalarsRunAsMeant
+scalars_run_as_meant tree inputs turns p = (scalars_end tree inputs turns p).0
+
+pub scalars_leave_no_roots : (tree : Tree) (inputs : List ℤ) (turns : ℕ) → IsScalarRun tree inputs →
+    LeavesNoRoots (meaning tree inputs turns).ending
+scalars_leave_no_roots tree inputs turns p = (scalars_end tree inputs turns p).1

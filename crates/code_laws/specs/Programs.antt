@@ -5,6 +5,8 @@ use Rattle.regent_tree.specs.StaticTypes.{entry_name, task_named}
 use Rattle.regent_tree.specs.Syntax.{TaskTree, Tree}
 use Rattle.regent_tree.specs.Typing.{param_types, result_type}
 use Rattle.regent_tree.specs.Values.{Value}
+use Rattle.regent_tree.specs.declared.outcome.Ending.{Ending}
+use Rattle.regent_tree.specs.declared.outcome.Ending.TheVariants.{Finished, Faulted, Broken}
 use Rattle.regent_tree.specs.declared.typing.StaticType.{StaticType}
 use Rattle.task_code.specs.declared.job.Job.{Job}
 use Rattle.machine_terms.specs.Jobs.{order_run}
@@ -53,3 +55,9 @@ RunsAsMeant tree inputs turns = order_run (job_of tree inputs turns) ≡ meaning
 
 abbrev pub ScalarsRunAsMeant : Type 0
 ScalarsRunAsMeant = (tree : Tree) (inputs : List ℤ) (turns : ℕ) → IsScalarRun tree inputs → RunsAsMeant tree inputs turns
+
+-- a run ends without roots, or with a fault
+abbrev pub LeavesNoRoots : Ending → Type 0
+LeavesNoRoots (Finished roots) = roots ≡ []
+LeavesNoRoots (Faulted f) = Unit {0}
+LeavesNoRoots Broken = ⊥

@@ -3,11 +3,12 @@ use Rattle.std.specs.Prelude.{◌≡◌, ℕ, ℤ, true, List, [], ◌∷◌}
 use Rattle.lane_kernels.specs.Numbers.{FitsWidth}
 use Rattle.lane_kernels.specs.declared.numbers.Width.{Width}
 use Rattle.regent_tree.specs.Limits.{WithinLimits}
+use Rattle.regent_tree.specs.Meaning.{meaning}
 use Rattle.regent_tree.specs.Syntax.{Tree}
 use Rattle.check_rules.specs.Acceptance.{input_widths}
 use Rattle.check_rules.specs.Breaches.{breaches}
 use Rattle.scalar_form.specs.ScalarForm.{is_scalar_program}
-use Rattle.code_laws.specs.Programs.{RunsAsMeant}
+use Rattle.code_laws.specs.Programs.{LeavesNoRoots, RunsAsMeant}
 
 -- a number for each width
 abbrev pub AreInputs : List Width → List ℤ → Type 0
@@ -25,3 +26,8 @@ pub record IsScalarProgramRun (tree : Tree) (inputs : List ℤ) : Type 0 where
 -- The run in order of its code, with any number of turns, is what it means.
 abbrev pub ScalarProgramsRunAsMeant : Type 0
 ScalarProgramsRunAsMeant = (tree : Tree) (inputs : List ℤ) (turns : ℕ) → IsScalarProgramRun tree inputs → RunsAsMeant tree inputs turns
+
+-- Its meaning has no roots at the end, and is never broken.
+abbrev pub ScalarProgramsLeaveNoRoots : Type 0
+ScalarProgramsLeaveNoRoots = (tree : Tree) (inputs : List ℤ) (turns : ℕ) → IsScalarProgramRun tree inputs →
+    LeavesNoRoots (meaning tree inputs turns).ending

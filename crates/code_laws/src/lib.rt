@@ -5,7 +5,7 @@
 
 ghost use Rattle.code_laws.specs.Example.{ExampleHolds};
 ghost use Rattle.code_laws.specs.Programs.{ScalarsRunAsMeant};
-ghost use Rattle.code_laws.specs.ScalarPrograms.{ScalarProgramsRunAsMeant};
+ghost use Rattle.code_laws.specs.ScalarPrograms.{ScalarProgramsLeaveNoRoots, ScalarProgramsRunAsMeant};
 
 /// Where the entry task's body is typed and treats scalars alone, the run in order of its code is what the
 /// program means: its text, and its end or its first fault with the line.
@@ -18,6 +18,11 @@ pub fn scalars_run_as_meant()
 #[tactic(auto, using(crate::proofs::ScalarRuns::scalar_programs_run_as_meant))]
 pub fn scalar_programs_run_as_meant()
     ensures { ScalarProgramsRunAsMeant }
+{}
+
+/// Such a program leaves no roots, and what it means is never broken.
+pub fn scalar_programs_leave_no_roots()
+    ensures { ScalarProgramsLeaveNoRoots }
 {}
 
 /// A program and a number of which each premise of the law holds.

@@ -28,6 +28,7 @@ refused asked later before now (verdict.Refused message) said none = none_named 
 refused asked later before now verdict.NotBuilt said none = none_named asked said.0 said.1 none
 refused asked later before now verdict.OtherInputs said none = none_named asked said.0 said.1 none
 refused asked later before now (verdict.Finished text traces) said none = none_named asked said.0 said.1 none
+refused asked later before now (verdict.Faulted text message) said none = none_named asked said.0 said.1 none
 refused asked later before now verdict.Accepted said none = none_named asked said.0 said.1 none
 
 stopped_or_two : (call : Call) (v : Verdict) (answer : ℕ) → IsDelivered v answer call.out call.err → (status_of v ≡ 2) ⊎ (status_of v ≡ 7) → UnlessStopped 2 answer
@@ -47,6 +48,7 @@ steady_source before now (verdict.Refused message) h isnt = h
 steady_source before now verdict.NotBuilt h isnt = h
 steady_source before now verdict.OtherInputs h isnt = h
 steady_source before now (verdict.Finished text traces) h isnt = h
+steady_source before now (verdict.Faulted text message) h isnt = h
 steady_source before now verdict.Accepted h isnt = h
 
 -- ---- what was read
@@ -78,6 +80,7 @@ begun_as call (verdict.Refused message) h is = begun_once call h
 begun_as call verdict.NotBuilt h is = begun_once call h
 begun_as call verdict.OtherInputs h is = begun_once call h
 begun_as call (verdict.Finished text traces) h is = begun_once call h
+begun_as call (verdict.Faulted text message) h is = begun_once call h
 begun_as call verdict.Accepted h is = begun_once call h
 
 begins_as : (call : Call) (v : Verdict) → BeginsIn call v → IsNotBegun call ⊎ IsBegunOnce call
@@ -90,6 +93,7 @@ begins_as call (verdict.Refused message) h = inr (begun_once call h)
 begins_as call verdict.NotBuilt h = inr (begun_once call h)
 begins_as call verdict.OtherInputs h = inr (begun_once call h)
 begins_as call (verdict.Finished text traces) h = inr (begun_once call h)
+begins_as call (verdict.Faulted text message) h = inr (begun_once call h)
 begins_as call verdict.Accepted h = inr (begun_once call h)
 
 -- a text that isn't too long was read to its end
@@ -108,6 +112,7 @@ whole_as call (verdict.Refused message) h is = next_read call.source.later call.
 whole_as call verdict.NotBuilt h is = next_read call.source.later call.source.left_now h
 whole_as call verdict.OtherInputs h is = next_read call.source.later call.source.left_now h
 whole_as call (verdict.Finished text traces) h is = next_read call.source.later call.source.left_now h
+whole_as call (verdict.Faulted text message) h is = next_read call.source.later call.source.left_now h
 whole_as call verdict.Accepted h is = next_read call.source.later call.source.left_now h
 
 -- ---- the whole

@@ -1,12 +1,12 @@
 -- The status that a verdict comes to, and that of the text.
-use Rattle.std.proofs.Common.{◌≡◌, ℕ, ◌⊎◌, inl, inr, List, Option, Some, None, map, unwrap_or, refl, sym, ap, subst, ◌∙◌}
+use Rattle.std.proofs.Common.{◌≡◌, ℕ, ◌⊎◌, inl, inr, List, Option, Some, None, unwrap_or, refl, sym, ap, subst, ◌∙◌}
 use Rattle.run_io.specs.Faults.{Rose}
 use Rattle.run_io.specs.Source.{next_left}
 use Rattle.regent_run.specs.declared.verdict.Verdict.{Verdict}
 use Rattle.regent_run.specs.declared.verdict.Verdict.TheVariants as verdict
 use Rattle.regent_run.specs.Answers.{NoneRose, UnlessUnread}
 use Rattle.regent_run.specs.Calls.{Call, SinkChange}
-use Rattle.regent_run.specs.Programs.{Comes, OfNextText, finishes, has_a_breach, has_other_inputs, is_accepted, is_no_program, is_not_built, passes_a_limit}
+use Rattle.regent_run.specs.Programs.{Comes, OfNextText, faults, finishes, has_a_breach, has_other_inputs, is_accepted, is_no_program, is_not_built, passes_a_limit}
 use Rattle.regent_run.specs.Verdicts.{IsDelivered, Says, SaysOfText, status_of}
 use Rattle.command_words.specs.Commands.{Run}
 use Rattle.regent_run.specs.Words.{Deed, Request, request, runs}
@@ -27,10 +27,8 @@ says_comes texts deed before now (verdict.PastLimit l) h = inr (inr (passes_a_li
 says_comes texts deed before now (verdict.Refused m) h = inr (inr (has_a_breach h.3))
 says_comes texts deed before now verdict.NotBuilt h = inr (inr (says_run (next_left texts) deed h.0 10 h.1 (is_not_built h.2)))
 says_comes texts deed before now verdict.OtherInputs h = inr (inr (says_run (next_left texts) deed h.0 9 h.1 (has_other_inputs h.2)))
-says_comes texts deed before now (verdict.Finished p traces) h =
-    let r = h.3 in
-    inr (inr (says_run (next_left texts) deed h.0 0 h.1
-    (finishes (record { tree = r.tree; reads = r.reads; sound = r.sound; form = r.form; inputs = map Some r.inputs; given = r.given; fits = r.fits }))))
+says_comes texts deed before now (verdict.Finished p traces) h = inr (inr (says_run (next_left texts) deed h.0 0 h.1 (finishes h.3)))
+says_comes texts deed before now (verdict.Faulted p message) h = inr (inr (says_run (next_left texts) deed h.0 1 h.1 (faults h.4)))
 says_comes texts deed before now verdict.Accepted h = inr (inr (subst (λ (d : Deed). Comes (next_left texts) d 0) (sym h.0) (is_accepted h.1)))
 
 -- words name one file, and one thing to do with it
@@ -53,6 +51,7 @@ says_named asked later before now (verdict.Refused m) named is said = renamed as
 says_named asked later before now verdict.NotBuilt named is said = renamed asked named said.0 later before now verdict.NotBuilt is said.1 said.2
 says_named asked later before now verdict.OtherInputs named is said = renamed asked named said.0 later before now verdict.OtherInputs is said.1 said.2
 says_named asked later before now (verdict.Finished p traces) named is said = renamed asked named said.0 later before now (verdict.Finished p traces) is said.1 said.2
+says_named asked later before now (verdict.Faulted p message) named is said = renamed asked named said.0 later before now (verdict.Faulted p message) is said.1 said.2
 says_named asked later before now verdict.Accepted named is said = renamed asked named said.0 later before now verdict.Accepted is said.1 said.2
 
 comes_on : (text : List ℕ) (deed : Deed) (before now n answer : ℕ) (v : Verdict) (out err : SinkChange) → IsDelivered v answer out err → Comes text deed n →

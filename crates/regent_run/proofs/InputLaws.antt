@@ -1,51 +1,69 @@
 -- Inputs, one word after the other.
-use Rattle.std.proofs.Common.{◌≡◌, ◌∙◌, ℕ, ℤ, suc, zero, ◌+◌, ◌<◌, List, [], ◌∷◌, ◌++◌, length, get_or, take, refl, ap, sym, subst, Option, Some, None, arith, Bool, true, false, ◌&&◌, map}
-use Rattle.regent_tree.specs.declared.types.Param.{Param}
-use Rattle.straight_run.specs.Inputs.{are_inputs}
+use Rattle.std.proofs.Common.{◌≡◌, ◌∙◌, ℕ, ℤ, suc, zero, ◌+◌, ◌<◌, List, [], ◌∷◌, ◌++◌, length, get_or, take, refl, ap, sym, subst, arith, map}
+use Rattle.std.proofs.lemmas.List.{map-append}
+use Rattle.std.specs.Prelude.{FitsSigned}
+use Rattle.std.specs.Int.{w64}
+use Rattle.lane_kernels.specs.Numbers.{FitsWidth}
+use Rattle.lane_kernels.specs.declared.numbers.Width.{Width}
+use Rattle.lane_kernels.specs.declared.numbers.Width.TheVariants.{W32, W64}
 use Rattle.regent_run.specs.Inputs.{AreInputs, IsInput}
 
-more_inputs : (ws : List (List ℕ)) (zs : List (Option ℤ)) (w : List ℕ) (z : Option ℤ) → AreInputs ws zs → IsInput w z → AreInputs (ws ++ w ∷ []) (zs ++ z ∷ [])
-more_inputs [] [] w z h i = (i, tt)
-more_inputs [] (y ∷ zs) w z h i = absurd h
-more_inputs (v ∷ ws) [] w z h i = absurd h
-more_inputs (v ∷ ws) (y ∷ zs) w z h i = (h.0, more_inputs ws zs w z h.1 i)
+-- each width's numbers are numbers of 64 bits
+pub fits_64 : (w : Width) (z : ℤ) → FitsWidth w z → FitsSigned w64 z
+fits_64 W32 z h = omega (arith, h)
+fits_64 W64 z h = h
 
-map-snoc : {A : Type 0} (v : A → List ℕ) (words : List A) (i : ℕ) (d : A) → i < length words → map v (take (i + 1) words) ≡ map v (take i words) ++ v (get_or words i d) ∷ []
-map-snoc v [] i d h = absurd (omega arith)
-map-snoc v (w ∷ words) zero d h = refl
-map-snoc v (w ∷ words) (suc i) d h = let e : suc i + 1 ≡ suc (i + 1) = omega arith in rw e (ap (λ ws. v w ∷ ws) (map-snoc v words i d (omega arith)))
+-- there are as many words as widths
+pub as_many : (ws : List Width) (words : List (List ℕ)) (zs : List ℤ) → AreInputs ws words zs → length ws ≡ length words
+as_many [] [] [] h = refl
+as_many [] [] (z ∷ zs) h = absurd h
+as_many [] (word ∷ words) zs h = absurd h
+as_many (w ∷ ws) [] zs h = absurd h
+as_many (w ∷ ws) (word ∷ words) [] h = absurd h
+as_many (w ∷ ws) (word ∷ words) (z ∷ zs) h = ap suc (as_many ws words zs h.1)
 
-pub input_on : {A : Type 0} (v : A → List ℕ) (words : List A) (i : ℕ) (d : A) (zs : List (Option ℤ)) (z : Option ℤ) → i < length words →
-    IsInput (v (get_or words i d)) z → AreInputs (map v (take i words)) zs → AreInputs (map v (take (i + 1) words)) (zs ++ z ∷ [])
-input_on v words i d zs z h is so_far =
-    subst (λ (ws : List (List ℕ)). AreInputs ws (zs ++ z ∷ [])) (sym (map-snoc v words i d h))
-    (more_inputs (map v (take i words)) zs (v (get_or words i d)) z so_far is)
+-- one more
+more_inputs : (ws : List Width) (words : List (List ℕ)) (zs : List ℤ) (w : Width) (word : List ℕ) (z : ℤ) → AreInputs ws words zs → IsInput w word z →
+    AreInputs (ws ++ w ∷ []) (words ++ word ∷ []) (zs ++ z ∷ [])
+more_inputs [] [] [] w word z h is = (is, tt)
+more_inputs [] [] (y ∷ zs) w word z h is = absurd h
+more_inputs [] (v ∷ words) zs w word z h is = absurd h
+more_inputs (u ∷ ws) [] zs w word z h is = absurd h
+more_inputs (u ∷ ws) (v ∷ words) [] w word z h is = absurd h
+more_inputs (u ∷ ws) (v ∷ words) (y ∷ zs) w word z h is = (h.0, more_inputs ws words zs w word z h.1 is)
 
--- words have one list of inputs
-one_input : (w : List ℕ) (a b : Option ℤ) → IsInput w a → IsInput w b → a ≡ b
-one_input w None None p q = refl
-one_input w None (Some z) p q = absurd (p q.0)
-one_input w (Some y) None p q = absurd (q p.0)
-one_input w (Some y) (Some z) p q = ap Some (p.1 ∙ sym q.1)
+take-more : {A : Type 0} (xs : List A) (i : ℕ) (d : A) → i < length xs → take (i + 1) xs ≡ take i xs ++ get_or xs i d ∷ []
+take-more [] i d h = absurd (omega arith)
+take-more (x ∷ xs) zero d h = refl
+take-more (x ∷ xs) (suc i) d h = let e : suc i + 1 ≡ suc (i + 1) = omega arith in rw e (ap (λ ys. x ∷ ys) (take-more xs i d (omega arith)))
 
-pub one_inputs : (ws : List (List ℕ)) (a b : List (Option ℤ)) → AreInputs ws a → AreInputs ws b → a ≡ b
-one_inputs [] [] [] p q = refl
-one_inputs [] [] (z ∷ zs) p q = absurd q
-one_inputs [] (y ∷ ys) b p q = absurd p
-one_inputs (w ∷ ws) [] b p q = absurd p
-one_inputs (w ∷ ws) (y ∷ ys) [] p q = absurd q
-one_inputs (w ∷ ws) (y ∷ ys) (z ∷ zs) p q = ap (λ x. x ∷ ys) (one_input w y z p.0 q.0) ∙ ap (λ xs. z ∷ xs) (one_inputs ws ys zs p.1 q.1)
+map-more : {A : Type 0} (v : A → List ℕ) (words : List A) (i : ℕ) (d : A) → i < length words → map v (take (i + 1) words) ≡ map v (take i words) ++ v (get_or words i d) ∷ []
+map-more v words i d h = ap (map v) (take-more words i d h) ∙ map-append v (take i words) (get_or words i d ∷ [])
 
--- inputs that a task takes are numbers
-second_holds : (a b : Bool) → (a && b) ≡ true → b ≡ true
-second_holds true b h = h
-second_holds false b h = absurd cc
+pub inputs_on : {A : Type 0} (v : A → List ℕ) (ws : List Width) (words : List A) (i : ℕ) (w : Width) (d : A) (zs : List ℤ) (z : ℤ) → i < length ws → i < length words →
+    IsInput (get_or ws i w) (v (get_or words i d)) z → AreInputs (take i ws) (map v (take i words)) zs → AreInputs (take (i + 1) ws) (map v (take (i + 1) words)) (zs ++ z ∷ [])
+inputs_on v ws words i w d zs z h k is so_far =
+    subst (λ us. AreInputs us (map v (take (i + 1) words)) (zs ++ z ∷ [])) (sym (take-more ws i w h))
+    (subst (λ us. AreInputs (take i ws ++ get_or ws i w ∷ []) us (zs ++ z ∷ [])) (sym (map-more v words i d k))
+    (more_inputs (take i ws) (map v (take i words)) zs (get_or ws i w) (v (get_or words i d)) z so_far is))
 
-pub are_numbers : (ps : List Param) (zs : List (Option ℤ)) → are_inputs ps zs ≡ true → (ns : List ℤ) × (zs ≡ map Some ns)
-are_numbers [] [] h = ([], refl)
-are_numbers [] (z ∷ zs) h = absurd cc
-are_numbers (p ∷ ps) [] h = absurd cc
-are_numbers (p ∷ ps) (None ∷ zs) h = absurd cc
-are_numbers (p ∷ ps) (Some z ∷ zs) h =
-    let rest = are_numbers ps zs (second_holds _ _ h) in
-    (z ∷ rest.0, ap (λ t. Some z ∷ t) rest.1)
+-- each word is one of the numbers
+pub each_input : {A : Type 0} (v : A → List ℕ) (ws : List Width) (words : List A) (zs : List ℤ) (i : ℕ) (w : Width) (d : A) → i < length ws →
+    AreInputs ws (map v words) zs → (z : ℤ) × IsInput (get_or ws i w) (v (get_or words i d)) z
+each_input v [] words zs i w d h is = absurd (omega arith)
+each_input v (u ∷ ws) [] zs i w d h is = absurd is
+each_input v (u ∷ ws) (word ∷ words) [] i w d h is = absurd is
+each_input v (u ∷ ws) (word ∷ words) (z ∷ zs) zero w d h is = (z, is.0)
+each_input v (u ∷ ws) (word ∷ words) (z ∷ zs) (suc i) w d h is = each_input v ws words zs i w d (omega arith) is.1
+
+-- words have one list of numbers
+pub one_inputs : (ws : List Width) (words : List (List ℕ)) (ys zs : List ℤ) → AreInputs ws words ys → AreInputs ws words zs → ys ≡ zs
+one_inputs [] [] [] [] p q = refl
+one_inputs [] [] [] (z ∷ zs) p q = absurd q
+one_inputs [] [] (y ∷ ys) zs p q = absurd p
+one_inputs [] (word ∷ words) ys zs p q = absurd p
+one_inputs (w ∷ ws) [] ys zs p q = absurd p
+one_inputs (w ∷ ws) (word ∷ words) [] zs p q = absurd p
+one_inputs (w ∷ ws) (word ∷ words) (y ∷ ys) [] p q = absurd q
+one_inputs (w ∷ ws) (word ∷ words) (y ∷ ys) (z ∷ zs) p q =
+    ap (λ x. x ∷ ys) (p.0.1 ∙ sym q.0.1) ∙ ap (λ xs. z ∷ xs) (one_inputs ws words ys zs p.1 q.1)

@@ -1,5 +1,5 @@
 -- What a text comes to.
-use Rattle.std.proofs.Common.{◌≡◌, ℕ, ℤ, true, ◌+◌, ◌≤◌, ◌<◌, ◌⊎◌, inl, inr, List, [], ◌++◌, Option, Some, None, IfSome, Ok, Err, length, refl, sym, ap, subst, ◌∙◌, arith}
+use Rattle.std.proofs.Common.{◌≡◌, ℕ, ◌+◌, ◌≤◌, ◌<◌, ◌⊎◌, inl, inr, List, [], ◌++◌, Option, Some, None, IfSome, Ok, Err, length, refl, sym, ap, subst, ◌∙◌, arith}
 use Rattle.std.specs.Option.{option_map}
 use Rattle.std.proofs.lemmas.Bool.{cases_lt}
 use Rattle.std.proofs.lemmas.List.{append-nil, length-append}
@@ -11,31 +11,10 @@ use Rattle.regent_run.specs.declared.verdict.Verdict.{Verdict}
 use Rattle.regent_run.specs.declared.verdict.Verdict.TheVariants as verdict
 use Rattle.regent_lex.specs.declared.fault.LexKind.{LexKind}
 use Rattle.regent_lex.specs.declared.fault.LexKind.TheVariants.{BadByte, Unclosed, NumberTooLarge, NameTooLong}
-use Rattle.regent_run.specs.Programs.{IsRun, limit_in_token, syntax_line}
+use Rattle.regent_run.specs.Programs.{limit_in_token, syntax_line}
 use Rattle.regent_run.specs.Verdicts.{IsNoProgram, Judges, JudgesAccepted, JudgesProgram, Says, SaysOfText, TellsFault}
 use Rattle.regent_run.specs.Words.{Deed, Request, checks, runs}
 use Rattle.check_rules.specs.Breaches.{breaches}
-use Rattle.straight_run.specs.Answers.{Prints}
-use Rattle.straight_run.specs.Inputs.{are_inputs}
-use Rattle.straight_run.specs.RunningForm.{main_task}
-use Rattle.regent_run.specs.Inputs.{AreInputs}
-use Rattle.regent_run.proofs.InputLaws.{are_numbers}
-
--- a program that prints, given these inputs, is a run with their numbers
-is_run : (text : List ℕ) (tree : Tree) (numbers : List (List ℕ)) (printed : List ℕ) (inputs : List (Option ℤ)) → Reads text (Ok tree) → breaches tree ≡ [] →
-    AreInputs numbers inputs → Prints tree inputs printed → IsRun text numbers printed
-is_run text tree numbers printed inputs reads sound given p =
-    let all = are_numbers (main_task tree).params inputs p.fits in
-    record {
-      tree = tree;
-      reads = reads;
-      sound = sound;
-      form = p.running;
-      inputs = all.0;
-      given = subst (λ (zs : List (Option ℤ)). AreInputs numbers zs) all.1 given;
-      fits = subst (λ (zs : List (Option ℤ)). are_inputs (main_task tree).params zs ≡ true) all.1 p.fits;
-      means = p.means all.0 all.1;
-    }
 
 -- a text that was read and has no breach comes to what its program comes to
 accepted_judges : (text : List ℕ) (tree : Tree) (deed : Deed) (v : Verdict) → Reads text (Ok tree) → breaches tree ≡ [] → JudgesAccepted tree deed v → Judges text deed v
@@ -49,9 +28,11 @@ accepted_judges text tree (runs r) (verdict.PastLimit passed) reads sound h = ab
 accepted_judges text tree (runs r) (verdict.Refused message) reads sound h = absurd h
 accepted_judges text tree (runs r) verdict.NotBuilt reads sound h = (r, refl, record { tree = tree; reads = reads; sound = sound; form = h })
 accepted_judges text tree (runs r) verdict.OtherInputs reads sound h =
-    (r, refl, record { tree = tree; reads = reads; sound = sound; form = h.0; inputs = h.1; given = h.2; other = h.3 })
+    (r, refl, record { tree = tree; reads = reads; sound = sound; takes = h })
 accepted_judges text tree (runs r) (verdict.Finished printed traces) reads sound h =
-    (r, refl, h.0, is_run text tree r.numbers printed.items h.1 reads sound h.2 h.3)
+    (r, refl, h.0, record { tree = tree; reads = reads; sound = sound; means = h.1 })
+accepted_judges text tree (runs r) (verdict.Faulted printed message) reads sound h =
+    (r, refl, h.0, h.1, record { tree = tree; reads = reads; sound = sound; means = h.2 })
 accepted_judges text tree (runs r) verdict.Accepted reads sound h = absurd h
 
 -- a text that was read comes to what its program comes to
@@ -66,6 +47,7 @@ program_judges text deed tree (verdict.PastLimit passed) reads h = accepted_judg
 program_judges text deed tree verdict.NotBuilt reads h = accepted_judges text tree deed verdict.NotBuilt reads h.0 h.1
 program_judges text deed tree verdict.OtherInputs reads h = accepted_judges text tree deed verdict.OtherInputs reads h.0 h.1
 program_judges text deed tree (verdict.Finished printed traces) reads h = accepted_judges text tree deed (verdict.Finished printed traces) reads h.0 h.1
+program_judges text deed tree (verdict.Faulted printed message) reads h = accepted_judges text tree deed (verdict.Faulted printed message) reads h.0 h.1
 program_judges text deed tree verdict.Accepted reads h = accepted_judges text tree deed verdict.Accepted reads h.0 h.1
 
 -- ---- from the bytes that were read to the text that the begin left
@@ -87,6 +69,7 @@ says_of_read deed (verdict.Refused message) texts before now h = h
 says_of_read deed verdict.NotBuilt texts before now h = h
 says_of_read deed verdict.OtherInputs texts before now h = h
 says_of_read deed (verdict.Finished printed traces) texts before now h = h
+says_of_read deed (verdict.Faulted printed message) texts before now h = h
 says_of_read deed verdict.Accepted texts before now h = h
 
 -- a text that is too long comes to that alone, however it goes on
@@ -114,10 +97,13 @@ long_judges text read rest deed verdict.NotBuilt is long h =
     (h.0, h.1, record { tree = b.tree; reads = still_long text read rest _ is long b.reads; sound = b.sound; form = b.form })
 long_judges text read rest deed verdict.OtherInputs is long h =
     let b = h.2 in
-    (h.0, h.1, record { tree = b.tree; reads = still_long text read rest _ is long b.reads; sound = b.sound; form = b.form; inputs = b.inputs; given = b.given; other = b.other })
+    (h.0, h.1, record { tree = b.tree; reads = still_long text read rest _ is long b.reads; sound = b.sound; takes = b.takes })
 long_judges text read rest deed (verdict.Finished printed traces) is long h =
     let b = h.3 in
-    (h.0, h.1, h.2, record { tree = b.tree; reads = still_long text read rest _ is long b.reads; sound = b.sound; form = b.form; inputs = b.inputs; given = b.given; fits = b.fits; means = b.means })
+    (h.0, h.1, h.2, record { tree = b.tree; reads = still_long text read rest _ is long b.reads; sound = b.sound; means = b.means })
+long_judges text read rest deed (verdict.Faulted printed message) is long h =
+    let b = h.4 in
+    (h.0, h.1, h.2, h.3, record { tree = b.tree; reads = still_long text read rest _ is long b.reads; sound = b.sound; means = b.means })
 long_judges text read rest deed verdict.Accepted is long h =
     let b = h.1 in
     (h.0, record { tree = b.tree; reads = still_long text read rest _ is long b.reads; sound = b.sound })
@@ -138,6 +124,7 @@ says_nothing read deed (verdict.Refused message) before now h = (h.0, h.1, h.2, 
 says_nothing read deed verdict.NotBuilt before now h = (h.0, h.1, tt)
 says_nothing read deed verdict.OtherInputs before now h = (h.0, h.1, tt)
 says_nothing read deed (verdict.Finished printed traces) before now h = (h.0, h.1, h.2, tt)
+says_nothing read deed (verdict.Faulted printed message) before now h = (h.0, h.1, h.2, h.3, tt)
 says_nothing read deed verdict.Accepted before now h = (h.0, tt)
 
 -- what is judged of the bytes that were read is said of the text
@@ -162,6 +149,7 @@ says_of_file r later before now (verdict.Refused message) h = (r, refl, h)
 says_of_file r later before now verdict.NotBuilt h = (r, refl, h)
 says_of_file r later before now verdict.OtherInputs h = (r, refl, h)
 says_of_file r later before now (verdict.Finished printed traces) h = (r, refl, h)
+says_of_file r later before now (verdict.Faulted printed message) h = (r, refl, h)
 says_of_file r later before now verdict.Accepted h = (r, refl, h)
 
 pub says_asked : (r : Request) (later : Option (List (List ℕ))) (read : List ℕ) (left : Option (List ℕ)) (v : Verdict) (before now : ℕ) →
@@ -185,4 +173,5 @@ tells_token kind line (verdict.Refused message) none h = h
 tells_token kind line verdict.NotBuilt none h = h
 tells_token kind line verdict.OtherInputs none h = h
 tells_token kind line (verdict.Finished printed traces) none h = h
+tells_token kind line (verdict.Faulted printed message) none h = h
 tells_token kind line verdict.Accepted none h = h

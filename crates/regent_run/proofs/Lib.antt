@@ -1,4 +1,5 @@
 pub mod InputLaws
+pub mod Meant
 pub mod Judging
 pub mod Statuses
 pub mod Coming

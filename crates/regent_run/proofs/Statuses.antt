@@ -1,18 +1,30 @@
 -- A text comes to one status alone.
-use Rattle.std.proofs.Common.{◌≡◌, ℕ, ◌<◌, List, [], Some, Ok, Err, length, true, false, refl, sym, ap, subst, ◌∙◌, arith}
+use Rattle.std.proofs.Common.{◌≡◌, ℕ, ℤ, ◌<◌, ◌⊎◌, inl, inr, List, [], Some, Ok, Err, length, true, false, refl, sym, ap, subst, ◌∙◌, arith}
 use Rattle.std.specs.Prelude.{Contains}
+use Rattle.check_rules.specs.Acceptance.{input_widths}
 use Rattle.check_rules.specs.Breaches.{breaches}
+use Rattle.regent_tree.specs.declared.outcome.Ending.{Ending}
+use Rattle.regent_tree.specs.declared.outcome.Ending.TheVariants.{Broken, Faulted, Finished}
+use Rattle.regent_tree.specs.declared.outcome.Fault.{Fault}
+use Rattle.regent_tree.specs.declared.outcome.Outcome.{Outcome as RunOutcome}
+use Rattle.regent_tree.specs.declared.outcome.RootImage.{RootImage}
+use Rattle.regent_tree.specs.Execution.{Going}
+use Rattle.regent_tree.specs.Meaning.{calls_at, inputs_of, meaning, outcome, run_task}
+use Rattle.regent_tree.specs.Running.{Result, fails, gives}
+use Rattle.regent_tree.specs.StaticTypes.{entry_name, task_named}
 use Rattle.regent_tree.specs.Syntax.{Tree}
+use Rattle.regent_tree.specs.Typing.{param_types}
 use Rattle.regent_lex.specs.declared.fault.LexKind.TheVariants as lex
 use Rattle.regent_reader.specs.declared.fault.ReadFault.{ReadFault}
 use Rattle.regent_reader.specs.declared.fault.ReadFault.TheVariants as fault
 use Rattle.regent_reader.specs.Texts.{Outcome, Reads}
 use Rattle.regent_reader.proofs.TextLaws.{one_outcome}
-use Rattle.straight_run.specs.Inputs.{are_inputs}
-use Rattle.straight_run.specs.RunningForm.{is_running, main_task}
+use Rattle.scalar_form.specs.ScalarForm.{is_scalar_program}
 use Rattle.regent_run.specs.declared.limit.Limit.{Limit}
-use Rattle.regent_run.specs.Programs.{Comes, HasBreach, HasOtherInputs, HasSyntaxError, PassesLimit, TakesNumbers, finishes, has_a_breach, has_other_inputs, is_accepted, is_no_program, is_not_built, limit_passed, passes_a_limit, syntax_line}
-use Rattle.regent_run.specs.Words.{Deed}
+use Rattle.regent_run.specs.Inputs.{AreInputs}
+use Rattle.regent_run.specs.Programs.{Comes, HasBreach, HasOtherInputs, HasSyntaxError, IsRun, Means, PassesLimit, RunsComeToAnEnd, faulted_with, faults, finished_with, finishes, has_a_breach, has_other_inputs, is_accepted, is_no_program, is_not_built, limit_passed, passes_a_limit, syntax_line}
+use Rattle.command_words.specs.Commands.{Run, turns_or_default}
+use Rattle.regent_run.specs.Words.{Deed, runs}
 use Rattle.regent_run.proofs.InputLaws.{one_inputs}
 
 same_tree : (text : List ℕ) (t u : Tree) → Reads text (Ok t) → Reads text (Ok u) → t ≡ u
@@ -55,20 +67,32 @@ none_there bs b none there =
     let within : there.0 < length bs = there.1 in
     absurd (omega (arith, size, within))
 
+-- a program has one meaning with the words
+one_meaning : (t u : Tree) (r : Run) (o w : RunOutcome) → t ≡ u → Means t r o → Means u r w → o ≡ w
+one_meaning t u r o w e m n =
+    let l : Means u r o = subst (λ (v : Tree). Means v r o) e m in
+    sym l.means ∙ ap (λ zs. meaning u zs (turns_or_default r.turns_named)) (one_inputs (input_widths u) r.numbers l.inputs n.inputs l.given n.given) ∙ n.means
+
 module _ (text : List ℕ) where
   -- no accepted text has a breach
   breach_or_sound : (t : Tree) {rule line : ℕ} → Reads text (Ok t) → breaches t ≡ [] → HasBreach text rule line → ⊥
   breach_or_sound t reads sound b =
       none_there (breaches b.tree) _ (ap breaches (same_tree text b.tree t b.reads reads) ∙ sound) b.breach
 
-  other_form : (t u : Tree) → Reads text (Ok t) → Reads text (Ok u) → is_running t ≡ true → is_running u ≡ false → ⊥
-  other_form t u p q yes_form no_form = let e : true ≡ false = sym yes_form ∙ ap is_running (same_tree text t u p q) ∙ no_form in absurd cc
+  other_form : (t u : Tree) → Reads text (Ok t) → Reads text (Ok u) → is_scalar_program t ≡ true → is_scalar_program u ≡ false → ⊥
+  other_form t u p q yes_form no_form = let e : true ≡ false = sym yes_form ∙ ap is_scalar_program (same_tree text t u p q) ∙ no_form in absurd cc
 
-  run_or_other : (numbers : List (List ℕ)) → TakesNumbers text numbers → HasOtherInputs text numbers → ⊥
-  run_or_other numbers r o =
-      let e : true ≡ false = sym r.fits ∙ ap (λ (t : Tree). are_inputs (main_task t).params r.inputs) (same_tree text r.tree o.tree r.reads o.reads)
-      ∙ ap (λ zs. are_inputs (main_task o.tree).params zs) (one_inputs numbers r.inputs o.inputs r.given o.given) ∙ o.other in
-      absurd cc
+  run_or_other : (r : Run) {o : RunOutcome} → IsRun text r o → HasOtherInputs text r.numbers → ⊥
+  run_or_other r p q =
+      q.takes.other p.means.inputs
+      (subst (λ (t : Tree). AreInputs (input_widths t) r.numbers p.means.inputs) (same_tree text p.tree q.tree p.reads q.reads) p.means.given)
+
+  one_run : (r : Run) {o w : RunOutcome} → IsRun text r o → IsRun text r w → o ≡ w
+  one_run r p q = one_meaning p.tree q.tree r _ _ (same_tree text p.tree q.tree p.reads q.reads) p.means q.means
+
+  -- a run that finishes doesn't fault
+  ends_or_faults : (r : Run) (a b : List ℕ) (roots : List RootImage) (f : Fault) → IsRun text r (finished_with a roots) → IsRun text r (faulted_with b f) → ⊥
+  ends_or_faults r a b roots f p q = let e : Finished roots ≡ Faulted f = ap (λ (o : RunOutcome). o.ending) (one_run r p q) in absurd cc
 
   line_or_limit : {line : ℕ} {passed : Limit} → HasSyntaxError text line → PassesLimit text passed → ⊥
   line_or_limit p q = one_kind q.fault _ _ (subst (λ (f : ReadFault). syntax_line f ≡ Some _) (same_fault text p.fault q.fault p.reads q.reads) p.told) q.told
@@ -76,16 +100,25 @@ module _ (text : List ℕ) where
   -- a text comes to one status alone
   pub one_status : (deed : Deed) (m n : ℕ) → Comes text deed m → Comes text deed n → m ≡ n
   one_status deed m n (finishes p) (finishes q) = refl
+  one_status deed m n (finishes p) (faults q) = absurd (ends_or_faults _ _ _ _ _ p q)
   one_status deed m n (finishes p) (is_no_program q) = absurd (never_both text p.tree q.fault p.reads q.reads)
   one_status deed m n (finishes p) (has_a_breach q) = absurd (breach_or_sound p.tree p.reads p.sound q)
   one_status deed m n (finishes p) (passes_a_limit q) = absurd (never_both text p.tree q.fault p.reads q.reads)
   one_status deed m n (finishes p) (has_other_inputs q) = absurd (run_or_other _ p q)
-  one_status deed m n (finishes p) (is_not_built q) = absurd (other_form p.tree q.tree p.reads q.reads p.form q.form)
+  one_status deed m n (finishes p) (is_not_built q) = absurd (other_form p.tree q.tree p.reads q.reads p.means.form q.form)
+  one_status deed m n (faults p) (finishes q) = absurd (ends_or_faults _ _ _ _ _ q p)
+  one_status deed m n (faults p) (faults q) = refl
+  one_status deed m n (faults p) (is_no_program q) = absurd (never_both text p.tree q.fault p.reads q.reads)
+  one_status deed m n (faults p) (has_a_breach q) = absurd (breach_or_sound p.tree p.reads p.sound q)
+  one_status deed m n (faults p) (passes_a_limit q) = absurd (never_both text p.tree q.fault p.reads q.reads)
+  one_status deed m n (faults p) (has_other_inputs q) = absurd (run_or_other _ p q)
+  one_status deed m n (faults p) (is_not_built q) = absurd (other_form p.tree q.tree p.reads q.reads p.means.form q.form)
   one_status deed m n (is_accepted p) (is_accepted q) = refl
   one_status deed m n (is_accepted p) (is_no_program q) = absurd (never_both text p.tree q.fault p.reads q.reads)
   one_status deed m n (is_accepted p) (has_a_breach q) = absurd (breach_or_sound p.tree p.reads p.sound q)
   one_status deed m n (is_accepted p) (passes_a_limit q) = absurd (never_both text p.tree q.fault p.reads q.reads)
   one_status deed m n (is_no_program p) (finishes q) = absurd (never_both text q.tree p.fault q.reads p.reads)
+  one_status deed m n (is_no_program p) (faults q) = absurd (never_both text q.tree p.fault q.reads p.reads)
   one_status deed m n (is_no_program p) (is_accepted q) = absurd (never_both text q.tree p.fault q.reads p.reads)
   one_status deed m n (is_no_program p) (is_no_program q) = refl
   one_status deed m n (is_no_program p) (has_a_breach q) = absurd (never_both text q.tree p.fault q.reads p.reads)
@@ -93,6 +126,7 @@ module _ (text : List ℕ) where
   one_status deed m n (is_no_program p) (has_other_inputs q) = absurd (never_both text q.tree p.fault q.reads p.reads)
   one_status deed m n (is_no_program p) (is_not_built q) = absurd (never_both text q.tree p.fault q.reads p.reads)
   one_status deed m n (has_a_breach p) (finishes q) = absurd (breach_or_sound q.tree q.reads q.sound p)
+  one_status deed m n (has_a_breach p) (faults q) = absurd (breach_or_sound q.tree q.reads q.sound p)
   one_status deed m n (has_a_breach p) (is_accepted q) = absurd (breach_or_sound q.tree q.reads q.sound p)
   one_status deed m n (has_a_breach p) (is_no_program q) = absurd (never_both text p.tree q.fault p.reads q.reads)
   one_status deed m n (has_a_breach p) (has_a_breach q) = refl
@@ -100,6 +134,7 @@ module _ (text : List ℕ) where
   one_status deed m n (has_a_breach p) (has_other_inputs q) = absurd (breach_or_sound q.tree q.reads q.sound p)
   one_status deed m n (has_a_breach p) (is_not_built q) = absurd (breach_or_sound q.tree q.reads q.sound p)
   one_status deed m n (passes_a_limit p) (finishes q) = absurd (never_both text q.tree p.fault q.reads p.reads)
+  one_status deed m n (passes_a_limit p) (faults q) = absurd (never_both text q.tree p.fault q.reads p.reads)
   one_status deed m n (passes_a_limit p) (is_accepted q) = absurd (never_both text q.tree p.fault q.reads p.reads)
   one_status deed m n (passes_a_limit p) (is_no_program q) = absurd (line_or_limit q p)
   one_status deed m n (passes_a_limit p) (has_a_breach q) = absurd (never_both text q.tree p.fault q.reads p.reads)
@@ -107,14 +142,37 @@ module _ (text : List ℕ) where
   one_status deed m n (passes_a_limit p) (has_other_inputs q) = absurd (never_both text q.tree p.fault q.reads p.reads)
   one_status deed m n (passes_a_limit p) (is_not_built q) = absurd (never_both text q.tree p.fault q.reads p.reads)
   one_status deed m n (has_other_inputs p) (finishes q) = absurd (run_or_other _ q p)
+  one_status deed m n (has_other_inputs p) (faults q) = absurd (run_or_other _ q p)
   one_status deed m n (has_other_inputs p) (is_no_program q) = absurd (never_both text p.tree q.fault p.reads q.reads)
   one_status deed m n (has_other_inputs p) (has_a_breach q) = absurd (breach_or_sound p.tree p.reads p.sound q)
   one_status deed m n (has_other_inputs p) (passes_a_limit q) = absurd (never_both text p.tree q.fault p.reads q.reads)
   one_status deed m n (has_other_inputs p) (has_other_inputs q) = refl
-  one_status deed m n (has_other_inputs p) (is_not_built q) = absurd (other_form p.tree q.tree p.reads q.reads p.form q.form)
-  one_status deed m n (is_not_built p) (finishes q) = absurd (other_form q.tree p.tree q.reads p.reads q.form p.form)
+  one_status deed m n (has_other_inputs p) (is_not_built q) = absurd (other_form p.tree q.tree p.reads q.reads p.takes.form q.form)
+  one_status deed m n (is_not_built p) (finishes q) = absurd (other_form q.tree p.tree q.reads p.reads q.means.form p.form)
+  one_status deed m n (is_not_built p) (faults q) = absurd (other_form q.tree p.tree q.reads p.reads q.means.form p.form)
   one_status deed m n (is_not_built p) (is_no_program q) = absurd (never_both text p.tree q.fault p.reads q.reads)
   one_status deed m n (is_not_built p) (has_a_breach q) = absurd (breach_or_sound p.tree p.reads p.sound q)
   one_status deed m n (is_not_built p) (passes_a_limit q) = absurd (never_both text p.tree q.fault p.reads q.reads)
-  one_status deed m n (is_not_built p) (has_other_inputs q) = absurd (other_form q.tree p.tree q.reads p.reads q.form p.form)
+  one_status deed m n (is_not_built p) (has_other_inputs q) = absurd (other_form q.tree p.tree q.reads p.reads q.takes.form p.form)
   one_status deed m n (is_not_built p) (is_not_built q) = refl
+
+-- ---- runs come to an end
+
+-- what is told of a run isn't broken
+never_broken : (r : Result Going) (text : List ℕ) → outcome r ≡ record { text = text; ending = Broken } → ⊥
+never_broken (gives g s) text h = let e : Finished s.store ≡ Broken = ap (λ (o : RunOutcome). o.ending) h in absurd cc
+never_broken (fails f s) text h = let e : Faulted f ≡ Broken = ap (λ (o : RunOutcome). o.ending) h in absurd cc
+
+never_means_broken : (tree : Tree) (inputs : List ℤ) (turns : ℕ) (text : List ℕ) → meaning tree inputs turns ≡ record { text = text; ending = Broken } → ⊥
+never_means_broken tree inputs turns text h =
+    let t = task_named tree (entry_name tree) in
+    never_broken (run_task tree turns (calls_at tree turns 63) t (inputs_of (param_types tree t) inputs) []) text h
+
+by_ending : (text : List ℕ) (r : Run) (printed : List ℕ) (ending : Ending) → IsRun text r (record { text = printed; ending = ending }) →
+    Comes text (runs r) 0 ⊎ Comes text (runs r) 1
+by_ending text r printed (Finished roots) p = inl (finishes p)
+by_ending text r printed (Faulted f) p = inr (faults p)
+by_ending text r printed Broken p = absurd (never_means_broken p.tree p.means.inputs (turns_or_default r.turns_named) printed p.means.means)
+
+pub runs_end : RunsComeToAnEnd
+runs_end text r o p = by_ending text r o.text o.ending p

@@ -4,7 +4,7 @@ use Rattle.std.proofs.lemmas.List.{append-nil}
 use Rattle.run_io.specs.Sink.{Adds}
 use Rattle.regent_run.specs.declared.verdict.Verdict.{Verdict}
 use Rattle.regent_run.specs.declared.verdict.Verdict.TheVariants as verdict
-use Rattle.regent_run.specs.Answers.{Ends, Fails, IsPrinted, IsSureOfErrors, IsSureOfOutput, accepted, finished, inputs, limit, line_failed, no_memory, not_built, print_failed, prints, syntax, tells, trace_failed, types, unread, usage}
+use Rattle.regent_run.specs.Answers.{Ends, Fails, IsPrinted, IsSureOfErrors, IsSureOfOutput, accepted, faulted, finished, inputs, limit, line_failed, no_memory, not_built, print_failed, prints, syntax, tells, told_failed, types, unread, usage}
 use Rattle.regent_run.specs.Calls.{Call, SinkChange}
 use Rattle.regent_run.specs.Texts.{trace_text}
 use Rattle.regent_run.specs.Words.{request}
@@ -32,11 +32,12 @@ no_stop (verdict.Refused message) h = absurd cc
 no_stop verdict.NotBuilt h = absurd cc
 no_stop verdict.OtherInputs h = absurd cc
 no_stop (verdict.Finished text traces) h = absurd cc
+no_stop (verdict.Faulted text message) h = absurd cc
 no_stop verdict.Accepted h = absurd cc
 
--- a verdict prints, with a trace or none, or it has a line and prints nothing
+-- a verdict prints, with its status, or it has a line and prints nothing
 abbrev Printing : Call → Verdict → Type 0
-Printing call v = (status_of v ≡ 0) × IsPrinted call (out_text v) (err_text v)
+Printing call v = IsPrinted call (status_of v) (out_text v) (err_text v)
 
 abbrev Telling : Call → Verdict → Type 0
 Telling call v = (out_text v ≡ []) × Fails call (status_of v) (err_text v)
@@ -60,28 +61,29 @@ prints_or_tells call verdict.OtherInputs said =
     inr (refl, inputs told.0 (record { named = said.0; words_name = said.1; same = told.1 }) told.2)
 prints_or_tells call (verdict.Finished text traces) said =
     let told = said.2 in
-    inl (
-      refl,
-      subst (λ (b : Bool). IsPrinted call text.items (trace_text b)) (sym told.2)
-          (finished told.0 (record { named = said.0; words_name = said.1; same = told.1 }) told.3),
-    )
+    inl (subst (λ (b : Bool). IsPrinted call 0 text (trace_text b)) (sym told.2)
+    (finished told.0 (record { named = said.0; words_name = said.1; same = told.1 }) told.3))
+prints_or_tells call (verdict.Faulted text message) said =
+    let told = said.2 in
+    inl (subst (λ (m : List ℕ). IsPrinted call 1 text m) (sym told.3)
+    (faulted told.0 told.2 (record { named = said.0; words_name = said.1; same = told.1 }) told.4))
 prints_or_tells call verdict.Accepted said =
     let told = said.2 in
-    inl (refl, accepted (record { named = said.0; words_name = said.1; same = told.0 }) told.1)
+    inl (accepted (record { named = said.0; words_name = said.1; same = told.0 }) told.1)
 
 pub ends_as : (call : Call) (v : Verdict) (answer : ℕ) → IsDelivered v answer call.out call.err → Printing call v ⊎ Telling call v → Ends call answer
 ends_as call v answer (inl w) (inl p) =
-    subst (λ (n : ℕ). Ends call n) (sym (w.status ∙ p.0))
-    (prints p.1 (record { output = w.output.gained; errors = w.errors.gained }))
+    subst (λ (n : ℕ). Ends call n) (sym w.status)
+    (prints p (record { output = w.output.gained; errors = w.errors.gained }))
 ends_as call v answer (inl w) (inr t) =
     subst (λ (n : ℕ). Ends call n) (sym w.status)
     (tells t.1 (record {
       output = (untouched call.out (subst (λ (b : List ℕ). HasGained b call.out) t.0 w.output)).kept;
       errors = w.errors.gained;
     }))
-ends_as call v answer (inr (inl o)) (inl p) = subst (λ (n : ℕ). Ends call n) (sym o.status) (print_failed p.1 o.output o.errors)
+ends_as call v answer (inr (inl o)) (inl p) = subst (λ (n : ℕ). Ends call n) (sym o.status) (print_failed p o.output o.errors)
 ends_as call v answer (inr (inl o)) (inr t) = no_failure call.out (subst (λ (b : List ℕ). HasFailed b call.out) t.0 o.output)
-ends_as call v answer (inr (inr e)) (inl p) = subst (λ (n : ℕ). Ends call n) (sym e.status) (trace_failed p.1 e.output e.errors)
+ends_as call v answer (inr (inr e)) (inl p) = subst (λ (n : ℕ). Ends call n) (sym e.status) (told_failed p e.output e.errors)
 ends_as call v answer (inr (inr e)) (inr t) =
     subst (λ (n : ℕ). Ends call n) (sym e.status)
     (line_failed t.1 (untouched call.out (subst (λ (b : List ℕ). HasGained b call.out) t.0 e.output)) e.errors)
@@ -91,12 +93,12 @@ pub sure_as : (call : Call) (v : Verdict) (answer : ℕ) → IsDelivered v answe
     IsSureOfOutput call → IsSureOfErrors call → answer ≢ 4
 sure_as call v answer (inl w) k output errors is = no_stop v (sym is ∙ w.status)
 sure_as call v answer (inr (inl o)) (inl p) output errors is =
-    let fits : length (out_text v) ≤ call.out.sure = output (out_text v) (err_text v) p.1 in
+    let fits : length (out_text v) ≤ call.out.sure = output (status_of v) (out_text v) (err_text v) p in
     let unsure : call.out.sure < length (out_text v) = o.output.unsure in
     absurd (omega arith)
 sure_as call v answer (inr (inl o)) (inr t) output errors is = no_failure call.out (subst (λ (b : List ℕ). HasFailed b call.out) t.0 o.output)
 sure_as call v answer (inr (inr e)) (inl p) output errors is =
-    let fits : length (err_text v) ≤ call.err.sure = errors.traces (out_text v) (err_text v) p.1 in
+    let fits : length (err_text v) ≤ call.err.sure = errors.besides (status_of v) (out_text v) (err_text v) p in
     let unsure : call.err.sure < length (err_text v) = e.errors.unsure in
     absurd (omega arith)
 sure_as call v answer (inr (inr e)) (inr t) output errors is =

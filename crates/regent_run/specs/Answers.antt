@@ -4,13 +4,14 @@ use Rattle.std.specs.Option.{option_map}
 use Rattle.run_io.specs.Faults.{Rose}
 use Rattle.run_io.specs.Sink.{Adds}
 use Rattle.run_io.specs.Source.{next_left}
+use Rattle.regent_tree.specs.declared.outcome.Fault.{Fault}
 use Rattle.command_words.specs.Commands.{Run}
 use Rattle.regent_run.specs.Begins.{IsBegunBy, IsUnbegun}
 use Rattle.regent_run.specs.Calls.{Call}
 use Rattle.regent_run.specs.declared.limit.Limit.{Limit}
-use Rattle.regent_run.specs.Programs.{Comes, HasBreach, HasOtherInputs, HasSyntaxError, IsAccepted, IsNotBuilt, IsRun, OfNextText, PassesLimit}
+use Rattle.regent_run.specs.Programs.{Comes, HasBreach, HasOtherInputs, HasSyntaxError, IsAccepted, IsNotBuilt, IsRun, OfNextText, PassesLimit, faulted_with, finished_with}
 use Rattle.regent_run.specs.Reading.{TakesAtMost}
-use Rattle.regent_run.specs.Texts.{accepted_text, trace_text, usage_message, read_message, memory_message, syntax_message, breach_message, limit_message, not_built_message, inputs_message}
+use Rattle.regent_run.specs.Texts.{accepted_text, fault_message, trace_text, usage_message, read_message, memory_message, syntax_message, breach_message, limit_message, not_built_message, inputs_message}
 use Rattle.regent_run.specs.Verdicts.{HasFailed, HasGained, IsUntouched}
 use Rattle.regent_run.specs.Words.{Asks, Request, checks, request, runs}
 
@@ -20,14 +21,17 @@ OfText call P = OfNextText call.source.later P
 
 -- ---- what a call comes to, and how it ends
 
--- What a command prints, and its trace: a run what the program prints, by the meaning of its text, with a
--- trace where that is asked for; a check the line that the text is accepted. No root is left, so there is
--- nothing to dump.
-pub data IsPrinted (call : Call) : List ℕ → List ℕ → Type 0 where
+-- What a command prints, and what it tells besides, with its status. A run prints what the program prints,
+-- by the meaning of its text, to its end or up to the first fault, and tells its trace where that is asked
+-- for, and the fault; a check prints that the text is accepted. No root is left, so there is nothing to dump.
+pub data IsPrinted (call : Call) : ℕ → List ℕ → List ℕ → Type 0 where
   finished : (r : Run) {printed : List ℕ} → Asks call.words (runs r) →
-      OfText call (λ text. IsRun text r.numbers printed) →
-      IsPrinted call printed (trace_text r.traces)
-  accepted : Asks call.words checks → OfText call IsAccepted → IsPrinted call accepted_text []
+      OfText call (λ text. IsRun text r (finished_with printed [])) →
+      IsPrinted call 0 printed (trace_text r.traces)
+  faulted : (r : Run) {printed : List ℕ} (f : Fault) → Asks call.words (runs r) →
+      OfText call (λ text. IsRun text r (faulted_with printed f)) →
+      IsPrinted call 1 printed (fault_message r.traces f)
+  accepted : Asks call.words checks → OfText call IsAccepted → IsPrinted call 0 accepted_text []
 
 -- the status of an error, and the line that tells it
 pub data Fails (call : Call) : ℕ → List ℕ → Type 0 where
@@ -45,10 +49,10 @@ pub data Fails (call : Call) : ℕ → List ℕ → Type 0 where
   not_built : (r : Run) → Asks call.words (runs r) → OfText call IsNotBuilt →
       Fails call 10 not_built_message
 
--- the output has gained what is printed, and the error output the trace
-pub record HasPrinted (printed trace : List ℕ) (call : Call) : Type 0 where
+-- the output has gained what is printed, and the error output what is told besides
+pub record HasPrinted (printed told : List ℕ) (call : Call) : Type 0 where
   pub output : Adds call.out.held printed call.out.held_now
-  pub errors : Adds call.err.held trace call.err.held_now
+  pub errors : Adds call.err.held told call.err.held_now
 
 -- the error output has gained the line, and the output nothing
 pub record HasTold (message : List ℕ) (call : Call) : Type 0 where
@@ -58,14 +62,14 @@ pub record HasTold (message : List ℕ) (call : Call) : Type 0 where
 -- How a call ends, with its status. Where a write failed, which its sink wasn't sure of, the status is 4,
 -- and nothing was written after it.
 pub data Ends (call : Call) : ℕ → Type 0 where
-  prints : {printed trace : List ℕ} → IsPrinted call printed trace → HasPrinted printed trace call →
-      Ends call 0
+  prints : {status : ℕ} {printed told : List ℕ} → IsPrinted call status printed told →
+      HasPrinted printed told call → Ends call status
   tells : {status : ℕ} {message : List ℕ} → Fails call status message → HasTold message call →
       Ends call status
-  print_failed : {printed trace : List ℕ} → IsPrinted call printed trace →
+  print_failed : {status : ℕ} {printed told : List ℕ} → IsPrinted call status printed told →
       HasFailed printed call.out → IsUntouched call.err → Ends call 4
-  trace_failed : {printed trace : List ℕ} → IsPrinted call printed trace →
-      HasGained printed call.out → HasFailed trace call.err → Ends call 4
+  told_failed : {status : ℕ} {printed told : List ℕ} → IsPrinted call status printed told →
+      HasGained printed call.out → HasFailed told call.err → Ends call 4
   line_failed : {status : ℕ} {message : List ℕ} → Fails call status message → IsUntouched call.out →
       HasFailed message call.err → Ends call 4
 
@@ -99,13 +103,13 @@ IsComplete call answer = NoneRose call → (named : Request) → request call.wo
 
 -- the output is sure of what the command prints
 abbrev pub IsSureOfOutput : Call → Type 0
-IsSureOfOutput call = (printed trace : List ℕ) → IsPrinted call printed trace →
+IsSureOfOutput call = (status : ℕ) (printed told : List ℕ) → IsPrinted call status printed told →
     length printed ≤ call.out.sure
 
--- the error output is sure of the trace, and of each line that the call may come to
+-- the error output is sure of what is told besides, and of each line that the call may come to
 pub record IsSureOfErrors (call : Call) : Type 0 where
-  pub traces : (printed trace : List ℕ) → IsPrinted call printed trace →
-      length trace ≤ call.err.sure
+  pub besides : (status : ℕ) (printed told : List ℕ) → IsPrinted call status printed told →
+      length told ≤ call.err.sure
   pub lines : (status : ℕ) (message : List ℕ) → Fails call status message →
       length message ≤ call.err.sure
 
@@ -145,7 +149,7 @@ pub record IsAnswered (call : Call) (answer : ℕ) : Type 0 where
   pub ends : Ends call answer
   -- Words that are refused come to 2.
   pub refuses : request call.words ≡ None → UnlessStopped 2 answer
-  -- A text with its command comes to one of 0, 5, 6, 8, 9 and 10 at most, and that is the answer
+  -- A text with its command comes to one of 0, 1, 5, 6, 8, 9 and 10 at most, and that is the answer
   -- unless the call was stopped. So where nothing failed, it is the answer, or memory ran out.
   pub comes : ComesTo call answer
   pub complete : IsComplete call answer

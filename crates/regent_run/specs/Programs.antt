@@ -1,23 +1,26 @@
 -- What a text comes to, by what is to be done with it.
-use Rattle.std.specs.Prelude.{Contains, Err, IfSome, List, None, Ok, Option, Some, [], false, map, true, ℕ, ℤ, ◌≡◌}
+use Rattle.std.specs.Prelude.{Contains, Err, IfSome, List, None, Ok, Option, Some, [], false, true, ℕ, ℤ, ◌≡◌, ◌⊎◌}
+use Rattle.check_rules.specs.Acceptance.{input_widths}
 use Rattle.check_rules.specs.Breaches.{breaches, breaks}
 use Rattle.regent_lex.specs.declared.fault.LexKind.{LexKind}
 use Rattle.regent_lex.specs.declared.fault.LexKind.TheVariants.{BadByte, Unclosed, NumberTooLarge, NameTooLong}
 use Rattle.regent_tree.specs.declared.limits.Counted.{Counted}
 use Rattle.regent_tree.specs.declared.limits.Counted.TheVariants as counted
-use Rattle.regent_tree.specs.declared.outcome.Ending.TheVariants.{Finished}
+use Rattle.regent_tree.specs.declared.outcome.Ending.TheVariants.{Faulted, Finished}
+use Rattle.regent_tree.specs.declared.outcome.Fault.{Fault}
+use Rattle.regent_tree.specs.declared.outcome.Outcome.{Outcome}
+use Rattle.regent_tree.specs.declared.outcome.RootImage.{RootImage}
 use Rattle.regent_tree.specs.Meaning.{meaning}
 use Rattle.regent_tree.specs.Syntax.{Tree}
 use Rattle.regent_reader.specs.declared.fault.ReadFault.{ReadFault}
 use Rattle.regent_reader.specs.declared.fault.ReadFault.TheVariants.{TooLong, Lex, TooDeep, NoProgram, TooMany}
 use Rattle.regent_reader.specs.Texts.{Reads}
 use Rattle.run_io.specs.Source.{next_left}
-use Rattle.straight_run.specs.Inputs.{are_inputs}
-use Rattle.straight_run.specs.RunningForm.{is_running, main_task}
+use Rattle.scalar_form.specs.ScalarForm.{is_scalar_program}
 use Rattle.regent_run.specs.declared.limit.Limit.{Limit}
 use Rattle.regent_run.specs.declared.limit.Limit.TheVariants as limit
 use Rattle.regent_run.specs.Inputs.{AreInputs}
-use Rattle.command_words.specs.Commands.{Run}
+use Rattle.command_words.specs.Commands.{Run, turns_or_default}
 use Rattle.regent_run.specs.Words.{Deed, checks, runs}
 
 -- the line of a fault that is an error of syntax
@@ -77,49 +80,51 @@ pub record IsAccepted (text : List ℕ) : Type 0 where
   pub reads : Reads text (Ok tree)
   pub sound : breaches tree ≡ []
 
--- the text is an accepted program that can't be run yet: it isn't of the running form
+-- the text is an accepted program that can't be run yet: it isn't over scalars
 pub record IsNotBuilt (text : List ℕ) : Type 0 where
   pub tree : Tree
   pub reads : Reads text (Ok tree)
   pub sound : breaches tree ≡ []
-  pub form : is_running tree ≡ false
+  pub form : is_scalar_program tree ≡ false
 
--- the text is an accepted program of the running form, and the words aren't the numbers that it takes
+-- the program is over scalars, and the words aren't the numbers that it takes
+pub record TakesOthers (tree : Tree) (numbers : List (List ℕ)) : Type 0 where
+  pub form : is_scalar_program tree ≡ true
+  pub other : (inputs : List ℤ) → AreInputs (input_widths tree) numbers inputs → ⊥
+
 pub record HasOtherInputs (text : List ℕ) (numbers : List (List ℕ)) : Type 0 where
   pub tree : Tree
   pub reads : Reads text (Ok tree)
   pub sound : breaches tree ≡ []
-  pub form : is_running tree ≡ true
-  pub inputs : List (Option ℤ)
-  pub given : AreInputs numbers inputs
-  pub other : are_inputs (main_task tree).params inputs ≡ false
+  pub takes : TakesOthers tree numbers
 
--- the text is an accepted program of the running form, the words are the numbers that it takes, and what
--- it means is to finish with what is printed and no roots, whatever the turns
-pub record IsRun (text : List ℕ) (numbers : List (List ℕ)) (printed : List ℕ) : Type 0 where
-  pub tree : Tree
-  pub reads : Reads text (Ok tree)
-  pub sound : breaches tree ≡ []
-  pub form : is_running tree ≡ true
+-- the program is over scalars, the words are the numbers that it takes, and this is what it means, with these
+-- numbers and turns
+pub record Means (tree : Tree) (r : Run) (o : Outcome) : Type 0 where
+  pub form : is_scalar_program tree ≡ true
   pub inputs : List ℤ
-  pub given : AreInputs numbers (map Some inputs)
-  pub fits : are_inputs (main_task tree).params (map Some inputs) ≡ true
-  pub means : (turns : ℕ) →
-      meaning tree inputs turns ≡ record { text = printed; ending = Finished [] }
+  pub given : AreInputs (input_widths tree) r.numbers inputs
+  pub means : meaning tree inputs (turns_or_default r.turns_named) ≡ o
 
--- the text is an accepted program of the running form, and the words are the numbers that it takes
-pub record TakesNumbers (text : List ℕ) (numbers : List (List ℕ)) : Type 0 where
+-- the text is an accepted program, and this is what its run comes to
+pub record IsRun (text : List ℕ) (r : Run) (o : Outcome) : Type 0 where
   pub tree : Tree
   pub reads : Reads text (Ok tree)
   pub sound : breaches tree ≡ []
-  pub form : is_running tree ≡ true
-  pub inputs : List (Option ℤ)
-  pub given : AreInputs numbers inputs
-  pub fits : are_inputs (main_task tree).params inputs ≡ true
+  pub means : Means tree r o
+
+-- it prints this and ends, with these roots; or it prints this up to its first fault
+abbrev pub finished_with : List ℕ → List RootImage → Outcome
+finished_with printed roots = record { text = printed; ending = Finished roots }
+
+abbrev pub faulted_with : List ℕ → Fault → Outcome
+faulted_with printed f = record { text = printed; ending = Faulted f }
 
 -- the status that a text comes to, where this is to be done with it
 pub data Comes (text : List ℕ) : Deed → ℕ → Type 0 where
-  finishes : {r : Run} → TakesNumbers text r.numbers → Comes text (runs r) 0
+  finishes : {r : Run} {printed : List ℕ} {roots : List RootImage} → IsRun text r (finished_with printed roots) →
+      Comes text (runs r) 0
+  faults : {r : Run} {printed : List ℕ} {f : Fault} → IsRun text r (faulted_with printed f) → Comes text (runs r) 1
   is_accepted : IsAccepted text → Comes text checks 0
   is_no_program : {deed : Deed} {line : ℕ} → HasSyntaxError text line → Comes text deed 5
   has_a_breach : {deed : Deed} {rule line : ℕ} → HasBreach text rule line → Comes text deed 6
@@ -131,9 +136,14 @@ pub data Comes (text : List ℕ) : Deed → ℕ → Type 0 where
 abbrev pub OfNextText : Option (List (List ℕ)) → (List ℕ → Type 0) → Type 0
 OfNextText later P = IfSome later (λ texts. P (next_left texts))
 
--- ---- the law of statuses
+-- ---- laws of statuses
 
 -- a text comes to one status at most
 abbrev pub ComesToOneStatus : Type 0
 ComesToOneStatus = (text : List ℕ) (deed : Deed) (m n : ℕ) → Comes text deed m → Comes text deed n →
     m ≡ n
+
+-- A program that is run comes to 0 or 1, where its words are the numbers that it takes: what it means isn't broken.
+abbrev pub RunsComeToAnEnd : Type 0
+RunsComeToAnEnd = (text : List ℕ) (r : Run) (o : Outcome) → IsRun text r o →
+    Comes text (runs r) 0 ⊎ Comes text (runs r) 1

@@ -2,6 +2,8 @@
 -- ends with a line feed (10).
 use Rattle.std.specs.Prelude.{ℕ, Bool, true, false, List, [], ◌∷◌, ◌++◌, codes}
 use Rattle.std.specs.Fmt.{decimal}
+use Rattle.regent_tree.specs.declared.outcome.Fault.{Fault}
+use Rattle.run_report.specs.FaultLines.{fault_text}
 use Rattle.regent_run.specs.declared.limit.Limit.{Limit}
 use Rattle.regent_run.specs.declared.limit.Limit.TheVariants.{Text, Name, Number, Nesting, Tasks, Spaces, Fields, Parameters, Regions}
 
@@ -12,6 +14,10 @@ accepted_text = codes "accepted" ++ 10 ∷ []
 abbrev pub trace_text : Bool → List ℕ
 trace_text true = codes "in order" ++ 10 ∷ []
 trace_text false = []
+
+-- the trace, and then the line of the fault
+abbrev pub fault_message : Bool → Fault → List ℕ
+fault_message traces f = trace_text traces ++ fault_text f
 
 abbrev pub usage_message : List ℕ
 usage_message = codes "error: usage" ++ 10 ∷ []

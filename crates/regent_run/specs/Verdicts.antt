@@ -1,21 +1,20 @@
 -- What a call comes to before it writes, and what it then writes.
-use Rattle.std.specs.Prelude.{◌≡◌, ◌<◌, ◌⊎◌, ℕ, ℤ, true, false, Contains, List, [], Option, Some, None, length, string_bytes}
+use Rattle.std.specs.Prelude.{◌≡◌, ◌<◌, ◌⊎◌, ℕ, Bool, false, Contains, List, [], Option, Some, None, length, string_bytes}
 use Rattle.run_io.specs.Faults.{Rose}
 use Rattle.run_io.specs.Sink.{Adds, AddsPrefix}
 use Rattle.regent_run.specs.Calls.{SinkChange}
 use Rattle.regent_run.specs.declared.verdict.Verdict.{Verdict}
-use Rattle.regent_run.specs.declared.verdict.Verdict.TheVariants.{Usage, Unread, NoMemory, NoProgram, PastLimit, Refused, NotBuilt, OtherInputs, Finished, Accepted}
+use Rattle.regent_run.specs.declared.verdict.Verdict.TheVariants.{Usage, Unread, NoMemory, NoProgram, PastLimit, Refused, NotBuilt, OtherInputs, Finished, Faulted, Accepted}
 use Rattle.command_words.specs.Commands.{Run}
 use Rattle.regent_run.specs.Words.{Deed, Request, checks, runs}
-use Rattle.regent_run.specs.Texts.{accepted_text, trace_text, usage_message, read_message, memory_message, syntax_message, breach_message, limit_message, not_built_message, inputs_message}
+use Rattle.regent_run.specs.Texts.{accepted_text, fault_message, trace_text, usage_message, read_message, memory_message, syntax_message, breach_message, limit_message, not_built_message, inputs_message}
 use Rattle.check_rules.specs.Breaches.{breaches, breaks}
+use Rattle.regent_tree.specs.declared.outcome.Fault.{Fault}
+use Rattle.regent_tree.specs.declared.outcome.Outcome.{Outcome}
 use Rattle.regent_tree.specs.Syntax.{Tree}
 use Rattle.regent_reader.specs.declared.fault.ReadFault.{ReadFault}
-use Rattle.straight_run.specs.Answers.{Prints}
-use Rattle.straight_run.specs.Inputs.{are_inputs}
-use Rattle.straight_run.specs.RunningForm.{is_running, main_task}
-use Rattle.regent_run.specs.Inputs.{AreInputs}
-use Rattle.regent_run.specs.Programs.{HasBreach, HasOtherInputs, HasSyntaxError, IsAccepted, IsNotBuilt, IsRun, OfNextText, PassesLimit, limit_passed, syntax_line}
+use Rattle.scalar_form.specs.ScalarForm.{is_scalar_program}
+use Rattle.regent_run.specs.Programs.{HasBreach, HasOtherInputs, HasSyntaxError, IsAccepted, IsNotBuilt, IsRun, Means, OfNextText, PassesLimit, TakesOthers, faulted_with, finished_with, limit_passed, syntax_line}
 
 abbrev pub status_of : Verdict → ℕ
 status_of Usage = 2
@@ -27,11 +26,13 @@ status_of (Refused message) = 6
 status_of NotBuilt = 10
 status_of OtherInputs = 9
 status_of (Finished text traces) = 0
+status_of (Faulted text message) = 1
 status_of Accepted = 0
 
 -- what goes to the output, and what to the error output
 abbrev pub out_text : Verdict → List ℕ
-out_text (Finished text traces) = text.items
+out_text (Finished text traces) = text
+out_text (Faulted text message) = text
 out_text Accepted = accepted_text
 out_text _ = []
 
@@ -45,6 +46,7 @@ err_text (Refused message) = string_bytes message
 err_text NotBuilt = not_built_message
 err_text OtherInputs = inputs_message
 err_text (Finished text traces) = trace_text traces
+err_text (Faulted text message) = message.items
 err_text Accepted = []
 
 -- what a verdict says of a text, where this is to be done with it
@@ -60,17 +62,27 @@ Judges text deed (Refused message) = (rule : ℕ) × (line : ℕ)
 Judges text deed NotBuilt = (r : Run) × (deed ≡ runs r) × IsNotBuilt text
 Judges text deed OtherInputs = (r : Run) × (deed ≡ runs r) × HasOtherInputs text r.numbers
 Judges text deed (Finished printed traces) = (r : Run) × (deed ≡ runs r) × (traces ≡ r.traces)
-    × IsRun text r.numbers printed.items
+    × IsRun text r (finished_with printed [])
+Judges text deed (Faulted printed message) = (r : Run) × (deed ≡ runs r) × (f : Fault)
+    × (message.items ≡ fault_message r.traces f) × IsRun text r (faulted_with printed f)
 Judges text deed Accepted = (deed ≡ checks) × IsAccepted text
+
+-- what it says of the outcome of a run
+abbrev pub IsOfOutcome : Outcome → Bool → Verdict → Type 0
+IsOfOutcome o traces NoMemory = Unit {0}
+IsOfOutcome o traces (Finished printed said) = (said ≡ traces) × (o ≡ finished_with printed [])
+IsOfOutcome o traces (Faulted printed message) =
+    (f : Fault) × (message.items ≡ fault_message traces f) × (o ≡ faulted_with printed f)
+IsOfOutcome o traces _ = ⊥
 
 -- what it says of an accepted program that is run
 abbrev pub JudgesRun : Tree → Run → Verdict → Type 0
 JudgesRun tree r NoMemory = Unit {0}
-JudgesRun tree r NotBuilt = is_running tree ≡ false
-JudgesRun tree r OtherInputs = (is_running tree ≡ true) × (inputs : List (Option ℤ))
-    × AreInputs r.numbers inputs × (are_inputs (main_task tree).params inputs ≡ false)
-JudgesRun tree r (Finished printed traces) = (traces ≡ r.traces) × (inputs : List (Option ℤ))
-    × AreInputs r.numbers inputs × Prints tree inputs printed.items
+JudgesRun tree r NotBuilt = is_scalar_program tree ≡ false
+JudgesRun tree r OtherInputs = TakesOthers tree r.numbers
+JudgesRun tree r (Finished printed traces) = (traces ≡ r.traces) × Means tree r (finished_with printed [])
+JudgesRun tree r (Faulted printed message) = (f : Fault)
+    × (message.items ≡ fault_message r.traces f) × Means tree r (faulted_with printed f)
 JudgesRun tree r _ = ⊥
 
 -- and of one with which this is to be done
@@ -118,7 +130,10 @@ SaysOfText later deed before now NotBuilt =
 SaysOfText later deed before now OtherInputs = (r : Run) × (deed ≡ runs r)
     × OfNextText later (λ text. HasOtherInputs text r.numbers)
 SaysOfText later deed before now (Finished printed traces) = (r : Run) × (deed ≡ runs r)
-    × (traces ≡ r.traces) × OfNextText later (λ text. IsRun text r.numbers printed.items)
+    × (traces ≡ r.traces) × OfNextText later (λ text. IsRun text r (finished_with printed []))
+SaysOfText later deed before now (Faulted printed message) = (r : Run) × (deed ≡ runs r) × (f : Fault)
+    × (message.items ≡ fault_message r.traces f)
+    × OfNextText later (λ text. IsRun text r (faulted_with printed f))
 SaysOfText later deed before now Accepted = (deed ≡ checks) × OfNextText later IsAccepted
 
 -- What a verdict says where this is asked for: nothing can be done, or the text of the file comes to it,

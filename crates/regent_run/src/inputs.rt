@@ -1,8 +1,11 @@
 //! The numbers that words spell.
 
-ghost use Rattle.std.specs.Prelude.{◌≡◌, IfOk, map};
-ghost use Rattle.regent_run.specs.Inputs.{AreInputs, IsInput, digits_in};
+ghost use Rattle.std.specs.Prelude.{◌≡◌, ◌↔◌, IfOk, IsTrue, map};
+ghost use Rattle.lane_kernels.specs.Numbers.{FitsWidth};
+ghost use Rattle.regent_run.specs.Inputs.{AreFound, IsFound, IsRead, digits_in};
 
+use plain_values::Sequence;
+use regent_tree::Width;
 use std::alloc::{AllocError, Global};
 
 /// What stands behind a `-`.
@@ -16,8 +19,8 @@ fn digits_in(word: &[u8]) -> &[u8]
 }
 
 /// The number of a word, where it is one of 64 bits: an optional `-` and 1 to 20 digits.
-fn input_of(word: &str) -> Option<i64>
-    ensures { IsInput word.now result }
+fn read_word(word: &str) -> Option<i64>
+    ensures { IsRead word.now result }
 {
     if digits_in(word.as_bytes()).len() > 20 || word.as_bytes().first() == Some(&b'+') {
         return None;
@@ -25,13 +28,49 @@ fn input_of(word: &str) -> Option<i64>
     word.parse::<i64>().ok()
 }
 
-/// The inputs of the words.
-pub fn inputs_of(alloc: Global, words: &[&str]) -> Result<Vec<Option<i64>>, AllocError>
-    ensures { IfOk result (λ inputs. AreInputs (map (λ word. word.now) words.now) inputs.items) }
+/// Whether the width has a number.
+fn fits(width: Width, number: i64) -> bool
+    ensures { IsTrue result ↔ FitsWidth width number }
 {
-    let mut inputs = Vec::new(alloc);
-    for word in words {
-        inputs.push(input_of(word))?;
+    match width {
+        Width::W32 => -2_147_483_648 <= number && number <= 2_147_483_647,
+        Width::W64 => true,
     }
-    Ok(inputs)
+}
+
+/// The number of a word, where the width has it.
+fn number_of(width: Width, word: &str) -> Option<i64>
+    ensures { IsFound width word.now result }
+{
+    match read_word(word) {
+        Some(number) => {
+            if fits(width, number) {
+                Some(number)
+            } else {
+                None
+            }
+        }
+        None => None,
+    }
+}
+
+/// The numbers of the words, where there is one for each width.
+pub fn numbers_of(
+    alloc: Global,
+    widths: &[Width],
+    words: &[&str],
+) -> Result<Option<Sequence<i64>>, AllocError>
+    ensures { IfOk result (AreFound widths.now (map (λ word. word.now) words.now)) }
+{
+    if widths.len() != words.len() {
+        return Ok(None);
+    }
+    let mut numbers = Sequence::new(alloc);
+    for (place, width) in widths.iter().enumerate() {
+        match number_of(*width, words[place]) {
+            Some(number) => numbers.push(number)?,
+            None => return Ok(None),
+        }
+    }
+    Ok(Some(numbers))
 }

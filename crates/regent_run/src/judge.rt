@@ -1,30 +1,31 @@
 //! From words and a source to a verdict.
 
-ghost use Rattle.std.specs.Prelude.{◌≡◌, ◌≤◌, None, Some};
+ghost use Rattle.std.specs.Prelude.{◌≡◌, ◌≤◌, [], None, Some};
 ghost use Rattle.std.specs.Option.{option_map};
+ghost use Rattle.check_rules.specs.Breaches.{breaches};
 ghost use Rattle.regent_tree.specs.Limits.{WithinLimits};
 ghost use Rattle.regent_tree.specs.PlainProgram.{tree_of};
 ghost use Rattle.regent_reader.specs.declared.fault.ReadFault.TheVariants.{Lex};
 ghost use Rattle.run_io.specs.Source.{next_left};
-ghost use Rattle.command_words.specs.Given.{run_given, texts};
+ghost use Rattle.command_words.specs.Given.{texts};
 ghost use Rattle.regent_run.specs.Begins.{Begins};
 ghost use Rattle.regent_run.specs.Programs.{limit_counted, limit_in_token};
 ghost use Rattle.regent_run.specs.Reading.{IsSteady, TakesAtMost, ReadsToEnd};
-ghost use Rattle.regent_run.specs.Verdicts.{IsNoProgram, IsRefused, Judges, JudgesAccepted, JudgesProgram, JudgesRun, TellsFault, Says};
+ghost use Rattle.regent_run.specs.Verdicts.{IsNoProgram, IsRefused, Judges, JudgesAccepted, JudgesProgram, TellsFault, Says};
 ghost use Rattle.regent_run.specs.Words.{deed_given, request, request_given};
 
-use crate::inputs::inputs_of;
 use crate::limit::Limit;
 use crate::requests::{Deed, Request, asked_by};
+use crate::running::judge_run;
 use crate::text::{NoText, read_text};
 use crate::verdict::Verdict;
-use command_words::{Run, WordsFault, command};
+use check_rules::Accepted;
+use command_words::{WordsFault, command};
 use regent_lex::LexKind;
 use regent_reader::{ReadFault, read};
 use regent_tree::{Counted, Program};
 use run_io::Source;
 use std::alloc::Global;
-use straight_run::{Answer, run};
 use type_check::{CheckFault, check};
 
 /// The text is no program on this line.
@@ -94,26 +95,10 @@ fn broken_rule(alloc: Global, rule: u8, line: u32) -> Verdict
     }
 }
 
-/// What an accepted program comes to that is run.
-fn judge_run(alloc: Global, program: &Program, asked: &Run<'_>) -> Verdict
-    ensures { JudgesRun (tree_of program.now) (run_given asked.now) result }
-{
-    let Ok(inputs) = inputs_of(alloc, asked.numbers.as_slice()) else {
-        return Verdict::NoMemory;
-    };
-    match run(alloc, program, inputs.as_slice()) {
-        Ok(Answer::NotRunning) => Verdict::NotBuilt,
-        Ok(Answer::OtherInputs) => Verdict::OtherInputs,
-        Ok(Answer::Printed(text)) => Verdict::Finished {
-            text,
-            trace: asked.trace,
-        },
-        Err(_) => Verdict::NoMemory,
-    }
-}
-
 /// What an accepted program comes to.
-fn judge_accepted(alloc: Global, program: &Program, deed: &Deed<'_, '_>) -> Verdict
+fn judge_accepted(alloc: Global, program: &Accepted, deed: &Deed<'_, '_>) -> Verdict
+    requires within { WithinLimits (tree_of program.now) }
+    requires sound { breaches (tree_of program.now) ≡ [] }
     ensures { JudgesAccepted (tree_of program.now) (deed_given deed.now) result }
 {
     match deed {
@@ -128,7 +113,7 @@ fn judge_program(alloc: Global, program: Program, deed: &Deed<'_, '_>) -> Verdic
     ensures { JudgesProgram (tree_of program) (deed_given deed.now) result }
 {
     match check(alloc, program) {
-        Ok(accepted) => judge_accepted(alloc, accepted.program(), deed),
+        Ok(accepted) => judge_accepted(alloc, &accepted, deed),
         Err(CheckFault::Refused { rule, line, .. }) => broken_rule(alloc, rule, line),
         Err(CheckFault::Memory(_)) => Verdict::NoMemory,
     }

@@ -1,8 +1,14 @@
-//! A law of the definitions. Its function has an empty body; the contract is the law.
+//! Laws of the definitions. Each function has an empty body; its contract is a law.
 
-ghost use Rattle.regent_run.specs.Programs.{ComesToOneStatus};
+ghost use Rattle.regent_run.specs.Programs.{ComesToOneStatus, RunsComeToAnEnd};
 
 /// A text, with what is to be done with it, comes to one status at most.
 pub fn texts_have_one_status()
     ensures { ComesToOneStatus }
+{}
+
+/// Where a text is an accepted program over scalars and the words are the numbers that it takes, its run
+/// comes to 0 or to 1.
+pub fn runs_come_to_an_end()
+    ensures { RunsComeToAnEnd }
 {}

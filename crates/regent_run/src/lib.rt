@@ -14,13 +14,14 @@ mod laws;
 mod limit;
 mod program;
 mod requests;
+mod running;
 #[cfg(test)]
 mod tests;
 mod text;
 mod verdict;
 
 use judge::judge;
-pub use laws::texts_have_one_status;
+pub use laws::{runs_come_to_an_end, texts_have_one_status};
 pub use program::{regent_here, regent_main};
 use run_io::{Sink, Source};
 use std::alloc::Global;
@@ -29,11 +30,11 @@ use std::alloc::Global;
 ///
 /// The words are those that `command_words` takes; what can't be done yet, a run with workers or a sample,
 /// is refused as well. The file's text is that which the source leaves when it is begun by that name. The
-/// statuses: 0 the program finished or is accepted, 2 the words are refused, 3 the text can't be read,
-/// 4 a write failed, 5 the text is no program, 6 the program breaches a rule, 7 memory ran out, 8 the
+/// statuses: 0 the program finished or is accepted, 1 it faulted, 2 the words are refused, 3 the text can't
+/// be read, 4 a write failed, 5 the text is no program, 6 the program breaches a rule, 7 memory ran out, 8 the
 /// text passes a limit, 9 the numbers aren't those that the program takes, 10 the program can't be run
-/// yet. What is printed, or `accepted`, goes to `out`, and then the trace that is asked for, or one
-/// line about an error, to `err`.
+/// yet. What is printed, or `accepted`, goes to `out`, and then the trace that is asked for and the line of
+/// a fault, or one line about an error, to `err`.
 pub fn regent_run<S: Source, K: Sink, E: Sink>(
     alloc: Global,
     words: &Vec<String>,

@@ -6,6 +6,7 @@ ghost use Rattle.regent_run.specs.Texts.{trace_text};
 ghost use Rattle.regent_run.specs.Verdicts.{IsDelivered, out_text, err_text, status_of};
 
 use crate::limit::Limit;
+use plain_values::Sequence;
 use run_io::{Sink, put_all};
 
 /// What a call comes to before it writes anything.
@@ -17,23 +18,36 @@ pub enum Verdict {
     Unread,
     NoMemory,
     /// The text is no program; the message says on which line.
-    NoProgram { message: String },
+    NoProgram {
+        message: String,
+    },
     /// The text passes a limit.
     PastLimit(Limit),
     /// The program breaches a rule; the message says which, and on which line.
-    Refused { message: String },
+    Refused {
+        message: String,
+    },
     /// The text is an accepted program that can't be run yet.
     NotBuilt,
     /// The words aren't the numbers that the program takes.
     OtherInputs,
     /// The program has printed this text. Its trace may have been asked for.
-    Finished { text: Vec<u8>, trace: bool },
+    Finished {
+        text: Sequence<u8>,
+        trace: bool,
+    },
+    /// The program has printed this text and faulted; the message has the trace that was asked for, and says
+    /// which fault it is, and on which line.
+    Faulted {
+        text: Sequence<u8>,
+        message: Vec<u8>,
+    },
     /// The program is accepted, and that is all that was asked.
     Accepted,
 }
 
 /// The trace of a run in order, where it is asked for.
-fn trace_text(traces: bool) -> &'static [u8]
+pub fn trace_text(traces: bool) -> &'static [u8]
     ensures { result.now ≡ trace_text traces }
 {
     if traces { b"in order\n" } else { b"" }
@@ -53,6 +67,7 @@ impl Verdict {
             Verdict::OtherInputs => 9,
             Verdict::NotBuilt => 10,
             Verdict::Finished { .. } | Verdict::Accepted => 0,
+            Verdict::Faulted { .. } => 1,
         }
     }
 
@@ -62,6 +77,7 @@ impl Verdict {
     {
         match self {
             Verdict::Finished { text, .. } => text.as_slice(),
+            Verdict::Faulted { text, .. } => text.as_slice(),
             Verdict::Accepted => b"accepted\n",
             _ => b"",
         }
@@ -81,6 +97,7 @@ impl Verdict {
             Verdict::NotBuilt => b"error: not built\n",
             Verdict::OtherInputs => b"error: inputs\n",
             Verdict::Finished { trace, .. } => trace_text(*trace),
+            Verdict::Faulted { message, .. } => message.as_slice(),
             Verdict::Accepted => b"",
         }
     }
