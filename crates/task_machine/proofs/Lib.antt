@@ -1,11 +1,5 @@
-pub mod Widths
-pub mod Quotients
+pub mod Casting
+pub mod Coming
 pub mod Rounds
 pub mod Taking
-pub mod Coming
 pub mod Tasks
-pub mod Casting
-pub mod Spots
-pub mod Filling
-pub mod Reading
-pub mod Hints

@@ -1,20 +1,19 @@
 //! Calls, prints, and the ends of a task instance.
 
-ghost use Rattle.std.specs.Prelude.{◌≡◌, [], Some, None, IfOk, List, slice_get, string_bytes};
-ghost use Rattle.std.specs.Fmt.{signed_decimal};
+ghost use Rattle.std.specs.Prelude.{None, IfOk, List};
 ghost use Rattle.task_machine.specs.Acts.{Does, with_stack};
 ghost use Rattle.machine_terms.specs.declared.value.Value.{Value as MachineValue};
-ghost use Rattle.machine_terms.specs.Calls.{assert, call, calling, count_numbers, end_with, print, text_of};
-ghost use Rattle.machine_terms.specs.Calls.{is_pending, take_values, taken};
-ghost use Rattle.task_machine.specs.Takings.{taken_off};
+ghost use Rattle.machine_terms.specs.Calls.{assert, call, calling, end_with, print};
+ghost use Rattle.machine_terms.specs.Calls.{taken};
 ghost use Rattle.machine_terms.specs.declared.outcome.Yield.TheVariants.{End};
 ghost use Rattle.machine_terms.specs.Machine.{stops};
 
 use crate::running::{Act, Running};
-use machine_terms::{CallOut, Stack, Value, Yield};
+use machine_state::{count_numbers, take_values, text_of};
+use machine_terms::{CallOut, Value, Yield};
 use plain_values::Sequence;
 use regent_tree::FaultKind;
-use std::alloc::{AllocError, Global};
+use std::alloc::AllocError;
 use task_code::{Code, PrintPart};
 
 /// The deepest that a task instance may stand and still call.
@@ -118,81 +117,4 @@ impl Running {
             None => Act::broken(),
         }
     }
-}
-
-/// Whether a value is a child's that wasn't awaited.
-fn is_pending(value: &Value) -> bool
-    ensures { result ≡ is_pending value.now }
-{
-    matches!(value, Value::Pending(_))
-}
-
-/// Takes so many values off a stack's top, the lowest first. None where there are fewer, or one is
-/// pending; then what is left isn't said.
-#[inline(never)]
-fn take_values(
-    alloc: Global,
-    stack: &mut Stack,
-    count: usize,
-) -> Result<Option<Vec<Value>>, AllocError>
-    ensures { IfOk result (λ values. take_values count stack.old [] ≡ taken_off values stack.new) }
-{
-    let mut values = Vec::new(alloc);
-    for _ in 0..count {
-        let Some(value) = stack.pop() else {
-            return Ok(None);
-        };
-        if is_pending(&value) {
-            return Ok(None);
-        }
-        values.push(value)?;
-    }
-    values.reverse();
-    Ok(Some(values))
-}
-
-/// A number in decimal.
-fn decimal(alloc: Global, z: i64) -> Result<String, AllocError>
-    ensures { IfOk result (λ text. string_bytes text ≡ signed_decimal z) }
-{
-    format!(in alloc; "{z}")
-}
-
-/// How many numbers parts print.
-fn count_numbers(parts: &[PrintPart]) -> usize
-    ensures { result ≡ count_numbers parts.now }
-{
-    let mut count = 0;
-    for part in parts {
-        if let PrintPart::Number = part {
-            count += 1;
-        }
-    }
-    count
-}
-
-/// The text of parts, with values for their numbers; None where one is no number.
-#[inline(never)]
-fn text_of(
-    alloc: Global,
-    parts: &[PrintPart],
-    values: &[Value],
-) -> Result<Option<Sequence<u8>>, AllocError>
-    ensures { IfOk result (λ text. text ≡ text_of parts.now values.now) }
-{
-    let mut text = Sequence::new(alloc);
-    let mut place = 0;
-    for part in parts {
-        match part {
-            PrintPart::Text(bytes) => text.extend(bytes.as_slice())?,
-            PrintPart::Number => {
-                let Some(Value::Number(z)) = values.get(place) else {
-                    return Ok(None);
-                };
-                text.extend(decimal(alloc, *z)?.as_bytes())?;
-                place += 1;
-            }
-        }
-    }
-    Ok(Some(text))
 }

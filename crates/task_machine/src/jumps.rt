@@ -1,13 +1,13 @@
 //! Jumps, and the heads of loops.
 
-ghost use Rattle.std.specs.Prelude.{◌≡◌, ◌∷◌, ℕ, ℤ, pos, IfOk, Some, None, slice_get, Bool, true, false, length, ◌<◌, ◌<ℤ◌, ◌^◌, ◌-◌};
+ghost use Rattle.std.specs.Prelude.{◌≡◌, ℤ, pos, IfOk, length, ◌<◌, ◌<ℤ◌, ◌^◌, ◌-◌};
 ghost use Rattle.task_machine.specs.Acts.{Does};
 ghost use Rattle.machine_terms.specs.Jumps.{and_jump, jump, jump_if_not, leave, may_jump, next_number};
 ghost use Rattle.machine_terms.specs.Jumps.{next_point, or_jump, round, turn, turns_back};
 ghost use Rattle.machine_terms.specs.Machine.{on_turn};
 
-use crate::points::{Upcoming, loop_value, next_of};
 use crate::running::{Act, Running};
+use machine_state::{Upcoming, loop_value, next_of};
 use machine_terms::Value;
 use regent_tree::FaultKind;
 use std::alloc::AllocError;

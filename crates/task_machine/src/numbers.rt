@@ -1,16 +1,15 @@
 //! Instructions on numbers, slots and the stack.
 
-ghost use Rattle.std.specs.Prelude.{◌≡◌, ◌∷◌, ℕ, ℤ, IfOk, slice_get};
+ghost use Rattle.std.specs.Prelude.{◌∷◌, IfOk, slice_get};
 ghost use Rattle.lane_kernels.specs.Numbers.{wrapped};
 ghost use Rattle.task_machine.specs.Acts.{Does};
 ghost use Rattle.machine_terms.specs.Machine.{next};
 ghost use Rattle.machine_terms.specs.Numbers.{arithmetic, comparison, discard, inverted, load};
 ghost use Rattle.machine_terms.specs.Numbers.{negated, replaced, store};
-ghost use Rattle.machine_terms.specs.declared.value.Value.TheVariants.{Number};
 
-use crate::arithmetic::{compare, compute, kept_truth, negate};
 use crate::running::{Act, Running};
 use lane_kernels::Width;
+use machine_state::{compare, compute, kept_truth, negate};
 use machine_terms::{Value, Yield};
 use regent_tree::{Arithmetic, Comparison, FaultKind};
 use std::alloc::AllocError;

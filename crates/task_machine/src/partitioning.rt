@@ -1,62 +1,31 @@
 //! Instructions that have partitions made.
 
-ghost use Rattle.std.specs.Prelude.{◌≡◌, IfOk};
-ghost use Rattle.std.specs.List.{list_all};
-ghost use Rattle.plain_values.specs.Points.{within};
+ghost use Rattle.std.specs.Prelude.{IfOk};
 ghost use Rattle.task_machine.specs.Acts.{Does};
-ghost use Rattle.machine_terms.specs.Regions.{by_field, equal, image, join, lie_in, meet};
-ghost use Rattle.machine_terms.specs.Regions.{minus, partition, preimage, sets_of};
+ghost use Rattle.machine_terms.specs.Regions.{by_field, equal, image, join, meet};
+ghost use Rattle.machine_terms.specs.Regions.{minus, partition, preimage};
 
-use crate::columns::Column;
-use crate::pointers::region_in;
-use crate::regions::partition_in;
 use crate::running::{Act, Running};
-use machine_terms::{Made, PartitionValue, RegionValue, Value, Yield};
-use partitions::{COLOUR_LIMIT, both, by_field, either_of, equal, image, preimage, without};
-use plain_values::Sequence;
-use point_sets::PointSet;
+use machine_state::{
+    Column, Division, divide_by_both, divide_by_either, divide_by_field, divide_by_image,
+    divide_by_preimage, divide_equally, divide_without, lies_in, partition_in, region_in,
+};
+use machine_terms::{Made, Value, Yield};
+use partitions::COLOUR_LIMIT;
 use regent_tree::FaultKind;
-use region_tree::RootId;
-use std::alloc::{AllocError, Global};
-
-/// The points of each colour.
-fn sets_of(alloc: Global, partition: &PartitionValue) -> Result<Vec<PointSet>, AllocError>
-    ensures { IfOk result (λ r. r.items ≡ sets_of partition.now) }
-{
-    let children = partition.children.get();
-    let mut sets = Vec::with_capacity(alloc, children.len())?;
-    for child in children.as_slice() {
-        sets.push(child.points.get().copy()?)?;
-    }
-    Ok(sets)
-}
-
-/// Whether all sets are within a region's points.
-fn are_within(sets: &[PointSet], region: &RegionValue) -> bool
-    ensures { result ≡ list_all (λ s. within s region.now.points) sets.now }
-{
-    for set in sets {
-        if !set.within(region.points.get()) {
-            return false;
-        }
-    }
-    true
-}
-
-/// Whether all sets are of a region, whose root is given beside them.
-fn lie_in(root: RootId, sets: &[PointSet], region: &RegionValue) -> bool
-    ensures { result ≡ lie_in root.0 sets.now region.now }
-{
-    root.0 == region.root.0 && are_within(sets, region)
-}
+use std::alloc::AllocError;
 
 impl Running {
     /// A partition of a region is to be made.
-    fn make(&mut self, pc: u32, region: RegionValue, sets: Vec<PointSet>, disjoint: bool) -> Act
-        ensures { Does (λ m. partition region sets.items disjoint m.frame.stack m)
+    fn make(&mut self, pc: u32, division: Division) -> Act
+        ensures { Does (λ m. partition division.region division.sets division.disjoint m.frame.stack m)
             pc self.old self.new result }
     {
-        let sets = Sequence::from_vec(sets);
+        let Division {
+            region,
+            sets,
+            disjoint,
+        } = division;
         self.yield_behind(
             pc,
             Yield::Make(Made::Partition {
@@ -72,7 +41,6 @@ impl Running {
     pub(crate) fn equal(&mut self, pc: u32, slot: u32, line: u32) -> Result<Act, AllocError>
         ensures { IfOk result (Does (equal slot line) pc self.old self.new) }
     {
-        let alloc = self.held.allocator();
         let Some(region) = region_in(&self.slots, slot) else {
             return Ok(Act::broken());
         };
@@ -82,9 +50,8 @@ impl Running {
         if colours.volume() > COLOUR_LIMIT {
             return Ok(Act::fault(FaultKind::BadSize, line));
         }
-        let region = region.copy()?;
-        let (sets, disjoint) = equal(alloc, region.points.get(), colours.volume())?;
-        Ok(self.make(pc, region, sets, disjoint))
+        let division = divide_equally(self.alloc, region, colours.volume())?;
+        Ok(self.make(pc, division))
     }
 
     /// Has the partition made of what two partitions share, colour by colour.
@@ -98,7 +65,6 @@ impl Running {
     ) -> Result<Act, AllocError>
         ensures { IfOk result (Does (meet first second slot) pc self.old self.new) }
     {
-        let alloc = self.held.allocator();
         let Some(p) = partition_in(&self.slots, first) else {
             return Ok(Act::broken());
         };
@@ -108,11 +74,8 @@ impl Running {
         let Some(region) = region_in(&self.slots, slot) else {
             return Ok(Act::broken());
         };
-        let region = region.copy()?;
-        let (ps, qs) = (sets_of(alloc, p)?, sets_of(alloc, q)?);
-        let flag = p.disjoint || q.disjoint;
-        let (sets, disjoint) = both(alloc, ps.as_slice(), qs.as_slice(), flag)?;
-        Ok(self.make(pc, region, sets, disjoint))
+        let division = divide_by_both(self.alloc, p, q, region)?;
+        Ok(self.make(pc, division))
     }
 
     /// Has the partition made of what either of two partitions has, colour by colour.
@@ -126,7 +89,6 @@ impl Running {
     ) -> Result<Act, AllocError>
         ensures { IfOk result (Does (join first second slot) pc self.old self.new) }
     {
-        let alloc = self.held.allocator();
         let Some(p) = partition_in(&self.slots, first) else {
             return Ok(Act::broken());
         };
@@ -136,10 +98,8 @@ impl Running {
         let Some(region) = region_in(&self.slots, slot) else {
             return Ok(Act::broken());
         };
-        let region = region.copy()?;
-        let (ps, qs) = (sets_of(alloc, p)?, sets_of(alloc, q)?);
-        let (sets, disjoint) = either_of(alloc, ps.as_slice(), qs.as_slice())?;
-        Ok(self.make(pc, region, sets, disjoint))
+        let division = divide_by_either(self.alloc, p, q, region)?;
+        Ok(self.make(pc, division))
     }
 
     /// Has the partition made of what one partition has and another lacks, colour by colour.
@@ -153,7 +113,6 @@ impl Running {
     ) -> Result<Act, AllocError>
         ensures { IfOk result (Does (minus first second slot) pc self.old self.new) }
     {
-        let alloc = self.held.allocator();
         let Some(p) = partition_in(&self.slots, first) else {
             return Ok(Act::broken());
         };
@@ -163,10 +122,8 @@ impl Running {
         let Some(region) = region_in(&self.slots, slot) else {
             return Ok(Act::broken());
         };
-        let region = region.copy()?;
-        let (ps, qs) = (sets_of(alloc, p)?, sets_of(alloc, q)?);
-        let (sets, disjoint) = without(alloc, ps.as_slice(), qs.as_slice(), p.disjoint)?;
-        Ok(self.make(pc, region, sets, disjoint))
+        let division = divide_without(self.alloc, p, q, region)?;
+        Ok(self.make(pc, division))
     }
 
     /// Pops a colour space, and has the region in a slot divided by the numbers of a field.
@@ -180,7 +137,6 @@ impl Running {
     ) -> Result<Act, AllocError>
         ensures { IfOk result (Does (by_field slot field line) pc self.old self.new) }
     {
-        let alloc = self.held.allocator();
         let Some(region) = region_in(&self.slots, slot) else {
             return Ok(Act::broken());
         };
@@ -190,9 +146,8 @@ impl Running {
         if colours.volume() > COLOUR_LIMIT {
             return Ok(Act::fault(FaultKind::BadSize, line));
         }
-        let region = region.copy()?;
         let root = region.root;
-        match self.held.column(&region, field)? {
+        match self.held.column(region, field)? {
             Column::Unread => Ok(Act::broken()),
             Column::Awaited => {
                 self.frame.stack.push(Value::Space(colours))?;
@@ -200,9 +155,8 @@ impl Running {
             }
             Column::Numbers(numbers, _) => {
                 let count = colours.volume();
-                let points = region.points.get();
-                let (sets, disjoint) = by_field(alloc, points, numbers.as_slice(), count)?;
-                Ok(self.make(pc, region, sets, disjoint))
+                let division = divide_by_field(self.alloc, region, numbers.as_slice(), count)?;
+                Ok(self.make(pc, division))
             }
         }
     }
@@ -219,37 +173,27 @@ impl Running {
     ) -> Result<Act, AllocError>
         ensures { IfOk result (Does (image slot divided through field) pc self.old self.new) }
     {
-        let alloc = self.held.allocator();
         let Some(parent) = region_in(&self.slots, slot) else {
             return Ok(Act::broken());
         };
         let Some(partition) = partition_in(&self.slots, divided) else {
             return Ok(Act::broken());
         };
-        let Some(region) = region_in(&self.slots, through) else {
+        let Some(read) = region_in(&self.slots, through) else {
             return Ok(Act::broken());
         };
-        let sets = sets_of(alloc, partition)?;
-        if !lie_in(partition.root, sets.as_slice(), region) {
+        if !lies_in(partition, read) {
             return Ok(Act::broken());
         }
-        let root = region.root;
-        match self.held.column(region, field)? {
+        let root = read.root;
+        match self.held.column(read, field)? {
             Column::Unread => Ok(Act::broken()),
             Column::Awaited => Ok(self.stop_at(pc, Yield::Want { root, field })),
             Column::Numbers(numbers, pointers) => {
-                let parent = parent.copy()?;
-                let (points, among) = (parent.points.get(), region.points.get());
                 let values = numbers.as_slice();
-                let (sets, disjoint) = image(
-                    alloc,
-                    points,
-                    sets.as_slice(),
-                    among,
-                    values,
-                    pointers,
-                )?;
-                Ok(self.make(pc, parent, sets, disjoint))
+                let alloc = self.alloc;
+                let division = divide_by_image(alloc, parent, partition, read, values, pointers)?;
+                Ok(self.make(pc, division))
             }
         }
     }
@@ -266,39 +210,29 @@ impl Running {
     ) -> Result<Act, AllocError>
         ensures { IfOk result (Does (preimage slot divided through field) pc self.old self.new) }
     {
-        let alloc = self.held.allocator();
         let Some(parent) = region_in(&self.slots, slot) else {
             return Ok(Act::broken());
         };
         let Some(partition) = partition_in(&self.slots, divided) else {
             return Ok(Act::broken());
         };
-        let Some(region) = region_in(&self.slots, through) else {
+        let Some(read) = region_in(&self.slots, through) else {
             return Ok(Act::broken());
         };
-        let (points, among) = (parent.points.get(), region.points.get());
-        if parent.root.0 != region.root.0 || !points.within(among) {
+        if parent.root.0 != read.root.0 || !parent.points.get().within(read.points.get()) {
             return Ok(Act::broken());
         }
-        let root = region.root;
-        match self.held.column(region, field)? {
+        let root = read.root;
+        match self.held.column(read, field)? {
             Column::Unread => Ok(Act::broken()),
             Column::Awaited => Ok(self.stop_at(pc, Yield::Want { root, field })),
             Column::Numbers(numbers, pointers) => {
-                let flag = partition.disjoint;
-                let sets = sets_of(alloc, partition)?;
                 let values = numbers.as_slice();
-                let (sets, disjoint) = preimage(
-                    alloc,
-                    points,
-                    sets.as_slice(),
-                    among,
-                    values,
-                    pointers,
-                    flag,
+                let alloc = self.alloc;
+                let division = divide_by_preimage(
+                    alloc, parent, partition, read, values, pointers,
                 )?;
-                let parent = parent.copy()?;
-                Ok(self.make(pc, parent, sets, disjoint))
+                Ok(self.make(pc, division))
             }
         }
     }

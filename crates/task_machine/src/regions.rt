@@ -1,41 +1,18 @@
 //! Instructions on index spaces, roots and children.
 
-ghost use Rattle.std.specs.Prelude.{◌≡◌, IfNone, IfOk, IfSome, None, Some, slice_get};
+ghost use Rattle.std.specs.Prelude.{IfOk};
 ghost use Rattle.task_machine.specs.Acts.{Does};
 ghost use Rattle.machine_terms.specs.Machine.{on_number};
-ghost use Rattle.machine_terms.specs.Regions.{child, colors, coloured, new_root};
-ghost use Rattle.machine_terms.specs.Regions.{partition_in, space};
+ghost use Rattle.machine_terms.specs.Regions.{child, colors, new_root};
+ghost use Rattle.machine_terms.specs.Regions.{space};
 
 use crate::running::{Act, Running};
-use crate::slots::Slots;
 use index_spaces::Ispace;
-use machine_terms::{Made, PartitionValue, RegionValue, Value, Yield};
-use plain_values::Sequence;
+use machine_state::{coloured, partition_in};
+use machine_terms::{Made, Value, Yield};
 use regent_tree::FaultKind;
 use std::alloc::AllocError;
 use task_code::Code;
-
-/// The partition in a slot.
-pub(crate) fn partition_in(slots: &Slots, slot: u32) -> Option<&PartitionValue>
-    ensures some { IfSome result (λ p. partition_in (slice_get slots.now slot) ≡ Some p.now) }
-    ensures none { IfNone result (partition_in (slice_get slots.now slot) ≡ None) }
-{
-    match slots.as_slice().get(slot as usize) {
-        Some(Value::Partition(partition)) => Some(partition),
-        _ => None,
-    }
-}
-
-/// The region of a colour.
-fn coloured(children: &Sequence<RegionValue>, number: i64) -> Option<&RegionValue>
-    ensures some { IfSome result (λ r. coloured children.now number ≡ Some r.now) }
-    ensures none { IfNone result (coloured children.now number ≡ None) }
-{
-    if number < 0 {
-        return None;
-    }
-    children.as_slice().get(number as usize)
-}
 
 impl Running {
     /// Replaces a number on top by the index space of so many points.

@@ -6,8 +6,7 @@ ghost use Rattle.machine_terms.specs.Machine.{at, yields};
 ghost use Rattle.task_machine.specs.declared.running.Act.TheVariants as act;
 ghost use Rattle.task_machine.specs.declared.running.Act.TheVariants.{Broken, Stop};
 
-use crate::holdings::Holdings;
-use crate::slots::Slots;
+use machine_state::{Holdings, Slots};
 use machine_terms::{Frame, Yield};
 use plain_values::Sequence;
 use regent_tree::{Fault, FaultKind};

@@ -4,10 +4,8 @@ ghost use Rattle.std.specs.Prelude.{◌≡◌, [], IfOk};
 ghost use Rattle.task_machine.specs.Acts.{opened_as, shown_after, task_after};
 ghost use Rattle.machine_terms.specs.Segments.{frame_after, segment};
 
-use crate::copies::copy_parts;
-use crate::holdings::Holdings;
 use crate::running::Running;
-use crate::slots::Slots;
+use machine_state::{Holdings, Slots, copy_parts};
 use machine_terms::{After, Before, Frame, Ran, Yield};
 use plain_values::{Sequence, Shared};
 use region_tree::{Needs, Part};

@@ -58,17 +58,28 @@ fn region(alloc: Global) -> Result<RegionValue, AllocError> {
     })
 }
 
-/// Slots with a value of each kind, and then the number 0.
-fn slots(alloc: Global) -> Result<Sequence<Value>, AllocError> {
+/// A partition of the region in one.
+fn partition(alloc: Global) -> Result<Value, AllocError> {
     let mut children = Sequence::new(alloc);
     children.push(region(alloc)?)?;
-    let mut slots = Sequence::new(alloc);
-    slots.push(Value::Region(region(alloc)?))?;
-    slots.push(Value::Partition(PartitionValue {
+    Ok(Value::Partition(PartitionValue {
         root: ROOT,
         disjoint: true,
         children: Shared::new(alloc, children)?,
-    }))?;
+    }))
+}
+
+/// Slots with the region and the partition.
+fn regions(alloc: Global) -> Result<Sequence<Value>, AllocError> {
+    let mut slots = Sequence::new(alloc);
+    slots.push(Value::Region(region(alloc)?))?;
+    slots.push(partition(alloc)?)?;
+    Ok(slots)
+}
+
+/// Slots with a value of each kind, and then the number 0.
+fn slots(alloc: Global) -> Result<Sequence<Value>, AllocError> {
+    let mut slots = regions(alloc)?;
     if let Ok(space) = Ispace::line(3) {
         slots.push(Value::Space(space))?;
     }
@@ -117,22 +128,36 @@ fn part(alloc: Global) -> Result<Part, AllocError> {
     })
 }
 
+fn parts(alloc: Global) -> Result<Sequence<Part>, AllocError> {
+    let mut parts = Sequence::new(alloc);
+    parts.push(part(alloc)?)?;
+    Ok(parts)
+}
+
 /// What a body leaves, on the part.
 fn left_by<const N: usize>(alloc: Global, turns: u64, body: [Instr; N]) -> Result<After, AllocError>
     requires { N < 1000 }
 {
+    let body = lines(alloc, body)?;
+    let code = code(alloc, 5, body)?;
+    let parts = parts(alloc)?;
+    let frame = frame(alloc, turns)?;
+    run(alloc, &code, frame, parts)
+}
+
+/// The print of a number with an exclamation mark.
+fn exclaimed(alloc: Global) -> Result<Instr, AllocError> {
+    let end = Sequence::from_slice(alloc, b"!\n")?;
     let mut parts = Sequence::new(alloc);
-    parts.push(part(alloc)?)?;
-    let code = code(alloc, 5, lines(alloc, body)?)?;
-    run(alloc, &code, frame(alloc, turns)?, parts)
+    parts.push(PrintPart::Number)?;
+    parts.push(PrintPart::Text(end))?;
+    Ok(Instr::Print(parts))
 }
 
 #[test]
 fn numbers_are_computed_and_printed(rt: HostRuntime) -> Result<(), Fail> {
     let alloc = rt.alloc();
-    let mut parts = Sequence::new(alloc);
-    parts.push(PrintPart::Number)?;
-    parts.push(PrintPart::Text(Sequence::from_slice(alloc, b"!\n")?))?;
+    let print = exclaimed(alloc)?;
     let after = left_by(
         alloc,
         0,
@@ -140,7 +165,7 @@ fn numbers_are_computed_and_printed(rt: HostRuntime) -> Result<(), Fail> {
             Instr::Num(-7),
             Instr::Num(2),
             Instr::Div(Width::W64),
-            Instr::Print(parts),
+            print,
             Instr::Return,
         ],
     )?;
@@ -157,9 +182,21 @@ fn values_of_each_kind_are_loaded(rt: HostRuntime) -> Result<(), Fail> {
         let after = left_by(alloc, 0, [Instr::Load(slot), Instr::Drop, Instr::Return])?;
         assert!(rt; matches!(after.ends, Yield::End(None)), "{slot}");
     }
+    Ok(())
+}
+
+#[test]
+fn a_pending_value_is_awaited(rt: HostRuntime) -> Result<(), Fail> {
+    let alloc = rt.alloc();
     let awaits = left_by(alloc, 0, [Instr::Load(3)])?;
     assert!(rt; matches!(awaits.ends, Yield::Await(7)));
     assert_eq!(rt; awaits.frame.map(|frame| frame.pc), Some(0));
+    Ok(())
+}
+
+#[test]
+fn turns_run_out(rt: HostRuntime) -> Result<(), Fail> {
+    let alloc = rt.alloc();
     let turns = left_by(alloc, 1, [Instr::Turn, Instr::Turn])?;
     let fault = Fault {
         kind: FaultKind::Turns,
@@ -169,18 +206,24 @@ fn values_of_each_kind_are_loaded(rt: HostRuntime) -> Result<(), Fail> {
     Ok(())
 }
 
+/// A task that stores a number.
+fn storing(alloc: Global) -> Result<Shared<Code>, AllocError> {
+    let body = lines(alloc, [Instr::Num(3), Instr::Store(4), Instr::Return])?;
+    let code = code(alloc, 5, body)?;
+    Shared::new(alloc, code)
+}
+
+fn before(alloc: Global) -> Result<Shared<Before>, AllocError> {
+    let code = storing(alloc)?;
+    let frame = frame(alloc, 0)?;
+    let parts = parts(alloc)?;
+    Shared::new(alloc, Before { code, frame, parts })
+}
+
 #[test]
 fn a_segment_leaves_what_it_ran_from(rt: HostRuntime) -> Result<(), Fail> {
     let alloc = rt.alloc();
-    let mut parts = Sequence::new(alloc);
-    parts.push(part(alloc)?)?;
-    let body = lines(alloc, [Instr::Num(3), Instr::Store(4), Instr::Return])?;
-    let before = Before {
-        code: Shared::new(alloc, code(alloc, 5, body)?)?,
-        frame: frame(alloc, 0)?,
-        parts,
-    };
-    let ran = run_segment(alloc, Shared::new(alloc, before)?)?;
+    let ran = run_segment(alloc, before(alloc)?)?;
     assert!(rt; matches!(ran.after().ends, Yield::End(None)));
     assert_eq!(rt; ran.before().get().parts.len(), 1);
     assert!(rt;

@@ -1,0 +1,7 @@
+pub mod Aims
+pub mod Casts
+pub mod Columns
+pub mod Fills
+pub mod Holding
+pub mod Rounds
+pub mod Takings

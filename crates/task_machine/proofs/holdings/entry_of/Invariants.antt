@@ -1,5 +1,0 @@
-use Rattle.task_machine.proofs.Spots.{IsPast}
-use Rattle.task_machine.proofs.holdings.entry_of.Given as goal
-
-abbrev pub invariant-loop-piece : goal.invariant-loop-piece
-invariant-loop-piece l = IsPast l.pieces l.point l.piece

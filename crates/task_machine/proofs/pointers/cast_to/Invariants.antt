@@ -1,9 +1,0 @@
-use Rattle.std.proofs.Common.{◌≡◌, None, drop}
-use Rattle.task_machine.specs.Casts.{cast_from}
-use Rattle.machine_terms.specs.Pointers.{regions_in}
-use Rattle.task_machine.proofs.pointers.cast_to.Given as goal
-
-abbrev pub invariant-loop-place : goal.invariant-loop-place
-invariant-loop-place l =
-    cast_from l.found l.place (regions_in l.slots (drop l.place l.regions)) l.number
-    ≡ cast_from None 0 (regions_in l.slots l.regions) l.number
