@@ -3,9 +3,10 @@ use Rattle.std.proofs.Common.{◌≡◌, ◌⊎◌, inl, inr, ⊎_elim, ℕ, zer
 use Rattle.std.specs.Prelude.{cond, get_or, length, map, take, ◌==◌, ◌||◌}
 use Rattle.std.specs.List.Sorted.{IsStrictlyIncreasing}
 use Rattle.std.proofs.lemmas.Bool.{cases_lt}
-use Rattle.std.proofs.lemmas.List.{ext_get_or, get_or-take, length-append, length-map, length-take-le, take-map}
+use Rattle.std.proofs.lemmas.List.{ext_get_or, get_or_default, get_or-take, length-append, length-map, length-take-le, take-map}
+use Rattle.std.proofs.lemmas.Simd.{map-map}
 use Rattle.std.proofs.lemmas.List.Elements.{All-take}
-use Rattle.std.proofs.Math.ListN.{get_or-eq_default}
+use Rattle.std.proofs.Math.ListN.{get_or-eq_default, get_or-map}
 use Rattle.std.proofs.Math.Seq.{take-append_seam}
 use Rattle.plain_values.specs.Points.{IsPoints, has}
 use Rattle.point_sets.proofs.Rising.{has-append, rising_cons, rising_head, rising_tail}
@@ -14,13 +15,16 @@ use Rattle.lane_kernels.specs.declared.numbers.FieldKind.TheVariants.{Truth}
 use Rattle.lane_kernels.specs.declared.numbers.Op.TheVariants.{Sum}
 use Rattle.lane_kernels.specs.Numbers.{FitsWidth, width_of}
 use Rattle.lane_kernels.proofs.Operators.{identity}
+use Rattle.region_tree.specs.declared.tree.RootId.{RootId}
 use Rattle.regent_tree.specs.declared.outcome.RootImage.{RootImage}
+use Rattle.regent_tree.specs.declared.outcome.Ending.TheVariants.{Finished}
 use Rattle.regent_tree.specs.Laws.{Shape, shape_of}
 use Rattle.regent_tree.specs.Store.{no_root, read_at}
 use Rattle.task_code.specs.declared.code.Code.{Code}
+use Rattle.machine_terms.specs.declared.order.Contents.{Contents}
 use Rattle.machine_terms.specs.declared.order.Root.{Root}
 use Rattle.machine_terms.specs.Contents.{image_in, image_of, closed, kinds_of, kind_of}
-use Rattle.memory_laws.specs.Closing.{ClosedStands}
+use Rattle.memory_laws.specs.Closing.{ClosedStands, EndsWithStore}
 use Rattle.memory_laws.specs.Giving.{AloneIsTheStore}
 use Rattle.memory_laws.specs.Memory.{IsKept}
 use Rattle.memory_laws.specs.Places.{numbers, number_at}
@@ -146,3 +150,16 @@ alone_is_the_store code store c s =
         (sym (length-map a.fields length) ∙ ap (λ (s : Shape). length s.lengths) e ∙ length-map b.fields length)
         (λ f k. ext_get_or (pos 0) (get_or a.fields f []) (get_or b.fields f []) (length_of a b f e)
         (λ p m. sym (s.same r f p (subst (λ n. p < n) (length_of a b f e) m)))))
+
+-- each root by its number
+images_by_number : (c : Contents) → IsPoints c.made (numbers c) → map (image_of c) (numbers c) ≡ images c
+images_by_number c n = ext_get_or no_root (map (image_of c) (numbers c)) (images c)
+    (length-map (numbers c) (image_of c) ∙ length-map c.roots (λ (r : Root). r.id.0)
+    ∙ sym (length-map c.roots (λ (r : Root). r.image)))
+    (λ r l. get_or_default (map (image_of c) (numbers c)) r no_root (image_of c c.made) l
+    ∙ get_or-map (image_of c) (numbers c) r c.made ∙ image_at c r n)
+
+pub ends_with_store : EndsWithStore
+ends_with_store code store c own s is =
+    ap Finished (sym (map-map (image_of c) (λ (r : RootId). r.0) own) ∙ ap (map (image_of c)) (sym is)
+    ∙ images_by_number c s.numbered ∙ alone_is_the_store code store c s)

@@ -1,5 +1,5 @@
 -- The example, by computing and by the laws.
-use Rattle.std.proofs.Common.{ℕ, ◌<◌, pos, [], ◌∷◌, refl, arith}
+use Rattle.std.proofs.Common.{inr, ℕ, ◌<◌, pos, [], ◌∷◌, refl, arith}
 use Rattle.std.specs.Int.{int_wrap}
 use Rattle.std.proofs.lemmas.Int.{ints}
 use Rattle.lane_kernels.specs.declared.numbers.FieldKind.TheVariants.{Int32}
@@ -61,6 +61,8 @@ unfolding int_wrap
 example_holds = record {
   numbers_are = refl;
   required = refl;
+  covers_write = refl;
+  covers_reduction = inr refl;
   is_missing = refl;
   writes = refl;
   written_is = refl;

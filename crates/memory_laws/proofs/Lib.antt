@@ -14,6 +14,7 @@ pub mod Closed
 pub mod Needing
 pub mod Made
 pub mod Making
+pub mod Covering
 pub mod Beginning
 pub mod Returning
 pub mod Example

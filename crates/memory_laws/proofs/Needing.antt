@@ -1,8 +1,9 @@
 -- Needs of a root that was made, behind those that were there.
 use Rattle.std.proofs.Common.{◌≡◌, ⊎_elim, ℕ, zero, suc, ◌<◌, List, [], ◌∷◌, ◌++◌, Bool, true, false, Some, None, refl, sym, ap, ◌∙◌, arith}
-use Rattle.std.specs.Prelude.{cond, filter, map, ◌==◌, ◌&&◌, ◌||◌}
+use Rattle.std.specs.Prelude.{length, cond, filter, map, ◌==◌, ◌&&◌, ◌||◌}
 use Rattle.std.proofs.lemmas.Bool.{and_parts, cases_lt, or_right, eqb-true, eqb-false, eq-eqb}
-use Rattle.std.proofs.lemmas.List.{append_assoc, append-nil}
+use Rattle.std.proofs.lemmas.List.{append_assoc, append-nil, length-append}
+use Rattle.std.proofs.Math.Seq.{get_or-append_seam}
 use Rattle.std.proofs.lemmas.List.Elements.{filter-append, filter_agree}
 use Rattle.std.proofs.lemmas.List.Folds.{list_any-append}
 use Rattle.std.proofs.lemmas.Option.{none-some}
@@ -11,6 +12,7 @@ use Rattle.lane_kernels.specs.declared.numbers.Mode.{Mode}
 use Rattle.lane_kernels.specs.declared.numbers.Mode.TheVariants.{Write}
 use Rattle.region_tree.specs.declared.needs.Need.{Need}
 use Rattle.region_tree.specs.Requirements.{Requirement, all_modes, is_at, is_mode, is_of, join_from, mode_at, part_of, part_of_mode, parts_of_modes, points_joined, points_required}
+use Rattle.region_tree.proofs.Joins.{join-with_writer}
 use Rattle.machine_terms.specs.Makes.{root_needs, root_requirements}
 use Rattle.machine_terms.specs.Parts.{is_needed}
 
@@ -83,6 +85,25 @@ module _ (rs : List Requirement) (root : ℕ) (xs : List ℕ) where
           let at = more
           (sym (mode_beside (all_needs n) (new_need root xs n) root f p q) ∙ sym (ap (λ rs. mode_at rs root f p) (one_need n)) ∙ e) in
           (omega (arith, at.0), at.1)
+
+  -- and each field is needed for writing at all of them
+  pub mode_written : (f p : ℕ) → has xs p ≡ true → (n : ℕ) → f < n → mode_at (all_needs n) root f p ≡ Some Write
+  mode_written f p h zero l = absurd (omega (arith, l))
+  mode_written f p h (suc n) l =
+      ap (λ rs. mode_at rs root f p) (one_need n) ∙ chosen (n == f) refl (mode_written f p h n)
+    where
+      chosen : (b : Bool) → (n == f) ≡ b → (f < n → mode_at (all_needs n) root f p ≡ Some Write) →
+          mode_at (all_needs n ++ new_need root xs n ∷ []) root f p ≡ Some Write
+      chosen true e more =
+          let x = new_need root xs n in
+          let seam = get_or-append_seam (all_needs n) x [] x in
+          join-with_writer (all_needs n ++ x ∷ []) (length (all_needs n)) x root f p None
+          (omega (arith, length-append (all_needs n) (x ∷ [])))
+          (ap (is_at root f p) seam ∙ ap (λ b. b && (n == f) && has xs p) (eq-eqb root root refl)
+          ∙ ap (λ b. b && has xs p) e ∙ h) (ap (λ (r : Requirement). r.mode) seam)
+      chosen false e more = mode_beside (all_needs n) (new_need root xs n) root f p
+          (ap (λ b. b && (n == f) && has xs p) (eq-eqb root root refl) ∙ ap (λ b. b && has xs p) e)
+          ∙ more (⊎_elim (λ k. k) (λ k. absurd (eqb-false n f e (omega (arith, k, l)))) (cases_lt f n))
 
 -- ---- and its needs in the frame
 

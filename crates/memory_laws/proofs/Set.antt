@@ -1,32 +1,23 @@
 -- A cell that is set: what is held stands for the store with another number.
 use Rattle.std.proofs.Common.{◌≡◌, ℕ, ◌<◌, ℤ, Bool, true, false, Some, refl, sym, ap, ◌∙◌, subst}
-use Rattle.std.specs.Prelude.{cond, length, get_or, ◌==◌, ◌&&◌}
+use Rattle.std.specs.Prelude.{cond, length, ◌==◌, ◌&&◌}
 use Rattle.std.proofs.lemmas.Bool.{eqb-true}
 use Rattle.std.proofs.lemmas.List.{length-set}
 use Rattle.lane_kernels.specs.declared.numbers.Mode.TheVariants as mode
 use Rattle.lane_kernels.specs.Numbers.{FitsWidth, width_of}
 use Rattle.region_tree.specs.declared.piece.Part.{Part}
-use Rattle.regent_tree.specs.Laws.{shape_of}
-use Rattle.regent_tree.specs.Store.{Store, no_root, column, read_at, write_at}
+use Rattle.regent_tree.specs.Store.{Store, column, read_at, write_at}
+use Rattle.regent_tree.proofs.Roots.{shapes_written}
 use Rattle.task_code.specs.declared.code.Code.{Code}
-use Rattle.machine_terms.specs.Contents.{kept_at, kind_of, with_number}
+use Rattle.machine_terms.specs.Contents.{kept_at, kind_of}
 use Rattle.machine_terms.specs.Parts.{Cell, cell_at, part_of, set_part}
 use Rattle.memory_laws.specs.Memory.{IsKept, Memory, Holds}
 use Rattle.memory_laws.specs.Places.{is_same, number_at}
 use Rattle.memory_laws.specs.Seen.{seen_value, seen}
 use Rattle.memory_laws.proofs.Cells.{held_set, seen_set}
-use Rattle.memory_laws.proofs.Keeping.{image_written, length_written, read_written, root_below}
+use Rattle.memory_laws.proofs.Keeping.{length_written, read_written, root_below}
 use Rattle.memory_laws.proofs.Placing.{is_number}
-use Rattle.memory_laws.proofs.Shapes.{shape_number}
-
-shape_written : (store : Store) (root f n : ℕ) (z : ℤ) (r : ℕ) → root < length store →
-    shape_of (get_or (write_at store root f n z) r no_root) ≡ shape_of (get_or store r no_root)
-shape_written store root f n z r l = ap shape_of (image_written store root f n z r l) ∙ chosen (root == r)
-  where
-    chosen : (b : Bool) → shape_of (cond b (with_number (get_or store r no_root) f n z) (get_or store r no_root))
-        ≡ shape_of (get_or store r no_root)
-    chosen true = shape_number (get_or store r no_root) f n z
-    chosen false = refl
+use Rattle.memory_laws.proofs.Shapes.{shapes_at}
 
 -- ---- a cell's number, and the store's that is seen by it
 
@@ -72,7 +63,7 @@ module _ (code : Code) (store : Store) (m : Memory) (r f n : ℕ) (y z : ℤ) (q
         stands = record {
           count = st.count ∙ sym (length-set store r _);
           numbered = st.numbered;
-          shape = λ s. st.shape s ∙ sym (shape_written store r f n z s (root_below store r f n low));
+          shape = λ s. st.shape s ∙ sym (shapes_at store (write_at store r f n z) s (shapes_written store r f n z));
           same = λ s g p l. read_written store r f n z s g p low
               ∙ there s g p (is_same r f n s g p) (st.same s g p (subst (λ b. p < b) (long s g) l))
               ∙ ap (λ b. cond b (seen_value q.kind k.mode (kept_at c root f n) y) (seen c m.parts (number_at c s) g p)) (sym (same_point s g p))

@@ -1,11 +1,9 @@
 -- What stays where numbers are kept: roots, their shapes, and so kinds and lengths.
 use Rattle.std.proofs.Common.{◌≡◌, ℕ, ℤ, List, [], ◌∷◌, Bool, true, false, Some, refl, sym, ap, ◌∙◌, subst}
-use Rattle.std.specs.Prelude.{cond, map, length, get_or, slice_set, ◌==◌}
+use Rattle.std.specs.Prelude.{cond, map, length, get_or, ◌==◌}
 use Rattle.std.proofs.lemmas.Bool.{eqb-true, and_parts}
-use Rattle.std.proofs.lemmas.List.{length-set}
 use Rattle.std.proofs.lemmas.Option.{none-some, same_Some}
 use Rattle.std.proofs.Math.ListN.{get_or-map}
-use Rattle.std.proofs.Math.Seq.{map-set_same}
 use Rattle.lane_kernels.specs.declared.numbers.FieldKind.{FieldKind}
 use Rattle.lane_kernels.specs.declared.numbers.FieldKind.TheVariants.{Truth}
 use Rattle.lane_kernels.specs.declared.numbers.Mode.{Mode}
@@ -14,8 +12,9 @@ use Rattle.region_tree.specs.declared.piece.Part.{Part}
 use Rattle.region_tree.specs.Pieces.{Held}
 use Rattle.region_tree.specs.Requirements.{Requirement}
 use Rattle.regent_tree.specs.declared.outcome.RootImage.{RootImage}
-use Rattle.regent_tree.specs.Laws.{Shape, shape_of}
+use Rattle.regent_tree.specs.Laws.{Shape, SameRoots, shape_of}
 use Rattle.regent_tree.specs.Store.{Store, no_root, column}
+use Rattle.regent_tree.proofs.Roots as roots
 use Rattle.task_code.specs.declared.code.Code.{Code}
 use Rattle.machine_terms.specs.declared.order.Contents.{Contents}
 use Rattle.machine_terms.specs.declared.order.Root.{Root}
@@ -29,13 +28,6 @@ use Rattle.memory_laws.proofs.Keeping.{image_kept}
 
 -- ---- shapes
 
-pub shape_number : (i : RootImage) (f x : ℕ) (z : ℤ) → shape_of (with_number i f x z) ≡ shape_of i
-shape_number i f x z = ap (λ ls. record { space = i.space; count = i.count; lengths = ls })
-    (map-set_same length i.fields f (slice_set (get_or i.fields f []) x z) [] (length_set_of (get_or i.fields f [])))
-  where
-    length_set_of : (zs : List ℤ) → length (slice_set zs x z) ≡ length zs
-    length_set_of zs = length-set zs x z
-
 abbrev pub SameShapes : Contents → Contents → Type 0
 SameShapes c d = (r : ℕ) → shape_of (image_of d r) ≡ shape_of (image_of c r)
 
@@ -44,7 +36,7 @@ shape_kept c root f x z r = ap shape_of (image_kept c root f x z r) ∙ chosen (
   where
     chosen : (b : Bool) →
         shape_of (cond b (with_number (image_of c r) f x z) (image_of c r)) ≡ shape_of (image_of c r)
-    chosen true = shape_number (image_of c r) f x z
+    chosen true = roots.shape_kept (image_of c r) f x z
     chosen false = refl
 
 numbers_kept : (rs : List Root) (root f x : ℕ) (z : ℤ) →
@@ -106,6 +98,12 @@ length_of a b f e = sym (get_or-map length a.fields f []) ∙ ap (λ (s : Shape)
 pub length_same : (c d : Contents) → SameShapes c d → (r f : ℕ) →
     length (column_of d r f) ≡ length (column_of c r f)
 length_same c d same r f = length_of (image_of d r) (image_of c r) f (same r)
+
+-- and shapes at a place by those of the store
+pub shapes_at : (before after : Store) (r : ℕ) → SameRoots before after →
+    shape_of (get_or after r no_root) ≡ shape_of (get_or before r no_root)
+shapes_at before after r e = sym (get_or-map shape_of after r no_root)
+    ∙ ap (λ ss. get_or ss r (shape_of no_root)) e ∙ get_or-map shape_of before r no_root
 
 -- the store's fields are as long
 pub length_stored : (code : Code) (store : Store) (c : Contents) (ps : List Part) → StandFor code c ps store →

@@ -1,12 +1,14 @@
 -- Laws of an instance's own roots, which are closed behind it.
 use Rattle.std.specs.Prelude.{◌≡◌, ℕ, List, [], ◌++◌, length, map, take}
 use Rattle.region_tree.specs.declared.tree.RootId.{RootId}
+use Rattle.regent_tree.specs.declared.outcome.Ending.TheVariants.{Finished}
 use Rattle.regent_tree.specs.Laws.{SameRoots}
 use Rattle.regent_tree.specs.Store.{Store}
 use Rattle.task_code.specs.declared.code.Code.{Code}
 use Rattle.machine_terms.specs.declared.order.Contents.{Contents}
 use Rattle.machine_terms.specs.declared.order.Instance.{Instance}
 use Rattle.machine_terms.specs.Contents.{closed}
+use Rattle.machine_terms.specs.Jobs.{images_of}
 use Rattle.memory_laws.specs.Memory.{StandFor, memory_of, Holds}
 use Rattle.memory_laws.specs.Places.{numbers}
 
@@ -30,3 +32,8 @@ ReturnedHolds = (code : Code) (store after : Store) (i : Instance) (contents : C
     StandFor code contents [] after → AreOwn (numbers i.contents) own contents →
     SameRoots store (take (length store) after) →
     Holds code (take (length store) after) (memory_of (record i { contents = closed own contents }))
+
+-- At the end of the first task what its roots hold is the store.
+abbrev pub EndsWithStore : Type 0
+EndsWithStore = (code : Code) (store : Store) (contents : Contents) (own : List RootId) →
+    StandFor code contents [] store → AreOwn [] own contents → images_of own contents ≡ Finished store

@@ -24,6 +24,7 @@ use Rattle.machine_terms.specs.Pointers.{written}
 use Rattle.memory_laws.specs.Memory.{memory_of, Holds}
 use Rattle.memory_laws.specs.Places.{numbers}
 use Rattle.memory_laws.specs.Seen.{seen}
+use Rattle.memory_laws.specs.Touches.{IsCovered}
 
 -- one field space, of a narrow and a wide field
 abbrev pub kinds : List FieldKind
@@ -115,6 +116,10 @@ after = write_at (write_at before 1 0 1 (pos 7)) 1 0 2 (pos 8)
 pub record ExampleHolds : Type 0 where
   pub numbers_are : numbers second.contents ≡ 0 ∷ 2 ∷ []
   pub required : requirements_on code (give_all caller).contents declared args ≡ Some needs
+  pub covers_write : IsCovered child.contents child.needs
+      (record { root = 1; field = 0; point = 1; access = mode.Write })
+  pub covers_reduction : IsCovered child.contents child.needs
+      (record { root = 1; field = 0; point = 2; access = mode.Reduce Sum })
   pub is_missing : find child.frame.needs.items child.parts 2 0 1 ≡ missing
   pub writes : find fetched.frame.needs.items fetched.parts 2 0 1
       ≡ found Int32 (record { mode = mode.Write; value = pos 0 })

@@ -9,5 +9,6 @@ pub mod Beginning
 pub mod Giving
 pub mod Finding
 pub mod Closing
+pub mod Covering
 pub mod Making
 pub mod Example

@@ -5,7 +5,8 @@
 #![tactic(auto)]
 
 ghost use Rattle.memory_laws.specs.Beginning.{BegunHolds, FirstHolds};
-ghost use Rattle.memory_laws.specs.Closing.{ClosedStands, ReturnedHolds};
+ghost use Rattle.memory_laws.specs.Closing.{ClosedStands, EndsWithStore, ReturnedHolds};
+ghost use Rattle.memory_laws.specs.Covering.{CoveredStays, MadeCovers};
 ghost use Rattle.memory_laws.specs.Example.{ExampleHolds};
 ghost use Rattle.memory_laws.specs.Fetching.{FetchedChangesNothing, FetchedHolds};
 ghost use Rattle.memory_laws.specs.Finding.{AllowedIsWritten, CoveredIsFound, FetchedIsFound, FoundIsRead};
@@ -25,6 +26,12 @@ pub fn touches_find()
     ensures fetched { FetchedIsFound }
     ensures read { FoundIsRead }
     ensures written { AllowedIsWritten }
+{}
+
+/// Touches that the needs allow stay covered, whatever is set, fetched, given back or made.
+pub fn touches_stay_covered()
+    ensures kept { CoveredStays }
+    ensures made { MadeCovers }
 {}
 
 /// A part that is fetched changes nothing that is seen.
@@ -59,6 +66,7 @@ pub fn roots_are_made()
 pub fn own_roots_are_closed()
     ensures closed { ClosedStands }
     ensures returned { ReturnedHolds }
+    ensures end { EndsWithStore }
 {}
 
 /// Roots, parts and cells of which each premise holds: a point that is written and one that is reduced are
