@@ -36,9 +36,6 @@ or_first : (b : Bool) (q : Part) (r s : Option Part) → cond b (Some q) (or_par
 or_first true q r s = refl
 or_first false q r s = refl
 
-one_part : (root f : ℕ) (n : Part) → Option Part
-one_part root f n = cond (is_part_of root f n) (Some n) None
-
 pub part_more : (ps : List Part) (n : Part) (root f : ℕ) →
     part_of (ps ++ n ∷ []) root f ≡ or_part (part_of ps root f) (cond (is_part_of root f n) (Some n) None)
 part_more [] n root f = refl

@@ -20,9 +20,6 @@ among_is : (own : List RootId) (r : Root) → is_among own r ≡ has (ids_of own
 among_is [] r = refl
 among_is (id ∷ own) r = ap (λ b. (r.id.0 == id.0) || b) (among_is own r)
 
-left : List RootId → List Root → List Root
-left own rs = filter (λ r. not (is_among own r)) rs
-
 one_more : (own : List RootId) (k : Root) (rs : List Root) (b : Bool) → has (ids_of own) k.id.0 ≡ b →
     filter (λ r. not (is_among own r)) (k ∷ rs)
     ≡ cond (not b) (k ∷ filter (λ r. not (is_among own r)) rs) (filter (λ r. not (is_among own r)) rs)

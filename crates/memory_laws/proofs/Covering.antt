@@ -1,11 +1,11 @@
 -- Covered touches stay covered, and those of a new root are.
-use Rattle.std.proofs.Common.{◌≡◌, inl, inr, ⊎_elim, ℕ, ◌+◌, ◌<◌, ◌≤◌, List, [], ◌∷◌, ◌++◌, false, Option, Some, sym, ap, ◌∙◌, subst, arith}
+use Rattle.std.proofs.Common.{true, ◌≡◌, inl, inr, ⊎_elim, ℕ, ◌+◌, ◌<◌, ◌≤◌, List, [], ◌∷◌, ◌++◌, false, Option, Some, sym, ap, ◌∙◌, subst, arith}
 use Rattle.std.specs.Prelude.{cond, get_or, leb, length, ltb, replicate, ◌==◌}
 use Rattle.std.proofs.lemmas.Bool.{and_from, cases_lt, le-leb, lt-ltb, ne_eqb}
 use Rattle.std.proofs.lemmas.List.{get_or_default, length-append, length-map}
 use Rattle.std.proofs.Math.ListN.{get_or-append, get_or-eq_default}
 use Rattle.std.proofs.Math.Seq.{get_or-append_seam}
-use Rattle.plain_values.specs.Points.{points}
+use Rattle.plain_values.specs.Points.{has, points}
 use Rattle.point_sets.proofs.Rising.{has-counted_from}
 use Rattle.lane_kernels.specs.declared.numbers.FieldKind.{FieldKind}
 use Rattle.lane_kernels.specs.declared.numbers.Mode.{Mode}
@@ -15,11 +15,11 @@ use Rattle.regent_tree.specs.declared.outcome.RootImage.{RootImage}
 use Rattle.regent_tree.specs.Values.{kept_zero}
 use Rattle.machine_terms.specs.declared.order.Root.{Root}
 use Rattle.machine_terms.specs.Contents.{kinds_of, with_root}
-use Rattle.machine_terms.specs.Makes.{fields_needed, root_requirements}
+use Rattle.machine_terms.specs.Makes.{fields_needed, make_root}
 use Rattle.region_tree.specs.Requirements.{mode_at}
 use Rattle.memory_laws.specs.Covering.{CoveredStays, MadeCovers}
 use Rattle.memory_laws.specs.Places.{numbers, number_at}
-use Rattle.memory_laws.specs.Touches.{Covers}
+use Rattle.memory_laws.specs.Touches.{Covers, IsCovered}
 use Rattle.memory_laws.proofs.Keeping.{root_below}
 use Rattle.memory_laws.proofs.Made.{zeros, size_of, number_old, number_new}
 use Rattle.memory_laws.proofs.Needing.{mode_other, mode_written}
@@ -61,37 +61,44 @@ in_field kinds size f p l = ⊎_elim
     (cases_lt f (length kinds))
 
 pub made_covers : MadeCovers
-made_covers code store i size space passes h covered t ok l = ⊎_elim old fresh (cases_lt t.root (length store))
+made_covers code store i size space passes h covered t ok l =
+    ⊎_elim old fresh (cases_lt t.root (length store))
   where
-    old : t.root < length store → Covers t.access (mode_at (i.needs ++ root_requirements i.contents.made (points size) (fields_needed code size space))
-        (number_at (with_root (new_root space size (kinds_of code space)) i.contents) t.root) t.field t.point)
+    old : t.root < length store →
+        IsCovered (make_root code size space i).contents (make_root code size space i).needs t
     old k =
         let c = i.contents in
+        let image = new_root space size (kinds_of code space) in
         let low : t.root < length c.roots = subst (λ n. t.root < n) (sym h.stands.count) k in
         let n = number_at c t.root in
-        let ne : (c.made == n) ≡ false = ne_eqb c.made n
-        (λ q. omega (arith, q, number_below c t.root h.stands.numbered low)) in
-        subst (λ k. Covers t.access (mode_at (i.needs ++ root_requirements c.made (points size) (fields_needed code size space)) k t.field t.point))
-        (sym (number_old c (new_root space size (kinds_of code space)) h.stands.numbered t.root low))
-        (subst (Covers t.access) (sym (mode_other i.needs c.made (points size) n t.field ne (fields_needed code size space) t.point))
+        let ne : (c.made == n) ≡ false =
+        ne_eqb c.made n (λ q. omega (arith, q, number_below c t.root h.stands.numbered low)) in
+        subst (λ k. Covers t.access (mode_at (make_root code size space i).needs k t.field t.point))
+        (sym (number_old c image h.stands.numbered t.root low))
+        (subst (Covers t.access) (sym (mode_other i.needs c.made (points size) n t.field ne
+        (fields_needed code size space) t.point))
         (covered t ok (subst (λ (r : RootImage). t.point < length (get_or r.fields t.field []))
-        (get_or-append store (new_root space size (kinds_of code space) ∷ []) no_root t.root k) l)))
+        (get_or-append store (image ∷ []) no_root t.root k) l)))
 
-    fresh : length store ≤ t.root → Covers t.access (mode_at (i.needs ++ root_requirements i.contents.made (points size) (fields_needed code size space))
-        (number_at (with_root (new_root space size (kinds_of code space)) i.contents) t.root) t.field t.point)
+    fresh : length store ≤ t.root →
+        IsCovered (make_root code size space i).contents (make_root code size space i).needs t
     fresh k =
         let c = i.contents in
         let image = new_root space size (kinds_of code space) in
         let more = store ++ image ∷ [] in
-        let last : t.root ≡ length store = omega (arith, k, root_below more t.root t.field t.point l, length-append store (image ∷ [])) in
-        let at : number_at (with_root image c) t.root ≡ c.made = ap (number_at (with_root image c)) (last ∙ sym h.stands.count)
-        ∙ number_new c image h.stands.numbered in
+        let last : t.root ≡ length store =
+        omega (arith, k, root_below more t.root t.field t.point l, length-append store (image ∷ [])) in
+        let at : number_at (with_root image c) t.root ≡ c.made =
+        ap (number_at (with_root image c)) (last ∙ sym h.stands.count) ∙ number_new c image h.stands.numbered in
         let there = in_field (kinds_of code space) size t.field t.point
         (subst (λ (r : RootImage). t.point < length (get_or r.fields t.field []))
         (ap (λ r. get_or more r no_root) last ∙ get_or-append_seam store image [] no_root) l) in
         let few : fields_needed code size space ≡ length (kinds_of code space) =
         ap (λ b. cond b 0 (length (kinds_of code space))) (ne_eqb size 0 (λ q. omega (arith, q, there.1))) in
-        written_covers t.access _ (ap (λ k. mode_at (i.needs ++ root_requirements c.made (points size) (fields_needed code size space)) k t.field t.point) at
-        ∙ mode_written i.needs c.made (points size) t.field t.point
-        (has-counted_from 0 size t.point ∙ and_from (leb 0 t.point) (ltb t.point (0 + size)) (le-leb 0 t.point (omega arith)) (lt-ltb t.point (0 + size) (omega (arith, there.1))))
+        let inside : has (points size) t.point ≡ true = has-counted_from 0 size t.point
+        ∙ and_from (leb 0 t.point) (ltb t.point (0 + size)) (le-leb 0 t.point (omega arith))
+        (lt-ltb t.point (0 + size) (omega (arith, there.1))) in
+        written_covers t.access _
+        (ap (λ k. mode_at (make_root code size space i).needs k t.field t.point) at
+        ∙ mode_written i.needs c.made (points size) t.field t.point inside
         (fields_needed code size space) (subst (λ n. t.field < n) (sym few) there.0))

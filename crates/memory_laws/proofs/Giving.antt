@@ -236,13 +236,6 @@ can_still c d (q ∷ qs) same can = (
   can_still c d qs same can.3,
 )
 
-pub parts_length : (qs : List Part) (c : Contents) → CanGive c qs → SameLengths c (give_parts qs c)
-parts_length [] c can r g = refl
-parts_length (q ∷ qs) c can r g =
-    let d = give_pieces q.kind q.root.0 q.field q.pieces c in
-    let same = pieces_length q.kind q.root.0 q.field q.pieces _ c refl can.1 in
-    parts_length qs d (can_still c d qs same can.3) r g ∙ same r g
-
 pub parts_given : (qs : List Part) (c : Contents) (r g p : ℕ) → CanGive c qs →
     kept_at (give_parts qs c) r g p ≡ given_part (kept_at c r g p) p (part_of qs r g)
 parts_given [] c r g p can = refl
