@@ -1,0 +1,14 @@
+pub mod Places
+pub mod Seen
+pub mod Parts
+pub mod Memory
+pub mod Touches
+pub mod Setting
+pub mod Fetching
+pub mod Beginning
+pub mod Giving
+pub mod Finding
+pub mod Closing
+pub mod Covering
+pub mod Making
+pub mod Example
