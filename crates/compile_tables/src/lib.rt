@@ -11,5 +11,5 @@ mod used;
 
 pub use needs::declared_needs;
 pub use parts::parts_of;
-pub use spaces::spaces_of_program;
+pub use spaces::{kind_said, spaces_of_program};
 pub use used::used_slots;

@@ -24,7 +24,7 @@ fn number_kind(term: NumberTerm) -> FieldKind
 }
 
 /// What the kept numbers of a field mean.
-fn kind_said(term: &TypeTerm) -> FieldKind
+pub fn kind_said(term: &TypeTerm) -> FieldKind
     ensures { result ≡ kind_said term.now }
 {
     match term {

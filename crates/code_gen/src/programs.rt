@@ -1,0 +1,78 @@
+//! The code of programs.
+
+ghost use Rattle.std.specs.Prelude.{◌≡◌, IfOk, map};
+ghost use Rattle.regent_tree.specs.PlainProgram.{item_tree_of, task_of, tree_of};
+ghost use Rattle.regent_tree.specs.StaticTypes.{entry_name};
+ghost use Rattle.code_rules.specs.Instructions.{place_of_task, tasks_of};
+ghost use Rattle.code_rules.specs.Programs.{code_of, task_code};
+ghost use Rattle.compile_types.specs.Symbols.{named_tasks};
+
+use crate::tasks::task_code;
+use compile_tables::spaces_of_program;
+use compile_types::Symbols;
+use plain_values::Sequence;
+use program_tables::copy_name;
+use regent_tree::{Item, ItemKind, Name, Program, Task};
+use std::alloc::{AllocError, Global};
+use task_code::{Code, TaskCode};
+
+/// The code of tasks, in their order.
+fn code_of_tasks(
+    alloc: Global,
+    symbols: &Symbols,
+    tasks: &[&Task],
+) -> Result<Sequence<TaskCode>, AllocError>
+    ensures { IfOk result (λ codes. codes
+        ≡ map (task_code (tree_of symbols.now)) (map task_of (named_tasks tasks.now))) }
+{
+    let mut codes = Sequence::new(alloc);
+    for task in tasks {
+        let code = task_code(alloc, symbols, task)?;
+        codes.push(code)?;
+    }
+    Ok(codes)
+}
+
+/// The name of the entry task: `main` where no item says one.
+fn entry_name(alloc: Global, items: &[Item]) -> Result<Name, AllocError>
+    ensures { IfOk result (λ n. n ≡ entry_name (map item_tree_of items.now)) }
+{
+    for item in items {
+        if let ItemKind::Start { name } = &item.what {
+            return copy_name(alloc, name);
+        }
+    }
+    Sequence::from_slice(alloc, b"main")
+}
+
+/// The place of the entry task.
+fn start_of(alloc: Global, symbols: &Symbols) -> Result<u32, AllocError>
+    ensures { IfOk result (λ p. p ≡ place_of_task (tree_of symbols.now) (entry_name (tree_of symbols.now))) }
+{
+    let program = symbols.tables().program();
+    let name = entry_name(alloc, &program.items)?;
+    symbols.place_of_task(&name)
+}
+
+/// The code of a program, by the tables of its names.
+#[tactic(auto, using(crate::proofs::OfItems::tasks_of_items))]
+fn code_by(alloc: Global, symbols: &Symbols) -> Result<Code, AllocError>
+    ensures { IfOk result (λ code. code ≡ code_of (tree_of symbols.now)) }
+{
+    let start = start_of(alloc, symbols)?;
+    let tasks = code_of_tasks(alloc, symbols, symbols.tasks())?;
+    let spaces = spaces_of_program(alloc, symbols.tables().program())?;
+    Ok(Code {
+        tasks,
+        spaces,
+        start,
+    })
+}
+
+/// The code of a program.
+pub fn code_of(alloc: Global, program: &Program) -> Result<Code, AllocError>
+    ensures { IfOk result (λ code. code ≡ code_of (tree_of program.now)) }
+{
+    let symbols = Symbols::new(alloc, program)?;
+    code_by(alloc, &symbols)
+}

@@ -1,0 +1,5 @@
+pub mod Grows
+pub mod Forms
+pub mod Following
+pub mod Arms
+pub mod Joined
