@@ -11,7 +11,7 @@ mod stack;
 mod value;
 
 pub use frame::{Before, Frame};
-pub use order::{Contents, Ended, Instance, Required, Resumed, Root};
+pub use order::{Contents, Ended, Instance, Resumed, Root};
 pub use outcome::{After, CallOut, Made, Yield};
 pub use ran::Ran;
 pub use stack::Stack;

@@ -1,12 +1,9 @@
 //! A run in order: what the roots hold, and a task instance between two of its segments.
 
 use crate::frame::Frame;
-use lane_kernels::Mode;
-use plain_values::{Sequence, Shared};
-use point_sets::PointSet;
+use plain_values::Sequence;
 use regent_tree::{Fault, RootImage};
-use region_tree::{Part, RootId};
-use std::marker::Model;
+use region_tree::{Part, Required, RootId};
 
 /// A root that was made and isn't closed, with a number for each field and point.
 #[derive(Drop)]
@@ -20,28 +17,6 @@ pub struct Root {
 pub struct Contents {
     pub made: u64,
     pub roots: Sequence<Root>,
-}
-
-/// Points of a root that are needed in a field and a mode.
-#[derive(Drop)]
-pub struct Required {
-    pub root: RootId,
-    pub points: Shared<PointSet>,
-    pub field: u8,
-    pub mode: Mode,
-}
-
-impl Model for Required {
-    ghost use Rattle.region_tree.specs.Requirements.{Requirement};
-
-    ghost Value = { Requirement };
-
-    ghost view = { λ r. record {
-      root = r.root.0;
-      points = r.points;
-      field = r.field;
-      mode = r.mode;
-    } };
 }
 
 /// A task instance between two segments: its frame and its parts, what the roots hold, the values of

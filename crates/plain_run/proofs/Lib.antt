@@ -1,11 +1,2 @@
 mod Calling
-mod ColumnLaws
-mod Fetching
-mod Gathering
-mod Giving
-mod Lending
-mod Needing
-mod Placing
 mod Resuming
-mod Returning
-mod Walking

@@ -23,12 +23,12 @@ use Rattle.machine_terms.specs.Copies.{give_parts}
 use Rattle.machine_terms.specs.Makes.{fields_needed, is_sound, make_partition, region_with, root_needs, root_requirements}
 use Rattle.machine_terms.specs.Orders.{Runner, await, before_of, breaks, call_all, conclude, fetch_part, give_all, make, resume, resume_after, resume_in, run_segments, with_parts}
 use Rattle.machine_terms.specs.Segments.{segment}
-use Rattle.plain_run.specs.declared.holder.Holder.{Holder}
-use Rattle.plain_run.specs.declared.holder.Next.{Next}
-use Rattle.plain_run.specs.declared.loan.Loan.{Loan}
-use Rattle.plain_run.specs.Loans.{AreLent, Follows, GoesOnAs, Stands, whole, with_loans}
+use Rattle.plain_store.specs.declared.holder.Holder.{Holder}
+use Rattle.plain_store.specs.declared.holder.Next.{Next}
+use Rattle.plain_store.specs.declared.loan.Loan.{Loan}
+use Rattle.plain_store.specs.Loans.{AreLent, Follows, GoesOnAs, Stands, whole, with_loans}
 use Rattle.plain_run.proofs.Calling.{segment_last, segment_next}
-use Rattle.plain_run.proofs.Lending.{kept_made, made_beside}
+use Rattle.plain_store.proofs.Lending.{kept_made, made_beside}
 
 -- ---- a segment tells how an instance ended by the roots of its frame alone
 

@@ -4,8 +4,8 @@ ghost use Rattle.std.specs.Prelude.{◌≡◌, ◌++◌, pos, replicate, IfOk, O
 ghost use Rattle.machine_terms.specs.declared.value.Value.TheVariants.{Number as a_number};
 ghost use Rattle.machine_terms.specs.Opening.{opening};
 
-use crate::opening::needs_on;
 use machine_terms::{Frame, Stack, Value};
+use plain_store::needs_on;
 use plain_values::Sequence;
 use region_tree::Needs;
 use std::alloc::{AllocError, Global};

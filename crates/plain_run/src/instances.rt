@@ -1,34 +1,21 @@
 //! A task instance between two of its segments.
 
 ghost use Rattle.std.specs.Prelude.{◌≡◌, pos, get_or, IfOk};
-ghost use Rattle.machine_terms.specs.Contents.{no_contents};
 ghost use Rattle.machine_terms.specs.Orders.{after_call, await, begun, breaks, conclude};
 ghost use Rattle.machine_terms.specs.Orders.{give_all, make, result_of};
 ghost use Rattle.machine_terms.specs.declared.order.Contents.{Contents as contents};
 ghost use Rattle.machine_terms.specs.declared.order.Ended.TheVariants.{Broke, CameBack};
-ghost use Rattle.plain_run.specs.Loans.{Stands, whole};
+ghost use Rattle.plain_store.specs.Loans.{Stands, whole};
 
-use crate::holder::Holder;
-use crate::making::{closed, is_sound, settled};
-use crate::returns::give_parts;
-use crate::roots::{make_partition, make_root};
-use machine_terms::{Contents, Ended, Frame, Instance, Made, Required, Resumed, Stack, Yield};
+use crate::settling::settled;
+use machine_terms::{Contents, Ended, Frame, Instance, Made, Resumed, Stack, Yield};
+use plain_store::{Holder, closed, give_parts, is_sound, make_partition, make_root, no_contents};
 use plain_values::Sequence;
 use regent_tree::Fault;
-use region_tree::{Needs, RootId};
+use region_tree::{Needs, Required, RootId};
 use std::alloc::{AllocError, Global};
 use std::mem;
 use task_code::Code;
-
-/// Before anything is made.
-pub fn no_contents(alloc: Global) -> Contents
-    ensures { result ≡ no_contents }
-{
-    Contents {
-        made: 0,
-        roots: Sequence::new(alloc),
-    }
-}
 
 /// An instance that begins in a frame.
 pub fn begun(alloc: Global, frame: Frame, needs: Sequence<Required>, contents: Contents) -> Instance

@@ -8,22 +8,18 @@ ghost use Rattle.machine_terms.specs.Orders.{before_of, begun, call_all, call_ta
 ghost use Rattle.machine_terms.specs.Orders.{enough_segments, resume, resume_after, run_segments, runs};
 ghost use Rattle.machine_terms.specs.Segments.{segment};
 ghost use Rattle.machine_terms.specs.declared.order.Contents.{Contents as contents};
-ghost use Rattle.plain_run.specs.Loans.{Follows, Stands, whole};
+ghost use Rattle.plain_store.specs.Loans.{Follows, Stands, whole};
 
-use crate::copies::fetch_part;
-use crate::coverage::within;
 use crate::frames::opening;
-use crate::holder::{Holder, Next, with_loans};
 use crate::instances::{
     after_call, await_child, begun, breaks, broke, conclude, frame_of_roots, give_all, make,
-    no_contents,
 };
 use crate::outcomes::{first_frame, may_start, outcome, void_outcome};
-use crate::requiring::requirements_on;
-use machine_terms::{After, CallOut, Ended, Frame, Instance, Required, Resumed, Yield};
+use machine_terms::{After, CallOut, Ended, Frame, Instance, Resumed, Yield};
+use plain_store::{Holder, Next, fetch_part, no_contents, requirements_on, with_loans};
 use plain_values::Sequence;
 use regent_tree::Outcome;
-use region_tree::{Part, RootId};
+use region_tree::{Part, Required, RootId, are_within};
 use std::alloc::{AllocError, Global};
 use std::mem;
 use task_code::{Code, Job, TaskCode};
@@ -355,7 +351,7 @@ fn call_within(
     let Some(needs) = needs else {
         return Ok(breaks(instance));
     };
-    if !within(needs.as_slice(), instance.needs.as_slice()) {
+    if !are_within(needs.as_slice(), instance.needs.as_slice()) {
         return Ok(breaks(instance));
     }
     let mut caller = instance;

@@ -39,30 +39,50 @@ fn task(
     })
 }
 
-/// What a job of these tasks and one field space, of a field of 64 bits, comes to.
+/// A field of 64 bits.
+fn fields(alloc: Global) -> Result<Sequence<FieldCode>, AllocError> {
+    let name = Sequence::from_slice(alloc, b"x")?;
+    let mut fields = Sequence::new(alloc);
+    fields.push(FieldCode {
+        name,
+        kind: FieldKind::Int64,
+    })?;
+    Ok(fields)
+}
+
+/// One field space, of a field of 64 bits.
+fn spaces(alloc: Global) -> Result<Sequence<SpaceCode>, AllocError> {
+    let fields = fields(alloc)?;
+    let name = Sequence::from_slice(alloc, b"f")?;
+    let mut spaces = Sequence::new(alloc);
+    spaces.push(SpaceCode { name, fields })?;
+    Ok(spaces)
+}
+
+/// The code of these tasks.
+fn code(alloc: Global, tasks: Sequence<TaskCode>) -> Result<Shared<Code>, AllocError> {
+    let spaces = spaces(alloc)?;
+    Shared::new(
+        alloc,
+        Code {
+            tasks,
+            spaces,
+            start: 0,
+        },
+    )
+}
+
+/// What a job of these tasks comes to.
 fn outcome_of(
     alloc: Global,
     tasks: Sequence<TaskCode>,
     inputs: &[i64],
 ) -> Result<Outcome, AllocError> {
-    let mut fields = Sequence::new(alloc);
-    fields.push(FieldCode {
-        name: Sequence::from_slice(alloc, b"x")?,
-        kind: FieldKind::Int64,
-    })?;
-    let mut spaces = Sequence::new(alloc);
-    spaces.push(SpaceCode {
-        name: Sequence::from_slice(alloc, b"f")?,
-        fields,
-    })?;
-    let code = Code {
-        tasks,
-        spaces,
-        start: 0,
-    };
+    let code = code(alloc, tasks)?;
+    let inputs = Sequence::from_slice(alloc, inputs)?;
     let job = Job {
-        code: Shared::new(alloc, code)?,
-        inputs: Sequence::from_slice(alloc, inputs)?,
+        code,
+        inputs,
         turns: 10,
     };
     run_in_order(alloc, &job)
@@ -70,9 +90,10 @@ fn outcome_of(
 
 /// Pops a number and prints it on a line of its own.
 fn print(alloc: Global) -> Result<Instr, AllocError> {
+    let end = Sequence::from_slice(alloc, b"\n")?;
     let mut parts = Sequence::new(alloc);
     parts.push(PrintPart::Number)?;
-    parts.push(PrintPart::Text(Sequence::from_slice(alloc, b"\n")?))?;
+    parts.push(PrintPart::Text(end))?;
     Ok(Instr::Print(parts))
 }
 
@@ -153,23 +174,35 @@ fn void_job(rt: HostRuntime) -> Result<(), Fail> {
     Ok(())
 }
 
-/// What a called task wrote stands in the root behind the call.
-#[test]
-fn called_task_writes(rt: HostRuntime) -> Result<(), Fail> {
-    let alloc = rt.alloc();
+/// The caller and the writer.
+fn called(alloc: Global) -> Result<Sequence<TaskCode>, AllocError> {
     let mut tasks = Sequence::new(alloc);
     tasks.push(caller(alloc)?)?;
     tasks.push(writer(alloc)?)?;
-    let outcome = outcome_of(alloc, tasks, &[])?;
-    assert!(rt; *outcome.text.as_slice() == *b"7\n".as_slice());
+    Ok(tasks)
+}
+
+/// A root of three points, of which one was written.
+fn written_root(alloc: Global) -> Result<Sequence<RootImage>, AllocError> {
+    let column = Sequence::from_slice(alloc, &[0, 7, 0])?;
     let mut fields = Sequence::new(alloc);
-    fields.push(Sequence::from_slice(alloc, &[0, 7, 0])?)?;
+    fields.push(column)?;
     let mut roots = Sequence::new(alloc);
     roots.push(RootImage {
         space: 0,
         count: 3,
         fields,
     })?;
+    Ok(roots)
+}
+
+/// What a called task wrote stands in the root behind the call.
+#[test]
+fn called_task_writes(rt: HostRuntime) -> Result<(), Fail> {
+    let alloc = rt.alloc();
+    let outcome = outcome_of(alloc, called(alloc)?, &[])?;
+    let roots = written_root(alloc)?;
+    assert!(rt; *outcome.text.as_slice() == *b"7\n".as_slice());
     assert_eq!(rt; outcome.ending, Ending::Finished(roots));
     Ok(())
 }
@@ -233,16 +266,22 @@ fn touching_caller(alloc: Global) -> Result<TaskCode, AllocError> {
     task(alloc, 0, &[], body)
 }
 
+/// A caller and what it calls.
+fn touching(alloc: Global) -> Result<Sequence<TaskCode>, AllocError> {
+    let mut tasks = Sequence::new(alloc);
+    tasks.push(touching_caller(alloc)?)?;
+    for _ in 0..2 {
+        tasks.push(adder(alloc)?)?;
+    }
+    Ok(tasks)
+}
+
 /// What is written goes back before a call, and what is folded behind it, over a whole root and over a
 /// point of it: 5 and 4 is 9, and 4 more.
 #[test]
 fn parts_go_back(rt: HostRuntime) -> Result<(), Fail> {
     let alloc = rt.alloc();
-    let mut tasks = Sequence::new(alloc);
-    tasks.push(touching_caller(alloc)?)?;
-    tasks.push(adder(alloc)?)?;
-    tasks.push(adder(alloc)?)?;
-    let outcome = outcome_of(alloc, tasks, &[])?;
+    let outcome = outcome_of(alloc, touching(alloc)?, &[])?;
     assert!(rt; *outcome.text.as_slice() == *b"13\n".as_slice());
     Ok(())
 }

@@ -1,7 +1,0 @@
-use Rattle.std.proofs.Common.{◌≡◌, ◌++◌}
-use Rattle.machine_terms.specs.Makes.{root_requirements}
-use Rattle.plain_run.proofs.requiring.add_root_requirements.Given as goal
-
-abbrev pub invariant-loop-field : goal.invariant-loop-field
-invariant-loop-field l =
-    l.needs ≡ l.initial.needs ++ root_requirements l.root.0 l.points l.field
