@@ -35,6 +35,7 @@ fn bind_params(
     Ok(())
 }
 
+/// The term of a parameter that a clause names.
 fn param_term(params: &[Param], name: &Name) -> Result<Term, AllocError>
     ensures { IfOk result (λ t. t ≡ param_term params.now name.now) }
 {
@@ -57,6 +58,7 @@ fn known_of_clause(params: &[Param], clause: &Clause) -> Result<Option<Known>, A
     })
 }
 
+/// Adds to a scope what the clauses of a task tell of its parameters.
 fn know_clauses(scope: &mut Scope, params: &[Param], clauses: &[Clause]) -> Result<(), AllocError>
     ensures { OnOk result (seen scope.new
         ≡ knowing (seen scope.old) (known_of_clauses params.now clauses.now)) }

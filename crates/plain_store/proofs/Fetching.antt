@@ -1,5 +1,5 @@
 -- Parts that are copied or lent out, by what is kept of the roots.
-use Rattle.std.proofs.Common.{◌≡◌, ◌<◌, ◌++◌, ℕ, ℤ, pos, false, List, [], ◌∷◌, refl, sym, ap, subst, ◌∙◌, map, length, get_or}
+use Rattle.std.proofs.Common.{◌≡◌, ◌<◌, ◌++◌, ℕ, ℤ, false, List, [], ◌∷◌, refl, sym, ap, subst, ◌∙◌, map, length, get_or}
 use Rattle.std.specs.Prelude.{IfOk, Result, Ok, Err}
 use Rattle.lane_kernels.specs.declared.numbers.FieldKind.{FieldKind}
 use Rattle.lane_kernels.specs.declared.numbers.FieldKind.TheVariants.{Truth}
@@ -11,12 +11,12 @@ use Rattle.region_tree.specs.Pieces.{Held}
 use Rattle.region_tree.specs.Requirements.{Requirement, part_of}
 use Rattle.task_code.specs.declared.code.Code.{Code}
 use Rattle.machine_terms.specs.declared.order.Contents.{Contents}
-use Rattle.machine_terms.specs.Contents.{image_of, kept_at, kind_of, kinds_of}
+use Rattle.machine_terms.specs.Contents.{image_of, kind_of, kinds_of}
 use Rattle.machine_terms.specs.Copies.{part_from, piece_of}
 use Rattle.machine_terms.specs.Orders.{fetch_part}
 use Rattle.plain_store.specs.declared.holder.Holder.{Holder}
 use Rattle.plain_store.specs.declared.loan.Loan.{Loan}
-use Rattle.plain_store.specs.Columns.{IsThere, column_of, piece_on, put_column}
+use Rattle.plain_store.specs.Columns.{IsThere, column_of, piece_on}
 use Rattle.plain_store.specs.Keys.{is_lent}
 use Rattle.plain_store.specs.Loans.{Stands, copied_out, lent_out, whole}
 use Rattle.plain_store.proofs.ColumnLaws.{shape}

@@ -1,5 +1,5 @@
 -- Pieces that go back into the numbers of one field.
-use Rattle.std.proofs.Common.{◌≡◌, ◌<◌, ◌++◌, ℕ, zero, suc, ℤ, pos, List, [], ◌∷◌, refl, sym, ap, ◌∙◌, map, length, get_or, append_assoc}
+use Rattle.std.proofs.Common.{◌≡◌, ◌<◌, ◌++◌, ℕ, suc, ℤ, pos, List, [], ◌∷◌, refl, sym, ap, ◌∙◌, map, length, get_or, append_assoc}
 use Rattle.std.proofs.lemmas.List.{get_or_at, set_at}
 use Rattle.lane_kernels.specs.declared.numbers.FieldKind.{FieldKind}
 use Rattle.lane_kernels.specs.declared.numbers.Mode.{Mode}

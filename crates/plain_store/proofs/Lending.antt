@@ -1,12 +1,11 @@
 -- What is kept of the roots while some fields are lent.
 use Rattle.std.specs.Prelude.{slice_set}
-use Rattle.std.proofs.Common.{◌≡◌, ◌≢◌, ◌<◌, ◌&&◌, ◌||◌, ◌==◌, ◌++◌, ℕ, zero, suc, ℤ, pos, Bool, true, false, cond, not, List, [], ◌∷◌, refl, sym, ap, ◌∙◌, subst, map, length, get_or, arith}
+use Rattle.std.proofs.Common.{◌≡◌, ◌<◌, ◌&&◌, ◌||◌, ◌==◌, ◌++◌, ℕ, suc, ℤ, Bool, true, false, cond, not, List, [], ◌∷◌, refl, sym, ap, ◌∙◌, subst, map, length, get_or, arith}
 use Rattle.std.specs.List.{list_any}
-use Rattle.std.proofs.lemmas.Bool.{eqb-true, eqb-false, eq-eqb, true≢false}
+use Rattle.std.proofs.lemmas.Bool.{eqb-true, eq-eqb, true≢false}
 use Rattle.std.proofs.lemmas.List.{map-append}
 use Rattle.std.proofs.lemmas.List.Folds.{list_any-append}
 use Rattle.lane_kernels.specs.declared.numbers.FieldKind.{FieldKind}
-use Rattle.lane_kernels.specs.declared.numbers.Mode.{Mode}
 use Rattle.lane_kernels.specs.declared.numbers.Mode.TheVariants.{Write}
 use Rattle.plain_values.specs.Points.{points}
 use Rattle.region_tree.specs.Pieces.{Held}
@@ -19,7 +18,7 @@ use Rattle.plain_store.specs.declared.loan.Loan.{Loan}
 use Rattle.plain_store.specs.Columns.{IsThere, column_of, is_alone, is_root, pieces_given, put_column, with_column}
 use Rattle.plain_store.specs.Keys.{is_lent, is_loan_of}
 use Rattle.plain_store.specs.Loans.{AreLent, MayBeLent}
-use Rattle.plain_store.proofs.ColumnLaws.{alone_put, column_other, put_commutes, put_own, put_twice, shape, shape_put}
+use Rattle.plain_store.proofs.ColumnLaws.{alone_put, column_other, put_commutes, put_twice, shape, shape_put}
 use Rattle.plain_store.proofs.Giving.{all_written, pieces_go}
 
 -- ---- fields that are lent, and others

@@ -1,5 +1,5 @@
 -- The place of a root, and sets of all points.
-use Rattle.std.proofs.Common.{◌≡◌, ◌<◌, ◌≤◌, ◌+◌, ◌&&◌, ◌||◌, ◌==◌, ℕ, zero, suc, ℤ, Bool, true, false, cond, not, leb, ltb, ◌-◌, List, [], ◌∷◌, Option, Some, None, refl, sym, ap, subst, ◌∙◌, map, length, length-drop, get_or, take, drop, arith, ⊎_elim}
+use Rattle.std.proofs.Common.{◌≡◌, ◌<◌, ◌≤◌, ◌+◌, ◌&&◌, ◌||◌, ℕ, zero, suc, ℤ, Bool, true, false, cond, not, ltb, ◌-◌, List, [], ◌∷◌, Option, Some, None, refl, sym, ap, subst, ◌∙◌, map, length, length-drop, get_or, take, drop, arith, ⊎_elim}
 use Rattle.std.specs.Prelude.{slice_set}
 use Rattle.std.specs.List.{list_any}
 use Rattle.std.proofs.lemmas.Bool.{cases_lt, true≢false, le-leb, lt-ltb, le-ltb}
@@ -110,6 +110,17 @@ pub none_of : {A : Type 0} (o : Option A) (b : Bool) → is_some o ≡ not b →
 none_of None b e h = refl
 none_of (Some x) b e h = absurd (true≢false (e ∙ ap not h))
 
+pub none_is : {A : Type 0} (o : Option A) (b : Bool) → is_some o ≡ not b → ((x : A) → o ≡ Some x → ⊥) → b ≡ true
+none_is None true e h = refl
+none_is None false e h = absurd (true≢false (sym e))
+none_is (Some x) b e h = absurd (h x refl)
+
+has_below : (n z : ℕ) → z < n → has (counted_from 0 n) z ≡ true
+has_below n z l = has-counted_from 0 n z ∙ ap (λ (b : Bool). b && ltb z (0 + n)) (le-leb 0 z (omega arith)) ∙ lt-ltb z (0 + n) (omega (arith, l))
+
+has_behind : (n z : ℕ) → n ≤ z → has (counted_from 0 n) z ≡ false
+has_behind n z l = has-counted_from 0 n z ∙ ap (λ (b : Bool). b && ltb z (0 + n)) (le-leb 0 z (omega arith)) ∙ le-ltb z (0 + n) (omega (arith, l))
+
 pub all_points : (xs : List ℕ) (bound n : ℕ) → IsPoints bound xs → IsStretchFrom xs 0 0 n →
     ((z : ℕ) → n ≤ z → has xs z ≡ false) → xs ≡ counted_from 0 n
 all_points xs bound n p s none =
@@ -117,8 +128,44 @@ all_points xs bound n p s none =
   where
     same : (z : ℕ) → has xs z ≡ has (counted_from 0 n) z
     same z = ⊎_elim
-        (λ (l : z < n). s.full z (omega arith) l ∙
-        sym (has-counted_from 0 n z ∙ ap (λ (b : Bool). b && ltb z (0 + n)) (le-leb 0 z (omega arith)) ∙ lt-ltb z (0 + n) (omega (arith, l))))
-        (λ (l : n ≤ z). none z l ∙
-        sym (has-counted_from 0 n z ∙ ap (λ (b : Bool). b && ltb z (0 + n)) (le-leb 0 z (omega arith)) ∙ le-ltb z (0 + n) (omega (arith, l))))
+        (λ (l : z < n). s.full z (omega arith) l ∙ sym (has_below n z l))
+        (λ (l : n ≤ z). none z l ∙ sym (has_behind n z l))
         (cases_lt z n)
+
+-- so are no points at all
+pub no_points : (xs : List ℕ) (bound n : ℕ) → IsPoints bound xs → length xs ≡ n →
+    ((z : ℕ) → 0 ≤ z → has xs z ≡ false) → xs ≡ counted_from 0 n
+no_points xs bound n p counted none = subst (λ k. xs ≡ counted_from 0 k) (sym (ap length empty) ∙ counted) empty
+  where
+    empty : xs ≡ []
+    empty = members_decide xs (counted_from 0 0) p.rising (rising-counted_from 0 0) (λ z. none z (omega arith))
+
+-- the first stretch of all points begins at 0 and ends behind them, and there is none further on
+pub stretch_of_all : (n start end : ℕ) → IsStretchFrom (counted_from 0 n) 0 start end → (start ≡ 0) × (end ≡ n)
+stretch_of_all n start end s = (first, last)
+  where
+    below : start < n
+    below = ⊎_elim (λ (l : start < n). l)
+        (λ (l : n ≤ start). absurd (true≢false (sym (s.full start (omega arith) s.some) ∙ has_behind n start l)))
+        (cases_lt start n)
+
+    first : start ≡ 0
+    first = ⊎_elim
+        (λ (l : 0 < start). absurd (true≢false (sym (has_below n 0 (omega (arith, below))) ∙ s.gap 0 (omega arith) l)))
+        (λ (l : start ≤ 0). omega (arith, l))
+        (cases_lt 0 start)
+
+    upto : n ≤ end
+    upto = ⊎_elim
+        (λ (l : end < n). absurd (true≢false (sym (has_below n end l) ∙ s.ends)))
+        (λ (l : n ≤ end). l)
+        (cases_lt end n)
+
+    last : end ≡ n
+    last = ⊎_elim
+        (λ (l : n < end). absurd (true≢false (sym (s.full n (omega (arith, below)) l) ∙ has_behind n n (omega arith))))
+        (λ (l : end ≤ n). omega (arith, l, upto))
+        (cases_lt n end)
+
+pub none_behind : (n start end : ℕ) → IsStretchFrom (counted_from 0 n) n start end → ⊥
+none_behind n start end s = true≢false (sym (s.full start (omega arith) s.some) ∙ has_behind n start s.ahead)

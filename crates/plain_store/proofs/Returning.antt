@@ -1,5 +1,5 @@
 -- Parts that go back one after another.
-use Rattle.std.proofs.Common.{◌≡◌, ◌<◌, ◌≤◌, ◌+◌, ◌-◌, ◌&&◌, ◌==◌, ◌++◌, ℕ, ℤ, Bool, true, false, List, [], ◌∷◌, refl, sym, ap, subst, ◌∙◌, length, length-drop, get_or, take, drop, arith}
+use Rattle.std.proofs.Common.{◌≡◌, ◌<◌, ◌≤◌, ◌+◌, ◌-◌, ◌==◌, ◌++◌, ℕ, ℤ, true, false, List, [], ◌∷◌, refl, sym, ap, subst, ◌∙◌, length, length-drop, get_or, take, drop, arith}
 use Rattle.std.proofs.lemmas.Bool.{eqb-true}
 use Rattle.std.proofs.lemmas.List.{drop_all, drop_more, take_all}
 use Rattle.lane_kernels.specs.declared.numbers.Mode.TheVariants.{Write}

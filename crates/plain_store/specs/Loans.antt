@@ -8,7 +8,6 @@ use Rattle.lane_kernels.specs.declared.numbers.Mode.{Mode}
 use Rattle.lane_kernels.specs.declared.numbers.Mode.TheVariants.{Write}
 use Rattle.plain_values.specs.Points.{points}
 use Rattle.machine_terms.specs.declared.order.Contents.{Contents}
-use Rattle.machine_terms.specs.declared.order.Ended.{Ended}
 use Rattle.machine_terms.specs.declared.order.Instance.{Instance}
 use Rattle.machine_terms.specs.declared.order.Resumed.{Resumed}
 use Rattle.machine_terms.specs.declared.order.Resumed.TheVariants as resumed

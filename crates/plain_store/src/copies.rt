@@ -1,6 +1,6 @@
 //! Parts that are copied or lent out of the roots.
 
-ghost use Rattle.std.specs.Prelude.{◌≡◌, [], ◌∷◌, IsTrue, IfOk, get_or, length, map, pos};
+ghost use Rattle.std.specs.Prelude.{◌≡◌, ◌↔◌, [], ◌∷◌, IsTrue, IfOk, get_or, length, map, pos};
 ghost use Rattle.lane_kernels.specs.declared.numbers.Mode.TheVariants.{Write};
 ghost use Rattle.plain_values.specs.Points.{points};
 ghost use Rattle.machine_terms.specs.Orders.{fetch_part};
@@ -48,22 +48,25 @@ pub fn fetch_part(
 
 /// Whether a part is one piece for writing, of all points of a field with these numbers.
 fn is_whole(found: &[(PointSet, Mode)], column: &[i64]) -> bool
-    ensures { IsTrue result → found.now ≡ (points (length column.now), Write) ∷ [] }
+    ensures { IsTrue result ↔ found.now ≡ (points (length column.now), Write) ∷ [] }
 {
     found.len() == 1 && found[0].1 == Mode::Write && is_all(&found[0].0, column.len())
 }
 
 /// Whether a set is all points of an index space of some size.
 pub fn is_all(set: &PointSet, size: usize) -> bool
-    ensures { IsTrue result → set.now ≡ points size }
+    ensures { IsTrue result ↔ set.now ≡ points size }
 {
-    let Some(all) = set.stretch_from(0) else {
+    if set.len() as usize != size {
         return false;
+    }
+    let Some(all) = set.stretch_from(0) else {
+        return true;
     };
-    set.len() as usize == size
-        && all.start == 0
-        && all.end as usize == size
-        && set.stretch_from(all.end).is_none()
+    if all.start != 0 || all.end as usize != size {
+        return false;
+    }
+    set.stretch_from(all.end).is_none()
 }
 
 /// Lends a field to a part over all points of its root.

@@ -18,7 +18,7 @@ returns-in_ok-copy c =
     let found : c.as_slice-then-root-made.result.now ≡ part_of h.instance.needs root field = search (rules) in
     let all = whole_found c.column_of-column.result.now (column_of h.instance.contents root field)
     c.as_slice-then-root-made.result.now (part_of h.instance.needs root field)
-    (c.if-is_whole.ensures refl) c.column_of-column.ensures found in
+    (c.if-is_whole.ensures.0 refl) c.column_of-column.ensures found in
     if_both c.lend.result _ _ _ (λ new there is k st.
     lent_fetched c.args.code.now root field k h st others there made all new
     (is ∙ ap (λ (kind : FieldKind). lent_out kind root field h) c.kind_of-kind.ensures))

@@ -1,4 +1,4 @@
-use Rattle.std.proofs.Common.{rules, ◌≡◌, ◌<◌, length, sym, ◌∙◌}
+use Rattle.std.proofs.Common.{rules, ◌<◌, length, sym, ◌∙◌}
 use Rattle.plain_store.proofs.Returning.{next_part_goes, other_part_goes}
 use Rattle.plain_store.proofs.returns.give_part.Goals as goal
 

@@ -1,4 +1,4 @@
-use Rattle.std.proofs.Common.{◌≡◌, ◌≤◌, drop, length}
+use Rattle.std.proofs.Common.{◌≤◌, drop, length}
 use Rattle.machine_terms.specs.declared.order.Contents.{Contents}
 use Rattle.machine_terms.specs.Copies.{give_parts}
 use Rattle.plain_store.specs.Loans.{AreLent}
