@@ -1,5 +1,5 @@
 -- Which loops are index launches: those in which nothing speaks against issuing all calls in one step.
-use Rattle.std.specs.Prelude.{◌&&◌, ◌||◌, Bool, true, false, not, ◌==◌, List, [], ◌∷◌, ◌++◌, Option, None, Some, ℕ, suc, cond}
+use Rattle.std.specs.Prelude.{◌&&◌, ◌||◌, Bool, true, false, not, ◌==◌, List, [], ◌∷◌, ◌++◌, Option, None, Some, ℕ, suc}
 use Rattle.std.specs.List.{list_any}
 use Rattle.lane_kernels.specs.Modes.{in_conflict}
 use Rattle.lane_kernels.specs.declared.numbers.Mode.{Mode}

@@ -1,5 +1,7 @@
 //! Each call with memory at hand. What is expected is worked out by hand.
 
+ghost use Rattle.std.specs.Prelude.{◌≡◌, IfOk, length};
+
 use crate::{
     ArgKind, ArgView, LaunchArg, LaunchShape, LoopView, PointArg, Reason, launch_shape, points_of,
 };
@@ -38,7 +40,9 @@ fn view_of(
     alloc: Global,
     one: (ArgKind, Mode),
     other: (ArgKind, u8, Mode),
-) -> Result<LoopView, AllocError> {
+) -> Result<LoopView, AllocError>
+    ensures { IfOk result (λ view. length view.args ≡ 2) }
+{
     let mut args = Sequence::new(alloc);
     args.push(arg(alloc, one.0, 0, one.1)?)?;
     args.push(arg(alloc, other.0, other.1, other.2)?)?;
