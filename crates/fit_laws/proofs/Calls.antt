@@ -1,0 +1,202 @@
+-- Calls.
+use Rattle.std.proofs.Common.{◌≡◌, ℕ, zero, suc, ◌<◌, ◌≤◌, ◌^◌, List, [], ◌∷◌, ◌++◌, Bool, true, false, cond, Option, Some, None, refl, sym, ap, subst, arith}
+use Rattle.std.specs.Prelude.{slice_get, length, nat_lt, ◌==◌}
+use Rattle.std.proofs.lemmas.Bool.{lt-ltb, eq-eqb, ne_eqb}
+use Rattle.regent_tree.specs.declared.outcome.FaultKind.TheVariants.{Depth}
+use Rattle.region_tree.specs.declared.needs.Need.{Need}
+use Rattle.region_tree.specs.Requirements.{Requirement}
+use Rattle.task_code.specs.declared.code.NeedCode.{NeedCode}
+use Rattle.task_code.specs.declared.code.TaskCode.{TaskCode}
+use Rattle.machine_terms.specs.declared.outcome.Yield.{Yield}
+use Rattle.machine_terms.specs.declared.outcome.Yield.TheVariants as yield
+use Rattle.machine_terms.specs.declared.value.RegionValue.{RegionValue}
+use Rattle.machine_terms.specs.declared.value.Value.{Value}
+use Rattle.machine_terms.specs.declared.value.Value.TheVariants as value
+use Rattle.machine_terms.specs.Machine.{Machine, Stepped, stops, when, with_turns, faults, broken, on_turn}
+use Rattle.machine_terms.specs.Pointers.{region_in}
+use Rattle.machine_terms.specs.Calls.{take_values, yield_call, calling, call_task, call}
+use Rattle.machine_terms.specs.Opening.{with_points, need_on, needs_on, opening}
+use Rattle.fit_rules.specs.Shapes.{Shape, awaited, NumberIs, World, IsRegion, Is, is_anything, is_number, is_space, is_region, is_partition, is_pending, Are, are_none, are_more}
+use Rattle.fit_rules.specs.Marks.{Suits, stacked}
+use Rattle.fit_rules.specs.Fits.{Program, requires, claim_on, declared_claims, root_claims, own_claims, claims, AreClaims, no_claims, a_claim, PartsFit, Fits}
+use Rattle.fit_rules.specs.Sound.{Takes, Opens, To}
+use Rattle.fit_rules.specs.Ends.{grown, called, opening_machine, without_parts, Safe, safe_stops}
+use Rattle.fit_laws.proofs.Cells.{none_some}
+use Rattle.fit_laws.proofs.Taking.{takes_values}
+
+-- ---- one more child
+
+module _ (x : World) (s : Shape) where
+  region_grown : (sp : Option ℕ) (made : Bool) (r : RegionValue) → IsRegion x sp made r → IsRegion (grown x s) sp made r
+  region_grown sp made r i = record { there = i.there; space = i.space; points = i.points; set = i.set; whole = i.whole }
+
+  other_child : (i : ℕ) → i < x.children → i == x.children ≡ false
+  other_child i l = ne_eqb i x.children (λ e. omega (arith, e, l))
+
+  value_grown : (u : Shape) (v : Value) → Is x u v → Is (grown x s) u v
+  value_grown _ _ (is_anything v) = is_anything v
+  value_grown _ _ (is_number u z h) = is_number u z h
+  value_grown _ _ (is_space n h) = is_space n h
+  value_grown _ _ (is_region sp made r i) = is_region sp made r (region_grown sp made r i)
+  value_grown _ _ (is_partition sp d q i) = is_partition sp d q (record {
+    flag = i.flag;
+    apart = i.apart;
+    there = i.there;
+    space = i.space;
+    count = i.count;
+    regions = λ r h. ((i.regions r h).0, region_grown sp false r (i.regions r h).1);
+  })
+  value_grown _ _ (is_pending u i l h) = is_pending u i (omega (arith, l))
+      (λ z q. h z (subst (λ b. NumberIs (cond b s (x.results i)) z) (other_child i l) q))
+
+  pub are_grown : (ss : List Shape) (vs : List Value) → Are x ss vs → Are (grown x s) ss vs
+  are_grown _ _ are_none = are_none
+  are_grown _ _ (are_more u v ss vs h a) = are_more u v ss vs (value_grown u v h) (are_grown ss vs a)
+
+  new_child : Is (grown x s) (awaited s) (value.Pending x.children)
+  new_child = is_pending s x.children (omega arith)
+      (λ z q. subst (λ b. NumberIs (cond b s (x.results x.children)) z) (eq-eqb x.children x.children refl) q)
+
+own_grown : (g : Program) (x : World) (s : Shape) (rs : List ℕ) → own_claims g (grown x s) rs ≡ own_claims g x rs
+own_grown g x s [] = refl
+own_grown g x s (r ∷ rs) =
+    ap (λ more. root_claims g r (x.spaces r) (x.points r) ++ more) (own_grown g x s rs)
+
+claims_grown : (g : Program) (x : World) (s : Shape) (t : TaskCode) → claims g (grown x s) t ≡ claims g x t
+claims_grown g x s t = ap (λ more. declared_claims t.needs x.args ++ more) (own_grown g x s x.own)
+
+-- ---- opening frames
+
+claim_more : (n : NeedCode) (o : Option RegionValue) (ns : List Need) (rs : List Requirement) → AreClaims ns (rs ++ []) →
+    AreClaims (need_on n o ns) (claim_on n o rs ++ [])
+claim_more n None ns rs h = h
+claim_more n (Some r) ns rs h = of_points r.points
+    (record { root = r.root; node = r.node; field = n.field; mode = n.mode })
+    (requires r.root.0 r.points n.mode n.field) ns rs refl refl refl h
+  where
+    of_points : (xs : List ℕ) (a : Need) (c : Requirement) (ns : List Need) (rs : List Requirement) →
+        a.root.0 ≡ c.root → a.field ≡ c.field → a.mode ≡ c.mode → AreClaims ns (rs ++ []) →
+        AreClaims (with_points xs a ns) (with_points xs c rs ++ [])
+    of_points [] a c ns rs er ef em h = h
+    of_points (x ∷ xs) a c ns rs er ef em h = a_claim a c ns (rs ++ []) er ef em h
+
+claims_open : (ns : List NeedCode) (vs : List Value) → AreClaims (needs_on ns vs) (declared_claims ns vs ++ [])
+claims_open [] vs = no_claims
+claims_open (n ∷ ns) vs = claim_more n (region_in (slice_get vs n.param)) _ _ (claims_open ns vs)
+
+no_parts : (g : Program) (x : World) (t : TaskCode) → PartsFit g x t []
+no_parts g x t root f q e = absurd (none_some q e)
+
+pub opening_fits : (g : Program) (x : World) (k : ℕ) (t : TaskCode) (vs : List Value) (turns depth : ℕ) → turns < 2 ^ 64 →
+    0 < length t.body → Suits (called x vs) t.params (g.marks k 0) (opening 0 0 k t vs).slots [] →
+    Fits g (called x vs) t k (opening_machine turns depth k t vs)
+opening_fits g x k t vs turns depth h l s = record {
+  inside = l;
+  suits = s;
+  beside = record {
+    task = refl;
+    needs = claims_open t.needs vs;
+    parts = no_parts g (called x vs) t;
+    children = refl;
+    calls = omega (arith, h);
+    own = refl;
+    own_there = λ r h. absurd h;
+  };
+}
+
+-- ---- calls
+
+module _ (g : Program) (x : World) (t : TaskCode) (k : ℕ) (m : Machine) (fit : Fits g x t k m) where
+  turned : (n line : ℕ) (more : Machine → Stepped) → m.frame.turns ≡ n →
+      ((p : ℕ) → suc p ≡ m.frame.turns → Safe g x t k (more (with_turns p m))) → Safe g x t k (on_turn n line m more)
+  turned zero line more e h = safe_stops _ _ (fit.beside.parts, tt)
+  turned (suc p) line more e h = h p (sym e)
+
+  caller_fits : (task p : ℕ) (rest : List Shape) (st : List Value) → suc p ≡ m.frame.turns →
+      To g t k (stacked (g.marks k m.frame.pc) (awaited (g.results task) ∷ rest)) (suc m.frame.pc) → Are x rest st →
+      Fits g (grown x (g.results task)) t k (without_parts (record m {
+        frame = record m.frame {
+          turns = p;
+          pc = suc m.frame.pc;
+          stack = value.Pending m.frame.children ∷ st;
+          children = suc m.frame.children;
+        };
+      }))
+  caller_fits task p rest st e to a = record {
+    inside = to.0;
+    suits = to.1 (grown x (g.results task)) m.frame.slots _ (record {
+      slots = are_grown x (g.results task) _ m.frame.slots fit.suits.slots;
+      stack = are_more _ _ rest st (subst (λ c. Is (grown x (g.results task)) (awaited (g.results task)) (value.Pending c))
+          (sym fit.beside.children) (new_child x (g.results task))) (are_grown x (g.results task) rest st a);
+      facts = fit.suits.facts;
+      top = tt;
+      args = fit.suits.args;
+    });
+    beside = record {
+      task = fit.beside.task;
+      needs = subst (AreClaims m.frame.needs.items) (sym (claims_grown g x (g.results task) t)) fit.beside.needs;
+      parts = no_parts g (grown x (g.results task)) t;
+      children = ap suc fit.beside.children;
+      calls = omega (arith, e, fit.beside.calls);
+      own = fit.beside.own;
+      own_there = fit.beside.own_there;
+    };
+  }
+
+  issued : (task line p : ℕ) (callee : TaskCode) (args rest : List Shape) (ws st : List Value) → length t.body ≤ 2 ^ 32 →
+      slice_get g.code.tasks task ≡ Some callee → 0 < length callee.body →
+      Opens g t (g.marks k m.frame.pc) task callee args → suc p ≡ m.frame.turns →
+      To g t k (stacked (g.marks k m.frame.pc) (awaited (g.results task) ∷ rest)) (suc m.frame.pc) →
+      Are x args ws → Are x rest st → Safe g x t k (yield_call task ws st (with_turns p m))
+  issued task line p callee args rest ws st short there some o e to aw ar =
+      let opens = o x m.frame.slots m.frame.stack ws fit.suits aw in
+      subst (λ b. Safe g x t k (when b (when (nat_lt (suc m.frame.pc) (2 ^ 32)) (stops y next) (broken next)) (broken (with_turns p m))))
+      (sym (lt-ltb (suc m.frame.children) (2 ^ 64) (omega (arith, e, fit.beside.calls))))
+      (subst (λ b. Safe g x t k (when b (stops y next) (broken next)))
+      (sym (lt-ltb (suc m.frame.pc) (2 ^ 32) (omega (arith, to.0, short))))
+      (safe_stops _ _ (
+        fit.beside.parts,
+        (
+          (
+            record {
+              callee = callee;
+              there = there;
+              opens = λ turns depth h. opening_fits g x task callee ws turns depth h some opens.0;
+              within = opens.1;
+            },
+            tt,
+          ),
+          caller_fits task p rest st e to ar,
+        ),
+      )))
+    where
+      y : Yield
+      y = yield.Calls (record { task = task; args = ws } ∷ [])
+
+      next : Machine
+      next = record m {
+        frame = record m.frame {
+          turns = p;
+          pc = suc m.frame.pc;
+          stack = value.Pending m.frame.children ∷ st;
+          children = suc m.frame.children;
+        };
+      }
+
+  pub call_safe : length t.body ≤ 2 ^ 32 → (task n line : ℕ) (callee : TaskCode) (args rest : List Shape) →
+      slice_get g.code.tasks task ≡ Some callee → callee.params ≡ n → 0 < length callee.body →
+      Takes n (g.marks k m.frame.pc).stack [] args rest → Opens g t (g.marks k m.frame.pc) task callee args →
+      To g t k (stacked (g.marks k m.frame.pc) (awaited (g.results task) ∷ rest)) (suc m.frame.pc) →
+      Safe g x t k (call g.code task n line m)
+  call_safe short task n line callee args rest there ep some tk o to =
+      let w = takes_values x n _ [] args rest m.frame.stack [] tk fit.suits.stack are_none in
+      subst (λ c. Safe g x t k (call_task c task n line m)) (sym there)
+      (subst (λ b. Safe g x t k (when b (calling task line (take_values n m.frame.stack []) m) (broken m)))
+      (sym (eq-eqb callee.params n ep))
+      (subst (λ z. Safe g x t k (calling task line z m)) (sym w.is)
+      (turned m.frame.turns line _ refl (λ p e. deep (nat_lt m.frame.depth 64) p
+      (issued task line p callee args rest w.values w.below short there some o e to w.args_are w.rest_are)))))
+    where
+      deep : (b : Bool) (p : ℕ) → {a : Stepped} → Safe g x t k a → Safe g x t k (when b a (faults Depth line (with_turns p m)))
+      deep true p h = h
+      deep false p h = safe_stops _ _ (fit.beside.parts, tt)

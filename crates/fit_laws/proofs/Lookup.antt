@@ -1,0 +1,44 @@
+-- Values of shapes: the one at a place, and one put there.
+use Rattle.std.proofs.Common.{◌≡◌, ℕ, zero, suc, List, Option, Some, None, refl, ap, subst}
+use Rattle.std.specs.Prelude.{slice_get, slice_set, length}
+use Rattle.machine_terms.specs.declared.value.Value.{Value}
+use Rattle.fit_rules.specs.Shapes.{Shape, World, Is, Are, are_none, are_more}
+
+pub record Found (x : World) (s : Shape) (vs : List Value) (i : ℕ) : Type 0 where
+  pub value : Value
+  pub at : slice_get vs i ≡ Some value
+  pub of : Is x s value
+
+module _ (x : World) where
+  abbrev IsNone : {A : Type 0} → Option A → Type 0
+  IsNone None = Unit {0}
+  IsNone (Some a) = ⊥
+
+  none_some : {A : Type 0} (a : A) → None ≡ Some a → ⊥
+  none_some a e = subst IsNone e tt
+
+  abbrev OrSame : Shape → Option Shape → Shape
+  OrSame d None = d
+  OrSame d (Some s) = s
+
+  pub value_at : (ss : List Shape) (vs : List Value) (i : ℕ) (s : Shape) → Are x ss vs →
+      slice_get ss i ≡ Some s → Found x s vs i
+  value_at _ _ i s are_none e = absurd (none_some s e)
+  value_at _ _ zero s (are_more u v ss vs h a) e = record {
+    value = v;
+    at = refl;
+    of = subst (λ y. Is x y v) (ap (OrSame u) e) h;
+  }
+  value_at _ _ (suc i) s (are_more u v ss vs h a) e =
+      let f = value_at ss vs i s a e in record { value = f.value; at = f.at; of = f.of }
+
+  pub as_long : (ss : List Shape) (vs : List Value) → Are x ss vs → length vs ≡ length ss
+  as_long _ _ are_none = refl
+  as_long _ _ (are_more s v ss vs h a) = ap suc (as_long ss vs a)
+
+  pub set_at : (ss : List Shape) (vs : List Value) (i : ℕ) (s : Shape) (v : Value) → Are x ss vs →
+      Is x s v → Are x (slice_set ss i s) (slice_set vs i v)
+  set_at _ _ i s v are_none h = are_none
+  set_at _ _ zero s v (are_more u w ss vs g a) h = are_more s v ss vs h a
+  set_at _ _ (suc i) s v (are_more u w ss vs g a) h =
+      are_more u w _ _ g (set_at ss vs i s v a h)

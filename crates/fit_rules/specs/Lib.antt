@@ -1,0 +1,5 @@
+pub mod Shapes
+pub mod Marks
+pub mod Fits
+pub mod Ends
+pub mod Sound

@@ -1,0 +1,140 @@
+-- Marks: what is known of a frame at a place of compiled code.
+use Rattle.std.specs.Prelude.{◌≡◌, ℕ, ℤ, pos, ◌<◌, ◌≤◌, List, [], ◌∷◌, map, true, false, Option, Some, None, slice_get, slice_set}
+use Rattle.plain_values.specs.Points.{has}
+use Rattle.machine_terms.specs.declared.value.PartitionValue.{PartitionValue}
+use Rattle.machine_terms.specs.declared.value.RegionValue.{RegionValue}
+use Rattle.machine_terms.specs.declared.value.Value.{Value}
+use Rattle.machine_terms.specs.declared.value.Value.TheVariants as value
+use Rattle.machine_terms.specs.Jumps.{size_of}
+use Rattle.machine_terms.specs.Pointers.{region_in}
+use Rattle.machine_terms.specs.Regions.{partition_in, coloured}
+use Rattle.machine_terms.specs.Orders.{settled}
+use Rattle.fit_rules.specs.Shapes.{Among, Each, Shape, NumberIs, World, Are}
+
+-- ---- facts of regions in slots
+
+-- the colour of a child: a number, the number in a slot, or any
+pub data Colour : Type 0 where
+  the_colour : ℤ → Colour
+  colour_in : ℕ → Colour
+  any_colour : Colour
+
+-- a region by a slot, or as a child of the partition in a slot
+pub data Spot : Type 0 where
+  in_slot : ℕ → Spot
+  child_in : ℕ → Colour → Spot
+
+-- One region lies within another, or they share no point; a partition is of the region in a slot; and
+-- the number in a slot is at most the count of points of a domain.
+pub data Fact : Type 0 where
+  lies : Spot → Spot → Fact
+  apart : Spot → Spot → Fact
+  parted : ℕ → ℕ → Fact
+  counts : ℕ → ℕ → Fact
+
+abbrev pub HasNumber : ℤ → Option Value → Type 0
+HasNumber z (Some (value.Number y)) = y ≡ z
+HasNumber z _ = ⊥
+
+abbrev pub HasColour : List Value → Colour → ℤ → Type 0
+HasColour slots (the_colour z) c = c ≡ z
+HasColour slots (colour_in s) c = HasNumber c (slice_get slots s)
+HasColour slots any_colour c = Unit {0}
+
+-- a region stands at a spot; a colour that a partition lacks has no region
+pub record IsChild (slots : List Value) (p : ℕ) (c : Colour) (r : RegionValue) : Type 0 where
+  pub parts : PartitionValue
+  pub there : partition_in (slice_get slots p) ≡ Some parts
+  pub colour : ℤ
+  pub has_colour : HasColour slots c colour
+  pub child : coloured parts.children colour ≡ Some r
+
+abbrev pub IsAt : List Value → Spot → RegionValue → Type 0
+IsAt slots (in_slot s) r = region_in (slice_get slots s) ≡ Some r
+IsAt slots (child_in p c) r = IsChild slots p c r
+
+-- a region lies within another one of its root
+abbrev pub LiesIn : RegionValue → RegionValue → Type 0
+LiesIn r q = (r.root.0 ≡ q.root.0) × ((p : ℕ) → has r.points p ≡ true → has q.points p ≡ true)
+
+-- it lies within some region at a spot
+pub record LiesAt (slots : List Value) (r : RegionValue) (b : Spot) : Type 0 where
+  pub other : RegionValue
+  pub at : IsAt slots b other
+  pub inside : LiesIn r other
+
+-- a partition is of the region in a slot: of its root, and each child lies within it
+pub record IsParted (slots : List Value) (q : PartitionValue) (s : ℕ) : Type 0 where
+  pub parent : RegionValue
+  pub at : region_in (slice_get slots s) ≡ Some parent
+  pub root : q.root.0 ≡ parent.root.0
+  pub inside : (r : RegionValue) → Among q.children r → LiesIn r parent
+
+abbrev pub AtMost : Option ℕ → Option Value → Type 0
+AtMost (Some n) (Some (value.Number z)) = (i : ℕ) × (z ≡ pos i) × i ≤ n
+AtMost _ _ = ⊥
+
+abbrev pub size_in : Option Value → Option ℕ
+size_in (Some v) = size_of v
+size_in None = None
+
+abbrev pub Holds : Fact → List Value → Type 0
+Holds (lies a b) slots = (r : RegionValue) → IsAt slots a r → LiesAt slots r b
+Holds (apart a b) slots = (r q : RegionValue) → IsAt slots a r → IsAt slots b q →
+    r.root.0 ≡ q.root.0 → (p : ℕ) → has r.points p ≡ true → has q.points p ≡ false
+Holds (parted p s) slots = (q : PartitionValue) → partition_in (slice_get slots p) ≡ Some q →
+    IsParted slots q s
+Holds (counts c s) slots = AtMost (size_in (slice_get slots s)) (slice_get slots c)
+
+-- ---- facts of the top of the stack
+
+-- The number on top is a colour; the region on top lies within another one; the partition on top is
+-- of the region in a slot.
+pub data TopFact : Type 0 where
+  top_colour : Colour → TopFact
+  top_lies : Spot → TopFact
+  top_parted : ℕ → TopFact
+
+abbrev pub HoldsTop : TopFact → List Value → List Value → Type 0
+HoldsTop (top_colour c) vs (value.Number z ∷ st) = HasColour vs c z
+HoldsTop (top_lies b) vs (value.Region r ∷ st) = LiesAt vs r b
+HoldsTop (top_parted s) vs (value.Partition q ∷ st) = IsParted vs q s
+HoldsTop _ vs _ = ⊥
+
+-- ---- marks
+
+pub record Mark : Type 0 where
+  pub slots : List Shape
+  pub facts : List Fact
+  pub stack : List Shape
+  pub top : List TopFact
+
+-- the mark with another stack, of whose top nothing more is known
+abbrev pub stacked : Mark → List Shape → Mark
+stacked m ss = record m { stack = ss; top = [] }
+
+abbrev pub topped : Mark → List Shape → TopFact → Mark
+topped m ss f = record m { stack = ss; top = f ∷ [] }
+
+-- slots and a stack are as a mark says, and the arguments stand in their slots
+pub record Suits (x : World) (params : ℕ) (m : Mark) (vs st : List Value) : Type 0 where
+  pub slots : Are x m.slots vs
+  pub stack : Are x m.stack st
+  pub facts : Each (λ k. Holds k vs) m.facts
+  pub top : Each (λ k. HoldsTop k vs st) m.top
+  pub args : (i : ℕ) → i < params → slice_get vs i ≡ slice_get x.args i
+
+-- what suits one mark suits another
+abbrev pub Into : ℕ → Mark → Mark → Type 0
+Into params m n =
+    (x : World) (vs st : List Value) → Suits x params m vs st → Suits x params n vs st
+
+-- what suits a mark with a value on the stack suits another one, once the value stands in a slot
+abbrev pub Stores : ℕ → Mark → ℕ → Mark → Type 0
+Stores params m s n = (x : World) (vs st : List Value) (v : Value) →
+    Suits x params m vs (v ∷ st) → Suits x params n (slice_set vs s v) st
+
+-- what suits a mark suits it also once a child's value stands in the slots that wait for it
+abbrev pub Settles : ℕ → Mark → Type 0
+Settles params m = (x : World) (vs st : List Value) (i : ℕ) (z : ℤ) → Suits x params m vs st →
+    NumberIs (x.results i) z → Suits x params m (map (settled i z) vs) st

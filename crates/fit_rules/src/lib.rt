@@ -1,0 +1,2 @@
+//! What fits compiled code: the definitions, point by point.
+#![tactic(auto)]
