@@ -1,5 +1,6 @@
 -- Reads, writes and reductions through pointers.
 use Rattle.std.proofs.Common.{◌≡◌, ◌⊎◌, inl, inr, ⊎_elim, ℕ, zero, suc, ◌<◌, ◌≤◌, ℤ, List, [], ◌∷◌, ◌++◌, Bool, true, false, cond, Option, Some, None, refl, sym, ap, ◌∙◌, subst, arith}
+use Rattle.std.proofs.lemmas.Option.{same_Some}
 use Rattle.std.specs.Prelude.{slice_get, length, ◌==◌}
 use Rattle.std.proofs.lemmas.Bool.{eqb-true}
 use Rattle.lane_kernels.specs.declared.numbers.FieldKind.{FieldKind}
@@ -31,7 +32,7 @@ use Rattle.fit_rules.specs.Ends.{StopsWell, Safe, safe_goes, safe_stops}
 use Rattle.fit_laws.proofs.Lookup.{value_at}
 use Rattle.fit_laws.proofs.Numbers.{KeptAs, kept_int, kept_int64, kept_as_truth, kept_index, kept_pointer, is_kept, kept_is, kept_numeric}
 use Rattle.fit_laws.proofs.Cover.{Permits, read_reads, write_reads, write_writes, reduce_reduces, write_reduces, Joined, covered_granted, claimed_needed}
-use Rattle.fit_laws.proofs.Cells.{cell_same, cell_other, set_piece, origin, valued, OrPart, same_root, same_field}
+use Rattle.fit_laws.proofs.Cells.{cell_same, cell_other, set_piece, origin, valued, same_root, same_field}
 use Rattle.fit_laws.proofs.Straight.{safe_number, safe_two, pushed}
 
 -- ---- the width of an integer field
@@ -92,7 +93,7 @@ module _ (g : Program) (x : World) (t : TaskCode) where
       let ei : f ≡ i = sym w.2 in
       let here : part_of parts root f ≡ Some o.old =
       ap (λ y. part_of parts y f) er ∙ ap (part_of parts r) ei ∙ o.was in
-      let is_q : q ≡ o.old = ap (OrPart q) (sym ep ∙ here) in
+      let is_q : q ≡ o.old = same_Some _ _ (sym ep ∙ here) in
       subst (PartFits g x t r i) (sym w.0)
       (subst (λ y. PartFits g x t y i (set_piece p z o.old)) er
       (subst (λ y. PartFits g x t root y (set_piece p z o.old)) ei
@@ -106,7 +107,7 @@ last_part [] q r i p e = of_test (is_part_of r i q) refl e
   where
     of_test : (b : Bool) → is_part_of r i q ≡ b → cond b (Some q) None ≡ Some p →
         (None ≡ Some p) ⊎ ((q ≡ p) × (q.root.0 ≡ r) × (q.field ≡ i))
-    of_test true t e = inr (ap (OrPart p) e, same_root q r i t, same_field q r i t)
+    of_test true t e = inr (same_Some _ _ e, same_root q r i t, same_field q r i t)
     of_test false t e = inl e
 last_part (a ∷ parts) q r i p e = of_first (is_part_of r i a) (last_part parts q r i p) e
   where

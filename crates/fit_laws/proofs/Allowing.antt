@@ -1,6 +1,6 @@
 -- What makes an access allowed at a mark: a fact that the region lies within a parameter's, for which
 -- the task declares the access; or that the task made the region.
-use Rattle.std.proofs.Common.{◌≡◌, inl, inr, ℕ, ◌<◌, List, [], ◌∷◌, true, Option, Some, None, refl, sym, ap, ◌∙◌, subst}
+use Rattle.std.proofs.Common.{◌≡◌, ℕ, ◌<◌, List, true, Option, Some, None, refl, sym, ap, ◌∙◌, subst}
 use Rattle.std.specs.Prelude.{slice_get, Bool}
 use Rattle.lane_kernels.specs.declared.numbers.Mode.{Mode}
 use Rattle.lane_kernels.specs.declared.numbers.Mode.TheVariants as mode
@@ -11,16 +11,11 @@ use Rattle.task_code.specs.declared.code.TaskCode.{TaskCode}
 use Rattle.machine_terms.specs.declared.value.RegionValue.{RegionValue}
 use Rattle.machine_terms.specs.declared.value.Value.{Value}
 use Rattle.machine_terms.specs.Pointers.{region_in}
-use Rattle.fit_rules.specs.Shapes.{Among, Each, region, World, IsRegion, Is, is_number, is_region}
-use Rattle.fit_rules.specs.Marks.{Fact, lies, in_slot, Holds, Mark, Suits}
+use Rattle.fit_rules.specs.Shapes.{Among, region, World, IsRegion, Is, is_number, is_region}
+use Rattle.fit_rules.specs.Marks.{lies, in_slot, Holds, Mark, Suits}
 use Rattle.fit_rules.specs.Fits.{Program, count_at, Declares, made_it, declares_it, reads_and_writes}
 use Rattle.fit_rules.specs.Sound.{Allowed}
-use Rattle.fit_laws.proofs.Lookup.{value_at}
-
-fact_held : (vs : List Value) (ks : List Fact) (f : Fact) → Among ks f → Each (λ y. Holds y vs) ks → Holds f vs
-fact_held vs [] f h e = absurd h
-fact_held vs (y ∷ ks) f (inl q) e = subst (λ z. Holds z vs) q e.0
-fact_held vs (y ∷ ks) f (inr h) e = fact_held vs ks f h e.1
+use Rattle.fit_laws.proofs.Lookup.{each_among, value_at}
 
 -- the slot's region is known to lie within a parameter's, for which there is a need
 pub record Under (t : TaskCode) (m : Mark) (s f : ℕ) (a : Mode) : Type 0 where
@@ -36,14 +31,14 @@ module _ (g : Program) (t : TaskCode) (m : Mark) where
       (r : RegionValue) → region_in (slice_get vs s) ≡ Some r → (p : ℕ) → has r.points p ≡ true →
       Declares x t r.root.0 f p a
   declared_under s f a u x vs st h r er p ep =
-      let w = fact_held vs m.facts (lies (in_slot s) (in_slot u.need.param)) u.fact h.facts r er in
+      let w = each_among (λ y. Holds y vs) m.facts (lies (in_slot s) (in_slot u.need.param)) u.fact h.facts r er in
       record {
         need = u.need;
         is_there = u.among;
         its_field = u.its_field;
         its_mode = u.its_mode;
         region = w.other;
-        argument = ap region_in (sym (h.args u.need.param u.param)) ∙ w.at;
+        argument = sym (h.args u.need.param u.param) ∙ w.at;
         its_root = sym w.inside.0;
         its_point = w.inside.1 p ep;
       }

@@ -1,5 +1,6 @@
 -- Calls.
 use Rattle.std.proofs.Common.{◌≡◌, ℕ, zero, suc, ◌<◌, ◌≤◌, ◌^◌, List, [], ◌∷◌, ◌++◌, Bool, true, false, cond, Option, Some, None, refl, sym, ap, subst, arith}
+use Rattle.std.proofs.lemmas.Option.{none-some}
 use Rattle.std.specs.Prelude.{slice_get, length, nat_lt, ◌==◌}
 use Rattle.std.proofs.lemmas.Bool.{lt-ltb, eq-eqb, ne_eqb}
 use Rattle.regent_tree.specs.declared.outcome.FaultKind.TheVariants.{Depth}
@@ -21,7 +22,6 @@ use Rattle.fit_rules.specs.Marks.{Suits, stacked}
 use Rattle.fit_rules.specs.Fits.{Program, requires, claim_on, declared_claims, root_claims, own_claims, claims, AreClaims, no_claims, a_claim, PartsFit, Fits}
 use Rattle.fit_rules.specs.Sound.{Takes, Opens, To}
 use Rattle.fit_rules.specs.Ends.{grown, called, opening_machine, without_parts, Safe, safe_stops}
-use Rattle.fit_laws.proofs.Cells.{none_some}
 use Rattle.fit_laws.proofs.Taking.{takes_values}
 
 -- ---- one more child
@@ -85,7 +85,7 @@ claims_open [] vs = no_claims
 claims_open (n ∷ ns) vs = claim_more n (region_in (slice_get vs n.param)) _ _ (claims_open ns vs)
 
 no_parts : (g : Program) (x : World) (t : TaskCode) → PartsFit g x t []
-no_parts g x t root f q e = absurd (none_some q e)
+no_parts g x t root f q e = absurd (none-some q e)
 
 pub opening_fits : (g : Program) (x : World) (k : ℕ) (t : TaskCode) (vs : List Value) (turns depth : ℕ) → turns < 2 ^ 64 →
     0 < length t.body → Suits (called x vs) t.params (g.marks k 0) (opening 0 0 k t vs).slots [] →

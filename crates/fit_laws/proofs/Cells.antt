@@ -1,6 +1,7 @@
 -- A number that is set in a part: the point has it, in the mode that it had, and the other points are
 -- as they were.
-use Rattle.std.proofs.Common.{◌≡◌, ◌⊎◌, inl, inr, ℕ, ℤ, List, [], ◌∷◌, Bool, true, false, ◌&&◌, cond, Option, Some, None, refl, sym, ap, ◌∙◌, subst}
+use Rattle.std.proofs.Common.{◌≡◌, ◌⊎◌, inl, inr, ℕ, ℤ, List, [], ◌∷◌, Bool, true, false, ◌&&◌, cond, Option, Some, None, refl, sym, ap, ◌∙◌}
+use Rattle.std.proofs.lemmas.Option.{none-some, same_Some}
 use Rattle.std.specs.Prelude.{◌==◌}
 use Rattle.std.proofs.lemmas.Bool.{eqb-true}
 use Rattle.region_tree.specs.declared.piece.Part.{Part}
@@ -34,17 +35,10 @@ same_at true x xs w zs p y z e h g = ap (λ c. cond c (Some z) (value_beside xs 
 same_at false x xs w zs p y z e h g =
     ap (λ c. cond c (Some w) (value_beside xs (set_beside xs zs p z) p)) e ∙ h g
 
-abbrev IsNone : {A : Type 0} → Option A → Type 0
-IsNone None = Unit {0}
-IsNone (Some a) = ⊥
-
-pub none_some : {A : Type 0} (a : A) → None ≡ Some a → ⊥
-none_some a e = subst IsNone e tt
-
 set_same : (xs : List ℕ) (zs : List ℤ) (p : ℕ) (y z : ℤ) → value_beside xs zs p ≡ Some y →
     value_beside xs (set_beside xs zs p z) p ≡ Some z
-set_same [] zs p y z e = absurd (none_some y e)
-set_same (x ∷ xs) [] p y z e = absurd (none_some y e)
+set_same [] zs p y z e = absurd (none-some y e)
+set_same (x ∷ xs) [] p y z e = absurd (none-some y e)
 set_same (x ∷ xs) (w ∷ zs) p y z e =
     same_at (x == p) x xs w zs p y z refl (set_same xs zs p y z) e
 
@@ -82,7 +76,7 @@ same_in None h hs rest p z c e more g =
 
 pub cell_same : (hs : List Held) (p : ℕ) (z : ℤ) (c : Cell) → cell_at hs p ≡ Some c →
     cell_at (set_cell hs p z) p ≡ Some (valued z c)
-cell_same [] p z c e = absurd (none_some c e)
+cell_same [] p z c e = absurd (none-some c e)
 cell_same (h ∷ hs) p z c e = same_in (value_beside h.points h.values p) h hs (set_cell hs p z) p z c refl
     (cell_same hs p z c) e
 
@@ -96,10 +90,6 @@ pub record Origin (parts : List Part) (root f p : ℕ) (z : ℤ) (r i : ℕ) (q 
   pub old : Part
   pub was : part_of parts r i ≡ Some old
   pub now : (q ≡ old) ⊎ ((q ≡ set_piece p z old) × (r ≡ root) × (i ≡ f))
-
-abbrev pub OrPart : Part → Option Part → Part
-OrPart d None = d
-OrPart d (Some c) = c
 
 left_true : (a b : Bool) → a && b ≡ true → a ≡ true
 left_true true b e = refl
@@ -124,7 +114,7 @@ set_first true q1 qs root f p z r i q e g h = record {
   old = q1;
   was = ap (λ b. cond b (Some q1) (part_of qs r i)) g;
   now = inr (
-    sym (ap (OrPart q) h),
+    sym (same_Some _ _ h),
     sym (same_root q1 r i g) ∙ same_root q1 root f e,
     sym (same_field q1 r i g) ∙ same_field q1 root f e,
   );
@@ -144,7 +134,7 @@ set_later : (b : Bool) (q1 : Part) (qs : List Part) (root f p : ℕ) (z : ℤ) (
 set_later true q1 qs root f p z r i q g more h = record {
   old = q1;
   was = ap (λ b. cond b (Some q1) (part_of qs r i)) g;
-  now = inl (sym (ap (OrPart q) h));
+  now = inl (sym (same_Some _ _ h));
 }
 set_later false q1 qs root f p z r i q g more h =
     let o = more h in
@@ -166,6 +156,6 @@ set_either false q1 qs root f p z r i q e more h =
 
 pub origin : (parts : List Part) (root f p : ℕ) (z : ℤ) (r i : ℕ) (q : Part) →
     part_of (set_part parts root f p z) r i ≡ Some q → Origin parts root f p z r i q
-origin [] root f p z r i q h = absurd (none_some q h)
+origin [] root f p z r i q h = absurd (none-some q h)
 origin (q1 ∷ qs) root f p z r i q h = set_either (is_part_of root f q1) q1 qs root f p z r i q refl
     (origin qs root f p z r i q) h

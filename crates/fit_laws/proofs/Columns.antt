@@ -1,5 +1,6 @@
 -- A field is read at each point of a region, and a partition is made of what is read.
-use Rattle.std.proofs.Common.{◌≡◌, inl, inr, ℕ, suc, ◌≤◌, ◌^◌, ℤ, List, [], ◌∷◌, filter, Bool, true, false, ◌&&◌, Option, Some, None, refl, sym, ap, ◌∙◌, subst, arith}
+use Rattle.std.proofs.Common.{◌≡◌, inl, inr, ℕ, suc, ◌≤◌, ◌^◌, ℤ, List, [], ◌∷◌, filter, Bool, true, false, ◌&&◌, Option, Some, refl, sym, ap, ◌∙◌, subst, arith}
+use Rattle.std.proofs.lemmas.Option.{none-some, same_Some}
 use Rattle.std.specs.Prelude.{length, ◌==◌}
 use Rattle.std.specs.List.{list_any, list_all}
 use Rattle.std.proofs.lemmas.Bool.{eq-eqb, false≢true}
@@ -25,12 +26,10 @@ use Rattle.fit_rules.specs.Marks.{LiesIn, Holds, lies, in_slot, top_parted, topp
 use Rattle.fit_rules.specs.Fits.{Program, Covers, Fits}
 use Rattle.fit_rules.specs.Sound.{HasRegion, HasPartition, Allowed, To}
 use Rattle.fit_rules.specs.Ends.{Safe, safe_stops}
-use Rattle.fit_laws.proofs.Cells.{none_some}
 use Rattle.fit_laws.proofs.Cover.{Permits, read_reads, write_reads}
 use Rattle.fit_laws.proofs.Access.{FoundWell, missing_well, found_well, find_well, needed, wants_well}
 use Rattle.fit_laws.proofs.Fills.{points_had}
 use Rattle.fit_laws.proofs.Making.{Parted, Makes, all_within, sets_long, partition_safe, on_region_safe, on_partition_safe, parted_in, equal_on}
-use Rattle.fit_laws.proofs.Pointers.{or_region}
 
 module _ (g : Program) (x : World) (t : TaskCode) (k : ℕ) (m : Machine) (fit : Fits g x t k m) where
   allowed_region : (sp f s : ℕ) → Allowed g t (g.marks k m.frame.pc) sp f mode.Read s →
@@ -46,16 +45,12 @@ module _ (g : Program) (x : World) (t : TaskCode) (k : ℕ) (m : Machine) (fit :
   readable_well _ z read_reads = refl
   readable_well _ z write_reads = refl
 
-  abbrev PartOr : Part → Option Part → Part
-  PartOr d None = d
-  PartOr d (Some q) = q
-
   -- what is found at a covered point is a number that may be read
   number_at : (root f p : ℕ) (q : Part) (o : Found) → part_of m.parts root f ≡ Some q →
       FoundWell g x t k m fit root f p mode.Read o → (z : ℤ) × (readable (cell_at q.pieces p) ≡ Some z)
-  number_at root f p q _ e (missing_well none) = absurd (none_some q (sym none ∙ e))
+  number_at root f p q _ e (missing_well none) = absurd (none-some q (sym none ∙ e))
   number_at root f p q _ e (found_well y c r ek pm n er ec) =
-      let same : r ≡ q = ap (PartOr r) (sym er ∙ e) in
+      let same : r ≡ q = same_Some _ _ (sym er ∙ e) in
       (c.value, ap readable (ap (λ (u : Part). cell_at u.pieces p) (sym same) ∙ ec) ∙ readable_well c.mode c.value pm)
 
   numbers_well : (root f : ℕ) (q : Part) (xs : List ℕ) → part_of m.parts root f ≡ Some q →
@@ -156,7 +151,7 @@ module _ (g : Program) (x : World) (t : TaskCode) (k : ℕ) (m : Machine) (fit :
       on_partition_safe g x t k m fit sq p (λ q. on_region m r (λ b. looked a q b)) hp (λ q eq iq.
       on_region_safe g x t k m fit (Some sp) r (λ b. looked a q b) (allowed_region sp f r h) (λ d b eb ib.
       let w = within_read a ea in
-      let same : w.other ≡ b = ap (or_region b) (sym w.at ∙ eb) in
+      let same : w.other ≡ b = same_Some _ _ (sym w.at ∙ eb) in
       let inside : LiesIn a b = subst (LiesIn a) same w.inside in
       when_true (lie_in a.root.0 (a.points ∷ []) b) _
       (ap (λ y. y && (within a.points b.points && true)) (eq-eqb a.root.0 b.root.0 inside.0)

@@ -1,8 +1,15 @@
 -- Values of shapes: the one at a place, and one put there.
-use Rattle.std.proofs.Common.{◌≡◌, ℕ, zero, suc, List, Option, Some, None, refl, ap, subst}
+use Rattle.std.proofs.Common.{◌≡◌, inl, inr, ℕ, zero, suc, List, [], ◌∷◌, Some, refl, ap, subst}
+use Rattle.std.proofs.lemmas.Option.{none-some, same_Some}
 use Rattle.std.specs.Prelude.{slice_get, slice_set, length}
 use Rattle.machine_terms.specs.declared.value.Value.{Value}
-use Rattle.fit_rules.specs.Shapes.{Shape, World, Is, Are, are_none, are_more}
+use Rattle.fit_rules.specs.Shapes.{Among, Each, Shape, World, Is, Are, are_none, are_more}
+
+-- each of some holds of one of them
+pub each_among : {A : Type 0} (P : A → Type 0) (xs : List A) (a : A) → Among xs a → Each P xs → P a
+each_among P [] a h e = absurd h
+each_among P (x ∷ xs) a (inl q) e = subst P q e.0
+each_among P (x ∷ xs) a (inr h) e = each_among P xs a h e.1
 
 pub record Found (x : World) (s : Shape) (vs : List Value) (i : ℕ) : Type 0 where
   pub value : Value
@@ -10,24 +17,13 @@ pub record Found (x : World) (s : Shape) (vs : List Value) (i : ℕ) : Type 0 wh
   pub of : Is x s value
 
 module _ (x : World) where
-  abbrev IsNone : {A : Type 0} → Option A → Type 0
-  IsNone None = Unit {0}
-  IsNone (Some a) = ⊥
-
-  none_some : {A : Type 0} (a : A) → None ≡ Some a → ⊥
-  none_some a e = subst IsNone e tt
-
-  abbrev OrSame : Shape → Option Shape → Shape
-  OrSame d None = d
-  OrSame d (Some s) = s
-
   pub value_at : (ss : List Shape) (vs : List Value) (i : ℕ) (s : Shape) → Are x ss vs →
       slice_get ss i ≡ Some s → Found x s vs i
-  value_at _ _ i s are_none e = absurd (none_some s e)
+  value_at _ _ i s are_none e = absurd (none-some s e)
   value_at _ _ zero s (are_more u v ss vs h a) e = record {
     value = v;
     at = refl;
-    of = subst (λ y. Is x y v) (ap (OrSame u) e) h;
+    of = subst (λ y. Is x y v) (same_Some _ _ e) h;
   }
   value_at _ _ (suc i) s (are_more u v ss vs h a) e =
       let f = value_at ss vs i s a e in record { value = f.value; at = f.at; of = f.of }

@@ -1,5 +1,6 @@
 -- Partitions that are made: their sets are parts of the region, and the partition fits.
 use Rattle.std.proofs.Common.{◌≡◌, inl, inr, ℕ, zero, suc, ◌<◌, ◌≤◌, ◌^◌, List, [], ◌∷◌, All, map, ⊎_elim, Bool, true, false, ◌&&◌, ◌||◌, Option, Some, None, refl, sym, ap, ◌∙◌, subst, arith}
+use Rattle.std.proofs.lemmas.Option.{same_Some}
 use Rattle.std.specs.Prelude.{get_or, length, nat_le}
 use Rattle.std.specs.List.{list_all}
 use Rattle.std.proofs.lemmas.Bool.{lt-ltb, leb-true, false≢true, or_cases}
@@ -29,10 +30,10 @@ use Rattle.fit_rules.specs.Marks.{LiesIn, parted, Holds, top_parted, topped}
 use Rattle.fit_rules.specs.Fits.{Program, Fits}
 use Rattle.fit_rules.specs.Sound.{HasRegion, HasPartition, To}
 use Rattle.fit_rules.specs.Ends.{SetsFit, IsMadeOf, Safe, safe_stops}
-use Rattle.fit_laws.proofs.Numbers.{has_below}
+use Rattle.fit_rules.proofs.Points.{has_below}
 use Rattle.fit_laws.proofs.Straight.{fits_topped}
 use Rattle.fit_laws.proofs.Access.{region_at}
-use Rattle.fit_laws.proofs.Pointers.{partition_at, or_region}
+use Rattle.fit_laws.proofs.Pointers.{partition_at}
 
 -- ---- the sets of a partition
 
@@ -154,7 +155,7 @@ module _ (g : Program) (x : World) (t : TaskCode) (k : ℕ) (m : Machine) (fit :
       (q.root.0 ≡ r.root.0) × ArePartsOf r.points (sets_of q)
   parted_in sp d p s q r f eq er ip =
       let w = f q eq in
-      let same : w.parent ≡ r = ap (or_region r) (sym w.at ∙ er) in (
+      let same : w.parent ≡ r = same_Some _ _ (sym w.at ∙ er) in (
         w.root ∙ ap (λ (y : RegionValue). y.root.0) same,
         children_parts x sp d q r ip (λ c l. subst (LiesIn c) same (w.inside c l)),
       )

@@ -1,15 +1,12 @@
 -- Numbers of shapes.
-use Rattle.std.proofs.Common.{◌≡◌, inl, inr, List, All, ℕ, ◌%◌, ◌^◌, ◌<◌, ℤ, pos, Bool, true, false, refl, sym, subst, arith}
+use Rattle.std.proofs.Common.{inl, inr, ℕ, ◌%◌, ◌^◌, ◌<◌, ℤ, pos, Bool, true, false, refl, sym, subst, arith}
 use Rattle.std.proofs.lemmas.Int.{ints, SFits-int_wrap, int_wrap_fits}
-use Rattle.std.proofs.lemmas.List.Elements.{All-contains}
 use native.Mathlib.Nat.{mod-lt}
 use Rattle.lane_kernels.specs.declared.numbers.Width.{Width}
 use Rattle.lane_kernels.specs.declared.numbers.Width.TheVariants.{W32, W64}
 use Rattle.lane_kernels.specs.Numbers.{FitsWidth, wrapped, std_width, width_of}
 use Rattle.lane_kernels.specs.declared.numbers.FieldKind.{FieldKind}
 use Rattle.lane_kernels.specs.declared.numbers.FieldKind.TheVariants as kind
-use Rattle.plain_values.specs.Points.{has}
-use Rattle.point_sets.proofs.Rising.{Contains-from_has}
 use Rattle.regent_tree.specs.Values.{kept_truth}
 use Rattle.fit_rules.specs.Shapes.{Shape, integer, truth, index, pointer, Numeric, numeric_integer, numeric_truth, numeric_index, numeric_pointer, NumberIs}
 use Rattle.fit_rules.specs.Fits.{Program, kept_as, kind_at, shape_at}
@@ -71,12 +68,6 @@ kept_numeric _ _ kept_int64 = numeric_integer W64
 kept_numeric _ _ kept_as_truth = numeric_truth
 kept_numeric _ _ kept_index = numeric_index
 kept_numeric _ _ (kept_pointer n) = numeric_pointer n
-
--- ---- points
-
--- a point of a set is below the set's bound
-pub has_below : (b : ℕ) (xs : List ℕ) (p : ℕ) → All (λ y. y < b) xs → has xs p ≡ true → p < b
-has_below b xs p h e = All-contains (λ y. y < b) xs p h (Contains-from_has xs p e)
 
 -- ---- pointers
 

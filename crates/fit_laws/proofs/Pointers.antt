@@ -1,5 +1,6 @@
 -- Pointers without accesses, casts, index spaces and partitions' children.
 use Rattle.std.proofs.Common.{◌≡◌, inl, inr, ℕ, zero, suc, ◌+◌, ◌<◌, ◌≤◌, ◌^◌, ℤ, pos, negsuc, List, [], ◌∷◌, Bool, true, false, cond, Option, Some, None, refl, sym, ap, ◌∙◌, subst, arith}
+use Rattle.std.proofs.lemmas.Option.{none-some, same_Some}
 use Rattle.std.specs.Prelude.{slice_get, length, nat_le, nat_abs}
 use Rattle.std.proofs.lemmas.Bool.{le-leb, leb-true}
 use Rattle.std.proofs.lemmas.Int.{ints}
@@ -20,8 +21,8 @@ use Rattle.fit_rules.specs.Fits.{Program, Fits}
 use Rattle.fit_rules.specs.Sound.{To, HasRegion, HasPartition}
 use Rattle.fit_rules.specs.Ends.{Safe, safe_stops}
 use Rattle.fit_laws.proofs.Lookup.{value_at}
-use Rattle.fit_laws.proofs.Numbers.{point_below, has_below}
-use Rattle.fit_laws.proofs.Cells.{none_some}
+use Rattle.fit_rules.proofs.Points.{has_below}
+use Rattle.fit_laws.proofs.Numbers.{point_below}
 use Rattle.fit_laws.proofs.Straight.{safe_next, safe_number, pushed}
 use Rattle.fit_laws.proofs.Access.{region_at, slot_of}
 
@@ -32,10 +33,6 @@ kept_pointer_is k j n h l s = (omega (arith, ints, h, l, s), omega (arith, h, l,
 abbrev number : Target → ℕ
 number null_target = 0
 number (point_target p i) = p
-
-abbrev pub or_region : RegionValue → Option RegionValue → RegionValue
-or_region d None = d
-or_region d (Some r) = r
 
 abbrev IsFalse : Bool → Type 0
 IsFalse false = Unit {0}
@@ -201,13 +198,13 @@ module _ (g : Program) (x : World) (t : TaskCode) (k : ℕ) (m : Machine) (fit :
       (are_more space _ ss _ (is_space _ q.is_partition_there.count) a)))
 
   among_get : (rs : List RegionValue) (c : ℕ) (r : RegionValue) → slice_get rs c ≡ Some r → Among rs r
-  among_get [] c r e = absurd (none_some r e)
-  among_get (q ∷ rs) zero r e = inl (ap (or_region r) e)
+  among_get [] c r e = absurd (none-some r e)
+  among_get (q ∷ rs) zero r e = inl (same_Some _ _ e)
   among_get (q ∷ rs) (suc c) r e = inr (among_get rs c r e)
 
   pub among_coloured : (rs : List RegionValue) (z : ℤ) (r : RegionValue) → coloured rs z ≡ Some r → Among rs r
   among_coloured rs (pos c) r e = among_get rs c r e
-  among_coloured rs (negsuc c) r e = absurd (none_some r e)
+  among_coloured rs (negsuc c) r e = absurd (none-some r e)
 
   child_found : (sp : Option ℕ) (o : Option RegionValue) (line : ℕ) (ss : List Shape) (st : List Value) →
       ((r : RegionValue) → o ≡ Some r → IsRegion x sp false r) → Next (region sp false ∷ ss) → Are x ss st →

@@ -1,10 +1,9 @@
 -- Roots that are made.
-use Rattle.std.proofs.Common.{◌≡◌, ◌⊎◌, inl, inr, ⊎_elim, ℕ, suc, ◌+◌, ◌<◌, ◌≤◌, ◌^◌, List, [], ◌∷◌, ◌++◌, All, map, Bool, true, false, cond, ◌&&◌, ◌||◌, Option, Some, None, refl, sym, ap, ◌∙◌, subst, arith, append_assoc}
+use Rattle.std.proofs.Common.{◌≡◌, ◌⊎◌, inl, inr, ⊎_elim, ℕ, suc, ◌≤◌, ◌^◌, List, [], ◌∷◌, ◌++◌, map, Bool, true, false, cond, ◌&&◌, ◌||◌, Option, Some, None, refl, sym, ap, ◌∙◌, subst, arith, append_assoc}
 use Rattle.std.specs.Prelude.{slice_get, length, nat_lt, ◌==◌}
 use Rattle.std.proofs.lemmas.Bool.{lt-ltb, le-leb, eq-eqb, ne_eqb, eqb-false, cases_Bool, false≢true}
 use Rattle.lane_kernels.specs.declared.numbers.Mode.TheVariants as mode
-use Rattle.plain_values.specs.Points.{IsPoints, has, points, counted_from}
-use Rattle.point_sets.proofs.Rising.{length-counted_from, get_or-counted_from, rising-counted_from}
+use Rattle.plain_values.specs.Points.{IsPoints, has, points}
 use Rattle.region_tree.proofs.Joins.{modes_at-here, modes_at-not}
 use Rattle.region_tree.specs.declared.needs.Need.{Need}
 use Rattle.region_tree.specs.declared.piece.Part.{Part}
@@ -25,6 +24,7 @@ use Rattle.fit_rules.specs.Marks.{stacked}
 use Rattle.fit_rules.specs.Fits.{Program, count_at, kind_at, shape_at, root_claims, requires, declared_claims, own_claims, claims, AreClaims, no_claims, a_claim, CellFits, PartsFit, Fits}
 use Rattle.fit_rules.specs.Sound.{To}
 use Rattle.fit_rules.specs.Ends.{rooted, with_root, Safe, safe_stops}
+use Rattle.fit_rules.proofs.Points.{counted_points}
 use Rattle.fit_laws.proofs.Cover.{in_front, in_back}
 
 -- ---- a world with one more root
@@ -158,14 +158,6 @@ numbers_both : (xs : List RootId) (i : RootId) → map (λ (r : RootId). r.0) (x
 numbers_both [] i = refl
 numbers_both (y ∷ xs) i = ap (λ l. y.0 ∷ l) (numbers_both xs i)
 
-counted_below : (b first n : ℕ) → first + n ≤ b → All (λ y. y < b) (counted_from first n)
-counted_below b first n h k d l =
-    let under : k < n = omega (arith, l, length-counted_from first n) in
-    rw (get_or-counted_from first n k d under) (omega (arith, h, under))
-
-counted_points : (n : ℕ) → n ≤ 4194304 → IsPoints 4194304 (points n)
-counted_points n h = record { rising = rising-counted_from 0 n; below = counted_below 4194304 0 n (omega (arith, h)) }
-
 module _ (g : Program) (x : World) (t : TaskCode) (k : ℕ) (m : Machine) (fit : Fits g x t k m) where
   root_fits : (sp n : ℕ) (ss : List Shape) (st : List Value) → n ≤ 4194304 →
       To g t k (stacked (g.marks k m.frame.pc) (region (Some sp) true ∷ ss)) (suc m.frame.pc) → Are x ss st →
@@ -234,4 +226,4 @@ module _ (g : Program) (x : World) (t : TaskCode) (k : ℕ) (m : Machine) (fit :
           (sym (le-leb _ 256 l))
           (subst (λ y. Safe g x t k (when y (stops (yield.Make (made.Root n sp)) (at (suc m.frame.pc) st m))
           (broken (at (suc m.frame.pc) st m)))) (sym (lt-ltb (suc m.frame.pc) (2 ^ 32) (omega (arith, to.0, short))))
-          (safe_stops _ _ (fit.beside.parts, (h, λ r ns fresh ep claimed. root_fits sp n ss st h to b r ns fresh ep (counted_points n h) claimed)))))
+          (safe_stops _ _ (fit.beside.parts, (h, λ r ns fresh ep claimed. root_fits sp n ss st h to b r ns fresh ep (counted_points 4194304 0 n (omega (arith, h))) claimed)))))

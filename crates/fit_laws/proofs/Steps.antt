@@ -1,9 +1,9 @@
 -- From a machine that fits valid code, a step leads to one that fits, or stops well.
-use Rattle.std.proofs.Common.{◌≡◌, ◌⊎◌, inl, inr, ⊎_elim, ℕ, zero, suc, ◌<◌, ◌≤◌, ◌^◌, ℤ, pos, ◌+ℤ◌, List, [], ◌∷◌, Bool, true, false, cond, Option, Some, None, refl, sym, ap, ◌∙◌, subst, arith}
+use Rattle.std.proofs.Common.{◌≡◌, ◌⊎◌, inl, inr, ⊎_elim, ℕ, zero, suc, ◌<◌, ◌≤◌, ◌^◌, ℤ, pos, ◌+ℤ◌, List, ◌∷◌, Bool, true, false, cond, Option, Some, None, refl, sym, ap, ◌∙◌, subst, arith}
 use Rattle.std.specs.Prelude.{slice_get, slice_set, length, int_lt, ◌==◌}
 use Rattle.std.specs.Ordering.{int_eq}
 use Rattle.std.proofs.lemmas.Bool.{lt-ltb, eqb-false}
-use Rattle.std.proofs.lemmas.Option.{slice_get-get_or}
+use Rattle.std.proofs.lemmas.Option.{slice_get-get_or, none-some}
 use Rattle.task_code.specs.declared.code.Line.{Line}
 use Rattle.task_code.specs.declared.code.TaskCode.{TaskCode}
 use Rattle.task_code.specs.declared.instr.Instr.{Instr}
@@ -17,13 +17,12 @@ use Rattle.machine_terms.specs.Numbers.{load, store}
 use Rattle.machine_terms.specs.Jumps.{fetch, may_jump, jump, leave, round, count_round, next_number, size_of, point_at, take_point, point_round, points_round}
 use Rattle.machine_terms.specs.Regions.{child, child_at, coloured, partition_in, with_partition}
 use Rattle.machine_terms.specs.Segments.{act, act_at, step}
-use Rattle.fit_rules.specs.Shapes.{Among, Each, Shape, integer, truth, index, pointer, space, region, awaited, IsPartition, is_region, is_pending, Numeric, numeric_integer, numeric_truth, numeric_index, numeric_pointer, NumberIs, World, Is, is_number, Are, are_more}
-use Rattle.fit_rules.specs.Marks.{HasNumber, Colour, colour_in, HasColour, child_in, TopFact, top_colour, top_lies, HoldsTop, Settles, topped, Fact, counts, parted, lies, in_slot, Holds, AtMost, size_in, Mark, Suits, stacked}
+use Rattle.fit_rules.specs.Shapes.{Among, Shape, integer, truth, index, pointer, space, region, awaited, IsPartition, is_region, is_pending, Numeric, numeric_integer, numeric_truth, numeric_index, numeric_pointer, NumberIs, World, Is, is_number, Are, are_more}
+use Rattle.fit_rules.specs.Marks.{HasNumber, Colour, colour_in, HasColour, child_in, top_colour, top_lies, HoldsTop, Settles, topped, Fact, counts, parted, lies, in_slot, Holds, AtMost, size_in, Mark, Suits, stacked}
 use Rattle.fit_rules.specs.Fits.{Program, Fits}
 use Rattle.fit_rules.specs.Sound.{HasPartition, To, ToStored, RoundNumber, RoundPoint, Sound, straight, colours, colours_by, takes_child, awaits, stored, jumps, jumps_if_not, jumps_and, jumps_or, counts_numbers, counts_points, makes_root, makes_equal, makes_by_field, makes_minus, makes_meet, makes_join, makes_image, makes_preimage, makes_call, takes_turn, returns, returns_value, Valid}
 use Rattle.fit_rules.specs.Ends.{Safe, safe_goes, safe_stops}
-use Rattle.fit_laws.proofs.Lookup.{value_at, as_long}
-use Rattle.fit_laws.proofs.Cells.{none_some}
+use Rattle.fit_laws.proofs.Lookup.{each_among, value_at, as_long}
 use Rattle.fit_laws.proofs.Straight.{fits_at, fits_topped, safe_number}
 use Rattle.fit_laws.proofs.Pointers.{partition_at, among_coloured}
 use Rattle.fit_laws.proofs.Calls.{call_safe}
@@ -186,12 +185,6 @@ module _ (g : Program) (x : World) (t : TaskCode) (k : ℕ) (m : Machine) (fit :
       of_value _ _ numeric_index (is_number _ z h) e to = of_number index z h e to
       of_value _ _ (numeric_pointer n) (is_number _ z h) e to = of_number (pointer n) z h e to
 
-  top_at : (ks : List TopFact) (f : TopFact) (st : List Value) → Among ks f →
-      Each (λ y. HoldsTop y m.frame.slots st) ks → HoldsTop f m.frame.slots st
-  top_at [] f st h e = absurd h
-  top_at (y ∷ ks) f st (inl q) e = subst (λ z. HoldsTop z m.frame.slots st) q e.0
-  top_at (y ∷ ks) f st (inr h) e = top_at ks f st h e.1
-
   child_coloured : (i line : ℕ) (sp : Option ℕ) (a : Shape) (ss : List Shape) (c : Colour) →
       here.stack ≡ a ∷ ss → Numeric a → HasPartition here sp i → Among here.top (top_colour c) →
       To g t k (topped here (region sp false ∷ ss) (top_lies (child_in i c))) (suc m.frame.pc) →
@@ -201,7 +194,7 @@ module _ (g : Program) (x : World) (t : TaskCode) (k : ℕ) (m : Machine) (fit :
       subst (λ o. Safe g x t k (with_partition o m (λ p. on_number m.frame.stack m (λ z st.
       child_at (coloured p.children z) line st m)))) (sym w.there)
       (of_stack m.frame.stack (same_stack (a ∷ ss) e) n w.partition_there w.there w.is_partition_there
-      (top_at here.top (top_colour c) m.frame.stack q fit.suits.top))
+      (each_among (λ y. HoldsTop y m.frame.slots m.frame.stack) here.top (top_colour c) q fit.suits.top))
     where
       of_child : (o : Option RegionValue) (z : ℤ) (st : List Value) (p : PartitionValue) →
           coloured p.children z ≡ o → Are x ss st →
@@ -260,10 +253,8 @@ module _ (g : Program) (x : World) (t : TaskCode) (k : ℕ) (m : Machine) (fit :
 
   -- ---- points
 
-  fact_at : (ks : List Fact) (f : Fact) → Among ks f → Each (λ y. Holds y m.frame.slots) ks → Holds f m.frame.slots
-  fact_at [] f h e = absurd h
-  fact_at (y ∷ ks) f (inl q) e = subst (λ z. Holds z m.frame.slots) q e.0
-  fact_at (y ∷ ks) f (inr h) e = fact_at ks f h e.1
+  fact_at : (f : Fact) → Among here.facts f → Holds f m.frame.slots
+  fact_at f h = each_among (λ y. Holds y m.frame.slots) here.facts f h fit.suits.facts
 
   pub record PointAt (d : Value) (i : ℕ) : Type 0 where
     pub point : ℕ
@@ -276,9 +267,9 @@ module _ (g : Program) (x : World) (t : TaskCode) (k : ℕ) (m : Machine) (fit :
   point_there (value.Region r) i n e l =
       let same : length r.points ≡ n = ap (λ o. elim o [ None ↦ 0 | Some y ↦ y ]) e in
       record { point = _; there = slice_get-get_or r.points i 0 (omega (arith, same, l)) }
-  point_there (value.Number z) i n e l = absurd (none_some n e)
-  point_there (value.Partition q) i n e l = absurd (none_some n e)
-  point_there (value.Pending j) i n e l = absurd (none_some n e)
+  point_there (value.Number z) i n e l = absurd (none-some n e)
+  point_there (value.Partition q) i n e l = absurd (none-some n e)
+  point_there (value.Pending j) i n e l = absurd (none-some n e)
 
   points_safe : (s c v : ℕ) (ptr : Bool) (to line : ℕ) (a b : Option Value) → v < length here.slots →
       m.frame.pc < to → To g t k (stacked here here.stack) to → suc m.frame.pc < length t.body →
@@ -339,7 +330,7 @@ module _ (g : Program) (x : World) (t : TaskCode) (k : ℕ) (m : Machine) (fit :
   sound_safe short _ line (counts_numbers c l v to a b ea na eb nb hv ht h hs r) =
       next_number_safe c l v to line a b ea na eb nb hv ht h hs r
   sound_safe short _ line (counts_points s c v ptr to q hv ht h hs r) =
-      points_safe s c v ptr to line _ _ hv ht h hs r refl refl (fact_at here.facts (counts c s) q fit.suits.facts)
+      points_safe s c v ptr to line _ _ hv ht h hs r refl refl (fact_at (counts c s) q)
   sound_safe short _ line (makes_root sp c ss e h l to) =
       new_root_safe g x t k m fit short sp c ss (same_stack (space ∷ ss) e) h l to
   sound_safe short _ line (makes_equal s sp ss e h to) =
@@ -347,17 +338,17 @@ module _ (g : Program) (x : World) (t : TaskCode) (k : ℕ) (m : Machine) (fit :
   sound_safe short _ line (makes_by_field s f sp ss e h to) =
       by_field_safe g x t k m fit short s f line sp ss (same_stack (space ∷ ss) e) h to
   sound_safe short _ line (makes_minus p q s sp hp hq hs f to) =
-      minus_safe g x t k m fit short p q s sp hp hq hs (fact_at here.facts (parted p s) f fit.suits.facts) to
+      minus_safe g x t k m fit short p q s sp hp hq hs (fact_at (parted p s) f) to
   sound_safe short _ line (makes_meet p q s sp hp hq hs f to) =
-      meet_safe g x t k m fit short p q s sp hp hq hs (fact_at here.facts (parted p s) f fit.suits.facts) to
+      meet_safe g x t k m fit short p q s sp hp hq hs (fact_at (parted p s) f) to
   sound_safe short _ line (makes_join p q s sp hp hq hs f h to) =
-      join_safe g x t k m fit short p q s sp hp hq hs (fact_at here.facts (parted p s) f fit.suits.facts)
-      (fact_at here.facts (parted q s) h fit.suits.facts) to
+      join_safe g x t k m fit short p q s sp hp hq hs (fact_at (parted p s) f)
+      (fact_at (parted q s) h) to
   sound_safe short _ line (makes_image s p r f sp sq so hs hp h q to) =
-      image_safe g x t k m fit short s p r f sp sq so hs hp h (fact_at here.facts (parted p r) q fit.suits.facts) to
+      image_safe g x t k m fit short s p r f sp sq so hs hp h (fact_at (parted p r) q) to
   sound_safe short _ line (makes_preimage s p r f sp sq so hs hp h q to) =
       preimage_safe g x t k m fit short s p r f sp sq so hs hp h
-      (fact_at here.facts (lies (in_slot s) (in_slot r)) q fit.suits.facts) to
+      (fact_at (lies (in_slot s) (in_slot r)) q) to
   sound_safe short _ line (makes_call task n callee args rest e p l tk o to) =
       call_safe g x t k m fit short task n line callee args rest e p l tk o to
   sound_safe short _ line (takes_turn to) = turned m.frame.turns line _ refl (λ p e.

@@ -3,3 +3,4 @@ pub mod Marks
 pub mod Fits
 pub mod Ends
 pub mod Sound
+pub mod Example

@@ -116,13 +116,13 @@ stacked m ss = record m { stack = ss; top = [] }
 abbrev pub topped : Mark → List Shape → TopFact → Mark
 topped m ss f = record m { stack = ss; top = f ∷ [] }
 
--- slots and a stack are as a mark says, and the arguments stand in their slots
+-- slots and a stack are as a mark says, and the regions among the arguments stand in their slots
 pub record Suits (x : World) (params : ℕ) (m : Mark) (vs st : List Value) : Type 0 where
   pub slots : Are x m.slots vs
   pub stack : Are x m.stack st
   pub facts : Each (λ k. Holds k vs) m.facts
   pub top : Each (λ k. HoldsTop k vs st) m.top
-  pub args : (i : ℕ) → i < params → slice_get vs i ≡ slice_get x.args i
+  pub args : (i : ℕ) → i < params → region_in (slice_get vs i) ≡ region_in (slice_get x.args i)
 
 -- what suits one mark suits another
 abbrev pub Into : ℕ → Mark → Mark → Type 0

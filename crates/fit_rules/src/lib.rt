@@ -1,2 +1,13 @@
-//! What fits compiled code: the definitions, point by point.
+//! What fits compiled code: the definitions, and an example of a state that fits and of some that don't.
+//!
+//! The definitions stand under specs/. Each function has an empty body; its contract tells of the example.
 #![tactic(auto)]
+
+ghost use Rattle.fit_rules.specs.Example.{ExampleFits, FailsEachPoint};
+
+/// In the middle of a body, with a part held, a state fits; and states that differ from it in one thing each
+/// don't.
+pub fn example_fits()
+    ensures fits { ExampleFits }
+    ensures fails { FailsEachPoint }
+{}

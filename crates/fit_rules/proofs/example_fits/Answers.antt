@@ -1,0 +1,8 @@
+use Rattle.fit_rules.proofs.Example.{example_fits, fails_each_point}
+use Rattle.fit_rules.proofs.example_fits.Goals as goal
+
+pub returns-clause-fits : goal.returns-clause-fits
+returns-clause-fits c = example_fits
+
+pub returns-clause-fails : goal.returns-clause-fails
+returns-clause-fails c = fails_each_point

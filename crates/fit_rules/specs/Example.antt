@@ -1,0 +1,216 @@
+-- A state in the middle of a body that fits, with parts held; and one that fails each point of what fits.
+--
+-- The task takes a region, a region within it and a disjoint partition of it, and reads and writes a field
+-- of the first. It has made a root of its own, and adds 1 to the field at an element of the second region.
+use Rattle.std.specs.Prelude.{ℕ, ◌^◌, ◌+◌, pos, List, [], ◌∷◌, Bool, true, false, None, Some, get_or, ◌==◌, ◌||◌}
+use Rattle.lane_kernels.specs.declared.numbers.FieldKind.TheVariants.{Int32, Int64}
+use Rattle.lane_kernels.specs.declared.numbers.Mode.{Mode}
+use Rattle.lane_kernels.specs.declared.numbers.Mode.TheVariants.{Read, Write}
+use Rattle.lane_kernels.specs.declared.numbers.Width.TheVariants.{W32}
+use Rattle.region_tree.specs.declared.needs.Need.{Need}
+use Rattle.region_tree.specs.declared.piece.Part.{Part}
+use Rattle.task_code.specs.declared.code.Line.{Line}
+use Rattle.task_code.specs.declared.code.TaskCode.{TaskCode}
+use Rattle.task_code.specs.declared.instr.Instr.{Instr}
+use Rattle.task_code.specs.declared.instr.Instr.TheVariants as instr
+use Rattle.machine_terms.specs.declared.frame.Before.{Before}
+use Rattle.machine_terms.specs.declared.value.RegionValue.{RegionValue}
+use Rattle.machine_terms.specs.declared.value.Value.{Value}
+use Rattle.machine_terms.specs.declared.value.Value.TheVariants as value
+use Rattle.machine_terms.specs.Machine.{Machine}
+use Rattle.machine_terms.specs.Makes.{region_with}
+use Rattle.fit_rules.specs.Shapes.{Shape, anything, integer, index, pointer, space, region, partition, World}
+use Rattle.fit_rules.specs.Marks.{Fact, lies, in_slot, parted, Mark}
+use Rattle.fit_rules.specs.Fits.{Program, Fits, BeforeFits}
+
+-- ---- the code
+
+abbrev pub line_of : Instr → Line
+line_of i = record { instr = i; line = 1 }
+
+-- a root of two points is made; the pointer to point 1 of the second region is put aside; and the field
+-- there is read, raised and written
+abbrev pub body : List Line
+body = line_of (instr.Num (pos 2)) ∷ line_of instr.Space ∷ line_of (instr.NewRoot 0)
+    ∷ line_of (instr.Store 3) ∷ line_of (instr.Num (pos 1)) ∷ line_of (instr.At 1)
+    ∷ line_of (instr.Store 4) ∷ line_of (instr.Load 4) ∷ line_of (instr.Read (1 ∷ []) 0)
+    ∷ line_of (instr.Num (pos 1)) ∷ line_of (instr.Add W32) ∷ line_of (instr.Load 4)
+    ∷ line_of (instr.Write (1 ∷ []) 0 W32) ∷ line_of instr.Return ∷ []
+
+abbrev pub task : TaskCode
+task = record {
+  params = 3;
+  result = false;
+  needs = record { param = 0; field = 0; mode = Read } ∷ record { param = 0; field = 0; mode = Write }
+      ∷ [];
+  slots = 5;
+  body = body;
+}
+
+-- ---- the marks
+
+abbrev pub known : List Fact
+known = lies (in_slot 1) (in_slot 0) ∷ parted 2 0 ∷ []
+
+abbrev pub mark : Shape → Shape → List Shape → Mark
+mark own element stack = record {
+  slots = region (Some 0) false ∷ region (Some 0) false ∷ partition (Some 0) true ∷ own ∷ element ∷ [];
+  facts = known;
+  stack = stack;
+  top = [];
+}
+
+-- before the root is in its slot, before the pointer is, and behind both
+abbrev pub first : List Shape → Mark
+first stack = mark anything anything stack
+
+abbrev pub rooted : List Shape → Mark
+rooted stack = mark (region (Some 0) true) anything stack
+
+abbrev pub later : List Shape → Mark
+later stack = mark (region (Some 0) true) (pointer 1) stack
+
+abbrev pub marks : List Mark
+marks = first [] ∷ first (index ∷ []) ∷ first (space ∷ []) ∷ first (region (Some 0) true ∷ [])
+    ∷ rooted [] ∷ rooted (index ∷ []) ∷ rooted (pointer 1 ∷ [])
+    ∷ later [] ∷ later (pointer 1 ∷ []) ∷ later (integer W32 ∷ [])
+    ∷ later (integer W32 ∷ integer W32 ∷ []) ∷ later (integer W32 ∷ [])
+    ∷ later (pointer 1 ∷ integer W32 ∷ []) ∷ later [] ∷ []
+
+-- one field space, of one narrow field
+abbrev pub program : Program
+program = record {
+  code = record {
+    tasks = task ∷ [];
+    spaces = record { name = []; fields = record { name = []; kind = Int32 } ∷ [] } ∷ [];
+    start = 0;
+  };
+  positions = λ sp f. 0;
+  results = λ k. anything;
+  marks = λ k pc. get_or marks pc (later []);
+}
+
+-- ---- the state
+
+abbrev pub whole : RegionValue
+whole = region_with 3 (0 ∷ 1 ∷ [])
+
+abbrev pub part : RegionValue
+part = region_with 3 (1 ∷ [])
+
+abbrev pub parted_value : Bool → List ℕ → List ℕ → Value
+parted_value flag xs ys = value.Partition (record {
+  root = record { 0 = 3 };
+  disjoint = flag;
+  children = region_with 3 xs ∷ region_with 3 ys ∷ [];
+})
+
+abbrev pub args_of : RegionValue → Value → List Value
+args_of s p = value.Region whole ∷ value.Region s ∷ p ∷ []
+
+-- the root 3 was made elsewhere, and the root 5 by the task
+abbrev pub world_of : List Value → World
+world_of args = record {
+  there = λ r. (r == 3) || (r == 5);
+  spaces = λ r. 0;
+  points = λ r. 0 ∷ 1 ∷ [];
+  results = λ i. anything;
+  children = 0;
+  own = 5 ∷ [];
+  args = args;
+}
+
+abbrev pub need : ℕ → Mode → Need
+need root mode =
+    record { root = record { 0 = root }; node = record { 0 = 0 }; field = 0; mode = mode }
+
+-- the part of the field of root 3, of a mode, with the number at point 1
+abbrev pub held : Mode → ℕ → Part
+held mode n = record {
+  root = record { 0 = 3 };
+  field = 0;
+  kind = Int32;
+  pieces = record { points = 0 ∷ 1 ∷ []; mode = mode; values = pos 0 ∷ pos n ∷ [] } ∷ [];
+}
+
+-- what stands at the sum, with these values
+abbrev pub standing : RegionValue → Value → RegionValue → List Value → List Need → ℕ → List Part → Machine
+standing s p own stack needs turns parts = record {
+  frame = record {
+    task = 0;
+    pc = 10;
+    slots = value.Region whole ∷ value.Region s ∷ p ∷ value.Region own
+        ∷ value.Number (pos (2 ^ 32 + 1)) ∷ [];
+    stack = stack;
+    turns = turns;
+    depth = 1;
+    needs = record { items = needs };
+    own = record { 0 = 5 } ∷ [];
+    children = 0;
+    later = None;
+  };
+  parts = parts;
+}
+
+abbrev pub halves : Value
+halves = parted_value true (0 ∷ []) (1 ∷ [])
+
+abbrev pub numbers : List Value
+numbers = value.Number (pos 1) ∷ value.Number (pos 41) ∷ []
+
+abbrev pub needs : List Need
+needs = need 3 Read ∷ need 3 Write ∷ need 5 Write ∷ []
+
+abbrev pub made : RegionValue
+made = region_with 5 (0 ∷ 1 ∷ [])
+
+abbrev pub machine : Machine
+machine = standing part halves made numbers needs 9 (held Write 41 ∷ [])
+
+abbrev pub before : Before
+before = record { code = program.code; frame = machine.frame; parts = machine.parts }
+
+-- it fits
+abbrev pub ExampleFits : Type 0
+ExampleFits = BeforeFits program (world_of (args_of part halves)) task 0 before
+
+-- ---- states that fail a point each
+
+abbrev pub Misfits : List Value → Machine → Type 0
+Misfits args m = Fits program (world_of args) task 0 m → ⊥
+
+abbrev pub FailsEachPoint : Type 0
+FailsEachPoint =
+    -- a space stands where a number is wanted
+    Misfits (args_of part halves)
+    (standing part halves made (value.Space 3 ∷ value.Number (pos 41) ∷ []) needs 9 (held Write 41 ∷ []))
+    -- a part's kind isn't that of its field
+    × Misfits (args_of part halves)
+    (standing part halves made numbers needs 9 (record (held Write 41) { kind = Int64 } ∷ []))
+    -- a region's root isn't there
+    × Misfits (args_of (region_with 4 (1 ∷ [])) halves)
+    (standing (region_with 4 (1 ∷ [])) halves made numbers needs 9 (held Write 41 ∷ []))
+    -- a number is too great for its type, on the stack and in a part
+    × Misfits (args_of part halves)
+    (standing part halves made (value.Number (pos (2 ^ 31)) ∷ value.Number (pos 41) ∷ []) needs 9
+    (held Write 41 ∷ []))
+    × Misfits (args_of part halves) (standing part halves made numbers needs 9 (held Write (2 ^ 31) ∷ []))
+    -- a partition isn't disjoint, as its flag says, or leaves the region that it is of
+    × Misfits (args_of part (parted_value true (0 ∷ 1 ∷ []) (1 ∷ [])))
+    (standing part (parted_value true (0 ∷ 1 ∷ []) (1 ∷ [])) made numbers needs 9 (held Write 41 ∷ []))
+    × Misfits (args_of part (parted_value true (0 ∷ []) (2 ∷ [])))
+    (standing part (parted_value true (0 ∷ []) (2 ∷ [])) made numbers needs 9 (held Write 41 ∷ []))
+    -- the second region doesn't lie within the first
+    × Misfits (args_of (region_with 5 (1 ∷ [])) halves)
+    (standing (region_with 5 (1 ∷ [])) halves made numbers needs 9 (held Write 41 ∷ []))
+    -- the region that the task made isn't the whole of its root
+    × Misfits (args_of part halves)
+    (standing part halves (region_with 5 (1 ∷ [])) numbers needs 9 (held Write 41 ∷ []))
+    -- a declared need isn't there
+    × Misfits (args_of part halves)
+    (standing part halves made numbers (need 3 Read ∷ need 5 Write ∷ []) 9 (held Write 41 ∷ []))
+    -- a part is held in another mode than that of the needs
+    × Misfits (args_of part halves) (standing part halves made numbers needs 9 (held Read 41 ∷ []))
+    -- with its turns the count of children would pass 64 bits
+    × Misfits (args_of part halves)
+    (standing part halves made numbers needs (2 ^ 64) (held Write 41 ∷ []))
