@@ -45,7 +45,7 @@ inputs_kept [] (z ∷ zs) e = absurd (omega (arith, e))
 inputs_kept (t ∷ ts) [] e = absurd (omega (arith, e))
 inputs_kept (t ∷ ts) (z ∷ zs) e = ap (λ vs. machine.Number z ∷ vs) (inputs_kept ts zs (omega (arith, e)))
 
-least_slots : (least : ℕ) (ls : List Line) → least ≤ slots_of_lines least ls
+pub least_slots : (least : ℕ) (ls : List Line) → least ≤ slots_of_lines least ls
 least_slots least [] = omega arith
 least_slots least (l ∷ ls) = omega (arith, least_slots least ls, (greatest_left (slots_used l.instr) (slots_of_lines least ls)).1)
 

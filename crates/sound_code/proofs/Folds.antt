@@ -1,0 +1,85 @@
+-- The code that folds a number into a variable has marks.
+use Rattle.std.proofs.Common.{◌≡◌, inl, ℕ, ◌<◌, [], ◌∷◌, false, Some, refl, sym, ap, ◌∙◌, subst, arith}
+use Rattle.std.specs.Prelude.{slice_get, length}
+use Rattle.std.proofs.lemmas.List.{length-set}
+use Rattle.std.proofs.lemmas.Option.{same_Some}
+use Rattle.lane_kernels.specs.declared.numbers.Width.{Width}
+use Rattle.regent_tree.specs.declared.expression.Arithmetic.{Arithmetic}
+use Rattle.regent_tree.specs.declared.expression.Comparison.{Comparison}
+use Rattle.task_code.specs.declared.code.TaskCode.{TaskCode}
+use Rattle.task_code.specs.declared.instr.Instr.TheVariants as instr
+use Rattle.code_rules.specs.Instructions.{computing, comparing, one}
+use Rattle.code_rules.specs.Pieces.{◌⨟◌, over}
+use Rattle.code_rules.specs.Slots.{Where, spare}
+use Rattle.fit_rules.specs.Shapes.{Shape, anything, integer, truth, Numeric, numeric_integer, numeric_truth}
+use Rattle.fit_rules.specs.Marks.{Mark, stacked}
+use Rattle.fit_rules.specs.Fits.{Program}
+use Rattle.fit_rules.specs.Sound.{settled_number, does_load, does_compute, does_compare, does_wrap}
+use Rattle.sound_code.specs.Marked.{typed_if}
+use Rattle.sound_code.specs.Named.{Ready}
+use Rattle.sound_code.proofs.Narrowing.{narrow_itself, narrow_set, narrow_into, get_set, get_other}
+use Rattle.sound_code.proofs.Expressions.{Marked, both, does}
+use Rattle.sound_code.proofs.Statements.{set_mark, storing, keeping, into, slot_high}
+
+abbrev IsAny : Shape → Type 0
+IsAny anything = Unit {0}
+IsAny _ = ⊥
+
+module _ (g : Program) (t : TaskCode) (k : ℕ) (w : Where) (m : Mark) (r : Ready w.params w.scope.names m)
+    (ep : w.params ≡ t.params) (s : ℕ) (v : Width) (there : slice_get m.slots s ≡ Some (integer v)) (hi : s < length m.slots) where
+  abbrev V : Shape
+  V = integer v
+
+  wrap_marked : (a : Shape) → Numeric a → Marked g t k (stacked m (a ∷ [])) (one w (instr.Wrap v)) (stacked m (V ∷ []))
+  wrap_marked a n = does g t k (stacked m (a ∷ [])) (instr.Wrap v) w.line (V ∷ []) (does_wrap v a [] n)
+
+  -- with the old value, by a sum or a product
+  pub computed_marked : (o : Arithmetic) (a : Shape) → Numeric a →
+      Marked g t k (stacked m (a ∷ []))
+      (one w (instr.Wrap v) ⨟ one w (instr.Load s) ⨟ one w (computing o v) ⨟ one w (instr.Store s)) (stacked m [])
+  computed_marked o a n = both g t k (wrap_marked a n)
+      (both g t k (does g t k (stacked m (V ∷ [])) (instr.Load s) w.line (V ∷ V ∷ [])
+      (does_load s V (V ∷ []) there (settled_number V (numeric_integer v))))
+      (both g t k (does g t k (stacked m (V ∷ V ∷ [])) (computing o v) w.line (V ∷ [])
+      (does_compute o v V V [] (numeric_integer v) (numeric_integer v)))
+      (keeping g t k m s V [] w.line r.facts (numeric_integer v) hi there)))
+
+  -- the lesser or the greater of both, by a slot of its own
+  module _ (low : spare w 0 < length m.slots) where
+    abbrev u : ℕ
+    u = spare w 0
+
+    abbrev aside : Mark
+    aside = set_mark g t k m u V []
+
+    other : u ≡ s → ⊥
+    other e = subst IsAny (same_Some anything V (sym (r.free u (omega arith) low) ∙ ap (slice_get m.slots) e ∙ there)) tt
+
+    kept_there : slice_get aside.slots s ≡ Some V
+    kept_there = get_other m.slots u s V other ∙ there
+
+    aside_there : slice_get aside.slots u ≡ Some V
+    aside_there = get_set m.slots u V low
+
+    pub chosen_marked : (c : Comparison) (a : Shape) → Numeric a →
+        Marked g t k (stacked m (a ∷ []))
+        (one w (instr.Wrap v) ⨟ one w (instr.Store u) ⨟ one w (instr.Load u) ⨟ one w (instr.Load s)
+        ⨟ one w (comparing c false) ⨟ over instr.JumpIfNot w.line (one w (instr.Load u) ⨟ one w (instr.Store s)))
+        (stacked m [])
+    chosen_marked c a n =
+        let settled = settled_number V (numeric_integer v) in
+        let long : length aside.slots ≡ length m.slots = length-set m.slots u V in
+        let taken = both g t k (does g t k (stacked aside []) (instr.Load u) w.line (V ∷ []) (does_load u V [] aside_there settled))
+        (keeping g t k aside s V [] w.line r.facts (numeric_integer v) (omega (arith, hi, long)) kept_there) in
+        into g t k (both g t k (wrap_marked a n)
+        (both g t k (storing g t k m u V V [] w.line r.facts (omega (arith, slot_high w.params (length w.scope.names) r.low, ep)) low (λ x y h. h))
+        (both g t k (does g t k (stacked aside []) (instr.Load u) w.line (V ∷ []) (does_load u V [] aside_there settled))
+        (both g t k (does g t k (stacked aside (V ∷ [])) (instr.Load s) w.line (V ∷ V ∷ []) (does_load s V (V ∷ []) kept_there settled))
+        (both g t k (does g t k (stacked aside (V ∷ V ∷ [])) (comparing c false) w.line (truth ∷ [])
+        (does_compare c V V [] (numeric_integer v) (numeric_integer v)))
+        (record {
+          marks = _;
+          is = typed_if (stacked aside (truth ∷ [])) truth [] w.line _ _ refl numeric_truth taken.is;
+        }))))))
+        (narrow_into t.params aside m [] (narrow_set m.slots m.slots u V (narrow_itself m.slots) (inl (r.free u (omega arith) low))) r.facts r.facts)
+        (sym long)

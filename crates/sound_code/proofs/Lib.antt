@@ -1,0 +1,12 @@
+pub mod Placed
+pub mod Validity
+pub mod Narrowing
+pub mod Expressions
+pub mod Statements
+pub mod Loops
+pub mod Folds
+pub mod Prints
+pub mod Blocks
+pub mod Remarked
+pub mod Tasks
+pub mod Openings

@@ -1,0 +1,95 @@
+-- Shapes of slots: another one in a slot, and what tells less.
+use Rattle.std.proofs.Common.{◌≡◌, ◌⊎◌, inl, inr, ℕ, zero, suc, ◌<◌, ◌≤◌, List, [], ◌∷◌, Some, refl, sym, ap, ◌∙◌, subst, arith}
+use Rattle.std.specs.Prelude.{slice_get, slice_set, length}
+use Rattle.std.proofs.lemmas.Option.{same_Some}
+use Rattle.regent_tree.specs.declared.typing.Bound.{Bound}
+use Rattle.machine_terms.specs.declared.value.Value.{Value}
+use Rattle.fit_rules.specs.Shapes.{Each, Shape, anything, World, Is, is_anything, Are, are_none, are_more}
+use Rattle.fit_rules.specs.Marks.{Holds, Mark, Into, stacked}
+use Rattle.sound_code.specs.Named.{slot_at, AreNamed, Narrower, narrow_none, narrow_same, narrow_any}
+
+-- ---- slots that are set
+
+pub get_set : {A : Type 0} (xs : List A) (i : ℕ) (a : A) → i < length xs → slice_get (slice_set xs i a) i ≡ Some a
+get_set [] i a l = absurd (omega (arith, l))
+get_set (x ∷ xs) zero a l = refl
+get_set (x ∷ xs) (suc i) a l = get_set xs i a (omega (arith, l))
+
+pub get_other : {A : Type 0} (xs : List A) (i j : ℕ) (a : A) → (i ≡ j → ⊥) →
+    slice_get (slice_set xs i a) j ≡ slice_get xs j
+get_other [] i j a n = refl
+get_other (x ∷ xs) zero zero a n = absurd (n refl)
+get_other (x ∷ xs) zero (suc j) a n = refl
+get_other (x ∷ xs) (suc i) zero a n = refl
+get_other (x ∷ xs) (suc i) (suc j) a n = get_other xs i j a (λ e. n (ap suc e))
+
+-- a value of the shape that its slot has
+pub set_kept : (x : World) (ss : List Shape) (vs : List Value) (i : ℕ) (s : Shape) (v : Value) → Are x ss vs →
+    slice_get ss i ≡ Some s → Is x s v → Are x ss (slice_set vs i v)
+set_kept x _ _ i s v are_none e h = are_none
+set_kept x _ _ zero s v (are_more u w ss vs g a) e h = are_more u v ss vs (subst (λ y. Is x y v) (sym (same_Some u s e)) h) a
+set_kept x _ _ (suc i) s v (are_more u w ss vs g a) e h = are_more u w _ _ g (set_kept x ss vs i s v a e h)
+
+-- ---- narrower shapes
+
+pub narrow_are : (x : World) (ss us : List Shape) (vs : List Value) → Narrower ss us → Are x ss vs → Are x us vs
+narrow_are x _ _ _ narrow_none are_none = are_none
+narrow_are x _ _ _ (narrow_same s ss us n) (are_more _ v _ vs h a) = are_more s v us vs h (narrow_are x ss us vs n a)
+narrow_are x _ _ _ (narrow_any s ss us n) (are_more _ v _ vs h a) =
+    are_more anything v us vs (is_anything v) (narrow_are x ss us vs n a)
+
+pub narrow_itself : (ss : List Shape) → Narrower ss ss
+narrow_itself [] = narrow_none
+narrow_itself (s ∷ ss) = narrow_same s ss ss (narrow_itself ss)
+
+pub narrow_then : (ss us ws : List Shape) → Narrower ss us → Narrower us ws → Narrower ss ws
+narrow_then _ _ _ narrow_none narrow_none = narrow_none
+narrow_then _ _ _ (narrow_same s ss us n) (narrow_same _ _ ws p) = narrow_same s ss ws (narrow_then ss us ws n p)
+narrow_then _ _ _ (narrow_same s ss us n) (narrow_any _ _ ws p) = narrow_any s ss ws (narrow_then ss us ws n p)
+narrow_then _ _ _ (narrow_any s ss us n) (narrow_same _ _ ws p) = narrow_any s ss ws (narrow_then ss us ws n p)
+narrow_then _ _ _ (narrow_any s ss us n) (narrow_any _ _ ws p) = narrow_any s ss ws (narrow_then ss us ws n p)
+
+-- where nothing or the same was told of a slot
+pub narrow_set : (ss us : List Shape) (i : ℕ) (s : Shape) → Narrower ss us →
+    (slice_get us i ≡ Some anything) ⊎ (slice_get us i ≡ Some s) → Narrower (slice_set ss i s) us
+narrow_set _ _ i s narrow_none e = narrow_none
+narrow_set _ _ zero s (narrow_same u ss us n) (inl e) =
+    subst (λ y. Narrower (s ∷ ss) (y ∷ us)) (sym (same_Some _ _ e)) (narrow_any s ss us n)
+narrow_set _ _ zero s (narrow_same u ss us n) (inr e) =
+    subst (λ y. Narrower (s ∷ ss) (y ∷ us)) (sym (same_Some _ _ e)) (narrow_same s ss us n)
+narrow_set _ _ zero s (narrow_any u ss us n) e = narrow_any s ss us n
+narrow_set _ _ (suc i) s (narrow_same u ss us n) e = narrow_same u _ us (narrow_set ss us i s n e)
+narrow_set _ _ (suc i) s (narrow_any u ss us n) e = narrow_any u _ us (narrow_set ss us i s n e)
+
+pub narrow_long : (ss us : List Shape) → Narrower ss us → length ss ≡ length us
+narrow_long _ _ narrow_none = refl
+narrow_long _ _ (narrow_same s ss us n) = ap suc (narrow_long ss us n)
+narrow_long _ _ (narrow_any s ss us n) = ap suc (narrow_long ss us n)
+
+-- a mark of narrower slots leads into the other
+pub narrow_into : (params : ℕ) (m n : Mark) (us : List Shape) → Narrower m.slots n.slots → m.facts ≡ [] →
+    n.facts ≡ [] → Into params (stacked m us) (stacked n us)
+narrow_into params m n us h em en x vs st s = record {
+  slots = narrow_are x _ _ vs h s.slots;
+  stack = s.stack;
+  facts = subst (λ ks. Each (λ k. Holds k vs) ks) (sym en) tt;
+  top = tt;
+  args = s.args;
+}
+
+-- ---- names
+
+slot_below : (params p q : ℕ) → p < q → slot_at params p < slot_at params q
+slot_below params p q h = omega (arith, h)
+
+-- names keep their shapes where a slot behind theirs is set
+pub named_behind : (params : ℕ) (ss : List Shape) (bs : List Bound) (i : ℕ) (s : Shape) → AreNamed params ss bs →
+    slot_at params (length bs) ≤ i → AreNamed params (slice_set ss i s) bs
+named_behind params ss [] i s a l = tt
+named_behind params ss (b ∷ bs) i s a l =
+    let low : slot_at params b.place < i = omega (arith, l, a.0, slot_below params b.place (length (b ∷ bs)) (omega (arith, a.0))) in (
+      a.0,
+      get_other ss i (slot_at params b.place) s (λ e. omega (arith, e, low)) ∙ a.1,
+      a.2,
+      named_behind params ss bs i s a.3 (omega (arith, low, a.0)),
+    )
