@@ -162,7 +162,8 @@ module _ (g : Program) (x : World) (t : TaskCode) (k : ℕ) (m : Machine) (fit :
               callee = callee;
               there = there;
               opens = λ turns depth h. opening_fits g x task callee ws turns depth h some opens.0;
-              within = opens.1;
+              needed = opens.1;
+              within = opens.2;
             },
             tt,
           ),

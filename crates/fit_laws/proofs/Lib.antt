@@ -16,3 +16,6 @@ pub mod Steps
 pub mod Touching
 pub mod Allowing
 pub mod Segments
+pub mod Made
+pub mod Passing
+pub mod Example

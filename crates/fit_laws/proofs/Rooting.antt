@@ -150,7 +150,7 @@ module _ (x : World) (root sp n : ℕ) (fresh : x.there root ≡ false) where
             ∙ ap (λ cs. mode_at cs r f p) (sym (claims_rooted g t h))) (old.cells p));
       }
 
-claims_both : (ns ms : List Need) (rs us : List Requirement) → AreClaims ns rs → AreClaims ms us → AreClaims (ns ++ ms) (rs ++ us)
+pub claims_both : (ns ms : List Need) (rs us : List Requirement) → AreClaims ns rs → AreClaims ms us → AreClaims (ns ++ ms) (rs ++ us)
 claims_both _ ms _ us no_claims b = b
 claims_both _ ms _ us (a_claim n r ns rs e f g a) b = a_claim n r _ _ e f g (claims_both ns ms rs us a b)
 

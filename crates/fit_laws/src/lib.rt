@@ -3,7 +3,9 @@
 //! What fits stands under specs/ of fit_rules. Each function has an empty body; its contract is a law.
 #![tactic(auto)]
 
-ghost use Rattle.fit_laws.specs.Segments.{ChildrenAreWithin, NoSegmentBreaks, PartitionsAreSound, SegmentsKeepFitting, TouchesAreCovered};
+ghost use Rattle.fit_laws.specs.Example.{ExampleEnds, ExampleIsSound};
+ghost use Rattle.fit_laws.specs.Makes.{PartitionsAreMade, RootsAreClaimed};
+ghost use Rattle.fit_laws.specs.Segments.{ChildrenAreWithin, ChildrenPass, NoSegmentBreaks, PartitionsAreSound, SegmentsKeepFitting, TouchesAreCovered};
 
 /// From every Before that fits sound code the After fits again, and the segment isn't a machine fault.
 pub fn segments_keep_fitting()
@@ -16,5 +18,20 @@ pub fn segments_keep_fitting()
 pub fn segments_keep_their_declarations()
     ensures touches { TouchesAreCovered }
     ensures children { ChildrenAreWithin }
+    ensures tested { ChildrenPass }
     ensures partitions { PartitionsAreSound }
+{}
+
+/// What the run in order makes is what a state is asked to go on with: the needs on a new root, and a
+/// partition of its sets.
+pub fn made_things_are_as_asked()
+    ensures roots { RootsAreClaimed }
+    ensures partitions { PartitionsAreMade }
+{}
+
+/// Code that makes a root, and reads and writes through a region that is known to lie within another; from a
+/// state in its middle that fits it ends.
+pub fn example_is_sound()
+    ensures sound { ExampleIsSound }
+    ensures ends { ExampleEnds }
 {}

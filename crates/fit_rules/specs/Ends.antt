@@ -6,6 +6,7 @@ use Rattle.region_tree.specs.declared.needs.Need.{Need}
 use Rattle.region_tree.specs.declared.piece.Part.{Part}
 use Rattle.region_tree.specs.declared.tree.RootId.{RootId}
 use Rattle.region_tree.specs.Requirements.{IsWithin}
+use Rattle.task_code.specs.declared.code.NeedCode.{NeedCode}
 use Rattle.task_code.specs.declared.code.TaskCode.{TaskCode}
 use Rattle.machine_terms.specs.declared.frame.Frame.{Frame}
 use Rattle.machine_terms.specs.declared.outcome.After.{After}
@@ -21,9 +22,10 @@ use Rattle.machine_terms.specs.Machine.{Machine, Stepped, goes, prints, stops}
 use Rattle.machine_terms.specs.Opening.{opening}
 use Rattle.machine_terms.specs.Orders.{settled}
 use Rattle.machine_terms.specs.Parts.{is_needed}
+use Rattle.machine_terms.specs.Pointers.{region_in}
 use Rattle.machine_terms.specs.Regions.{sets_of}
 use Rattle.fit_rules.specs.Shapes.{Among, Each, Shape, anything, NumberIs, World}
-use Rattle.fit_rules.specs.Fits.{Program, AreClaims, root_claims, declared_claims, claims, PartFits, PartsFit, Fits}
+use Rattle.fit_rules.specs.Fits.{Program, count_at, AreClaims, root_claims, declared_claims, claims, PartFits, PartsFit, Fits}
 
 -- the value of an end is of the task's result type
 abbrev pub ResultIs : Shape → Option ℤ → Type 0
@@ -58,13 +60,21 @@ called x vs = record x { results = λ i. anything; children = 0; own = []; args 
 abbrev pub opening_machine : ℕ → ℕ → ℕ → TaskCode → List Value → Machine
 opening_machine turns depth k t vs = record { frame = opening turns depth k t vs; parts = [] }
 
--- A call may be made: the task is there, its opening frame fits, with any number of turns, and what it
--- needs is within what its caller needs.
+-- a declared need is on a region, of a root that has the field
+pub record IsNeeded (g : Program) (x : World) (args : List Value) (n : NeedCode) : Type 0 where
+  pub region : RegionValue
+  pub argument : region_in (slice_get args n.param) ≡ Some region
+  pub there : x.there region.root.0 ≡ true
+  pub field : n.field < count_at g (x.spaces region.root.0)
+
+-- A call may be made: the task is there, its opening frame fits, with any number of turns, its declared
+-- needs are on regions, and what it needs is within what its caller needs.
 pub record CallsWell (g : Program) (x : World) (t : TaskCode) (c : CallOut) : Type 0 where
   pub callee : TaskCode
   pub there : slice_get g.code.tasks c.task ≡ Some callee
   pub opens : (turns depth : ℕ) → turns < 2 ^ 64 →
       Fits g (called x c.args) callee c.task (opening_machine turns depth c.task callee c.args)
+  pub needed : Each (IsNeeded g x c.args) callee.needs
   pub within : IsWithin (declared_claims callee.needs c.args) (claims g x t)
 
 -- ---- roots

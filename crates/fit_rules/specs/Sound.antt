@@ -26,7 +26,7 @@ use Rattle.code_rules.specs.Instructions.{computing, comparing}
 use Rattle.fit_rules.specs.Shapes.{Among, Each, Shape, integer, truth, index, pointer, space, region, partition, awaited, Numeric, NumberIs, World, Are}
 use Rattle.fit_rules.specs.Marks.{counts, lies, in_slot, the_colour, colour_in, Colour, child_in, top_colour, top_lies, top_parted, parted, Mark, Suits, Into, Stores, Settles, stacked, topped}
 use Rattle.fit_rules.specs.Fits.{Program, kind_at, shape_at, Covers, declared_claims, claims}
-use Rattle.fit_rules.specs.Ends.{called}
+use Rattle.fit_rules.specs.Ends.{IsNeeded, called}
 
 -- a shape of which nothing is pending
 pub data Settled : Shape → Type 0 where
@@ -137,12 +137,12 @@ module _ (g : Program) (t : TaskCode) where
       (slice_set (slice_set vs v (value.Number (taken ptr p))) c (value.Number (pos i +ℤ pos 1))) st
 
   -- What a call needs to know: with arguments of these shapes the slots of the called task's opening
-  -- frame suit its first mark, and what the task needs of them is within what the caller needs.
+  -- frame suit its first mark, its declared needs are on regions, and what it needs is within what the caller needs.
   abbrev pub Opens : Mark → ℕ → TaskCode → List Shape → Type 0
   Opens m task callee args = (x : World) (vs st ws : List Value) → Suits x t.params m vs st →
       Are x args ws →
       Suits (called x ws) callee.params (g.marks task 0) (opening 0 0 task callee ws).slots []
-      × IsWithin (declared_claims callee.needs ws) (claims g x t)
+      × Each (IsNeeded g x ws) callee.needs × IsWithin (declared_claims callee.needs ws) (claims g x t)
 
   module _ (k : ℕ) where
     -- what suits a mark may go on at a place

@@ -1,0 +1,194 @@
+-- The example's code is sound.
+use Rattle.std.proofs.Common.{◌≡◌, inl, inr, ℕ, zero, suc, ◌+◌, ◌<◌, ◌≤◌, ◌^◌, pos, List, [], ◌∷◌, true, false, Bool, Some, None, refl, sym, ap, ◌∙◌, subst, arith}
+use Rattle.std.specs.Int.{int_wrap}
+use Rattle.std.specs.Prelude.{slice_get, slice_set, length, get_or, nat_lt}
+use Rattle.std.proofs.lemmas.Int.{ints}
+use Rattle.std.proofs.lemmas.Option.{none-some, same_Some}
+use Rattle.lane_kernels.specs.declared.numbers.Mode.{Mode}
+use Rattle.lane_kernels.specs.declared.numbers.Mode.TheVariants.{Read, Write}
+use Rattle.lane_kernels.specs.declared.numbers.Width.TheVariants.{W32}
+use Rattle.regent_tree.specs.declared.expression.Arithmetic.TheVariants.{Add}
+use Rattle.task_code.specs.declared.code.Line.{Line}
+use Rattle.task_code.specs.declared.instr.Instr.{Instr}
+use Rattle.machine_terms.specs.declared.value.Value.{Value}
+use Rattle.machine_terms.specs.Jumps.{fetch}
+use Rattle.machine_terms.specs.Pointers.{region_in}
+use Rattle.fit_rules.specs.Example.{program, task, body, known, mark, marks, later}
+use Rattle.fit_rules.specs.Shapes.{Each, Shape, anything, integer, index, pointer, space, region, numeric_integer, numeric_index, numeric_pointer, World, Is, is_anything, Are, are_more}
+use Rattle.fit_rules.specs.Marks.{Holds, Mark, Stores}
+use Rattle.fit_rules.specs.Sound.{HasRegion, Allowed, Through, settled_number, does_num, does_load, does_compute, does_element, does_read, does_write, does_space, Sound, straight, stored, makes_root, returns}
+use Rattle.fit_laws.specs.Example.{ExampleIsSound, ExampleEnds}
+use Rattle.fit_laws.proofs.Allowing.{Under, allowed_under}
+use Rattle.fit_laws.proofs.Lookup.{as_long, set_at}
+
+-- ---- lines
+
+abbrev EachAt : (ℕ → Instr → Type 0) → ℕ → List Line → Type 0
+EachAt P pc [] = Unit {0}
+EachAt P pc (l ∷ ls) = P pc l.instr × EachAt P (suc pc) ls
+
+at_place : (P : ℕ → Instr → Type 0) (ls : List Line) (first i : ℕ) (l : Line) → EachAt P first ls → slice_get ls i ≡ Some l →
+    P (first + i) l.instr
+at_place P [] first i l h e = absurd (none-some l e)
+at_place P (m ∷ ls) first zero l h e =
+    let same : first ≡ first + 0 = omega arith in
+    subst (λ pc. P pc l.instr) same (subst (λ (y : Line). P first y.instr) (same_Some m l e) h.0)
+at_place P (m ∷ ls) first (suc i) l h e =
+    let same : suc first + i ≡ first + suc i = omega arith in
+    subst (λ pc. P pc l.instr) same (at_place P ls (suc first) i l h.1 e)
+
+fetched : (P : ℕ → Instr → Type 0) (ls : List Line) → EachAt P 0 ls → (pc : ℕ) (l : Line) → fetch ls pc ≡ Some l → P pc l.instr
+fetched P ls h pc l e = of_test (nat_lt pc (2 ^ 32)) e
+  where
+    of_test : (b : Bool) → elim b [ true ↦ slice_get ls pc | false ↦ None ] ≡ Some l → P pc l.instr
+    of_test true e =
+        let same : 0 + pc ≡ pc = omega arith in subst (λ q. P q l.instr) same (at_place P ls 0 pc l h e)
+    of_test false e = absurd (none-some l e)
+
+-- ---- marks
+
+five : (ms : List Mark) (pc : ℕ) → Each (λ m. length m.slots ≡ 5) ms → length (get_or ms pc (later [])).slots ≡ 5
+five [] pc h = refl
+five (m ∷ ms) zero h = h.0
+five (m ∷ ms) (suc pc) h = five ms pc h.1
+
+is_first : (x : World) (s : Shape) (ss : List Shape) (v : Value) (vs : List Value) → Are x (s ∷ ss) (v ∷ vs) → Is x s v
+is_first x _ _ _ _ (are_more _ _ _ _ h a) = h
+
+-- what is known of the first three slots is so whatever stands behind them
+kept : (a b c : Value) (vs us : List Value) → Each (λ k. Holds k (a ∷ b ∷ c ∷ vs)) known →
+    Each (λ k. Holds k (a ∷ b ∷ c ∷ us)) known
+kept a b c vs us h = (
+  λ r e. let w = h.0 r e in record { other = w.other; at = w.at; inside = w.inside },
+  (λ q e. let w = h.1.0 q e in record { parent = w.parent; at = w.at; root = w.root; inside = w.inside }, tt),
+)
+
+-- the fourth of five slots is another one, or the fifth
+stores_fourth : (element : Shape) (s : Shape) → Stores 3 (mark anything element (s ∷ [])) 3 (mark s element [])
+stores_fourth element s x (a ∷ b ∷ c ∷ d ∷ e ∷ []) st v q = record {
+  slots = set_at x _ (a ∷ b ∷ c ∷ d ∷ e ∷ []) 3 s v q.slots (is_first x s _ v st q.stack);
+  stack = rest q.stack;
+  facts = kept a b c (d ∷ e ∷ []) (v ∷ e ∷ []) q.facts;
+  top = tt;
+  args = args;
+}
+  where
+    rest : Are x (s ∷ []) (v ∷ st) → Are x [] st
+    rest (are_more _ _ _ _ h a) = a
+
+    args : (i : ℕ) → i < 3 → region_in (slice_get (a ∷ b ∷ c ∷ v ∷ e ∷ []) i) ≡ region_in (slice_get x.args i)
+    args zero l = q.args 0 l
+    args (suc zero) l = q.args 1 l
+    args (suc (suc zero)) l = q.args 2 l
+    args (suc (suc (suc i))) l = absurd (omega (arith, l))
+stores_fourth element s x [] st v q = let h = as_long x _ [] q.slots in absurd (omega (arith, h))
+stores_fourth element s x (a ∷ []) st v q = let h = as_long x _ (a ∷ []) q.slots in absurd (omega (arith, h))
+stores_fourth element s x (a ∷ b ∷ []) st v q = let h = as_long x _ (a ∷ b ∷ []) q.slots in absurd (omega (arith, h))
+stores_fourth element s x (a ∷ b ∷ c ∷ []) st v q = let h = as_long x _ (a ∷ b ∷ c ∷ []) q.slots in absurd (omega (arith, h))
+stores_fourth element s x (a ∷ b ∷ c ∷ d ∷ []) st v q = let h = as_long x _ (a ∷ b ∷ c ∷ d ∷ []) q.slots in absurd (omega (arith, h))
+stores_fourth element s x (a ∷ b ∷ c ∷ d ∷ e ∷ f ∷ vs) st v q =
+    let h = as_long x _ (a ∷ b ∷ c ∷ d ∷ e ∷ f ∷ vs) q.slots in absurd (omega (arith, h))
+
+stores_fifth : (own : Shape) (s : Shape) → Stores 3 (mark own anything (s ∷ [])) 4 (mark own s [])
+stores_fifth own s x (a ∷ b ∷ c ∷ d ∷ e ∷ []) st v q = record {
+  slots = set_at x _ (a ∷ b ∷ c ∷ d ∷ e ∷ []) 4 s v q.slots (is_first x s _ v st q.stack);
+  stack = rest q.stack;
+  facts = kept a b c (d ∷ e ∷ []) (d ∷ v ∷ []) q.facts;
+  top = tt;
+  args = args;
+}
+  where
+    rest : Are x (s ∷ []) (v ∷ st) → Are x [] st
+    rest (are_more _ _ _ _ h a) = a
+
+    args : (i : ℕ) → i < 3 → region_in (slice_get (a ∷ b ∷ c ∷ d ∷ v ∷ []) i) ≡ region_in (slice_get x.args i)
+    args zero l = q.args 0 l
+    args (suc zero) l = q.args 1 l
+    args (suc (suc zero)) l = q.args 2 l
+    args (suc (suc (suc i))) l = absurd (omega (arith, l))
+stores_fifth own s x [] st v q = let h = as_long x _ [] q.slots in absurd (omega (arith, h))
+stores_fifth own s x (a ∷ []) st v q = let h = as_long x _ (a ∷ []) q.slots in absurd (omega (arith, h))
+stores_fifth own s x (a ∷ b ∷ []) st v q = let h = as_long x _ (a ∷ b ∷ []) q.slots in absurd (omega (arith, h))
+stores_fifth own s x (a ∷ b ∷ c ∷ []) st v q = let h = as_long x _ (a ∷ b ∷ c ∷ []) q.slots in absurd (omega (arith, h))
+stores_fifth own s x (a ∷ b ∷ c ∷ d ∷ []) st v q = let h = as_long x _ (a ∷ b ∷ c ∷ d ∷ []) q.slots in absurd (omega (arith, h))
+stores_fifth own s x (a ∷ b ∷ c ∷ d ∷ e ∷ f ∷ vs) st v q =
+    let h = as_long x _ (a ∷ b ∷ c ∷ d ∷ e ∷ f ∷ vs) q.slots in absurd (omega (arith, h))
+
+-- ---- accesses
+
+-- through the second region, by the need on the first
+reads_there : (m : List Shape) → Under task (later m) 1 0 Read
+reads_there m = record {
+  need = record { param = 0; field = 0; mode = Read };
+  among = inl refl;
+  its_field = refl;
+  its_mode = refl;
+  param = omega arith;
+  fact = inl refl;
+}
+
+writes_there : (m : List Shape) → Under task (later m) 1 0 Write
+writes_there m = record {
+  need = record { param = 0; field = 0; mode = Write };
+  among = inr (inl refl);
+  its_field = refl;
+  its_mode = refl;
+  param = omega arith;
+  fact = inl refl;
+}
+
+through : (m : List Shape) (a : Mode) → Under task (later m) 1 0 a → Through program task (later m) 0 0 a 1 (1 ∷ [])
+through m a u = (omega arith, (allowed_under program task (later m) 0 0 1 a false refl u, tt))
+
+-- ---- the code
+
+pub example_is_sound : ExampleIsSound
+example_is_sound = record {
+  there = refl;
+  short = omega arith;
+  valid = fetched (Sound program task 0) body (
+    straight _ _ (does_num (pos 2) index [] (omega (arith, ints))) (omega arith, λ x vs st s. s),
+    (
+      straight _ _ (does_space index [] numeric_index) (omega arith, λ x vs st s. s),
+      (
+        makes_root 0 _ [] refl refl (omega arith) (omega arith, λ x vs st s. s),
+        (
+          stored 3 _ [] refl (omega arith) (omega arith, stores_fourth anything (region (Some 0) true)),
+          (
+            straight _ _ (does_num (pos 1) index [] (omega (arith, ints))) (omega arith, λ x vs st s. s),
+            (
+              straight _ _ (does_element 1 (Some 0) index [] (record { made = false; shape = refl }) numeric_index) (omega arith, λ x vs st s. s),
+              (
+                stored 4 _ [] refl (omega arith) (omega arith, stores_fifth (region (Some 0) true) (pointer 1)),
+                (
+                  straight _ _ (does_load 4 (pointer 1) [] refl (settled_number _ (numeric_pointer 1))) (omega arith, λ x vs st s. s),
+                  (
+                    straight _ _ (does_read (1 ∷ []) 0 0 1 [] (through (pointer 1 ∷ []) Read (reads_there _))) (omega arith, λ x vs st s. s),
+                    (
+                      straight _ _ (does_num (pos 1) (integer W32) (integer W32 ∷ []) (omega (arith, ints))) (omega arith, λ x vs st s. s),
+                      (
+                        straight _ _ (does_compute Add W32 (integer W32) (integer W32) [] (numeric_integer W32) (numeric_integer W32)) (omega arith, λ x vs st s. s),
+                        (
+                          straight _ _ (does_load 4 (pointer 1) (integer W32 ∷ []) refl (settled_number _ (numeric_pointer 1))) (omega arith, λ x vs st s. s),
+                          (
+                            straight _ _ (does_write (1 ∷ []) 0 0 1 [] (through (pointer 1 ∷ integer W32 ∷ []) Write (writes_there _))) (omega arith, λ x vs st s. s),
+                            (returns, tt),
+                          ),
+                        ),
+                      ),
+                    ),
+                  ),
+                ),
+              ),
+            ),
+          ),
+        ),
+      ),
+    ),
+  );
+  slots = λ pc. five marks pc (refl, (refl, (refl, (refl, (refl, (refl, (refl, (refl, (refl, (refl, (refl, (refl, (refl, (refl, tt))))))))))))));
+}
+
+pub example_ends : ExampleEnds
+unfolding int_wrap
+example_ends = refl

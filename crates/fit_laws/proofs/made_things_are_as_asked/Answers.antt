@@ -1,0 +1,8 @@
+use Rattle.fit_laws.proofs.Made.{roots_are_claimed, partitions_are_made}
+use Rattle.fit_laws.proofs.made_things_are_as_asked.Goals as goal
+
+pub returns-clause-roots : goal.returns-clause-roots
+returns-clause-roots c = roots_are_claimed
+
+pub returns-clause-partitions : goal.returns-clause-partitions
+returns-clause-partitions c = partitions_are_made
