@@ -1,7 +1,7 @@
 -- The example's code is sound.
-use Rattle.std.proofs.Common.{◌≡◌, inl, inr, ℕ, zero, suc, ◌+◌, ◌<◌, ◌≤◌, ◌^◌, pos, List, [], ◌∷◌, true, false, Bool, Some, None, refl, sym, ap, ◌∙◌, subst, arith}
+use Rattle.std.proofs.Common.{◌≡◌, inl, inr, ℕ, zero, suc, ◌+◌, ◌<◌, ◌^◌, pos, List, [], ◌∷◌, true, false, Bool, Some, None, refl, subst, arith}
 use Rattle.std.specs.Int.{int_wrap}
-use Rattle.std.specs.Prelude.{slice_get, slice_set, length, get_or, nat_lt}
+use Rattle.std.specs.Prelude.{slice_get, length, get_or, nat_lt}
 use Rattle.std.proofs.lemmas.Int.{ints}
 use Rattle.std.proofs.lemmas.Option.{none-some, same_Some}
 use Rattle.lane_kernels.specs.declared.numbers.Mode.{Mode}
@@ -14,9 +14,9 @@ use Rattle.machine_terms.specs.declared.value.Value.{Value}
 use Rattle.machine_terms.specs.Jumps.{fetch}
 use Rattle.machine_terms.specs.Pointers.{region_in}
 use Rattle.fit_rules.specs.Example.{program, task, body, known, mark, marks, later}
-use Rattle.fit_rules.specs.Shapes.{Each, Shape, anything, integer, index, pointer, space, region, numeric_integer, numeric_index, numeric_pointer, World, Is, is_anything, Are, are_more}
+use Rattle.fit_rules.specs.Shapes.{Each, Shape, anything, integer, index, pointer, region, numeric_integer, numeric_index, numeric_pointer, World, Is, Are, are_more}
 use Rattle.fit_rules.specs.Marks.{Holds, Mark, Stores}
-use Rattle.fit_rules.specs.Sound.{HasRegion, Allowed, Through, settled_number, does_num, does_load, does_compute, does_element, does_read, does_write, does_space, Sound, straight, stored, makes_root, returns}
+use Rattle.fit_rules.specs.Sound.{Through, settled_number, does_num, does_load, does_compute, does_element, does_read, does_write, does_space, Sound, straight, stored, makes_root, returns}
 use Rattle.fit_laws.specs.Example.{ExampleIsSound, ExampleEnds}
 use Rattle.fit_laws.proofs.Allowing.{Under, allowed_under}
 use Rattle.fit_laws.proofs.Lookup.{as_long, set_at}

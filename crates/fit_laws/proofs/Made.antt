@@ -1,5 +1,5 @@
 -- What the run in order makes is what is asked of what is made.
-use Rattle.std.proofs.Common.{◌≡◌, inl, inr, ℕ, zero, suc, ◌+◌, List, [], ◌∷◌, map, cond, refl, sym, ap, ◌∙◌, subst, arith}
+use Rattle.std.proofs.Common.{◌≡◌, inl, inr, ℕ, zero, suc, ◌+◌, List, [], ◌∷◌, map, cond, refl, sym, ap, subst, arith}
 use Rattle.std.specs.Prelude.{length}
 use Rattle.std.proofs.lemmas.Bool.{ne_eqb}
 use Rattle.lane_kernels.specs.declared.numbers.Mode.TheVariants as mode

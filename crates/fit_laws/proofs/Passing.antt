@@ -1,5 +1,5 @@
 -- A call that may be made passes the tests of the run in order.
-use Rattle.std.proofs.Common.{◌≡◌, ℕ, ◌<◌, List, [], ◌∷◌, Option, Some, None, refl, sym, ap, ◌∙◌, subst}
+use Rattle.std.proofs.Common.{◌≡◌, List, [], ◌∷◌, Some, None, refl, sym, ap, ◌∙◌}
 use Rattle.std.specs.Prelude.{cond, length, nat_lt, slice_get}
 use Rattle.std.proofs.lemmas.Bool.{lt-ltb}
 use Rattle.region_tree.proofs.Covering.{within_tells}
@@ -8,7 +8,7 @@ use Rattle.task_code.specs.declared.code.TaskCode.{TaskCode}
 use Rattle.machine_terms.specs.declared.order.Contents.{Contents}
 use Rattle.machine_terms.specs.declared.outcome.CallOut.{CallOut}
 use Rattle.machine_terms.specs.declared.value.Value.{Value}
-use Rattle.machine_terms.specs.Contents.{kinds_of, image_of}
+use Rattle.machine_terms.specs.Contents.{kinds_of}
 use Rattle.machine_terms.specs.Opening.{required_before, required_on, requirements_on}
 use Rattle.machine_terms.specs.Pointers.{region_in}
 use Rattle.fit_rules.specs.Shapes.{Each, World}
