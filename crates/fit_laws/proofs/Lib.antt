@@ -12,6 +12,7 @@ pub mod Calls
 pub mod Making
 pub mod Rooting
 pub mod Columns
+pub mod Settling
 pub mod Steps
 pub mod Touching
 pub mod Allowing

@@ -17,8 +17,8 @@ use Rattle.machine_terms.specs.Numbers.{load, store}
 use Rattle.machine_terms.specs.Jumps.{fetch, may_jump, jump, leave, round, count_round, next_number, size_of, point_at, take_point, point_round, points_round}
 use Rattle.machine_terms.specs.Regions.{child, child_at, coloured, partition_in, with_partition}
 use Rattle.machine_terms.specs.Segments.{act, act_at, step}
-use Rattle.fit_rules.specs.Shapes.{Among, Shape, integer, truth, index, pointer, space, region, awaited, IsPartition, is_region, is_pending, Numeric, numeric_integer, numeric_truth, numeric_index, numeric_pointer, NumberIs, World, Is, is_number, Are, are_more}
-use Rattle.fit_rules.specs.Marks.{HasNumber, Colour, colour_in, HasColour, child_in, top_colour, top_lies, HoldsTop, Settles, topped, Fact, counts, parted, lies, in_slot, Holds, AtMost, size_in, Mark, Suits, stacked}
+use Rattle.fit_rules.specs.Shapes.{Among, Each, Shape, integer, truth, index, pointer, space, region, awaited, IsPartition, is_region, is_pending, Numeric, numeric_integer, numeric_truth, numeric_index, numeric_pointer, NumberIs, World, Is, is_number, Are, are_more}
+use Rattle.fit_rules.specs.Marks.{HasNumber, Colour, colour_in, HasColour, child_in, top_colour, top_lies, HoldsTop, ColoursStand, topped, Fact, counts, parted, lies, in_slot, Holds, AtMost, size_in, Mark, Suits, stacked}
 use Rattle.fit_rules.specs.Fits.{Program, Fits}
 use Rattle.fit_rules.specs.Sound.{HasPartition, To, ToStored, RoundNumber, RoundPoint, Sound, straight, colours, colours_by, takes_child, awaits, stored, jumps, jumps_if_not, jumps_and, jumps_or, counts_numbers, counts_points, makes_root, makes_equal, makes_by_field, makes_minus, makes_meet, makes_join, makes_image, makes_preimage, makes_call, takes_turn, returns, returns_value, Valid}
 use Rattle.fit_rules.specs.Ends.{Safe, safe_goes, safe_stops}
@@ -29,6 +29,7 @@ use Rattle.fit_laws.proofs.Calls.{call_safe}
 use Rattle.fit_laws.proofs.Columns.{by_field_safe, image_safe, preimage_safe}
 use Rattle.fit_laws.proofs.Rooting.{new_root_safe}
 use Rattle.fit_laws.proofs.Making.{equal_safe, minus_safe, meet_safe, join_safe}
+use Rattle.fit_laws.proofs.Settling.{settles}
 use Rattle.fit_laws.proofs.Effects.{effect_safe}
 
 below_or_same : (a b : ℕ) → a ≤ b → (a < b) ⊎ (a ≡ b)
@@ -221,7 +222,7 @@ module _ (g : Program) (x : World) (t : TaskCode) (k : ℕ) (m : Machine) (fit :
 
   -- ---- results
 
-  awaited_safe : (i : ℕ) (s : Shape) → slice_get here.slots i ≡ Some (awaited s) → Numeric s → Settles t.params here →
+  awaited_safe : (i : ℕ) (s : Shape) → slice_get here.slots i ≡ Some (awaited s) → Numeric s → Each (ColoursStand here.slots) here.facts →
       To g t k (stacked here (s ∷ here.stack)) (suc m.frame.pc) → Safe g x t k (load m (slice_get m.frame.slots i))
   awaited_safe i s e n h to =
       let v = value_at x _ _ i (awaited s) fit.suits.slots e in
@@ -237,7 +238,7 @@ module _ (g : Program) (x : World) (t : TaskCode) (k : ℕ) (m : Machine) (fit :
           l,
           λ z q. record {
             inside = fit.inside;
-            suits = h x _ _ j z fit.suits q;
+            suits = settles t.params here h x _ _ j z fit.suits q;
             beside = record {
               task = fit.beside.task;
               needs = fit.beside.needs;

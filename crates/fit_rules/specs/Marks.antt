@@ -1,5 +1,5 @@
 -- Marks: what is known of a frame at a place of compiled code.
-use Rattle.std.specs.Prelude.{◌≡◌, ℕ, ℤ, pos, ◌<◌, ◌≤◌, List, [], ◌∷◌, map, true, false, Option, Some, None, slice_get, slice_set}
+use Rattle.std.specs.Prelude.{◌≡◌, ℕ, ℤ, pos, ◌<◌, ◌≤◌, List, [], ◌∷◌, true, false, Option, Some, None, slice_get, slice_set}
 use Rattle.plain_values.specs.Points.{has}
 use Rattle.machine_terms.specs.declared.value.PartitionValue.{PartitionValue}
 use Rattle.machine_terms.specs.declared.value.RegionValue.{RegionValue}
@@ -8,8 +8,7 @@ use Rattle.machine_terms.specs.declared.value.Value.TheVariants as value
 use Rattle.machine_terms.specs.Jumps.{size_of}
 use Rattle.machine_terms.specs.Pointers.{region_in}
 use Rattle.machine_terms.specs.Regions.{partition_in, coloured}
-use Rattle.machine_terms.specs.Orders.{settled}
-use Rattle.fit_rules.specs.Shapes.{Among, Each, Shape, NumberIs, World, Are}
+use Rattle.fit_rules.specs.Shapes.{Among, Each, Shape, Numeric, World, Are}
 
 -- ---- facts of regions in slots
 
@@ -86,6 +85,22 @@ Holds (parted p s) slots = (q : PartitionValue) → partition_in (slice_get slot
     IsParted slots q s
 Holds (counts c s) slots = AtMost (size_in (slice_get slots s)) (slice_get slots c)
 
+-- a colour in a slot is a number already, and so are those that a fact names
+abbrev pub IsStanding : List Shape → Colour → Type 0
+IsStanding ss (the_colour z) = Unit {0}
+IsStanding ss (colour_in s) = (a : Shape) × (slice_get ss s ≡ Some a) × Numeric a
+IsStanding ss any_colour = Unit {0}
+
+abbrev pub SpotStands : List Shape → Spot → Type 0
+SpotStands ss (in_slot s) = Unit {0}
+SpotStands ss (child_in p c) = IsStanding ss c
+
+abbrev pub ColoursStand : List Shape → Fact → Type 0
+ColoursStand ss (lies a b) = SpotStands ss a
+ColoursStand ss (apart a b) = SpotStands ss a × SpotStands ss b
+ColoursStand ss (parted p s) = Unit {0}
+ColoursStand ss (counts c s) = Unit {0}
+
 -- ---- facts of the top of the stack
 
 -- The number on top is a colour; the region on top lies within another one; the partition on top is
@@ -133,8 +148,3 @@ Into params m n =
 abbrev pub Stores : ℕ → Mark → ℕ → Mark → Type 0
 Stores params m s n = (x : World) (vs st : List Value) (v : Value) →
     Suits x params m vs (v ∷ st) → Suits x params n (slice_set vs s v) st
-
--- what suits a mark suits it also once a child's value stands in the slots that wait for it
-abbrev pub Settles : ℕ → Mark → Type 0
-Settles params m = (x : World) (vs st : List Value) (i : ℕ) (z : ℤ) → Suits x params m vs st →
-    NumberIs (x.results i) z → Suits x params m (map (settled i z) vs) st

@@ -24,7 +24,7 @@ use Rattle.machine_terms.specs.Opening.{opening}
 use Rattle.machine_terms.specs.Pointers.{region_in}
 use Rattle.code_rules.specs.Instructions.{computing, comparing}
 use Rattle.fit_rules.specs.Shapes.{Among, Each, Shape, integer, truth, index, pointer, space, region, partition, awaited, Numeric, NumberIs, World, Are}
-use Rattle.fit_rules.specs.Marks.{counts, lies, in_slot, the_colour, colour_in, Colour, child_in, top_colour, top_lies, top_parted, parted, Mark, Suits, Into, Stores, Settles, stacked, topped}
+use Rattle.fit_rules.specs.Marks.{counts, lies, in_slot, the_colour, colour_in, Colour, child_in, top_colour, top_lies, top_parted, parted, Mark, Suits, Into, Stores, ColoursStand, stacked, topped}
 use Rattle.fit_rules.specs.Fits.{Program, kind_at, shape_at, Covers, declared_claims, claims}
 use Rattle.fit_rules.specs.Ends.{IsNeeded, called}
 
@@ -175,7 +175,7 @@ module _ (g : Program) (t : TaskCode) where
           Sound pc (instr.Child i)
       -- the slot may hold a child that is pending
       awaits : (i : ℕ) (s : Shape) → slice_get (g.marks k pc).slots i ≡ Some (awaited s) → Numeric s →
-          Settles t.params (g.marks k pc) → To (stacked (g.marks k pc) (s ∷ (g.marks k pc).stack)) (suc pc) →
+          Each (ColoursStand (g.marks k pc).slots) (g.marks k pc).facts → To (stacked (g.marks k pc) (s ∷ (g.marks k pc).stack)) (suc pc) →
           Sound pc (instr.Load i)
       stored : (s : ℕ) (a : Shape) (ss : List Shape) → (g.marks k pc).stack ≡ a ∷ ss →
           s < length (g.marks k pc).slots → ToStored (g.marks k pc) s (suc pc) →
