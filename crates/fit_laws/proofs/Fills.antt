@@ -1,4 +1,4 @@
--- Fills.
+-- Fills: a number is written at each point of a region.
 use Rattle.std.proofs.Common.{◌≡◌, inl, inr, ℕ, suc, ℤ, List, [], ◌∷◌, Bool, true, false, ◌||◌, Some, refl, sym, ap, ◌∙◌, subst}
 use Rattle.std.specs.Prelude.{◌==◌}
 use Rattle.std.specs.List.{list_any}

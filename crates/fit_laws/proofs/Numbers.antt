@@ -1,4 +1,4 @@
--- Numbers of shapes.
+-- Numbers of shapes: what is wrapped, compared or kept in a field is of its shape.
 use Rattle.std.proofs.Common.{inl, inr, ℕ, ◌%◌, ◌^◌, ◌<◌, ℤ, pos, Bool, true, false, refl, sym, subst, arith}
 use Rattle.std.proofs.lemmas.Int.{ints, SFits-int_wrap, int_wrap_fits}
 use native.Mathlib.Nat.{mod-lt}
