@@ -1,22 +1,24 @@
 -- What holds at each place of a running task of a program without a breach.
 --
--- What is fixed at a place of the text: the facts hold, the roots that were made are the task's own, and
--- the regions of parameters are those of the arguments. What a state keeps: names have values of their
+-- What is fixed at a place of the text: the facts hold, the roots that were made are the task's own, the
+-- regions of parameters are those of the arguments, and partitions are of their parents' roots. What a state keeps: names have values of their
 -- kinds, and each touch so far is covered.
 use Rattle.std.specs.Prelude.{Contains, List, [], ◌∷◌, false, get_or, length, true, ℕ, ℤ, ◌<◌, ◌≡◌, ◌≤◌}
 use Rattle.regent_tree.specs.Cover.{is_covered}
 use Rattle.regent_tree.specs.Evaluation.{first_type, other_types}
 use Rattle.regent_tree.specs.Running.{Calls, Called, Result, State, broke, came_back, fails, gives}
-use Rattle.regent_tree.specs.Scopes.{Scope}
+use Rattle.std.specs.List.Sorted.{IsStrictlyIncreasing}
+use Rattle.regent_tree.specs.Scopes.{Scope, bound_as}
 use Rattle.regent_tree.specs.StaticTypes.{task_named}
 use Rattle.regent_tree.specs.Store.{Store, Touch}
 use Rattle.regent_tree.specs.Syntax.{Expression, Expressions, Name, TaskTree, Tree, an_expr, no_expr}
 use Rattle.regent_tree.specs.Typing.{colour_of, param_types, result_type, type_of}
 use Rattle.regent_tree.specs.Values.{Partition, Region, Value, a_truth, no_region, partition_of, region_of}
 use Rattle.regent_tree.specs.declared.facts.Known.{Known}
-use Rattle.regent_tree.specs.declared.facts.Known.TheVariants.{Made}
+use Rattle.regent_tree.specs.declared.facts.Known.TheVariants.{Made, PartOf}
 use Rattle.check_rules.specs.types.Sorts.{is_region, type_at}
 use Rattle.regent_tree.specs.declared.typing.StaticType.{StaticType}
+use Rattle.regent_tree.specs.declared.typing.StaticType.TheVariants.{Partition as partition_type}
 use Rattle.expression_laws.specs.Kinds.{IsOfType, NamesFit, number_stood_for}
 use Rattle.fact_laws.specs.Regions.{AllHold, IsColour, IsIn, Interpretation, child_at}
 
@@ -36,17 +38,24 @@ abbrev pub AreGivenRegions : Instance → Interpretation → Type 0
 AreGivenRegions x m = (i : ℕ) → is_region (type_at (param_types x.tree x.task) i) ≡ true →
     m.region i ≡ region_of (get_or x.args i (a_truth false))
 
+-- a partition in scope is known as one of its parent, and is of its parent's root
+abbrev pub IsOfParent : Interpretation → List Known → StaticType → Type 0
+IsOfParent m known (partition_type d r p) = Contains known (PartOf p r d) × ((m.partition p).root ≡ (m.region r).root)
+IsOfParent m known t = Unit {0}
+
 pub record IsSoundPlace (x : Instance) (m : Interpretation) (s : Scope) : Type 0 where
   pub holds : AllHold m s.known
   pub own : AreOwnRoots x.roots m s.known
   pub params : AreGivenRegions x m
+  pub parents : (i : ℕ) → IsOfParent m s.known (bound_as s.names i).static_type
 
 abbrev pub AreCovered : Instance → List Touch → Type 0
 AreCovered x touches = (t : Touch) → Contains touches t → is_covered x.tree x.roots x.task x.args t ≡ true
 
--- each point of a region is of a root that is there
-abbrev pub IsInStore : ℕ → Region → Type 0
-IsInStore count r = (root point : ℕ) → IsIn r root point → root < count
+-- each point of a region is of a root that is there, and the points rise
+pub record IsInStore (count : ℕ) (r : Region) : Type 0 where
+  pub below : (root point : ℕ) → IsIn r root point → root < count
+  pub rising : IsStrictlyIncreasing r.points
 
 -- so it is with the regions of names, and with the children of partitions
 pub record AreInStore (m : Interpretation) (count : ℕ) : Type 0 where

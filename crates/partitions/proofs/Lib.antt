@@ -1,7 +1,7 @@
-mod Apart
-mod Colours
+pub mod Apart
+pub mod Colours
 mod Gathering
-mod Inside
+pub mod Inside
 mod LinkLists
-mod Pairs
+pub mod Pairs
 mod Reached

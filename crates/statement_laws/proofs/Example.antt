@@ -2,9 +2,11 @@
 use Rattle.std.proofs.Common.{arith, [], false, true, refl, ap, cond, sym, subst, ℕ, zero, suc, ◌==◌, ◌≡◌, ◌<◌}
 use Rattle.regent_tree.proofs.Members.{Has-from_Contains}
 use Rattle.regent_tree.specs.Scopes.{Scope, bound_as, scope_of, unbound}
+use Rattle.point_sets.proofs.Rising.{rising-counted_from}
+use Rattle.regent_tree.specs.declared.typing.Bound.{Bound}
 use Rattle.check_rules.specs.types.Sorts.{is_region, type_at}
 use Rattle.expression_laws.specs.Kinds.{IsWellScoped, IsWellScopedBinding, NamesFit, is_region_of}
-use Rattle.expression_laws.specs.Sound.{AreGivenRegions, Instance, IsInStore, IsSoundPlace, IsSoundState}
+use Rattle.expression_laws.specs.Sound.{AreGivenRegions, Instance, IsInStore, IsOfParent, IsSoundPlace, IsSoundState}
 use Rattle.regent_tree.specs.Typing.{param_types}
 use Rattle.statement_laws.specs.Example.{ExampleHolds, example_args, example_interpretation, example_state, example_task, example_tree}
 use Rattle.statement_laws.specs.Steady.{IsStaticPlace}
@@ -41,8 +43,12 @@ names_fit zero = record { is_of = is_region_of refl; colour = λ e. absurd cc }
 names_fit (suc i) = unbound_fits example_interpretation (suc i) (bound_as s.names (suc i)) _ (no_other i)
 
 in_store : (i : ℕ) → IsInStore 1 (example_interpretation.region i)
-in_store zero = λ root n is. let e = is.0 in omega (arith, e)
+in_store zero = record { below = λ root n is. let e = is.0 in omega (arith, e); rising = rising-counted_from 0 2 }
 in_store (suc i) = none_in_store 1
+
+no_parents : (i : ℕ) → IsOfParent example_interpretation s.known (bound_as s.names i).static_type
+no_parents zero = tt
+no_parents (suc i) = subst (λ (b : Bound). IsOfParent example_interpretation s.known b.static_type) (sym (no_other i)) tt
 
 static_place : IsStaticPlace x s
 static_place = record {
@@ -57,6 +63,7 @@ sound_place = record {
   holds = λ k c. absurd (Has-from_Contains [] k c);
   own = λ i c. absurd (Has-from_Contains [] _ c);
   params = given_regions;
+  parents = no_parents;
 }
 
 sound_state : IsSoundState x example_interpretation s example_state

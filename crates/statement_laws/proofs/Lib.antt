@@ -11,5 +11,9 @@ pub mod Assignments
 pub mod Variables
 pub mod TypedVariables
 pub mod Regions
+pub mod Parts
+pub mod Cuttings
+pub mod CutVariables
+pub mod Starts
 pub mod Tasks
 pub mod Example

@@ -18,15 +18,16 @@ use Rattle.regent_tree.specs.declared.types.TypeTerm.TheVariants as typed_as
 use Rattle.check_laws.specs.SoundScopes.{IsSoundScope}
 use Rattle.expression_laws.specs.Kinds.{IsOfType, TypeBelow}
 use Rattle.fact_laws.specs.Regions.{Interpretation}
-use Rattle.expression_laws.specs.Sound.{IsNoCollection, AreSoundAnswers, IsValueOf, Instance, IsSoundAnswer, IsSoundPlace, IsSoundState, KeepsSound}
+use Rattle.expression_laws.specs.Sound.{IsNoCollection, IsOfParent, AreSoundAnswers, IsValueOf, Instance, IsSoundAnswer, IsSoundPlace, IsSoundState, KeepsSound}
 use Rattle.statement_laws.specs.Steady.{GoesOnSound, KnowsMore, IsStaticPlace}
 use Rattle.expression_laws.specs.Writing.{IsWritten}
-use Rattle.statement_laws.proofs.Agree.{agree_back, agree_then, emptied, place_too}
+use Rattle.statement_laws.proofs.Agree.{agree_back, agree_then, emptied, parents_with, place_too}
 use Rattle.std.proofs.Common.{inl, inr, pos, ◌+ℤ◌}
 use Rattle.lane_kernels.specs.declared.numbers.Width.{Width}
 use Rattle.plain_values.specs.Points.{points}
 use Rattle.regent_tree.specs.Execution.{counting, items_of, round, rounds}
 use Rattle.regent_tree.specs.Scopes.{bound_as, with_name}
+use Rattle.regent_tree.specs.declared.facts.Known.{Known}
 use Rattle.regent_tree.specs.Typing.{taken_from}
 use Rattle.regent_tree.specs.Values.{a_number, a_pointer, an_index, point_target}
 use Rattle.regent_tree.specs.declared.typing.StaticType.{StaticType}
@@ -119,7 +120,7 @@ module _ (task : TaskTree) (args : List Value) (roots : ℕ) where
   -- ---- loops over values
 
   -- one turn of a loop with a variable, where later bindings stand for nothing before each turn
-  module _ (h : Here) (m : Interpretation) (r : IsReady task args roots (emptied h.scope.next m) h) (n : Name) (ty : StaticType) (below : TypeBelow h.scope.next ty)
+  module _ (h : Here) (m : Interpretation) (r : IsReady task args roots (emptied h.scope.next m) h) (n : Name) (ty : StaticType) (below : TypeBelow h.scope.next ty) (unparted : (b : Interpretation) → IsOfParent b h.scope.known ty)
       (t : Scope) (more : IsMore (with_name h.scope n ty true) t) (grows : KnowsMore h.scope (past h.scope t)) (body : Run Going)
       (bodies : (b : Interpretation) → IsSoundPlace (inst h) b (with_name h.scope n ty true) → (w : State) → IsSoundState (inst h) b (with_name h.scope n ty true) w →
       GoesOnSound (inst h) b (suc h.scope.next) t (body w)) where
@@ -154,7 +155,7 @@ module _ (task : TaskTree) (args : List Value) (roots : ℕ) where
             } in
             leaves (inst h) m0 h.scope t (length w.names) h.scope.next (body (record w { names = w.names ++ v ∷ [] })) r.scope r.static more_names st.counted
             (rebased (inst h) m0 b h.scope.next (suc h.scope.next) t (body (record w { names = w.names ++ v ∷ [] })) e (omega (arith))
-            (bodies b (record { holds = place.holds; own = place.own; params = place.params }) (record w { names = w.names ++ v ∷ [] }) inner))
+            (bodies b (record { holds = place.holds; own = place.own; params = place.params; parents = parents_with b h.scope.known h.scope n ty true (unparted b) place.parents }) (record w { names = w.names ++ v ∷ [] }) inner))
 
         paid : (w : State) → IsSoundState (inst h) m0 h.scope w → (turns : ℕ) → Turns_go (and_then (pay_from turns h w) (λ _ u. leaving (length u.names) (body (record u { names = u.names ++ v ∷ [] }))))
         paid w st zero = st.covered
@@ -197,6 +198,18 @@ module _ (task : TaskTree) (args : List Value) (roots : ℕ) where
   items_are m (partition_type d q p) v e is w g = absurd cc
   items_are m no_type v e is w g = absurd cc
   items_are m unknown_type v e is w g = absurd cc
+
+  -- and is no partition
+  pub taken_unparted : (b : Interpretation) (known : List Known) (t : StaticType) → IsOfParent b known (taken_from t)
+  taken_unparted b known (region_type k sp types t) = tt
+  taken_unparted b known (ispace_type k) = tt
+  taken_unparted b known (integer_type y) = tt
+  taken_unparted b known truth_type = tt
+  taken_unparted b known (index_type k) = tt
+  taken_unparted b known (pointer_type k sp types terms) = tt
+  taken_unparted b known (partition_type d q p) = tt
+  taken_unparted b known no_type = tt
+  taken_unparted b known unknown_type = tt
 
   pub taken_below : (n : ℕ) (t : StaticType) → TypeBelow n t → TypeBelow n (taken_from t)
   taken_below n (region_type k sp types t) l = (l, tt)

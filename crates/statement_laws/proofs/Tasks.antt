@@ -10,7 +10,7 @@ use Rattle.expression_laws.specs.Sound.{AreCovered, Instance}
 use Rattle.statement_laws.specs.Steady.{GoesOnSound}
 use Rattle.check_laws.proofs.Bodies.{body_told}
 use Rattle.statement_laws.proofs.Leaves.{leaves_go}
-use Rattle.statement_laws.proofs.Regions.{variables_go}
+use Rattle.statement_laws.proofs.Starts.{variables_go}
 use Rattle.statement_laws.proofs.Statements.{block_goes, form_goes}
 use Rattle.statement_laws.specs.Laws.{BodiesAreCovered, StatementsKeep, state_of}
 
@@ -20,15 +20,14 @@ covered_there x m n t (gives (returned v) u) goes = goes
 covered_there x m n t (fails f u) goes = goes
 
 pub statements_keep : StatementsKeep
-statements_keep task args roots untreated form h =
-    form_goes task args roots (leaves_go task args roots (variables_go task args roots untreated)) form h
+statements_keep task args roots form h = form_goes task args roots (leaves_go task args roots (variables_go task args roots)) form h
 
 pub bodies_are_covered : BodiesAreCovered
-bodies_are_covered tree calls task args roots m none stands written answers untreated u opening =
+bodies_are_covered tree calls task args roots m none stands written answers u opening =
     let x : Instance = record { tree = tree; task = task; args = args; roots = roots } in
     let told = body_told tree task none stands in
     covered_there x m (scope_of tree task).next (scope_after_block tree (scope_of tree task) task.body)
     (exec_block (body_of tree calls task) task.body u)
-    (block_goes task args roots (leaves_go task args roots (variables_go task args roots untreated)) task.body (body_of tree calls task) m
+    (block_goes task args roots (leaves_go task args roots (variables_go task args roots)) task.body (body_of tree calls task) m
     (record { sound = told.sound; sound_task = told.sound_task; scope = told.scope; static = opening.static; place = opening.place; answers = answers })
     told.told written u opening.state)

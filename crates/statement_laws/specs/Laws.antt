@@ -13,18 +13,12 @@ use Rattle.fact_laws.specs.Regions.{Interpretation}
 use Rattle.expression_laws.specs.Sound.{AreCovered, AreSoundAnswers, Instance, IsSoundPlace, IsSoundState}
 use Rattle.statement_laws.specs.Places.{FormGoes}
 use Rattle.statement_laws.specs.Steady.{IsStaticPlace}
-use Rattle.statement_laws.specs.Untreated.{IsUntreated}
 use Rattle.statement_laws.specs.WrittenStatements.{IsWrittenBlock}
 
--- the statements of which the laws don't speak yet keep what holds
-abbrev pub UntreatedKeep : TaskTree → List Value → ℕ → Type 0
-UntreatedKeep task args roots = (form : Form) (h : Here) → IsUntreated h form → FormGoes task args roots h form
-
--- Where these do, every statement keeps what holds: loops, choices and blocks, variables, writes,
--- reductions, fills, calls, and what is returned.
+-- Every statement keeps what holds: loops, choices and blocks, variables, partition operations among them,
+-- writes, reductions, fills, calls, and what is returned.
 abbrev pub StatementsKeep : Type 0
-StatementsKeep = (task : TaskTree) (args : List Value) (roots : ℕ) → UntreatedKeep task args roots →
-    (form : Form) (h : Here) → FormGoes task args roots h form
+StatementsKeep = (task : TaskTree) (args : List Value) (roots : ℕ) (form : Form) (h : Here) → FormGoes task args roots h form
 
 -- what holds where a body begins
 pub record IsSoundOpening (x : Instance) (m : Interpretation) (u : State) : Type 0 where
@@ -41,7 +35,7 @@ state_of (fails f u) = u
 -- the calls in it give of their result types.
 abbrev pub BodiesAreCovered : Type 0
 BodiesAreCovered = (tree : Tree) (calls : Calls) (task : TaskTree) (args : List Value) (roots : ℕ) (m : Interpretation) →
-    breaches tree ≡ [] → StandsIn tree task → IsWrittenBlock task.body → AreSoundAnswers m tree calls → UntreatedKeep task args roots →
+    breaches tree ≡ [] → StandsIn tree task → IsWrittenBlock task.body → AreSoundAnswers m tree calls →
     (u : State) → IsSoundOpening (record { tree = tree; task = task; args = args; roots = roots }) m u →
     AreCovered (record { tree = tree; task = task; args = args; roots = roots })
     (state_of (exec_block (body_of tree calls task) task.body u)).touches

@@ -1,6 +1,5 @@
 pub mod Steady
 pub mod WrittenStatements
 pub mod Places
-pub mod Untreated
 pub mod Laws
 pub mod Example

@@ -7,12 +7,12 @@
 ghost use Rattle.statement_laws.specs.Example.{ExampleHolds};
 ghost use Rattle.statement_laws.specs.Laws.{BodiesAreCovered, StatementsKeep};
 
-/// Every statement keeps what holds at a place, where those do of which the laws don't speak yet.
+/// Every statement keeps what holds at a place.
 pub fn statements_keep()
     ensures { StatementsKeep }
 {}
 
-/// Each touch of a body is covered by what its task declares, where those statements keep what holds.
+/// Each touch of a body is covered by what its task declares.
 pub fn bodies_are_covered()
     ensures { BodiesAreCovered }
 {}
