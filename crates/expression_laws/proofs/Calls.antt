@@ -247,7 +247,7 @@ call_parts tree task s c e =
       allowed = rule_none (lacks tree task s (wanted_by_call tree c)) rule.CallPrivilege l.0;
     }
 
-bound_count : (tree : Tree) (all : List Param) (i : ℕ) (ps : List Param) → length (bound_params tree all i ps) ≡ length ps
+pub bound_count : (tree : Tree) (all : List Param) (i : ℕ) (ps : List Param) → length (bound_params tree all i ps) ≡ length ps
 bound_count tree all i [] = refl
 bound_count tree all i (p ∷ ps) =
     let rest = bound_count tree all (suc i) ps in

@@ -6,5 +6,6 @@ pub mod Steps
 pub mod Values
 pub mod Writes
 pub mod Joins
+pub mod Params
 pub mod Calls
 pub mod Laws

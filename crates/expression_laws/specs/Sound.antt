@@ -3,12 +3,12 @@
 -- What is fixed at a place of the text: the facts hold, the roots that were made are the task's own, the
 -- regions of parameters are those of the arguments, and partitions are of their parents' roots. What a state keeps: names have values of their
 -- kinds, and each touch so far is covered.
-use Rattle.std.specs.Prelude.{Contains, List, [], ◌∷◌, false, get_or, length, true, ℕ, ℤ, ◌<◌, ◌≡◌, ◌≤◌}
+use Rattle.std.specs.Prelude.{Contains, List, [], ◌∷◌, false, get_or, length, pos, true, ℕ, ℤ, ◌<◌, ◌≡◌, ◌≤◌}
 use Rattle.regent_tree.specs.Cover.{is_covered}
 use Rattle.regent_tree.specs.Evaluation.{first_type, other_types}
 use Rattle.regent_tree.specs.Running.{Calls, Called, Result, State, broke, came_back, fails, gives}
 use Rattle.std.specs.List.Sorted.{IsStrictlyIncreasing}
-use Rattle.regent_tree.specs.Scopes.{Scope, bound_as}
+use Rattle.regent_tree.specs.Scopes.{Scope, bound_as, scope_of}
 use Rattle.regent_tree.specs.StaticTypes.{task_named}
 use Rattle.regent_tree.specs.Store.{Store, Touch}
 use Rattle.regent_tree.specs.Syntax.{Expression, Expressions, Name, TaskTree, Tree, an_expr, no_expr}
@@ -76,6 +76,25 @@ pub record IsSoundState (x : Instance) (m : Interpretation) (s : Scope) (u : Sta
   pub rooted : AreInStore m (length u.store)
   pub grown : x.roots ≤ length u.store
   pub covered : AreCovered x u.touches
+
+-- ---- calls
+
+-- what a task's parameters stand for where it begins: its arguments
+abbrev pub of_arguments : List Value → Interpretation
+of_arguments vs = record {
+  region = λ i. region_of (get_or vs i (a_truth false));
+  partition = λ i. partition_of (get_or vs i (a_truth false));
+  number = λ i. pos 0;
+}
+
+-- Arguments fit a task: each is of its parameter's type; what the task asks of its parameters holds of them,
+-- as do the facts that partition types tell; and they lie in the store.
+pub record AreFitting (tree : Tree) (task : TaskTree) (vs : List Value) (count : ℕ) : Type 0 where
+  pub counted : length vs ≡ length task.params
+  pub types : (i : ℕ) → IsOfType (of_arguments vs) (type_at (param_types tree task) i) (get_or vs i (a_truth false))
+  pub holds : AllHold (of_arguments vs) (scope_of tree task).known
+  pub stored : AreInStore (of_arguments vs) count
+  pub parents : (i : ℕ) → IsOfParent (of_arguments vs) (scope_of tree task).known (type_at (param_types tree task) i)
 
 -- what a call gives is of the kind that the called task's result type says, and leaves as many roots
 abbrev pub IsSoundAnswer : Interpretation → Tree → Name → Store → Called → Type 0

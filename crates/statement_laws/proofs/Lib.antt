@@ -14,6 +14,7 @@ pub mod Regions
 pub mod Parts
 pub mod Cuttings
 pub mod CutVariables
+pub mod Openings
 pub mod Starts
 pub mod Tasks
 pub mod Example

@@ -1,16 +1,17 @@
 -- Laws of statements in programs without a breach: they keep what holds at each place of a body, and each
 -- touch is covered.
-use Rattle.std.specs.Prelude.{List, [], ℕ, ◌≡◌}
+use Rattle.std.specs.Prelude.{List, [], length, ℕ, ◌≡◌}
 use Rattle.regent_tree.specs.Execution.{Going, exec_block}
-use Rattle.regent_tree.specs.Meaning.{body_of}
+use Rattle.regent_tree.specs.Meaning.{body_of, opening}
 use Rattle.regent_tree.specs.Running.{Calls, Here, Result, State, fails, gives}
 use Rattle.regent_tree.specs.Scopes.{scope_of}
+use Rattle.regent_tree.specs.Store.{Store}
 use Rattle.regent_tree.specs.Syntax.{Form, TaskTree, Tree}
 use Rattle.regent_tree.specs.Values.{Value}
 use Rattle.check_rules.specs.Breaches.{breaches}
 use Rattle.check_rules.specs.scopes.Sound.{StandsIn}
 use Rattle.fact_laws.specs.Regions.{Interpretation}
-use Rattle.expression_laws.specs.Sound.{AreCovered, AreSoundAnswers, Instance, IsSoundPlace, IsSoundState}
+use Rattle.expression_laws.specs.Sound.{AreCovered, AreFitting, AreSoundAnswers, Instance, IsSoundPlace, IsSoundState, of_arguments}
 use Rattle.statement_laws.specs.Places.{FormGoes}
 use Rattle.statement_laws.specs.Steady.{IsStaticPlace}
 use Rattle.statement_laws.specs.WrittenStatements.{IsWrittenBlock}
@@ -25,6 +26,12 @@ pub record IsSoundOpening (x : Instance) (m : Interpretation) (u : State) : Type
   pub static : IsStaticPlace x (scope_of x.tree x.task)
   pub place : IsSoundPlace x m (scope_of x.tree x.task)
   pub state : IsSoundState x m (scope_of x.tree x.task) u
+
+-- In a program without a breach a body begins so, where the arguments fit its task.
+abbrev pub OpeningsAreSound : Type 0
+OpeningsAreSound = (tree : Tree) (turns : ℕ) (task : TaskTree) (args : List Value) (store : Store) → breaches tree ≡ [] → StandsIn tree task →
+    AreFitting tree task args (length store) →
+    IsSoundOpening (record { tree = tree; task = task; args = args; roots = length store }) (of_arguments args) (opening tree turns task args store)
 
 -- the state up to which a run went
 abbrev pub state_of : Result Going → State

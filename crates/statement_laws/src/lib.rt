@@ -5,11 +5,16 @@
 #![tactic(auto)]
 
 ghost use Rattle.statement_laws.specs.Example.{ExampleHolds};
-ghost use Rattle.statement_laws.specs.Laws.{BodiesAreCovered, StatementsKeep};
+ghost use Rattle.statement_laws.specs.Laws.{BodiesAreCovered, OpeningsAreSound, StatementsKeep};
 
 /// Every statement keeps what holds at a place.
 pub fn statements_keep()
     ensures { StatementsKeep }
+{}
+
+/// Where arguments fit a task, what must hold where its body begins does.
+pub fn openings_are_sound()
+    ensures { OpeningsAreSound }
 {}
 
 /// Each touch of a body is covered by what its task declares.
