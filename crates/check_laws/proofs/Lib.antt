@@ -9,4 +9,5 @@ pub mod Parameters
 pub mod Meant
 pub mod Trees
 pub mod Onward
+pub mod Sounding
 pub mod Bodies

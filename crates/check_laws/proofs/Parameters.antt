@@ -112,7 +112,7 @@ tail_none : (w : Bool) (line : ℕ) (rest : List ℕ) → (cond w (line ∷ []) 
 tail_none true line rest e = absurd cc
 tail_none false line rest e = e
 
-place_step : (p : Param) (ps : List Param) (n : Name) (b : Bool) → bytes_eq p.name n ≡ b → place_in (p ∷ ps) n ≡ cond b 0 (1 + place_in ps n)
+pub place_step : (p : Param) (ps : List Param) (n : Name) (b : Bool) → bytes_eq p.name n ≡ b → place_in (p ∷ ps) n ≡ cond b 0 (1 + place_in ps n)
 place_step p ps n true e = ap (λ b. cond (not b) (1 + place_in ps n) 0) e
 place_step p ps n false e = ap (λ b. cond (not b) (1 + place_in ps n) 0) e
 

@@ -32,7 +32,7 @@ use Rattle.check_laws.specs.SoundScopes.{IsSoundScope}
 use Rattle.check_laws.proofs.Blocks.{arms_known, block_known, count_scope, form_known, loop_scope, nested}
 use Rattle.check_laws.proofs.Forms.{expression_as_meant, target_as_meant}
 use Rattle.check_laws.proofs.Meant.{block_meant}
-use Rattle.check_laws.proofs.Parameters.{AreWrittenParams, begins_soundly}
+use Rattle.check_laws.proofs.Parameters.{begins_soundly}
 use Rattle.check_laws.proofs.Subexpressions.{untold_inside, untold_target}
 use Rattle.check_laws.proofs.Variables.{parts_of_form, target_of_form}
 use Rattle.plain_values.proofs.Plain.{option_or_parts}
@@ -173,8 +173,8 @@ module _ (tree : Tree) (declared : first_in (first_declared tree) tree ≡ None)
       let d = or_parts (unbound_name_in_type tree names p.term) _ c.0 in
       λ j. d.0 j || unbound_none ps names parts.1 j
 
-  params_written : (line : ℕ) (t : TaskTree) → Has tree (record { line = line; form = task_item t }) → AreWrittenParams tree t.params
-  params_written line t h =
+  scope_sound : (line : ℕ) (t : TaskTree) → Has tree (record { line = line; form = task_item t }) → IsSoundScope (scope_of tree t)
+  scope_sound line t h =
       let of = untold tree (record { line = line; form = task_item t }) (none_of (first_declared tree) tree (record { line = line; form = task_item t }) declared h) in
       let once = no_lines rule.Twice (repeats (given_by t.params)) of.twice in
       let same = sym (append-nil t.params) in
@@ -184,12 +184,7 @@ module _ (tree : Tree) (declared : first_in (first_declared tree) tree ≡ None)
       let written = beside_written tree t.params [] saying in
       let named = unbound_none t.params (bound_params tree t.params 0 t.params)
       (subst (λ names. list_any (λ (p : Param). is_flawed_type tree names p.term) t.params ≡ false) written flawless) in
-      record { once = once; named = named }
-
-  scope_sound : (line : ℕ) (t : TaskTree) → Has tree (record { line = line; form = task_item t }) → IsSoundScope (scope_of tree t)
-  scope_sound line t h =
-      let are = params_written line t h in
-      begins_soundly tree t.params (scope_of tree t) refl refl are.once are.named
+      begins_soundly tree t.params (scope_of tree t) refl refl once named
 
 first_none : (tree : Tree) → breaches tree ≡ [] → first_breach tree ≡ None
 first_none tree none = (none_without_first tree).1 none
@@ -206,10 +201,6 @@ bodies_none tree none =
     let b = option_or_parts _ _ a.1 in
     let c = option_or_parts (first_in (first_declared tree) tree) _ b.1 in
     (option_or_parts (first_in (λ (i : ItemTree). first_in_body tree i.form) tree) _ c.1).0
-
--- the parameters of a task among the items
-pub params_known : (tree : Tree) → breaches tree ≡ [] → (line : ℕ) (t : TaskTree) → Has tree (record { line = line; form = task_item t }) → AreWrittenParams tree t.params
-params_known tree none line t h = params_written tree (declared_none tree none) line t h
 
 -- the body of a task among the items
 pub body_known : (tree : Tree) (none : breaches tree ≡ []) (line : ℕ) (t : TaskTree) → Has tree (record { line = line; form = task_item t }) →

@@ -7,5 +7,9 @@ pub mod Values
 pub mod Writes
 pub mod Joins
 pub mod Params
+pub mod Parents
+pub mod Stores
 pub mod Calls
+pub mod Fitting
+pub mod Passing
 pub mod Laws

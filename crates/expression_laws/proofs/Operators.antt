@@ -31,7 +31,7 @@ use Rattle.check_laws.specs.SoundScopes.{IsKnown}
 use Rattle.check_laws.proofs.Parts.{after_signs, surely, unless_false}
 use Rattle.expression_laws.specs.Kinds.{GoInto, IsOfType, is_index, is_number, is_pointer, is_space, is_truth, number_stood_for}
 use Rattle.fact_laws.specs.Regions.{Interpretation}
-use Rattle.expression_laws.specs.Sound.{Instance, IsSoundState, KeepsSound}
+use Rattle.expression_laws.specs.Sound.{Instance, IsPassed, IsSoundState, KeepsSound}
 
 -- ---- steps in order
 
@@ -130,6 +130,19 @@ module _ (x : Instance) (m : Interpretation) (s : Scope) (h : Here) where
   converted_passes from (partition_type d r p) rs v u st = (st, λ e. refl)
   converted_passes from no_type rs v u st = (st, λ e. refl)
   converted_passes from unknown_type rs v u st = (st, λ e. refl)
+
+-- what is given to a parameter
+pub passed_is : (x : Instance) (m : Interpretation) (s : Scope) (h : Here) (from wanted : StaticType) (v : Value) (u : State) → IsOfType m from v → IsSoundState x m s u →
+    KeepsSound x m s (IsPassed m from wanted) (converted h from wanted [] v u)
+passed_is x m s h from (integer_type w) v u is st = (st, (_, refl))
+passed_is x m s h from (index_type k) v u is st = after (IsPassed m from (index_type k)) (standing h v u) _ (standing_any x m s h v u st) (λ a w st k. (st, (_, refl)))
+passed_is x m s h from (pointer_type k sp args terms) v u is st = (st, (_, refl))
+passed_is x m s h from truth_type v u is st = (st, is)
+passed_is x m s h from (ispace_type k) v u is st = (st, is)
+passed_is x m s h from (region_type k sp args t) v u is st = (st, is)
+passed_is x m s h from (partition_type d r p) v u is st = (st, is)
+passed_is x m s h from no_type v u is st = (st, is)
+passed_is x m s h from unknown_type v u is st = (st, is)
 
 -- operands of arithmetic are numbers
 beside_number : (v : StaticType) → is_unknown_type v ≡ false → may_be numeric (counting_as v) ≡ true → numeric v ≡ true

@@ -11,12 +11,18 @@ use Rattle.regent_tree.specs.Syntax.{TaskTree, Tree}
 use Rattle.regent_tree.specs.Typing.{param_types}
 use Rattle.regent_tree.specs.declared.facts.Known.{Known}
 use Rattle.regent_tree.specs.declared.program.Clause.{Clause}
+use Rattle.regent_tree.specs.declared.types.NumberTerm.TheVariants as number
 use Rattle.regent_tree.specs.declared.types.Param.{Param}
+use Rattle.regent_tree.specs.declared.types.TypeTerm.{TypeTerm}
+use Rattle.regent_tree.specs.declared.types.TypeTerm.TheVariants as typed
 use Rattle.regent_tree.specs.declared.typing.Bound.{Bound}
 use Rattle.regent_tree.specs.declared.typing.StaticType.{StaticType}
-use Rattle.regent_tree.specs.declared.typing.StaticType.TheVariants.{Unknown as unknown_type}
-use Rattle.check_rules.specs.types.Sorts.{type_at}
-use Rattle.check_laws.proofs.Parameters.{bound}
+use Rattle.regent_tree.specs.declared.typing.StaticType.TheVariants.{Partition as partition_type, Unknown as unknown_type}
+use Rattle.check_rules.specs.types.Sorts.{is_region, type_at}
+use Rattle.check_rules.specs.rules.Names.{misses_space, unbound_name_in_type}
+use Rattle.check_rules.specs.types.Lookup.{names_a}
+use Rattle.check_laws.proofs.Parameters.{AreWrittenParams, bound, region_placed}
+use Rattle.expression_laws.specs.Kinds.{IsNamedByOwnNumber}
 
 module _ (tree : Tree) (all : List Param) where
   -- the bindings of parameters in their order
@@ -100,6 +106,64 @@ module _ (tree : Tree) (all : List Param) where
     | inr (inl e) ↦ (0, omega (arith), e)
     | inr (inr g) ↦ absurd g
   ]
+
+  pub numbered_has : (i : ℕ) (ps : List Param) (j : ℕ) → j < length ps → Has (bound_params tree all i ps) (get_or (numbered i ps) j unbound)
+  numbered_has i [] j l = absurd (omega (arith, l))
+  numbered_has i (p ∷ ps) zero l = Has-append_right (bound_params tree all (suc i) ps) (bound tree all i p ∷ []) (bound tree all i p) (inl refl)
+  numbered_has i (p ∷ ps) (suc j) l = Has-append_left (bound_params tree all (suc i) ps) (bound tree all i p ∷ []) (get_or (numbered (suc i) ps) j unbound) (numbered_has (suc i) ps j (omega (arith, l)))
+
+  -- ---- types of parameters
+
+  said_own : (i : ℕ) (t : TypeTerm) → IsNamedByOwnNumber i (type_said tree (among_params all) i t)
+  said_own i (typed.Number number.Int32) = tt
+  said_own i (typed.Number number.Int64) = tt
+  said_own i (typed.Number (number.Index k)) = tt
+  said_own i typed.Truth = tt
+  said_own i (typed.Pointer p) = tt
+  said_own i (typed.Ispace k) = tt
+  said_own i (typed.Region k u) = refl
+  said_own i (typed.Partition d r c) = refl
+
+  -- a region or partition is named by its own number
+  pub own_numbered : (i : ℕ) (ps : List Param) (j k : ℕ) → k ≡ i + j → IsNamedByOwnNumber k (get_or (numbered i ps) j unbound).static_type
+  own_numbered i [] zero k e = tt
+  own_numbered i [] (suc j) k e = tt
+  own_numbered i (p ∷ ps) zero k e = let is : k ≡ i = omega (arith, e) in subst (λ n. IsNamedByOwnNumber n (bound tree all i p).static_type) (sym is) (said_own i p.term)
+  own_numbered i (p ∷ ps) (suc j) k e = own_numbered (suc i) ps j k (omega (arith, e))
+
+  -- the parent of a partition is a parameter of a region
+  abbrev HasRegion : StaticType → Type 0
+  HasRegion (partition_type d r p) = (is_region (bound_as (bound_params tree all 0 all) r).static_type ≡ true) × (r < length all)
+  HasRegion t = Unit {0}
+
+  module _ (written : AreWrittenParams tree all) where
+    said_region : (i : ℕ) (t : TypeTerm) → unbound_name_in_type tree (bound_params tree all 0 all) t ≡ false → HasRegion (type_said tree (among_params all) i t)
+    said_region i (typed.Number number.Int32) e = tt
+    said_region i (typed.Number number.Int64) e = tt
+    said_region i (typed.Number (number.Index k)) e = tt
+    said_region i typed.Truth e = tt
+    said_region i (typed.Pointer p) e = tt
+    said_region i (typed.Ispace k) e = tt
+    said_region i (typed.Region k u) e = tt
+    said_region i (typed.Partition d r c) e =
+        region_placed tree all (record { names = bound_params tree all 0 all; known = []; next = length all }) refl refl written.once written.named r
+        (or_parts (not (names_a is_region (bound_params tree all 0 all) r)) (misses_space (bound_params tree all 0 all) c) e).0
+
+    numbered_region : (i : ℕ) (ps : List Param) → list_any (λ (p : Param). unbound_name_in_type tree (bound_params tree all 0 all) p.term) ps ≡ false → (j : ℕ) →
+        HasRegion (get_or (numbered i ps) j unbound).static_type
+    numbered_region i [] e zero = tt
+    numbered_region i [] e (suc j) = tt
+    numbered_region i (p ∷ ps) e zero = said_region i p.term (or_parts (unbound_name_in_type tree (bound_params tree all 0 all) p.term) _ e).0
+    numbered_region i (p ∷ ps) e (suc j) = numbered_region (suc i) ps (or_parts (unbound_name_in_type tree (bound_params tree all 0 all) p.term) _ e).1 j
+
+    pub parent_region : (i : ℕ) (d : Bool) (r p : ℕ) → (bound_as (bound_params tree all 0 all) i).static_type ≡ partition_type d r p →
+        (is_region (bound_as (bound_params tree all 0 all) r).static_type ≡ true) × (r < length all)
+    parent_region i d r p e = subst HasRegion (ap (λ (b : Bound). b.static_type) (sym (param_as i)) ∙ e) (numbered_region 0 all written.named i)
+
+pub none_has : {A : Type 0} (test : A → Bool) (xs : List A) (x : A) → list_any test xs ≡ false → Has xs x → test x ≡ false
+none_has test [] x e h = absurd h
+none_has test (y ∷ ys) x e (inl same) = subst (λ z. test z ≡ false) same (or_parts (test y) _ e).0
+none_has test (y ∷ ys) x e (inr h) = none_has test ys x (or_parts (test y) _ e).1 h
 
 -- the type of a parameter is that of the binding with its number
 pub param_type : (tree : Tree) (t : TaskTree) (i : ℕ) → (bound_as (scope_of tree t).names i).static_type ≡ type_at (param_types tree t) i

@@ -6,6 +6,7 @@
 use Rattle.std.specs.Prelude.{Contains, List, [], ◌∷◌, false, get_or, length, pos, true, ℕ, ℤ, ◌<◌, ◌≡◌, ◌≤◌}
 use Rattle.regent_tree.specs.Cover.{is_covered}
 use Rattle.regent_tree.specs.Evaluation.{first_type, other_types}
+use Rattle.regent_tree.specs.Lookup.{has_task}
 use Rattle.regent_tree.specs.Running.{Calls, Called, Result, State, broke, came_back, fails, gives}
 use Rattle.std.specs.List.Sorted.{IsStrictlyIncreasing}
 use Rattle.regent_tree.specs.Scopes.{Scope, bound_as, scope_of}
@@ -13,12 +14,12 @@ use Rattle.regent_tree.specs.StaticTypes.{task_named}
 use Rattle.regent_tree.specs.Store.{Store, Touch}
 use Rattle.regent_tree.specs.Syntax.{Expression, Expressions, Name, TaskTree, Tree, an_expr, no_expr}
 use Rattle.regent_tree.specs.Typing.{colour_of, param_types, result_type, type_of}
-use Rattle.regent_tree.specs.Values.{Partition, Region, Value, a_truth, no_region, partition_of, region_of}
+use Rattle.regent_tree.specs.Values.{Partition, Region, Target, Value, a_number, a_pointer, a_truth, an_index, no_region, partition_of, region_of}
 use Rattle.regent_tree.specs.declared.facts.Known.{Known}
 use Rattle.regent_tree.specs.declared.facts.Known.TheVariants.{Made, PartOf}
 use Rattle.check_rules.specs.types.Sorts.{is_region, type_at}
 use Rattle.regent_tree.specs.declared.typing.StaticType.{StaticType}
-use Rattle.regent_tree.specs.declared.typing.StaticType.TheVariants.{Partition as partition_type}
+use Rattle.regent_tree.specs.declared.typing.StaticType.TheVariants.{Index as index_type, Integer as integer_type, Partition as partition_type, Pointer as pointer_type}
 use Rattle.expression_laws.specs.Kinds.{IsOfType, NamesFit, number_stood_for}
 use Rattle.fact_laws.specs.Regions.{AllHold, IsColour, IsIn, Interpretation, child_at}
 
@@ -103,8 +104,8 @@ IsSoundAnswer m tree task before (came_back v store text) =
 IsSoundAnswer m tree task before (broke f text) = Unit {0}
 
 abbrev pub AreSoundAnswers : Interpretation → Tree → Calls → Type 0
-AreSoundAnswers m tree calls = (line : ℕ) (task : Name) (vs : List Value) (store : Store) →
-    IsSoundAnswer m tree task store (calls line task vs store)
+AreSoundAnswers m tree calls = (line : ℕ) (task : Name) (vs : List Value) (store : Store) → has_task tree task ≡ true →
+    AreFitting tree (task_named tree task) vs (length store) → IsSoundAnswer m tree task store (calls line task vs store)
 
 -- a step gives something of which a claim holds in the state after it, or faults in one of which another does
 abbrev pub EndsIn : {A : Type 0} → (A → State → Type 0) → (State → Type 0) → Result A → Type 0
@@ -120,9 +121,18 @@ pub record IsValueOf (m : Interpretation) (tree : Tree) (s : Scope) (e : Express
   pub is_of : IsOfType m (type_of tree s e) v
   pub colour : IsColour m (colour_of s e) (number_stood_for v)
 
--- a region that is given to a parameter of a region is the argument itself
+-- What a parameter is given: the argument's value, which is converted where the parameter is of a number or
+-- a pointer. A converted pointer isn't put anywhere yet.
+abbrev pub IsPassed : Interpretation → StaticType → StaticType → Value → Type 0
+IsPassed m from (integer_type w) v = (z : ℤ) × (a_number w z ≡ v)
+IsPassed m from (index_type k) v = (z : ℤ) × (an_index z ≡ v)
+IsPassed m from (pointer_type k s args terms) v = (t : Target) × (a_pointer t [] ≡ v)
+IsPassed m from wanted v = IsOfType m from v
+
+-- so it is with all arguments
 abbrev pub ArePassed : Interpretation → Tree → Scope → List StaticType → Expressions → List Value → Type 0
-ArePassed m tree s types no_expr vs = Unit {0}
+ArePassed m tree s types no_expr [] = Unit {0}
+ArePassed m tree s types no_expr (v ∷ vs) = ⊥
 ArePassed m tree s types (an_expr e es) [] = ⊥
 ArePassed m tree s types (an_expr e es) (v ∷ vs) =
-    (is_region (first_type types) ≡ true → IsOfType m (type_of tree s e) v) × ArePassed m tree s (other_types types) es vs
+    IsPassed m (type_of tree s e) (first_type types) v × ArePassed m tree s (other_types types) es vs

@@ -33,6 +33,7 @@ use Rattle.check_rules.specs.types.Sorts.{is_region, type_at}
 use Rattle.check_laws.proofs.Bodies.{IsToldNone, body_told}
 use Rattle.check_laws.proofs.Parts.{contrary}
 use Rattle.check_laws.proofs.Parameters.{AreWrittenParams, bound, region_placed}
+use Rattle.check_laws.proofs.Sounding.{params_written}
 use Rattle.check_laws.specs.SoundScopes.{IsSoundScope}
 use Rattle.fact_laws.specs.Regions.{Interpretation}
 use Rattle.expression_laws.proofs.Calls.{bound_count}
@@ -79,10 +80,13 @@ module _ (tree : Tree) (task : TaskTree) (told : IsToldNone tree task) where
   abbrev all : List Param
   all = task.params
 
+  written : AreWrittenParams tree all
+  written = params_written tree task told.sound_task
+
   -- ---- types of parameters
 
   named_param : (n : Name) → not (names_a is_region s.names n) ≡ false → (is_region (bound_as s.names (place_in all n)).static_type ≡ true) × (place_in all n < length all)
-  named_param n e = region_placed tree all s refl refl told.params.once told.params.named n e
+  named_param n e = region_placed tree all s refl refl written.once written.named n e
 
   refs_in : (refs : List Ref) → list_any (misses_region s.names) refs ≡ false → AreArguments s (map (looked_up (among_params all)) refs)
   refs_in [] e = tt
@@ -128,7 +132,7 @@ module _ (tree : Tree) (task : TaskTree) (told : IsToldNone tree task) where
       numbered_params (suc i) ps (or_parts (unbound_name_in_type tree s.names p.term) _ e).1 (omega (arith, l)) j k (omega (arith, same))
 
   parameter : (i : ℕ) → IsParameter i (bound_as s.names i)
-  parameter i = subst (IsParameter i) (sym (param_as tree all i)) (numbered_params 0 all told.params.named (omega (arith)) i i (omega (arith)))
+  parameter i = subst (IsParameter i) (sym (param_as tree all i)) (numbered_params 0 all written.named (omega (arith)) i i (omega (arith)))
 
   -- ---- what is known
 
