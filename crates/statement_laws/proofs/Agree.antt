@@ -22,6 +22,7 @@ use Rattle.regent_tree.proofs.Members.{Contains-from_Has, Has-append_cases, Has-
 use Rattle.fact_laws.specs.Regions.{AllHold, Holds, IsColour, IsIn, LiesWithin, Interpretation, SharesNoPoint, StandsFor, child_at}
 use Rattle.expression_laws.specs.Sound.{AreGivenRegions, AreOwnRoots, AreInStore, Instance, IsInStore, IsOfParent, IsSoundPlace, no_partition}
 use Rattle.statement_laws.specs.Steady.{AgreeBelow, FactsBelow, FactBelow, KnowsMore, IsFresh, IsStaticPlace}
+pub use Rattle.expression_laws.proofs.Stores.{child_in_store, no_child, none_in_store, nothing_in}
 use Rattle.expression_laws.specs.Kinds.{ColourBelow, TermBelow, TermsBelow, TypeBelow}
 
 pub agree_back : (n : ℕ) (a b : Interpretation) → AgreeBelow n a b → AgreeBelow n b a
@@ -135,13 +136,6 @@ emptied_region n i m l = cond-false (nat_lt i n) (m.region i) no_region (not_les
 
 emptied_partition : (n i : ℕ) (m : Interpretation) → n ≤ i → (emptied n m).partition i ≡ record { root = 0; disjoint = false; sets = [] }
 emptied_partition n i m l = cond-false (nat_lt i n) (m.partition i) _ (not_less i n l)
-
-pub nothing_in : (root p : ℕ) → IsIn no_region root p → ⊥
-nothing_in root p is = absurd cc
-
-no_child : (c : ℤ) (root p : ℕ) → IsIn (child_at (record { root = 0; disjoint = false; sets = [] }) c) root p → ⊥
-no_child (pos c) root p is = absurd cc
-no_child (negsuc c) root p is = absurd cc
 
 -- a term stands for something
 some_region : (m : Interpretation) (t : Term) → (r : Region) × StandsFor m t r
@@ -289,17 +283,6 @@ grown_place x m s t static a same place = record {
       (subst (λ names. IsOfParent (emptied s.next m) s.known (bound_as names i).static_type) (sym same)
       (parent_too s.next m (emptied s.next m) (emptied_agrees s.next m) s.known static.below (bound_as s.names i).static_type (place.parents i))));
 }
-
-pub none_in_store : (count : ℕ) → IsInStore count no_region
-none_in_store count = record { below = λ root p is. absurd (nothing_in root p is); rising = λ k l. absurd (omega (arith, l)) }
-
-pub child_in_store : (count : ℕ) (c : ℤ) → IsInStore count (child_at no_partition c)
-child_in_store count c = record { below = λ root p is. absurd (no_child c root p is); rising = rising c }
-  where
-    rising : (c : ℤ) → IsStrictlyIncreasing (child_at no_partition c).points
-    rising (pos zero) = λ k l. absurd (omega (arith, l))
-    rising (pos (suc c)) = λ k l. absurd (omega (arith, l))
-    rising (negsuc c) = λ k l. absurd (omega (arith, l))
 
 pub emptied_in_store : (n : ℕ) (m : Interpretation) (count : ℕ) → AreInStore m count → AreInStore (emptied n m) count
 emptied_in_store n m count are =

@@ -48,22 +48,11 @@ use Rattle.statement_laws.specs.Places.{FormGoes, IsReady}
 use Rattle.statement_laws.specs.Steady.{ArePlaced}
 use Rattle.statement_laws.proofs.Going.{stays_goes, then_goes}
 use Rattle.statement_laws.proofs.Leaves.{form_parts}
+use Rattle.statement_laws.proofs.Returns.{truth_from}
 use Rattle.statement_laws.proofs.Loops.{evaluates}
 use Rattle.statement_laws.proofs.States.{placed_below, unbound_fits}
 
 -- ---- conversions
-
-truth_from : (m : Interpretation) (known : List Known) (from : StaticType) (v : Value) → is_unknown_type from ≡ false → fits known from truth_type ≡ true →
-    IsOfType m from v → IsOfType m truth_type v
-truth_from m known truth_type v k e is = is
-truth_from m known (integer_type w) v k e is = absurd cc
-truth_from m known (index_type j) v k e is = absurd cc
-truth_from m known (pointer_type j s args terms) v k e is = absurd cc
-truth_from m known (ispace_type j) v k e is = absurd cc
-truth_from m known (region_type j s args t) v k e is = absurd cc
-truth_from m known (partition_type d r p) v k e is = absurd cc
-truth_from m known no_type v k e is = absurd cc
-truth_from m known unknown_type v k e is = absurd cc
 
 -- nothing fits what a call without a result gives
 nothing_from : (known : List Known) (from : StaticType) → is_unknown_type from ≡ false → fits known from no_type ≡ true → ⊥

@@ -46,7 +46,7 @@ stays_here x m s u place st = record { meant = m; agree = agree_same s.next m; p
 
 pub stays_goes : (x : Instance) (m : Interpretation) (s : Scope) (r : Result Going) → IsSoundPlace x m s → KeepsSound x m s (λ g. goes_on ≡ g) r → GoesOnSound x m s.next s r
 stays_goes x m s (gives goes_on u) place stays = stays_here x m s u place stays.0
-stays_goes x m s (gives (returned v) u) place stays = stays.0.covered
+stays_goes x m s (gives (returned v) u) place stays = absurd cc
 stays_goes x m s (fails f u) place stays = stays
 
 -- a block's names are taken away where it ends
@@ -73,7 +73,7 @@ leaves x m s t k n (gives goes_on u) scope static more counted goes =
       | inl l ↦ subst (λ (c : Bound). IsOfParent b t.known c.static_type) (more.extends i l) (are i)
       | inr g ↦ subst (λ (c : Bound). IsOfParent b t.known c.static_type) (sym g) tt
     ]
-leaves x m s t k n (gives (returned v) u) scope static more counted goes = goes
+leaves x m s t k n (gives (returned v) u) scope static more counted goes = record { is_of = goes.is_of; grown = goes.grown; covered = goes.covered }
 leaves x m s t k n (fails f u) scope static more counted goes = goes
 
 -- behind a block that was left, as before it, where later bindings stood for nothing

@@ -6,6 +6,7 @@ pub mod States
 pub mod Going
 pub mod Loops
 pub mod Statements
+pub mod Returns
 pub mod Leaves
 pub mod Assignments
 pub mod Variables
@@ -17,4 +18,5 @@ pub mod CutVariables
 pub mod Openings
 pub mod Starts
 pub mod Tasks
+pub mod Answers
 pub mod Example

@@ -57,7 +57,7 @@ module _ (task : TaskTree) (args : List Value) (roots : ℕ) where
 
   -- what calls give is the same wherever bindings stand
   answers_too : (tree : Tree) (calls : Calls) (a b : Interpretation) → ((name : Name) → TypeBelow 0 (result_type tree (task_named tree name).result)) → AreSoundAnswers a tree calls → AreSoundAnswers b tree calls
-  answers_too tree calls a b bare are line name vs store = by (calls line name vs store) (are line name vs store)
+  answers_too tree calls a b bare are line name vs store there fit = by (calls line name vs store) (are line name vs store there fit)
     where
       by : (c : Called) → IsSoundAnswer a tree name store c → IsSoundAnswer b tree name store c
       by (came_back v after text) is = (is_of_too 0 a b (record { regions = λ i l. absurd (omega (arith, l)); partitions = λ i l. absurd (omega (arith, l)); numbers = λ i l. absurd (omega (arith, l)) }) _ v (bare name) is.0, is.1)
@@ -84,6 +84,7 @@ module _ (task : TaskTree) (args : List Value) (roots : ℕ) where
     static = static;
     place = place;
     answers = answers_too h.tree h.calls m b (λ name. result_bare h.tree (task_named h.tree name).result (r.sound.results name)) r.answers;
+    result = r.result;
   }
 
   -- a loop with a test, where later bindings stand for nothing before each turn

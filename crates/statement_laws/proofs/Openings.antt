@@ -38,7 +38,7 @@ use Rattle.check_laws.specs.SoundScopes.{IsSoundScope}
 use Rattle.fact_laws.specs.Regions.{Interpretation}
 use Rattle.expression_laws.proofs.Calls.{bound_count}
 use Rattle.expression_laws.proofs.Names.{reached}
-use Rattle.expression_laws.proofs.Params.{known_clause, known_param, numbered, numbered_by, numbered_member, numbered_past, numbered_place, param_as, param_type}
+use Rattle.expression_laws.proofs.Params.{known_clause, known_param, none_has, numbered, numbered_by, numbered_member, numbered_past, numbered_place, param_as, param_type}
 use Rattle.expression_laws.specs.Kinds.{AreArguments, IsBoundTo, IsOfType, IsWellScoped, IsWellScopedBinding, NamesFit, TypeBelow, is_pointer}
 use Rattle.expression_laws.specs.Sound.{AreFitting, Instance, IsOfParent, IsSoundPlace, IsSoundState, of_arguments}
 use Rattle.statement_laws.specs.Laws.{IsSoundOpening, OpeningsAreSound}
@@ -67,11 +67,6 @@ params_placed tree all i (p ∷ ps) = placed_before i (bound_params tree all (su
 placed_simply : (bs : List Bound) → PlacedFrom 0 bs → ArePlaced bs
 placed_simply [] are = tt
 placed_simply (b ∷ bs) are = let e = are.0 in (omega (arith, e), placed_simply bs are.1)
-
-none_has : {A : Type 0} (test : A → Bool) (xs : List A) (x : A) → list_any test xs ≡ false → Has xs x → test x ≡ false
-none_has test [] x e h = absurd h
-none_has test (y ∷ ys) x e (inl same) = subst (λ z. test z ≡ false) same (or_parts (test y) _ e).0
-none_has test (y ∷ ys) x e (inr h) = none_has test ys x (or_parts (test y) _ e).1 h
 
 module _ (tree : Tree) (task : TaskTree) (told : IsToldNone tree task) where
   abbrev s : Scope

@@ -2,7 +2,7 @@
 -- touch is covered.
 use Rattle.std.specs.Prelude.{List, [], length, ℕ, ◌≡◌}
 use Rattle.regent_tree.specs.Execution.{Going, exec_block}
-use Rattle.regent_tree.specs.Meaning.{body_of, opening}
+use Rattle.regent_tree.specs.Meaning.{body_of, calls_at, opening, run_task}
 use Rattle.regent_tree.specs.Running.{Calls, Here, Result, State, fails, gives}
 use Rattle.regent_tree.specs.Scopes.{scope_of}
 use Rattle.regent_tree.specs.Store.{Store}
@@ -14,7 +14,7 @@ use Rattle.fact_laws.specs.Regions.{Interpretation}
 use Rattle.expression_laws.specs.Sound.{AreCovered, AreFitting, AreSoundAnswers, Instance, IsSoundPlace, IsSoundState, of_arguments}
 use Rattle.statement_laws.specs.Places.{FormGoes}
 use Rattle.statement_laws.specs.Steady.{IsStaticPlace}
-use Rattle.statement_laws.specs.WrittenStatements.{IsWrittenBlock}
+use Rattle.statement_laws.specs.WrittenStatements.{AreWrittenTasks, IsWrittenBlock}
 
 -- Every statement keeps what holds: loops, choices and blocks, variables, partition operations among them,
 -- writes, reductions, fills, calls, and what is returned.
@@ -46,3 +46,14 @@ BodiesAreCovered = (tree : Tree) (calls : Calls) (task : TaskTree) (args : List 
     (u : State) → IsSoundOpening (record { tree = tree; task = task; args = args; roots = roots }) m u →
     AreCovered (record { tree = tree; task = task; args = args; roots = roots })
     (state_of (exec_block (body_of tree calls task) task.body u)).touches
+
+-- In a program without a breach calls give values of the called tasks' result types, and leave as many roots,
+-- however deep they may nest.
+abbrev pub AnswersAreSound : Type 0
+AnswersAreSound = (tree : Tree) (turns more : ℕ) (m : Interpretation) → breaches tree ≡ [] → AreWrittenTasks tree → AreSoundAnswers m tree (calls_at tree turns more)
+
+-- So each touch of an instance whose arguments fit its task is covered by what the task declares.
+abbrev pub InstancesAreCovered : Type 0
+InstancesAreCovered = (tree : Tree) (turns more : ℕ) (task : TaskTree) (args : List Value) (store : Store) → breaches tree ≡ [] → AreWrittenTasks tree → StandsIn tree task →
+    AreFitting tree task args (length store) →
+    AreCovered (record { tree = tree; task = task; args = args; roots = length store }) (state_of (run_task tree turns (calls_at tree turns more) task args store)).touches

@@ -5,7 +5,7 @@
 #![tactic(auto)]
 
 ghost use Rattle.statement_laws.specs.Example.{ExampleHolds};
-ghost use Rattle.statement_laws.specs.Laws.{BodiesAreCovered, OpeningsAreSound, StatementsKeep};
+ghost use Rattle.statement_laws.specs.Laws.{AnswersAreSound, BodiesAreCovered, InstancesAreCovered, OpeningsAreSound, StatementsKeep};
 
 /// Every statement keeps what holds at a place.
 pub fn statements_keep()
@@ -20,6 +20,16 @@ pub fn openings_are_sound()
 /// Each touch of a body is covered by what its task declares.
 pub fn bodies_are_covered()
     ensures { BodiesAreCovered }
+{}
+
+/// Calls whose arguments fit give values of the called tasks' result types, however deep they may nest.
+pub fn answers_are_sound()
+    ensures { AnswersAreSound }
+{}
+
+/// Each touch of an instance whose arguments fit is covered by what its task declares.
+pub fn instances_are_covered()
+    ensures { InstancesAreCovered }
 {}
 
 /// A task and a state in which each premise of the law on bodies holds, with the touches that it makes.
