@@ -277,9 +277,9 @@ bound_long tree all i ps =
     length-map (reverse (bound_params tree all i ps)) (λ (b : Bound). b.static_type) ∙ length-reverse (bound_params tree all i ps) ∙ bound_count tree all i ps
 
 module _ (task : TaskTree) (args : List Value) (roots : ℕ) (m : Interpretation) (h : Here) (sound : IsSound h.tree) (sound_task : IsSoundTask h.tree task)
-    (scope : IsSoundScope h.scope) (place : IsSoundPlace (record { tree = h.tree; task = task; args = args; roots = roots }) m h.scope) where
+    (scope : IsSoundScope h.scope) (place : IsSoundPlace (record { tree = h.tree; calls = h.calls; task = task; args = args; roots = roots }) m h.scope) where
   abbrev x : Instance
-  x = record { tree = h.tree; task = task; args = args; roots = roots }
+  x = record { tree = h.tree; calls = h.calls; task = task; args = args; roots = roots }
 
   pub types_known : (es : Expressions) → first_in_args h.tree task h.scope es ≡ None →
       (known_types h.tree h.scope es ≡ types_of h.tree h.scope es) × (list_any is_unknown_type (known_types h.tree h.scope es) ≡ false)

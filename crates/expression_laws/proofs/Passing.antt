@@ -58,9 +58,9 @@ use Rattle.expression_laws.specs.Sound.{AreFitting, AreInStore, ArePassed, Insta
 use Rattle.expression_laws.specs.Writing.{AreWritten, IsWritten}
 
 module _ (task : TaskTree) (args : List Value) (roots : ℕ) (m : Interpretation) (h : Here) (sound : IsSound h.tree) (sound_task : IsSoundTask h.tree task)
-    (scope : IsSoundScope h.scope) (place : IsSoundPlace (record { tree = h.tree; task = task; args = args; roots = roots }) m h.scope) where
+    (scope : IsSoundScope h.scope) (place : IsSoundPlace (record { tree = h.tree; calls = h.calls; task = task; args = args; roots = roots }) m h.scope) where
   abbrev x : Instance
-  x = record { tree = h.tree; task = task; args = args; roots = roots }
+  x = record { tree = h.tree; calls = h.calls; task = task; args = args; roots = roots }
 
   -- ---- values and types by their numbers
 

@@ -48,10 +48,10 @@ unless_known true t e = absurd (contrary e)
 unless_known false t e = refl
 
 module _ (task : TaskTree) (args : List Value) (roots : ℕ) (m : Interpretation) (h : Here) (sound : IsSound h.tree) (sound_task : IsSoundTask h.tree task)
-    (scope : IsSoundScope h.scope) (well_scoped : IsWellScoped h.scope) (place : IsSoundPlace (record { tree = h.tree; task = task; args = args; roots = roots }) m h.scope)
+    (scope : IsSoundScope h.scope) (well_scoped : IsWellScoped h.scope) (place : IsSoundPlace (record { tree = h.tree; calls = h.calls; task = task; args = args; roots = roots }) m h.scope)
     (answers : AreSoundAnswers m h.tree h.calls) where
   abbrev x : Instance
-  x = record { tree = h.tree; task = task; args = args; roots = roots }
+  x = record { tree = h.tree; calls = h.calls; task = task; args = args; roots = roots }
 
   abbrev told : Expression → Type 0
   told e = first_in_expression h.tree task h.scope e ≡ None
@@ -94,16 +94,19 @@ module _ (task : TaskTree) (args : List Value) (roots : ℕ) (m : Interpretation
   pub called_is : (name : Name) (vs : List Value) (u : State) → has_task h.tree name ≡ true → AreFitting h.tree (task_named h.tree name) vs (length u.store) → IsSoundState x m h.scope u → Is (result_type h.tree (task_named h.tree name).result) (called h name vs u)
   called_is name vs u there fit st = paid u.turns
     where
-      answered_is : (w : State) → IsSoundState x m h.scope w → (c : Called) → IsSoundAnswer m h.tree name w.store c → Is (result_type h.tree (task_named h.tree name).result) (answered c w)
-      answered_is w st (came_back v store text) is = (
+      answered_is : (w : State) → IsSoundState x m h.scope w → (c : Called) → h.calls h.line name vs u.store ≡ c → IsSoundAnswer m h.tree name w.store c → Is (result_type h.tree (task_named h.tree name).result) (answered c w)
+      answered_is w st (came_back v store text) same is = (
         record { names = st.names; counted = st.counted; rooted = subst (λ c. AreInStore m c) (sym is.1) st.rooted; grown = subst (λ c. roots ≤ c) (sym is.1) st.grown; covered = st.covered },
         is.0,
       )
-      answered_is w st (broke f text) is = st.covered
+      answered_is w st (broke f text) same is = record {
+        covered = st.covered;
+        depth = λ e. record { line = h.line; task = name; args = vs; store = u.store; text = text; there = there; fits = fit; gave = same };
+      }
 
       paid : (n : ℕ) → Is (result_type h.tree (task_named h.tree name).result) (and_then (pay_from n h u) (λ _ w. and_then (gives w w) (λ t. answered (h.calls h.line name vs t.store))))
-      paid zero = st.covered
-      paid (suc n) = answered_is (record u { turns = n }) (record { names = st.names; counted = st.counted; rooted = st.rooted; grown = st.grown; covered = st.covered }) _ (answers h.line name vs u.store there fit)
+      paid zero = record { covered = st.covered; depth = λ e. absurd cc }
+      paid (suc n) = answered_is (record u { turns = n }) (record { names = st.names; counted = st.counted; rooted = st.rooted; grown = st.grown; covered = st.covered }) (h.calls h.line name vs u.store) refl (answers h.line name vs u.store there fit)
 
   -- the operands of an operator of which nothing is told
   operates : (o : Operator) (t k : StaticType) → first_of_operator (computing o t k) ≡ None → operates_on o t k ≡ true

@@ -20,7 +20,7 @@ use Rattle.expression_laws.specs.Writing.{AreWritten, IsWritten}
 
 -- a task instance at a place of its body
 abbrev pub instance_at : TaskTree → List Value → ℕ → Here → Instance
-instance_at task args roots h = record { tree = h.tree; task = task; args = args; roots = roots }
+instance_at task args roots h = record { tree = h.tree; calls = h.calls; task = task; args = args; roots = roots }
 
 -- A place of a body: the declarations have no breach, all names have known types that speak of what is in
 -- scope, the known facts hold, and each call gives a value of the called task's result type, whatever else

@@ -15,6 +15,8 @@ use Rattle.regent_tree.specs.Store.{Store, Touch}
 use Rattle.regent_tree.specs.Syntax.{Expression, Expressions, Name, TaskTree, Tree, an_expr, no_expr}
 use Rattle.regent_tree.specs.Typing.{colour_of, param_types, result_type, type_of}
 use Rattle.regent_tree.specs.Values.{Partition, Region, Target, Value, a_number, a_pointer, a_truth, an_index, no_region, partition_of, region_of}
+use Rattle.regent_tree.specs.declared.outcome.Fault.{Fault}
+use Rattle.regent_tree.specs.declared.outcome.FaultKind.TheVariants.{Depth}
 use Rattle.regent_tree.specs.declared.facts.Known.{Known}
 use Rattle.regent_tree.specs.declared.facts.Known.TheVariants.{Made, PartOf}
 use Rattle.check_rules.specs.types.Sorts.{is_region, type_at}
@@ -23,9 +25,11 @@ use Rattle.regent_tree.specs.declared.typing.StaticType.TheVariants.{Index as in
 use Rattle.expression_laws.specs.Kinds.{IsOfType, NamesFit, number_stood_for}
 use Rattle.fact_laws.specs.Regions.{AllHold, IsColour, IsIn, Interpretation, child_at}
 
--- a task instance: its program, its task, its arguments, and the roots that were there when it began
+-- a task instance: its program, what calls give, its task, its arguments, and the roots that were there when
+-- it began
 pub record Instance : Type 0 where
   pub tree : Tree
+  pub calls : Calls
   pub task : TaskTree
   pub args : List Value
   pub roots : ℕ
@@ -107,14 +111,31 @@ abbrev pub AreSoundAnswers : Interpretation → Tree → Calls → Type 0
 AreSoundAnswers m tree calls = (line : ℕ) (task : Name) (vs : List Value) (store : Store) → has_task tree task ≡ true →
     AreFitting tree (task_named tree task) vs (length store) → IsSoundAnswer m tree task store (calls line task vs store)
 
--- a step gives something of which a claim holds in the state after it, or faults in one of which another does
-abbrev pub EndsIn : {A : Type 0} → (A → State → Type 0) → (State → Type 0) → Result A → Type 0
+-- a fault that was given by a call whose arguments fit
+pub record IsGivenFault (x : Instance) (f : Fault) : Type 0 where
+  pub line : ℕ
+  pub task : Name
+  pub args : List Value
+  pub store : Store
+  pub text : List ℕ
+  pub there : has_task x.tree task ≡ true
+  pub fits : AreFitting x.tree (task_named x.tree task) args (length store)
+  pub gave : x.calls line task args store ≡ broke f text
+
+-- where an instance faults, each touch up to there is covered; and that calls nest too deep is told by calls
+-- alone
+pub record IsSoundFault (x : Instance) (f : Fault) (u : State) : Type 0 where
+  pub covered : AreCovered x u.touches
+  pub depth : f.kind ≡ Depth → IsGivenFault x f
+
+-- a step gives something of which a claim holds in the state after it, or faults as another says
+abbrev pub EndsIn : {A : Type 0} → (A → State → Type 0) → (Fault → State → Type 0) → Result A → Type 0
 EndsIn good bad (gives a u) = good a u
-EndsIn good bad (fails f u) = bad u
+EndsIn good bad (fails f u) = bad f u
 
 -- what evaluation keeps: the state's names and touches, and what it gives is so
 abbrev pub KeepsSound : {A : Type 0} → Instance → Interpretation → Scope → (A → Type 0) → Result A → Type 0
-KeepsSound x m s Is r = EndsIn (λ a u. IsSoundState x m s u × Is a) (λ u. AreCovered x u.touches) r
+KeepsSound x m s Is r = EndsIn (λ a u. IsSoundState x m s u × Is a) (λ f u. IsSoundFault x f u) r
 
 -- the value of an expression is of its type, and a colour that is written so stands for it
 pub record IsValueOf (m : Interpretation) (tree : Tree) (s : Scope) (e : Expression) (v : Value) : Type 0 where

@@ -46,30 +46,30 @@ module _ (tree : Tree) (turns : ℕ) (none : breaches tree ≡ []) (written : Ar
   -- an instance whose arguments fit keeps what holds to its end
   instance_goes : (calls : Calls) (task : TaskTree) (vs : List Value) (store : Store) → StandsIn tree task → AreFitting tree task vs (length store) →
       AreSoundAnswers (of_arguments vs) tree calls →
-      GoesOnSound (record { tree = tree; task = task; args = vs; roots = length store }) (of_arguments vs) (scope_of tree task).next (scope_after_block tree (scope_of tree task) task.body)
+      GoesOnSound (record { tree = tree; calls = calls; task = task; args = vs; roots = length store }) (of_arguments vs) (scope_of tree task).next (scope_after_block tree (scope_of tree task) task.body)
       (run_task tree turns calls task vs store)
   instance_goes calls task vs store stands fit answers =
       body_goes tree calls task vs (length store) (of_arguments vs) none stands (written task stands) answers (opening tree turns task vs store)
-      (sound_opening tree task (body_told tree task none stands) turns vs store fit)
+      (sound_opening tree task (body_told tree task none stands) calls turns vs store fit)
 
-  task_ended : (m b : Interpretation) (name : Name) (vs : List Value) (store : Store) (n : ℕ) (t : Scope) → is_no_result_type (task_named tree name).result ≡ false → (r : Result Going) →
-      GoesOnSound (record { tree = tree; task = task_named tree name; args = vs; roots = length store }) b n t r →
+  task_ended : (calls : Calls) (m b : Interpretation) (name : Name) (vs : List Value) (store : Store) (n : ℕ) (t : Scope) → is_no_result_type (task_named tree name).result ≡ false → (r : Result Going) →
+      GoesOnSound (record { tree = tree; calls = calls; task = task_named tree name; args = vs; roots = length store }) b n t r →
       IsSoundAnswer m tree name store (ended (length store) (scope_of tree (task_named tree name)) (result_type tree (task_named tree name).result) r)
-  task_ended m b name vs store n t e (gives goes_on u) goes = (zero_is tree (task_named tree name).result (scope_of tree (task_named tree name)) m e, length-take-le (length store) u.store goes.state.grown)
-  task_ended m b name vs store n t e (gives (returned v) u) goes = (goes.is_of m, length-take-le (length store) u.store goes.grown)
-  task_ended m b name vs store n t e (fails f u) goes = tt
+  task_ended calls m b name vs store n t e (gives goes_on u) goes = (zero_is tree (task_named tree name).result (scope_of tree (task_named tree name)) m e, length-take-le (length store) u.store goes.state.grown)
+  task_ended calls m b name vs store n t e (gives (returned v) u) goes = (goes.is_of m, length-take-le (length store) u.store goes.grown)
+  task_ended calls m b name vs store n t e (fails f u) goes = tt
 
   pub answers : (more : ℕ) (m : Interpretation) → AreSoundAnswers m tree (calls_at tree turns more)
   answers zero m line name vs store there fit = tt
   answers (suc more) m line name vs store there fit =
       let stands = Contains-from_Has (map (λ (i : ItemTree). i.form) tree) (task_item (task_named tree name)) (standing_task tree name there) in
-      task_ended m (of_arguments vs) name vs store _ _ (body_told tree (task_named tree name) none stands).sound_task.result (run_task tree turns (calls_at tree turns more) (task_named tree name) vs store)
+      task_ended (calls_at tree turns more) m (of_arguments vs) name vs store _ _ (body_told tree (task_named tree name) none stands).sound_task.result (run_task tree turns (calls_at tree turns more) (task_named tree name) vs store)
       (instance_goes (calls_at tree turns more) (task_named tree name) vs store stands fit (answers more (of_arguments vs)))
 
   pub covered : (more : ℕ) (task : TaskTree) (vs : List Value) (store : Store) → StandsIn tree task → AreFitting tree task vs (length store) →
-      AreCovered (record { tree = tree; task = task; args = vs; roots = length store }) (state_of (run_task tree turns (calls_at tree turns more) task vs store)).touches
+      AreCovered (record { tree = tree; calls = calls_at tree turns more; task = task; args = vs; roots = length store }) (state_of (run_task tree turns (calls_at tree turns more) task vs store)).touches
   covered more task vs store stands fit =
-      covered_there (record { tree = tree; task = task; args = vs; roots = length store }) (of_arguments vs) (scope_of tree task).next (scope_after_block tree (scope_of tree task) task.body)
+      covered_there (record { tree = tree; calls = calls_at tree turns more; task = task; args = vs; roots = length store }) (of_arguments vs) (scope_of tree task).next (scope_after_block tree (scope_of tree task) task.body)
       (run_task tree turns (calls_at tree turns more) task vs store) (instance_goes (calls_at tree turns more) task vs store stands fit (answers more (of_arguments vs)))
 
 pub answers_are_sound : AnswersAreSound

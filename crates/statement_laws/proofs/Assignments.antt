@@ -160,7 +160,7 @@ set_fits m s names b v placed counted found known by_name is fit i = here ((boun
 
 module _ (task : TaskTree) (args : List Value) (roots : ℕ) where
   abbrev inst : Here → Instance
-  inst h = record { tree = h.tree; task = task; args = args; roots = roots }
+  inst h = record { tree = h.tree; calls = h.calls; task = task; args = args; roots = roots }
 
   -- a variable that may be assigned
   record IsTarget (h : Here) (n : Name) (k : How) (y : Expression) : Type 0 where

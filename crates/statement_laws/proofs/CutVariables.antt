@@ -57,7 +57,7 @@ minus p q = chain_expr (access_expr p no_step) (a_link (Compute Subtract) (acces
 
 module _ (task : TaskTree) (args : List Value) (roots : ℕ) where
   abbrev inst : Here → Instance
-  inst h = record { tree = h.tree; task = task; args = args; roots = roots }
+  inst h = record { tree = h.tree; calls = h.calls; task = task; args = args; roots = roots }
 
   -- ---- differences
 

@@ -116,7 +116,7 @@ asked_of known d r own unknown_type l fit named = absurd cc
 
 module _ (task : TaskTree) (args : List Value) (roots : ℕ) where
   abbrev inst : Here → Instance
-  inst h = record { tree = h.tree; task = task; args = args; roots = roots }
+  inst h = record { tree = h.tree; calls = h.calls; task = task; args = args; roots = roots }
 
   abbrev pub had : Here → Name → State → Value
   had h n u = get_or u.names (bound_to h.scope.names n).place (a_truth false)
@@ -226,7 +226,7 @@ module _ (task : TaskTree) (args : List Value) (roots : ℕ) where
     where
       by : (b : Bool) → KeepsSound (inst h) m h.scope (λ k. Unit {0}) (if_true b (given (size_of v)) (fault h BadSize) u)
       by true = (st, tt)
-      by false = st.covered
+      by false = record { covered = st.covered; depth = λ e. absurd cc }
 
   -- the column of a region that is named
   column_named : (h : Here) (m : Interpretation) → IsReady task args roots m h → (n f : Name) → IsRegionName h m n → is_unknown_region_field h.tree h.scope.names n f ≡ false →

@@ -1,6 +1,7 @@
 -- What holds where the example's body begins.
 use Rattle.std.proofs.Common.{arith, [], false, true, refl, ap, cond, sym, subst, ℕ, zero, suc, ◌==◌, ◌≡◌, ◌<◌}
 use Rattle.regent_tree.proofs.Members.{Has-from_Contains}
+use Rattle.regent_tree.specs.Meaning.{calls_at}
 use Rattle.regent_tree.specs.Scopes.{Scope, bound_as, scope_of, unbound}
 use Rattle.point_sets.proofs.Rising.{rising-counted_from}
 use Rattle.regent_tree.specs.declared.typing.Bound.{Bound}
@@ -14,7 +15,7 @@ use Rattle.statement_laws.proofs.Agree.{child_in_store, none_in_store}
 use Rattle.statement_laws.proofs.States.{unbound_fits}
 
 abbrev x : Instance
-x = record { tree = example_tree; task = example_task; args = example_args; roots = 1 }
+x = record { tree = example_tree; calls = calls_at example_tree 10 63; task = example_task; args = example_args; roots = 1 }
 
 abbrev s : Scope
 s = scope_of example_tree example_task

@@ -152,14 +152,14 @@ region_like unknown_type e = absurd cc
 
 module _ (task : TaskTree) (args : List Value) (roots : ℕ) where
   abbrev inst : Here → Instance
-  inst h = record { tree = h.tree; task = task; args = args; roots = roots }
+  inst h = record { tree = h.tree; calls = h.calls; task = task; args = args; roots = roots }
 
   assert_goes : (y : Expression) (h : Here) → FormGoes task args roots h (assert_form y)
   assert_goes y h m r e w wr u st =
       let parts = form_parts h.tree task h.scope (assert_form y) e in
       then_goes (inst h) m h.scope h.scope.next h.scope (value h y u) (λ v. if_true (truth_of v) (given goes_on) (fault h AssertFailed))
       (evaluates task args roots h m y r wr (option_or_parts (first_in_expression h.tree task h.scope y) _ parts.heads).0 u st) (λ v w st is.
-      either_goes (inst h) m h.scope h.scope.next h.scope (truth_of v) (given goes_on) (fault h AssertFailed) w (stays_here (inst h) m h.scope w r.place st) st.covered)
+      either_goes (inst h) m h.scope h.scope.next h.scope (truth_of v) (given goes_on) (fault h AssertFailed) w (stays_here (inst h) m h.scope w r.place st) (record { covered = st.covered; depth = λ e. absurd cc }))
 
   all_values : (h : Here) (m : Interpretation) (types : List StaticType) (es : Expressions) → IsReady task args roots m h → AreWritten es → first_in_args h.tree task h.scope es ≡ None →
       (u : State) → IsSoundState (inst h) m h.scope u → KeepsSound (inst h) m h.scope (ArePassed m h.tree h.scope types es) (values h types es u)

@@ -46,7 +46,7 @@ use Rattle.statement_laws.proofs.Going.{then_goes, either_goes, rebased, in_orde
 
 module _ (task : TaskTree) (args : List Value) (roots : ℕ) where
   abbrev inst : Here → Instance
-  inst h = record { tree = h.tree; task = task; args = args; roots = roots }
+  inst h = record { tree = h.tree; calls = h.calls; task = task; args = args; roots = roots }
 
   abbrev Reads : (h : Here) (m : Interpretation) → Expression → State → Type 0
   Reads h m e u = KeepsSound (inst h) m h.scope (IsValueOf m h.tree h.scope e) (value h e u)
@@ -97,7 +97,7 @@ module _ (task : TaskTree) (args : List Value) (roots : ℕ) where
       let n = h.scope.next in
       let m0 = emptied n m in
       then_goes (inst h) m0 h.scope n (past h.scope t) (test w) (λ v. if_true (truth_of v) (fault h Turns) (given goes_on)) (tests w st) (λ v w st is.
-      either_goes (inst h) m0 h.scope n (past h.scope t) (truth_of v) (fault h Turns) (given goes_on) w st.covered
+      either_goes (inst h) m0 h.scope n (past h.scope t) (truth_of v) (fault h Turns) (given goes_on) w (record { covered = st.covered; depth = λ e. absurd cc })
       (skipped (inst h) m0 h.scope (past h.scope t) w r.scope r.static grows refl r.place st))
   turning_goes h m t r grows test body tests bodies (suc k) w st =
       let n = h.scope.next in
@@ -115,7 +115,7 @@ module _ (task : TaskTree) (args : List Value) (roots : ℕ) where
           GoesOnSound (inst h) (emptied h.scope.next m) h.scope.next (past h.scope t) (and_then (body u) (λ g. going_on (turning h k test body) g))) →
           GoesOnSound (inst h) (emptied h.scope.next m) h.scope.next (past h.scope t)
           (and_then (pay_from turns h w) (λ _ u. and_then (body u) (λ g. going_on (turning h k test body) g)))
-      paid w st zero next = st.covered
+      paid w st zero next = record { covered = st.covered; depth = λ e. absurd cc }
       paid w st (suc turns) next = next (record w { turns = turns }) (record { names = st.names; counted = st.counted; rooted = st.rooted; grown = st.grown; covered = st.covered })
 
   -- ---- loops over values
@@ -159,7 +159,7 @@ module _ (task : TaskTree) (args : List Value) (roots : ℕ) where
             (bodies b (record { holds = place.holds; own = place.own; params = place.params; parents = parents_with b h.scope.known h.scope n ty true (unparted b) place.parents }) (record w { names = w.names ++ v ∷ [] }) inner))
 
         paid : (w : State) → IsSoundState (inst h) m0 h.scope w → (turns : ℕ) → Turns_go (and_then (pay_from turns h w) (λ _ u. leaving (length u.names) (body (record u { names = u.names ++ v ∷ [] }))))
-        paid w st zero = st.covered
+        paid w st zero = record { covered = st.covered; depth = λ e. absurd cc }
         paid w st (suc turns) = bound_turn (record w { turns = turns }) (record { names = st.names; counted = st.counted; rooted = st.rooted; grown = st.grown; covered = st.covered })
 
     -- behind a turn the next begins as the first

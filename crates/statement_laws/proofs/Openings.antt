@@ -6,6 +6,7 @@ use Rattle.std.specs.List.{Contains, list_any}
 use Rattle.regent_tree.proofs.Members.{Has, Has-append_cases, Has-from_Contains}
 use Rattle.regent_tree.specs.Accesses.{regions_reached}
 use Rattle.regent_tree.specs.Meaning.{entered, entered_as, opening}
+use Rattle.regent_tree.specs.Running.{Calls}
 use Rattle.regent_tree.specs.Scopes.{Scope, bound_as, bound_params, known_of_clause, known_of_clauses, known_of_params, known_of_type, scope_of, unbound}
 use Rattle.regent_tree.specs.StaticTypes.{Reach, among_params, looked_up, place_in, type_said}
 use Rattle.regent_tree.specs.Store.{Store}
@@ -180,8 +181,8 @@ module _ (tree : Tree) (task : TaskTree) (told : IsToldNone tree task) where
   below_all (PartOf p r d) h = h
   below_all (Made i) h = absurd h
 
-  pub static_opening : (vs : List Value) (count : ℕ) → IsStaticPlace (record { tree = tree; task = task; args = vs; roots = count }) s
-  static_opening vs count = record {
+  pub static_opening : (calls : Calls) (vs : List Value) (count : ℕ) → IsStaticPlace (record { tree = tree; calls = calls; task = task; args = vs; roots = count }) s
+  static_opening calls vs count = record {
     well_scoped = λ i. (parameter i).well;
     below = λ k c. below_all k (on_parameters k c);
     placed = placed_simply s.names (params_placed tree all 0 all);
@@ -255,11 +256,11 @@ module _ (tree : Tree) (task : TaskTree) (told : IsToldNone tree task) where
     as_entered = bound_values (entered s vs types vs) (λ i. subst (IsOfType b (type_at types i)) (sym (entered_at types vs i))
         (enters (type_at types i) (get_or vs i (a_truth false)) (subst (λ t. AreArguments s (reaches_of t)) (param_type tree task i) (parameter i).reaches) (fit.types i)))
 
-  pub sound_opening : (turns : ℕ) (vs : List Value) (store : Store) → AreFitting tree task vs (length store) →
-      IsSoundOpening (record { tree = tree; task = task; args = vs; roots = length store }) (of_arguments vs) (opening tree turns task vs store)
-  sound_opening turns vs store fit =
-      let x : Instance = record { tree = tree; task = task; args = vs; roots = length store } in record {
-        static = static_opening vs (length store);
+  pub sound_opening : (calls : Calls) (turns : ℕ) (vs : List Value) (store : Store) → AreFitting tree task vs (length store) →
+      IsSoundOpening (record { tree = tree; calls = calls; task = task; args = vs; roots = length store }) (of_arguments vs) (opening tree turns task vs store)
+  sound_opening calls turns vs store fit =
+      let x : Instance = record { tree = tree; calls = calls; task = task; args = vs; roots = length store } in record {
+        static = static_opening calls vs (length store);
         place = record {
           holds = fit.holds;
           own = λ i c. absurd (on_parameters (Made i) c);
@@ -276,4 +277,4 @@ module _ (tree : Tree) (task : TaskTree) (told : IsToldNone tree task) where
       }
 
 pub openings_are_sound : OpeningsAreSound
-openings_are_sound tree turns task args store none stands fit = sound_opening tree task (body_told tree task none stands) turns args store fit
+openings_are_sound tree calls turns task args store none stands fit = sound_opening tree task (body_told tree task none stands) calls turns args store fit

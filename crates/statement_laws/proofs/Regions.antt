@@ -69,7 +69,7 @@ use Rattle.regent_tree.specs.StaticTypes.{Reach}
 
 module _ (task : TaskTree) (args : List Value) (roots : ℕ) where
   abbrev inst : Here → Instance
-  inst h = record { tree = h.tree; task = task; args = args; roots = roots }
+  inst h = record { tree = h.tree; calls = h.calls; task = task; args = args; roots = roots }
 
   child_begins : (h : Here) (m : Interpretation) (p : ℕ) (c : Colour) (k : Kind) (sp : ℕ) (types : List Reach) (q : Region) (count : ℕ) → TermBelow h.scope.next (Child p c) →
       AreInStore m count → IsChild m p c q →

@@ -43,7 +43,7 @@ use Rattle.statement_laws.proofs.VariableTypes.{var_said}
 
 module _ (task : TaskTree) (args : List Value) (roots : ℕ) where
   abbrev inst : Here → Instance
-  inst h = record { tree = h.tree; task = task; args = args; roots = roots }
+  inst h = record { tree = h.tree; calls = h.calls; task = task; args = args; roots = roots }
 
   -- a partition begins with nothing else than a partition operation
   wrong_partition : (names : List Bound) (wanted begins : StaticType) (y : Expression) → is_unknown_type begins ≡ false → is_partition wanted ≡ true → is_difference names y ≡ false →

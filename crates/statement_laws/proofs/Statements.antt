@@ -39,7 +39,7 @@ use Rattle.statement_laws.proofs.Loops.{evaluates, moved_on, turning_goes, round
 
 module _ (task : TaskTree) (args : List Value) (roots : ℕ) where
   abbrev inst : Here → Instance
-  inst h = record { tree = h.tree; task = task; args = args; roots = roots }
+  inst h = record { tree = h.tree; calls = h.calls; task = task; args = args; roots = roots }
 
   -- the other forms: variables, loops over numbers, regions and spaces, and what has no block
   abbrev pub IsLeaf : Form → Type 0

@@ -22,14 +22,14 @@ use Rattle.statement_laws.specs.Laws.{BodiesAreCovered, IsSoundOpening, Statemen
 pub covered_there : (x : Instance) (m : Interpretation) (n : ℕ) (t : Scope) (r : Result Going) → GoesOnSound x m n t r → AreCovered x (state_of r).touches
 covered_there x m n t (gives goes_on u) goes = goes.state.covered
 covered_there x m n t (gives (returned v) u) goes = goes.covered
-covered_there x m n t (fails f u) goes = goes
+covered_there x m n t (fails f u) goes = goes.covered
 
 pub statements_keep : StatementsKeep
 statements_keep task args roots form h = form_goes task args roots (leaves_go task args roots (variables_go task args roots)) form h
 
 pub body_goes : (tree : Tree) (calls : Calls) (task : TaskTree) (args : List Value) (roots : ℕ) (m : Interpretation) → breaches tree ≡ [] → StandsIn tree task → IsWrittenBlock task.body →
-    AreSoundAnswers m tree calls → (u : State) → IsSoundOpening (record { tree = tree; task = task; args = args; roots = roots }) m u →
-    GoesOnSound (record { tree = tree; task = task; args = args; roots = roots }) m (scope_of tree task).next (scope_after_block tree (scope_of tree task) task.body)
+    AreSoundAnswers m tree calls → (u : State) → IsSoundOpening (record { tree = tree; calls = calls; task = task; args = args; roots = roots }) m u →
+    GoesOnSound (record { tree = tree; calls = calls; task = task; args = args; roots = roots }) m (scope_of tree task).next (scope_after_block tree (scope_of tree task) task.body)
     (exec_block (body_of tree calls task) task.body u)
 body_goes tree calls task args roots m none stands written answers u opening =
     let told = body_told tree task none stands in
@@ -39,5 +39,5 @@ body_goes tree calls task args roots m none stands written answers u opening =
 
 pub bodies_are_covered : BodiesAreCovered
 bodies_are_covered tree calls task args roots m none stands written answers u opening =
-    covered_there (record { tree = tree; task = task; args = args; roots = roots }) m (scope_of tree task).next (scope_after_block tree (scope_of tree task) task.body)
+    covered_there (record { tree = tree; calls = calls; task = task; args = args; roots = roots }) m (scope_of tree task).next (scope_after_block tree (scope_of tree task) task.body)
     (exec_block (body_of tree calls task) task.body u) (body_goes tree calls task args roots m none stands written answers u opening)

@@ -134,7 +134,7 @@ converted_plain x m s h known from unknown_type rs v u k p e go is st = absurd p
 
 module _ (task : TaskTree) (args : List Value) (roots : ℕ) where
   abbrev inst : Here → Instance
-  inst h = record { tree = h.tree; task = task; args = args; roots = roots }
+  inst h = record { tree = h.tree; calls = h.calls; task = task; args = args; roots = roots }
 
   -- a type that is written is of bindings in scope
   record IsWrittenType (h : Here) (m : Interpretation) (t : TypeTerm) (wanted : StaticType) : Type 0 where

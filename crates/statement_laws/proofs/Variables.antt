@@ -79,7 +79,7 @@ made_same a b e = ap number_made e
 
 module _ (task : TaskTree) (args : List Value) (roots : ℕ) where
   abbrev inst : Here → Instance
-  inst h = record { tree = h.tree; task = task; args = args; roots = roots }
+  inst h = record { tree = h.tree; calls = h.calls; task = task; args = args; roots = roots }
 
   -- a type that tells nothing is no partition's
   pub untold_parent : (m : Interpretation) (known : List Known) (t : StaticType) → known_of_type t ≡ [] → IsOfParent m known t

@@ -55,5 +55,5 @@ pub record ExampleHolds : Type 0 where
   pub accepted : breaches example_tree ≡ []
   pub stands : StandsIn example_tree example_task
   pub written : IsWrittenBlock example_task.body
-  pub opening : IsSoundOpening (record { tree = example_tree; task = example_task; args = example_args; roots = 1 }) example_interpretation example_state
+  pub opening : IsSoundOpening (record { tree = example_tree; calls = calls_at example_tree 10 63; task = example_task; args = example_args; roots = 1 }) example_interpretation example_state
   pub touches : length example_touches ≡ 2

@@ -29,9 +29,9 @@ pub record IsSoundOpening (x : Instance) (m : Interpretation) (u : State) : Type
 
 -- In a program without a breach a body begins so, where the arguments fit its task.
 abbrev pub OpeningsAreSound : Type 0
-OpeningsAreSound = (tree : Tree) (turns : ℕ) (task : TaskTree) (args : List Value) (store : Store) → breaches tree ≡ [] → StandsIn tree task →
+OpeningsAreSound = (tree : Tree) (calls : Calls) (turns : ℕ) (task : TaskTree) (args : List Value) (store : Store) → breaches tree ≡ [] → StandsIn tree task →
     AreFitting tree task args (length store) →
-    IsSoundOpening (record { tree = tree; task = task; args = args; roots = length store }) (of_arguments args) (opening tree turns task args store)
+    IsSoundOpening (record { tree = tree; calls = calls; task = task; args = args; roots = length store }) (of_arguments args) (opening tree turns task args store)
 
 -- the state up to which a run went
 abbrev pub state_of : Result Going → State
@@ -43,8 +43,8 @@ state_of (fails f u) = u
 abbrev pub BodiesAreCovered : Type 0
 BodiesAreCovered = (tree : Tree) (calls : Calls) (task : TaskTree) (args : List Value) (roots : ℕ) (m : Interpretation) →
     breaches tree ≡ [] → StandsIn tree task → IsWrittenBlock task.body → AreSoundAnswers m tree calls →
-    (u : State) → IsSoundOpening (record { tree = tree; task = task; args = args; roots = roots }) m u →
-    AreCovered (record { tree = tree; task = task; args = args; roots = roots })
+    (u : State) → IsSoundOpening (record { tree = tree; calls = calls; task = task; args = args; roots = roots }) m u →
+    AreCovered (record { tree = tree; calls = calls; task = task; args = args; roots = roots })
     (state_of (exec_block (body_of tree calls task) task.body u)).touches
 
 -- In a program without a breach calls give values of the called tasks' result types, and leave as many roots,
@@ -56,4 +56,4 @@ AnswersAreSound = (tree : Tree) (turns more : ℕ) (m : Interpretation) → brea
 abbrev pub InstancesAreCovered : Type 0
 InstancesAreCovered = (tree : Tree) (turns more : ℕ) (task : TaskTree) (args : List Value) (store : Store) → breaches tree ≡ [] → AreWrittenTasks tree → StandsIn tree task →
     AreFitting tree task args (length store) →
-    AreCovered (record { tree = tree; task = task; args = args; roots = length store }) (state_of (run_task tree turns (calls_at tree turns more) task args store)).touches
+    AreCovered (record { tree = tree; calls = calls_at tree turns more; task = task; args = args; roots = length store }) (state_of (run_task tree turns (calls_at tree turns more) task args store)).touches

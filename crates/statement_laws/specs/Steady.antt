@@ -15,7 +15,7 @@ use Rattle.regent_tree.specs.Execution.{Going, goes_on, returned}
 use Rattle.regent_tree.specs.Running.{Result, fails, gives}
 use Rattle.expression_laws.specs.Kinds.{ArgumentsInScope, IsOfType, IsWellScoped, TermBelow, TypeBelow}
 use Rattle.fact_laws.specs.Regions.{Interpretation}
-use Rattle.expression_laws.specs.Sound.{AreCovered, Instance, IsSoundPlace, IsSoundState}
+use Rattle.expression_laws.specs.Sound.{AreCovered, Instance, IsSoundFault, IsSoundPlace, IsSoundState}
 
 -- ---- numbers of bindings
 
@@ -80,7 +80,7 @@ pub record IsSoundReturn (x : Instance) (v : Value) (u : State) : Type 0 where
 abbrev pub GoesOnSound : Instance → Interpretation → ℕ → Scope → Result Going → Type 0
 GoesOnSound x m n t (gives goes_on u) = IsSoundAfter x m n t u
 GoesOnSound x m n t (gives (returned v) u) = IsSoundReturn x v u
-GoesOnSound x m n t (fails f u) = AreCovered x u.touches
+GoesOnSound x m n t (fails f u) = IsSoundFault x f u
 
 -- ---- types
 
