@@ -272,7 +272,7 @@ bound_count tree all i (p ∷ ps) =
     let rest = bound_count tree all (suc i) ps in
     length-append (bound_params tree all (suc i) ps) _ ∙ omega (arith, rest)
 
-bound_long : (tree : Tree) (all : List Param) (i : ℕ) (ps : List Param) → length (types_in_order (bound_params tree all i ps)) ≡ length ps
+pub bound_long : (tree : Tree) (all : List Param) (i : ℕ) (ps : List Param) → length (types_in_order (bound_params tree all i ps)) ≡ length ps
 bound_long tree all i ps =
     length-map (reverse (bound_params tree all i ps)) (λ (b : Bound). b.static_type) ∙ length-reverse (bound_params tree all i ps) ∙ bound_count tree all i ps
 

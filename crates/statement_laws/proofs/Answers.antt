@@ -44,7 +44,7 @@ zero_is tree (Some (typed_as.Partition d r c)) s m e = absurd (contrary e)
 
 module _ (tree : Tree) (turns : ℕ) (none : breaches tree ≡ []) (written : AreWrittenTasks tree) where
   -- an instance whose arguments fit keeps what holds to its end
-  instance_goes : (calls : Calls) (task : TaskTree) (vs : List Value) (store : Store) → StandsIn tree task → AreFitting tree task vs (length store) →
+  pub instance_goes : (calls : Calls) (task : TaskTree) (vs : List Value) (store : Store) → StandsIn tree task → AreFitting tree task vs (length store) →
       AreSoundAnswers (of_arguments vs) tree calls →
       GoesOnSound (record { tree = tree; calls = calls; task = task; args = vs; roots = length store }) (of_arguments vs) (scope_of tree task).next (scope_after_block tree (scope_of tree task) task.body)
       (run_task tree turns calls task vs store)
@@ -52,7 +52,7 @@ module _ (tree : Tree) (turns : ℕ) (none : breaches tree ≡ []) (written : Ar
       body_goes tree calls task vs (length store) (of_arguments vs) none stands (written task stands) answers (opening tree turns task vs store)
       (sound_opening tree task (body_told tree task none stands) calls turns vs store fit)
 
-  task_ended : (calls : Calls) (m b : Interpretation) (name : Name) (vs : List Value) (store : Store) (n : ℕ) (t : Scope) → is_no_result_type (task_named tree name).result ≡ false → (r : Result Going) →
+  pub task_ended : (calls : Calls) (m b : Interpretation) (name : Name) (vs : List Value) (store : Store) (n : ℕ) (t : Scope) → is_no_result_type (task_named tree name).result ≡ false → (r : Result Going) →
       GoesOnSound (record { tree = tree; calls = calls; task = task_named tree name; args = vs; roots = length store }) b n t r →
       IsSoundAnswer m tree name store (ended (length store) (scope_of tree (task_named tree name)) (result_type tree (task_named tree name).result) r)
   task_ended calls m b name vs store n t e (gives goes_on u) goes = (zero_is tree (task_named tree name).result (scope_of tree (task_named tree name)) m e, length-take-le (length store) u.store goes.state.grown)

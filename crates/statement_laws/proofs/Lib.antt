@@ -19,4 +19,6 @@ pub mod Openings
 pub mod Starts
 pub mod Tasks
 pub mod Answers
+pub mod Entering
+pub mod Watching
 pub mod Example

@@ -2,4 +2,5 @@ pub mod Steady
 pub mod WrittenStatements
 pub mod Places
 pub mod Laws
+pub mod Watching
 pub mod Example

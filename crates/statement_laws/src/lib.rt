@@ -5,6 +5,7 @@
 #![tactic(auto)]
 
 ghost use Rattle.statement_laws.specs.Example.{ExampleHolds};
+ghost use Rattle.statement_laws.specs.Watching.{MeaningsAreGuarded, ProgramsKeepPrivileges};
 ghost use Rattle.statement_laws.specs.Laws.{AnswersAreSound, BodiesAreCovered, InstancesAreCovered, OpeningsAreSound, StatementsKeep};
 
 /// Every statement keeps what holds at a place.
@@ -30,6 +31,16 @@ pub fn answers_are_sound()
 /// Each touch of an instance whose arguments fit is covered by what its task declares.
 pub fn instances_are_covered()
     ensures { InstancesAreCovered }
+{}
+
+/// In a program without a breach no task of a run touches an element outside its declared privileges.
+pub fn programs_keep_privileges()
+    ensures { ProgramsKeepPrivileges }
+{}
+
+/// The meaning's calls are guarded ones, with a guard that lets all pass.
+pub fn meanings_are_guarded()
+    ensures { MeaningsAreGuarded }
 {}
 
 /// A task and a state in which each premise of the law on bodies holds, with the touches that it makes.
