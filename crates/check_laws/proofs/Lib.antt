@@ -12,3 +12,4 @@ pub mod Onward
 pub mod Entries
 pub mod Sounding
 pub mod Bodies
+pub mod Places

@@ -49,7 +49,7 @@ no_lines : (r : Rule) (lines : List ℕ) → first_line r lines ≡ None → lin
 no_lines r [] e = refl
 no_lines r (l ∷ ls) e = absurd cc
 
-has_flat : {A B : Type 0} (f : A → List B) (xs : List A) (y : B) → Has (flat_map f xs) y → (x : A) × Has xs x × Has (f x) y
+pub has_flat : {A B : Type 0} (f : A → List B) (xs : List A) (y : B) → Has (flat_map f xs) y → (x : A) × Has xs x × Has (f x) y
 has_flat f [] y h = absurd h
 has_flat f (x ∷ xs) y h = elim (Has-append_cases (f x) (flat_map f xs) y h) [
   | inl g ↦ (x, inl refl, g)
