@@ -41,16 +41,10 @@ use Rattle.check_rules.specs.scopes.Sound.{IsSoundTask}
 use Rattle.expression_laws.specs.Needs.{mode_of}
 use Rattle.fact_laws.specs.Regions.{IsIn, Interpretation, StandsFor}
 use Rattle.expression_laws.specs.Sound.{Instance, IsSoundPlace}
+pub use Rattle.check_laws.proofs.Trees.{has_flat}
 use Rattle.fact_laws.proofs.Facts.{is_subregion_holds}
 
 -- ---- lists
-
-pub has_flat : {A B : Type 0} (f : A → List B) (xs : List A) (y : B) → Has (flat_map f xs) y → (x : A) × Has xs x × Has (f x) y
-has_flat f [] y h = absurd h
-has_flat f (x ∷ xs) y h = elim (Has-append_cases (f x) (flat_map f xs) y h) [
-  | inl g ↦ (x, inl refl, g)
-  | inr g ↦ let r = has_flat f xs y g in (r.0, inr r.1, r.2)
-]
 
 pub has_filtered : {A : Type 0} (p : A → Bool) (xs : List A) (y : A) → Has (filter p xs) y → Has xs y
 has_filtered p [] y h = absurd h

@@ -22,3 +22,4 @@ pub mod Answers
 pub mod Entering
 pub mod Watching
 pub mod Example
+pub mod WatchedExample

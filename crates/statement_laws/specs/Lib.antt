@@ -4,3 +4,4 @@ pub mod Places
 pub mod Laws
 pub mod Watching
 pub mod Example
+pub mod WatchedExample

@@ -5,6 +5,7 @@
 #![tactic(auto)]
 
 ghost use Rattle.statement_laws.specs.Example.{ExampleHolds};
+ghost use Rattle.statement_laws.specs.WatchedExample.{WatchedExampleHolds};
 ghost use Rattle.statement_laws.specs.Watching.{MeaningsAreGuarded, ProgramsKeepPrivileges};
 ghost use Rattle.statement_laws.specs.Laws.{AnswersAreSound, BodiesAreCovered, InstancesAreCovered, OpeningsAreSound, StatementsKeep};
 
@@ -46,4 +47,10 @@ pub fn meanings_are_guarded()
 /// A task and a state in which each premise of the law on bodies holds, with the touches that it makes.
 pub fn example_holds()
     ensures { ExampleHolds }
+{}
+
+/// A program of which the premises of the law on programs hold, with a quiet watch; and one without the
+/// privileges, of which the watch tells.
+pub fn watched_example_holds()
+    ensures { WatchedExampleHolds }
 {}
