@@ -4,7 +4,7 @@ use Rattle.std.proofs.Common.{Bool, List, None, [], ap, cond, false, filter, fla
 use Rattle.std.specs.List.{list_all}
 use Rattle.regent_tree.specs.Lookup.{has_task}
 use Rattle.regent_tree.specs.StaticTypes.{entry_name, task_named}
-use Rattle.regent_tree.specs.Syntax.{ItemForm, ItemTree, Tree, alias_item, import_item, space_item, start_item, task_item}
+use Rattle.regent_tree.specs.Syntax.{ItemForm, Tree, alias_item, import_item, space_item, start_item, task_item}
 use Rattle.regent_tree.specs.declared.types.Param.{Param}
 use Rattle.check_rules.proofs.FirstInItems.{none_without_first}
 use Rattle.check_rules.specs.Breaches.{breaches}

@@ -1,10 +1,9 @@
 -- From a tree without a breach to each place: by the recursion of the meaning over its statements.
 use Rattle.plain_values.proofs.Plain.{option_or_parts}
-use Rattle.std.proofs.Common.{Bool, List, [], ◌∷◌, ◌++◌, None, Option, true, refl, ap, subst, sym, ℕ, ◌≡◌, ◌∙◌, inl, inr, map}
-use Rattle.std.specs.List.{Contains}
+use Rattle.std.proofs.Common.{List, [], ◌∷◌, None, Option, true, ap, subst, sym, ◌≡◌, ◌∙◌, inl, inr, map}
 use Rattle.regent_tree.proofs.Members.{Contains-from_Has, Has, Has-append_cases, Has-from_Contains, Has-map}
 use Rattle.regent_tree.specs.Scopes.{Scope, past, scope_of, with_name}
-use Rattle.regent_tree.specs.Syntax.{Arms, Block, Expression, Form, ItemForm, ItemTree, Name, Otherwise, TaskTree, Tree, a_statement, alias_item, an_arm, assert_form, assign_form, call_form, do_form, else_block, fill_form, for_in_form, for_to_form, if_form, import_item, no_arm, no_else, no_statement, print_form, return_form, space_item, start_item, task_item, then_statement, var_form, while_form}
+use Rattle.regent_tree.specs.Syntax.{Arms, Block, Form, ItemForm, ItemTree, Otherwise, TaskTree, Tree, a_statement, alias_item, an_arm, assert_form, assign_form, call_form, do_form, else_block, fill_form, for_in_form, for_to_form, if_form, import_item, no_arm, no_else, no_statement, print_form, return_form, space_item, start_item, task_item, then_statement, var_form, while_form}
 use Rattle.regent_tree.specs.Typing.{arithmetic_type, scope_after, scope_after_arms, scope_after_block, taken_from, type_of}
 use Rattle.check_rules.specs.Breaches.{breaches}
 use Rattle.check_rules.specs.first.FirstInExpressions.{first_in_expression}

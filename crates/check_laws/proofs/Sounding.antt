@@ -1,11 +1,11 @@
 -- The parameters of a task without a breach: no two share a name, and each name in a type is bound.
-use Rattle.std.proofs.Common.{arith, Bool, List, [], ◌∷◌, ◌++◌, false, true, refl, ap, sym, subst, ℕ, zero, suc, ◌+◌, ◌≡◌, ◌∙◌, ◌||◌, inl, inr, bytes_eq, cond}
+use Rattle.std.proofs.Common.{arith, Bool, List, [], ◌∷◌, ◌++◌, false, true, refl, ap, sym, subst, ℕ, suc, ◌+◌, ◌≡◌, ◌∙◌, ◌||◌, inl, inr, bytes_eq, cond}
 use Rattle.std.proofs.lemmas.Bool.{or_parts}
 use Rattle.std.proofs.lemmas.List.{append-nil, append_assoc}
 use Rattle.std.specs.List.{list_any}
 use Rattle.regent_tree.proofs.Members.{Has, Has-append_cases, Has-append_left, Has-append_right}
 use Rattle.regent_tree.specs.Lookup.{is_bound}
-use Rattle.regent_tree.specs.Scopes.{bound_params, unbound}
+use Rattle.regent_tree.specs.Scopes.{bound_params}
 use Rattle.regent_tree.specs.StaticTypes.{among_params, type_said}
 use Rattle.regent_tree.specs.Syntax.{Name, TaskTree, Tree}
 use Rattle.regent_tree.specs.declared.types.Param.{Param}

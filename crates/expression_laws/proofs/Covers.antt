@@ -1,5 +1,5 @@
 -- What the rules on privileges allow at a place is covered by what the task declares.
-use Rattle.std.proofs.Common.{List, [], ◌∷◌, Bool, None, Option, Some, false, true, refl, ap, sym, subst, ℕ, ◌≡◌, ◌∙◌, inl, inr, ◌&&◌, ◌==◌, filter, flat_map, map, cond}
+use Rattle.std.proofs.Common.{List, [], ◌∷◌, Bool, None, Option, Some, false, true, refl, ap, sym, subst, ℕ, ◌≡◌, ◌∙◌, inl, inr, ◌&&◌, ◌==◌, filter, map, cond}
 use Rattle.std.proofs.lemmas.Bool.{and_from, and_parts, eqb-true, eq-eqb, or_cases, or_left, or_right, le-leb}
 use Rattle.std.specs.List.{list_any}
 use Rattle.std.specs.Prelude.{nat_le}
@@ -32,7 +32,7 @@ use Rattle.regent_tree.specs.declared.rights.Right.{Right}
 use Rattle.regent_tree.specs.declared.rights.Wanted.{Wanted}
 use Rattle.regent_tree.specs.declared.typing.StaticType.{StaticType}
 use Rattle.regent_tree.specs.declared.typing.StaticType.TheVariants.{Index as index_type, Integer as integer_type, Ispace as ispace_type, Nothing as no_type, Partition as partition_type, Pointer as pointer_type, Region as region_type, Truth as truth_type, Unknown as unknown_type}
-use Rattle.regent_tree.proofs.Members.{Contains-from_Has, Has, Has-append_cases, Has-from_list_any, Has-map_cases, list_any-from_Has}
+use Rattle.regent_tree.proofs.Members.{Contains-from_Has, Has, Has-from_list_any, Has-map_cases, list_any-from_Has}
 use Rattle.check_rules.specs.types.Declarations.{params_bound}
 use Rattle.check_rules.specs.types.Params.{types_in_order}
 use Rattle.check_rules.specs.rules.Privileges.{a_right, access_of_grant, fields_named, made_above, may_do, rights_declared, rights_of_clause, rights_of_place, rights_on}

@@ -1,58 +1,32 @@
 -- The arguments of a call of which nothing is told fit the called task.
-use Rattle.check_rules.proofs.Written.{told_soundly}
-use Rattle.plain_values.proofs.Plain.{option_or_parts}
-use Rattle.std.proofs.Common.{arith, Bool, List, [], ◌∷◌, ◌++◌, None, Some, false, true, refl, ap, sym, subst, ℕ, ℤ, zero, suc, ◌+◌, ◌≡◌, ◌∙◌, ◌<◌, ◌≤◌, ◌==◌, ◌&&◌, ◌||◌, inl, inr, bytes_eq, cond, get_or, length, map, not}
-use Rattle.std.proofs.lemmas.Bool.{and_parts, cases_lt, eqb-true, not-false, or_cases, or_parts}
-use Rattle.std.specs.List.{Contains, list_any}
-use Rattle.regent_tree.proofs.Members.{Contains-from_Has, Has, Has-append_cases, Has-append_left, Has-from_Contains}
-use Rattle.regent_tree.specs.Facts.{are_disjoint, is_name, is_subregion}
+use Rattle.std.proofs.Common.{arith, Bool, List, [], ◌∷◌, None, false, true, refl, ap, sym, subst, ℕ, ℤ, zero, suc, ◌≡◌, ◌∙◌, ◌<◌, ◌&&◌, ◌||◌, inl, inr, bytes_eq, cond, length, map, not}
+use Rattle.std.proofs.lemmas.Bool.{not-false, or_parts}
+use Rattle.std.specs.List.{list_any}
+use Rattle.regent_tree.proofs.Members.{Has}
 use Rattle.regent_tree.specs.Lookup.{has_task}
-use Rattle.regent_tree.specs.Running.{Here, State}
-use Rattle.regent_tree.specs.Scopes.{Scope, bound_as, bound_params, known_of_clause, known_of_clauses, known_of_params, known_of_type, scope_of, unbound}
-use Rattle.regent_tree.specs.StaticTypes.{Looking, Reach, among_params, place_in, task_named, type_said}
-use Rattle.regent_tree.specs.Syntax.{Expressions, ItemForm, ItemTree, Name, TaskTree, Tree, alias_item, an_expr, import_item, no_expr, space_item, start_item, task_item}
-use Rattle.regent_tree.specs.Typing.{param_types, params_at, put_in, type_of, types_of}
-use Rattle.regent_tree.specs.Values.{Partition, Region, Value, a_partition, a_region, a_truth, partition_of, region_of}
+use Rattle.regent_tree.specs.Scopes.{Scope}
+use Rattle.regent_tree.specs.StaticTypes.{Reach, task_named}
+use Rattle.regent_tree.specs.Syntax.{ItemForm, ItemTree, Name, TaskTree, Tree, alias_item, import_item, space_item, start_item, task_item}
+use Rattle.regent_tree.specs.Typing.{put_in}
+use Rattle.regent_tree.specs.Values.{Value, partition_of, region_of}
 use Rattle.regent_tree.specs.declared.facts.Known.{Known}
-use Rattle.regent_tree.specs.declared.facts.Known.TheVariants.{Apart, Made, PartOf, Within}
 use Rattle.regent_tree.specs.declared.facts.Term.{Term}
 use Rattle.regent_tree.specs.declared.facts.Term.TheVariants.{Child, Name as term_name}
-use Rattle.regent_tree.specs.declared.program.Clause.{Clause}
-use Rattle.regent_tree.specs.declared.program.Clause.TheVariants as clause
 use Rattle.regent_tree.specs.declared.types.Kind.{Kind}
-use Rattle.regent_tree.specs.declared.types.NumberTerm.TheVariants as number
-use Rattle.regent_tree.specs.declared.types.Param.{Param}
-use Rattle.regent_tree.specs.declared.types.TypeTerm.{TypeTerm}
-use Rattle.regent_tree.specs.declared.types.TypeTerm.TheVariants as typed
-use Rattle.regent_tree.specs.declared.typing.Bound.{Bound}
 use Rattle.regent_tree.specs.declared.typing.StaticType.{StaticType}
 use Rattle.regent_tree.specs.declared.typing.StaticType.TheVariants.{Index as index_type, Integer as integer_type, Ispace as ispace_type, Nothing as no_type, Partition as partition_type, Pointer as pointer_type, Region as region_type, Truth as truth_type, Unknown as unknown_type}
-use Rattle.check_rules.specs.first.FirstInExpressions.{first_in_args, first_in_expression, first_of_call}
-use Rattle.check_rules.specs.rules.Clauses.{clauses_told, is_no_region, misdeclares}
-use Rattle.check_rules.specs.rules.Constraints.{are_not_apart, breaks_clause, is_not_within}
+use Rattle.check_rules.specs.first.FirstInExpressions.{first_of_call}
 use Rattle.check_rules.specs.rules.Partitions.{is_parent, mispartition_in, mispartitions}
 use Rattle.check_rules.specs.rules.Standing.{param_spot, stand_at, stands}
 use Rattle.check_rules.specs.rules.Types.{is_ill_typed_at_place}
-use Rattle.check_rules.specs.scopes.Sound.{IsSound, StandsIn}
-use Rattle.check_rules.specs.types.Declarations.{params_bound, params_of}
-use Rattle.check_rules.specs.types.KnownTypes.{known_types}
-use Rattle.check_rules.specs.types.Lookup.{names_a}
-use Rattle.check_rules.specs.types.Params.{types_in_order}
 use Rattle.check_rules.specs.types.Sorts.{is_region, is_unknown_type, type_at}
-use Rattle.check_rules.specs.types.TypedForms.{Calling, calling}
-use Rattle.check_laws.proofs.Parameters.{AreWrittenParams, bound, region_placed}
+use Rattle.check_rules.specs.types.TypedForms.{Calling}
 use Rattle.check_laws.proofs.Parts.{contrary}
-use Rattle.check_laws.proofs.Sounding.{params_written}
-use Rattle.check_laws.specs.SoundScopes.{IsSoundScope}
-use Rattle.fact_laws.proofs.Facts.{are_disjoint_holds, is_subregion_holds}
-use Rattle.fact_laws.specs.Regions.{AllHold, Holds, Interpretation, IsChild, IsIn, IsPartitionOf, LiesWithin, SharesNoPoint, StandsFor, child_at}
-use Rattle.expression_laws.proofs.Calls.{call_parts, params_long, types_known}
-use Rattle.expression_laws.proofs.Params.{known_clause, known_param, numbered, numbered_member, param_as, param_known, param_type}
-use Rattle.expression_laws.proofs.Parents.{type_parent}
+use Rattle.fact_laws.specs.Regions.{Interpretation, StandsFor, child_at}
+use Rattle.expression_laws.proofs.Calls.{call_parts}
 use Rattle.expression_laws.proofs.Stores.{child_in_store, none_in_store}
 use Rattle.expression_laws.specs.Kinds.{IsNamedByOwnNumber, IsOfType, is_index, is_nothing, is_number, is_partition_of, is_pointer, is_region_of, is_space, is_truth, is_unknown}
-use Rattle.expression_laws.specs.Sound.{AreFitting, AreInStore, ArePassed, Instance, IsInStore, IsOfParent, IsPassed, IsSoundPlace, IsSoundState, of_arguments}
-use Rattle.expression_laws.specs.Writing.{AreWritten, IsWritten}
+use Rattle.expression_laws.specs.Sound.{AreInStore, IsInStore, IsPassed}
 
 -- ---- tasks that are there
 

@@ -1,12 +1,12 @@
 -- The parameters of a task: their bindings by number, and what is known of them where a body begins.
-use Rattle.std.proofs.Common.{arith, Bool, List, [], ◌∷◌, ◌++◌, None, Some, false, true, refl, ap, sym, subst, ℕ, zero, suc, ◌+◌, ◌≡◌, ◌∙◌, ◌<◌, ◌≤◌, ◌==◌, ◌⊎◌, ◌||◌, inl, inr, cond, get_or, length, map, not, reverse}
+use Rattle.std.proofs.Common.{arith, Bool, List, [], ◌∷◌, ◌++◌, false, true, refl, ap, sym, subst, ℕ, zero, suc, ◌+◌, ◌≡◌, ◌∙◌, ◌<◌, ◌≤◌, ◌==◌, inl, inr, cond, get_or, length, map, not, reverse}
 use Rattle.std.proofs.Math.ListN.{get_or-map}
 use Rattle.std.proofs.lemmas.Bool.{cond-false, cond-true, eq-eqb, or_parts}
 use Rattle.std.proofs.lemmas.List.{reverse-append, reverse-reverse}
 use Rattle.std.specs.List.{list_any}
 use Rattle.regent_tree.proofs.Members.{Has, Has-append_cases, Has-append_left, Has-append_right}
-use Rattle.regent_tree.specs.Scopes.{Scope, bound_as, bound_params, known_of_clause, known_of_clauses, known_of_params, known_of_type, scope_of, unbound}
-use Rattle.regent_tree.specs.StaticTypes.{among_params, looked_up, place_in, type_said}
+use Rattle.regent_tree.specs.Scopes.{bound_as, bound_params, known_of_clause, known_of_clauses, known_of_params, known_of_type, scope_of, unbound}
+use Rattle.regent_tree.specs.StaticTypes.{among_params, type_said}
 use Rattle.regent_tree.specs.Syntax.{TaskTree, Tree}
 use Rattle.regent_tree.specs.Typing.{param_types}
 use Rattle.regent_tree.specs.declared.facts.Known.{Known}
@@ -17,7 +17,7 @@ use Rattle.regent_tree.specs.declared.types.TypeTerm.{TypeTerm}
 use Rattle.regent_tree.specs.declared.types.TypeTerm.TheVariants as typed
 use Rattle.regent_tree.specs.declared.typing.Bound.{Bound}
 use Rattle.regent_tree.specs.declared.typing.StaticType.{StaticType}
-use Rattle.regent_tree.specs.declared.typing.StaticType.TheVariants.{Partition as partition_type, Unknown as unknown_type}
+use Rattle.regent_tree.specs.declared.typing.StaticType.TheVariants.{Partition as partition_type}
 use Rattle.check_rules.specs.types.Sorts.{is_region, type_at}
 use Rattle.check_rules.specs.rules.Names.{misses_space, unbound_name_in_type}
 use Rattle.check_rules.specs.types.Lookup.{names_a}

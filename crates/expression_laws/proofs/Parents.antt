@@ -2,10 +2,9 @@
 -- its parent, and is of its parent's root.
 use Rattle.check_rules.proofs.Untold.{rule_none}
 use Rattle.plain_values.proofs.Plain.{option_or_parts}
-use Rattle.std.proofs.Common.{arith, Bool, List, [], ◌∷◌, None, Some, false, true, refl, ap, sym, subst, ℕ, zero, suc, ◌+◌, ◌≡◌, ◌∙◌, ◌&&◌, ◌||◌, bytes_eq, cond, get_or, map, not}
+use Rattle.std.proofs.Common.{arith, Bool, List, [], ◌∷◌, None, Some, false, true, refl, ap, sym, subst, ℕ, zero, suc, ◌+◌, ◌≡◌, ◌∙◌, bytes_eq, cond, get_or, map, not}
 use Rattle.std.proofs.lemmas.Bool.{not-false, or_parts}
 use Rattle.regent_tree.specs.Lookup.{has_field, has_param, is_bound, type_named}
-use Rattle.regent_tree.specs.Running.{Here}
 use Rattle.regent_tree.specs.Scopes.{Scope, bound_as, bound_to}
 use Rattle.regent_tree.specs.StaticTypes.{Looking, Reach, among_args, field_place, field_term, field_type, place_in, space_at, task_named, type_said}
 use Rattle.regent_tree.specs.Syntax.{Expression, Links, Name, Steps, TaskTree, Tree, a_link, access_expr, at_step, call_expr, cast_expr, chain_expr, convert_expr, field_step, is_null_expr, no_link, no_step, null_expr, number_expr, prefix_expr, space_expr, truth_expr}
@@ -17,7 +16,6 @@ use Rattle.regent_tree.specs.declared.expression.Sign.TheVariants.{Minus, Not}
 use Rattle.regent_tree.specs.declared.facts.Known.{Known}
 use Rattle.regent_tree.specs.declared.facts.Term.{Term}
 use Rattle.regent_tree.specs.declared.facts.Term.TheVariants as term
-use Rattle.regent_tree.specs.declared.types.NumberTerm.{NumberTerm}
 use Rattle.regent_tree.specs.declared.types.NumberTerm.TheVariants as number
 use Rattle.regent_tree.specs.declared.types.Param.{Param}
 use Rattle.regent_tree.specs.declared.types.TypeTerm.{TypeTerm}
@@ -31,7 +29,7 @@ use Rattle.check_rules.specs.scopes.Sound.{IsSound}
 use Rattle.check_rules.specs.types.Declarations.{is_no_field_type, is_no_result_type}
 use Rattle.check_rules.specs.types.KnownTypes.{known_type, known_type_after_links, known_type_after_operator, known_type_after_sign, known_type_after_signs}
 use Rattle.check_rules.specs.types.Params.{term_at}
-use Rattle.check_rules.specs.types.Sorts.{is_collection, is_number, is_partition}
+use Rattle.check_rules.specs.types.Sorts.{is_collection, is_partition}
 use Rattle.check_rules.specs.types.TypedForms.{computing}
 use Rattle.check_rules.specs.declared.rule.Rule.TheVariants as rule
 use Rattle.check_laws.proofs.Parameters.{place_step}

@@ -1,61 +1,56 @@
 -- All arguments of a call of which nothing is told fit the called task.
 use Rattle.check_rules.proofs.Written.{told_soundly}
 use Rattle.plain_values.proofs.Plain.{option_or_parts}
-use Rattle.std.proofs.Common.{arith, Bool, List, [], ◌∷◌, ◌++◌, None, Some, false, true, refl, ap, sym, subst, ℕ, ℤ, zero, suc, ◌+◌, ◌≡◌, ◌∙◌, ◌<◌, ◌≤◌, ◌==◌, ◌&&◌, ◌||◌, inl, inr, bytes_eq, cond, get_or, length, map, not}
-use Rattle.std.proofs.lemmas.Bool.{and_parts, cases_lt, eqb-true, not-false, or_cases, or_parts}
+use Rattle.std.proofs.Common.{arith, Bool, List, [], ◌∷◌, None, false, true, refl, ap, sym, subst, ℕ, ℤ, zero, suc, ◌≡◌, ◌∙◌, ◌<◌, ◌≤◌, ◌==◌, ◌&&◌, inl, inr, get_or, length, map, not}
+use Rattle.std.proofs.lemmas.Bool.{cases_lt, eqb-true, not-false, or_parts}
 use Rattle.std.proofs.lemmas.List.{get_or_past}
-use Rattle.std.specs.List.{Contains, list_any}
+use Rattle.std.specs.List.{list_any}
 use Rattle.regent_tree.proofs.Members.{Contains-from_Has, Has, Has-append_cases, Has-append_left, Has-from_Contains}
 use Rattle.regent_tree.specs.Evaluation.{other_types}
-use Rattle.regent_tree.specs.Facts.{are_disjoint, is_name, is_subregion}
+use Rattle.regent_tree.specs.Facts.{is_name}
 use Rattle.regent_tree.specs.Lookup.{has_task}
 use Rattle.regent_tree.specs.Running.{Here, State}
-use Rattle.regent_tree.specs.Scopes.{Scope, bound_as, bound_params, known_of_clause, known_of_clauses, known_of_params, known_of_type, scope_of, unbound}
-use Rattle.regent_tree.specs.StaticTypes.{Looking, Reach, among_params, place_in, task_named, type_said}
-use Rattle.regent_tree.specs.Syntax.{Expressions, ItemForm, ItemTree, Name, TaskTree, Tree, alias_item, an_expr, import_item, no_expr, space_item, start_item, task_item}
-use Rattle.regent_tree.specs.Typing.{param_types, params_at, put_in, type_of, types_of}
-use Rattle.regent_tree.specs.Values.{Partition, Region, Value, a_partition, a_region, a_truth, partition_of, region_of}
+use Rattle.regent_tree.specs.Scopes.{bound_as, bound_params, known_of_clause, known_of_clauses, known_of_params, known_of_type, scope_of, unbound}
+use Rattle.regent_tree.specs.StaticTypes.{place_in, task_named}
+use Rattle.regent_tree.specs.Syntax.{Expressions, ItemTree, Name, TaskTree, an_expr, no_expr, task_item}
+use Rattle.regent_tree.specs.Typing.{param_types, params_at, put_in, types_of}
+use Rattle.regent_tree.specs.Values.{Partition, Region, Value, a_truth, partition_of, region_of}
 use Rattle.regent_tree.specs.declared.facts.Known.{Known}
-use Rattle.regent_tree.specs.declared.facts.Known.TheVariants.{Apart, Made, PartOf, Within}
+use Rattle.regent_tree.specs.declared.facts.Known.TheVariants.{PartOf}
 use Rattle.regent_tree.specs.declared.facts.Term.{Term}
 use Rattle.regent_tree.specs.declared.facts.Term.TheVariants.{Child, Name as term_name}
 use Rattle.regent_tree.specs.declared.program.Clause.{Clause}
 use Rattle.regent_tree.specs.declared.program.Clause.TheVariants as clause
-use Rattle.regent_tree.specs.declared.types.Kind.{Kind}
-use Rattle.regent_tree.specs.declared.types.NumberTerm.TheVariants as number
 use Rattle.regent_tree.specs.declared.types.Param.{Param}
-use Rattle.regent_tree.specs.declared.types.TypeTerm.{TypeTerm}
-use Rattle.regent_tree.specs.declared.types.TypeTerm.TheVariants as typed
 use Rattle.regent_tree.specs.declared.typing.Bound.{Bound}
 use Rattle.regent_tree.specs.declared.typing.StaticType.{StaticType}
 use Rattle.regent_tree.specs.declared.typing.StaticType.TheVariants.{Index as index_type, Integer as integer_type, Ispace as ispace_type, Nothing as no_type, Partition as partition_type, Pointer as pointer_type, Region as region_type, Truth as truth_type, Unknown as unknown_type}
 use Rattle.check_rules.specs.first.FirstInExpressions.{first_in_args, first_in_expression, first_of_call}
-use Rattle.check_rules.specs.rules.Clauses.{clauses_told, is_no_region, misdeclares}
+use Rattle.check_rules.specs.rules.Clauses.{is_no_region, misdeclares}
 use Rattle.check_rules.specs.rules.Constraints.{are_not_apart, breaks_clause, is_not_within}
-use Rattle.check_rules.specs.rules.Partitions.{is_parent, mispartition_in, mispartitions}
-use Rattle.check_rules.specs.rules.Standing.{param_spot, stand_at, stands}
+use Rattle.check_rules.specs.rules.Partitions.{is_parent, mispartition_in}
+use Rattle.check_rules.specs.rules.Standing.{stand_at, stands}
 use Rattle.check_rules.specs.rules.Types.{is_ill_typed_at_place}
-use Rattle.check_rules.specs.scopes.Sound.{IsSound, IsSoundTask, StandsIn}
-use Rattle.check_rules.specs.types.Declarations.{params_bound, params_of}
+use Rattle.check_rules.specs.scopes.Sound.{IsSound, IsSoundTask}
+use Rattle.check_rules.specs.types.Declarations.{params_of}
 use Rattle.check_rules.specs.types.KnownTypes.{known_types}
-use Rattle.check_rules.specs.types.Lookup.{names_a}
 use Rattle.check_rules.specs.types.Params.{types_in_order}
 use Rattle.check_rules.specs.types.Sorts.{is_region, is_unknown_type, type_at}
-use Rattle.check_rules.specs.types.TypedForms.{Calling, calling}
-use Rattle.check_laws.proofs.Parameters.{AreWrittenParams, bound, region_placed}
+use Rattle.check_rules.specs.types.TypedForms.{calling}
+use Rattle.check_laws.proofs.Parameters.{AreWrittenParams, region_placed}
 use Rattle.check_laws.proofs.Parts.{contrary}
 use Rattle.check_laws.proofs.Sounding.{params_written}
 use Rattle.check_laws.specs.SoundScopes.{IsSoundScope}
 use Rattle.fact_laws.proofs.Facts.{are_disjoint_holds, is_subregion_holds}
-use Rattle.fact_laws.specs.Regions.{AllHold, Holds, Interpretation, IsChild, IsIn, IsPartitionOf, LiesWithin, SharesNoPoint, StandsFor, child_at}
+use Rattle.fact_laws.specs.Regions.{AllHold, Holds, Interpretation, IsPartitionOf, LiesWithin, SharesNoPoint, StandsFor, child_at}
 use Rattle.expression_laws.proofs.Calls.{IsFlawless, call_parts, params_long, types_known}
-use Rattle.expression_laws.proofs.Fitting.{IsGiven, IsPartitionGiven, IsRegionGiven, call_named, given_at, given_value, partition_given, region_given, standing_task, stored_passed}
+use Rattle.expression_laws.proofs.Fitting.{IsGiven, IsRegionGiven, call_named, given_at, given_value, partition_given, region_given, standing_task, stored_passed}
 use Rattle.expression_laws.proofs.Params.{known_clause, known_param, none_has, numbered, numbered_has, numbered_member, numbered_past, own_numbered, param_as, param_known, param_type, parent_region}
 use Rattle.expression_laws.proofs.Parents.{type_parent}
 use Rattle.expression_laws.proofs.Stores.{child_in_store, none_in_store}
-use Rattle.expression_laws.specs.Kinds.{IsNamedByOwnNumber, IsOfType, is_index, is_nothing, is_number, is_partition_of, is_pointer, is_region_of, is_space, is_truth, is_unknown}
-use Rattle.expression_laws.specs.Sound.{AreFitting, AreInStore, ArePassed, Instance, IsInStore, IsOfParent, IsPassed, IsSoundPlace, IsSoundState, of_arguments}
-use Rattle.expression_laws.specs.Writing.{AreWritten, IsWritten}
+use Rattle.expression_laws.specs.Kinds.{IsNamedByOwnNumber, IsOfType, is_unknown}
+use Rattle.expression_laws.specs.Sound.{AreFitting, ArePassed, Instance, IsInStore, IsOfParent, IsPassed, IsSoundPlace, IsSoundState, of_arguments}
+use Rattle.expression_laws.specs.Writing.{AreWritten}
 
 module _ (task : TaskTree) (args : List Value) (roots : ℕ) (m : Interpretation) (h : Here) (sound : IsSound h.tree) (sound_task : IsSoundTask h.tree task)
     (scope : IsSoundScope h.scope) (place : IsSoundPlace (record { tree = h.tree; calls = h.calls; task = task; args = args; roots = roots }) m h.scope) where

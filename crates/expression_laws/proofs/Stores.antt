@@ -1,5 +1,5 @@
 -- Regions without points lie in every store.
-use Rattle.std.proofs.Common.{arith, List, [], false, ℕ, ℤ, zero, suc, pos, negsuc, ◌≡◌}
+use Rattle.std.proofs.Common.{arith, [], false, ℕ, ℤ, zero, suc, pos, negsuc}
 use Rattle.std.specs.List.Sorted.{IsStrictlyIncreasing}
 use Rattle.regent_tree.specs.Values.{no_region}
 use Rattle.fact_laws.specs.Regions.{IsIn, child_at}

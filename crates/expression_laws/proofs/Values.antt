@@ -40,7 +40,7 @@ use Rattle.expression_laws.specs.Writing.{AreLinked, AreStepped, AreWritten, IsW
 use Rattle.expression_laws.proofs.Fitting.{call_named}
 use Rattle.expression_laws.proofs.Passing.{call_fits}
 use Rattle.expression_laws.proofs.Names.{named_fits, pointer_args, reached, said_named}
-use Rattle.expression_laws.proofs.Operators.{after, passed_is, arithmetic_is, as_number_is, as_truth, cast_is, chosen, computes_numbers, converted_passes, operand_any, signed_counted, signed_is, signs_value, size_is, standing_any, standing_is, value_from_number, weaker}
+use Rattle.expression_laws.proofs.Operators.{after, passed_is, arithmetic_is, as_number_is, as_truth, cast_is, chosen, computes_numbers, operand_any, signed_counted, signed_is, signs_value, size_is, standing_any, standing_is, value_from_number, weaker}
 use Rattle.expression_laws.proofs.Steps.{element_args, element_is, field_args_in, field_is, taking_stands}
 
 pub unless_known : (b : Bool) (t : StaticType) → is_unknown_type (cond b unknown_type t) ≡ false → cond b unknown_type t ≡ t

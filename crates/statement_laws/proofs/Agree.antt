@@ -1,10 +1,9 @@
 -- Facts hold where what they speak of stands for the same, and facts on bindings that were never reached
 -- hold of nothing.
-use Rattle.std.proofs.Common.{None, Some, arith, Bool, List, [], ◌∷◌, ◌++◌, false, true, refl, ap, sym, subst, ℕ, ℤ, zero, suc, pos, negsuc, ◌≡◌, ◌∙◌, ◌<◌, ◌≤◌, ◌==◌, length, cond, ◌⊎◌, inl, inr}
+use Rattle.std.proofs.Common.{None, Some, arith, Bool, List, [], ◌∷◌, ◌++◌, false, true, refl, ap, sym, subst, ℕ, ℤ, pos, ◌≡◌, ◌∙◌, ◌<◌, ◌≤◌, ◌==◌, length, cond, ◌⊎◌, inl, inr}
 use Rattle.std.proofs.lemmas.Bool.{cond-true, cond-false, lt-ltb}
 use Rattle.std.proofs.lemmas.List.{append_assoc, append-nil}
 use Rattle.std.specs.List.{Contains}
-use Rattle.std.specs.List.Sorted.{IsStrictlyIncreasing}
 use Rattle.std.specs.Prelude.{nat_lt}
 use Rattle.regent_tree.specs.Scopes.{Scope, bound_as, with_name}
 use Rattle.regent_tree.specs.Syntax.{Name as NameText}

@@ -1,10 +1,10 @@
 -- What calls give, at every depth, by recursion on how many more may nest.
-use Rattle.std.proofs.Common.{arith, List, [], None, Option, Some, false, refl, ℕ, zero, suc, ◌≡◌, ◌≤◌, length, map, take}
+use Rattle.std.proofs.Common.{List, [], None, Option, Some, false, ℕ, zero, suc, ◌≡◌, length, map}
 use Rattle.std.proofs.lemmas.List.{length-take-le}
 use Rattle.regent_tree.proofs.Members.{Contains-from_Has}
-use Rattle.regent_tree.specs.Execution.{Going, exec_block, goes_on, returned}
+use Rattle.regent_tree.specs.Execution.{Going, goes_on, returned}
 use Rattle.regent_tree.specs.Initializers.{zero_of}
-use Rattle.regent_tree.specs.Meaning.{body_of, calls_at, ended, opening, run_task}
+use Rattle.regent_tree.specs.Meaning.{calls_at, ended, opening, run_task}
 use Rattle.regent_tree.specs.Running.{Calls, Result, fails, gives}
 use Rattle.regent_tree.specs.Scopes.{Scope, scope_of}
 use Rattle.regent_tree.specs.StaticTypes.{task_named}
@@ -23,7 +23,7 @@ use Rattle.check_laws.proofs.Parts.{contrary}
 use Rattle.fact_laws.specs.Regions.{Interpretation}
 use Rattle.expression_laws.proofs.Fitting.{standing_task}
 use Rattle.expression_laws.specs.Kinds.{IsOfType, is_index, is_nothing, is_number, is_truth}
-use Rattle.expression_laws.specs.Sound.{AreCovered, AreFitting, AreSoundAnswers, Instance, IsSoundAnswer, of_arguments}
+use Rattle.expression_laws.specs.Sound.{AreCovered, AreFitting, AreSoundAnswers, IsSoundAnswer, of_arguments}
 use Rattle.statement_laws.specs.Laws.{AnswersAreSound, InstancesAreCovered, state_of}
 use Rattle.statement_laws.specs.Steady.{GoesOnSound}
 use Rattle.statement_laws.specs.WrittenStatements.{AreWrittenTasks}

@@ -1,26 +1,25 @@
 -- A variable that begins with a partition operation, a difference among them, is bound to what is cut.
 use Rattle.check_rules.proofs.Untold.{rule_none}
 use Rattle.plain_values.proofs.Plain.{option_or_parts}
-use Rattle.std.proofs.Common.{Bool, List, [], ◌∷◌, ◌++◌, None, Option, Some, false, true, refl, ap, sym, subst, ℕ, ◌≡◌, ◌∙◌, ◌<◌, ◌&&◌, inl, inr, cond, length, not, arith}
+use Rattle.std.proofs.Common.{Bool, List, [], ◌∷◌, ◌++◌, None, Option, Some, false, true, refl, ap, sym, subst, ℕ, ◌≡◌, ◌∙◌, ◌<◌, inl, inr, cond, length, not}
 use Rattle.std.proofs.lemmas.Bool.{and_parts, not-false, or_parts}
 use Rattle.std.proofs.lemmas.List.Folds.{list_any-append}
-use Rattle.std.specs.List.{Contains, list_any}
+use Rattle.std.specs.List.{list_any}
 use Rattle.regent_tree.proofs.Members.{Contains-from_Has, Has-from_Contains}
 use Rattle.regent_tree.specs.Accesses.{converted, regions_reached}
 use Rattle.regent_tree.specs.Evaluation.{linked, typed, value}
 use Rattle.regent_tree.specs.Execution.{bind, exec}
 use Rattle.regent_tree.specs.Initializers.{initialized}
 use Rattle.regent_tree.specs.Lookup.{is_bound, type_named}
-use Rattle.regent_tree.specs.Operators.{combined, difference}
+use Rattle.regent_tree.specs.Operators.{combined}
 use Rattle.regent_tree.specs.Accesses.{standing}
 use Rattle.regent_tree.specs.Running.{Here, Result, Run, State, and_then, fails, gives, ◌>>=◌}
 use Rattle.regent_tree.specs.Scopes.{known_of_type}
 use Rattle.regent_tree.specs.Syntax.{Expression, Initializer, Name, TaskTree, a_link, access_expr, chain_expr, no_link, no_step, plain_initializer, var_form}
-use Rattle.regent_tree.specs.Typing.{arithmetic_type, counting_as, initializer_type, known_of_child, known_of_initializer, operated, owned, reaches_of, scope_after, type_of, var_type}
+use Rattle.regent_tree.specs.Typing.{arithmetic_type, counting_as, initializer_type, known_of_child, known_of_initializer, operated, owned, reaches_of, scope_after, var_type}
 use Rattle.regent_tree.specs.Values.{Partition, Value, a_partition, partition_of}
 use Rattle.regent_tree.specs.declared.expression.Arithmetic.TheVariants.{Subtract}
 use Rattle.regent_tree.specs.declared.expression.Operator.TheVariants.{Compute}
-use Rattle.regent_tree.specs.declared.facts.Known.{Known}
 use Rattle.regent_tree.specs.declared.facts.Known.TheVariants.{Made, PartOf}
 use Rattle.regent_tree.specs.declared.types.TypeTerm.{TypeTerm}
 use Rattle.regent_tree.specs.declared.typing.StaticType.{StaticType}
@@ -33,14 +32,14 @@ use Rattle.check_rules.specs.rules.Standing.{stands, typed_spot}
 use Rattle.check_rules.specs.rules.Types.{is_ill_typed_at_place}
 use Rattle.check_rules.specs.scopes.Variables.{is_flawed_initializer, known_initializer, members_of, standing_in_initializer, stands_declared, variable_type}
 use Rattle.check_rules.specs.types.Fitting.{fits}
-use Rattle.check_rules.specs.types.Sorts.{is_collection, is_partition, is_unknown_type, may_be}
+use Rattle.check_rules.specs.types.Sorts.{is_collection, is_partition, may_be}
 use Rattle.check_rules.specs.declared.rule.Rule.TheVariants as rule
-use Rattle.check_laws.proofs.Parts.{contrary, surely, unless_false}
+use Rattle.check_laws.proofs.Parts.{surely, unless_false}
 use Rattle.check_laws.proofs.Variables.{begun_sound, parts_of_form, variable_known}
-use Rattle.fact_laws.specs.Regions.{Holds, Interpretation, LiesWithin, SharesNoPoint, child_at}
+use Rattle.fact_laws.specs.Regions.{Holds, Interpretation}
 use Rattle.expression_laws.specs.Kinds.{IsOfType, is_partition_of}
 use Rattle.expression_laws.specs.Sound.{Instance, IsInStore, IsSoundState, KeepsSound}
-use Rattle.statement_laws.specs.Places.{FormGoes, IsReady}
+use Rattle.statement_laws.specs.Places.{IsReady}
 use Rattle.statement_laws.specs.Steady.{GoesOnSound}
 use Rattle.statement_laws.proofs.Agree.{none_in_store}
 use Rattle.statement_laws.proofs.Cuttings.{Cuts, IsAsked, IsCutValue, IsFlawless, IsPartitionName, asked_of, bound_partition, had}

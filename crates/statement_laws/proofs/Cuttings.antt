@@ -1,30 +1,21 @@
 -- Variables that begin with a partition operation: the new partition is cut of its parent.
 use Rattle.check_rules.proofs.Untold.{rule_none}
 use Rattle.plain_values.proofs.Plain.{option_or_parts}
-use Rattle.std.proofs.Common.{Bool, List, [], ◌∷◌, ◌++◌, None, Option, Some, false, true, refl, ap, sym, subst, ℕ, ℤ, ◌≡◌, ◌∙◌, ◌<◌, ◌&&◌, ◌||◌, ◌==◌, inl, inr, cond, get_or, length, not, arith}
+use Rattle.std.proofs.Common.{Bool, List, [], None, Option, Some, false, true, refl, ap, sym, subst, ℕ, ℤ, ◌≡◌, ◌∙◌, ◌<◌, ◌||◌, ◌==◌, inl, inr, get_or, length, not}
 use Rattle.std.proofs.lemmas.Bool.{and_parts, eqb-true, not-false, or_cases, or_parts}
-use Rattle.std.proofs.lemmas.List.Folds.{list_any-append}
-use Rattle.std.specs.List.{Contains, list_any}
 use Rattle.std.specs.List.Sorted.{IsStrictlyIncreasing}
 use Rattle.std.specs.Prelude.{nat_le}
-use Rattle.regent_tree.proofs.Members.{Contains-from_Has, Has-from_Contains}
-use Rattle.regent_tree.specs.Accesses.{converted, regions_reached}
-use Rattle.regent_tree.specs.Evaluation.{linked, static_type_of, typed, value}
-use Rattle.regent_tree.specs.Execution.{bind, exec}
-use Rattle.regent_tree.specs.Initializers.{Column, colours, initialized, partition_named, partitioned, read_all, region_named}
+use Rattle.regent_tree.specs.Evaluation.{static_type_of, value}
+use Rattle.regent_tree.specs.Initializers.{Column, colours, initialized, partitioned, read_all}
 use Rattle.regent_tree.specs.Lookup.{has_field, is_bound, type_named}
-use Rattle.regent_tree.specs.Operators.{combined, difference}
-use Rattle.regent_tree.specs.Partitions.{both_flag, both_sets, by_field_flag, by_field_sets, either_flag, either_sets, equal_flag, equal_sets, image_flag, image_sets, preimage_flag, preimage_sets}
-use Rattle.regent_tree.specs.Running.{Here, State, and_then, fault, given, gives, if_true, ◌>>=◌}
-use Rattle.regent_tree.specs.Scopes.{Scope, bound_as, bound_to, known_of_type}
-use Rattle.regent_tree.specs.StaticTypes.{task_named}
-use Rattle.regent_tree.specs.Syntax.{Expression, Initializer, Name, TaskTree, a_link, access_expr, both_initializer, by_field_initializer, chain_expr, either_initializer, equal_initializer, image_initializer, no_link, no_step, plain_initializer, preimage_initializer, var_form}
-use Rattle.regent_tree.specs.Typing.{initializer_type, is_disjoint, known_of_initializer, operated, owned, parent_of, reaches_of, scope_after, type_of, var_type}
+use Rattle.regent_tree.specs.Partitions.{both_flag, by_field_flag, by_field_sets, either_flag, equal_flag, image_flag, image_sets, preimage_flag, preimage_sets}
+use Rattle.regent_tree.specs.Running.{Here, State, fault, given, if_true}
+use Rattle.regent_tree.specs.Scopes.{bound_to}
+use Rattle.regent_tree.specs.Syntax.{Expression, Initializer, Name, TaskTree, both_initializer, by_field_initializer, either_initializer, equal_initializer, image_initializer, preimage_initializer, var_form}
+use Rattle.regent_tree.specs.Typing.{initializer_type, is_disjoint, known_of_initializer, parent_of}
 use Rattle.regent_tree.specs.Values.{Partition, Region, Value, a_partition, a_truth, partition_of, region_of, size_of}
-use Rattle.regent_tree.specs.declared.expression.Arithmetic.TheVariants.{Subtract}
-use Rattle.regent_tree.specs.declared.expression.Operator.TheVariants.{Compute}
 use Rattle.regent_tree.specs.declared.facts.Known.{Known}
-use Rattle.regent_tree.specs.declared.facts.Known.TheVariants.{Made, PartOf}
+use Rattle.regent_tree.specs.declared.facts.Known.TheVariants.{PartOf}
 use Rattle.regent_tree.specs.declared.facts.Term.TheVariants.{Name as term_name}
 use Rattle.check_rules.specs.rules.Names.{unbound_name_in_initializer}
 use Rattle.regent_tree.specs.declared.outcome.FaultKind.TheVariants.{BadSize}
@@ -36,38 +27,28 @@ use Rattle.regent_tree.specs.declared.typing.StaticType.TheVariants.{Index as in
 use Rattle.check_rules.specs.first.FirstInExpressions.{first_in_expression}
 use Rattle.check_rules.specs.first.FirstInStatements.{first_of_form, first_of_initializer}
 use Rattle.check_rules.specs.first.Rules.{first_in, rule_if}
-use Rattle.check_rules.specs.rules.Names.{are_partitions, is_unknown_region_field}
-use Rattle.check_rules.specs.rules.Partitions.{have_other_parents, is_difference, mispartitions_initializer}
+use Rattle.check_rules.specs.rules.Names.{is_unknown_region_field}
+use Rattle.check_rules.specs.rules.Partitions.{have_other_parents, mispartitions_initializer}
 use Rattle.check_rules.specs.rules.Privileges.{lacks, reads_in_initializer, wanted_of_region}
-use Rattle.check_rules.specs.rules.Standing.{stands, typed_spot}
-use Rattle.check_rules.specs.rules.Types.{is_ill_typed_at_place}
-use Rattle.check_rules.specs.scopes.Variables.{expressions_in_initializer, is_flawed_initializer, known_initializer, members_of, standing_in_initializer, stands_declared, variable_type}
+use Rattle.check_rules.specs.scopes.Variables.{expressions_in_initializer}
 use Rattle.check_rules.specs.types.Fitting.{fits}
 use Rattle.check_rules.specs.types.Lookup.{names_a, region_has}
-use Rattle.check_rules.specs.types.Sorts.{is_collection, is_partition, is_region, is_unknown_type, may_be}
+use Rattle.check_rules.specs.types.Sorts.{is_partition, is_region, is_unknown_type}
 use Rattle.check_rules.specs.declared.rule.Rule.TheVariants as rule
-use Rattle.check_laws.proofs.Parts.{contrary, surely, unless_false}
+use Rattle.check_laws.proofs.Parts.{contrary}
 use Rattle.check_laws.proofs.Scopes.{found_by_number}
-use Rattle.check_laws.proofs.Variables.{begun_sound, both_named, named, parts_of_form, variable_known}
-use Rattle.fact_laws.specs.Regions.{Holds, Interpretation, IsPartitionOf, LiesWithin, SharesNoPoint, StandsFor, child_at}
+use Rattle.check_laws.proofs.Variables.{both_named, named, parts_of_form}
+use Rattle.fact_laws.specs.Regions.{Interpretation, StandsFor}
 use Rattle.expression_laws.specs.Kinds.{IsNamedByOwnNumber, IsOfType, is_partition_of}
-use Rattle.expression_laws.specs.Sound.{Instance, IsInStore, IsOfParent, IsSoundState, KeepsSound}
+use Rattle.expression_laws.specs.Sound.{Instance, IsOfParent, IsSoundState, KeepsSound}
 use Rattle.expression_laws.specs.Writing.{IsWritten}
 use Rattle.expression_laws.proofs.Names.{named_fits, region_value, said_named}
-use Rattle.expression_laws.proofs.Operators.{after, weaker}
+use Rattle.expression_laws.proofs.Operators.{after}
 use Rattle.expression_laws.proofs.Writes.{column_is}
-use Rattle.statement_laws.specs.Places.{FormGoes, IsReady}
-use Rattle.statement_laws.specs.Steady.{GoesOnSound}
-use Rattle.statement_laws.specs.WrittenStatements.{IsWrittenInitializer}
-use Rattle.statement_laws.proofs.Agree.{none_in_store}
-use Rattle.statement_laws.proofs.Going.{then_goes}
+use Rattle.statement_laws.specs.Places.{IsReady}
 use Rattle.statement_laws.proofs.Leaves.{IsRegionType, region_like}
 use Rattle.statement_laws.proofs.Loops.{evaluates}
-use Rattle.statement_laws.proofs.Parts.{IsCut, both_cut, cut_apart, cut_in_store, cut_known, cut_weaker, cut_within, either_cut, equal_cut, field_cut, image_cut, minus_cut, preimage_cut}
-use Rattle.statement_laws.proofs.States.{put, put_agrees, put_partition}
-use Rattle.statement_laws.proofs.TypedVariables.{unless_both}
-use Rattle.statement_laws.proofs.Variables.{Begins, begun}
-use Rattle.statement_laws.proofs.VariableTypes.{var_said}
+use Rattle.statement_laws.proofs.Parts.{IsCut, both_cut, cut_known, either_cut, equal_cut, field_cut, image_cut, preimage_cut}
 
 pub record IsPartitionType (t : StaticType) : Type 0 where
   pub disjoint : Bool

@@ -1,6 +1,6 @@
 -- The inputs of a program without a breach fit its entry task, which takes integers alone.
-use Rattle.std.proofs.Common.{arith, Bool, List, [], ◌∷◌, ◌++◌, None, false, true, refl, ap, sym, subst, ℕ, ℤ, zero, suc, ◌+◌, ◌≡◌, ◌∙◌, ◌<◌, ◌≤◌, inl, inr, get_or, length, map}
-use Rattle.std.proofs.lemmas.Bool.{and_parts, cases_lt}
+use Rattle.std.proofs.Common.{arith, List, [], ◌∷◌, false, true, refl, ap, sym, subst, ℕ, ℤ, zero, suc, ◌≡◌, ◌∙◌, inl, inr, get_or, length, map}
+use Rattle.std.proofs.lemmas.Bool.{and_parts}
 use Rattle.std.specs.List.{Contains, list_all, list_any}
 use Rattle.regent_tree.proofs.Members.{Contains-from_Has, Has, Has-append_cases, Has-from_Contains}
 use Rattle.regent_tree.specs.Meaning.{inputs_of}
@@ -8,7 +8,7 @@ use Rattle.regent_tree.specs.Scopes.{bound_as, bound_params, known_of_clause, kn
 use Rattle.regent_tree.specs.StaticTypes.{entry_name, place_in, task_named}
 use Rattle.regent_tree.specs.Syntax.{ItemTree, Name, TaskTree, Tree, task_item}
 use Rattle.regent_tree.specs.Typing.{param_types, width_of_type}
-use Rattle.regent_tree.specs.Values.{Value, a_number, a_truth, partition_of, region_of}
+use Rattle.regent_tree.specs.Values.{Value, a_number, a_truth}
 use Rattle.regent_tree.specs.declared.facts.Known.{Known}
 use Rattle.regent_tree.specs.declared.program.Clause.{Clause}
 use Rattle.regent_tree.specs.declared.program.Clause.TheVariants as clause
@@ -22,19 +22,18 @@ use Rattle.regent_tree.specs.declared.typing.StaticType.TheVariants.{Index as in
 use Rattle.check_rules.specs.Breaches.{breaches}
 use Rattle.check_rules.specs.rules.Clauses.{is_no_region, misdeclares}
 use Rattle.check_rules.specs.rules.Entries.{is_integer_term}
-use Rattle.check_rules.specs.types.Sorts.{is_integer, is_region, type_at}
+use Rattle.check_rules.specs.types.Sorts.{is_region, type_at}
 use Rattle.check_laws.proofs.Bodies.{IsToldNone, body_told}
-use Rattle.check_laws.proofs.Entries.{BeginsWell, begins}
+use Rattle.check_laws.proofs.Entries.{begins}
 use Rattle.check_laws.proofs.Parameters.{bound, region_placed}
 use Rattle.check_laws.proofs.Parts.{contrary}
 use Rattle.check_laws.proofs.Sounding.{params_written}
 use Rattle.fact_laws.specs.Regions.{Interpretation}
 use Rattle.expression_laws.proofs.Calls.{bound_long}
 use Rattle.expression_laws.proofs.Fitting.{standing_task}
-use Rattle.expression_laws.proofs.Params.{known_clause, known_param, none_has, numbered, numbered_member, numbered_past, param_as, param_type}
-use Rattle.expression_laws.proofs.Stores.{child_in_store, none_in_store}
+use Rattle.expression_laws.proofs.Params.{known_clause, known_param, none_has, numbered, numbered_member, param_as, param_type}
 use Rattle.expression_laws.specs.Kinds.{IsOfType, is_number, is_unknown}
-use Rattle.expression_laws.specs.Sound.{AreFitting, IsInStore, IsNoCollection, IsOfParent, of_arguments}
+use Rattle.expression_laws.specs.Sound.{AreFitting, IsNoCollection, IsOfParent, of_arguments}
 use Rattle.statement_laws.proofs.States.{plain_children, plain_region}
 use Rattle.std.proofs.lemmas.Bool.{or_parts}
 

@@ -1,21 +1,19 @@
 -- Where a body begins, what must hold there does, if the arguments fit.
-use Rattle.std.proofs.Common.{arith, Bool, List, [], ◌∷◌, ◌++◌, None, Some, false, true, refl, ap, sym, subst, ℕ, zero, suc, ◌+◌, ◌≡◌, ◌∙◌, ◌<◌, ◌≤◌, ◌⊎◌, ◌||◌, inl, inr, cond, get_or, length, map, not}
-use Rattle.std.proofs.lemmas.Bool.{cases_lt, not-false, or_parts}
+use Rattle.std.proofs.Common.{arith, List, [], ◌∷◌, ◌++◌, false, true, refl, ap, sym, subst, ℕ, zero, suc, ◌+◌, ◌≡◌, ◌∙◌, ◌<◌, ◌≤◌, inl, inr, get_or, length, map, not}
+use Rattle.std.proofs.lemmas.Bool.{cases_lt, or_parts}
 use Rattle.std.proofs.lemmas.List.{length-append}
 use Rattle.std.specs.List.{Contains, list_any}
 use Rattle.regent_tree.proofs.Members.{Has, Has-append_cases, Has-from_Contains}
-use Rattle.regent_tree.specs.Accesses.{regions_reached}
 use Rattle.regent_tree.specs.Meaning.{entered, entered_as, opening}
 use Rattle.regent_tree.specs.Running.{Calls}
 use Rattle.regent_tree.specs.Scopes.{Scope, bound_as, bound_params, known_of_clause, known_of_clauses, known_of_params, known_of_type, scope_of, unbound}
-use Rattle.regent_tree.specs.StaticTypes.{Reach, among_params, looked_up, place_in, type_said}
+use Rattle.regent_tree.specs.StaticTypes.{among_params, looked_up, place_in, type_said}
 use Rattle.regent_tree.specs.Store.{Store}
 use Rattle.regent_tree.specs.Syntax.{Name, TaskTree, Tree}
 use Rattle.regent_tree.specs.Typing.{param_types, reaches_of}
 use Rattle.regent_tree.specs.Values.{Value, a_truth}
 use Rattle.regent_tree.specs.declared.facts.Known.{Known}
 use Rattle.regent_tree.specs.declared.facts.Known.TheVariants.{Apart, Made, PartOf, Within}
-use Rattle.regent_tree.specs.declared.facts.Term.TheVariants.{Name as term_name}
 use Rattle.regent_tree.specs.declared.program.Clause.{Clause}
 use Rattle.regent_tree.specs.declared.program.Clause.TheVariants as clause
 use Rattle.regent_tree.specs.declared.types.NumberTerm.TheVariants as number
@@ -35,15 +33,14 @@ use Rattle.check_laws.proofs.Bodies.{IsToldNone, body_told}
 use Rattle.check_laws.proofs.Parts.{contrary}
 use Rattle.check_laws.proofs.Parameters.{AreWrittenParams, bound, region_placed}
 use Rattle.check_laws.proofs.Sounding.{params_written}
-use Rattle.check_laws.specs.SoundScopes.{IsSoundScope}
 use Rattle.fact_laws.specs.Regions.{Interpretation}
 use Rattle.expression_laws.proofs.Calls.{bound_count}
 use Rattle.expression_laws.proofs.Names.{reached}
 use Rattle.expression_laws.proofs.Params.{known_clause, known_param, none_has, numbered, numbered_by, numbered_member, numbered_past, numbered_place, param_as, param_type}
-use Rattle.expression_laws.specs.Kinds.{AreArguments, IsBoundTo, IsOfType, IsWellScoped, IsWellScopedBinding, NamesFit, TypeBelow, is_pointer}
-use Rattle.expression_laws.specs.Sound.{AreFitting, Instance, IsOfParent, IsSoundPlace, IsSoundState, of_arguments}
+use Rattle.expression_laws.specs.Kinds.{AreArguments, IsOfType, IsWellScopedBinding, NamesFit, TypeBelow, is_pointer}
+use Rattle.expression_laws.specs.Sound.{AreFitting, Instance, IsOfParent, of_arguments}
 use Rattle.statement_laws.specs.Laws.{IsSoundOpening, OpeningsAreSound}
-use Rattle.statement_laws.specs.Steady.{ArePlaced, FactBelow, FactsBelow, IsStaticPlace}
+use Rattle.statement_laws.specs.Steady.{ArePlaced, FactBelow, IsStaticPlace}
 use Rattle.statement_laws.proofs.States.{unbound_fits}
 use Rattle.statement_laws.proofs.Types.{args_below, bound_below}
 

@@ -1,10 +1,10 @@
 -- Partitions that are cut of a region: their sets lie within it and rise, and where the type says so they
 -- share no point.
-use Rattle.std.proofs.Common.{arith, Bool, List, [], ◌∷◌, ◌++◌, false, true, refl, ap, sym, subst, ℕ, zero, suc, ℤ, pos, negsuc, ◌+◌, ◌-◌, ◌*◌, ◌/◌, ◌≡◌, ◌≢◌, ◌∙◌, ◌<◌, ◌||◌, inl, inr, All, drop, length, take, nat_abs, Some, None, Option}
+use Rattle.std.proofs.Common.{arith, Bool, List, [], ◌∷◌, true, refl, ap, sym, subst, ℕ, suc, ℤ, pos, negsuc, ◌+◌, ◌-◌, ◌*◌, ◌/◌, ◌≡◌, ◌≢◌, ◌∙◌, ◌<◌, inl, inr, All, drop, length, take, nat_abs}
 use Rattle.std.proofs.lemmas.Bool.{cases_eq, cases_lt, or_cases, or_left, or_right}
 use Rattle.std.proofs.lemmas.List.{take-append-drop}
 use Rattle.std.proofs.lemmas.List.Elements.{All-cons, All-from_get_or}
-use Rattle.std.specs.List.{Contains, list_any}
+use Rattle.std.specs.List.{list_any}
 use Rattle.std.specs.List.Sorted.{IsStrictlyIncreasing}
 use Rattle.plain_values.specs.Points.{has}
 use Rattle.point_sets.proofs.Rising.{has-append, within_each, within_from_each}
@@ -15,8 +15,8 @@ use Rattle.partitions.proofs.Inside.{IsPartOf, field_parts, filtered_parts}
 use Rattle.partitions.proofs.Pairs.{both_apart, both_parts, either_parts, without_apart, without_parts}
 use Rattle.regent_tree.specs.Operators.{difference}
 use Rattle.regent_tree.specs.Partitions.{both_flag, both_sets, by_field_flag, by_field_sets, either_flag, either_sets, equal_flag, equal_part, equal_sets, image_flag, image_sets, is_among, is_point, numbers_at, point_named, points_where, preimage_flag, preimage_sets}
-use Rattle.regent_tree.specs.Values.{Partition, Region, Value, a_partition, partition_of}
-use Rattle.fact_laws.specs.Regions.{Interpretation, IsIn, IsPartitionOf, LiesWithin, SharesNoPoint, child_at}
+use Rattle.regent_tree.specs.Values.{Partition, Region, partition_of}
+use Rattle.fact_laws.specs.Regions.{Interpretation, IsPartitionOf, LiesWithin, SharesNoPoint, child_at}
 use Rattle.expression_laws.specs.Sound.{AreInStore, IsInStore}
 
 -- a partition is cut of a region, where it has this flag

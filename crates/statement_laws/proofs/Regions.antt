@@ -8,8 +8,6 @@ use Rattle.regent_tree.specs.Scopes.{in_scope}
 use Rattle.regent_tree.specs.StaticTypes.{looked_up, place_of_space}
 use Rattle.regent_tree.specs.Typing.{reaches_of}
 use Rattle.regent_tree.specs.declared.types.SpaceUse.{SpaceUse}
-use Rattle.regent_tree.specs.declared.types.TypeTerm.{TypeTerm}
-use Rattle.regent_tree.specs.declared.types.NumberTerm.TheVariants as number
 use Rattle.regent_tree.specs.declared.types.TypeTerm.TheVariants as typed_as
 use Rattle.check_rules.specs.types.Fitting.{fits}
 use Rattle.check_rules.specs.types.Sorts.{is_region, is_unknown_type}
@@ -17,13 +15,13 @@ use Rattle.statement_laws.proofs.TypedVariables.{typed_parts}
 use Rattle.statement_laws.proofs.Variables.{in_turn_goes}
 use Rattle.std.proofs.Common.{map}
 use Rattle.plain_values.proofs.Plain.{option_or_parts}
-use Rattle.std.proofs.Common.{Bool, List, [], ◌∷◌, ◌++◌, None, Some, false, true, refl, sym, subst, ℕ, ◌≡◌, ◌∙◌, inl, inr, cond, length}
+use Rattle.std.proofs.Common.{List, [], ◌∷◌, ◌++◌, None, Some, false, true, refl, sym, subst, ℕ, ◌≡◌, ◌∙◌, inl, inr, cond, length}
 use Rattle.regent_tree.specs.Evaluation.{value}
 use Rattle.regent_tree.specs.Execution.{bind}
 use Rattle.regent_tree.specs.Running.{Here}
 use Rattle.regent_tree.specs.Scopes.{known_of_type}
-use Rattle.regent_tree.specs.Syntax.{Expression, Name, TaskTree, plain_initializer, region_initializer, var_form}
-use Rattle.regent_tree.specs.Typing.{known_of_child, owned, scope_after, type_of, var_type}
+use Rattle.regent_tree.specs.Syntax.{Expression, Name, TaskTree, plain_initializer, var_form}
+use Rattle.regent_tree.specs.Typing.{known_of_child, owned, scope_after, type_of}
 use Rattle.regent_tree.specs.Values.{Value, a_region}
 use Rattle.regent_tree.specs.declared.facts.Known.TheVariants.{Made}
 use Rattle.regent_tree.specs.declared.typing.StaticType.{StaticType}
@@ -38,20 +36,15 @@ use Rattle.statement_laws.proofs.Types.{type_in}
 use Rattle.expression_laws.specs.Kinds.{IsOfType, is_region_of}
 use Rattle.fact_laws.specs.Regions.{Holds, Interpretation}
 use Rattle.expression_laws.specs.Sound.{AreInStore, Instance}
-use Rattle.statement_laws.specs.Steady.{GoesOnSound}
 use Rattle.statement_laws.specs.Places.{FormGoes}
 use Rattle.statement_laws.proofs.Going.{then_goes}
 use Rattle.statement_laws.proofs.Loops.{evaluates}
 use Rattle.statement_laws.proofs.States.{put, put_agrees, put_region}
-use Rattle.regent_tree.specs.Execution.{exec}
-use Rattle.check_laws.proofs.Parts.{contrary}
-use Rattle.std.proofs.Common.{◌⊎◌, inl, inr}
-use Rattle.regent_tree.specs.Syntax.{Form, assert_form, assign_form, at_step, both_initializer, by_field_initializer, call_form, do_form, either_initializer, equal_initializer, field_step, fill_form, for_in_form, for_to_form, if_form, image_initializer, no_step, preimage_initializer, print_form, return_form, while_form}
-use Rattle.statement_laws.proofs.Assignments.{set_goes}
-use Rattle.statement_laws.proofs.Leaves.{IsRest, region_like}
+use Rattle.std.proofs.Common.{inl, inr}
+use Rattle.statement_laws.proofs.Leaves.{region_like}
 use Rattle.check_rules.specs.rules.Standing.{stands}
 use Rattle.expression_laws.specs.Kinds.{TypeBelow}
-use Rattle.statement_laws.proofs.Variables.{begun, region_goes, plain_goes, unset_goes}
+use Rattle.statement_laws.proofs.Variables.{begun}
 use Rattle.regent_tree.specs.Values.{Region}
 use Rattle.regent_tree.specs.Typing.{known_of_child_term}
 use Rattle.regent_tree.specs.declared.facts.Colour.{Colour}
@@ -62,7 +55,6 @@ use Rattle.fact_laws.specs.Regions.{AllLieWithinSome, IsChild, StandsFor}
 use Rattle.expression_laws.specs.Kinds.{TermBelow}
 use Rattle.expression_laws.specs.Sound.{AreInStore, IsInStore}
 use Rattle.statement_laws.proofs.Agree.{child_in_store, stands_too}
-use Rattle.statement_laws.proofs.TypedVariables.{typed_goes}
 use Rattle.statement_laws.proofs.Variables.{Begins}
 use Rattle.regent_tree.specs.declared.types.Kind.{Kind}
 use Rattle.regent_tree.specs.StaticTypes.{Reach}

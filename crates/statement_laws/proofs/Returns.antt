@@ -1,5 +1,5 @@
 -- What a body returns is of the task's result type.
-use Rattle.std.proofs.Common.{Bool, List, [], None, Option, Some, false, true, refl, ℕ, ◌≡◌}
+use Rattle.std.proofs.Common.{List, [], None, Option, Some, false, true, ◌≡◌}
 use Rattle.std.specs.Prelude.{is_none, is_some}
 use Rattle.regent_tree.specs.Accesses.{converted, standing}
 use Rattle.regent_tree.specs.Running.{Here, State}

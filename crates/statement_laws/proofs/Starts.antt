@@ -1,5 +1,5 @@
 -- Every variable keeps what holds, by what it begins with.
-use Rattle.std.proofs.Common.{Bool, List, [], ◌∷◌, ◌++◌, None, Option, Some, false, true, refl, ap, sym, subst, ℕ, ◌≡◌, ◌∙◌, ◌&&◌, not}
+use Rattle.std.proofs.Common.{Bool, List, None, Option, Some, false, true, refl, ap, sym, subst, ℕ, ◌≡◌, ◌∙◌, ◌&&◌, not}
 use Rattle.std.proofs.lemmas.Bool.{or_parts}
 use Rattle.regent_tree.specs.Execution.{exec}
 use Rattle.regent_tree.specs.Running.{Here}
@@ -10,7 +10,6 @@ use Rattle.regent_tree.specs.Values.{Value}
 use Rattle.regent_tree.specs.declared.expression.Arithmetic.TheVariants.{Subtract}
 use Rattle.regent_tree.specs.declared.expression.Operator.TheVariants.{Compute}
 use Rattle.regent_tree.specs.declared.facts.Known.{Known}
-use Rattle.regent_tree.specs.declared.facts.Term.{Term}
 use Rattle.regent_tree.specs.declared.facts.Term.TheVariants.{Name as name_term}
 use Rattle.regent_tree.specs.declared.types.Kind.{Kind}
 use Rattle.regent_tree.specs.declared.types.NumberTerm.TheVariants as number

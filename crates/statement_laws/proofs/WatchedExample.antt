@@ -1,8 +1,8 @@
 -- What the watched example computes.
-use Rattle.std.proofs.Common.{List, [], ◌∷◌, ap, refl, subst, inl, inr, map}
+use Rattle.std.proofs.Common.{[], ◌∷◌, ap, refl, subst, inl, inr, map}
 use Rattle.lane_kernels.specs.declared.numbers.Op.TheVariants.{Sum}
 use Rattle.regent_tree.proofs.Members.{Has, Has-from_Contains}
-use Rattle.regent_tree.specs.Syntax.{Block, ItemForm, ItemTree, TaskTree, no_statement, task_item}
+use Rattle.regent_tree.specs.Syntax.{Block, ItemForm, ItemTree, no_statement, task_item}
 use Rattle.regent_tree.specs.declared.program.Grant.TheVariants.{Reads, Reduces}
 use Rattle.statement_laws.specs.WatchedExample.{WatchedExampleHolds, calling_tree}
 use Rattle.statement_laws.specs.WrittenStatements.{AreWrittenTasks, IsWrittenBlock}

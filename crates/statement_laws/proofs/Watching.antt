@@ -1,13 +1,13 @@
 -- In a program without a breach a watched run never tells of a touch that isn't covered.
-use Rattle.std.proofs.Common.{Bool, List, [], ◌∷◌, None, false, true, refl, ap, sym, subst, ℕ, ℤ, zero, suc, ◌≡◌, ◌∙◌, ◌&&◌, inl, inr, length, map}
+use Rattle.std.proofs.Common.{Bool, List, [], ◌∷◌, true, refl, ap, sym, subst, ℕ, ℤ, zero, suc, ◌≡◌, ◌∙◌, inl, inr, length, map}
 use Rattle.std.proofs.lemmas.Bool.{and_from}
-use Rattle.std.specs.List.{Contains, list_all}
+use Rattle.std.specs.List.{list_all}
 use Rattle.regent_tree.proofs.Members.{Contains-from_Has, Has}
 use Rattle.regent_tree.specs.Cover.{is_covered}
 use Rattle.regent_tree.specs.Execution.{Going}
 use Rattle.regent_tree.specs.Lookup.{has_task}
-use Rattle.regent_tree.specs.Meaning.{calls_at, ended, inputs_of, run_task}
-use Rattle.regent_tree.specs.Running.{Called, Calls, Result, State, broke, came_back, fails, gives}
+use Rattle.regent_tree.specs.Meaning.{ended, inputs_of, run_task}
+use Rattle.regent_tree.specs.Running.{Called, Calls, Result, broke, came_back, fails, gives}
 use Rattle.regent_tree.specs.Scopes.{Scope, scope_of}
 use Rattle.regent_tree.specs.StaticTypes.{entry_name, task_named}
 use Rattle.regent_tree.specs.Store.{Store, Touch}
@@ -24,10 +24,10 @@ use Rattle.check_laws.proofs.Bodies.{body_told}
 use Rattle.check_laws.proofs.Entries.{begins}
 use Rattle.fact_laws.specs.Regions.{Interpretation}
 use Rattle.expression_laws.proofs.Fitting.{standing_task}
-use Rattle.expression_laws.specs.Sound.{AreCovered, AreFitting, AreSoundAnswers, Instance, IsGivenFault, IsSoundAnswer, IsSoundFault, of_arguments}
+use Rattle.expression_laws.specs.Sound.{AreFitting, AreSoundAnswers, Instance, IsGivenFault, IsSoundAnswer, of_arguments}
 use Rattle.statement_laws.specs.Laws.{state_of}
 use Rattle.statement_laws.specs.Steady.{GoesOnSound}
-use Rattle.statement_laws.specs.Watching.{Guard, IsWithinPrivileges, MeaningsAreGuarded, ProgramsKeepPrivileges, guarded_calls, keeps_privileges, passing, watched_run}
+use Rattle.statement_laws.specs.Watching.{IsWithinPrivileges, MeaningsAreGuarded, ProgramsKeepPrivileges, guarded_calls, keeps_privileges, passing}
 use Rattle.statement_laws.specs.WrittenStatements.{AreWrittenTasks}
 use Rattle.statement_laws.proofs.Answers.{instance_goes, task_ended}
 use Rattle.statement_laws.proofs.Entering.{entry_fits}
