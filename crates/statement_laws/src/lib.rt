@@ -44,7 +44,8 @@ pub fn meanings_are_guarded()
     ensures { MeaningsAreGuarded }
 {}
 
-/// A task and a state in which each premise of the law on bodies holds, with the touches that it makes.
+/// A task and arguments of which each premise of the laws on openings, bodies and instances holds, with the
+/// touches that it makes.
 pub fn example_holds()
     ensures { ExampleHolds }
 {}
