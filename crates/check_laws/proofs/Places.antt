@@ -1,6 +1,5 @@
 -- From a tree without a breach to each place: by the recursion of the meaning over its statements.
-use Rattle.plain_values.proofs.Plain.{option_or_parts}
-use Rattle.std.proofs.Common.{List, [], ◌∷◌, None, Option, true, ap, subst, sym, ◌≡◌, ◌∙◌, inl, inr, map}
+use Rattle.std.proofs.Common.{[], ◌∷◌, None, true, subst, ◌≡◌, inl, inr, map}
 use Rattle.regent_tree.proofs.Members.{Contains-from_Has, Has, Has-append_cases, Has-from_Contains, Has-map}
 use Rattle.regent_tree.specs.Scopes.{Scope, past, scope_of, with_name}
 use Rattle.regent_tree.specs.Syntax.{Arms, Block, Form, ItemForm, ItemTree, Otherwise, TaskTree, Tree, a_statement, alias_item, an_arm, assert_form, assign_form, call_form, do_form, else_block, fill_form, for_in_form, for_to_form, if_form, import_item, no_arm, no_else, no_statement, print_form, return_form, space_item, start_item, task_item, then_statement, var_form, while_form}
@@ -8,7 +7,6 @@ use Rattle.regent_tree.specs.Typing.{arithmetic_type, scope_after, scope_after_a
 use Rattle.check_rules.specs.Breaches.{breaches}
 use Rattle.check_rules.specs.first.FirstInExpressions.{first_in_expression}
 use Rattle.check_rules.specs.first.FirstInStatements.{first_in_arms, first_in_block, first_in_else, first_of_form, first_within}
-use Rattle.check_rules.specs.first.Rules.{first_in}
 use Rattle.check_rules.specs.scopes.Sound.{IsSound}
 use Rattle.check_rules.specs.scopes.Visits.{Visit, heads_of}
 use Rattle.check_laws.specs.Laws.{IsWithoutBreach, PlacesAreWithoutBreach}
@@ -17,14 +15,8 @@ use Rattle.check_laws.specs.SoundScopes.{IsSoundScope}
 use Rattle.check_laws.proofs.Blocks.{count_scope, loop_scope}
 use Rattle.check_laws.proofs.Bodies.{body_told}
 use Rattle.check_laws.proofs.Onward.{arm_next, block_next, else_next}
-use Rattle.check_laws.proofs.Trees.{has_flat}
+use Rattle.check_laws.proofs.Trees.{has_flat, none_of}
 use Rattle.check_laws.proofs.Variables.{parts_of_form}
-
--- nothing is told of a member of what nothing is told of
-member_none : {A B : Type 0} (first : A → Option B) (xs : List A) (x : A) → first_in first xs ≡ None → Has xs x → first x ≡ None
-member_none first [] x e h = absurd h
-member_none first (y ∷ ys) x e (inl same) = ap first (sym same) ∙ (option_or_parts (first y) _ e).0
-member_none first (y ∷ ys) x e (inr h) = member_none first ys x (option_or_parts (first y) _ e).1 h
 
 module _ (tree : Tree) (task : TaskTree) (sound : IsSound tree) where
   mutual
@@ -38,7 +30,7 @@ module _ (tree : Tree) (task : TaskTree) (sound : IsSound tree) where
             scope = scope;
             form = next.0;
             within = next.1;
-            heads = λ y c. member_none (first_in_expression tree task s) (heads_of s.names form) y (parts_of_form tree task s sound scope form next.0).2 (Has-from_Contains (heads_of s.names form) y c);
+            heads = λ y c. none_of (first_in_expression tree task s) (heads_of s.names form) y (parts_of_form tree task s sound scope form next.0).2 (Has-from_Contains (heads_of s.names form) y c);
           })
           | inl (inr g) ↦ form_places form s scope next.0 next.1 v g
           | inr g ↦ block_places rest (scope_after tree s form) next.2 next.3 v g

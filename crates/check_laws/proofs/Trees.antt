@@ -40,7 +40,7 @@ use Rattle.check_rules.proofs.Untold.{told_none}
 
 -- ---- lists of which nothing is told
 
-none_of : {A B : Type 0} (f : A → Option B) (xs : List A) (x : A) → first_in f xs ≡ None → Has xs x → f x ≡ None
+pub none_of : {A B : Type 0} (f : A → Option B) (xs : List A) (x : A) → first_in f xs ≡ None → Has xs x → f x ≡ None
 none_of f [] x e h = absurd h
 none_of f (y ∷ ys) x e (inl is) = ap f (sym is) ∙ (option_or_parts (f y) _ e).0
 none_of f (y ∷ ys) x e (inr h) = none_of f ys x (option_or_parts (f y) _ e).1 h
