@@ -9,4 +9,7 @@ pub mod Parameters
 pub mod Meant
 pub mod Trees
 pub mod Onward
+pub mod Entries
+pub mod Sounding
 pub mod Bodies
+pub mod Places

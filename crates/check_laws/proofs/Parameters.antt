@@ -28,7 +28,7 @@ equal_back : (a b : Name) → bytes_eq a b ≡ bytes_eq b a
 equal_back a b = same_from_decides (bytes_eq a b) (bytes_eq b a) (bytes_eq-Decides a b)
     (λ h. sym ((bytes_eq-Decides b a).0 h), λ e. (bytes_eq-Decides b a).1 (sym e))
 
-abbrev bound : Tree → List Param → ℕ → Param → Bound
+abbrev pub bound : Tree → List Param → ℕ → Param → Bound
 bound tree all i p = record { name = p.name; number = i; place = i; static_type = type_said tree (among_params all) i p.term; by_loop = false }
 
 -- what a name is bound to behind others
@@ -112,7 +112,7 @@ tail_none : (w : Bool) (line : ℕ) (rest : List ℕ) → (cond w (line ∷ []) 
 tail_none true line rest e = absurd cc
 tail_none false line rest e = e
 
-place_step : (p : Param) (ps : List Param) (n : Name) (b : Bool) → bytes_eq p.name n ≡ b → place_in (p ∷ ps) n ≡ cond b 0 (1 + place_in ps n)
+pub place_step : (p : Param) (ps : List Param) (n : Name) (b : Bool) → bytes_eq p.name n ≡ b → place_in (p ∷ ps) n ≡ cond b 0 (1 + place_in ps n)
 place_step p ps n true e = ap (λ b. cond (not b) (1 + place_in ps n) 0) e
 place_step p ps n false e = ap (λ b. cond (not b) (1 + place_in ps n) 0) e
 
@@ -154,6 +154,11 @@ number_is_place tree all i (p ∷ ps) earlier none n e = elim (bound_after (boun
 
 -- ---- scopes
 
+-- no two parameters share a name, and each name in a type is bound to what its place needs
+pub record AreWrittenParams (tree : Tree) (all : List Param) : Type 0 where
+  pub once : repeats_after [] (given_by all) ≡ []
+  pub named : list_any (λ (p : Param). unbound_name_in_type tree (bound_params tree all 0 all) p.term) all ≡ false
+
 from_zero : (n : ℕ) → (0 + n) ≡ n
 from_zero n = omega (arith)
 
@@ -166,7 +171,7 @@ module _ (tree : Tree) (all : List Param) (s : Scope) (names_are : s.names ≡ b
   falls : Falls (length all) names
   falls = falls_simply (length all) 0 names (subst (λ next. FallsTo next 0 names) (from_zero (length all)) (falls_params tree all 0 all))
 
-  region_placed : (r : Name) → not (names_a is_region names r) ≡ false →
+  pub region_placed : (r : Name) → not (names_a is_region names r) ≡ false →
       (is_region (bound_as names (place_in all r)).static_type ≡ true) × (place_in all r < length all)
   region_placed r e =
       let both = and_parts (is_bound names r) (may_be is_region (type_named names r)) (not-false _ e) in

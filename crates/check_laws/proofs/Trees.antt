@@ -40,7 +40,7 @@ use Rattle.check_rules.proofs.Untold.{told_none}
 
 -- ---- lists of which nothing is told
 
-none_of : {A B : Type 0} (f : A → Option B) (xs : List A) (x : A) → first_in f xs ≡ None → Has xs x → f x ≡ None
+pub none_of : {A B : Type 0} (f : A → Option B) (xs : List A) (x : A) → first_in f xs ≡ None → Has xs x → f x ≡ None
 none_of f [] x e h = absurd h
 none_of f (y ∷ ys) x e (inl is) = ap f (sym is) ∙ (option_or_parts (f y) _ e).0
 none_of f (y ∷ ys) x e (inr h) = none_of f ys x (option_or_parts (f y) _ e).1 h
@@ -49,7 +49,7 @@ no_lines : (r : Rule) (lines : List ℕ) → first_line r lines ≡ None → lin
 no_lines r [] e = refl
 no_lines r (l ∷ ls) e = absurd cc
 
-has_flat : {A B : Type 0} (f : A → List B) (xs : List A) (y : B) → Has (flat_map f xs) y → (x : A) × Has xs x × Has (f x) y
+pub has_flat : {A B : Type 0} (f : A → List B) (xs : List A) (y : B) → Has (flat_map f xs) y → (x : A) × Has xs x × Has (f x) y
 has_flat f [] y h = absurd h
 has_flat f (x ∷ xs) y h = elim (Has-append_cases (f x) (flat_map f xs) y h) [
   | inl g ↦ (x, inl refl, g)

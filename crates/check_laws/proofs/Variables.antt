@@ -111,7 +111,7 @@ module _ (tree : Tree) (task : TaskTree) (s : Scope) (sound : IsSound tree) (sco
   origin : (sort : StaticType → Bool) (n : Name) → not (names_a sort s.names n) ≡ false → is_unknown_type (type_named s.names n) ≡ false
   origin sort n e = (scope.types n (named sort n e).0).known
 
-  both_named : (p q : Name) → not (are_partitions s.names p q) ≡ false →
+  pub both_named : (p q : Name) → not (are_partitions s.names p q) ≡ false →
       (not (names_a is_partition s.names p) ≡ false) × (not (names_a is_partition s.names q) ≡ false)
   both_named p q e =
       let both = and_parts (names_a is_partition s.names p) (names_a is_partition s.names q) (not-false _ e) in

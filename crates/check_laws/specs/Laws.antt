@@ -6,10 +6,11 @@ use Rattle.regent_tree.specs.Typing.{scope_after_block, type_of}
 use Rattle.check_rules.specs.scopes.Bodies.{body_scope}
 use Rattle.check_rules.specs.Breaches.{breaches}
 use Rattle.check_rules.specs.first.FirstInExpressions.{first_in_expression}
+use Rattle.check_rules.specs.first.FirstInStatements.{first_of_form, first_within}
 use Rattle.check_rules.specs.types.KnownTypes.{known_type, typed_form_of}
 use Rattle.check_rules.specs.scopes.Sound.{IsSound, StandsIn}
 use Rattle.check_rules.specs.scopes.Variables.{known_scope_after_block}
-use Rattle.check_rules.specs.scopes.Visits.{Visit, visits}
+use Rattle.check_rules.specs.scopes.Visits.{Visit, heads_of, visits}
 use Rattle.check_laws.specs.MeantForms.{meant_form_of}
 use Rattle.check_laws.specs.MeantVisits.{expressions_at, meant_visits}
 use Rattle.check_laws.specs.SoundScopes.{IsKnown, IsSoundScope}
@@ -43,3 +44,16 @@ abbrev pub AllIsKnown : Type 0
 AllIsKnown = (tree : Tree) (v : Visit) → breaches tree ≡ [] → Contains (meant_visits tree) v →
     IsSoundScope v.scope
     × ((e : Expression) → Contains (expressions_at v.scope.names v.form) e → IsAsMeant tree v.scope e)
+
+-- Nothing is told of a statement: no rule is breached by what stands in it, by the expressions that stand in it,
+-- or in its blocks.
+pub record IsWithoutBreach (tree : Tree) (v : Visit) : Type 0 where
+  pub scope : IsSoundScope v.scope
+  pub form : first_of_form tree v.task v.scope v.form ≡ None
+  pub within : first_within tree v.task v.scope v.form ≡ None
+  pub heads : (e : Expression) → Contains (heads_of v.scope.names v.form) e → first_in_expression tree v.task v.scope e ≡ None
+
+-- In a program without a breach so it is at each place where a statement stands, in the scope that the meaning
+-- has there.
+abbrev pub PlacesAreWithoutBreach : Type 0
+PlacesAreWithoutBreach = (tree : Tree) (v : Visit) → breaches tree ≡ [] → Contains (meant_visits tree) v → IsWithoutBreach tree v

@@ -4,7 +4,7 @@
 //! The laws are stated under specs/. Each function has an empty body; its contract is a law.
 #![tactic(auto)]
 
-ghost use Rattle.check_laws.specs.Laws.{AllIsKnown, BodiesAreMeant, ExpressionsAreKnown, StatementsAreMeant};
+ghost use Rattle.check_laws.specs.Laws.{AllIsKnown, BodiesAreMeant, ExpressionsAreKnown, PlacesAreWithoutBreach, StatementsAreMeant};
 
 /// In a scope of which all is known, an expression of which no breach is told has the type that the
 /// meaning gives it, and so have its parts.
@@ -30,4 +30,10 @@ pub fn statements_are_meant()
 /// it in the scope of its statement.
 pub fn all_is_known()
     ensures { AllIsKnown }
+{}
+
+/// In a program without a breach no rule is breached at any place where a statement stands, in the scope that
+/// the meaning has there: not by the statement, nor by an expression in it.
+pub fn places_are_without_breach()
+    ensures { PlacesAreWithoutBreach }
 {}

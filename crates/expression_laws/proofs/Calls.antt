@@ -17,7 +17,7 @@ use Rattle.regent_tree.specs.Running.{Here}
 use Rattle.regent_tree.specs.Scopes.{Scope, bound_params}
 use Rattle.regent_tree.specs.StaticTypes.{task_named}
 use Rattle.regent_tree.specs.Syntax.{Expressions, Name, TaskTree, Tree, an_expr, no_expr}
-use Rattle.regent_tree.specs.Typing.{param_types, params_at, put_in, types_of}
+use Rattle.regent_tree.specs.Typing.{param_types, params_at, put_in, type_of, types_of}
 use Rattle.regent_tree.specs.Values.{Region, Value, a_truth, region_of}
 use Rattle.regent_tree.specs.declared.facts.Known.{Known}
 use Rattle.regent_tree.specs.declared.facts.Known.TheVariants.{Within, Apart, PartOf, Made}
@@ -32,7 +32,9 @@ use Rattle.regent_tree.specs.declared.rights.Wanted.{Wanted}
 use Rattle.regent_tree.specs.declared.typing.StaticType.{StaticType}
 use Rattle.regent_tree.specs.declared.typing.StaticType.TheVariants.{Index as index_type, Integer as integer_type, Ispace as ispace_type, Nothing as no_type, Partition as partition_type, Pointer as pointer_type, Region as region_type, Truth as truth_type, Unknown as unknown_type}
 use Rattle.regent_tree.proofs.Members.{Contains-from_Has, Has, Has-append_left, Has-append_right, Has-from_list_any}
+use Rattle.check_rules.specs.rules.Constraints.{breaks_constraint}
 use Rattle.check_rules.specs.rules.Counts.{miscounts_call}
+use Rattle.check_rules.specs.rules.Partitions.{mispartitions_call}
 use Rattle.check_rules.specs.types.Declarations.{params_bound, params_of}
 use Rattle.check_rules.specs.first.FirstInExpressions.{first_in_args, first_in_expression, first_of_call}
 use Rattle.check_rules.specs.types.KnownTypes.{known_types}
@@ -53,7 +55,7 @@ use Rattle.check_laws.proofs.Parts.{contrary}
 use Rattle.expression_laws.specs.Kinds.{IsOfType, is_region_of, is_unknown}
 use Rattle.expression_laws.specs.Needs.{IsCallWithin, IsMet, argument_at, is_needed_at, joined_all, mode_at, mode_of, modes_had, modes_needed}
 use Rattle.fact_laws.specs.Regions.{IsIn, Interpretation, StandsFor}
-use Rattle.expression_laws.specs.Sound.{ArePassed, Instance, IsSoundPlace}
+use Rattle.expression_laws.specs.Sound.{ArePassed, Instance, IsPassed, IsSoundPlace}
 use Rattle.expression_laws.proofs.Covers.{has_flat, on_region}
 use Rattle.fact_laws.proofs.Facts.{is_subregion_holds}
 use Rattle.expression_laws.proofs.Joins.{met_among, met_joined, same_ops}
@@ -216,12 +218,24 @@ put_regions types [] i = refl
 put_regions types (p ∷ params) zero = put_region types p
 put_regions types (p ∷ params) (suc i) = put_regions types params i
 
+region_passed : (m : Interpretation) (from wanted : StaticType) (v : Value) → is_region wanted ≡ true → IsPassed m from wanted v → IsOfType m from v
+region_passed m from (region_type k s args r) v e is = is
+region_passed m from (integer_type w) v e is = absurd cc
+region_passed m from truth_type v e is = absurd cc
+region_passed m from (index_type k) v e is = absurd cc
+region_passed m from (pointer_type k s args terms) v e is = absurd cc
+region_passed m from (ispace_type k) v e is = absurd cc
+region_passed m from (partition_type d r p) v e is = absurd cc
+region_passed m from no_type v e is = absurd cc
+region_passed m from unknown_type v e is = absurd cc
+
 passed_at : (m : Interpretation) (tree : Tree) (s : Scope) (types : List StaticType) (es : Expressions) (vs : List Value) (i : ℕ) →
     ArePassed m tree s types es vs → is_region (type_at types i) ≡ true → IsOfType m (type_at (types_of tree s es) i) (get_or vs i (a_truth false))
-passed_at m tree s types no_expr vs i passed e = is_unknown
+passed_at m tree s types no_expr [] i passed e = is_unknown
+passed_at m tree s types no_expr (v ∷ vs) i passed e = absurd passed
 passed_at m tree s types (an_expr y es) [] i passed e = absurd passed
 passed_at m tree s [] (an_expr y es) (v ∷ vs) i passed e = absurd cc
-passed_at m tree s (t ∷ types) (an_expr y es) (v ∷ vs) zero passed e = passed.0 e
+passed_at m tree s (t ∷ types) (an_expr y es) (v ∷ vs) zero passed e = region_passed m (type_of tree s y) t v e passed.0
 passed_at m tree s (t ∷ types) (an_expr y es) (v ∷ vs) (suc i) passed e = passed_at m tree s types es vs i passed.1 e
 
 -- what isn't told of a call
@@ -230,7 +244,9 @@ pub record IsFlawless (tree : Tree) (task : TaskTree) (s : Scope) (c : Calling) 
   pub counted : miscounts_call tree c ≡ false
   pub stand : list_any (is_ill_typed_at_place s.known) (standing_in_call tree c) ≡ false
   pub fits : misfits_call (params_of tree c.task) c ≡ false
+  pub parted : mispartitions_call (params_of tree c.task) c ≡ false
   pub allowed : lacks tree task s (wanted_by_call tree c) ≡ false
+  pub constrained : breaks_constraint tree s.known c ≡ false
 
 pub call_parts : (tree : Tree) (task : TaskTree) (s : Scope) (c : Calling) → first_of_call tree task s c ≡ None → IsFlawless tree task s c
 call_parts tree task s c e =
@@ -239,30 +255,33 @@ call_parts tree task s c e =
     let p = option_or_parts _ _ o.1 in
     let q = option_or_parts _ _ p.1 in
     let r = option_or_parts _ _ q.1 in
-    let l = option_or_parts _ _ r.1 in record {
+    let l = option_or_parts _ _ r.1 in
+    let k = option_or_parts _ _ l.1 in record {
       named = rule_none (is_unknown_task tree c) rule.Name n.0;
       counted = rule_none (miscounts_call tree c) rule.Count o.0;
       stand = stand_none s.known (standing_in_call tree c) p.0;
       fits = rule_none (misfits_call (params_of tree c.task) c) rule.Spaces q.0;
+      parted = rule_none (mispartitions_call (params_of tree c.task) c) rule.Partition r.0;
       allowed = rule_none (lacks tree task s (wanted_by_call tree c)) rule.CallPrivilege l.0;
+      constrained = rule_none (breaks_constraint tree s.known c) rule.CallConstraint k.0;
     }
 
-bound_count : (tree : Tree) (all : List Param) (i : ℕ) (ps : List Param) → length (bound_params tree all i ps) ≡ length ps
+pub bound_count : (tree : Tree) (all : List Param) (i : ℕ) (ps : List Param) → length (bound_params tree all i ps) ≡ length ps
 bound_count tree all i [] = refl
 bound_count tree all i (p ∷ ps) =
     let rest = bound_count tree all (suc i) ps in
     length-append (bound_params tree all (suc i) ps) _ ∙ omega (arith, rest)
 
-bound_long : (tree : Tree) (all : List Param) (i : ℕ) (ps : List Param) → length (types_in_order (bound_params tree all i ps)) ≡ length ps
+pub bound_long : (tree : Tree) (all : List Param) (i : ℕ) (ps : List Param) → length (types_in_order (bound_params tree all i ps)) ≡ length ps
 bound_long tree all i ps =
     length-map (reverse (bound_params tree all i ps)) (λ (b : Bound). b.static_type) ∙ length-reverse (bound_params tree all i ps) ∙ bound_count tree all i ps
 
 module _ (task : TaskTree) (args : List Value) (roots : ℕ) (m : Interpretation) (h : Here) (sound : IsSound h.tree) (sound_task : IsSoundTask h.tree task)
-    (scope : IsSoundScope h.scope) (place : IsSoundPlace (record { tree = h.tree; task = task; args = args; roots = roots }) m h.scope) where
+    (scope : IsSoundScope h.scope) (place : IsSoundPlace (record { tree = h.tree; calls = h.calls; task = task; args = args; roots = roots }) m h.scope) where
   abbrev x : Instance
-  x = record { tree = h.tree; task = task; args = args; roots = roots }
+  x = record { tree = h.tree; calls = h.calls; task = task; args = args; roots = roots }
 
-  types_known : (es : Expressions) → first_in_args h.tree task h.scope es ≡ None →
+  pub types_known : (es : Expressions) → first_in_args h.tree task h.scope es ≡ None →
       (known_types h.tree h.scope es ≡ types_of h.tree h.scope es) × (list_any is_unknown_type (known_types h.tree h.scope es) ≡ false)
   types_known no_expr e = (refl, refl)
   types_known (an_expr y es) e =
@@ -271,7 +290,7 @@ module _ (task : TaskTree) (args : List Value) (roots : ℕ) (m : Interpretation
       let rest = types_known es parts.1 in
       ((λ j. k.1 j ∷ rest.0 j), (λ j. k.0.known j || rest.1 j))
 
-  params_long : (name : Name) → length (params_of h.tree name) ≡ length (task_named h.tree name).params
+  pub params_long : (name : Name) → length (params_of h.tree name) ≡ length (task_named h.tree name).params
   params_long name = ap (λ bs. length (types_in_order bs)) (sound.params name) ∙ bound_long h.tree (task_named h.tree name).params 0 (task_named h.tree name).params
 
   -- the values that arguments without a breach have, for a call of which nothing is told

@@ -1,5 +1,5 @@
 -- What the rules on privileges allow at a place is covered by what the task declares.
-use Rattle.std.proofs.Common.{List, [], ◌∷◌, Bool, None, Option, Some, false, true, refl, ap, sym, subst, ℕ, ◌≡◌, ◌∙◌, inl, inr, ◌&&◌, ◌==◌, filter, flat_map, map, cond}
+use Rattle.std.proofs.Common.{List, [], ◌∷◌, Bool, None, Option, Some, false, true, refl, ap, sym, subst, ℕ, ◌≡◌, ◌∙◌, inl, inr, ◌&&◌, ◌==◌, filter, map, cond}
 use Rattle.std.proofs.lemmas.Bool.{and_from, and_parts, eqb-true, eq-eqb, or_cases, or_left, or_right, le-leb}
 use Rattle.std.specs.List.{list_any}
 use Rattle.std.specs.Prelude.{nat_le}
@@ -32,7 +32,7 @@ use Rattle.regent_tree.specs.declared.rights.Right.{Right}
 use Rattle.regent_tree.specs.declared.rights.Wanted.{Wanted}
 use Rattle.regent_tree.specs.declared.typing.StaticType.{StaticType}
 use Rattle.regent_tree.specs.declared.typing.StaticType.TheVariants.{Index as index_type, Integer as integer_type, Ispace as ispace_type, Nothing as no_type, Partition as partition_type, Pointer as pointer_type, Region as region_type, Truth as truth_type, Unknown as unknown_type}
-use Rattle.regent_tree.proofs.Members.{Contains-from_Has, Has, Has-append_cases, Has-from_list_any, Has-map_cases, list_any-from_Has}
+use Rattle.regent_tree.proofs.Members.{Contains-from_Has, Has, Has-from_list_any, Has-map_cases, list_any-from_Has}
 use Rattle.check_rules.specs.types.Declarations.{params_bound}
 use Rattle.check_rules.specs.types.Params.{types_in_order}
 use Rattle.check_rules.specs.rules.Privileges.{a_right, access_of_grant, fields_named, made_above, may_do, rights_declared, rights_of_clause, rights_of_place, rights_on}
@@ -41,16 +41,10 @@ use Rattle.check_rules.specs.scopes.Sound.{IsSoundTask}
 use Rattle.expression_laws.specs.Needs.{mode_of}
 use Rattle.fact_laws.specs.Regions.{IsIn, Interpretation, StandsFor}
 use Rattle.expression_laws.specs.Sound.{Instance, IsSoundPlace}
+pub use Rattle.check_laws.proofs.Trees.{has_flat}
 use Rattle.fact_laws.proofs.Facts.{is_subregion_holds}
 
 -- ---- lists
-
-pub has_flat : {A B : Type 0} (f : A → List B) (xs : List A) (y : B) → Has (flat_map f xs) y → (x : A) × Has xs x × Has (f x) y
-has_flat f [] y h = absurd h
-has_flat f (x ∷ xs) y h = elim (Has-append_cases (f x) (flat_map f xs) y h) [
-  | inl g ↦ (x, inl refl, g)
-  | inr g ↦ let r = has_flat f xs y g in (r.0, inr r.1, r.2)
-]
 
 pub has_filtered : {A : Type 0} (p : A → Bool) (xs : List A) (y : A) → Has (filter p xs) y → Has xs y
 has_filtered p [] y h = absurd h

@@ -6,5 +6,10 @@ pub mod Steps
 pub mod Values
 pub mod Writes
 pub mod Joins
+pub mod Params
+pub mod Parents
+pub mod Stores
 pub mod Calls
+pub mod Fitting
+pub mod Passing
 pub mod Laws

@@ -31,7 +31,7 @@ use Rattle.check_laws.specs.SoundScopes.{IsKnown}
 use Rattle.check_laws.proofs.Parts.{after_signs, surely, unless_false}
 use Rattle.expression_laws.specs.Kinds.{GoInto, IsOfType, is_index, is_number, is_pointer, is_space, is_truth, number_stood_for}
 use Rattle.fact_laws.specs.Regions.{Interpretation}
-use Rattle.expression_laws.specs.Sound.{Instance, IsSoundState, KeepsSound}
+use Rattle.expression_laws.specs.Sound.{Instance, IsPassed, IsSoundState, KeepsSound}
 
 -- ---- steps in order
 
@@ -54,7 +54,7 @@ module _ (x : Instance) (m : Interpretation) (s : Scope) (h : Here) where
   -- ---- what a value stands for
 
   pub standing_any : (v : Value) (u : State) → IsSoundState x m s u → KeepsSound x m s (λ a. Unit {0}) (standing h v u)
-  standing_any (a_pointer null_target rs) u st = st.covered
+  standing_any (a_pointer null_target rs) u st = record { covered = st.covered; depth = λ e. absurd cc }
   standing_any (a_pointer (point_target n i) rs) u st = (st, tt)
   standing_any (a_number w z) u st = (st, tt)
   standing_any (a_truth b) u st = (st, tt)
@@ -72,7 +72,7 @@ module _ (x : Instance) (m : Interpretation) (s : Scope) (h : Here) where
   standing_is (integer_type w) v u e is_number st = (st, (is_number, refl))
   standing_is truth_type v u e is_truth st = (st, (is_truth, refl))
   standing_is (index_type k) v u e is_index st = (st, (is_index, refl))
-  standing_is (pointer_type k sp args terms) v u e (is_pointer {t = null_target} go) st = st.covered
+  standing_is (pointer_type k sp args terms) v u e (is_pointer {t = null_target} go) st = record { covered = st.covered; depth = λ e. absurd cc }
   standing_is (pointer_type k sp args terms) v u e (is_pointer {t = point_target n i} go) st = (st, (is_index, refl))
   standing_is (ispace_type k) v u e is st = absurd cc
   standing_is (region_type k sp args t) v u e is st = absurd cc
@@ -85,7 +85,7 @@ module _ (x : Instance) (m : Interpretation) (s : Scope) (h : Here) where
   divided : (Is : Value → Type 0) (made : ℤ → Value) (r : Option ℤ) (u : State) → ((z : ℤ) → Is (made z)) → IsSoundState x m s u →
       KeepsSound x m s Is (unless_divided h made r u)
   divided Is made (Some z) u is st = (st, is z)
-  divided Is made None u is st = st.covered
+  divided Is made None u is st = record { covered = st.covered; depth = λ e. absurd cc }
 
   pub arithmetic_is : (t v : StaticType) (o : Arithmetic) (a b : Value) (u : State) → numeric t ≡ true → numeric v ≡ true →
       IsOfType m (counting_as t) a → IsOfType m (counting_as v) b → IsSoundState x m s u →
@@ -114,8 +114,8 @@ module _ (x : Instance) (m : Interpretation) (s : Scope) (h : Here) where
   arithmetic_is unknown_type v o a b u e f is js st = absurd cc
 
   pub size_is : (k : Kind) (z : ℤ) (u : State) → IsSoundState x m s u → KeepsSound x m s (IsOfType m (ispace_type k)) (space_of_size h z u)
-  size_is k (pos n) u st = chosen x m s (IsOfType m (ispace_type k)) (nat_le n 4194304) (given (a_space n)) (fault h BadSize) u (st, is_space) st.covered
-  size_is k (negsuc n) u st = st.covered
+  size_is k (pos n) u st = chosen x m s (IsOfType m (ispace_type k)) (nat_le n 4194304) (given (a_space n)) (fault h BadSize) u (st, is_space) (record { covered = st.covered; depth = λ e. absurd cc })
+  size_is k (negsuc n) u st = record { covered = st.covered; depth = λ e. absurd cc }
 
   -- a conversion leaves a region as it is
   pub converted_passes : (from wanted : StaticType) (rs : List Region) (v : Value) (u : State) → IsSoundState x m s u →
@@ -130,6 +130,19 @@ module _ (x : Instance) (m : Interpretation) (s : Scope) (h : Here) where
   converted_passes from (partition_type d r p) rs v u st = (st, λ e. refl)
   converted_passes from no_type rs v u st = (st, λ e. refl)
   converted_passes from unknown_type rs v u st = (st, λ e. refl)
+
+-- what is given to a parameter
+pub passed_is : (x : Instance) (m : Interpretation) (s : Scope) (h : Here) (from wanted : StaticType) (v : Value) (u : State) → IsOfType m from v → IsSoundState x m s u →
+    KeepsSound x m s (IsPassed m from wanted) (converted h from wanted [] v u)
+passed_is x m s h from (integer_type w) v u is st = (st, (_, refl))
+passed_is x m s h from (index_type k) v u is st = after (IsPassed m from (index_type k)) (standing h v u) _ (standing_any x m s h v u st) (λ a w st k. (st, (_, refl)))
+passed_is x m s h from (pointer_type k sp args terms) v u is st = (st, (_, refl))
+passed_is x m s h from truth_type v u is st = (st, is)
+passed_is x m s h from (ispace_type k) v u is st = (st, is)
+passed_is x m s h from (region_type k sp args t) v u is st = (st, is)
+passed_is x m s h from (partition_type d r p) v u is st = (st, is)
+passed_is x m s h from no_type v u is st = (st, is)
+passed_is x m s h from unknown_type v u is st = (st, is)
 
 -- operands of arithmetic are numbers
 beside_number : (v : StaticType) → is_unknown_type v ≡ false → may_be numeric (counting_as v) ≡ true → numeric v ≡ true

@@ -78,9 +78,9 @@ goes_into m (Some t ∷ terms) (r ∷ rs) (suc i) n go w e =
 -- ---- a place in a running task
 
 module _ (task : TaskTree) (args : List Value) (roots : ℕ) (m : Interpretation) (h : Here) (sound : IsSound h.tree) (sound_task : IsSoundTask h.tree task)
-    (scope : IsSoundScope h.scope) (well_scoped : IsWellScoped h.scope) (place : IsSoundPlace (record { tree = h.tree; task = task; args = args; roots = roots }) m h.scope) where
+    (scope : IsSoundScope h.scope) (well_scoped : IsWellScoped h.scope) (place : IsSoundPlace (record { tree = h.tree; calls = h.calls; task = task; args = args; roots = roots }) m h.scope) where
   abbrev x : Instance
-  x = record { tree = h.tree; task = task; args = args; roots = roots }
+  x = record { tree = h.tree; calls = h.calls; task = task; args = args; roots = roots }
 
   pub one_covered : (touches : List Touch) (t : Touch) → AreCovered x touches → is_covered h.tree roots task args t ≡ true → AreCovered x (touches ++ t ∷ [])
   one_covered touches t are is y c = elim (Has-append_cases touches (t ∷ []) y (Has-from_Contains (touches ++ t ∷ []) y c)) [
@@ -132,8 +132,8 @@ module _ (task : TaskTree) (args : List Value) (roots : ℕ) (m : Interpretation
       lacks h.tree task h.scope (wanted_of_step h.tree Read (field_of (pointer_type k sp types terms) f)) ≡ false →
       AreArguments h.scope types → GoInto m terms rs → IsSoundState x m h.scope u →
       KeepsSound x m h.scope (IsOfType m (field_type h.tree sp types f)) (read_field h (pointer_type k sp types terms) f (aimed_through rs t) u)
-  read_is k sp types terms f null_target rs u there wild lacking are go st = st.covered
-  read_is k sp types terms f (point_target n zero) rs u there wild lacking are go st = st.covered
+  read_is k sp types terms f null_target rs u there wild lacking are go st = record { covered = st.covered; depth = λ e. absurd cc }
+  read_is k sp types terms f (point_target n zero) rs u there wild lacking are go st = record { covered = st.covered; depth = λ e. absurd cc }
   read_is k sp types terms f (point_target n (suc i)) rs u there wild lacking are go st = hit (has (get_or rs i no_region).points n) refl
     where
       hit : (b : Bool) → has (get_or rs i no_region).points n ≡ b →
@@ -150,7 +150,7 @@ module _ (task : TaskTree) (args : List Value) (roots : ℕ) (m : Interpretation
             (reached m h.scope u.names well_scoped st.names (reaches_of (field_type h.tree sp types f))
             (field_args h.scope h.tree sp types f (field_said sp f there) are).1),
       )
-      hit false e = st.covered
+      hit false e = record { covered = st.covered; depth = λ e. absurd cc }
 
   pub field_is : (t : StaticType) (f : Name) (v : Value) (u : State) → first_of_taking h.tree (field_of t f) ≡ None →
       first_of_reading h.tree task h.scope (field_of t f) ≡ None → IsKnown h.scope t → ArgumentsInScope h.scope t → IsOfType m t v → IsSoundState x m h.scope u →
@@ -196,8 +196,8 @@ module _ (task : TaskTree) (args : List Value) (roots : ℕ) (m : Interpretation
       KeepsSound x m h.scope (IsOfType m (pointer_type k sp types (Some t ∷ []))) (take_point h r z u)
   point_is k sp types t r (pos n) u stands st =
       chosen x m h.scope (IsOfType m (pointer_type k sp types (Some t ∷ []))) (has r.points n) (given (a_pointer (point_target n 1) (r ∷ []))) (fault h OutOfRegion) u
-      (st, is_pointer (stands, tt)) st.covered
-  point_is k sp types t r (negsuc n) u stands st = st.covered
+      (st, is_pointer (stands, tt)) (record { covered = st.covered; depth = λ e. absurd cc })
+  point_is k sp types t r (negsuc n) u stands st = record { covered = st.covered; depth = λ e. absurd cc }
 
   child_of_is : (parent p : ℕ) (q : Partition) (e : Expression) (z : ℤ) (u : State) → is_region (bound_as h.scope.names parent).static_type ≡ true →
       IsColour m (colour_of h.scope e) z → m.partition p ≡ q → IsSoundState x m h.scope u →
@@ -207,8 +207,8 @@ module _ (task : TaskTree) (args : List Value) (roots : ℕ) (m : Interpretation
         st,
         child_is (bound_as h.scope.names parent).static_type (term.Child p (colour_of h.scope e)) _ placed
             (record { number = pos c; is_colour = colour; is_child = ap (λ y. child_at y (pos c)) same }),
-      ) st.covered
-  child_of_is parent p q e (negsuc c) u placed colour same st = st.covered
+      ) (record { covered = st.covered; depth = λ e. absurd cc })
+  child_of_is parent p q e (negsuc c) u placed colour same st = record { covered = st.covered; depth = λ e. absurd cc }
 
   pub element_is : (t k : StaticType) (e : Expression) (z : ℤ) (v : Value) (u : State) → first_of_taking h.tree (element_of t k) ≡ None →
       IsKnown h.scope t → IsColour m (colour_of h.scope e) z → IsOfType m t v → IsSoundState x m h.scope u →

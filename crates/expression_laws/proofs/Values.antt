@@ -1,11 +1,11 @@
 -- Expressions without a breach: their values are of their types, and what they read is covered.
 use Rattle.check_rules.proofs.Untold.{rule_none, standing_none}
 use Rattle.plain_values.proofs.Plain.{option_or_parts}
-use Rattle.std.proofs.Common.{List, [], ◌∷◌, Bool, None, false, true, refl, ap, sym, subst, ℕ, ℤ, zero, suc, ◌≡◌, ◌∙◌, ◌≤◌, not, get_or, map, cond}
+use Rattle.std.proofs.Common.{List, [], ◌∷◌, Bool, None, false, true, refl, ap, sym, subst, ℕ, ℤ, zero, suc, ◌≡◌, ◌∙◌, ◌≤◌, not, get_or, length, map, cond}
 use Rattle.std.proofs.lemmas.Bool.{and_parts, not-false}
 use Rattle.regent_tree.specs.Accesses.{converted, regions_reached, regions_written, standing, take_element, take_field}
 use Rattle.regent_tree.specs.Evaluation.{answered, called, first_type, linked, other_types, stepped, typed, value, values}
-use Rattle.regent_tree.specs.Lookup.{is_bound, type_named}
+use Rattle.regent_tree.specs.Lookup.{has_task, is_bound, type_named}
 use Rattle.regent_tree.specs.Operators.{all_signed, arithmetic, as_number, cast_to, combined, compares_pointers, comparison, operand, space_of_size}
 use Rattle.regent_tree.specs.Running.{Called, Here, Result, Run, State, and_then, broke, came_back, given, gives, pay_from, ◌>>=◌}
 use Rattle.regent_tree.specs.Scopes.{bound_to, in_scope}
@@ -20,11 +20,11 @@ use Rattle.regent_tree.specs.declared.types.PointerTerm.{PointerTerm}
 use Rattle.regent_tree.specs.declared.types.TypeTerm.TheVariants as typed_as
 use Rattle.regent_tree.specs.declared.typing.StaticType.{StaticType}
 use Rattle.regent_tree.specs.declared.typing.StaticType.TheVariants.{Truth as truth_type, Unknown as unknown_type}
-use Rattle.check_rules.specs.first.FirstInExpressions.{first_in_args, first_in_expression, first_in_links, first_in_steps, first_in_type, first_of_operator, first_of_standing, first_of_step, first_of_taking}
-use Rattle.check_rules.specs.types.KnownTypes.{known_type}
+use Rattle.check_rules.specs.first.FirstInExpressions.{first_in_args, first_in_expression, first_in_links, first_in_steps, first_in_type, first_of_call, first_of_operator, first_of_standing, first_of_step, first_of_taking}
+use Rattle.check_rules.specs.types.KnownTypes.{known_type, known_types}
 use Rattle.check_rules.specs.rules.Names.{unbound_name_in_type}
 use Rattle.check_rules.specs.first.Rules.{rule_if}
-use Rattle.check_rules.specs.types.TypedForms.{computing, element_of, field_of}
+use Rattle.check_rules.specs.types.TypedForms.{calling, computing, element_of, field_of}
 use Rattle.check_rules.specs.types.Sorts.{is_number as numeric, is_truth as truthful, is_unknown_type, may_be}
 use Rattle.check_rules.specs.scopes.Sound.{IsSound, IsSoundTask}
 use Rattle.check_rules.specs.rules.Standing.{number_spot, stands}
@@ -35,10 +35,12 @@ use Rattle.expression_laws.proofs.Knowing.{known_as_meant}
 use Rattle.check_laws.proofs.Parts.{after_operator, contrary, element_known, field_known, surely}
 use Rattle.expression_laws.specs.Kinds.{ArgumentsInScope, GoInto, IsOfType, IsWellScoped, NamesFit, is_number, is_pointer, is_truth, number_stood_for}
 use Rattle.fact_laws.specs.Regions.{IsColour, Interpretation}
-use Rattle.expression_laws.specs.Sound.{AreInStore, AreSoundAnswers, ArePassed, IsValueOf, IsSoundAnswer, Instance, IsSoundPlace, IsSoundState, KeepsSound}
+use Rattle.expression_laws.specs.Sound.{AreFitting, AreInStore, AreSoundAnswers, ArePassed, IsValueOf, IsSoundAnswer, Instance, IsSoundPlace, IsSoundState, KeepsSound}
 use Rattle.expression_laws.specs.Writing.{AreLinked, AreStepped, AreWritten, IsWritten}
+use Rattle.expression_laws.proofs.Fitting.{call_named}
+use Rattle.expression_laws.proofs.Passing.{call_fits}
 use Rattle.expression_laws.proofs.Names.{named_fits, pointer_args, reached, said_named}
-use Rattle.expression_laws.proofs.Operators.{after, arithmetic_is, as_number_is, as_truth, cast_is, chosen, computes_numbers, converted_passes, operand_any, signed_counted, signed_is, signs_value, size_is, standing_any, standing_is, value_from_number, weaker}
+use Rattle.expression_laws.proofs.Operators.{after, passed_is, arithmetic_is, as_number_is, as_truth, cast_is, chosen, computes_numbers, operand_any, signed_counted, signed_is, signs_value, size_is, standing_any, standing_is, value_from_number, weaker}
 use Rattle.expression_laws.proofs.Steps.{element_args, element_is, field_args_in, field_is, taking_stands}
 
 pub unless_known : (b : Bool) (t : StaticType) → is_unknown_type (cond b unknown_type t) ≡ false → cond b unknown_type t ≡ t
@@ -46,10 +48,10 @@ unless_known true t e = absurd (contrary e)
 unless_known false t e = refl
 
 module _ (task : TaskTree) (args : List Value) (roots : ℕ) (m : Interpretation) (h : Here) (sound : IsSound h.tree) (sound_task : IsSoundTask h.tree task)
-    (scope : IsSoundScope h.scope) (well_scoped : IsWellScoped h.scope) (place : IsSoundPlace (record { tree = h.tree; task = task; args = args; roots = roots }) m h.scope)
+    (scope : IsSoundScope h.scope) (well_scoped : IsWellScoped h.scope) (place : IsSoundPlace (record { tree = h.tree; calls = h.calls; task = task; args = args; roots = roots }) m h.scope)
     (answers : AreSoundAnswers m h.tree h.calls) where
   abbrev x : Instance
-  x = record { tree = h.tree; task = task; args = args; roots = roots }
+  x = record { tree = h.tree; calls = h.calls; task = task; args = args; roots = roots }
 
   abbrev told : Expression → Type 0
   told e = first_in_expression h.tree task h.scope e ≡ None
@@ -89,19 +91,22 @@ module _ (task : TaskTree) (args : List Value) (roots : ℕ) (m : Interpretation
   written_go p names e fit = reached m h.scope names well_scoped fit (map (looked_up (in_scope h.scope)) p.regions) (pointer_args h.scope scope h.tree p e).1
 
   -- what a call gives
-  pub called_is : (name : Name) (vs : List Value) (u : State) → IsSoundState x m h.scope u → Is (result_type h.tree (task_named h.tree name).result) (called h name vs u)
-  called_is name vs u st = paid u.turns
+  pub called_is : (name : Name) (vs : List Value) (u : State) → has_task h.tree name ≡ true → AreFitting h.tree (task_named h.tree name) vs (length u.store) → IsSoundState x m h.scope u → Is (result_type h.tree (task_named h.tree name).result) (called h name vs u)
+  called_is name vs u there fit st = paid u.turns
     where
-      answered_is : (w : State) → IsSoundState x m h.scope w → (c : Called) → IsSoundAnswer m h.tree name w.store c → Is (result_type h.tree (task_named h.tree name).result) (answered c w)
-      answered_is w st (came_back v store text) is = (
+      answered_is : (w : State) → IsSoundState x m h.scope w → (c : Called) → h.calls h.line name vs u.store ≡ c → IsSoundAnswer m h.tree name w.store c → Is (result_type h.tree (task_named h.tree name).result) (answered c w)
+      answered_is w st (came_back v store text) same is = (
         record { names = st.names; counted = st.counted; rooted = subst (λ c. AreInStore m c) (sym is.1) st.rooted; grown = subst (λ c. roots ≤ c) (sym is.1) st.grown; covered = st.covered },
         is.0,
       )
-      answered_is w st (broke f text) is = st.covered
+      answered_is w st (broke f text) same is = record {
+        covered = st.covered;
+        depth = λ e. record { line = h.line; task = name; args = vs; store = u.store; text = text; there = there; fits = fit; gave = same };
+      }
 
       paid : (n : ℕ) → Is (result_type h.tree (task_named h.tree name).result) (and_then (pay_from n h u) (λ _ w. and_then (gives w w) (λ t. answered (h.calls h.line name vs t.store))))
-      paid zero = st.covered
-      paid (suc n) = answered_is (record u { turns = n }) (record { names = st.names; counted = st.counted; rooted = st.rooted; grown = st.grown; covered = st.covered }) _ (answers h.line name vs u.store)
+      paid zero = record { covered = st.covered; depth = λ e. absurd cc }
+      paid (suc n) = answered_is (record u { turns = n }) (record { names = st.names; counted = st.counted; rooted = st.rooted; grown = st.grown; covered = st.covered }) (h.calls h.line name vs u.store) refl (answers h.line name vs u.store there fit)
 
   -- the operands of an operator of which nothing is told
   operates : (o : Operator) (t k : StaticType) → first_of_operator (computing o t k) ≡ None → operates_on o t k ≡ true
@@ -183,7 +188,10 @@ module _ (task : TaskTree) (args : List Value) (roots : ℕ) (m : Interpretation
         let types = params_at h.tree h.scope (task_named h.tree name) es in
         plain (call_expr name es) _ (λ z. tt)
         (after (IsOfType m (type_of h.tree h.scope (call_expr name es))) (values h types es u) (λ vs. called h name vs)
-        (values_are types es wr parts.0 u st) (λ vs w st is. called_is name vs w st))
+        (values_are types es wr parts.0 u st) (λ vs w st is.
+        let call = (option_or_parts (first_of_call h.tree task h.scope (calling name (known_types h.tree h.scope es))) _ parts.1).0 in
+        called_is name vs w (call_named h.tree task h.scope (calling name (known_types h.tree h.scope es)) call)
+        (call_fits task args roots m h sound sound_task scope place name es vs w wr parts.0 call is st) st))
     value_is (access_expr n no_step) wr e u st =
         let parts = option_or_parts (rule_if (not (is_bound h.scope.names n)) rule.Name) _ e in
         let bound = not-false (is_bound h.scope.names n) (rule_none _ rule.Name parts.0) in
@@ -309,6 +317,6 @@ module _ (task : TaskTree) (args : List Value) (roots : ℕ) (m : Interpretation
         let parts = option_or_parts (first_in_expression h.tree task h.scope y) _ e in
         let result = ArePassed m h.tree h.scope types (an_expr y es) in
         after result (value h y u) _ (value_is y wr.0 parts.0 u st) (λ v w st got.
-        after result (converted h (typed h y) (first_type types) [] v w) _ (converted_passes x m h.scope h (typed h y) (first_type types) [] v w st) (λ a w st same.
+        after result (converted h (typed h y) (first_type types) [] v w) _ (passed_is x m h.scope h (typed h y) (first_type types) v w got.is_of st) (λ a w st is_given.
         after result (values h (other_types types) es w) (λ vs. given (a ∷ vs)) (values_are (other_types types) es wr.1 parts.1 w st) (λ vs w st passed.
-        (st, ((λ r. subst (IsOfType m (typed h y)) (sym (same r)) got.is_of), passed)))))
+        (st, (is_given, passed)))))

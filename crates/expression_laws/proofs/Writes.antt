@@ -63,10 +63,10 @@ fill_long store root field [] z = refl
 fill_long store root field (x ∷ xs) z = fill_long (write_at store root field x z) root field xs z ∙ write_long store root field x z
 
 module _ (task : TaskTree) (args : List Value) (roots : ℕ) (m : Interpretation) (h : Here) (sound : IsSound h.tree) (sound_task : IsSoundTask h.tree task)
-    (scope : IsSoundScope h.scope) (well_scoped : IsWellScoped h.scope) (place : IsSoundPlace (record { tree = h.tree; task = task; args = args; roots = roots }) m h.scope)
+    (scope : IsSoundScope h.scope) (well_scoped : IsWellScoped h.scope) (place : IsSoundPlace (record { tree = h.tree; calls = h.calls; task = task; args = args; roots = roots }) m h.scope)
     (answers : AreSoundAnswers m h.tree h.calls) where
   abbrev x : Instance
-  x = record { tree = h.tree; task = task; args = args; roots = roots }
+  x = record { tree = h.tree; calls = h.calls; task = task; args = args; roots = roots }
 
   -- ---- all points of a region
 
@@ -225,8 +225,8 @@ module _ (task : TaskTree) (args : List Value) (roots : ℕ) (m : Interpretation
       has_field h.tree sp f ≡ true → has_wild terms ≡ false →
       lacks h.tree task h.scope (wanted_of_step h.tree (access_how a) (field_of (pointer_type k sp types terms) f)) ≡ false →
       GoInto m terms rs → IsSoundState x m h.scope u → GoesOnSound (write_field h (pointer_type k sp types terms) f a v (aimed_through rs t) u)
-  write_pointer a k sp types terms f v null_target rs u there wild lacking go st = st.covered
-  write_pointer a k sp types terms f v (point_target n zero) rs u there wild lacking go st = st.covered
+  write_pointer a k sp types terms f v null_target rs u there wild lacking go st = record { covered = st.covered; depth = λ e. absurd cc }
+  write_pointer a k sp types terms f v (point_target n zero) rs u there wild lacking go st = record { covered = st.covered; depth = λ e. absurd cc }
   write_pointer a k sp types terms f v (point_target n (suc i)) rs u there wild lacking go st = hit (has (get_or rs i no_region).points n) refl
     where
       hit : (b : Bool) → has (get_or rs i no_region).points n ≡ b →
@@ -243,7 +243,7 @@ module _ (task : TaskTree) (args : List Value) (roots : ℕ) (m : Interpretation
         },
         refl,
       )
-      hit false e = st.covered
+      hit false e = record { covered = st.covered; depth = λ e. absurd cc }
 
   write_is : (a : How) (t : StaticType) (f : Name) (v p : Value) (u : State) → first_of_taking h.tree (field_of t f) ≡ None →
       lacks h.tree task h.scope (wanted_of_step h.tree (access_how a) (field_of t f)) ≡ false → IsKnown h.scope t → IsOfType m t p → IsSoundState x m h.scope u →
@@ -251,7 +251,7 @@ module _ (task : TaskTree) (args : List Value) (roots : ℕ) (m : Interpretation
   write_is a (pointer_type k sp types terms) f v p u e lacking known (is_pointer {t = t} {rs = rs} go) st =
       let parts = taking_parts task args roots m h sound sound_task scope well_scoped place (field_of (pointer_type k sp types terms) f) e in
       write_pointer a k sp types terms f v t rs u (not-false _ parts.0) parts.2 lacking go st
-  write_is a (partition_type d r q) f v p u e lacking known (is_partition_of same) st = st.covered
+  write_is a (partition_type d r q) f v p u e lacking known (is_partition_of same) st = record { covered = st.covered; depth = λ e. absurd cc }
   write_is a (integer_type w) f v p u e lacking known is st = absurd (contrary (taking_parts task args roots m h sound sound_task scope well_scoped place (field_of (integer_type w) f) e).1)
   write_is a truth_type f v p u e lacking known is st = absurd (contrary (taking_parts task args roots m h sound sound_task scope well_scoped place (field_of truth_type f) e).1)
   write_is a (index_type k) f v p u e lacking known is st = absurd (contrary (taking_parts task args roots m h sound sound_task scope well_scoped place (field_of (index_type k) f) e).1)

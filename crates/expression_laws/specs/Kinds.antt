@@ -25,7 +25,7 @@ GoInto m [] (r ∷ rs) = ⊥
 GoInto m (None ∷ terms) (r ∷ rs) = GoInto m terms rs
 GoInto m (Some t ∷ terms) (r ∷ rs) = StandsFor m t r × GoInto m terms rs
 
--- A value is of the kind that a type says. What a call without a result gives may be anything.
+-- A value is of the kind that a type says. A call without a result gives a truth, which nothing uses.
 pub data IsOfType (m : Interpretation) : StaticType → Value → Type 0 where
   is_number : {w : Width} {z : ℤ} → IsOfType m (integer_type w) (a_number w z)
   is_truth : {b : Bool} → IsOfType m truth_type (a_truth b)
@@ -36,7 +36,7 @@ pub data IsOfType (m : Interpretation) : StaticType → Value → Type 0 where
   is_region_of : {k : Kind} {s : ℕ} {args : List Reach} {t : Term} {r : Region} →
       StandsFor m t r → IsOfType m (region_type k s args t) (a_region r)
   is_partition_of : {d : Bool} {r p : ℕ} {q : Partition} → m.partition p ≡ q → IsOfType m (partition_type d r p) (a_partition q)
-  is_nothing : {v : Value} → IsOfType m no_type v
+  is_nothing : {b : Bool} → IsOfType m no_type (a_truth b)
   is_unknown : {v : Value} → IsOfType m unknown_type v
 
 -- the number that a value stands for in `x[e]`: of a pointer its point's

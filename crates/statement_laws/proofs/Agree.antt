@@ -1,25 +1,27 @@
 -- Facts hold where what they speak of stands for the same, and facts on bindings that were never reached
 -- hold of nothing.
-use Rattle.std.proofs.Common.{None, Some, arith, Bool, List, [], ◌∷◌, ◌++◌, false, true, refl, ap, sym, subst, ℕ, ℤ, pos, negsuc, ◌≡◌, ◌∙◌, ◌<◌, ◌≤◌, cond, ◌⊎◌, inl, inr}
+use Rattle.std.proofs.Common.{None, Some, arith, Bool, List, [], ◌∷◌, ◌++◌, false, true, refl, ap, sym, subst, ℕ, ℤ, pos, ◌≡◌, ◌∙◌, ◌<◌, ◌≤◌, ◌==◌, length, cond, ◌⊎◌, inl, inr}
 use Rattle.std.proofs.lemmas.Bool.{cond-true, cond-false, lt-ltb}
 use Rattle.std.proofs.lemmas.List.{append_assoc, append-nil}
 use Rattle.std.specs.List.{Contains}
 use Rattle.std.specs.Prelude.{nat_lt}
-use Rattle.regent_tree.specs.Scopes.{Scope}
+use Rattle.regent_tree.specs.Scopes.{Scope, bound_as, with_name}
+use Rattle.regent_tree.specs.Syntax.{Name as NameText}
 use Rattle.regent_tree.specs.StaticTypes.{Reach}
 use Rattle.regent_tree.specs.declared.typing.StaticType.{StaticType}
 use Rattle.regent_tree.specs.declared.typing.StaticType.TheVariants.{Index as index_type, Integer as integer_type, Ispace as ispace_type, Nothing as no_type, Partition as partition_type, Pointer as pointer_type, Region as region_type, Truth as truth_type, Unknown as unknown_type}
-use Rattle.regent_tree.specs.Values.{Region, no_region}
+use Rattle.regent_tree.specs.Values.{Partition, Region, no_region}
 use Rattle.regent_tree.specs.declared.facts.Colour.{Colour}
 use Rattle.regent_tree.specs.declared.facts.Colour.TheVariants.{Constant, Loop, Unknown}
 use Rattle.regent_tree.specs.declared.facts.Known.{Known}
 use Rattle.regent_tree.specs.declared.facts.Known.TheVariants.{Within, Apart, PartOf, Made}
 use Rattle.regent_tree.specs.declared.facts.Term.{Term}
 use Rattle.regent_tree.specs.declared.facts.Term.TheVariants.{Name, Child}
-use Rattle.regent_tree.proofs.Members.{Contains-from_Has, Has-append_cases, Has-append_left, Has-from_Contains}
+use Rattle.regent_tree.proofs.Members.{Contains-from_Has, Has-append_cases, Has-append_left, Has-append_right, Has-from_Contains}
 use Rattle.fact_laws.specs.Regions.{AllHold, Holds, IsColour, IsIn, LiesWithin, Interpretation, SharesNoPoint, StandsFor, child_at}
-use Rattle.expression_laws.specs.Sound.{AreGivenRegions, AreOwnRoots, AreInStore, Instance, IsInStore, IsSoundPlace, no_partition}
+use Rattle.expression_laws.specs.Sound.{AreGivenRegions, AreOwnRoots, AreInStore, Instance, IsInStore, IsOfParent, IsSoundPlace, no_partition}
 use Rattle.statement_laws.specs.Steady.{AgreeBelow, FactsBelow, FactBelow, KnowsMore, IsFresh, IsStaticPlace}
+pub use Rattle.expression_laws.proofs.Stores.{child_in_store, no_child, none_in_store, nothing_in}
 use Rattle.expression_laws.specs.Kinds.{ColourBelow, TermBelow, TermsBelow, TypeBelow}
 
 pub agree_back : (n : ℕ) (a b : Interpretation) → AgreeBelow n a b → AgreeBelow n b a
@@ -87,11 +89,25 @@ module _ (n : ℕ) (a b : Interpretation) (e : AgreeBelow n a b) where
       let l = static.params i is in
       sym (e.regions i (omega (arith, l, less))) ∙ given i is
 
+  pub parent_too : (known : List Known) → FactsBelow n known → (t : StaticType) → IsOfParent a known t → IsOfParent b known t
+  parent_too known below (partition_type d r p) is =
+      let l = below (PartOf p r d) is.0 in
+      (is.0, ap (λ (q : Partition). q.root) (sym (e.partitions p l.0)) ∙ is.1 ∙ ap (λ (q : Region). q.root) (e.regions r l.1))
+  parent_too known below (pointer_type k sp args terms) is = tt
+  parent_too known below (region_type k sp args t) is = tt
+  parent_too known below (integer_type w) is = tt
+  parent_too known below truth_type is = tt
+  parent_too known below (index_type k) is = tt
+  parent_too known below (ispace_type k) is = tt
+  parent_too known below no_type is = tt
+  parent_too known below unknown_type is = tt
+
   pub place_too : (x : Instance) (s : Scope) → IsStaticPlace x s → s.next ≡ n → IsSoundPlace x a s → IsSoundPlace x b s
   place_too x s static same place = record {
     holds = all_hold_too s.known (subst (λ k. FactsBelow k s.known) same static.below) place.holds;
     own = own_too x.roots s.known (subst (λ k. FactsBelow k s.known) same static.below) place.own;
     params = given_too x s static (omega (arith, same)) place.params;
+    parents = λ i. parent_too s.known (subst (λ k. FactsBelow k s.known) same static.below) (bound_as s.names i).static_type (place.parents i);
   }
 
 -- ---- bindings that were never reached
@@ -119,13 +135,6 @@ emptied_region n i m l = cond-false (nat_lt i n) (m.region i) no_region (not_les
 
 emptied_partition : (n i : ℕ) (m : Interpretation) → n ≤ i → (emptied n m).partition i ≡ record { root = 0; disjoint = false; sets = [] }
 emptied_partition n i m l = cond-false (nat_lt i n) (m.partition i) _ (not_less i n l)
-
-pub nothing_in : (root p : ℕ) → IsIn no_region root p → ⊥
-nothing_in root p is = absurd cc
-
-no_child : (c : ℤ) (root p : ℕ) → IsIn (child_at (record { root = 0; disjoint = false; sets = [] }) c) root p → ⊥
-no_child (pos c) root p is = absurd cc
-no_child (negsuc c) root p is = absurd cc
 
 -- a term stands for something
 some_region : (m : Interpretation) (t : Term) → (r : Region) × StandsFor m t r
@@ -223,9 +232,42 @@ grows_below s t a below k c = elim (in_either s.known a.more k (subst (λ ks. Co
   | inr h ↦ a.below k h
 ]
 
+-- a partition is of its parent where more is known
+pub parent_more : (m : Interpretation) (known more : List Known) (t : StaticType) → IsOfParent m known t → IsOfParent m (known ++ more) t
+parent_more m known more (partition_type d r p) is = (in_left known more (PartOf p r d) is.0, is.1)
+parent_more m known more (pointer_type k sp args terms) is = tt
+parent_more m known more (region_type k sp args t) is = tt
+parent_more m known more (integer_type w) is = tt
+parent_more m known more truth_type is = tt
+parent_more m known more (index_type k) is = tt
+parent_more m known more (ispace_type k) is = tt
+parent_more m known more no_type is = tt
+parent_more m known more unknown_type is = tt
+
+-- and where it is among those
+pub parent_among : (m : Interpretation) (known more : List Known) (t : StaticType) → IsOfParent m more t → IsOfParent m (known ++ more) t
+parent_among m known more (partition_type d r p) is = (Contains-from_Has (known ++ more) (PartOf p r d) (Has-append_right known more (PartOf p r d) (Has-from_Contains more (PartOf p r d) is.0)), is.1)
+parent_among m known more (pointer_type k sp args terms) is = tt
+parent_among m known more (region_type k sp args t) is = tt
+parent_among m known more (integer_type w) is = tt
+parent_among m known more truth_type is = tt
+parent_among m known more (index_type k) is = tt
+parent_among m known more (ispace_type k) is = tt
+parent_among m known more no_type is = tt
+parent_among m known more unknown_type is = tt
+
+-- with one more name
+pub parents_with : (m : Interpretation) (known : List Known) (s : Scope) (n : NameText) (ty : StaticType) (by_loop : Bool) → IsOfParent m known ty →
+    ((i : ℕ) → IsOfParent m known (bound_as s.names i).static_type) → (i : ℕ) → IsOfParent m known (bound_as (with_name s n ty by_loop).names i).static_type
+parents_with m known s n ty by_loop new old i = here (s.next == i)
+  where
+    here : (c : Bool) → IsOfParent m known (cond c (record { name = n; number = s.next; place = length s.names; static_type = ty; by_loop = by_loop }) (bound_as s.names i)).static_type
+    here true = new
+    here false = old i
+
 -- where what is more known was never reached, a place is a place still
-pub grown_place : (x : Instance) (m : Interpretation) (s t : Scope) → IsStaticPlace x s → KnowsMore s t → IsSoundPlace x m s → IsSoundPlace x (emptied s.next m) t
-grown_place x m s t static a place = record {
+pub grown_place : (x : Instance) (m : Interpretation) (s t : Scope) → IsStaticPlace x s → KnowsMore s t → t.names ≡ s.names → IsSoundPlace x m s → IsSoundPlace x (emptied s.next m) t
+grown_place x m s t static a same place = record {
   holds = λ k c. elim (in_either s.known a.more k (subst (λ ks. Contains ks k) a.known c)) [
     | inl h ↦ holds_too s.next m (emptied s.next m) (emptied_agrees s.next m) k (static.below k h) (place.holds k h)
     | inr h ↦ fresh_holds s.next m k (a.fresh k h)
@@ -235,13 +277,11 @@ grown_place x m s t static a place = record {
     | inr h ↦ absurd (nothing_in root p (subst (λ q. IsIn q root p) (emptied_region s.next i m (a.fresh (Made i) h)) is))
   ];
   params = given_too s.next m (emptied s.next m) (emptied_agrees s.next m) x s static (omega (arith)) place.params;
+  parents = λ i. subst (λ known. IsOfParent (emptied s.next m) known (bound_as t.names i).static_type) (sym a.known)
+      (parent_more (emptied s.next m) s.known a.more (bound_as t.names i).static_type
+      (subst (λ names. IsOfParent (emptied s.next m) s.known (bound_as names i).static_type) (sym same)
+      (parent_too s.next m (emptied s.next m) (emptied_agrees s.next m) s.known static.below (bound_as s.names i).static_type (place.parents i))));
 }
-
-pub none_in_store : (count : ℕ) → IsInStore count no_region
-none_in_store count root p is = absurd (nothing_in root p is)
-
-pub child_in_store : (count : ℕ) (c : ℤ) → IsInStore count (child_at no_partition c)
-child_in_store count c root p is = absurd (no_child c root p is)
 
 pub emptied_in_store : (n : ℕ) (m : Interpretation) (count : ℕ) → AreInStore m count → AreInStore (emptied n m) count
 emptied_in_store n m count are =
@@ -258,6 +298,9 @@ emptied_in_store n m count are =
 -- a store has more roots
 pub in_longer_store : (m : Interpretation) (count long : ℕ) → count ≤ long → AreInStore m count → AreInStore m long
 in_longer_store m count long less are = record {
-  regions = λ i root p is. let l = are.regions i root p is in omega (arith, l, less);
-  children = λ i c root p is. let l = are.children i c root p is in omega (arith, l, less);
+  regions = λ i. longer (m.region i) (are.regions i);
+  children = λ i c. longer (child_at (m.partition i) c) (are.children i c);
 }
+  where
+    longer : (r : Region) → IsInStore count r → IsInStore long r
+    longer r is = record { below = λ root p at. let l = is.below root p at in omega (arith, l, less); rising = is.rising }

@@ -48,22 +48,23 @@ use Rattle.statement_laws.specs.Places.{FormGoes, IsReady}
 use Rattle.statement_laws.specs.Steady.{ArePlaced}
 use Rattle.statement_laws.proofs.Going.{stays_goes, then_goes}
 use Rattle.statement_laws.proofs.Leaves.{form_parts}
+use Rattle.statement_laws.proofs.Returns.{truth_from}
 use Rattle.statement_laws.proofs.Loops.{evaluates}
 use Rattle.statement_laws.proofs.States.{placed_below, unbound_fits}
 
 -- ---- conversions
 
-truth_from : (m : Interpretation) (known : List Known) (from : StaticType) (v : Value) → is_unknown_type from ≡ false → fits known from truth_type ≡ true →
-    IsOfType m from v → IsOfType m truth_type v
-truth_from m known truth_type v k e is = is
-truth_from m known (integer_type w) v k e is = absurd cc
-truth_from m known (index_type j) v k e is = absurd cc
-truth_from m known (pointer_type j s args terms) v k e is = absurd cc
-truth_from m known (ispace_type j) v k e is = absurd cc
-truth_from m known (region_type j s args t) v k e is = absurd cc
-truth_from m known (partition_type d r p) v k e is = absurd cc
-truth_from m known no_type v k e is = absurd cc
-truth_from m known unknown_type v k e is = absurd cc
+-- nothing fits what a call without a result gives
+nothing_from : (known : List Known) (from : StaticType) → is_unknown_type from ≡ false → fits known from no_type ≡ true → ⊥
+nothing_from known truth_type k e = absurd cc
+nothing_from known (integer_type w) k e = absurd cc
+nothing_from known (index_type j) k e = absurd cc
+nothing_from known (pointer_type j s args terms) k e = absurd cc
+nothing_from known (ispace_type j) k e = absurd cc
+nothing_from known (region_type j s args t) k e = absurd cc
+nothing_from known (partition_type d r p) k e = absurd cc
+nothing_from known no_type k e = absurd cc
+nothing_from known unknown_type k e = absurd cc
 
 -- a value that is converted to a type that it fits, and that is no collection's, is of that type
 pub converted_is : (x : Instance) (m : Interpretation) (s : Scope) (h : Here) (known : List Known) (from wanted : StaticType) (rs : List Region) (v : Value) (u : State) →
@@ -74,7 +75,7 @@ converted_is x m s h known from truth_type rs v u k l c e go is st = (st, truth_
 converted_is x m s h known from (index_type j) rs v u k l c e go is st =
     after (IsOfType m (index_type j)) (standing h v u) _ (standing_any x m s h v u st) (λ a w st is. (st, is_index))
 converted_is x m s h known from (pointer_type j sp args terms) rs v u k l c e go is st = (st, is_pointer go)
-converted_is x m s h known from no_type rs v u k l c e go is st = (st, is_nothing)
+converted_is x m s h known from no_type rs v u k l c e go is st = absurd (nothing_from known from k e)
 converted_is x m s h known from (ispace_type j) rs v u k l c e go is st = absurd cc
 converted_is x m s h known from (region_type j sp args t) rs v u k l c e go is st = absurd cc
 converted_is x m s h known from (partition_type d r p) rs v u k l c e go is st = absurd cc
@@ -90,7 +91,7 @@ set_is m (index_type k) old v l was is_index = is_index
 set_is m (ispace_type k) old v l was is_space = is_space
 set_is m (region_type k s args t) old v l was (is_region_of stands) = is_region_of stands
 set_is m (partition_type d r p) old v l was (is_partition_of same) = is_partition_of same
-set_is m no_type old v l was is = is_nothing
+set_is m no_type old v l was is_nothing = is_nothing
 set_is m unknown_type old v l was is = absurd cc
 
 reduced_is : (m : Interpretation) (t : StaticType) (o : _) (old v : Value) → is_integer t ≡ true → IsOfType m t old → IsOfType m t (updated (how.Reduce o) old v)
@@ -159,7 +160,7 @@ set_fits m s names b v placed counted found known by_name is fit i = here ((boun
 
 module _ (task : TaskTree) (args : List Value) (roots : ℕ) where
   abbrev inst : Here → Instance
-  inst h = record { tree = h.tree; task = task; args = args; roots = roots }
+  inst h = record { tree = h.tree; calls = h.calls; task = task; args = args; roots = roots }
 
   -- a variable that may be assigned
   record IsTarget (h : Here) (n : Name) (k : How) (y : Expression) : Type 0 where

@@ -1,19 +1,20 @@
 -- Results that go on: one step after another, blocks that are left, and states at a loop's turns.
-use Rattle.std.proofs.Common.{arith, Bool, false, true, refl, sym, subst, ℕ, ℤ, ◌≡◌, ◌∙◌, ◌<◌, ◌≤◌, length, take, cond}
+use Rattle.std.proofs.Common.{arith, Bool, false, true, refl, sym, subst, ℕ, ℤ, ◌≡◌, ◌∙◌, ◌<◌, ◌≤◌, length, take, cond, inl, inr}
 use Rattle.std.proofs.lemmas.Bool.{ltb-true}
 use Rattle.std.proofs.lemmas.List.{length-take-le}
 use Rattle.std.specs.Prelude.{nat_lt}
 use Rattle.regent_tree.specs.Execution.{Going, goes_on, going_on, leaving, returned}
 use Rattle.regent_tree.specs.Running.{Result, Run, State, and_then, fails, gives, if_true}
-use Rattle.regent_tree.specs.Scopes.{Scope, past}
+use Rattle.regent_tree.specs.Scopes.{Scope, bound_as, past}
+use Rattle.regent_tree.specs.declared.typing.Bound.{Bound}
 use Rattle.regent_tree.specs.Values.{no_region}
 use Rattle.check_laws.specs.SoundScopes.{IsSoundScope}
 use Rattle.fact_laws.specs.Regions.{Interpretation, child_at}
-use Rattle.expression_laws.specs.Sound.{IsInStore, no_partition, AreInStore, Instance, IsSoundPlace, IsSoundState, KeepsSound}
+use Rattle.expression_laws.specs.Sound.{IsInStore, IsOfParent, no_partition, AreInStore, Instance, IsSoundPlace, IsSoundState, KeepsSound}
 use Rattle.statement_laws.specs.Steady.{AgreeBelow, GoesOnSound, IsSoundAfter, IsStaticPlace}
 use Rattle.statement_laws.proofs.Agree.{child_in_store, none_in_store, agree_back, agree_same, agree_then, emptied, emptied_agrees}
 use Rattle.statement_laws.proofs.Scopes.{IsMore}
-use Rattle.statement_laws.proofs.States.{left_fits, state_same, state_too}
+use Rattle.statement_laws.proofs.States.{found_below, left_fits, state_same, state_too}
 
 -- ---- what goes on
 
@@ -45,7 +46,7 @@ stays_here x m s u place st = record { meant = m; agree = agree_same s.next m; p
 
 pub stays_goes : (x : Instance) (m : Interpretation) (s : Scope) (r : Result Going) → IsSoundPlace x m s → KeepsSound x m s (λ g. goes_on ≡ g) r → GoesOnSound x m s.next s r
 stays_goes x m s (gives goes_on u) place stays = stays_here x m s u place stays.0
-stays_goes x m s (gives (returned v) u) place stays = stays.0.covered
+stays_goes x m s (gives (returned v) u) place stays = absurd cc
 stays_goes x m s (fails f u) place stays = stays
 
 -- a block's names are taken away where it ends
@@ -57,7 +58,7 @@ leaves x m s t k n (gives goes_on u) scope static more counted goes =
     let longer = more.longer in record {
       meant = goes.meant;
       agree = goes.agree;
-      place = record { holds = goes.place.holds; own = goes.place.own; params = goes.place.params };
+      place = record { holds = goes.place.holds; own = goes.place.own; params = goes.place.params; parents = parents goes.meant goes.place.parents };
       state = subst (λ j. IsSoundState x goes.meant (past s t) (record u { names = take j u.names })) (sym counted) (record {
         names = left_fits s t goes.meant u.names scope static.placed more.extends st.names;
         counted = length-take-le (length s.names) u.names (omega (arith, long, longer));
@@ -66,7 +67,13 @@ leaves x m s t k n (gives goes_on u) scope static more counted goes =
         covered = st.covered;
       });
     }
-leaves x m s t k n (gives (returned v) u) scope static more counted goes = goes
+  where
+    parents : (b : Interpretation) → ((i : ℕ) → IsOfParent b t.known (bound_as t.names i).static_type) → (i : ℕ) → IsOfParent b t.known (bound_as s.names i).static_type
+    parents b are i = elim (found_below s.next s.names scope.numbers i) [
+      | inl l ↦ subst (λ (c : Bound). IsOfParent b t.known c.static_type) (more.extends i l) (are i)
+      | inr g ↦ subst (λ (c : Bound). IsOfParent b t.known c.static_type) (sym g) tt
+    ]
+leaves x m s t k n (gives (returned v) u) scope static more counted goes = record { is_of = goes.is_of; grown = goes.grown; covered = goes.covered }
 leaves x m s t k n (fails f u) scope static more counted goes = goes
 
 -- behind a block that was left, as before it, where later bindings stood for nothing

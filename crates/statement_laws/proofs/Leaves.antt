@@ -42,6 +42,19 @@ use Rattle.check_rules.specs.rules.Targets.{mistargets_form}
 use Rattle.check_rules.specs.scopes.Visits.{call_of_form, declared_at, heads_of, initializer_at}
 use Rattle.check_rules.specs.declared.rule.Rule.TheVariants as rule
 use Rattle.check_laws.proofs.Parts.{surely}
+use Rattle.std.proofs.Common.{ap, ◌∙◌}
+use Rattle.regent_tree.specs.Typing.{result_type}
+use Rattle.check_rules.proofs.Untold.{stand_none}
+use Rattle.check_rules.specs.rules.Results.{misreturns}
+use Rattle.check_rules.specs.rules.Statements.{known_result}
+use Rattle.check_rules.specs.rules.Types.{is_ill_typed_at_place}
+use Rattle.check_rules.specs.types.Fitting.{fits}
+use Rattle.check_rules.specs.types.KnownTypes.{known_types}
+use Rattle.check_rules.specs.types.Sorts.{is_unknown_type}
+use Rattle.check_rules.specs.types.TypedForms.{calling}
+use Rattle.statement_laws.proofs.Returns.{nothing_returned, returned_is}
+use Rattle.expression_laws.proofs.Fitting.{call_named}
+use Rattle.expression_laws.proofs.Passing.{call_fits}
 use Rattle.expression_laws.specs.Kinds.{IsOfType, is_region_of}
 use Rattle.fact_laws.specs.Regions.{Interpretation, StandsFor}
 use Rattle.expression_laws.specs.Sound.{ArePassed, Instance, IsSoundState, KeepsSound}
@@ -82,6 +95,8 @@ pub record IsFlawlessForm (tree : Tree) (task : TaskTree) (s : Scope) (form : Fo
   pub targeted : mistargets_form tree task s form ≡ false
   pub writes : lacks tree task s (writes_by tree s form) ≡ false
   pub reduces : lacks tree task s (reductions_by tree s form) ≡ false
+  pub returns : misreturns task form ≡ false
+  pub stand : list_any (is_ill_typed_at_place s.known) (standing_in_form tree task s form) ≡ false
 
 pub form_parts : (tree : Tree) (task : TaskTree) (s : Scope) (form : Form) → first_of_form tree task s form ≡ None → IsFlawlessForm tree task s form
 form_parts tree task s form e =
@@ -97,7 +112,8 @@ form_parts tree task s form e =
     let l = option_or_parts (rule_if (mistargets_form tree task s form) rule.Target) _ k.1 in
     let p = option_or_parts (rule_if (misprints_form tree s form) rule.Format) _ l.1 in
     let w = option_or_parts (rule_if (lacks tree task s (writes_by tree s form)) rule.Write) _ p.1 in
-    let r = option_or_parts (rule_if (lacks tree task s (reductions_by tree s form)) rule.Reduce) _ w.1 in record {
+    let r = option_or_parts (rule_if (lacks tree task s (reductions_by tree s form)) rule.Reduce) _ w.1 in
+    let z = option_or_parts (rule_if (misreturns task form) rule.Return) _ r.1 in record {
       heads = c.0;
       targets = d.0;
       named = rule_none (unbound_name_in_form tree s.names form) rule.Name f.0;
@@ -105,6 +121,8 @@ form_parts tree task s form e =
       targeted = rule_none (mistargets_form tree task s form) rule.Target l.0;
       writes = rule_none (lacks tree task s (writes_by tree s form)) rule.Write w.0;
       reduces = rule_none (lacks tree task s (reductions_by tree s form)) rule.Reduce r.0;
+      returns = rule_none (misreturns task form) rule.Return z.0;
+      stand = stand_none s.known (standing_in_form tree task s form) i.0;
     }
 
 -- arguments of which nothing is told, in a list or not
@@ -134,14 +152,14 @@ region_like unknown_type e = absurd cc
 
 module _ (task : TaskTree) (args : List Value) (roots : ℕ) where
   abbrev inst : Here → Instance
-  inst h = record { tree = h.tree; task = task; args = args; roots = roots }
+  inst h = record { tree = h.tree; calls = h.calls; task = task; args = args; roots = roots }
 
   assert_goes : (y : Expression) (h : Here) → FormGoes task args roots h (assert_form y)
   assert_goes y h m r e w wr u st =
       let parts = form_parts h.tree task h.scope (assert_form y) e in
       then_goes (inst h) m h.scope h.scope.next h.scope (value h y u) (λ v. if_true (truth_of v) (given goes_on) (fault h AssertFailed))
       (evaluates task args roots h m y r wr (option_or_parts (first_in_expression h.tree task h.scope y) _ parts.heads).0 u st) (λ v w st is.
-      either_goes (inst h) m h.scope h.scope.next h.scope (truth_of v) (given goes_on) (fault h AssertFailed) w (stays_here (inst h) m h.scope w r.place st) st.covered)
+      either_goes (inst h) m h.scope h.scope.next h.scope (truth_of v) (given goes_on) (fault h AssertFailed) w (stays_here (inst h) m h.scope w r.place st) (record { covered = st.covered; depth = λ e. absurd cc }))
 
   all_values : (h : Here) (m : Interpretation) (types : List StaticType) (es : Expressions) → IsReady task args roots m h → AreWritten es → first_in_args h.tree task h.scope es ≡ None →
       (u : State) → IsSoundState (inst h) m h.scope u → KeepsSound (inst h) m h.scope (ArePassed m h.tree h.scope types es) (values h types es u)
@@ -162,17 +180,29 @@ module _ (task : TaskTree) (args : List Value) (roots : ℕ) where
       then_goes (inst h) m h.scope h.scope.next h.scope (values h types es u) (λ vs. called h f vs >>= λ v. given goes_on)
       (all_values h m types es r wr (args_told h.tree task h.scope es parts.heads) u st) (λ vs w st is.
       then_goes (inst h) m h.scope h.scope.next h.scope (called h f vs w) (λ v. given goes_on)
-      (called_is task args roots m h r.sound r.sound_task r.scope r.static.well_scoped r.place r.answers f vs w st) (λ v w st is.
+      (let told = args_told h.tree task h.scope es parts.heads in
+      let call = (option_or_parts (first_of_call h.tree task h.scope (calling f (known_types h.tree h.scope es))) _ parts.calls).0 in
+      called_is task args roots m h r.sound r.sound_task r.scope r.static.well_scoped r.place r.answers f vs w (call_named h.tree task h.scope (calling f (known_types h.tree h.scope es)) call)
+      (call_fits task args roots m h r.sound r.sound_task r.scope r.place f es vs w wr told call is st) st) (λ v w st is.
       stays_here (inst h) m h.scope w r.place st))
 
+  -- ---- what is returned
+
   return_goes : (y : Option Expression) (h : Here) → FormGoes task args roots h (return_form y)
-  return_goes None h m r e w wr u st = st.covered
+  return_goes None h m r e w wr u st =
+      let parts = form_parts h.tree task h.scope (return_form None) e in
+      record { is_of = nothing_returned h.tree task.result parts.returns; grown = st.grown; covered = st.covered }
   return_goes (Some y) h m r e w wr u st =
       let parts = form_parts h.tree task h.scope (return_form (Some y)) e in
+      let told = (option_or_parts (first_in_expression h.tree task h.scope y) _ parts.heads).0 in
+      let known = known_as_meant h.tree task h.scope y r.sound r.scope told in
+      let fit = subst (λ t. fits h.scope.known t (known_result h.tree task.result) ≡ true) known.1 (not-false _ (or_parts _ false parts.stand).0) in
       then_goes (inst h) m h.scope h.scope.next h.scope (value h y u) (λ v. converted h (typed h y) h.result [] v >>= λ a. given (returned a))
-      (evaluates task args roots h m y r wr (option_or_parts (first_in_expression h.tree task h.scope y) _ parts.heads).0 u st) (λ v w st is.
-      then_goes (inst h) m h.scope h.scope.next h.scope (converted h (typed h y) h.result [] v w) (λ a. given (returned a))
-      (converted_passes (inst h) m h.scope h (typed h y) h.result [] v w st) (λ a w st is. st.covered))
+      (evaluates task args roots h m y r wr told u st) (λ v w st is.
+      subst (λ t. GoesOnSound (inst h) m h.scope.next h.scope (and_then (converted h (typed h y) t [] v w) (λ a. given (returned a)))) (sym r.result)
+      (then_goes (inst h) m h.scope h.scope.next h.scope (converted h (typed h y) (result_type h.tree task.result) [] v w) (λ a. given (returned a))
+      (returned_is (inst h) m h.scope h task.result (typed h y) v w r.sound_task.result parts.returns (ap is_unknown_type (sym known.1) ∙ known.0.known) fit is.is_of st) (λ a w st is.
+      record { is_of = is; grown = st.grown; covered = st.covered })))
 
   fields_there : (tree : Tree) (names : List Bound) (n : Name) (k : Kind) (sp : ℕ) (types : List Reach) (t : Term) (fs : List Name) → type_named names n ≡ region_type k sp types t →
       list_any (is_unknown_region_field tree names n) fs ≡ false → list_any (λ f. not (has_field tree sp f)) fs ≡ false

@@ -18,15 +18,16 @@ use Rattle.regent_tree.specs.declared.types.TypeTerm.TheVariants as typed_as
 use Rattle.check_laws.specs.SoundScopes.{IsSoundScope}
 use Rattle.expression_laws.specs.Kinds.{IsOfType, TypeBelow}
 use Rattle.fact_laws.specs.Regions.{Interpretation}
-use Rattle.expression_laws.specs.Sound.{IsNoCollection, AreSoundAnswers, IsValueOf, Instance, IsSoundAnswer, IsSoundPlace, IsSoundState, KeepsSound}
+use Rattle.expression_laws.specs.Sound.{IsNoCollection, IsOfParent, AreSoundAnswers, IsValueOf, Instance, IsSoundAnswer, IsSoundPlace, IsSoundState, KeepsSound}
 use Rattle.statement_laws.specs.Steady.{GoesOnSound, KnowsMore, IsStaticPlace}
 use Rattle.expression_laws.specs.Writing.{IsWritten}
-use Rattle.statement_laws.proofs.Agree.{agree_back, agree_then, emptied, place_too}
+use Rattle.statement_laws.proofs.Agree.{agree_back, agree_then, emptied, parents_with, place_too}
 use Rattle.std.proofs.Common.{inl, inr, pos, ◌+ℤ◌}
 use Rattle.lane_kernels.specs.declared.numbers.Width.{Width}
 use Rattle.plain_values.specs.Points.{points}
 use Rattle.regent_tree.specs.Execution.{counting, items_of, round, rounds}
 use Rattle.regent_tree.specs.Scopes.{bound_as, with_name}
+use Rattle.regent_tree.specs.declared.facts.Known.{Known}
 use Rattle.regent_tree.specs.Typing.{taken_from}
 use Rattle.regent_tree.specs.Values.{a_number, a_pointer, an_index, point_target}
 use Rattle.regent_tree.specs.declared.typing.StaticType.{StaticType}
@@ -45,7 +46,7 @@ use Rattle.statement_laws.proofs.Going.{then_goes, either_goes, rebased, in_orde
 
 module _ (task : TaskTree) (args : List Value) (roots : ℕ) where
   abbrev inst : Here → Instance
-  inst h = record { tree = h.tree; task = task; args = args; roots = roots }
+  inst h = record { tree = h.tree; calls = h.calls; task = task; args = args; roots = roots }
 
   abbrev Reads : (h : Here) (m : Interpretation) → Expression → State → Type 0
   Reads h m e u = KeepsSound (inst h) m h.scope (IsValueOf m h.tree h.scope e) (value h e u)
@@ -56,7 +57,7 @@ module _ (task : TaskTree) (args : List Value) (roots : ℕ) where
 
   -- what calls give is the same wherever bindings stand
   answers_too : (tree : Tree) (calls : Calls) (a b : Interpretation) → ((name : Name) → TypeBelow 0 (result_type tree (task_named tree name).result)) → AreSoundAnswers a tree calls → AreSoundAnswers b tree calls
-  answers_too tree calls a b bare are line name vs store = by (calls line name vs store) (are line name vs store)
+  answers_too tree calls a b bare are line name vs store there fit = by (calls line name vs store) (are line name vs store there fit)
     where
       by : (c : Called) → IsSoundAnswer a tree name store c → IsSoundAnswer b tree name store c
       by (came_back v after text) is = (is_of_too 0 a b (record { regions = λ i l. absurd (omega (arith, l)); partitions = λ i l. absurd (omega (arith, l)); numbers = λ i l. absurd (omega (arith, l)) }) _ v (bare name) is.0, is.1)
@@ -83,6 +84,7 @@ module _ (task : TaskTree) (args : List Value) (roots : ℕ) where
     static = static;
     place = place;
     answers = answers_too h.tree h.calls m b (λ name. result_bare h.tree (task_named h.tree name).result (r.sound.results name)) r.answers;
+    result = r.result;
   }
 
   -- a loop with a test, where later bindings stand for nothing before each turn
@@ -95,7 +97,7 @@ module _ (task : TaskTree) (args : List Value) (roots : ℕ) where
       let n = h.scope.next in
       let m0 = emptied n m in
       then_goes (inst h) m0 h.scope n (past h.scope t) (test w) (λ v. if_true (truth_of v) (fault h Turns) (given goes_on)) (tests w st) (λ v w st is.
-      either_goes (inst h) m0 h.scope n (past h.scope t) (truth_of v) (fault h Turns) (given goes_on) w st.covered
+      either_goes (inst h) m0 h.scope n (past h.scope t) (truth_of v) (fault h Turns) (given goes_on) w (record { covered = st.covered; depth = λ e. absurd cc })
       (skipped (inst h) m0 h.scope (past h.scope t) w r.scope r.static grows refl r.place st))
   turning_goes h m t r grows test body tests bodies (suc k) w st =
       let n = h.scope.next in
@@ -113,13 +115,13 @@ module _ (task : TaskTree) (args : List Value) (roots : ℕ) where
           GoesOnSound (inst h) (emptied h.scope.next m) h.scope.next (past h.scope t) (and_then (body u) (λ g. going_on (turning h k test body) g))) →
           GoesOnSound (inst h) (emptied h.scope.next m) h.scope.next (past h.scope t)
           (and_then (pay_from turns h w) (λ _ u. and_then (body u) (λ g. going_on (turning h k test body) g)))
-      paid w st zero next = st.covered
+      paid w st zero next = record { covered = st.covered; depth = λ e. absurd cc }
       paid w st (suc turns) next = next (record w { turns = turns }) (record { names = st.names; counted = st.counted; rooted = st.rooted; grown = st.grown; covered = st.covered })
 
   -- ---- loops over values
 
   -- one turn of a loop with a variable, where later bindings stand for nothing before each turn
-  module _ (h : Here) (m : Interpretation) (r : IsReady task args roots (emptied h.scope.next m) h) (n : Name) (ty : StaticType) (below : TypeBelow h.scope.next ty)
+  module _ (h : Here) (m : Interpretation) (r : IsReady task args roots (emptied h.scope.next m) h) (n : Name) (ty : StaticType) (below : TypeBelow h.scope.next ty) (unparted : (b : Interpretation) → IsOfParent b h.scope.known ty)
       (t : Scope) (more : IsMore (with_name h.scope n ty true) t) (grows : KnowsMore h.scope (past h.scope t)) (body : Run Going)
       (bodies : (b : Interpretation) → IsSoundPlace (inst h) b (with_name h.scope n ty true) → (w : State) → IsSoundState (inst h) b (with_name h.scope n ty true) w →
       GoesOnSound (inst h) b (suc h.scope.next) t (body w)) where
@@ -154,10 +156,10 @@ module _ (task : TaskTree) (args : List Value) (roots : ℕ) where
             } in
             leaves (inst h) m0 h.scope t (length w.names) h.scope.next (body (record w { names = w.names ++ v ∷ [] })) r.scope r.static more_names st.counted
             (rebased (inst h) m0 b h.scope.next (suc h.scope.next) t (body (record w { names = w.names ++ v ∷ [] })) e (omega (arith))
-            (bodies b (record { holds = place.holds; own = place.own; params = place.params }) (record w { names = w.names ++ v ∷ [] }) inner))
+            (bodies b (record { holds = place.holds; own = place.own; params = place.params; parents = parents_with b h.scope.known h.scope n ty true (unparted b) place.parents }) (record w { names = w.names ++ v ∷ [] }) inner))
 
         paid : (w : State) → IsSoundState (inst h) m0 h.scope w → (turns : ℕ) → Turns_go (and_then (pay_from turns h w) (λ _ u. leaving (length u.names) (body (record u { names = u.names ++ v ∷ [] }))))
-        paid w st zero = st.covered
+        paid w st zero = record { covered = st.covered; depth = λ e. absurd cc }
         paid w st (suc turns) = bound_turn (record w { turns = turns }) (record { names = st.names; counted = st.counted; rooted = st.rooted; grown = st.grown; covered = st.covered })
 
     -- behind a turn the next begins as the first
@@ -197,6 +199,18 @@ module _ (task : TaskTree) (args : List Value) (roots : ℕ) where
   items_are m (partition_type d q p) v e is w g = absurd cc
   items_are m no_type v e is w g = absurd cc
   items_are m unknown_type v e is w g = absurd cc
+
+  -- and is no partition
+  pub taken_unparted : (b : Interpretation) (known : List Known) (t : StaticType) → IsOfParent b known (taken_from t)
+  taken_unparted b known (region_type k sp types t) = tt
+  taken_unparted b known (ispace_type k) = tt
+  taken_unparted b known (integer_type y) = tt
+  taken_unparted b known truth_type = tt
+  taken_unparted b known (index_type k) = tt
+  taken_unparted b known (pointer_type k sp types terms) = tt
+  taken_unparted b known (partition_type d q p) = tt
+  taken_unparted b known no_type = tt
+  taken_unparted b known unknown_type = tt
 
   pub taken_below : (n : ℕ) (t : StaticType) → TypeBelow n t → TypeBelow n (taken_from t)
   taken_below n (region_type k sp types t) l = (l, tt)

@@ -8,8 +8,6 @@ use Rattle.regent_tree.specs.Scopes.{in_scope}
 use Rattle.regent_tree.specs.StaticTypes.{looked_up, place_of_space}
 use Rattle.regent_tree.specs.Typing.{reaches_of}
 use Rattle.regent_tree.specs.declared.types.SpaceUse.{SpaceUse}
-use Rattle.regent_tree.specs.declared.types.TypeTerm.{TypeTerm}
-use Rattle.regent_tree.specs.declared.types.NumberTerm.TheVariants as number
 use Rattle.regent_tree.specs.declared.types.TypeTerm.TheVariants as typed_as
 use Rattle.check_rules.specs.types.Fitting.{fits}
 use Rattle.check_rules.specs.types.Sorts.{is_region, is_unknown_type}
@@ -17,13 +15,13 @@ use Rattle.statement_laws.proofs.TypedVariables.{typed_parts}
 use Rattle.statement_laws.proofs.Variables.{in_turn_goes}
 use Rattle.std.proofs.Common.{map}
 use Rattle.plain_values.proofs.Plain.{option_or_parts}
-use Rattle.std.proofs.Common.{Bool, List, [], ◌∷◌, ◌++◌, None, Some, false, true, refl, sym, subst, ℕ, ◌≡◌, ◌∙◌, inl, inr, cond, length}
+use Rattle.std.proofs.Common.{List, [], ◌∷◌, ◌++◌, None, Some, false, true, refl, sym, subst, ℕ, ◌≡◌, ◌∙◌, inl, inr, cond, length}
 use Rattle.regent_tree.specs.Evaluation.{value}
 use Rattle.regent_tree.specs.Execution.{bind}
 use Rattle.regent_tree.specs.Running.{Here}
 use Rattle.regent_tree.specs.Scopes.{known_of_type}
-use Rattle.regent_tree.specs.Syntax.{Expression, Name, TaskTree, plain_initializer, region_initializer, var_form}
-use Rattle.regent_tree.specs.Typing.{known_of_child, owned, scope_after, type_of, var_type}
+use Rattle.regent_tree.specs.Syntax.{Expression, Name, TaskTree, plain_initializer, var_form}
+use Rattle.regent_tree.specs.Typing.{known_of_child, owned, scope_after, type_of}
 use Rattle.regent_tree.specs.Values.{Value, a_region}
 use Rattle.regent_tree.specs.declared.facts.Known.TheVariants.{Made}
 use Rattle.regent_tree.specs.declared.typing.StaticType.{StaticType}
@@ -38,21 +36,15 @@ use Rattle.statement_laws.proofs.Types.{type_in}
 use Rattle.expression_laws.specs.Kinds.{IsOfType, is_region_of}
 use Rattle.fact_laws.specs.Regions.{Holds, Interpretation}
 use Rattle.expression_laws.specs.Sound.{AreInStore, Instance}
-use Rattle.statement_laws.specs.Steady.{GoesOnSound}
 use Rattle.statement_laws.specs.Places.{FormGoes}
 use Rattle.statement_laws.proofs.Going.{then_goes}
 use Rattle.statement_laws.proofs.Loops.{evaluates}
 use Rattle.statement_laws.proofs.States.{put, put_agrees, put_region}
-use Rattle.regent_tree.specs.Execution.{exec}
-use Rattle.check_laws.proofs.Parts.{contrary}
-use Rattle.std.proofs.Common.{◌⊎◌, inl, inr}
-use Rattle.regent_tree.specs.Syntax.{Form, assert_form, assign_form, at_step, both_initializer, by_field_initializer, call_form, do_form, either_initializer, equal_initializer, field_step, fill_form, for_in_form, for_to_form, if_form, image_initializer, no_step, preimage_initializer, print_form, return_form, while_form}
-use Rattle.statement_laws.specs.Untreated.{IsBegun, IsPlain, IsUntreated}
-use Rattle.statement_laws.proofs.Assignments.{set_goes}
-use Rattle.statement_laws.proofs.Leaves.{IsRest, region_like}
+use Rattle.std.proofs.Common.{inl, inr}
+use Rattle.statement_laws.proofs.Leaves.{region_like}
 use Rattle.check_rules.specs.rules.Standing.{stands}
 use Rattle.expression_laws.specs.Kinds.{TypeBelow}
-use Rattle.statement_laws.proofs.Variables.{begun, region_goes, plain_goes, unset_goes}
+use Rattle.statement_laws.proofs.Variables.{begun}
 use Rattle.regent_tree.specs.Values.{Region}
 use Rattle.regent_tree.specs.Typing.{known_of_child_term}
 use Rattle.regent_tree.specs.declared.facts.Colour.{Colour}
@@ -63,14 +55,13 @@ use Rattle.fact_laws.specs.Regions.{AllLieWithinSome, IsChild, StandsFor}
 use Rattle.expression_laws.specs.Kinds.{TermBelow}
 use Rattle.expression_laws.specs.Sound.{AreInStore, IsInStore}
 use Rattle.statement_laws.proofs.Agree.{child_in_store, stands_too}
-use Rattle.statement_laws.proofs.TypedVariables.{typed_goes}
 use Rattle.statement_laws.proofs.Variables.{Begins}
 use Rattle.regent_tree.specs.declared.types.Kind.{Kind}
 use Rattle.regent_tree.specs.StaticTypes.{Reach}
 
 module _ (task : TaskTree) (args : List Value) (roots : ℕ) where
   abbrev inst : Here → Instance
-  inst h = record { tree = h.tree; task = task; args = args; roots = roots }
+  inst h = record { tree = h.tree; calls = h.calls; task = task; args = args; roots = roots }
 
   child_begins : (h : Here) (m : Interpretation) (p : ℕ) (c : Colour) (k : Kind) (sp : ℕ) (types : List Reach) (q : Region) (count : ℕ) → TermBelow h.scope.next (Child p c) →
       AreInStore m count → IsChild m p c q →
@@ -93,6 +84,7 @@ module _ (task : TaskTree) (args : List Value) (roots : ℕ) where
         ];
         kept = subst (IsInStore count) stands.is_child (are.children p stands.number);
         children = child_in_store count;
+        parent = tt;
       }
 
   region_begins : (h : Here) (m : Interpretation) (t : Term) (j k : Kind) (sq sp : ℕ) (others types : List Reach) (v : Value) (count : ℕ) → TermBelow h.scope.next t →
@@ -106,6 +98,7 @@ module _ (task : TaskTree) (args : List Value) (roots : ℕ) where
     own = λ z g. absurd (Has-from_Contains [] (Made z) g);
     kept = subst (IsInStore count) stands (are.regions i);
     children = child_in_store count;
+    parent = tt;
   }
 
   -- `var s = p[k]`
@@ -122,8 +115,6 @@ module _ (task : TaskTree) (args : List Value) (roots : ℕ) where
       begun task args roots h m n None (Some (plain_initializer e)) r v z st
       (subst (λ ty. Begins task args roots h m (owned s.next ty) (known_of_child s.next ty ++ known_of_type (owned s.next ty)) v (length z.store)) (sym same)
       (region_begins h m t k k sp sp types types v (length z.store) below st.rooted (subst (λ ty. IsOfType m ty v) same is.is_of))))
-
-  -- ---- all variables but those of which the laws don't speak yet
 
   region_fits : (own : ℕ) (known : List Known) (from : StaticType) (k : Kind) (sp : ℕ) (types : List Reach) (t : Term) → is_unknown_type from ≡ false →
       fits known (owned own from) (region_type k sp types t) ≡ true → is_region from ≡ true
@@ -157,88 +148,3 @@ module _ (task : TaskTree) (args : List Value) (roots : ℕ) where
       begun task args roots h m n (Some t) (Some i) r v z st
       (subst (λ ty. Begins task args roots h m wanted (known_of_child s.next ty ++ []) v (length z.store)) (sym like.is)
       (region_begins h m like.term like.kind k like.space sp like.arguments types v (length z.store) below st.rooted (subst (λ ty. IsOfType m ty v) like.is is.is_of)))))
-
-  typed_whole : (n : Name) (t : TypeTerm) (y : Expression) (h : Here) → is_difference h.scope.names y ≡ false → IsBegun (var_type h.tree h.scope (Some t) None) →
-      FormGoes task args roots h (var_form n (Some t) (Some (plain_initializer y)))
-  typed_whole n (typed_as.Number number.Int32) y h q is = typed_goes task args roots n (typed_as.Number number.Int32) y h tt q
-  typed_whole n (typed_as.Number number.Int64) y h q is = typed_goes task args roots n (typed_as.Number number.Int64) y h tt q
-  typed_whole n (typed_as.Number (number.Index k)) y h q is = typed_goes task args roots n (typed_as.Number (number.Index k)) y h tt q
-  typed_whole n typed_as.Truth y h q is = typed_goes task args roots n typed_as.Truth y h tt q
-  typed_whole n (typed_as.Pointer p) y h q is = typed_goes task args roots n (typed_as.Pointer p) y h tt q
-  typed_whole n (typed_as.Ispace k) y h q is = typed_goes task args roots n (typed_as.Ispace k) y h tt q
-  typed_whole n (typed_as.Region k u) y h q is = typed_child_goes n k u y h q
-  typed_whole n (typed_as.Partition d p c) y h q is = absurd is
-
-  begun_or : (t : StaticType) → IsBegun t ⊎ (IsBegun t → ⊥)
-  begun_or (integer_type w) = inl tt
-  begun_or truth_type = inl tt
-  begun_or (index_type k) = inl tt
-  begun_or (pointer_type k sp types terms) = inl tt
-  begun_or (ispace_type k) = inl tt
-  begun_or (region_type k sp types t) = inl tt
-  begun_or (partition_type d r p) = inr (λ h. h)
-  begun_or no_type = inr (λ h. h)
-  begun_or unknown_type = inr (λ h. h)
-
-  pub variables_go : ((form : Form) (h : Here) → IsUntreated h form → FormGoes task args roots h form) → (form : Form) (h : Here) → IsRest task args roots form → FormGoes task args roots h form
-  variables_go left (assign_form n no_step k y) h rest m r e w wr u st = set_goes task args roots n k y h m r e w wr u st
-  variables_go left (var_form n (Some t) (Some (plain_initializer y))) h rest m r e w wr u st = elim (begun_or (var_type h.tree h.scope (Some t) None)) [
-    | inl is ↦ whole (is_difference h.scope.names y) refl is
-    | inr other ↦ left (var_form n (Some t) (Some (plain_initializer y))) h (λ is q. other is) m r e w wr u st
-  ]
-    where
-      whole : (b : Bool) → is_difference h.scope.names y ≡ b → IsBegun (var_type h.tree h.scope (Some t) None) →
-          GoesOnSound (inst h) m h.scope.next (scope_after h.tree h.scope (var_form n (Some t) (Some (plain_initializer y)))) (exec h (var_form n (Some t) (Some (plain_initializer y))) u)
-      whole false q is = typed_whole n t y h q is m r e w wr u st
-      whole true q is = left (var_form n (Some t) (Some (plain_initializer y))) h (λ is p. contrary (sym q ∙ p)) m r e w wr u st
-  variables_go left (var_form n (Some t) (Some (region_initializer y s))) h rest m r e w wr u st = left (var_form n (Some t) (Some (region_initializer y s))) h tt m r e w wr u st
-  variables_go left (var_form n (Some t) (Some (equal_initializer a y))) h rest m r e w wr u st = left (var_form n (Some t) (Some (equal_initializer a y))) h tt m r e w wr u st
-  variables_go left (var_form n (Some t) (Some (by_field_initializer a f y))) h rest m r e w wr u st = left (var_form n (Some t) (Some (by_field_initializer a f y))) h tt m r e w wr u st
-  variables_go left (var_form n (Some t) (Some (image_initializer a p b f))) h rest m r e w wr u st = left (var_form n (Some t) (Some (image_initializer a p b f))) h tt m r e w wr u st
-  variables_go left (var_form n (Some t) (Some (preimage_initializer a p b f))) h rest m r e w wr u st = left (var_form n (Some t) (Some (preimage_initializer a p b f))) h tt m r e w wr u st
-  variables_go left (var_form n (Some t) (Some (both_initializer p q))) h rest m r e w wr u st = left (var_form n (Some t) (Some (both_initializer p q))) h tt m r e w wr u st
-  variables_go left (var_form n (Some t) (Some (either_initializer p q))) h rest m r e w wr u st = left (var_form n (Some t) (Some (either_initializer p q))) h tt m r e w wr u st
-  variables_go left (var_form n (Some t) None) h rest m r e w wr u st = unset_goes task args roots n t h m r e w wr u st
-  variables_go left (var_form n None None) h rest m r e w wr u st = absurd (contrary (parts_of_form h.tree task h.scope r.sound r.scope (var_form n None None) e).1)
-  variables_go left (var_form n None (Some (region_initializer y s))) h rest m r e w wr u st = region_goes task args roots n y s h m r e w wr u st
-  variables_go left (var_form n None (Some (plain_initializer y))) h rest m r e w wr u st = by (type_of h.tree h.scope y) refl
-    where
-      whole : (b : Bool) → is_difference h.scope.names y ≡ b → IsPlain (type_of h.tree h.scope y) →
-          GoesOnSound (inst h) m h.scope.next (scope_after h.tree h.scope (var_form n None (Some (plain_initializer y)))) (exec h (var_form n None (Some (plain_initializer y))) u)
-      whole false q is = plain_goes task args roots n y h is q m r e w wr u st
-      whole true q is = left (var_form n None (Some (plain_initializer y))) h (λ is p. contrary (sym q ∙ p)) m r e w wr u st
-
-      region : (b : Bool) → is_difference h.scope.names y ≡ b → (k : Kind) (sp : ℕ) (types : List Reach) (t : Term) → type_of h.tree h.scope y ≡ region_type k sp types t →
-          GoesOnSound (inst h) m h.scope.next (scope_after h.tree h.scope (var_form n None (Some (plain_initializer y)))) (exec h (var_form n None (Some (plain_initializer y))) u)
-      region false q k sp types t same = child_goes n y h k sp types t same q m r e w wr u st
-      region true q k sp types t same = left (var_form n None (Some (plain_initializer y))) h (λ is p. contrary (sym q ∙ p)) m r e w wr u st
-
-      by : (ty : StaticType) → type_of h.tree h.scope y ≡ ty →
-          GoesOnSound (inst h) m h.scope.next (scope_after h.tree h.scope (var_form n None (Some (plain_initializer y)))) (exec h (var_form n None (Some (plain_initializer y))) u)
-      by (region_type k sp types t) same = region (is_difference h.scope.names y) refl k sp types t same
-      by (integer_type x) same = whole (is_difference h.scope.names y) refl (subst IsPlain (sym same) tt)
-      by truth_type same = whole (is_difference h.scope.names y) refl (subst IsPlain (sym same) tt)
-      by (index_type k) same = whole (is_difference h.scope.names y) refl (subst IsPlain (sym same) tt)
-      by (pointer_type k sp types terms) same = whole (is_difference h.scope.names y) refl (subst IsPlain (sym same) tt)
-      by (ispace_type k) same = whole (is_difference h.scope.names y) refl (subst IsPlain (sym same) tt)
-      by (partition_type d q p) same = left (var_form n None (Some (plain_initializer y))) h (λ is z. subst IsBegun same is) m r e w wr u st
-      by no_type same = left (var_form n None (Some (plain_initializer y))) h (λ is z. subst IsBegun same is) m r e w wr u st
-      by unknown_type same = left (var_form n None (Some (plain_initializer y))) h (λ is z. subst IsBegun same is) m r e w wr u st
-  variables_go left (var_form n None (Some (equal_initializer a y))) h rest m r e w wr u st = left (var_form n None (Some (equal_initializer a y))) h tt m r e w wr u st
-  variables_go left (var_form n None (Some (by_field_initializer a f y))) h rest m r e w wr u st = left (var_form n None (Some (by_field_initializer a f y))) h tt m r e w wr u st
-  variables_go left (var_form n None (Some (image_initializer a p b f))) h rest m r e w wr u st = left (var_form n None (Some (image_initializer a p b f))) h tt m r e w wr u st
-  variables_go left (var_form n None (Some (preimage_initializer a p b f))) h rest m r e w wr u st = left (var_form n None (Some (preimage_initializer a p b f))) h tt m r e w wr u st
-  variables_go left (var_form n None (Some (both_initializer p q))) h rest m r e w wr u st = left (var_form n None (Some (both_initializer p q))) h tt m r e w wr u st
-  variables_go left (var_form n None (Some (either_initializer p q))) h rest m r e w wr u st = left (var_form n None (Some (either_initializer p q))) h tt m r e w wr u st
-  variables_go left (assign_form n (field_step f steps) k y) h rest m r e w wr u st = absurd rest
-  variables_go left (assign_form n (at_step z steps) k y) h rest m r e w wr u st = absurd rest
-  variables_go left (if_form arms other) h rest m r e w wr u st = absurd rest
-  variables_go left (while_form test body) h rest m r e w wr u st = absurd rest
-  variables_go left (for_in_form d n domain body) h rest m r e w wr u st = absurd rest
-  variables_go left (for_to_form d n from to body) h rest m r e w wr u st = absurd rest
-  variables_go left (do_form body) h rest m r e w wr u st = absurd rest
-  variables_go left (fill_form n fs y) h rest m r e w wr u st = absurd rest
-  variables_go left (assert_form y) h rest m r e w wr u st = absurd rest
-  variables_go left (print_form alias format es) h rest m r e w wr u st = absurd rest
-  variables_go left (call_form f es) h rest m r e w wr u st = absurd rest
-  variables_go left (return_form y) h rest m r e w wr u st = absurd rest

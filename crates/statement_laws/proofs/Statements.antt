@@ -5,7 +5,7 @@ use Rattle.std.proofs.Common.{arith, List, None, true, refl, sym, subst, ℕ, �
 use Rattle.regent_tree.specs.Evaluation.{value}
 use Rattle.regent_tree.specs.Execution.{Going, after_arm, after_arms, after_statement, exec, exec_arms, exec_block, exec_else, leaving, on_line, scoped}
 use Rattle.regent_tree.specs.Running.{Here, Result, Run, State, fails, gives, if_true, ◌>>=◌}
-use Rattle.regent_tree.specs.Scopes.{Scope, past}
+use Rattle.regent_tree.specs.Scopes.{Scope, bound_as, past}
 use Rattle.regent_tree.specs.Syntax.{Arms, Block, Form, Otherwise, TaskTree, a_statement, an_arm, assert_form, assign_form, call_form, do_form, else_block, fill_form, for_in_form, for_to_form, if_form, no_arm, no_else, no_statement, print_form, return_form, then_statement, var_form, while_form}
 use Rattle.regent_tree.specs.Typing.{scope_after, scope_after_arms, scope_after_block, scope_after_else, type_of}
 use Rattle.regent_tree.specs.Values.{Value, truth_of}
@@ -14,10 +14,10 @@ use Rattle.check_rules.specs.first.FirstInStatements.{first_in_arms, first_in_bl
 use Rattle.check_laws.proofs.Variables.{parts_of_form}
 use Rattle.expression_laws.specs.Kinds.{IsOfType, TypeBelow}
 use Rattle.fact_laws.specs.Regions.{Interpretation}
-use Rattle.expression_laws.specs.Sound.{IsValueOf, Instance, IsSoundPlace, IsSoundState, KeepsSound}
-use Rattle.statement_laws.specs.Steady.{GoesOnSound, KnowsMore}
+use Rattle.expression_laws.specs.Sound.{IsOfParent, IsValueOf, Instance, IsSoundPlace, IsSoundState, KeepsSound}
+use Rattle.statement_laws.specs.Steady.{AgreeBelow, GoesOnSound, IsStaticPlace, KnowsMore}
 use Rattle.statement_laws.specs.WrittenStatements.{AreWrittenArms, IsWrittenBlock, IsWrittenElse}
-use Rattle.statement_laws.proofs.Agree.{emptied, emptied_agrees, emptied_in_store, grows_none, grows_then, in_left, place_too}
+use Rattle.statement_laws.proofs.Agree.{agree_less, emptied, emptied_agrees, emptied_in_store, grows_none, grows_then, in_left, parent_too, place_too}
 use Rattle.check_rules.specs.first.Rules.{first_in}
 use Rattle.check_rules.specs.types.Parts.{tests_of}
 use Rattle.std.specs.List.{Contains}
@@ -35,11 +35,11 @@ use Rattle.statement_laws.proofs.Scopes.{grows_past, names_arms, names_else, gro
 use Rattle.statement_laws.proofs.States.{skipped, state_same, state_too}
 use Rattle.statement_laws.specs.Places.{FormGoes, IsReady}
 use Rattle.statement_laws.proofs.Going.{then_goes, either_goes, rebased, in_order, stays_here, leaves}
-use Rattle.statement_laws.proofs.Loops.{evaluates, moved_on, turning_goes, rounds_go, counting_goes, items_are, taken_below, static_bound, further}
+use Rattle.statement_laws.proofs.Loops.{evaluates, moved_on, turning_goes, rounds_go, counting_goes, items_are, taken_below, taken_unparted, static_bound, further}
 
 module _ (task : TaskTree) (args : List Value) (roots : ℕ) where
   abbrev inst : Here → Instance
-  inst h = record { tree = h.tree; task = task; args = args; roots = roots }
+  inst h = record { tree = h.tree; calls = h.calls; task = task; args = args; roots = roots }
 
   -- the other forms: variables, loops over numbers, regions and spaces, and what has no block
   abbrev pub IsLeaf : Form → Type 0
@@ -52,11 +52,12 @@ module _ (task : TaskTree) (args : List Value) (roots : ℕ) where
 
   -- ---- tests of an `if`, in its own scope, where less is known
 
-  narrowed : (x : Instance) (b : Interpretation) (s t : Scope) → KnowsMore s t → IsSoundPlace x b t → IsSoundPlace x b s
-  narrowed x b s t more place = record {
+  narrowed : (x : Instance) (m b : Interpretation) (s t : Scope) → IsStaticPlace x s → AgreeBelow s.next m b → IsSoundPlace x m s → KnowsMore s t → IsSoundPlace x b t → IsSoundPlace x b s
+  narrowed x m b s t static agree before more place = record {
     holds = λ k c. place.holds k (subst (λ ks. Contains ks k) (sym more.known) (in_left s.known more.more k c));
     own = λ i c. place.own i (subst (λ ks. Contains ks (Made i)) (sym more.known) (in_left s.known more.more (Made i) c));
     params = place.params;
+    parents = λ i. parent_too s.next m b agree s.known static.below (bound_as s.names i).static_type (before.parents i);
   }
 
   named_alike : {A : Type 0} (Is : A → Type 0) (x : Instance) (m : Interpretation) (s t : Scope) (r : Result A) → t.names ≡ s.names → KeepsSound x m s Is r → KeepsSound x m t Is r
@@ -115,7 +116,7 @@ module _ (task : TaskTree) (args : List Value) (roots : ℕ) where
           rebased (inst h) m m0 k k (past s t) (exec h (for_in_form demanded n domain body) u) (emptied_agrees k m) (omega (arith))
           (then_goes (inst h) m0 s k (past s t) (value h domain u) (λ v. rounds h (items_of v) (exec_block (looping h n ty) body))
           (evaluates task args roots h m0 domain r0 wr.0 told u st0) (λ v w st is.
-          rounds_go task args roots h m r0 n ty (taken_below task args roots k type in_scope.below) t (more_block h.tree task r.sound s1 body next.0 next.1 next.2)
+          rounds_go task args roots h m r0 n ty (taken_below task args roots k type in_scope.below) (λ b. taken_unparted task args roots b s.known type) t (more_block h.tree task r.sound s1 body next.0 next.1 next.2)
           (grows_past s s1 t refl (omega (arith)) grown) (exec_block (looping h n ty) body)
           (λ b place w st. block_goes body (looping h n ty) b (moved_on task args roots h m b s1 h.line r next.0 static1 place) next.2 wr.1 w st)
           (items_of v) (items_are task args roots m0 type v sort is.is_of) w st))
@@ -140,7 +141,7 @@ module _ (task : TaskTree) (args : List Value) (roots : ℕ) where
           (evaluates task args roots h m0 from r0 wr.0 heads.0 u st0) (λ a w st is.
           then_goes (inst h) m0 s k (past s t) (value h to w) (λ b. counting h (distance (number_of a) (number_of b)) (width_of_type ty) (number_of a) (exec_block (looping h n ty) body))
           (evaluates task args roots h m0 to r0 wr.1 second w st) (λ b w st is.
-          counting_goes task args roots h m r0 n ty (subst (TypeBelow k) (sym width.1) tt) t (more_block h.tree task r.sound s1 body next.0 next.1 next.2)
+          counting_goes task args roots h m r0 n ty (subst (TypeBelow k) (sym width.1) tt) (λ b. subst (IsOfParent b s.known) (sym width.1) tt) t (more_block h.tree task r.sound s1 body next.0 next.1 next.2)
           (grows_past s s1 t refl (omega (arith)) grown) (exec_block (looping h n ty) body)
           (λ b place w st. block_goes body (looping h n ty) b (moved_on task args roots h m b s1 h.line r next.0 static1 place) next.2 wr.2 w st)
           (width_of_type ty) (λ z. subst (λ q. IsOfType m0 q (a_number (width_of_type q) z)) (sym width.1) is_number)
@@ -191,7 +192,7 @@ module _ (task : TaskTree) (args : List Value) (roots : ℕ) where
           (let b = skipped (inst own) m s s1 w r.scope r.static wider refl r.place st in
           let more1 = grows_then own.scope s s1 more wider in
           rebased (inst own) m b.meant n s1.next t (exec_arms own (after_arm (record own { scope = s }) body) rest other w) b.agree grown.next
-          (arms_goes rest own s1 b.meant (moved_on task args roots own m b.meant own.scope own.line ro ro.scope ro.static (narrowed (inst own) b.meant own.scope s1 more1 b.place))
+          (arms_goes rest own s1 b.meant (moved_on task args roots own m b.meant own.scope own.line ro ro.scope ro.static (narrowed (inst own) m b.meant own.scope s1 ro.static (agree_less n own.scope.next m b.meant more.next b.agree) ro.place more1 b.place))
           (moved_on task args roots own m b.meant s1 own.line ro next.1 static1 b.place) more1 alike other t next.2 tests.1 wr.2 grows same others w b.state)))
 
       else_goes : (other : Otherwise) (h : Here) (m : Interpretation) → IsReady task args roots m h → first_in_else h.tree task h.scope other ≡ None → IsWrittenElse other →

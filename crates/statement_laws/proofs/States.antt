@@ -36,7 +36,7 @@ module _ (n : ℕ) (a b : Interpretation) (e : AgreeBelow n a b) where
   is_of_too (ispace_type k) v l is_space = is_space
   is_of_too (region_type k s args t) v l (is_region_of {r = r} stands) = is_region_of (stands_too n a b e t r l stands)
   is_of_too (partition_type d r p) v l (is_partition_of same) = is_partition_of (sym (e.partitions p l) ∙ same)
-  is_of_too no_type v l is = is_nothing
+  is_of_too no_type v l is_nothing = is_nothing
   is_of_too unknown_type v l is = is_unknown
 
 -- a binding that is there has a number below the next
@@ -180,7 +180,7 @@ pub skipped : (x : Instance) (m : Interpretation) (s t : Scope) (u : State) → 
 skipped x m s t u scope static grows same place st = record {
   meant = emptied s.next m;
   agree = emptied_agrees s.next m;
-  place = grown_place x m s t static grows place;
+  place = grown_place x m s t static grows same place;
   state = state_same x s t (emptied s.next m) u same
       (state_too x s m (emptied s.next m) u scope static.well_scoped (emptied_agrees s.next m) (emptied_in_store s.next m (length u.store) st.rooted) st);
 }

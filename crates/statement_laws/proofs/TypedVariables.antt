@@ -45,7 +45,6 @@ use Rattle.check_rules.specs.declared.rule.Rule.TheVariants as rule
 use Rattle.check_laws.proofs.Variables.{variable_known}
 use Rattle.expression_laws.proofs.Names.{pointer_args, reached}
 use Rattle.statement_laws.proofs.Types.{args_below}
-use Rattle.statement_laws.specs.Untreated.{IsPlain}
 use Rattle.statement_laws.proofs.States.{plain_children, plain_region}
 use Rattle.std.proofs.lemmas.Bool.{not-false, or_parts}
 use Rattle.regent_tree.specs.Accesses.{converted}
@@ -60,7 +59,7 @@ use Rattle.check_laws.proofs.Variables.{begun_sound}
 use Rattle.expression_laws.specs.Kinds.{GoInto, TypeBelow}
 use Rattle.expression_laws.specs.Sound.{KeepsSound}
 use Rattle.statement_laws.proofs.Assignments.{converted_is}
-use Rattle.statement_laws.proofs.Variables.{begun, in_turn_goes, tells_none}
+use Rattle.statement_laws.proofs.Variables.{IsPlain, begun, in_turn_goes, tells_none, untold_parent}
 use Rattle.regent_tree.specs.Values.{Region}
 use Rattle.regent_tree.specs.Typing.{initializer_type}
 
@@ -81,7 +80,7 @@ fits_plain own known (region_type k s args t) (pointer_type j u others terms) p 
 fits_plain own known (region_type k s args t) (ispace_type j) p e = absurd cc
 fits_plain own known (region_type k s args t) (region_type j u others z) p e = absurd p
 fits_plain own known (region_type k s args t) (partition_type f z y) p e = absurd p
-fits_plain own known (region_type k s args t) no_type p e = absurd p
+fits_plain own known (region_type k s args t) no_type p e = absurd cc
 fits_plain own known (region_type k s args t) unknown_type p e = absurd p
 fits_plain own known (partition_type d r q) (integer_type w) p e = absurd cc
 fits_plain own known (partition_type d r q) truth_type p e = absurd cc
@@ -90,7 +89,7 @@ fits_plain own known (partition_type d r q) (pointer_type j u others terms) p e 
 fits_plain own known (partition_type d r q) (ispace_type j) p e = absurd cc
 fits_plain own known (partition_type d r q) (region_type j u others z) p e = absurd p
 fits_plain own known (partition_type d r q) (partition_type f z y) p e = absurd p
-fits_plain own known (partition_type d r q) no_type p e = absurd p
+fits_plain own known (partition_type d r q) no_type p e = absurd cc
 fits_plain own known (partition_type d r q) unknown_type p e = absurd p
 
 owned_known : (own : ℕ) (t : StaticType) → is_unknown_type (owned own t) ≡ false → is_unknown_type t ≡ false
@@ -104,7 +103,7 @@ owned_known own (partition_type d r p) e = refl
 owned_known own no_type e = refl
 owned_known own unknown_type e = e
 
-unless_both : (b c : Bool) (t : StaticType) → c ≡ false → cond (b && c) unknown_type t ≡ t
+pub unless_both : (b c : Bool) (t : StaticType) → c ≡ false → cond (b && c) unknown_type t ≡ t
 unless_both true c t e = λ j. cond (e j) unknown_type t
 unless_both false c t e = refl
 
@@ -130,12 +129,12 @@ converted_plain x m s h known from (pointer_type j sp args terms) rs v u k p e g
 converted_plain x m s h known from (ispace_type j) rs v u k p e go is st = (st, space_from m known j from v k e is)
 converted_plain x m s h known from (region_type j sp args t) rs v u k p e go is st = absurd p
 converted_plain x m s h known from (partition_type d r q) rs v u k p e go is st = absurd p
-converted_plain x m s h known from no_type rs v u k p e go is st = absurd p
+converted_plain x m s h known from no_type rs v u k p e go is st = converted_is x m s h known from no_type rs v u k refl refl e go is st
 converted_plain x m s h known from unknown_type rs v u k p e go is st = absurd p
 
 module _ (task : TaskTree) (args : List Value) (roots : ℕ) where
   abbrev inst : Here → Instance
-  inst h = record { tree = h.tree; task = task; args = args; roots = roots }
+  inst h = record { tree = h.tree; calls = h.calls; task = task; args = args; roots = roots }
 
   -- a type that is written is of bindings in scope
   record IsWrittenType (h : Here) (m : Interpretation) (t : TypeTerm) (wanted : StaticType) : Type 0 where
@@ -209,4 +208,5 @@ module _ (task : TaskTree) (args : List Value) (roots : ℕ) where
         own = λ i c. absurd (Has-from_Contains [] (Made i) (subst (λ ks. Contains ks (Made i)) tells c));
         kept = plain_region (length z.store) a (none.empty m a is);
         children = plain_children (length z.store) a (none.empty m a is);
+        parent = untold_parent task args roots (put s.next a m) (known_of_child s.next from ++ known_of_type wanted) wanted none.type;
       }))))

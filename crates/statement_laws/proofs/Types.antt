@@ -53,7 +53,7 @@ use Rattle.expression_laws.proofs.Values.{unless_known}
 
 -- ---- numbers of regions in scope
 
-bound_below : (next : ℕ) (names : List Bound) → Falls next names → (j : ℕ) → is_region (bound_as names j).static_type ≡ true → j < next
+pub bound_below : (next : ℕ) (names : List Bound) → Falls next names → (j : ℕ) → is_region (bound_as names j).static_type ≡ true → j < next
 bound_below next [] falls j e = absurd cc
 bound_below next (b ∷ bs) falls j e = here (b.number == j) refl (bound_below b.number bs falls.1 j) e
   where

@@ -8,9 +8,12 @@ use Rattle.plain_values.specs.Points.{points}
 use Rattle.regent_tree.specs.Evaluation.{value}
 use Rattle.regent_tree.specs.Execution.{Going, bind}
 use Rattle.regent_tree.specs.Running.{Here, Result, Run, State, and_then, fails, gives}
-use Rattle.regent_tree.specs.Scopes.{Scope, known_of_type}
+use Rattle.point_sets.proofs.Rising.{rising-counted_from}
+use Rattle.regent_tree.specs.Scopes.{Scope, bound_as, known_of_type}
 use Rattle.regent_tree.specs.Initializers.{make_root}
-use Rattle.regent_tree.specs.StaticTypes.{field_kinds, place_of_space}
+use Rattle.regent_tree.specs.declared.facts.Term.TheVariants.{Name as name_term}
+use Rattle.regent_tree.specs.declared.types.Kind.{Kind}
+use Rattle.regent_tree.specs.StaticTypes.{Reach, field_kinds, place_of_space}
 use Rattle.regent_tree.specs.Store.{new_root}
 use Rattle.regent_tree.specs.Syntax.{Expression, Name, Initializer, TaskTree, plain_initializer, region_initializer, var_form}
 use Rattle.regent_tree.specs.Typing.{known_of_child, known_of_initializer, owned, scope_after, type_of, var_type}
@@ -30,11 +33,11 @@ use Rattle.check_rules.specs.first.Rules.{first_in}
 use Rattle.check_rules.specs.scopes.Variables.{members_of}
 use Rattle.statement_laws.proofs.States.{is_of_too}
 use Rattle.statement_laws.proofs.Types.{type_in}
-use Rattle.expression_laws.specs.Kinds.{IsOfType, is_index, is_number, is_pointer, is_region_of, is_space, is_truth}
+use Rattle.expression_laws.specs.Kinds.{IsOfType, is_index, is_nothing, is_number, is_pointer, is_region_of, is_space, is_truth}
 use Rattle.fact_laws.specs.Regions.{Holds, IsIn, Interpretation, child_at}
-use Rattle.expression_laws.specs.Sound.{IsInStore, IsNoCollection, AreInStore, Instance, IsSoundState}
+use Rattle.expression_laws.specs.Sound.{IsInStore, IsNoCollection, IsOfParent, AreInStore, Instance, IsSoundState}
 use Rattle.statement_laws.specs.Steady.{GoesOnSound}
-use Rattle.statement_laws.proofs.Agree.{child_in_store, in_longer_store, given_too, holds_too, in_either, own_too}
+use Rattle.statement_laws.proofs.Agree.{child_in_store, in_longer_store, given_too, holds_too, in_either, own_too, parent_among, parent_more, parent_too, parents_with}
 use Rattle.statement_laws.specs.Places.{FormGoes, IsReady}
 use Rattle.statement_laws.proofs.Going.{then_goes}
 use Rattle.statement_laws.proofs.Loops.{evaluates}
@@ -59,7 +62,13 @@ use Rattle.check_laws.proofs.Variables.{variable_known}
 use Rattle.expression_laws.proofs.Names.{pointer_args, reached}
 use Rattle.statement_laws.proofs.Types.{args_below}
 use Rattle.std.proofs.Common.{inl, inr}
-use Rattle.statement_laws.specs.Untreated.{IsPlain}
+
+-- a type of values that are no regions and no partitions
+abbrev pub IsPlain : StaticType → Type 0
+IsPlain (region_type k sp types t) = ⊥
+IsPlain (partition_type d r p) = ⊥
+IsPlain unknown_type = ⊥
+IsPlain t = Unit {0}
 
 abbrev number_made : Known → ℕ
 number_made (Made i) = i
@@ -70,7 +79,19 @@ made_same a b e = ap number_made e
 
 module _ (task : TaskTree) (args : List Value) (roots : ℕ) where
   abbrev inst : Here → Instance
-  inst h = record { tree = h.tree; task = task; args = args; roots = roots }
+  inst h = record { tree = h.tree; calls = h.calls; task = task; args = args; roots = roots }
+
+  -- a type that tells nothing is no partition's
+  pub untold_parent : (m : Interpretation) (known : List Known) (t : StaticType) → known_of_type t ≡ [] → IsOfParent m known t
+  untold_parent m known (partition_type d r p) e = absurd cc
+  untold_parent m known (pointer_type k sp terms others) e = tt
+  untold_parent m known (region_type k sp terms t) e = tt
+  untold_parent m known (integer_type w) e = tt
+  untold_parent m known truth_type e = tt
+  untold_parent m known (index_type k) e = tt
+  untold_parent m known (ispace_type k) e = tt
+  untold_parent m known no_type e = tt
+  untold_parent m known unknown_type e = tt
 
   -- what a first value has to be
   pub record Begins (h : Here) (m : Interpretation) (ty : StaticType) (told : List Known) (v : Value) (count : ℕ) : Type 0 where
@@ -79,6 +100,7 @@ module _ (task : TaskTree) (args : List Value) (roots : ℕ) where
     pub own : (i : ℕ) → Contains told (Made i) → (root p : ℕ) → IsIn ((put h.scope.next v m).region i) root p → roots ≤ root
     pub kept : IsInStore count (region_of v)
     pub children : (c : ℤ) → IsInStore count (child_at (partition_of v) c)
+    pub parent : IsOfParent (put h.scope.next v m) told ty
 
   pub begun : (h : Here) (m : Interpretation) (n : Name) (t : Option TypeTerm) (start : Option Initializer) → IsReady task args roots m h → (v : Value) (u : State) → IsSoundState (inst h) m h.scope u →
       Begins h m (var_type h.tree h.scope t start) (known_of_initializer h.tree h.scope h.scope.next start ++ known_of_type (var_type h.tree h.scope t start)) v (length u.store) →
@@ -102,6 +124,9 @@ module _ (task : TaskTree) (args : List Value) (roots : ℕ) where
             | inr g ↦ begins.own i g root p is
           ];
           params = given_too s.next m b e (inst h) s r.static (omega (arith)) r.place.params;
+          parents = parents_with b (s.known ++ told) s n ty false (parent_among b s.known told ty begins.parent)
+              (λ i. parent_more b s.known told (bound_as s.names i).static_type
+              (parent_too s.next m b e s.known r.static.below (bound_as s.names i).static_type (r.place.parents i)));
         };
         state = record {
           names = bound_fits s n ty false m u.names v r.scope r.static.well_scoped r.static.placed st.counted st.names begins.is_of;
@@ -117,7 +142,7 @@ module _ (task : TaskTree) (args : List Value) (roots : ℕ) where
   new_apart i v m count are same j less root p a b =
       let first = subst (λ q. IsIn q root p) (put_region i v m) a in
       let second = subst (λ q. IsIn q root p) (sym ((put_agrees i v m).regions j less)) b in
-      let below = are.regions j root p second in
+      let below = (are.regions j).below root p second in
       let is = sym same ∙ first.0 in
       absurd (omega (arith, below, is))
 
@@ -126,26 +151,28 @@ module _ (task : TaskTree) (args : List Value) (roots : ℕ) where
   in_turn_goes x m n t (gives a u) f g goes = goes
   in_turn_goes x m n t (fails e u) f g goes = goes
 
-  -- `var r = region(..)`
-  pub region_goes : (n : Name) (e : Expression) (u : SpaceUse) (h : Here) → FormGoes task args roots h (var_form n None (Some (region_initializer e u)))
-  region_goes n e u h m r told w wr st0 st =
+  -- `var r = region(..)`, where the variable is of a region
+  pub region_goes : (n : Name) (written : Option TypeTerm) (e : Expression) (u : SpaceUse) (h : Here) (k : Kind) (sp : ℕ) (types : List Reach) →
+      var_type h.tree h.scope written (Some (region_initializer e u)) ≡ region_type k sp types (name_term h.scope.next) →
+      FormGoes task args roots h (var_form n written (Some (region_initializer e u)))
+  region_goes n written e u h k sp types same m r told w wr st0 st =
       let s = h.scope in
-      let t = scope_after h.tree s (var_form n None (Some (region_initializer e u))) in
-      let parts = parts_of_form h.tree task s r.sound r.scope (var_form n None (Some (region_initializer e u))) told in
+      let t = scope_after h.tree s (var_form n written (Some (region_initializer e u))) in
+      let parts = parts_of_form h.tree task s r.sound r.scope (var_form n written (Some (region_initializer e u))) told in
       in_turn_goes (inst h) m s.next t (value h e st0) (λ v. make_root h u (size_of v)) (λ v. bind v)
       (then_goes (inst h) m s s.next t (value h e st0) (λ v z. and_then (make_root h u (size_of v) z) (λ v. bind v))
       (evaluates task args roots h m e r wr (option_or_parts (first_in_expression h.tree task s e) _ parts.2).0 st0 st) (λ v z st is.
       made v z st))
     where
       made : (v : Value) (z : State) → IsSoundState (inst h) m h.scope z →
-          GoesOnSound (inst h) m h.scope.next (scope_after h.tree h.scope (var_form n None (Some (region_initializer e u)))) (and_then (make_root h u (size_of v) z) (λ v. bind v))
+          GoesOnSound (inst h) m h.scope.next (scope_after h.tree h.scope (var_form n written (Some (region_initializer e u)))) (and_then (make_root h u (size_of v) z) (λ v. bind v))
       made v z st =
           let count = length z.store in
           let new : Value = a_region (record { root = count; points = points (size_of v) }) in
           let store = z.store ++ new_root (place_of_space h.tree u.name) (size_of v) (field_kinds h.tree (place_of_space h.tree u.name)) ∷ [] in
           let long : length store ≡ suc count = length-append z.store _ ∙ omega (arith) in
           let grown = st.grown in
-          begun h m n None (Some (region_initializer e u)) r new (record z { store = store })
+          begun h m n written (Some (region_initializer e u)) r new (record z { store = store })
           (record {
             names = st.names;
             counted = st.counted;
@@ -153,7 +180,7 @@ module _ (task : TaskTree) (args : List Value) (roots : ℕ) where
             grown = omega (arith, long, grown);
             covered = st.covered;
           })
-          (record {
+          (subst (λ ty. Begins h m ty (Made h.scope.next ∷ [] ++ known_of_type ty) new (length store)) (sym same) (record {
             is_of = is_region_of (put_region h.scope.next new m);
             holds = λ k c. elim (Has-from_Contains (Made h.scope.next ∷ []) k c) [
               | inl e ↦ subst (Holds (put h.scope.next new m)) e (new_apart h.scope.next new m count st.rooted refl)
@@ -166,9 +193,10 @@ module _ (task : TaskTree) (args : List Value) (roots : ℕ) where
                   omega (arith, is, grown)
               | inr g ↦ absurd g
             ];
-            kept = λ root p at. let is = at.0 in omega (arith, long, is);
+            kept = record { below = λ root p at. let is = at.0 in omega (arith, long, is); rising = rising-counted_from 0 (size_of v) };
             children = child_in_store (length store);
-          })
+            parent = tt;
+          }))
 
   -- ---- values that are no collections
 
@@ -202,13 +230,16 @@ module _ (task : TaskTree) (args : List Value) (roots : ℕ) where
       none m v is_space = (refl, refl)
   tells_none s (region_type k sp types t) h = absurd h
   tells_none s (partition_type d r p) h = absurd h
-  tells_none s no_type h = absurd h
+  tells_none s no_type h = record { same = refl; child = refl; type = refl; empty = λ m v is. none m v is }
+    where
+      none : (m : Interpretation) (v : Value) → IsOfType m no_type v → IsNoCollection v
+      none m v is_nothing = (refl, refl)
   tells_none s unknown_type h = absurd h
 
   nothing_told : (s : Scope) (t : StaticType) → TellsNone s t → known_of_child s.next t ++ known_of_type (owned s.next t) ≡ []
   nothing_told s t none = (λ j. none.child j ++ known_of_type (none.same j)) ∙ none.type
 
-  -- `var x = e` of a number, truth, index, pointer or space
+  -- `var x = e` of what is no region and no partition
   pub plain_goes : (n : Name) (e : Expression) (h : Here) → IsPlain (type_of h.tree h.scope e) → is_difference h.scope.names e ≡ false →
       FormGoes task args roots h (var_form n None (Some (plain_initializer e)))
   plain_goes n e h is_plain whole m r told w wr st0 st =
@@ -228,6 +259,7 @@ module _ (task : TaskTree) (args : List Value) (roots : ℕ) where
         own = λ i c. absurd (Has-from_Contains [] (Made i) (subst (λ ks. Contains ks (Made i)) tells c));
         kept = plain_region (length z.store) v (none.empty m v is.is_of);
         children = plain_children (length z.store) v (none.empty m v is.is_of);
+        parent = untold_parent (put s.next v m) (known_of_child s.next ty ++ known_of_type (owned s.next ty)) (owned s.next ty) (ap known_of_type none.same ∙ none.type);
       }))
 
   -- ---- variables without a start value
@@ -246,6 +278,7 @@ module _ (task : TaskTree) (args : List Value) (roots : ℕ) where
     own = λ i c. absurd (Has-from_Contains [] (Made i) (subst (λ ks. Contains ks (Made i)) tells c));
     kept = plain_region (length u.store) v none;
     children = plain_children (length u.store) v none;
+    parent = untold_parent (put h.scope.next v m) (known_of_type (var_type h.tree h.scope (Some t) None)) (var_type h.tree h.scope (Some t) None) tells;
   })
 
   -- `var x : t`

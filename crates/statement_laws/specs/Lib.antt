@@ -1,6 +1,7 @@
 pub mod Steady
 pub mod WrittenStatements
 pub mod Places
-pub mod Untreated
 pub mod Laws
+pub mod Watching
 pub mod Example
+pub mod WatchedExample

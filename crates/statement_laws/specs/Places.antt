@@ -3,7 +3,7 @@ use Rattle.std.specs.Prelude.{List, None, ℕ, ◌≡◌}
 use Rattle.regent_tree.specs.Execution.{exec}
 use Rattle.regent_tree.specs.Running.{Here, State}
 use Rattle.regent_tree.specs.Syntax.{Form, TaskTree}
-use Rattle.regent_tree.specs.Typing.{scope_after}
+use Rattle.regent_tree.specs.Typing.{result_type, scope_after}
 use Rattle.regent_tree.specs.Values.{Value}
 use Rattle.check_rules.specs.first.FirstInStatements.{first_of_form, first_within}
 use Rattle.check_rules.specs.scopes.Sound.{IsSound, IsSoundTask}
@@ -24,6 +24,7 @@ pub record IsReady (task : TaskTree) (args : List Value) (roots : ℕ) (m : Inte
   pub static : IsStaticPlace (instance_at task args roots h) h.scope
   pub place : IsSoundPlace (instance_at task args roots h) m h.scope
   pub answers : AreSoundAnswers m h.tree h.calls
+  pub result : h.result ≡ result_type h.tree task.result
 
 -- From each state in which names have values of their types and each touch is covered, a statement of
 -- which no breach is told goes on to such a state, at the place after it; or it returns or faults, with each

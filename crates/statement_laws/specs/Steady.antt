@@ -3,7 +3,8 @@
 use Rattle.std.specs.Prelude.{Contains, List, [], ◌∷◌, ◌++◌, length, true, ℕ, ◌<◌, ◌≡◌, ◌≤◌}
 use Rattle.regent_tree.specs.Running.{State}
 use Rattle.regent_tree.specs.Scopes.{Scope}
-use Rattle.regent_tree.specs.Typing.{param_types}
+use Rattle.regent_tree.specs.Typing.{param_types, result_type}
+use Rattle.regent_tree.specs.Values.{Value}
 use Rattle.regent_tree.specs.declared.facts.Known.{Known}
 use Rattle.regent_tree.specs.declared.facts.Known.TheVariants.{Within, Apart, PartOf, Made}
 use Rattle.regent_tree.specs.declared.facts.Term.TheVariants.{Name}
@@ -12,9 +13,9 @@ use Rattle.check_rules.specs.types.Sorts.{is_region, type_at}
 use Rattle.regent_tree.specs.declared.typing.StaticType.{StaticType}
 use Rattle.regent_tree.specs.Execution.{Going, goes_on, returned}
 use Rattle.regent_tree.specs.Running.{Result, fails, gives}
-use Rattle.expression_laws.specs.Kinds.{ArgumentsInScope, IsWellScoped, TermBelow, TypeBelow}
+use Rattle.expression_laws.specs.Kinds.{ArgumentsInScope, IsOfType, IsWellScoped, TermBelow, TypeBelow}
 use Rattle.fact_laws.specs.Regions.{Interpretation}
-use Rattle.expression_laws.specs.Sound.{AreCovered, Instance, IsSoundPlace, IsSoundState}
+use Rattle.expression_laws.specs.Sound.{AreCovered, Instance, IsSoundFault, IsSoundPlace, IsSoundState}
 
 -- ---- numbers of bindings
 
@@ -70,10 +71,16 @@ pub record IsSoundAfter (x : Instance) (m : Interpretation) (n : ℕ) (t : Scope
   pub place : IsSoundPlace x meant t
   pub state : IsSoundState x meant t u
 
+-- where a body returns, its value is of the task's result type, whatever bindings stand for
+pub record IsSoundReturn (x : Instance) (v : Value) (u : State) : Type 0 where
+  pub is_of : (m : Interpretation) → IsOfType m (result_type x.tree x.task.result) v
+  pub grown : x.roots ≤ length u.store
+  pub covered : AreCovered x u.touches
+
 abbrev pub GoesOnSound : Instance → Interpretation → ℕ → Scope → Result Going → Type 0
 GoesOnSound x m n t (gives goes_on u) = IsSoundAfter x m n t u
-GoesOnSound x m n t (gives (returned v) u) = AreCovered x u.touches
-GoesOnSound x m n t (fails f u) = AreCovered x u.touches
+GoesOnSound x m n t (gives (returned v) u) = IsSoundReturn x v u
+GoesOnSound x m n t (fails f u) = IsSoundFault x f u
 
 -- ---- types
 

@@ -1,6 +1,7 @@
 -- Statements as the reader gives them: each of their expressions is one that can be written.
 use Rattle.std.specs.Prelude.{None, Some}
-use Rattle.regent_tree.specs.Syntax.{Arms, Block, Form, Otherwise, Initializer, a_statement, an_arm, assert_form, assign_form, by_field_initializer, call_form, do_form, else_block, equal_initializer, fill_form, for_in_form, for_to_form, if_form, no_arm, no_else, no_statement, plain_initializer, print_form, region_initializer, return_form, then_statement, var_form, while_form}
+use Rattle.check_rules.specs.scopes.Sound.{StandsIn}
+use Rattle.regent_tree.specs.Syntax.{Arms, Block, Form, Otherwise, Initializer, TaskTree, Tree, a_statement, an_arm, assert_form, assign_form, by_field_initializer, call_form, do_form, else_block, equal_initializer, fill_form, for_in_form, for_to_form, if_form, no_arm, no_else, no_statement, plain_initializer, print_form, region_initializer, return_form, then_statement, var_form, while_form}
 use Rattle.expression_laws.specs.Writing.{AreStepped, AreWritten, IsWritten}
 
 abbrev pub IsWrittenInitializer : Initializer → Type 0
@@ -38,3 +39,7 @@ abbrev mutual
   pub IsWrittenElse : Otherwise → Type 0
   IsWrittenElse no_else = Unit {0}
   IsWrittenElse (else_block body) = IsWrittenBlock body
+
+-- so are the bodies of all tasks
+abbrev pub AreWrittenTasks : Tree → Type 0
+AreWrittenTasks tree = (t : TaskTree) → StandsIn tree t → IsWrittenBlock t.body

@@ -5,19 +5,53 @@
 #![tactic(auto)]
 
 ghost use Rattle.statement_laws.specs.Example.{ExampleHolds};
-ghost use Rattle.statement_laws.specs.Laws.{BodiesAreCovered, StatementsKeep};
+ghost use Rattle.statement_laws.specs.WatchedExample.{WatchedExampleHolds};
+ghost use Rattle.statement_laws.specs.Watching.{MeaningsAreGuarded, ProgramsKeepPrivileges};
+ghost use Rattle.statement_laws.specs.Laws.{AnswersAreSound, BodiesAreCovered, InstancesAreCovered, OpeningsAreSound, StatementsKeep};
 
-/// Every statement keeps what holds at a place, where those do of which the laws don't speak yet.
+/// Every statement keeps what holds at a place.
 pub fn statements_keep()
     ensures { StatementsKeep }
 {}
 
-/// Each touch of a body is covered by what its task declares, where those statements keep what holds.
+/// Where arguments fit a task, what must hold where its body begins does.
+pub fn openings_are_sound()
+    ensures { OpeningsAreSound }
+{}
+
+/// Each touch of a body is covered by what its task declares.
 pub fn bodies_are_covered()
     ensures { BodiesAreCovered }
 {}
 
-/// A task and a state in which each premise of the law on bodies holds, with the touches that it makes.
+/// Calls whose arguments fit give values of the called tasks' result types, however deep they may nest.
+pub fn answers_are_sound()
+    ensures { AnswersAreSound }
+{}
+
+/// Each touch of an instance whose arguments fit is covered by what its task declares.
+pub fn instances_are_covered()
+    ensures { InstancesAreCovered }
+{}
+
+/// In a program without a breach no task of a run touches an element outside its declared privileges.
+pub fn programs_keep_privileges()
+    ensures { ProgramsKeepPrivileges }
+{}
+
+/// The meaning's calls are guarded ones, with a guard that lets all pass.
+pub fn meanings_are_guarded()
+    ensures { MeaningsAreGuarded }
+{}
+
+/// A task and arguments of which each premise of the laws on openings, bodies and instances holds, with the
+/// touches that it makes.
 pub fn example_holds()
     ensures { ExampleHolds }
+{}
+
+/// A program of which the premises of the law on programs hold, with a quiet watch; and one without the
+/// privileges, of which the watch tells.
+pub fn watched_example_holds()
+    ensures { WatchedExampleHolds }
 {}
