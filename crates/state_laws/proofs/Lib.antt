@@ -1,0 +1,10 @@
+pub mod Growing
+pub mod Going
+pub mod Scopes
+pub mod Leaves
+pub mod Written
+pub mod Writes
+pub mod Assignments
+pub mod Counts
+pub mod Loops
+pub mod Laws
