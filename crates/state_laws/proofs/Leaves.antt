@@ -119,7 +119,7 @@ module _ (task : TaskTree) where
       KeepsFit h.tree roots h.scope.names (Fits roots h.scope.names (typed h y)) (value h y u)
   evaluates roots h r y wr limits told u st = value_is task roots h r.place y wr limits told u st
 
-  assert_fits : (y : Expression) → FormFits task (assert_form y)
+  pub assert_fits : (y : Expression) → FormFits task (assert_form y)
   assert_fits y roots h r e w wr limits u st =
       let parts = form_parts h.tree task h.scope (assert_form y) e in
       then_fits h.tree roots r.place.rooted h.scope.names h.scope.names h.result (value h y u) (λ v. if_true (truth_of v) (given goes_on) (fault h AssertFailed))
@@ -139,7 +139,7 @@ module _ (task : TaskTree) where
       after (λ vs. Unit {0}) (values h [] es w) (λ vs. given (v ∷ vs))
       (values_any roots h r es wr.1 (all_right KeepsLimit (parts_of_expression y) (parts_of_expressions es) limits) parts.1 w st) (λ vs w st is. (st, tt)))
 
-  print_fits : (alias : Option Name) (format : List ℕ) (es : Expressions) → FormFits task (print_form alias format es)
+  pub print_fits : (alias : Option Name) (format : List ℕ) (es : Expressions) → FormFits task (print_form alias format es)
   print_fits alias format es roots h r e w wr limits u st =
       let parts = form_parts h.tree task h.scope (print_form alias format es) e in
       then_fits h.tree roots r.place.rooted h.scope.names h.scope.names h.result (values h [] es u) (λ vs. changing (λ s. record s { text = s.text ++ printed format (map number_of vs) }))
@@ -147,7 +147,7 @@ module _ (task : TaskTree) where
       state_here h.tree roots r.place.rooted h.scope.names (record w { text = w.text ++ printed format (map number_of vs) })
       (record { names = st.names; counted = st.counted; store = st.store }))
 
-  call_fits : (f : Name) (es : Expressions) → FormFits task (call_form f es)
+  pub call_fits : (f : Name) (es : Expressions) → FormFits task (call_form f es)
   call_fits f es roots h r e w wr limits u st =
       let parts = form_parts h.tree task h.scope (call_form f es) e in
       let types = params_at h.tree h.scope (task_named h.tree f) es in
@@ -157,7 +157,7 @@ module _ (task : TaskTree) where
       then_fits h.tree roots r.place.rooted h.scope.names h.scope.names h.result (called h f vs w) (λ v. given goes_on)
       (called_fits task roots h r.place f vs w st are) (λ v w st is. state_here h.tree roots r.place.rooted h.scope.names w st))
 
-  return_fits : (y : Option Expression) → FormFits task (return_form y)
+  pub return_fits : (y : Option Expression) → FormFits task (return_form y)
   return_fits None roots h r e w wr limits u st = (
     store_here h.tree roots r.place.rooted u.store st.store,
     subst (λ t. Fits [] [] t (a_truth false)) (sym r.result) (none task.result (return_told h.tree task h.scope (return_form None) e)),

@@ -7,4 +7,6 @@ pub mod Writes
 pub mod Assignments
 pub mod Counts
 pub mod Loops
+pub mod Items
+pub mod Statements
 pub mod Laws
