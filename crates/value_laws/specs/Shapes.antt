@@ -2,7 +2,8 @@
 use Rattle.std.specs.List.{All}
 use Rattle.std.specs.Prelude.{Bool, List, [], get_or, length, map, true, ℕ, ℤ, ◌<◌, ◌≡◌, ◌≤◌, ◌^◌}
 use Rattle.lane_kernels.specs.Numbers.{FitsWidth, width_of}
-use Rattle.plain_values.specs.Points.{IsPoints, has}
+use Rattle.partitions.specs.Laws.{NoneShared}
+use Rattle.plain_values.specs.Points.{IsPoints}
 use Rattle.regent_tree.specs.Laws.{Shape, shapes}
 use Rattle.regent_tree.specs.StaticTypes.{field_kinds, field_term, kind_said}
 use Rattle.regent_tree.specs.Store.{Store, no_root, read_at}
@@ -39,10 +40,6 @@ pub record IsRegionOf (roots : List Shape) (space : ℕ) (r : Region) : Type 0 w
   pub of_space : (get_or roots r.root no_shape).space ≡ space
   pub points : IsPoints (get_or roots r.root no_shape).count r.points
 
--- no two colours share a point
-abbrev pub ShareNoPoint : List (List ℕ) → Type 0
-ShareNoPoint sets = (i j x : ℕ) → has (get_or sets i []) x ≡ true → has (get_or sets j []) x ≡ true → i ≡ j
-
 -- A partition of a root with a field space: its flag is true of its sets, and it is set where the static
 -- type says so.
 pub record IsPartitionOf (roots : List Shape) (space : ℕ) (disjoint : Bool) (p : Partition) : Type 0 where
@@ -51,7 +48,7 @@ pub record IsPartitionOf (roots : List Shape) (space : ℕ) (disjoint : Bool) (p
   pub sets : All (IsPoints (get_or roots p.root no_shape).count) p.sets
   pub few : length p.sets ≤ most_colours
   pub flag : disjoint ≡ true → p.disjoint ≡ true
-  pub apart : p.disjoint ≡ true → ShareNoPoint p.sets
+  pub apart : p.disjoint ≡ true → NoneShared p.sets
 
 -- ---- pointers
 
