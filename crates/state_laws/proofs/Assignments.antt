@@ -117,7 +117,7 @@ module _ (roots : List Shape) (names : List Bound) where
       there (inr (inr e)) = absurd (contrary (sym (ap (λ (c : Bound). is_unknown_type c.static_type) (sym found ∙ e)) ∙ known))
 
 -- a type that is known and fits, fits in earnest
-known_fits : (known : _) (from wanted : StaticType) → is_unknown_type wanted ≡ false → fits known from wanted ≡ true → fits_known known from wanted ≡ true
+pub known_fits : (known : _) (from wanted : StaticType) → is_unknown_type wanted ≡ false → fits known from wanted ≡ true → fits_known known from wanted ≡ true
 known_fits known from wanted k e = sym (ap (λ b. b || fits_known known from wanted) k) ∙ e
 
 -- a field of a region that is there is declared with a type that is known

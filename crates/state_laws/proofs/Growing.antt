@@ -138,7 +138,7 @@ module _ (names others : List Bound) (stays : StaysBound names others) where
   region_type_stays : (i k : ℕ) → IsRegionTypeOf k (bound_as names i).static_type → IsRegionTypeOf k (bound_as others i).static_type
   region_type_stays i k is = subst (λ (b : Bound). IsRegionTypeOf k b.static_type) (sym (region_stays i is.region)) is
 
-  named_stays : (k : ℕ) (r : Reach) → NamesRegionOf names k r → NamesRegionOf others k r
+  pub named_stays : (k : ℕ) (r : Reach) → NamesRegionOf names k r → NamesRegionOf others k r
   named_stays k None n = tt
   named_stays k (Some (term.Name i)) n = region_type_stays i k n
   named_stays k (Some (term.Child p c)) n = absurd n
@@ -155,7 +155,7 @@ module _ (names others : List Bound) (stays : StaysBound names others) where
   space_of_name_stays no_type n = tt
   space_of_name_stays unknown_type n = tt
 
-  parent_stays : (t : StaticType) → HasParent names t → HasParent others t
+  pub parent_stays : (t : StaticType) → HasParent names t → HasParent others t
   parent_stays (partition_type d r p) n = ap (λ (b : Bound). is_region b.static_type) (region_stays r n) ∙ n
   parent_stays (integer_type w) n = tt
   parent_stays truth_type n = tt

@@ -9,4 +9,7 @@ pub mod Counts
 pub mod Loops
 pub mod Items
 pub mod Statements
+pub mod VariableTypes
+pub mod Made
+pub mod Variables
 pub mod Laws
