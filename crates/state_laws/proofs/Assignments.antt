@@ -1,10 +1,10 @@
 -- Assignments to variables and fields, and fills, of which nothing is told.
-use Rattle.std.proofs.Common.{List, [], ◌∷◌, ◌++◌, Bool, None, Some, false, true, refl, ap, sym, subst, ℕ, ◌≡◌, ◌∙◌, ◌<◌, ◌&&◌, ◌||◌, ◌⊎◌, inl, inr, not, get_or}
+use Rattle.std.proofs.Common.{List, [], ◌∷◌, None, false, true, refl, ap, sym, subst, ℕ, ◌≡◌, ◌∙◌, ◌||◌, ◌⊎◌, inl, inr, not, get_or}
 use Rattle.std.proofs.lemmas.Bool.{and_parts, not-false, or_parts}
 use Rattle.std.proofs.lemmas.List.{length-set}
 use Rattle.std.proofs.lemmas.List.Elements.{All-nil}
 use Rattle.std.specs.List.{All, list_any}
-use Rattle.std.specs.Prelude.{length, map, slice_set}
+use Rattle.std.specs.Prelude.{map, slice_set}
 use Rattle.plain_values.proofs.Plain.{option_or_parts}
 use Rattle.lane_kernels.proofs.Operators.{closed}
 use Rattle.lane_kernels.specs.Numbers.{wrapped}
@@ -13,7 +13,7 @@ use Rattle.regent_tree.specs.Accesses.{aimed, converted, space_in}
 use Rattle.regent_tree.specs.Evaluation.{named_value, stepped, typed, value}
 use Rattle.regent_tree.specs.Execution.{before_last, fill_fields, last_field, right_side, updated, with_regions_of, write_field, write_name, write_to}
 use Rattle.regent_tree.specs.Laws.{Shape}
-use Rattle.regent_tree.specs.Limits.{KeepsLimit, node, nodes, parts_of_expression, parts_of_steps}
+use Rattle.regent_tree.specs.Limits.{KeepsLimit, nodes, parts_of_expression, parts_of_steps}
 use Rattle.regent_tree.specs.Lookup.{has_field, is_bound, type_named}
 use Rattle.regent_tree.specs.Running.{Here, State, and_then, ◌>>=◌}
 use Rattle.regent_tree.specs.Scopes.{bound_as, bound_to, unbound}
@@ -35,7 +35,7 @@ use Rattle.check_rules.proofs.Untold.{rule_none}
 use Rattle.check_rules.specs.first.FirstInExpressions.{first_in_expression, first_in_target_steps}
 use Rattle.check_rules.specs.first.FirstInStatements.{first_of_form}
 use Rattle.check_rules.specs.first.Rules.{rule_if}
-use Rattle.check_rules.specs.rules.Standing.{Standing, stands, typed_spot}
+use Rattle.check_rules.specs.rules.Standing.{stands, typed_spot}
 use Rattle.check_rules.specs.rules.Statements.{standing_in_form}
 use Rattle.check_rules.specs.rules.Targets.{ends_in_element, ends_in_no_place, is_no_integer, is_no_target, mistargets}
 use Rattle.check_rules.specs.rules.Types.{is_ill_typed_at_place}

@@ -1,5 +1,5 @@
 -- The numbers from one to below another fit a width in which both do.
-use Rattle.std.proofs.Common.{Bool, true, false, ℕ, ℤ, suc, zero, pos, negsuc, refl, ap, sym, subst, ◌≡◌, ◌∙◌, ◌+ℤ◌, arith}
+use Rattle.std.proofs.Common.{true, ℕ, ℤ, suc, zero, pos, negsuc, ap, ◌≡◌, ◌+ℤ◌, arith}
 use Rattle.std.proofs.lemmas.Int.{ints}
 use Rattle.std.specs.Prelude.{int_le, ◌-ℤ◌}
 use Rattle.lane_kernels.specs.Numbers.{FitsWidth}

@@ -1,13 +1,13 @@
 -- What fits, fits still where more roots are there and more names are bound.
-use Rattle.std.proofs.Common.{List, [], ◌∷◌, ◌++◌, Bool, None, Option, Some, false, true, refl, ap, sym, subst, ℕ, zero, suc, ◌≡◌, ◌∙◌, ◌<◌, ◌≤◌, ◌+◌, ◌==◌, ◌⊎◌, inl, inr, get_or, map, cond, arith}
-use Rattle.std.proofs.lemmas.Bool.{eqb-true, eq-eqb}
+use Rattle.std.proofs.Common.{List, [], ◌∷◌, ◌++◌, Bool, None, Some, false, true, refl, ap, sym, subst, ℕ, zero, suc, ◌≡◌, ◌∙◌, ◌<◌, ◌≤◌, ◌==◌, ◌⊎◌, inl, inr, get_or, cond, arith}
+use Rattle.std.proofs.lemmas.Bool.{eqb-true}
 use Rattle.std.proofs.lemmas.List.{append_assoc, get_or_append_left, get_or_push, length-append}
 use Rattle.std.specs.List.{All}
 use Rattle.std.specs.Prelude.{length, take}
 use Rattle.plain_values.specs.Points.{IsPoints}
 use Rattle.regent_tree.specs.Accesses.{args_in, space_in}
 use Rattle.regent_tree.specs.Laws.{Extends, Shape}
-use Rattle.regent_tree.specs.Scopes.{Scope, bound_as, unbound}
+use Rattle.regent_tree.specs.Scopes.{bound_as, unbound}
 use Rattle.regent_tree.specs.StaticTypes.{Reach}
 use Rattle.regent_tree.specs.Syntax.{Tree}
 use Rattle.regent_tree.specs.Values.{Partition, Region, Value, a_truth}

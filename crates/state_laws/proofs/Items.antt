@@ -1,9 +1,8 @@
 -- What loops take: pointers into a region, indices of a space, and numbers between bounds.
-use Rattle.std.proofs.Common.{List, [], ◌∷◌, Bool, Some, false, true, refl, ap, sym, subst, ℕ, ℤ, zero, suc, pos, ◌≡◌, ◌∙◌, ◌<◌, ◌≤◌, ◌+◌, ◌||◌, ◌^◌, inr, get_or, map, arith}
+use Rattle.std.proofs.Common.{List, [], ◌∷◌, Some, true, ℕ, ℤ, zero, suc, pos, ◌≡◌, ◌<◌, ◌≤◌, ◌+◌, ◌||◌, inr, get_or, map, arith}
 use Rattle.std.proofs.lemmas.Int.{ints}
 use Rattle.std.proofs.lemmas.List.Elements.{All-cons, All-get_or, All-map, All-nil}
 use Rattle.std.specs.List.{All}
-use Rattle.std.specs.Prelude.{length}
 use Rattle.plain_values.specs.Points.{counted_from, points}
 use Rattle.lane_kernels.specs.Numbers.{FitsWidth}
 use Rattle.lane_kernels.specs.declared.numbers.Width.{Width}
@@ -13,18 +12,18 @@ use Rattle.regent_tree.specs.Laws.{Shape}
 use Rattle.regent_tree.specs.Numbers.{wider}
 use Rattle.regent_tree.specs.StaticTypes.{Reach}
 use Rattle.regent_tree.specs.Syntax.{Tree}
-use Rattle.regent_tree.specs.Typing.{arithmetic_type, taken_from, width_of_type}
+use Rattle.regent_tree.specs.Typing.{taken_from}
 use Rattle.regent_tree.specs.Values.{Region, Value, a_pointer, an_index, number_of, point_target}
 use Rattle.regent_tree.specs.declared.facts.Term.{Term}
 use Rattle.regent_tree.specs.declared.types.Kind.{Kind}
 use Rattle.regent_tree.specs.declared.typing.Bound.{Bound}
 use Rattle.regent_tree.specs.declared.typing.StaticType.{StaticType}
 use Rattle.regent_tree.specs.declared.typing.StaticType.TheVariants.{Index as index_type, Integer as integer_type, Ispace as ispace_type, Nothing as no_type, Partition as partition_type, Pointer as pointer_type, Region as region_type, Truth as truth_type, Unknown as unknown_type}
-use Rattle.check_rules.specs.types.Sorts.{is_integer, is_region, is_space}
+use Rattle.check_rules.specs.types.Sorts.{is_region, is_space}
 use Rattle.value_laws.proofs.Numbers.{point_fits}
 use Rattle.value_laws.proofs.Spaced.{no_arguments}
 use Rattle.value_laws.specs.Fitting.{Fits, IsGoal, fits_index, fits_integer, fits_pointer, fits_region, fits_space}
-use Rattle.value_laws.specs.Shapes.{AreRootsOfSpaces, IsRegionOf, IsRootOfSpace, most_points, no_shape}
+use Rattle.value_laws.specs.Shapes.{AreRootsOfSpaces, IsRegionOf, IsRootOfSpace, no_shape}
 use Rattle.value_laws.specs.Spaces.{IsSpaced}
 
 -- ---- points

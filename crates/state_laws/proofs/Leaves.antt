@@ -1,8 +1,8 @@
 -- Statements that change no name and no root: assertions, prints, calls, and what is returned.
-use Rattle.std.proofs.Common.{List, [], ◌∷◌, Bool, None, Option, Some, false, true, refl, ap, sym, subst, ◌≡◌, ◌∙◌, map, not}
+use Rattle.std.proofs.Common.{List, [], ◌∷◌, None, Option, Some, false, true, refl, sym, subst, ◌≡◌, map}
 use Rattle.std.proofs.lemmas.Bool.{not-false, or_parts}
 use Rattle.std.proofs.lemmas.List.Elements.{All-nil}
-use Rattle.std.specs.List.{All, list_any}
+use Rattle.std.specs.List.{All}
 use Rattle.std.specs.Option.{option_or}
 use Rattle.std.specs.Prelude.{is_none, is_some, ℕ, ◌++◌}
 use Rattle.plain_values.proofs.Plain.{option_or_parts}
@@ -22,8 +22,7 @@ use Rattle.regent_tree.specs.declared.outcome.FaultKind.TheVariants.{AssertFaile
 use Rattle.regent_tree.specs.declared.types.NumberTerm.TheVariants as number
 use Rattle.regent_tree.specs.declared.types.TypeTerm.{TypeTerm}
 use Rattle.regent_tree.specs.declared.types.TypeTerm.TheVariants as typed_as
-use Rattle.regent_tree.specs.declared.typing.StaticType.{StaticType}
-use Rattle.regent_tree.specs.declared.typing.StaticType.TheVariants.{Index as index_type, Integer as integer_type, Ispace as ispace_type, Nothing as no_type, Partition as partition_type, Pointer as pointer_type, Region as region_type, Truth as truth_type, Unknown as unknown_type}
+use Rattle.regent_tree.specs.declared.typing.StaticType.TheVariants.{Unknown as unknown_type}
 use Rattle.check_rules.specs.Breaches.{has_no_type, wrong_initializer_at}
 use Rattle.check_rules.specs.rules.Formats.{misprints_form}
 use Rattle.check_rules.specs.rules.Names.{unbound_name_in_form}
@@ -42,8 +41,6 @@ use Rattle.check_rules.specs.types.Parts.{listed}
 use Rattle.check_rules.specs.types.Declarations.{is_no_result_type}
 use Rattle.check_rules.specs.types.Fitting.{fits, fits_known}
 use Rattle.check_rules.specs.types.KnownTypes.{known_type, known_types}
-use Rattle.check_rules.specs.types.Params.{type_unless}
-use Rattle.check_rules.specs.types.Sorts.{is_unknown_type}
 use Rattle.check_rules.specs.types.TypedForms.{calling}
 use Rattle.check_rules.specs.declared.rule.Rule.TheVariants as rule
 use Rattle.check_laws.proofs.Parts.{contrary}
@@ -56,7 +53,7 @@ use Rattle.state_laws.proofs.Going.{either_fits, state_here, store_here, then_fi
 use Rattle.value_laws.specs.Fitting.{Fits, IsGoal, fits_index, fits_integer, fits_nothing, fits_truth}
 use Rattle.value_laws.specs.Keeping.{KeepsFit, StateFits}
 use Rattle.value_laws.proofs.Conversions.{converted_fits}
-use Rattle.value_laws.proofs.Ends.{after, weaker}
+use Rattle.value_laws.proofs.Ends.{after}
 use Rattle.value_laws.proofs.Limits.{all_left, all_right}
 use Rattle.value_laws.proofs.Types.{known, known_meant}
 use Rattle.value_laws.proofs.Values.{call_is, called_fits, value_is}

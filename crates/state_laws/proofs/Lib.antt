@@ -12,4 +12,6 @@ pub mod Statements
 pub mod VariableTypes
 pub mod Made
 pub mod Variables
+pub mod Operations
+pub mod Partitioned
 pub mod Laws

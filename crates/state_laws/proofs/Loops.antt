@@ -1,27 +1,26 @@
 -- Loops: each turn begins and ends in a state that fits.
-use Rattle.std.proofs.Common.{List, [], ◌∷◌, ◌++◌, Bool, None, false, true, refl, ap, sym, subst, ℕ, ℤ, zero, suc, pos, ◌≡◌, ◌∙◌, ◌<◌, ◌≤◌, ◌+ℤ◌, ◌||◌, inl, inr, map, arith}
+use Rattle.std.proofs.Common.{List, [], ◌∷◌, ◌++◌, true, refl, ℕ, ℤ, zero, suc, pos, ◌∙◌, ◌+ℤ◌, arith}
 use Rattle.std.proofs.lemmas.List.{length-append}
-use Rattle.std.proofs.lemmas.List.Elements.{All-cons, All-head, All-map, All-nil, All-tail}
+use Rattle.std.proofs.lemmas.List.Elements.{All-head, All-tail}
 use Rattle.std.specs.List.{All}
 use Rattle.std.specs.Prelude.{length}
-use Rattle.plain_values.specs.Points.{has, points}
 use Rattle.lane_kernels.specs.Numbers.{FitsWidth}
 use Rattle.lane_kernels.specs.declared.numbers.Width.{Width}
-use Rattle.regent_tree.specs.Execution.{Going, bind, counting, goes_on, going_on, items_of, leaving, round, rounds, turn, turning}
+use Rattle.regent_tree.specs.Execution.{Going, bind, counting, goes_on, going_on, leaving, round, rounds, turn, turning}
 use Rattle.regent_tree.specs.Laws.{Extends, Shape}
-use Rattle.regent_tree.specs.Running.{Here, Result, Run, State, and_then, fault, gives, given, if_true, pay, pay_from, ◌>>=◌}
+use Rattle.regent_tree.specs.Running.{Here, Result, Run, State, and_then, fault, given, if_true, pay, pay_from, ◌>>=◌}
 use Rattle.regent_tree.specs.Scopes.{Scope, with_name}
-use Rattle.regent_tree.specs.Syntax.{Name, TaskTree, Tree}
+use Rattle.regent_tree.specs.Syntax.{Name, Tree}
 use Rattle.regent_tree.specs.Values.{Value, a_number, truth_of}
 use Rattle.regent_tree.specs.declared.outcome.FaultKind.TheVariants.{Turns}
 use Rattle.regent_tree.specs.declared.typing.Bound.{Bound}
 use Rattle.regent_tree.specs.declared.typing.StaticType.{StaticType}
 use Rattle.check_laws.specs.SoundScopes.{IsSoundScope}
 use Rattle.statement_laws.specs.Steady.{ArePlaced}
-use Rattle.state_laws.specs.Going.{GoesOnFit, IsPlaceOfRun}
+use Rattle.state_laws.specs.Going.{GoesOnFit}
 use Rattle.state_laws.proofs.Counts.{AreUpTo, next_up_to}
-use Rattle.state_laws.proofs.Going.{either_fits, fits_further, in_order, leaves_fit, state_here, store_here, then_fits}
-use Rattle.state_laws.proofs.Growing.{extends_none, extends_then, fits_more, names_new}
+use Rattle.state_laws.proofs.Going.{either_fits, in_order, leaves_fit, state_here, store_here, then_fits}
+use Rattle.state_laws.proofs.Growing.{extends_then, fits_more, names_new}
 use Rattle.state_laws.proofs.Scopes.{HasMoreNames, more_then, one_more}
 use Rattle.value_laws.specs.Fitting.{Fits}
 use Rattle.value_laws.specs.Keeping.{KeepsFit, StateFits}

@@ -1,5 +1,5 @@
 -- A root that is made: its shape is that of its field space, and its zeros are kept.
-use Rattle.std.proofs.Common.{List, [], ◌∷◌, ◌++◌, Bool, refl, ap, sym, subst, ℕ, ℤ, zero, suc, pos, negsuc, ◌≡◌, ◌∙◌, ◌<◌, ◌≤◌, ◌^◌, ◌+◌, ◌⊎◌, inl, inr, get_or, map, arith}
+use Rattle.std.proofs.Common.{List, [], ◌∷◌, ◌++◌, refl, ap, sym, subst, ℕ, ℤ, zero, suc, pos, ◌≡◌, ◌∙◌, ◌≤◌, ◌⊎◌, inl, inr, get_or, map, arith}
 use Rattle.std.proofs.lemmas.Int.{ints}
 use Rattle.std.proofs.lemmas.List.{length-append, length-map, map_push}
 use Rattle.std.proofs.lemmas.List.Elements.{All-push}
@@ -7,18 +7,18 @@ use Rattle.std.specs.Prelude.{length, replicate}
 use Rattle.plain_values.specs.Points.{IsPoints, points}
 use Rattle.point_sets.proofs.Rising.{rising-counted_from}
 use Rattle.lane_kernels.specs.declared.numbers.FieldKind.{FieldKind}
-use Rattle.regent_tree.specs.Laws.{Extends, Shape, shape_of, shapes}
+use Rattle.regent_tree.specs.Laws.{Extends, Shape, shape_of}
 use Rattle.regent_tree.specs.StaticTypes.{field_kinds, field_term, kind_said, space_at}
-use Rattle.regent_tree.specs.Store.{Store, new_root, no_root, read_at}
+use Rattle.regent_tree.specs.Store.{Store, new_root, no_root}
 use Rattle.regent_tree.specs.Syntax.{Tree}
-use Rattle.regent_tree.specs.Values.{Region, kept_zero}
+use Rattle.regent_tree.specs.Values.{kept_zero}
 use Rattle.regent_tree.specs.declared.outcome.RootImage.{RootImage}
 use Rattle.regent_tree.specs.declared.types.NumberTerm.TheVariants as number
 use Rattle.regent_tree.specs.declared.types.Param.{Param}
 use Rattle.regent_tree.specs.declared.types.TypeTerm.{TypeTerm}
 use Rattle.regent_tree.specs.declared.types.TypeTerm.TheVariants as typed_as
 use Rattle.state_laws.proofs.Items.{counted_below}
-use Rattle.value_laws.specs.Shapes.{AreRootsOfSpaces, IsKeptOf, IsRegionOf, IsRootOfSpace, KeepsNumbers, StoreFits, most_points, no_shape}
+use Rattle.value_laws.specs.Shapes.{AreRootsOfSpaces, IsKeptOf, IsRegionOf, IsRootOfSpace, StoreFits, most_points, no_shape}
 
 pub push_cases : {A : Type 0} (xs : List A) (y d : A) (i : ℕ) → (get_or (xs ++ y ∷ []) i d ≡ get_or xs i d) ⊎ ((i ≡ length xs) × (get_or (xs ++ y ∷ []) i d ≡ y))
 push_cases [] y d zero = inr (refl, refl)

@@ -1,5 +1,5 @@
 -- Names behind statements: those before stay, each in its place.
-use Rattle.std.proofs.Common.{List, [], ◌∷◌, None, refl, ap, sym, subst, ℕ, suc, ◌≡◌, ◌∙◌, ◌≤◌, ◌⊎◌, inl, inr, arith}
+use Rattle.std.proofs.Common.{List, ◌∷◌, None, refl, ap, sym, subst, ◌≡◌, ◌∙◌, ◌≤◌, arith}
 use Rattle.std.specs.Prelude.{length}
 use Rattle.regent_tree.specs.Scopes.{Scope}
 use Rattle.regent_tree.specs.Syntax.{Block, Form, TaskTree, Tree, a_statement, assert_form, assign_form, call_form, do_form, fill_form, for_in_form, for_to_form, if_form, no_statement, print_form, return_form, then_statement, var_form, while_form}

@@ -1,33 +1,33 @@
 -- Statements of which nothing is told keep what fits, by induction.
-use Rattle.std.proofs.Common.{List, [], ◌∷◌, ◌++◌, Bool, None, Some, false, true, refl, ap, sym, subst, ℕ, ◌≡◌, ◌∙◌, ◌≤◌, ◌||◌, ◌⊎◌, inl, inr, arith}
+use Rattle.std.proofs.Common.{List, ◌∷◌, ◌++◌, None, true, refl, ap, sym, subst, ℕ, ◌≡◌, ◌∙◌}
 use Rattle.std.specs.List.{All}
 use Rattle.std.specs.Prelude.{length}
 use Rattle.lane_kernels.specs.Numbers.{FitsWidth}
 use Rattle.plain_values.proofs.Plain.{option_or_parts}
 use Rattle.regent_tree.specs.Evaluation.{typed, value}
-use Rattle.regent_tree.specs.Execution.{Going, after_arm, after_arms, after_statement, counting, exec, exec_arms, exec_block, exec_else, going_on, items_of, leaving, looping, on_line, rounds, scoped}
-use Rattle.regent_tree.specs.Laws.{Extends, Shape}
+use Rattle.regent_tree.specs.Execution.{Going, after_arm, after_arms, after_statement, counting, exec, exec_arms, exec_block, exec_else, items_of, looping, on_line, rounds, scoped}
+use Rattle.regent_tree.specs.Laws.{Shape}
 use Rattle.regent_tree.specs.Limits.{KeepsLimit, node, parts_of_arms, parts_of_block, parts_of_expression, parts_of_form, parts_of_otherwise}
 use Rattle.regent_tree.specs.Numbers.{distance, wider}
 use Rattle.regent_tree.specs.Running.{Here, Run, State, if_true, ◌>>=◌}
 use Rattle.regent_tree.specs.Scopes.{Scope, past, with_name}
-use Rattle.regent_tree.specs.Syntax.{Arms, Block, Expression, Form, Name, Otherwise, TaskTree, a_statement, an_arm, assert_form, assign_form, call_form, do_form, else_block, fill_form, for_in_form, for_to_form, if_form, no_arm, no_else, no_statement, print_form, return_form, then_statement, var_form, while_form}
+use Rattle.regent_tree.specs.Syntax.{Arms, Block, Form, Name, Otherwise, TaskTree, a_statement, an_arm, assert_form, assign_form, call_form, do_form, else_block, fill_form, for_in_form, for_to_form, if_form, no_arm, no_else, no_statement, print_form, return_form, then_statement, var_form, while_form}
 use Rattle.regent_tree.specs.Typing.{arithmetic_type, scope_after, scope_after_arms, scope_after_block, scope_after_else, taken_from, type_of, width_of_type}
-use Rattle.regent_tree.specs.Values.{Value, a_number, number_of, truth_of}
+use Rattle.regent_tree.specs.Values.{a_number, number_of, truth_of}
 use Rattle.regent_tree.specs.declared.typing.Bound.{Bound}
 use Rattle.regent_tree.specs.declared.typing.StaticType.{StaticType}
 use Rattle.regent_tree.specs.declared.typing.StaticType.TheVariants.{Integer as integer_type}
 use Rattle.check_rules.specs.first.FirstInExpressions.{first_in_expression}
-use Rattle.check_rules.specs.first.FirstInStatements.{first_in_arms, first_in_block, first_in_else, first_of_form, first_within}
+use Rattle.check_rules.specs.first.FirstInStatements.{first_in_arms, first_in_block, first_in_else, first_of_form}
 use Rattle.check_rules.specs.first.Rules.{first_in}
 use Rattle.check_rules.specs.types.Parts.{tests_of}
 use Rattle.check_laws.proofs.Blocks.{count_scope, loop_scope}
 use Rattle.check_laws.proofs.Onward.{arm_next, block_next, else_next}
 use Rattle.check_laws.proofs.Variables.{parts_of_form as parts_told}
 use Rattle.check_laws.specs.SoundScopes.{IsSoundScope}
-use Rattle.statement_laws.proofs.Scopes.{bounds_whole, domain_sort, is_whole, names_after, names_arms, names_else}
+use Rattle.statement_laws.proofs.Scopes.{bounds_whole, domain_sort, is_whole, names_arms, names_else}
 use Rattle.statement_laws.specs.Steady.{ArePlaced}
-use Rattle.statement_laws.specs.WrittenStatements.{AreWrittenArms, IsWrittenBlock, IsWrittenElse, IsWrittenForm}
+use Rattle.statement_laws.specs.WrittenStatements.{AreWrittenArms, IsWrittenBlock, IsWrittenElse}
 use Rattle.state_laws.specs.Going.{GoesOnFit, IsPlaceOfRun}
 use Rattle.state_laws.specs.Laws.{FormFits}
 use Rattle.state_laws.proofs.Assignments.{assign_fits, filled}
@@ -37,7 +37,7 @@ use Rattle.state_laws.proofs.Growing.{extends_none, spaced_new, spaced_stays, st
 use Rattle.state_laws.proofs.Items.{items_fit, lower_fits, taken_spaced, upper_fits}
 use Rattle.state_laws.proofs.Leaves.{assert_fits, call_fits, evaluates, print_fits, return_fits}
 use Rattle.state_laws.proofs.Loops.{counting_fits, rounds_fit, turning_fits}
-use Rattle.state_laws.proofs.Scopes.{HasMoreNames, more_block, more_form}
+use Rattle.state_laws.proofs.Scopes.{more_block, more_form}
 use Rattle.value_laws.specs.Fitting.{Fits, fits_integer}
 use Rattle.value_laws.specs.Keeping.{KeepsFit, StateFits}
 use Rattle.value_laws.specs.Shapes.{AreRootsOfSpaces}

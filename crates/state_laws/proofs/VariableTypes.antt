@@ -1,5 +1,5 @@
 -- The types of new variables: their field space arguments are as declared, and a partition's parent is a region.
-use Rattle.std.proofs.Common.{List, [], ◌∷◌, ◌++◌, Bool, None, Option, Some, false, true, refl, ap, sym, subst, ℕ, suc, ◌≡◌, ◌∙◌, ◌≤◌, ◌==◌, ◌&&◌, ◌||◌, not, get_or, map, cond, arith}
+use Rattle.std.proofs.Common.{List, [], ◌∷◌, Bool, None, Option, Some, false, true, refl, ap, sym, subst, ◌≡◌, ◌≤◌, ◌&&◌, not, get_or, map, cond, arith}
 use Rattle.std.proofs.lemmas.Bool.{and_parts, eq-eqb, not-false, or_parts}
 use Rattle.std.proofs.lemmas.List.Elements.{All-nil}
 use Rattle.std.specs.List.{All}
@@ -10,7 +10,7 @@ use Rattle.regent_tree.specs.Laws.{Shape}
 use Rattle.regent_tree.specs.Limits.{KeepsLimit, most, parts_of_expression, parts_of_form, parts_of_init, parts_of_initializer, parts_of_term}
 use Rattle.regent_tree.specs.Lookup.{is_bound, type_named}
 use Rattle.regent_tree.specs.Running.{Here}
-use Rattle.regent_tree.specs.Scopes.{Scope, bound_as, bound_to, in_scope, with_name}
+use Rattle.regent_tree.specs.Scopes.{Scope, bound_as, bound_to, in_scope}
 use Rattle.regent_tree.specs.StaticTypes.{looked_up, place_of_space, type_said}
 use Rattle.regent_tree.specs.Syntax.{Expression, Initializer, Name, TaskTree, Tree, both_initializer, by_field_initializer, a_link, access_expr, chain_expr, either_initializer, equal_initializer, image_initializer, no_link, no_step, plain_initializer, preimage_initializer, region_initializer, var_form}
 use Rattle.regent_tree.specs.Typing.{arithmetic_type, counting_as, initializer_type, is_disjoint, owned, parent_of, reaches_of, scope_after, type_of, var_type}
@@ -41,13 +41,12 @@ use Rattle.check_rules.specs.types.Lookup.{names_a}
 use Rattle.check_rules.specs.types.Sorts.{is_partition, is_region, is_unknown_type, may_be}
 use Rattle.check_rules.specs.declared.rule.Rule.TheVariants as rule
 use Rattle.check_laws.proofs.Parts.{contrary}
-use Rattle.check_laws.proofs.Scopes.{found_by_number}
 use Rattle.check_laws.proofs.Variables.{named, parts_of_form as parts_told}
 use Rattle.check_laws.specs.SoundScopes.{IsSoundScope}
 use Rattle.expression_laws.specs.Kinds.{IsNamedByOwnNumber}
 use Rattle.state_laws.specs.Going.{IsPlaceOfRun}
-use Rattle.state_laws.proofs.Growing.{StaysBound, named_stays, parent_stays, spaced_new, stays_bound}
-use Rattle.value_laws.specs.Spaces.{AreArgumentsOf, AreSpaced, HasParent, HasSpaceOfName, HasSpacedDeclarations, IsRegionTypeOf, IsSpaced}
+use Rattle.state_laws.proofs.Growing.{named_stays, parent_stays, spaced_new, stays_bound}
+use Rattle.value_laws.specs.Spaces.{AreArgumentsOf, AreSpaced, HasParent, HasSpaceOfName, IsRegionTypeOf, IsSpaced}
 use Rattle.value_laws.proofs.Limits.{all_left}
 use Rattle.value_laws.proofs.Spaced.{by_number, no_arguments, use_arguments, written_spaced}
 use Rattle.value_laws.proofs.Types.{name_spaced, type_spaced}

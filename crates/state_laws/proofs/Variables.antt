@@ -1,5 +1,5 @@
 -- Variables: what they begin with fits their types.
-use Rattle.std.proofs.Common.{List, [], ◌∷◌, ◌++◌, Bool, None, Option, Some, false, true, refl, ap, sym, subst, ℕ, ℤ, suc, pos, ◌≡◌, ◌∙◌, ◌≤◌, ◌&&◌, ◌||◌, not, get_or, map, cond, arith}
+use Rattle.std.proofs.Common.{List, [], ◌∷◌, Bool, None, Option, Some, false, true, refl, ap, sym, subst, ℕ, ◌≡◌, ◌∙◌, ◌≤◌, ◌&&◌, map, cond, arith}
 use Rattle.std.proofs.lemmas.Bool.{and_parts, eqb-true, not-false, or_parts}
 use Rattle.std.proofs.lemmas.Int.{ints}
 use Rattle.std.proofs.lemmas.List.{length-append}
@@ -14,13 +14,13 @@ use Rattle.regent_tree.specs.Evaluation.{typed, value}
 use Rattle.regent_tree.specs.Execution.{Going, bind}
 use Rattle.regent_tree.specs.Initializers.{initialized, make_root, zero_of}
 use Rattle.regent_tree.specs.Laws.{Extends, Shape}
-use Rattle.regent_tree.specs.Limits.{KeepsLimit, parts_of_expression, parts_of_form, parts_of_init, parts_of_initializer, parts_of_term, parts_of_type}
-use Rattle.regent_tree.specs.Running.{Here, Result, Run, State, and_then, fails, gives, ◌>>=◌}
-use Rattle.regent_tree.specs.Scopes.{Scope, in_scope}
+use Rattle.regent_tree.specs.Limits.{KeepsLimit, parts_of_expression, parts_of_form, parts_of_init, parts_of_term, parts_of_type}
+use Rattle.regent_tree.specs.Running.{Here, Result, Run, State, and_then, fails, gives}
+use Rattle.regent_tree.specs.Scopes.{in_scope}
 use Rattle.regent_tree.specs.StaticTypes.{looked_up, place_of_space, type_said}
 use Rattle.regent_tree.specs.Syntax.{Expression, Initializer, Name, TaskTree, plain_initializer, region_initializer, var_form}
-use Rattle.regent_tree.specs.Typing.{initializer_type, owned, reaches_of, scope_after, type_of, var_type}
-use Rattle.regent_tree.specs.Values.{Region, Value, a_number, a_pointer, a_region, a_truth, an_index, null_target, size_of}
+use Rattle.regent_tree.specs.Typing.{initializer_type, owned, reaches_of, scope_after, var_type}
+use Rattle.regent_tree.specs.Values.{Value, a_region, size_of}
 use Rattle.regent_tree.specs.declared.types.NumberTerm.TheVariants as number
 use Rattle.regent_tree.specs.declared.types.SpaceUse.{SpaceUse}
 use Rattle.regent_tree.specs.declared.types.TypeTerm.{TypeTerm}
@@ -28,40 +28,36 @@ use Rattle.regent_tree.specs.declared.types.TypeTerm.TheVariants as typed_as
 use Rattle.regent_tree.specs.declared.typing.Bound.{Bound}
 use Rattle.regent_tree.specs.declared.typing.StaticType.{StaticType}
 use Rattle.regent_tree.specs.declared.typing.StaticType.TheVariants.{Index as index_type, Integer as integer_type, Ispace as ispace_type, Nothing as no_type, Partition as partition_type, Pointer as pointer_type, Region as region_type, Truth as truth_type, Unknown as unknown_type}
-use Rattle.check_rules.proofs.Untold.{rule_none}
 use Rattle.check_rules.specs.first.FirstInExpressions.{first_in_expression, first_in_type}
 use Rattle.check_rules.specs.first.FirstInStatements.{first_of_form}
 use Rattle.check_rules.specs.first.Rules.{first_in}
 use Rattle.check_rules.specs.rules.Partitions.{is_difference}
-use Rattle.check_rules.specs.rules.Places.{has_wrong_initializer, lacks_initializer}
 use Rattle.check_rules.specs.rules.Standing.{space_spot, stands, typed_spot}
 use Rattle.check_rules.specs.rules.Types.{is_ill_typed_at_place}
-use Rattle.check_rules.specs.scopes.Variables.{begins_unsoundly, is_flawed_initializer, known_initializer, members_of, standing_in_initializer, stands_declared, variable_type}
+use Rattle.check_rules.specs.scopes.Variables.{is_flawed_initializer, known_initializer, members_of, standing_in_initializer, stands_declared, variable_type}
 use Rattle.check_rules.specs.types.Fitting.{fits, fits_known}
 use Rattle.check_rules.specs.types.KnownTypes.{known_type}
-use Rattle.check_rules.specs.types.Sorts.{is_collection, is_partition, is_region, is_space, is_unknown_type}
-use Rattle.check_rules.specs.declared.rule.Rule.TheVariants as rule
+use Rattle.check_rules.specs.types.Sorts.{is_collection, is_space, is_unknown_type}
 use Rattle.check_laws.proofs.Parts.{contrary, surely, unless_false}
 use Rattle.check_laws.proofs.Variables.{begun_sound, parts_of_form as parts_told, variable_known}
 use Rattle.expression_laws.specs.Writing.{IsWritten}
-use Rattle.state_laws.specs.Going.{GoesOnFit, IsPlaceOfRun, StateStays}
+use Rattle.state_laws.specs.Going.{GoesOnFit, IsPlaceOfRun}
 use Rattle.state_laws.specs.Laws.{FormFits}
 use Rattle.state_laws.proofs.Assignments.{known_fits}
-use Rattle.state_laws.proofs.Going.{fits_further, state_here, store_here, then_fits}
+use Rattle.state_laws.proofs.Going.{store_here, then_fits}
 use Rattle.state_laws.proofs.Growing.{extends_none, fits_stays, names_more, names_new, stays_bound}
 use Rattle.state_laws.proofs.Leaves.{evaluates}
 use Rattle.state_laws.proofs.Made.{made_extends, made_fits, made_region, made_rooted, roots_made}
 use Rattle.state_laws.proofs.VariableTypes.{BeginsSpaced, variable_begins}
-use Rattle.value_laws.specs.Fitting.{Fits, IsGoal, fits_index, fits_integer, fits_nothing, fits_partition, fits_pointer, fits_region, fits_space, fits_truth, fits_unknown}
+use Rattle.value_laws.specs.Fitting.{Fits, IsGoal, fits_index, fits_integer, fits_partition, fits_pointer, fits_region, fits_space, fits_truth}
 use Rattle.value_laws.specs.Keeping.{KeepsFit, StateFits}
 use Rattle.value_laws.specs.Shapes.{AreRootsOfSpaces, IsRegionOf, most_points}
-use Rattle.value_laws.specs.Spaces.{HasParent, IsSpaced}
 use Rattle.value_laws.proofs.Conversions.{converted_fits}
 use Rattle.value_laws.proofs.Ends.{after, weaker}
 use Rattle.value_laws.proofs.Limits.{all_left, all_right}
 use Rattle.value_laws.proofs.Regions.{goals}
 use Rattle.value_laws.proofs.Spaced.{written_spaced}
-use Rattle.value_laws.proofs.Types.{known, known_meant, type_spaced}
+use Rattle.value_laws.proofs.Types.{known}
 
 -- ---- what is named by another number fits still
 
@@ -197,15 +193,21 @@ module _ (task : TaskTree) where
   heads_told h y whole e =
       (option_or_parts (first_in_expression h.tree task h.scope y) _ (subst (λ b. first_in (first_in_expression h.tree task h.scope) (cond b (members_of y) (y ∷ [])) ≡ None) whole e)).0
 
-  pub plain_fits : (n : Name) (y : Expression) (roots : List Shape) (h : Here) → is_difference h.scope.names y ≡ false → IsPlaceOfRun task roots h →
-      first_of_form h.tree task h.scope (var_form n None (Some (plain_initializer y))) ≡ None → IsWritten y → All KeepsLimit (parts_of_expression y) →
+  -- an expression gives what fits its type
+  abbrev pub Evaluates : List Shape → Here → Expression → Type 0
+  Evaluates roots h y = (u : State) → StateFits h.tree roots h.scope.names u → KeepsFit h.tree roots h.scope.names (Fits roots h.scope.names (typed h y)) (value h y u)
+
+  pub whole_evaluates : (roots : List Shape) (h : Here) (r : IsPlaceOfRun task roots h) (y : Expression) → is_difference h.scope.names y ≡ false → IsWritten y → All KeepsLimit (parts_of_expression y) →
+      first_in (first_in_expression h.tree task h.scope) (cond (is_difference h.scope.names y) (members_of y) (y ∷ [])) ≡ None → Evaluates roots h y
+  whole_evaluates roots h r y whole wr limits heads u st = evaluates task roots h r y wr limits (heads_told h y whole heads) u st
+
+  pub plain_fits : (n : Name) (y : Expression) (roots : List Shape) (h : Here) → IsPlaceOfRun task roots h →
+      first_of_form h.tree task h.scope (var_form n None (Some (plain_initializer y))) ≡ None → All KeepsLimit (parts_of_expression y) → Evaluates roots h y →
       (u : State) → StateFits h.tree roots h.scope.names u →
       GoesOnFit h.tree roots (scope_after h.tree h.scope (var_form n None (Some (plain_initializer y)))).names h.result (and_then (value h y u) (λ v. bind v))
-  plain_fits n y roots h whole r e wr limits u st =
-      let parts = parts_told h.tree task h.scope r.place.sound r.place.scope (var_form n None (Some (plain_initializer y))) e in
+  plain_fits n y roots h r e limits evals u st =
       started roots h r n (owned h.scope.next (typed h y)) (variable_begins task roots h r n None (Some (plain_initializer y)) e limits) (value h y u)
-      (weaker h.tree roots h.scope.names (value h y u) (evaluates task roots h r y wr limits (heads_told h y whole parts.2) u st)
-      (λ v is. owned_fits roots h.scope.names h.scope.next (typed h y) v is))
+      (weaker h.tree roots h.scope.names (value h y u) (evals u st) (λ v is. owned_fits roots h.scope.names h.scope.next (typed h y) v is))
 
   -- the regions that a written type has are of its field space
   written_goals : (roots : List Shape) (h : Here) (r : IsPlaceOfRun task roots h) (t : TypeTerm) → first_in_type h.tree h.scope.names t ≡ None → All KeepsLimit (parts_of_term t) →
@@ -222,12 +224,13 @@ module _ (task : TaskTree) where
   written_goals roots h r (typed_as.Region k s) told l u st = All-nil (IsGoal roots (place_of_space h.tree s.name))
   written_goals roots h r (typed_as.Partition d q s) told l u st = All-nil (IsGoal roots 0)
 
-  pub typed_fits : (n : Name) (t : TypeTerm) (y : Expression) (roots : List Shape) (h : Here) → is_difference h.scope.names y ≡ false → IsPlaceOfRun task roots h →
-      first_of_form h.tree task h.scope (var_form n (Some t) (Some (plain_initializer y))) ≡ None → IsWritten y → All KeepsLimit (parts_of_form (var_form n (Some t) (Some (plain_initializer y)))) →
+  pub typed_fits : (n : Name) (t : TypeTerm) (y : Expression) (roots : List Shape) (h : Here) → IsPlaceOfRun task roots h →
+      first_of_form h.tree task h.scope (var_form n (Some t) (Some (plain_initializer y))) ≡ None → All KeepsLimit (parts_of_form (var_form n (Some t) (Some (plain_initializer y)))) →
+      Evaluates roots h y →
       (u : State) → StateFits h.tree roots h.scope.names u →
       GoesOnFit h.tree roots (scope_after h.tree h.scope (var_form n (Some t) (Some (plain_initializer y)))).names h.result
       (and_then (initialized h (Some t) (var_type h.tree h.scope (Some t) (Some (plain_initializer y))) (plain_initializer y) u) (λ v. bind v))
-  typed_fits n t y roots h whole r e wr limits u st =
+  typed_fits n t y roots h r e limits evals u st =
       let i = plain_initializer y in
       let wanted = var_type h.tree h.scope (Some t) (Some i) in
       let parts = parts_told h.tree task h.scope r.place.sound r.place.scope (var_form n (Some t) (Some i)) e in
@@ -237,7 +240,7 @@ module _ (task : TaskTree) where
       let from_known = sym (owned_unknown h.scope.next (typed h y)) ∙ start.known in
       started roots h r n wanted (variable_begins task roots h r n (Some t) (Some i) e limits) (initialized h (Some t) wanted i u)
       (after (Fits roots h.scope.names wanted) (value h y u) (λ v z. converted h (typed h y) wanted (regions_reached h.scope z.names (reaches_of wanted)) v z)
-      (evaluates task roots h r y wr (all_right KeepsLimit (parts_of_term t) (parts_of_expression y) limits) (heads_told h y whole parts.2) u st) (λ v z st is.
+      (evals u st) (λ v z st is.
       converted_fits h.tree roots h.scope.names h (typed h y) wanted (regions_reached h.scope z.names (reaches_of wanted)) v z from_known
       (owned_fits_known h.scope.known h.scope.next (typed h y) wanted start.fit) (written_goals roots h r t told limit z st) is st))
 

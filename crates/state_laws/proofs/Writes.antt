@@ -1,6 +1,6 @@
 -- Writes and reductions of fields, and fills: what is kept fits the field's type.
-use Rattle.std.proofs.Common.{List, [], ◌∷◌, ◌++◌, Bool, None, Option, Some, false, true, refl, ap, sym, subst, ℕ, ℤ, zero, suc, ◌≡◌, ◌∙◌, ◌≤◌, ◌||◌, not, inl, inr, get_or, map}
-use Rattle.std.proofs.lemmas.Bool.{and_parts, not-false, or_parts}
+use Rattle.std.proofs.Common.{List, [], ◌∷◌, ◌++◌, Bool, None, Option, false, true, refl, sym, subst, ℕ, ℤ, zero, suc, ◌≡◌, ◌∙◌, ◌≤◌, not, inl, inr, get_or}
+use Rattle.std.proofs.lemmas.Bool.{not-false, or_parts}
 use Rattle.std.proofs.lemmas.List.Elements.{All-append, All-cons, All-nil}
 use Rattle.std.specs.List.{All, list_any}
 use Rattle.std.specs.Option.{option_or}
@@ -9,17 +9,16 @@ use Rattle.plain_values.proofs.Plain.{option_or_parts}
 use Rattle.plain_values.specs.Points.{has}
 use Rattle.lane_kernels.proofs.Operators.{closed}
 use Rattle.lane_kernels.specs.Numbers.{wrapped}
-use Rattle.lane_kernels.specs.declared.numbers.Op.{Op}
 use Rattle.lane_kernels.specs.declared.numbers.Width.TheVariants.{W32, W64}
-use Rattle.regent_tree.specs.Accesses.{aimed, aimed_in, aimed_through, args_in, converted, space_in, standing, take_element, take_field}
-use Rattle.regent_tree.specs.Evaluation.{stepped, typed, value}
-use Rattle.regent_tree.specs.Execution.{Going, before_last, fill_fields, goes_on, last_field, updated, write_field}
+use Rattle.regent_tree.specs.Accesses.{aimed, aimed_in, aimed_through, converted, space_in}
+use Rattle.regent_tree.specs.Evaluation.{stepped}
+use Rattle.regent_tree.specs.Execution.{Going, before_last, fill_fields, last_field, updated, write_field}
 use Rattle.regent_tree.specs.Laws.{Shape}
 use Rattle.regent_tree.specs.Limits.{KeepsLimit, most, node, parts_of_expression, parts_of_steps}
-use Rattle.regent_tree.specs.Lookup.{has_field, is_bound, type_named}
-use Rattle.regent_tree.specs.Running.{Here, Result, Run, State, and_then, fails, gives, ◌>>=◌}
+use Rattle.regent_tree.specs.Lookup.{has_field}
+use Rattle.regent_tree.specs.Running.{Here, Result, State, and_then}
 use Rattle.regent_tree.specs.StaticTypes.{Looking, Reach, among_args, field_place, field_term, field_type, kind_said, space_at, type_said}
-use Rattle.regent_tree.specs.Store.{Store, no_root}
+use Rattle.regent_tree.specs.Store.{no_root}
 use Rattle.regent_tree.specs.Syntax.{Expression, Name, Steps, TaskTree, Tree, at_step, field_step, no_step}
 use Rattle.regent_tree.specs.Typing.{reaches_of, stepped_type, type_of_element, type_of_field}
 use Rattle.regent_tree.specs.Values.{Region, Target, Value, kept_number, meant, no_region, null_target, number_of, point_target}
@@ -44,24 +43,19 @@ use Rattle.check_rules.specs.types.Sorts.{is_integer, is_space, is_unknown_type}
 use Rattle.check_rules.specs.types.TypedForms.{element_of, field_of}
 use Rattle.check_laws.proofs.Parts.{contrary, element_known, field_known}
 use Rattle.check_laws.specs.SoundScopes.{IsKnown}
-use Rattle.expression_laws.proofs.Operators.{value_from_number}
 use Rattle.expression_laws.proofs.Values.{unless_known}
 use Rattle.expression_laws.specs.Writing.{AreStepped, IsWritten}
 use Rattle.state_laws.specs.Going.{GoesOnFit, IsPlaceOfRun}
 use Rattle.state_laws.proofs.Going.{state_here, store_here, then_fits}
-use Rattle.state_laws.proofs.Leaves.{evaluates}
 use Rattle.state_laws.proofs.Written.{all_written, store_written}
 use Rattle.value_laws.specs.Fitting.{Fits, IsGoal, fits_pointer}
-use Rattle.value_laws.specs.Keeping.{KeepsFit, StateFits}
+use Rattle.value_laws.specs.Keeping.{StateFits}
 use Rattle.value_laws.specs.Shapes.{IsKeptOf, IsRegionOf}
 use Rattle.value_laws.specs.Spaces.{AreArgumentsOf, IsSpaced}
-use Rattle.value_laws.proofs.Accesses.{element_fits, element_is_spaced, field_fits, field_is_spaced, field_said, taking_parts}
+use Rattle.value_laws.proofs.Accesses.{field_said, taking_parts}
 use Rattle.value_laws.proofs.Conversions.{converted_fits}
-use Rattle.value_laws.proofs.Ends.{after}
 use Rattle.value_laws.proofs.Kept.{goal_at, kept_number_fits, same_space_of_root}
 use Rattle.value_laws.proofs.Limits.{all_behind, all_left, all_right}
-use Rattle.value_laws.proofs.Numbers.{wraps_fit}
-use Rattle.value_laws.proofs.Operators.{standing_fits}
 use Rattle.value_laws.proofs.Spaced.{field_spaced}
 use Rattle.value_laws.proofs.Types.{known, steps_spaced}
 use Rattle.value_laws.proofs.Values.{steps_are}

@@ -4,7 +4,7 @@ use Rattle.std.specs.Prelude.{slice_set}
 use Rattle.regent_tree.proofs.Roots.{shapes_written}
 use Rattle.regent_tree.specs.Laws.{Shape}
 use Rattle.regent_tree.specs.StaticTypes.{field_term}
-use Rattle.regent_tree.specs.Store.{Store, column, no_root, read_at, write_all, write_at}
+use Rattle.regent_tree.specs.Store.{Store, no_root, write_all, write_at}
 use Rattle.regent_tree.specs.Syntax.{Tree}
 use Rattle.regent_tree.specs.declared.outcome.RootImage.{RootImage}
 use Rattle.value_laws.specs.Shapes.{IsKeptOf, KeepsNumbers, StoreFits}
