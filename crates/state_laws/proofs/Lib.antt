@@ -14,4 +14,5 @@ pub mod Made
 pub mod Variables
 pub mod Operations
 pub mod Partitioned
+pub mod Example
 pub mod Laws

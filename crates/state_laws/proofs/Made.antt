@@ -18,6 +18,7 @@ use Rattle.regent_tree.specs.declared.types.Param.{Param}
 use Rattle.regent_tree.specs.declared.types.TypeTerm.{TypeTerm}
 use Rattle.regent_tree.specs.declared.types.TypeTerm.TheVariants as typed_as
 use Rattle.state_laws.proofs.Items.{counted_below}
+use Rattle.state_laws.specs.Operations.{RootsAreMade}
 use Rattle.value_laws.specs.Shapes.{AreRootsOfSpaces, IsKeptOf, IsRegionOf, IsRootOfSpace, StoreFits, most_points, no_shape}
 
 pub push_cases : {A : Type 0} (xs : List A) (y d : A) (i : ℕ) → (get_or (xs ++ y ∷ []) i d ≡ get_or xs i d) ⊎ ((i ≡ length xs) × (get_or (xs ++ y ∷ []) i d ≡ y))
@@ -43,7 +44,7 @@ zero_is_kept (typed_as.Ispace k) = record { fits = omega (arith, ints); same = r
 zero_is_kept (typed_as.Region k u) = record { fits = omega (arith, ints); same = refl; position = tt }
 zero_is_kept (typed_as.Partition d r c) = record { fits = omega (arith, ints); same = refl; position = tt }
 
-none_is_kept : (t : TypeTerm) → IsKeptOf t (pos 0)
+pub none_is_kept : (t : TypeTerm) → IsKeptOf t (pos 0)
 none_is_kept (typed_as.Number number.Int32) = record { fits = omega (arith, ints); same = refl; position = tt }
 none_is_kept (typed_as.Number number.Int64) = record { fits = omega (arith, ints); same = refl; position = tt }
 none_is_kept (typed_as.Number (number.Index k)) = record { fits = omega (arith, ints); same = refl; position = tt }
@@ -116,3 +117,12 @@ module _ (tree : Tree) (roots : List Shape) (store : Store) (space count : ℕ) 
           below = counted_below 0 count count (omega (arith));
         });
       }
+
+pub roots_are_made : RootsAreMade
+roots_are_made tree roots store space count rooted fit few = record {
+  after = roots_made tree roots store space count fit rooted few;
+  is = refl;
+  rooted = made_rooted tree roots store space count fit rooted few;
+  store_fits = made_fits tree roots store space count fit rooted few;
+  region = made_region tree roots store space count fit rooted few;
+}

@@ -1,5 +1,5 @@
 -- Partition operations: the sets are points of the root, the flag is true of them, and the root is the parent's.
-use Rattle.std.proofs.Common.{List, [], ◌∷◌, Bool, false, true, refl, ap, sym, ℕ, ℤ, suc, ◌≡◌, ◌<◌, ◌≤◌, ◌||◌, inl, inr, not, get_or, arith}
+use Rattle.std.proofs.Common.{List, [], ◌∷◌, Bool, false, true, refl, ap, sym, ℕ, ℤ, suc, ◌≡◌, ◌<◌, ◌≤◌, ◌||◌, inl, inr, not, get_or, subst, ◌∙◌, arith}
 use Rattle.std.proofs.lemmas.Bool.{or_cases, or_left, or_right}
 use Rattle.std.proofs.lemmas.List.{length-map}
 use Rattle.std.proofs.lemmas.List.Elements.{All-cons, All-contains, All-get_or, All-head, All-nil, All-tail, Contains-get_or}
@@ -11,13 +11,14 @@ use Rattle.partitions.proofs.Colours.{length_made}
 use Rattle.partitions.proofs.Inside.{equal_parts, field_parts, filtered_parts, part_filtered}
 use Rattle.partitions.proofs.Pairs.{both_apart, without_apart}
 use Rattle.partitions.specs.Laws.{ArePartsOf, NoneShared}
-use Rattle.plain_values.specs.Points.{IsPoints, has, meet_of, minus_of, within}
-use Rattle.point_sets.proofs.Rising.{Contains-from_has, has-from_Contains, within_each}
+use Rattle.plain_values.specs.Points.{IsPoints, has, meet_of, minus_of, union_of, within}
+use Rattle.point_sets.proofs.Rising.{Contains-from_has, has-from_Contains, has-union_of, rising-union_of, within_each}
 use Rattle.regent_tree.specs.Laws.{Shape}
-use Rattle.regent_tree.specs.Partitions.{both_sets, by_field_sets, each_with, equal_part, equal_sets, image_sets, is_among, is_point, minus_sets, numbers_at, point_named, points_where, preimage_sets}
+use Rattle.regent_tree.specs.Partitions.{both_sets, by_field_sets, each_with, either_sets, equal_part, equal_sets, image_sets, is_among, is_point, minus_sets, numbers_at, point_named, points_where, preimage_sets}
 use Rattle.regent_tree.specs.Syntax.{Tree}
 use Rattle.regent_tree.specs.Values.{Partition, Region}
 use Rattle.check_laws.proofs.Parts.{contrary}
+use Rattle.state_laws.specs.Operations.{OperationsAreTrue}
 use Rattle.value_laws.specs.Shapes.{AreRootsOfSpaces, IsPartitionOf, IsRegionOf, IsRootOfSpace, most_colours, no_shape}
 
 -- ---- parts of a set of points
@@ -49,6 +50,30 @@ each_long : (operation : List ℕ → List ℕ → List ℕ) (ps qs : List (List
 each_long operation [] qs = refl
 each_long operation (p ∷ ps) [] = ap suc (each_long operation ps [])
 each_long operation (p ∷ ps) (q ∷ qs) = ap suc (each_long operation ps qs)
+
+-- the points of either set
+joined : (bound : ℕ) (xs ys : List ℕ) → IsPoints bound xs → IsPoints bound ys → IsPoints bound (union_of xs ys)
+joined bound xs ys p q = record {
+  rising = rising-union_of xs ys q.rising;
+  below = λ k e m. under (get_or (union_of xs ys) k e) (sym (has-union_of xs ys (get_or (union_of xs ys) k e)) ∙ has-from_Contains (union_of xs ys) _ (Contains-get_or (union_of xs ys) k e m));
+}
+  where
+    under : (x : ℕ) → (has xs x || has ys x) ≡ true → x < bound
+    under x e = elim (or_cases (has xs x) (has ys x) e) [
+      | inl g ↦ All-contains (λ x. x < bound) xs x p.below (Contains-from_has xs x g)
+      | inr g ↦ All-contains (λ x. x < bound) ys x q.below (Contains-from_has ys x g)
+    ]
+
+no_points : (bound : ℕ) → IsPoints bound []
+no_points bound = record { rising = λ k l. absurd (omega (arith, l)); below = All-nil (λ x. x < bound) }
+
+joined_points : (bound : ℕ) (ps qs : List (List ℕ)) → All (IsPoints bound) ps → All (IsPoints bound) qs → All (IsPoints bound) (each_with union_of ps qs)
+joined_points bound [] qs are others = All-nil (IsPoints bound)
+joined_points bound (p ∷ ps) [] are others = All-cons (IsPoints bound) (union_of p []) (each_with union_of ps [])
+    (joined bound p [] (All-head (IsPoints bound) p ps are) (no_points bound)) (joined_points bound ps [] (All-tail (IsPoints bound) p ps are) others)
+joined_points bound (p ∷ ps) (q ∷ qs) are others = All-cons (IsPoints bound) (union_of p q) (each_with union_of ps qs)
+    (joined bound p q (All-head (IsPoints bound) p ps are) (All-head (IsPoints bound) q qs others))
+    (joined_points bound ps qs (All-tail (IsPoints bound) p ps are) (All-tail (IsPoints bound) q qs others))
 
 module _ (tree : Tree) (roots : List Shape) (rooted : AreRootsOfSpaces tree roots) (space : ℕ) where
   -- a partition of a region's points
@@ -115,3 +140,29 @@ module _ (tree : Tree) (roots : List Shape) (rooted : AreRootsOfSpaces tree root
         flag = a.flag;
         apart = λ e. without_apart p.sets q.sets (a.apart e);
       }
+
+  -- a union of partitions of one root
+  pub union_is : (p q : Partition) (other : ℕ) (d f : Bool) → IsPartitionOf roots space d p → IsPartitionOf roots other f q → p.root ≡ q.root →
+      IsPartitionOf roots space false (record { root = p.root; disjoint = false; sets = either_sets p.sets q.sets })
+  union_is p q other d f a b same =
+      let bound = (get_or roots p.root no_shape).count in
+      let long = each_long union_of p.sets q.sets in
+      let few = a.few in record {
+        there = a.there;
+        of_space = a.of_space;
+        sets = joined_points bound p.sets q.sets a.sets (subst (λ n. All (IsPoints (get_or roots n no_shape).count) q.sets) (sym same) b.sets);
+        few = omega (arith, long, few);
+        flag = λ e. e;
+        apart = λ e. absurd (contrary (sym e));
+      }
+
+pub operations_are_true : OperationsAreTrue
+operations_are_true tree roots rooted space other = record {
+  equal = λ q n is few. equal_is tree roots rooted space q n is few;
+  by_field = λ q zs n is few. field_is tree roots rooted space q zs n is few;
+  image = λ q sets r zs p is few. image_is tree roots rooted space q sets r zs p is few;
+  preimage = λ q r old third d zs p is was there. preimage_is tree roots rooted space q old other d r third zs p is was there;
+  both = λ p q d f a b. both_is tree roots rooted space p q other d f a b;
+  difference = λ p q d a. difference_is tree roots rooted space p q d a;
+  either = λ p q d f a b same. union_is tree roots rooted space p q other d f a b same;
+}

@@ -1,2 +1,4 @@
 pub mod Going
+pub mod Operations
+pub mod Example
 pub mod Laws
