@@ -29,7 +29,7 @@ module _ (task : TaskTree) (unions : UnionsFit task) where
   start_evaluates roots h r y true d wr limits heads =
       difference_evaluates task roots h r y (is_difference h.scope.names y) refl d (subst (λ b. first_in (first_in_expression h.tree task h.scope) (cond b (members_of y) (y ∷ [])) ≡ None) d heads)
 
-  variable_fits : (n : Name) (t : Option TypeTerm) (start : Option Initializer) → FormFits task (var_form n t start)
+  pub variable_fits : (n : Name) (t : Option TypeTerm) (start : Option Initializer) → FormFits task (var_form n t start)
   variable_fits n (Some t) None roots h r e w wr limits u st = unset_fits task n t roots h r e w wr limits u st
   variable_fits n None None roots h r e w wr limits u st = absurd (contrary (parts_told h.tree task h.scope r.place.sound r.place.scope (var_form n None None) e).1)
   variable_fits n t (Some (region_initializer y s)) roots h r e w wr limits u st = region_begun task n t y s roots h r e w wr limits u st

@@ -16,3 +16,4 @@ pub mod Operations
 pub mod Partitioned
 pub mod Example
 pub mod Laws
+pub mod Runs

@@ -1,4 +1,5 @@
 pub mod Going
 pub mod Operations
+pub mod Runs
 pub mod Example
 pub mod Laws

@@ -7,6 +7,7 @@
 ghost use Rattle.state_laws.specs.Example.{ExampleFits};
 ghost use Rattle.state_laws.specs.Laws.{StatementsFit};
 ghost use Rattle.state_laws.specs.Operations.{OperationsAreTrue, RootsAreMade};
+ghost use Rattle.state_laws.specs.Runs.{CallsFit};
 
 /// Each statement keeps that the names' values fit their types, and that the store fits.
 pub fn statements_fit()
@@ -26,4 +27,9 @@ pub fn roots_are_made()
 /// A place of a body, and a state, in which each premise of the law on statements holds.
 pub fn example_fits()
     ensures { ExampleFits }
+{}
+
+/// The calls of a program without a breach give fitting answers on fitting arguments.
+pub fn calls_fit()
+    ensures { CallsFit }
 {}
