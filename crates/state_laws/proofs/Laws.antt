@@ -14,14 +14,14 @@ use Rattle.check_laws.proofs.Parts.{contrary}
 use Rattle.check_laws.proofs.Variables.{parts_of_form as parts_told}
 use Rattle.expression_laws.specs.Writing.{IsWritten}
 use Rattle.state_laws.specs.Going.{IsPlaceOfRun}
-use Rattle.state_laws.specs.Laws.{FormFits, StatementsFit, UnionsFit}
+use Rattle.state_laws.specs.Laws.{FormFits, StatementsFit}
 use Rattle.state_laws.proofs.Partitioned.{difference_evaluates, operation_fits}
 use Rattle.state_laws.proofs.Statements.{form_fits}
 use Rattle.state_laws.proofs.VariableTypes.{variable_spaced}
 use Rattle.state_laws.proofs.Variables.{Evaluates, plain_fits, region_begun, typed_fits, unset_fits, whole_evaluates}
 use Rattle.value_laws.proofs.Limits.{all_right}
 
-module _ (task : TaskTree) (unions : UnionsFit task) where
+module _ (task : TaskTree) where
   -- an expression that stands as a start value, a difference of partitions too
   start_evaluates : (roots : List Shape) (h : Here) (r : IsPlaceOfRun task roots h) (y : Expression) (b : Bool) → is_difference h.scope.names y ≡ b → IsWritten y → All KeepsLimit (parts_of_expression y) →
       first_in (first_in_expression h.tree task h.scope) (cond (is_difference h.scope.names y) (members_of y) (y ∷ [])) ≡ None → Evaluates task roots h y
@@ -40,7 +40,7 @@ module _ (task : TaskTree) (unions : UnionsFit task) where
   variable_fits n t (Some (image_initializer parent p q f)) roots h r e w wr limits u st = operation_fits task roots h r n t (image_initializer parent p q f) tt refl e limits u st
   variable_fits n t (Some (preimage_initializer parent p q f)) roots h r e w wr limits u st = operation_fits task roots h r n t (preimage_initializer parent p q f) tt refl e limits u st
   variable_fits n t (Some (both_initializer p q)) roots h r e w wr limits u st = operation_fits task roots h r n t (both_initializer p q) tt refl e limits u st
-  variable_fits n t (Some (either_initializer p q)) roots h r e w wr limits u st = unions (var_form n t (Some (either_initializer p q))) tt roots h r e w wr limits u st
+  variable_fits n t (Some (either_initializer p q)) roots h r e w wr limits u st = absurd wr
   variable_fits n None (Some (plain_initializer y)) roots h r e w wr limits u st =
       let parts = parts_told h.tree task h.scope r.place.sound r.place.scope (var_form n None (Some (plain_initializer y))) e in
       plain_fits task n y roots h r e limits (start_evaluates roots h r y (is_difference h.scope.names y) refl wr limits parts.2) u st
@@ -50,5 +50,5 @@ module _ (task : TaskTree) (unions : UnionsFit task) where
       (start_evaluates roots h r y (is_difference h.scope.names y) refl wr (all_right KeepsLimit (parts_of_type (Some t)) (parts_of_expression y) limits) parts.2) u st
 
 pub statements_fit : StatementsFit
-statements_fit task unions form =
-    form_fits task (variable_fits task unions) (λ roots h n t start r e limits. variable_spaced task roots h r n t start e limits) form
+statements_fit task form =
+    form_fits task (variable_fits task) (λ roots h n t start r e limits. variable_spaced task roots h r n t start e limits) form

@@ -1,21 +1,21 @@
 -- Calls of tasks, by recursion on how many more may nest.
-use Rattle.std.proofs.Common.{List, [], ◌∷◌, ◌++◌, Bool, None, Option, Some, false, true, refl, ap, sym, subst, ℕ, zero, suc, pos, ◌≡◌, ◌∙◌, ◌<◌, ◌≤◌, ◌+◌, ◌==◌, ◌⊎◌, inl, inr, get_or, map, cond, arith}
+use Rattle.std.proofs.Common.{List, [], ◌∷◌, ◌++◌, Bool, None, Option, Some, false, true, refl, ap, sym, subst, ℕ, zero, suc, pos, ◌≡◌, ◌∙◌, ◌==◌, ◌⊎◌, inl, inr, get_or, cond, arith}
 use Rattle.std.proofs.lemmas.Bool.{eqb-true}
 use Rattle.std.proofs.lemmas.Int.{ints}
 use Rattle.std.proofs.lemmas.List.{append_assoc, length-append, length-map}
+use Rattle.std.proofs.lemmas.List.Elements.{All-nil}
 use Rattle.std.specs.List.{All}
 use Rattle.std.specs.Prelude.{length, take}
-use Rattle.regent_tree.specs.Accesses.{regions_reached}
-use Rattle.regent_tree.specs.Execution.{Going, exec_block, goes_on, returned}
+use Rattle.regent_tree.specs.Execution.{Going, goes_on, returned}
 use Rattle.regent_tree.specs.Initializers.{zero_of}
-use Rattle.regent_tree.specs.Laws.{Extends, Shape, shape_of, shapes}
+use Rattle.regent_tree.specs.Laws.{Shape, shape_of, shapes}
 use Rattle.regent_tree.specs.Meaning.{body_of, calls_at, ended, entered, entered_as, opening, run_task}
-use Rattle.regent_tree.specs.Running.{Result, State, fails, gives}
+use Rattle.regent_tree.specs.Running.{Calls, Result, fails, gives}
 use Rattle.regent_tree.specs.Scopes.{Scope, bound_as, bound_params, scope_of, unbound}
-use Rattle.regent_tree.specs.StaticTypes.{Reach, field_term, task_named}
-use Rattle.regent_tree.specs.Store.{Store, no_root, read_at}
-use Rattle.regent_tree.specs.Syntax.{Name, TaskTree, Tree}
-use Rattle.regent_tree.specs.Typing.{param_types, result_type}
+use Rattle.regent_tree.specs.StaticTypes.{Reach, entry_name, field_term, task_named}
+use Rattle.regent_tree.specs.Store.{Store, no_root}
+use Rattle.regent_tree.specs.Syntax.{TaskTree, Tree}
+use Rattle.regent_tree.specs.Typing.{param_types, result_type, scope_after_block}
 use Rattle.regent_tree.specs.Values.{Value, a_truth}
 use Rattle.regent_tree.specs.declared.outcome.RootImage.{RootImage}
 use Rattle.regent_tree.specs.declared.types.NumberTerm.TheVariants as number
@@ -31,16 +31,15 @@ use Rattle.check_rules.specs.types.Sorts.{type_at}
 use Rattle.check_laws.proofs.Parts.{contrary}
 use Rattle.statement_laws.specs.Steady.{ArePlaced}
 use Rattle.state_laws.specs.Going.{GoesOnFit, IsPlaceOfRun, StoreStays}
-use Rattle.state_laws.specs.Laws.{UnionsFit}
-use Rattle.state_laws.specs.Runs.{CallsFit, IsBodyOfFit}
+use Rattle.state_laws.specs.Runs.{CallsFit, IsBodyOfFit, RunsFit}
 use Rattle.state_laws.proofs.Laws.{variable_fits}
 use Rattle.state_laws.proofs.Made.{none_is_kept}
 use Rattle.state_laws.proofs.Statements.{block_fits}
 use Rattle.state_laws.proofs.VariableTypes.{variable_spaced}
-use Rattle.value_laws.specs.Fitting.{Fits, IsGoal, NamesFit, fits_index, fits_integer, fits_nothing, fits_pointer, fits_truth, fits_unknown}
+use Rattle.value_laws.specs.Fitting.{Fits, NamesFit, fits_index, fits_integer, fits_nothing, fits_pointer, fits_truth, fits_unknown}
 use Rattle.value_laws.specs.Keeping.{AnswerFits, AnswersFit, AreFit, StateFits}
-use Rattle.value_laws.specs.Shapes.{AreRootsOfSpaces, IsKeptOf, StoreFits}
-use Rattle.value_laws.specs.Spaces.{AreSpaced, HasSpacedDeclarations, NamesRegionOf}
+use Rattle.value_laws.specs.Shapes.{AreRootsOfSpaces, IsKeptOf, IsRootOfSpace, StoreFits}
+use Rattle.value_laws.specs.Spaces.{HasSpacedDeclarations, NamesRegionOf}
 use Rattle.value_laws.proofs.Parameters.{param_at, params_long}
 use Rattle.value_laws.proofs.Regions.{goals}
 
@@ -195,22 +194,36 @@ ends_fit tree roots names s t n (gives (returned v) u) same e st =
     (any_roots tree roots t.result v e st.1, subst (λ k. StoreFits tree roots (take k u.store)) (sym same) (left_fits tree roots u.store st.0))
 ends_fit tree roots names s t n (fails f u) same e st = tt
 
-pub calls_fit : CallsFit
-calls_fit tree sound declared bodies unions turns zero roots line task vs store rooted fit are = tt
-calls_fit tree sound declared bodies unions turns (suc more) roots line task vs store rooted fit are =
-    let t = task_named tree task in
-    let body = bodies task in
-    let calls = calls_at tree turns more in
+append_none : (bs : List Bound) → bs ++ [] ≡ bs
+append_none [] = refl
+append_none (b ∷ bs) = ap (λ rest. b ∷ rest) (append_none bs)
+
+-- a task's body runs in states that fit
+task_fits : (tree : Tree) (t : TaskTree) → IsSound tree → HasSpacedDeclarations tree → IsBodyOfFit tree t → (turns : ℕ) (calls : Calls) → AnswersFit tree calls →
+    (roots : List Shape) (vs : List Value) (store : Store) → AreRootsOfSpaces tree roots → StoreFits tree roots store → AreFit roots (scope_of tree t).names (param_types tree t) vs →
+    GoesOnFit tree roots (scope_after_block tree (scope_of tree t) t.body).names (result_type tree t.result) (run_task tree turns calls t vs store)
+task_fits tree t sound declared body turns calls answers roots vs store rooted fit are =
     let place : IsPlaceOfRun t roots (body_of tree calls t) = record {
-      place = record { sound = sound; declared = declared; scope = body.scope; spaced = body.spaced; rooted = rooted; answers = calls_fit tree sound declared bodies unions turns more };
+      place = record { sound = sound; declared = declared; scope = body.scope; spaced = body.spaced; rooted = rooted; answers = answers };
       placed = subst ArePlaced (append_none (scope_of tree t).names) (placed_from tree t.params 0 t.params [] refl tt);
       result = refl;
       sound_result = body.result;
     } in
-    ends_fit tree roots _ (scope_of tree t) t (length store) (run_task tree turns calls t vs store) (sym (length-map store shape_of) ∙ ap length fit.shapes_are) body.result
-    (block_fits t (variable_fits t (unions task)) (λ roots h n q start r e limits. variable_spaced t roots h r n q start e limits) t.body (body_of tree calls t) roots place body.told body.written body.limits
-    (opening tree turns t vs store) (opens tree t roots vs body turns store are fit))
-  where
-    append_none : (bs : List Bound) → bs ++ [] ≡ bs
-    append_none [] = refl
-    append_none (b ∷ bs) = ap (λ rest. b ∷ rest) (append_none bs)
+    block_fits t (variable_fits t) (λ roots h n q start r e limits. variable_spaced t roots h r n q start e limits) t.body (body_of tree calls t) roots place body.told body.written body.limits
+    (opening tree turns t vs store) (opens tree t roots vs body turns store are fit)
+
+pub calls_fit : CallsFit
+calls_fit tree sound declared bodies turns zero roots line task vs store rooted fit are = tt
+calls_fit tree sound declared bodies turns (suc more) roots line task vs store rooted fit are =
+    let t = task_named tree task in
+    let calls = calls_at tree turns more in
+    ends_fit tree roots _ (scope_of tree t) t (length store) (run_task tree turns calls t vs store) (sym (length-map store shape_of) ∙ ap length fit.shapes_are) (bodies task).result
+    (task_fits tree t sound declared (bodies task) turns calls (calls_fit tree sound declared bodies turns more) roots vs store rooted fit are)
+
+no_store : (tree : Tree) → StoreFits tree [] []
+no_store tree = record { shapes_are = refl; numbers = λ r f p. none_is_kept (field_term tree 0 f) }
+
+pub runs_fit : RunsFit
+runs_fit tree sound declared bodies turns inputs are =
+    let n = entry_name tree in
+    task_fits tree (task_named tree n) sound declared (bodies n) turns (calls_at tree turns 63) (calls_fit tree sound declared bodies turns 63) [] inputs [] (All-nil (IsRootOfSpace tree)) (no_store tree) are

@@ -1,14 +1,14 @@
 -- Each statement keeps what fits.
 use Rattle.std.specs.List.{All}
-use Rattle.std.specs.Prelude.{List, None, Some, ◌≡◌}
+use Rattle.std.specs.Prelude.{List, None, ◌≡◌}
 use Rattle.regent_tree.specs.Execution.{exec}
 use Rattle.regent_tree.specs.Laws.{Shape}
 use Rattle.regent_tree.specs.Limits.{KeepsLimit, parts_of_form}
 use Rattle.regent_tree.specs.Running.{Here, State}
-use Rattle.regent_tree.specs.Syntax.{Form, TaskTree, either_initializer, var_form}
+use Rattle.regent_tree.specs.Syntax.{Form, TaskTree}
 use Rattle.regent_tree.specs.Typing.{scope_after}
 use Rattle.check_rules.specs.first.FirstInStatements.{first_of_form, first_within}
-use Rattle.statement_laws.specs.WrittenStatements.{IsWrittenForm}
+use Rattle.state_laws.specs.Treated.{IsTreatedForm}
 use Rattle.state_laws.specs.Going.{GoesOnFit, IsPlaceOfRun}
 use Rattle.value_laws.specs.Keeping.{StateFits}
 
@@ -16,19 +16,10 @@ use Rattle.value_laws.specs.Keeping.{StateFits}
 -- after it; or it returns a value that fits the result type, or it faults, and the store fits.
 abbrev pub FormFits : TaskTree → Form → Type 0
 FormFits task form = (roots : List Shape) (h : Here) → IsPlaceOfRun task roots h →
-    first_of_form h.tree task h.scope form ≡ None → first_within h.tree task h.scope form ≡ None → IsWrittenForm form →
+    first_of_form h.tree task h.scope form ≡ None → first_within h.tree task h.scope form ≡ None → IsTreatedForm form →
     All KeepsLimit (parts_of_form form) →
     (u : State) → StateFits h.tree roots h.scope.names u →
     GoesOnFit h.tree roots (scope_after h.tree h.scope form).names h.result (exec h form u)
 
--- A variable that begins with a union of partitions, of which the law doesn't speak yet.
-abbrev pub IsUnion : Form → Type 0
-IsUnion (var_form n t (Some (either_initializer p q))) = Unit {0}
-IsUnion form = ⊥
-
-abbrev pub UnionsFit : TaskTree → Type 0
-UnionsFit task = (form : Form) → IsUnion form → FormFits task form
-
--- Where those do so, each statement does.
 abbrev pub StatementsFit : Type 0
-StatementsFit = (task : TaskTree) → UnionsFit task → (form : Form) → FormFits task form
+StatementsFit = (task : TaskTree) (form : Form) → FormFits task form

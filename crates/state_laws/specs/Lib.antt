@@ -1,4 +1,5 @@
 pub mod Going
+pub mod Treated
 pub mod Operations
 pub mod Runs
 pub mod Example

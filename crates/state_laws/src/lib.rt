@@ -7,7 +7,7 @@
 ghost use Rattle.state_laws.specs.Example.{ExampleFits};
 ghost use Rattle.state_laws.specs.Laws.{StatementsFit};
 ghost use Rattle.state_laws.specs.Operations.{OperationsAreTrue, RootsAreMade};
-ghost use Rattle.state_laws.specs.Runs.{CallsFit};
+ghost use Rattle.state_laws.specs.Runs.{CallsFit, RunsFit};
 
 /// Each statement keeps that the names' values fit their types, and that the store fits.
 pub fn statements_fit()
@@ -32,4 +32,9 @@ pub fn example_fits()
 /// The calls of a program without a breach give fitting answers on fitting arguments.
 pub fn calls_fit()
     ensures { CallsFit }
+{}
+
+/// A run of such a program from inputs that fit keeps what fits, to its end or up to its first fault.
+pub fn runs_fit()
+    ensures { RunsFit }
 {}
