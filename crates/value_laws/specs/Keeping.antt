@@ -23,7 +23,7 @@ pub record StateFits (tree : Tree) (roots : List Shape) (bound : List Bound) (u 
 -- a step gives something of which a claim holds, in a state that fits; where it faults, the store fits
 abbrev pub KeepsFit : {A : Type 0} → Tree → List Shape → List Bound → (A → Type 0) → Result A → Type 0
 KeepsFit tree roots names Is r =
-    EndsIn (λ a u. StateFits tree roots names u × Is a) (λ u. StoreFits tree roots u.store) r
+    EndsIn (λ a u. StateFits tree roots names u × Is a) (λ f u. StoreFits tree roots u.store) r
 
 -- ---- calls
 
