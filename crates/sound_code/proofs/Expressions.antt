@@ -1,7 +1,8 @@
--- The code of expressions of numbers and truths has marks.
-use Rattle.std.proofs.Common.{◌≡◌, ℕ, List, [], ◌∷◌, Bool, true, false, cond, Some, refl, sym, subst}
-use Rattle.std.specs.Prelude.{slice_get, bytes_eq, ◌||◌}
+-- The code of expressions has marks: each leads from a mark to the same with a value on the stack.
+use Rattle.std.proofs.Common.{◌≡◌, inl, ℕ, ◌<◌, ◌≤◌, List, [], ◌∷◌, Bool, true, false, cond, map, Some, refl, sym, subst, arith}
+use Rattle.std.specs.Prelude.{slice_get, bytes_eq, length, ◌||◌}
 use Rattle.std.proofs.lemmas.Bool.{false≢true}
+use Rattle.std.proofs.lemmas.List.{length-set}
 use Rattle.regent_tree.specs.declared.expression.Arithmetic.{Arithmetic}
 use Rattle.regent_tree.specs.declared.expression.Comparison.{Comparison}
 use Rattle.regent_tree.specs.declared.expression.Operator.TheVariants.{Or, And, Compare, Compute}
@@ -11,33 +12,38 @@ use Rattle.regent_tree.specs.declared.typing.StaticType.{StaticType}
 use Rattle.regent_tree.specs.declared.typing.StaticType.TheVariants.{Integer as integer_type, Truth as truth_type}
 use Rattle.lane_kernels.specs.declared.numbers.Width.TheVariants.{W32, W64}
 use Rattle.regent_tree.specs.declared.types.NumberTerm.{NumberTerm}
-use Rattle.regent_tree.specs.StaticTypes.{number_type}
+use Rattle.regent_tree.specs.StaticTypes.{number_type, task_named}
 use Rattle.regent_tree.specs.Lookup.{is_bound}
 use Rattle.regent_tree.specs.Scopes.{bound_to}
-use Rattle.regent_tree.specs.Syntax.{Name, Expression, number_expr, truth_expr, chain_expr, prefix_expr, access_expr, call_expr, convert_expr, is_null_expr, null_expr, cast_expr, space_expr, Links, no_link, a_link, no_step, field_step, at_step}
-use Rattle.regent_tree.specs.Typing.{operated, linked_type, signed_type}
+use Rattle.regent_tree.specs.Syntax.{Name, Expression, number_expr, truth_expr, chain_expr, prefix_expr, access_expr, call_expr, convert_expr, space_expr, Expressions, no_expr, an_expr, Links, no_link, a_link, no_step, field_step, at_step}
+use Rattle.regent_tree.specs.Typing.{operated, linked_type, param_types, params_at, signed_type}
 use Rattle.regent_tree.specs.Values.{kept_truth}
 use Rattle.task_code.specs.declared.code.TaskCode.{TaskCode}
-use Rattle.task_code.specs.declared.instr.Instr.{Instr}
 use Rattle.task_code.specs.declared.instr.Instr.TheVariants as instr
-use Rattle.code_rules.specs.Pieces.{Piece, empty, op, ◌⨟◌, over}
-use Rattle.code_rules.specs.Expressions.{expr_code, links_code}
-use Rattle.code_rules.specs.Instructions.{signs_code, standing_code, operand_code, operating, as_number_code, one}
-use Rattle.code_rules.specs.Slots.{Where, typed, slot_named}
-use Rattle.code_laws.specs.Scalars.{IsInteger, an_integer, IsTruth, a_truth_type, AreAlike, two_integers, two_truths, IsScalar, scalar_integer, scalar_truth, SignsFit, of_a_truth, of_an_integer, not_before, minus_before, IsIntegerTerm, term_32, term_64, IsTyped, AreTypedLinks}
-use Rattle.fit_rules.specs.Shapes.{Shape, integer, truth, Numeric, numeric_integer, numeric_truth}
+use Rattle.machine_terms.specs.declared.value.Value.{Value}
+use Rattle.machine_terms.specs.Jumps.{fetch}
+use Rattle.code_rules.specs.Pieces.{Piece, ◌⨟◌, line_of, over}
+use Rattle.code_rules.specs.Expressions.{expr_code, exprs_code, links_code}
+use Rattle.code_rules.specs.Instructions.{converted_code, signs_code, standing_code, operand_code, operating, as_number_code, one, place_of_task}
+use Rattle.code_rules.specs.Slots.{Where, bound, spare, typed, slot_named}
+use Rattle.code_laws.specs.Simple.{IsSimple, AreComparable, compare_numbers, compare_truths, simple_integer, simple_truth, simple_space, simple_index, IsInteger, an_integer, IsTruth, a_truth_type, AreAlike, two_integers, two_truths, IsScalar, scalar_integer, IsNumber, number_integer, number_index, SignsFit, of_a_truth, of_an_integer, not_before, minus_before, IsIntegerTerm, term_32, term_64}
+use Rattle.code_laws.specs.Standing.{Stands}
+use Rattle.code_laws.specs.Steps.{Forms}
+use Rattle.code_laws.specs.Typed.{ArePassed, IsTyped, AreTypedLinks}
+use Rattle.fit_rules.specs.Shapes.{numeric_index, Are, are_more, index, is_number, World, Shape, awaited, integer, truth, space, Numeric, numeric_integer, numeric_truth}
 use Rattle.fit_rules.specs.Marks.{Mark, stacked}
 use Rattle.fit_rules.specs.Fits.{Program}
-use Rattle.fit_rules.specs.Sound.{Settled, Effect, does_num, does_load, does_compute, does_compare, does_negate, does_wrap, does_invert}
-use Rattle.sound_code.specs.Marked.{leads_on, Typed, typed_empty, typed_op, typed_both, typed_and, typed_or}
-use Rattle.sound_code.specs.Named.{shape_of, slot_at, AreNamed}
+use Rattle.fit_rules.specs.Sound.{Settled, settled_number, settled_space, does_num, does_load, does_compute, does_compare, does_negate, does_wrap, does_invert, does_space}
+use Rattle.sound_code.specs.Marked.{leads_waiting, typed_op, typed_and, typed_or}
+use Rattle.sound_code.specs.Named.{shape_of, slot_at, AreNamed, HasSlots}
+use Rattle.sound_code.proofs.Asked.{Asked}
+use Rattle.sound_code.proofs.Calling.{onto, calls, scalar_numeric}
+use Rattle.sound_code.proofs.Combining.{Marked, nothing_done, both, does, into, behind_kept, set_mark, slot_high, storing}
+use Rattle.sound_code.proofs.Elements.{number_numeric, reads}
+use Rattle.sound_code.proofs.Narrowing.{counts_stand, get_set, narrow_itself, narrow_set, narrow_into, same_facts}
 use Rattle.fit_laws.proofs.Numbers.{truth_is}
 
 -- ---- types
-
-pub scalar_numeric : (t : StaticType) → IsScalar t → Numeric (shape_of t)
-scalar_numeric _ (scalar_integer w) = numeric_integer w
-scalar_numeric _ scalar_truth = numeric_truth
 
 signs_keep : (t : StaticType) (ss : List Sign) → SignsFit t ss → signed_type ss t ≡ t
 signs_keep _ _ of_a_truth = refl
@@ -45,19 +51,27 @@ signs_keep _ _ (of_an_integer w) = refl
 signs_keep _ _ (not_before ss h) = refl
 signs_keep _ _ (minus_before w ss h) = refl
 
-signs_plain : (t : StaticType) (ss : List Sign) → SignsFit t ss → IsScalar t
-signs_plain _ _ of_a_truth = scalar_truth
-signs_plain _ _ (of_an_integer w) = scalar_integer w
-signs_plain _ _ (not_before ss h) = scalar_truth
-signs_plain _ _ (minus_before w ss h) = scalar_integer w
+signs_plain : (t : StaticType) (ss : List Sign) → SignsFit t ss → IsSimple t
+signs_plain _ _ of_a_truth = simple_truth
+signs_plain _ _ (of_an_integer w) = simple_integer w
+signs_plain _ _ (not_before ss h) = simple_truth
+signs_plain _ _ (minus_before w ss h) = simple_integer w
 
-pub alike_first : (t u : StaticType) → AreAlike t u → IsScalar t
-alike_first _ _ (two_integers a b) = scalar_integer a
-alike_first _ _ two_truths = scalar_truth
+number_simple : (t : StaticType) → IsNumber t → IsSimple t
+number_simple _ (number_integer w) = simple_integer w
+number_simple _ (number_index c) = simple_index c
 
-pub alike_second : (t u : StaticType) → AreAlike t u → IsScalar u
-alike_second _ _ (two_integers a b) = scalar_integer b
-alike_second _ _ two_truths = scalar_truth
+comparable_first : (t u : StaticType) → AreComparable t u → IsSimple t
+comparable_first _ _ (compare_numbers t u a b) = number_simple t a
+comparable_first _ _ compare_truths = simple_truth
+
+comparable_second : (t u : StaticType) → AreComparable t u → IsSimple u
+comparable_second _ _ (compare_numbers t u a b) = number_simple u b
+comparable_second _ _ compare_truths = simple_truth
+
+-- a number of 64 bits is an index
+as_index : (x : World) (us : List Shape) (st : List Value) → Are x (integer W64 ∷ us) st → Are x (index ∷ us) st
+as_index x us _ (are_more _ _ _ vs (is_number _ z p) a) = are_more index _ us vs (is_number index z p) a
 
 pub integer_is_plain : (t : StaticType) → IsInteger t → IsScalar t
 integer_is_plain _ (an_integer w) = scalar_integer w
@@ -65,137 +79,197 @@ integer_is_plain _ (an_integer w) = scalar_integer w
 pub truth_shape : (t : StaticType) → IsTruth t → shape_of t ≡ truth
 truth_shape _ a_truth_type = refl
 
--- a name in scope has its shape in its slot
-pub record NamedAt (params : ℕ) (ss : List Shape) (b : Bound) : Type 0 where
-  pub there : slice_get ss (slot_at params b.place) ≡ Some (shape_of b.static_type)
-  pub settled : Settled (shape_of b.static_type)
+pub simple_settled : (u : StaticType) → IsSimple u → Settled (shape_of u)
+simple_settled _ (simple_integer w) = settled_number _ (numeric_integer w)
+simple_settled _ simple_truth = settled_number _ numeric_truth
+simple_settled _ (simple_space c) = settled_space
+simple_settled _ (simple_index c) = settled_number _ numeric_index
 
-pub named_at : (params : ℕ) (ss : List Shape) (bs : List Bound) (n : Name) → AreNamed params ss bs →
-    is_bound bs n ≡ true → NamedAt params ss (bound_to bs n)
+-- a name in scope has its shape in its slot
+pub named_at : (params : ℕ) (ss : List Shape) (bs : List Bound) (n : Name) → AreNamed params ss bs → is_bound bs n ≡ true →
+    slice_get ss (slot_at params (bound_to bs n).place) ≡ Some (shape_of (bound_to bs n).static_type)
 named_at params ss [] n a h = absurd (false≢true h)
-named_at params ss (b ∷ bs) n a h = chosen (bytes_eq b.name n) (named_at params ss bs n a.3) h
+named_at params ss (b ∷ bs) n a h = chosen (bytes_eq b.name n) (named_at params ss bs n a.2) h
   where
-    chosen : (c : Bool) → (is_bound bs n ≡ true → NamedAt params ss (bound_to bs n)) →
-        (c || is_bound bs n) ≡ true → NamedAt params ss (cond c b (bound_to bs n))
-    chosen true more e = record { there = a.1; settled = a.2 }
+    chosen : (c : Bool) →
+        (is_bound bs n ≡ true → slice_get ss (slot_at params (bound_to bs n).place) ≡ Some (shape_of (bound_to bs n).static_type)) →
+        (c || is_bound bs n) ≡ true →
+        slice_get ss (slot_at params (cond c b (bound_to bs n)).place) ≡ Some (shape_of (cond c b (bound_to bs n)).static_type)
+    chosen true more e = a.1
     chosen false more e = more e
 
-module _ (g : Program) (t : TaskCode) (k : ℕ) where
-  -- a piece with some marks
-  pub record Marked (m : Mark) (p : Piece) (n : Mark) : Type 0 where
-    pub marks : List Mark
-    pub is : Typed g t k m p marks n
+-- ---- expressions
 
-  pub nothing_done : (m : Mark) → Marked m empty m
-  nothing_done m = record { marks = []; is = typed_empty m }
+-- a value is converted to an alike type
+pub converted_at : (g : Program) (t : TaskCode) (k : ℕ) (w : Where) (m : Mark) (u v : StaticType) (us : List Shape) → AreAlike u v →
+    Marked g t k (stacked m (shape_of u ∷ us)) (converted_code w u v) (stacked m (shape_of v ∷ us))
+converted_at g t k w m _ _ us (two_integers a b) =
+    does g t k (stacked m (integer a ∷ us)) (instr.Wrap b) w.line _ (does_wrap b (integer a) us (numeric_integer a))
+converted_at g t k w m _ _ us two_truths = nothing_done g t k _
 
-  pub both : {m n o : Mark} {a b : Piece} → Marked m a n → Marked n b o → Marked m (a ⨟ b) o
-  both f h = record { marks = _; is = typed_both _ _ _ _ _ _ _ f.is h.is }
+module _ (g : Program) (t : TaskCode) (k slots : ℕ) (have : HasSlots t slots) (forms : Forms) (w : Where) (m : Mark)
+    (asked : Asked g t k slots w m) where
+  -- code that leads from one stack to another
+  abbrev Goes : List Shape → Piece → List Shape → Type 0
+  Goes us p vs = Marked g t k (stacked m us) p (stacked m vs)
 
-  pub does : (m : Mark) (i : Instr) (line : ℕ) (us : List Shape) → Effect g t m i m.stack us →
-      Marked m (op i line) (stacked m us)
-  does m i line us e = record { marks = _; is = typed_op m _ i line (leads_on m i us e) }
+  -- a slot in which something is stored is there
+  pub stored : (pc s : ℕ) → fetch t.body pc ≡ Some (line_of (instr.Store s) w.line) → s < length m.slots
+  stored pc s e = let l = have pc _ e in let r = asked.room in omega (arith, l, r)
 
-  module _ (w : Where) (m : Mark) (names : AreNamed w.params m.slots w.scope.names) where
-    -- the mark with a stack
-    abbrev At : List Shape → Mark
-    At us = stacked m us
+  standing_marked : (u : StaticType) (us : List Shape) → IsSimple u → Goes us (standing_code w u) us
+  standing_marked _ us (simple_integer v) = nothing_done g t k _
+  standing_marked _ us simple_truth = nothing_done g t k _
+  standing_marked _ us (simple_space c) = nothing_done g t k _
+  standing_marked _ us (simple_index c) = nothing_done g t k _
 
-    standing_marked : (u : StaticType) (us : List Shape) → IsScalar u → Marked (At us) (standing_code w u) (At us)
-    standing_marked _ us (scalar_integer v) = nothing_done (At us)
-    standing_marked _ us scalar_truth = nothing_done (At us)
+  operand_marked : (b : Bool) (u : StaticType) (us : List Shape) → IsSimple u → Goes us (operand_code w b u) us
+  operand_marked true u us p = nothing_done g t k _
+  operand_marked false u us p = standing_marked u us p
 
-    operand_marked : (b : Bool) (u : StaticType) (us : List Shape) → IsScalar u →
-        Marked (At us) (operand_code w b u) (At us)
-    operand_marked true u us p = nothing_done (At us)
-    operand_marked false u us p = standing_marked u us p
+  signs_marked : (u : StaticType) (ss : List Sign) (us : List Shape) → SignsFit u ss →
+      Goes (shape_of u ∷ us) (signs_code w u ss) (shape_of u ∷ us)
+  signs_marked _ _ us of_a_truth = nothing_done g t k _
+  signs_marked _ _ us (of_an_integer v) = nothing_done g t k _
+  signs_marked _ _ us (not_before ss h) = both g t k (signs_marked truth_type ss us h)
+      (does g t k (stacked m (truth ∷ us)) instr.Not w.line (truth ∷ us) (does_invert truth us numeric_truth))
+  signs_marked _ _ us (minus_before v ss h) = both g t k (signs_marked (integer_type v) ss us h)
+      (does g t k (stacked m (integer v ∷ us)) (instr.Neg v) w.line (integer v ∷ us)
+      (does_negate v (integer v) us (numeric_integer v)))
 
-    signs_marked : (u : StaticType) (ss : List Sign) (us : List Shape) → SignsFit u ss →
-        Marked (At (shape_of u ∷ us)) (signs_code w u ss) (At (shape_of u ∷ us))
-    signs_marked _ _ us of_a_truth = nothing_done _
-    signs_marked _ _ us (of_an_integer v) = nothing_done _
-    signs_marked _ _ us (not_before ss h) = both (signs_marked truth_type ss us h)
-        (does (At (truth ∷ us)) instr.Not w.line (truth ∷ us) (does_invert truth us numeric_truth))
-    signs_marked _ _ us (minus_before v ss h) = both (signs_marked (integer_type v) ss us h)
-        (does (At (integer v ∷ us)) (instr.Neg v) w.line (integer v ∷ us)
-        (does_negate v (integer v) us (numeric_integer v)))
+  number_marked : (c : NumberTerm) (u : StaticType) (us : List Shape) → IsNumber u → IsIntegerTerm c →
+      Goes (shape_of u ∷ us) (as_number_code w c) (shape_of (number_type c) ∷ us)
+  number_marked _ u us h term_32 = does g t k _ (instr.Wrap W32) w.line _ (does_wrap W32 (shape_of u) us (number_numeric u h))
+  number_marked _ u us h term_64 = does g t k _ (instr.Wrap W64) w.line _ (does_wrap W64 (shape_of u) us (number_numeric u h))
 
-    number_marked : (c : NumberTerm) (u : StaticType) (us : List Shape) → IsInteger u → IsIntegerTerm c →
-        Marked (At (shape_of u ∷ us)) (as_number_code w c) (At (shape_of (number_type c) ∷ us))
-    number_marked _ _ us (an_integer v) term_32 = does _ (instr.Wrap W32) w.line _ (does_wrap W32 (integer v) us (numeric_integer v))
-    number_marked _ _ us (an_integer v) term_64 = does _ (instr.Wrap W64) w.line _ (does_wrap W64 (integer v) us (numeric_integer v))
+  pub converted_marked : (u v : StaticType) (us : List Shape) → AreAlike u v →
+      Goes (shape_of u ∷ us) (converted_code w u v) (shape_of v ∷ us)
+  converted_marked u v us h = converted_at g t k w m u v us h
 
-    compute_marked : (c : Arithmetic) (u v : StaticType) (us : List Shape) → IsInteger u → IsInteger v →
-        Marked (At (shape_of v ∷ shape_of u ∷ us)) (one w (operating (Compute c) u v))
-        (At (shape_of (operated (Compute c) u v) ∷ us))
-    compute_marked c _ _ us (an_integer a) (an_integer b) = does _ _ w.line _
-        (does_compute c _ (integer a) (integer b) us (numeric_integer a) (numeric_integer b))
+  index_marked : (us vs : List Shape) (p : Piece) → Goes us p (integer W64 ∷ vs) → Goes us p (index ∷ vs)
+  index_marked us vs p f = into g t k f
+      (λ x ss st q. record { slots = q.slots; stack = as_index x vs st q.stack; facts = q.facts; top = tt; args = q.args }) refl
 
-    compare_marked : (c : Comparison) (u v : StaticType) (us : List Shape) → AreAlike u v →
-        Marked (At (shape_of v ∷ shape_of u ∷ us)) (one w (operating (Compare c) u v)) (At (truth ∷ us))
-    compare_marked c _ _ us (two_integers a b) = does _ _ w.line _
-        (does_compare c (integer a) (integer b) us (numeric_integer a) (numeric_integer b))
-    compare_marked c _ _ us two_truths = does _ _ w.line _
-        (does_compare c truth truth us numeric_truth numeric_truth)
+  compute_marked : (c : Arithmetic) (u v : StaticType) (us : List Shape) → IsNumber u → IsNumber v →
+      Goes (shape_of v ∷ shape_of u ∷ us) (one w (operating (Compute c) u v)) (shape_of (operated (Compute c) u v) ∷ us)
+  compute_marked c _ _ us (number_integer a) (number_integer b) = does g t k _ _ w.line _
+      (does_compute c _ (integer a) (integer b) us (numeric_integer a) (numeric_integer b))
+  compute_marked c _ _ us (number_index i) (number_integer b) = index_marked _ us _ (does g t k _ _ w.line _
+      (does_compute c W64 index (integer b) us numeric_index (numeric_integer b)))
+  compute_marked c _ _ us (number_integer a) (number_index j) = index_marked _ us _ (does g t k _ _ w.line _
+      (does_compute c W64 (integer a) index us (numeric_integer a) numeric_index))
+  compute_marked c _ _ us (number_index i) (number_index j) = index_marked _ us _ (does g t k _ _ w.line _
+      (does_compute c W64 index index us numeric_index numeric_index))
 
-    or_marked : (us : List Shape) (p : Piece) → Marked (At us) p (At (truth ∷ us)) →
-        Marked (At (truth ∷ us)) (over instr.OrJump w.line p) (At (truth ∷ us))
-    or_marked us p f = record { marks = _; is = typed_or (At (truth ∷ us)) truth us w.line p _ refl numeric_truth f.is }
+  compare_marked : (c : Comparison) (u v : StaticType) (us : List Shape) → AreComparable u v →
+      Goes (shape_of v ∷ shape_of u ∷ us) (one w (operating (Compare c) u v)) (truth ∷ us)
+  compare_marked c _ _ us (compare_numbers _ v (number_integer a) h) = does g t k _ _ w.line _
+      (does_compare c (integer a) (shape_of v) us (numeric_integer a) (number_numeric v h))
+  compare_marked c _ _ us (compare_numbers _ v (number_index i) h) = does g t k _ _ w.line _
+      (does_compare c index (shape_of v) us numeric_index (number_numeric v h))
+  compare_marked c _ _ us compare_truths = does g t k _ _ w.line _
+      (does_compare c truth truth us numeric_truth numeric_truth)
 
-    and_marked : (us : List Shape) (p : Piece) → Marked (At us) p (At (truth ∷ us)) →
-        Marked (At (truth ∷ us)) (over instr.AndJump w.line p) (At (truth ∷ us))
-    and_marked us p f = record { marks = _; is = typed_and (At (truth ∷ us)) truth us w.line p _ refl numeric_truth f.is }
+  or_marked : (us : List Shape) (p : Piece) → Goes us p (truth ∷ us) → Goes (truth ∷ us) (over instr.OrJump w.line p) (truth ∷ us)
+  or_marked us p f = record { marks = _; is = typed_or (stacked m (truth ∷ us)) truth us w.line p _ refl numeric_truth f.is }
 
-    mutual
-      pub expr_marked : (d : ℕ) (e : Expression) (us : List Shape) → IsTyped w e →
-          Marked (At us) (expr_code w d e) (At (shape_of (typed w e) ∷ us))
-      expr_marked d (number_expr z v) us fine = does (At us) (instr.Num z) w.line _ (does_num z (integer v) us fine)
-      expr_marked d (truth_expr b) us fine = does (At us) (instr.Num (kept_truth b)) w.line _ (does_num _ truth us (truth_is b))
-      expr_marked d (access_expr n no_step) us fine =
-          let h = named_at w.params m.slots w.scope.names n names fine.0 in
-          both (does (At us) (instr.Load (slot_named w n)) w.line _ (does_load _ _ us h.there h.settled)) (nothing_done _)
-      expr_marked d (prefix_expr signs e) us fine =
-          both (expr_marked d e us fine.0)
-          (both (standing_marked (typed w e) _ (signs_plain _ signs fine.1))
-          (subst (λ y. Marked (At (shape_of (typed w e) ∷ us)) (signs_code w (typed w e) signs) (At (shape_of y ∷ us)))
-          (sym (signs_keep (typed w e) signs fine.1)) (signs_marked (typed w e) signs us fine.1)))
-      expr_marked d (chain_expr first rest) us fine =
-          both (expr_marked d first us fine.0) (links_marked d (typed w first) rest us fine.1)
-      expr_marked d (call_expr _ _) us fine = absurd fine
-      expr_marked d (access_expr n (field_step _ _)) us fine = absurd fine
-      expr_marked d (access_expr n (at_step _ _)) us fine = absurd fine
-      expr_marked d (convert_expr c e) us fine = both (expr_marked d e us fine.0)
-          (both (standing_marked (typed w e) _ (integer_is_plain _ fine.1)) (number_marked c (typed w e) us fine.1 fine.2))
-      expr_marked d (is_null_expr _) us fine = absurd fine
-      expr_marked d (null_expr _) us fine = absurd fine
-      expr_marked d (cast_expr _ _) us fine = absurd fine
-      expr_marked d (space_expr _ _) us fine = absurd fine
+  and_marked : (us : List Shape) (p : Piece) → Goes us p (truth ∷ us) → Goes (truth ∷ us) (over instr.AndJump w.line p) (truth ∷ us)
+  and_marked us p f = record { marks = _; is = typed_and (stacked m (truth ∷ us)) truth us w.line p _ refl numeric_truth f.is }
 
-      pub links_marked : (d : ℕ) (u : StaticType) (ls : Links) (us : List Shape) → AreTypedLinks w u ls →
-          Marked (At (shape_of u ∷ us)) (links_code w d u ls)
-          (At (shape_of (linked_type w.tree w.scope u ls) ∷ us))
-      links_marked d u no_link us fine = nothing_done _
-      links_marked d u (a_link Or e rest) us fine =
-          subst (λ y. Marked (At (y ∷ us)) (links_code w d u (a_link Or e rest)) (At (shape_of (linked_type w.tree w.scope truth_type rest) ∷ us)))
-          (sym (truth_shape u fine.0))
-          (both (or_marked us (expr_code w d e) (subst (λ y. Marked (At us) (expr_code w d e) (At (y ∷ us)))
-          (truth_shape _ fine.1) (expr_marked d e us fine.2)))
-          (links_marked d truth_type rest us fine.3))
-      links_marked d u (a_link And e rest) us fine =
-          subst (λ y. Marked (At (y ∷ us)) (links_code w d u (a_link And e rest)) (At (shape_of (linked_type w.tree w.scope truth_type rest) ∷ us)))
-          (sym (truth_shape u fine.0))
-          (both (and_marked us (expr_code w d e) (subst (λ y. Marked (At us) (expr_code w d e) (At (y ∷ us)))
-          (truth_shape _ fine.1) (expr_marked d e us fine.2)))
-          (links_marked d truth_type rest us fine.3))
-      links_marked d u (a_link (Compute c) e rest) us fine =
-          both (operand_marked false u _ (integer_is_plain u fine.0))
-          (both (expr_marked d e _ fine.2)
-          (both (operand_marked false (typed w e) _ (integer_is_plain _ fine.1))
-          (both (compute_marked c u (typed w e) us fine.0 fine.1)
-          (links_marked d _ rest us fine.3))))
-      links_marked d u (a_link (Compare c) e rest) us fine =
-          both (operand_marked _ u _ (alike_first u _ fine.0))
-          (both (expr_marked d e _ fine.1)
-          (both (operand_marked _ (typed w e) _ (alike_second u _ fine.0))
-          (both (compare_marked c u (typed w e) us fine.0)
-          (links_marked d _ rest us fine.2))))
+  -- a result that may be pending is put aside, and waited for
+  awaited_marked : (s : ℕ) (r : Shape) (us : List Shape) → Numeric r → slot_at w.params (length w.scope.names) ≤ s →
+      s < length m.slots → Goes (awaited r ∷ us) (one w (instr.Store s) ⨟ one w (instr.Load s)) (r ∷ us)
+  awaited_marked s r us nr low hi =
+      let ready = asked.ready in
+      let high = slot_high w.params (length w.scope.names) ready.low in
+      into g t k (both g t k
+      (storing g t k m s (awaited r) (awaited r) us w.line (behind_kept w.params w.scope.names m s ready low)
+      (omega (arith, low, high, asked.params)) hi (λ x v h. h))
+      (record {
+        marks = _;
+        is = typed_op _ _ _ w.line (leads_waiting (set_mark m s (awaited r) us) s r (get_set m.slots s (awaited r) hi) nr
+            (counts_stand w.params (length w.scope.names) _ m.facts ready.facts));
+      }))
+      (narrow_into t.params (set_mark m s (awaited r) us) m (r ∷ us)
+      (narrow_set m.slots m.slots s (awaited r) (narrow_itself m.slots) (inl (ready.free s low hi))) (same_facts _ _ refl))
+      (sym (length-set m.slots s (awaited r)))
+
+  mutual
+    pub expr_marked : (d : ℕ) (e : Expression) (us : List Shape) → IsTyped forms w e → (pc : ℕ) →
+        Stands t.body pc (expr_code w d e) → Goes us (expr_code w d e) (shape_of (typed w e) ∷ us)
+    expr_marked d (number_expr z v) us fine pc st = does g t k _ (instr.Num z) w.line _ (does_num z (integer v) us fine)
+    expr_marked d (truth_expr b) us fine pc st = does g t k _ (instr.Num (kept_truth b)) w.line _ (does_num _ truth us (truth_is b))
+    expr_marked d (access_expr x no_step) us fine pc st =
+        let h = named_at w.params m.slots w.scope.names x asked.ready.named fine.0 in
+        both g t k (does g t k _ (instr.Load (slot_named w x)) w.line _ (does_load _ _ us h (simple_settled _ fine.1))) (nothing_done g t k _)
+    expr_marked d (access_expr x (at_step e (field_step f no_step))) us fine pc st =
+        let field = fine.3 in
+        let h = named_at w.params m.slots w.scope.names x asked.ready.named field.named in
+        reads g t k w m asked.known (bound w x).static_type (bound w x).place e f _ d us field.region h fine.1 fine.2
+        field.field field.keeps (λ q s. expr_marked d e us fine.0 q s) pc st
+    expr_marked d (prefix_expr signs e) us fine pc st =
+        both g t k (expr_marked d e us fine.0 pc st.0)
+        (both g t k (standing_marked (typed w e) _ (signs_plain _ signs fine.1))
+        (subst (λ y. Goes (shape_of (typed w e) ∷ us) (signs_code w (typed w e) signs) (shape_of y ∷ us))
+        (sym (signs_keep (typed w e) signs fine.1)) (signs_marked (typed w e) signs us fine.1)))
+    expr_marked d (chain_expr first rest) us fine pc st =
+        both g t k (expr_marked d first us fine.0 pc st.0) (links_marked d (typed w first) rest us fine.1 _ st.1)
+    expr_marked d (call_expr task args) us fine pc st =
+        let u = task_named w.tree task in
+        let place = place_of_task w.tree task in
+        let types = param_types w.tree u in
+        let same = asked.known.results place u fine.2.0 in
+        let nr : Numeric (g.results place) = subst Numeric (sym same) (scalar_numeric _ fine.1) in
+        subst (λ y. Goes us (expr_code w d (call_expr task args)) (y ∷ us)) same
+        (both g t k (args_marked d (params_at w.tree w.scope u args) types args us fine.3 pc st.0)
+        (both g t k (calls g t k w asked.known forms m task (params_at w.tree w.scope u args) args us fine.2 fine.3)
+        (awaited_marked (spare w d) (g.results place) us nr (omega arith) (stored _ (spare w d) st.1.1.0))))
+    expr_marked d (convert_expr c e) us fine pc st = both g t k (expr_marked d e us fine.0 pc st.0)
+        (both g t k (standing_marked (typed w e) _ (number_simple _ fine.1)) (number_marked c (typed w e) us fine.1 fine.2))
+    expr_marked d (space_expr c e) us fine pc st = both g t k (expr_marked d e us fine.0 pc st.0)
+        (does g t k (stacked m (shape_of (typed w e) ∷ us)) instr.Space w.line (space ∷ us)
+        (does_space _ us (scalar_numeric _ (integer_is_plain _ fine.1))))
+    expr_marked d _ us fine pc st = absurd fine
+
+    pub links_marked : (d : ℕ) (u : StaticType) (ls : Links) (us : List Shape) → AreTypedLinks forms w u ls → (pc : ℕ) →
+        Stands t.body pc (links_code w d u ls) →
+        Goes (shape_of u ∷ us) (links_code w d u ls) (shape_of (linked_type w.tree w.scope u ls) ∷ us)
+    links_marked d u no_link us fine pc st = nothing_done g t k _
+    links_marked d u (a_link Or e rest) us fine pc st =
+        subst (λ y. Goes (y ∷ us) (links_code w d u (a_link Or e rest)) (shape_of (linked_type w.tree w.scope truth_type rest) ∷ us))
+        (sym (truth_shape u fine.0))
+        (both g t k (or_marked us (expr_code w d e) (subst (λ y. Goes us (expr_code w d e) (y ∷ us))
+        (truth_shape _ fine.1) (expr_marked d e us fine.2 _ st.0.1)))
+        (links_marked d truth_type rest us fine.3 _ st.1))
+    links_marked d u (a_link And e rest) us fine pc st =
+        subst (λ y. Goes (y ∷ us) (links_code w d u (a_link And e rest)) (shape_of (linked_type w.tree w.scope truth_type rest) ∷ us))
+        (sym (truth_shape u fine.0))
+        (both g t k (and_marked us (expr_code w d e) (subst (λ y. Goes us (expr_code w d e) (y ∷ us))
+        (truth_shape _ fine.1) (expr_marked d e us fine.2 _ st.0.1)))
+        (links_marked d truth_type rest us fine.3 _ st.1))
+    links_marked d u (a_link (Compute c) e rest) us fine pc st =
+        both g t k (operand_marked false u _ (number_simple u fine.0))
+        (both g t k (expr_marked d e _ fine.2 _ st.1.0)
+        (both g t k (operand_marked false (typed w e) _ (number_simple _ fine.1))
+        (both g t k (compute_marked c u (typed w e) us fine.0 fine.1)
+        (links_marked d _ rest us fine.3 _ st.1.1.1.1))))
+    links_marked d u (a_link (Compare c) e rest) us fine pc st =
+        both g t k (operand_marked _ u _ (comparable_first u _ fine.0))
+        (both g t k (expr_marked d e _ fine.1 _ st.1.0)
+        (both g t k (operand_marked _ (typed w e) _ (comparable_second u _ fine.0))
+        (both g t k (compare_marked c u (typed w e) us fine.0)
+        (links_marked d _ rest us fine.2 _ st.1.1.1.1))))
+
+    -- arguments of parameters of these types
+    pub args_marked : (d : ℕ) (ts ps : List StaticType) (es : Expressions) (us : List Shape) → ArePassed forms w ts ps es →
+        (pc : ℕ) → Stands t.body pc (exprs_code w d ts es) → Goes us (exprs_code w d ts es) (onto (map shape_of ps) us)
+    args_marked d [] [] no_expr us fine pc st = nothing_done g t k _
+    args_marked d (u ∷ ts) (p ∷ ps) (an_expr e es) us fine pc st =
+        both g t k (expr_marked d e us fine.2 pc st.0)
+        (both g t k (subst (λ y. Goes (shape_of (typed w e) ∷ us) (converted_code w (typed w e) u) (shape_of y ∷ us)) fine.1
+        (converted_marked (typed w e) u us fine.0))
+        (args_marked d ts ps es (shape_of p ∷ us) fine.3 _ st.1.1))
+    args_marked d [] [] (an_expr e es) us fine pc st = absurd fine
+    args_marked d [] (p ∷ ps) es us fine pc st = absurd fine
+    args_marked d (u ∷ ts) [] es us fine pc st = absurd fine
+    args_marked d (u ∷ ts) (p ∷ ps) no_expr us fine pc st = absurd fine

@@ -17,16 +17,16 @@ use Rattle.fit_rules.specs.Fits.{Program}
 use Rattle.fit_rules.specs.Sound.{settled_number, does_load, does_compute, does_compare, does_wrap}
 use Rattle.sound_code.specs.Marked.{typed_if}
 use Rattle.sound_code.specs.Named.{Ready}
-use Rattle.sound_code.proofs.Narrowing.{narrow_itself, narrow_set, narrow_into, get_set, get_other}
-use Rattle.sound_code.proofs.Expressions.{Marked, both, does}
-use Rattle.sound_code.proofs.Statements.{set_mark, storing, keeping, into, slot_high}
+use Rattle.sound_code.proofs.Narrowing.{narrow_itself, narrow_set, narrow_into, get_set, get_other, same_facts}
+use Rattle.sound_code.proofs.Combining.{Keeps, Marked, both, does, into, behind_kept, keeping, set_mark, slot_high, storing}
 
 abbrev IsAny : Shape → Type 0
 IsAny anything = Unit {0}
 IsAny _ = ⊥
 
 module _ (g : Program) (t : TaskCode) (k : ℕ) (w : Where) (m : Mark) (r : Ready w.params w.scope.names m)
-    (ep : w.params ≡ t.params) (s : ℕ) (v : Width) (there : slice_get m.slots s ≡ Some (integer v)) (hi : s < length m.slots) where
+    (ep : w.params ≡ t.params) (s : ℕ) (v : Width) (there : slice_get m.slots s ≡ Some (integer v)) (hi : s < length m.slots)
+    (kept : Keeps m s) where
   abbrev V : Shape
   V = integer v
 
@@ -42,7 +42,7 @@ module _ (g : Program) (t : TaskCode) (k : ℕ) (w : Where) (m : Mark) (r : Read
       (does_load s V (V ∷ []) there (settled_number V (numeric_integer v))))
       (both g t k (does g t k (stacked m (V ∷ V ∷ [])) (computing o v) w.line (V ∷ [])
       (does_compute o v V V [] (numeric_integer v) (numeric_integer v)))
-      (keeping g t k m s V [] w.line r.facts (numeric_integer v) hi there)))
+      (keeping g t k m s V [] w.line kept (numeric_integer v) hi there)))
 
   -- the lesser or the greater of both, by a slot of its own
   module _ (low : spare w 0 < length m.slots) where
@@ -50,7 +50,7 @@ module _ (g : Program) (t : TaskCode) (k : ℕ) (w : Where) (m : Mark) (r : Read
     u = spare w 0
 
     abbrev aside : Mark
-    aside = set_mark g t k m u V []
+    aside = set_mark m u V []
 
     other : u ≡ s → ⊥
     other e = subst IsAny (same_Some anything V (sym (r.free u (omega arith) low) ∙ ap (slice_get m.slots) e ∙ there)) tt
@@ -70,9 +70,9 @@ module _ (g : Program) (t : TaskCode) (k : ℕ) (w : Where) (m : Mark) (r : Read
         let settled = settled_number V (numeric_integer v) in
         let long : length aside.slots ≡ length m.slots = length-set m.slots u V in
         let taken = both g t k (does g t k (stacked aside []) (instr.Load u) w.line (V ∷ []) (does_load u V [] aside_there settled))
-        (keeping g t k aside s V [] w.line r.facts (numeric_integer v) (omega (arith, hi, long)) kept_there) in
+        (keeping g t k aside s V [] w.line kept (numeric_integer v) (omega (arith, hi, long)) kept_there) in
         into g t k (both g t k (wrap_marked a n)
-        (both g t k (storing g t k m u V V [] w.line r.facts (omega (arith, slot_high w.params (length w.scope.names) r.low, ep)) low (λ x y h. h))
+        (both g t k (storing g t k m u V V [] w.line (behind_kept w.params w.scope.names m u r (omega arith)) (omega (arith, slot_high w.params (length w.scope.names) r.low, ep)) low (λ x y h. h))
         (both g t k (does g t k (stacked aside []) (instr.Load u) w.line (V ∷ []) (does_load u V [] aside_there settled))
         (both g t k (does g t k (stacked aside (V ∷ [])) (instr.Load s) w.line (V ∷ V ∷ []) (does_load s V (V ∷ []) kept_there settled))
         (both g t k (does g t k (stacked aside (V ∷ V ∷ [])) (comparing c false) w.line (truth ∷ [])
@@ -81,5 +81,5 @@ module _ (g : Program) (t : TaskCode) (k : ℕ) (w : Where) (m : Mark) (r : Read
           marks = _;
           is = typed_if (stacked aside (truth ∷ [])) truth [] w.line _ _ refl numeric_truth taken.is;
         }))))))
-        (narrow_into t.params aside m [] (narrow_set m.slots m.slots u V (narrow_itself m.slots) (inl (r.free u (omega arith) low))) r.facts r.facts)
+        (narrow_into t.params aside m [] (narrow_set m.slots m.slots u V (narrow_itself m.slots) (inl (r.free u (omega arith) low))) (same_facts _ _ refl))
         (sym long)

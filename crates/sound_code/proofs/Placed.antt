@@ -12,11 +12,11 @@ use Rattle.machine_terms.specs.Jumps.{fetch, may_jump, goes_back}
 use Rattle.code_rules.specs.Pieces.{Piece, past, line_of}
 use Rattle.code_laws.specs.Standing.{Stands}
 use Rattle.code_laws.proofs.Values.{past_later}
-use Rattle.fit_rules.specs.Shapes.{Each, truth}
-use Rattle.fit_rules.specs.Marks.{Mark, Suits, Into, stacked}
+use Rattle.fit_rules.specs.Shapes.{Among, Each, truth, space, region, awaited}
+use Rattle.fit_rules.specs.Marks.{ColoursStand, counts, Mark, Suits, Into, stacked, the_colour, top_colour, topped}
 use Rattle.fit_rules.specs.Fits.{Program}
-use Rattle.fit_rules.specs.Sound.{Effect, RoundNumber, To, ToStored, Sound, straight, stored, jumps, jumps_if_not, jumps_and, jumps_or, counts_numbers, takes_turn, returns, returns_value}
-use Rattle.sound_code.specs.Marked.{Leads, leads_on, leads_storing, leads_nowhere, leads_back, Typed, typed_empty, typed_op, typed_both, typed_into, typed_from, typed_and, typed_or, typed_if, typed_branch, typed_loop, typed_rounds}
+use Rattle.fit_rules.specs.Sound.{Effect, Opens, RoundNumber, RoundPoint, Takes, To, ToStored, Sound, straight, stored, jumps, jumps_if_not, jumps_and, jumps_or, counts_numbers, counts_points, takes_turn, returns, returns_value, colours, awaits, makes_root, makes_call}
+use Rattle.sound_code.specs.Marked.{Leads, leads_on, leads_storing, leads_nowhere, leads_back, leads_coloured, leads_calling, leads_waiting, leads_making, Typed, typed_empty, typed_op, typed_both, typed_into, typed_from, typed_and, typed_or, typed_if, typed_branch, typed_loop, typed_rounds, typed_points}
 
 -- a number is below another one or not
 pub below : (a b : ℕ) → (a < b) ⊎ (b ≤ a)
@@ -68,6 +68,8 @@ module _ (g : Program) (t : TaskCode) (k : ℕ) where
       ∙ behind_both ns two (past body q) ∙ ap (λ y. suc (suc y)) (past_marks _ test ns _ (past body q) h)
   past_marks _ _ _ _ pc (typed_rounds m n c l v a b line body ms ec nc el nl hv r lg f) =
       behind_both ms (stacked m m.stack ∷ []) (suc pc) ∙ ap suc (past_marks n body ms _ (suc pc) f)
+  past_marks _ _ _ _ pc (typed_points m n s c v ptr line body ms ef hv r lg f) =
+      behind_both ms (stacked m m.stack ∷ []) (suc pc) ∙ ap suc (past_marks n body ms _ (suc pc) f)
 
   pub back_at : (m : Mark) (p : Piece) (ms ns : List Mark) (n : Mark) (pc : ℕ) → Typed g t k m p ms n →
       MarksAt pc (ms ++ ns) → MarksAt (past p pc) ns
@@ -90,6 +92,10 @@ module _ (g : Program) (t : TaskCode) (k : ℕ) where
   led_long _ _ _ (leads_storing m n s a ss e l h lg) = lg
   led_long _ _ _ (leads_nowhere m n lg) = lg
   led_long _ _ _ (leads_back m n a ss e q h lg) = lg
+  led_long _ _ _ (leads_coloured m z s h) = refl
+  led_long _ _ _ (leads_calling m task n callee args rest e p b tk o) = refl
+  led_long _ _ _ (leads_waiting m i s e n h) = refl
+  led_long _ _ _ (leads_making m sp c ss e q l) = refl
 
   pub long_marks : (c : ℕ) (m : Mark) (p : Piece) (ms : List Mark) (n : Mark) → Typed g t k m p ms n →
       length m.slots ≡ c → Long c ms n
@@ -129,6 +135,9 @@ module _ (g : Program) (t : TaskCode) (k : ℕ) where
   long_marks c _ _ _ _ (typed_rounds m n q l v a b line body ms ec nc el nl hv r lg f) e =
       let one = long_marks c n body ms _ f (lg ∙ e) in
       record { each = (e, long_both c ms (stacked m m.stack ∷ []) one.each (e, tt)); last = e }
+  long_marks c _ _ _ _ (typed_points m n s q v ptr line body ms ef hv r lg f) e =
+      let one = long_marks c n body ms _ f (lg ∙ e) in
+      record { each = (e, long_both c ms (stacked m m.stack ∷ []) one.each (e, tt)); last = e }
 
   -- ---- where a piece begins
 
@@ -160,6 +169,8 @@ module _ (g : Program) (t : TaskCode) (k : ℕ) where
   begins _ _ _ _ pc (typed_loop m n a line test body ms ns f w e nm i) h to =
       (omega (arith, to.0, past_later body (suc (suc pc)), past_later test (past body (suc (suc pc)))), into_same _ _ h.0)
   begins _ _ _ _ pc (typed_rounds m n c l v a b line body ms ec nc el nl hv r lg f) h to =
+      (omega (arith, to.0, past_later body (suc pc)), into_same _ _ h.0)
+  begins _ _ _ _ pc (typed_points m n s c v ptr line body ms ef hv r lg f) h to =
       (omega (arith, to.0, past_later body (suc pc)), into_same _ _ h.0)
 
   -- ---- lines
@@ -213,6 +224,18 @@ module _ (g : Program) (t : TaskCode) (k : ℕ) where
   led _ _ _ pc e (leads_nowhere m n lg) to = returns
   led _ _ _ pc e (leads_back m n a ss es nm h lg) to =
       returns_value a ss (at_mark pc m e (λ y. y.stack ≡ a ∷ ss) es) nm h
+  led _ _ _ pc e (leads_coloured m z s h) to = colours z s h
+      (at_mark pc m e (λ y. To g t k (topped y (s ∷ y.stack) (top_colour (the_colour z))) (suc pc)) to)
+  led _ _ _ pc e (leads_calling m task n callee args rest there p b tk o) to = makes_call task n callee args rest there p b
+      (at_mark pc m e (λ y. Takes n y.stack [] args rest) tk) (at_mark pc m e (λ y. Opens g t y task callee args) o)
+      (at_mark pc m e (λ y. To g t k (stacked y (awaited (g.results task) ∷ rest)) (suc pc)) to)
+  led _ _ _ pc e (leads_waiting m i s there n h) to = awaits i s
+      (at_mark pc m e (λ y. slice_get y.slots i ≡ Some (awaited s)) there) n
+      (at_mark pc m e (λ y. Each (ColoursStand y.slots) y.facts) h)
+      (at_mark pc m e (λ y. To g t k (stacked y (s ∷ y.stack)) (suc pc)) to)
+  led _ _ _ pc e (leads_making m sp c ss es there l) to = makes_root sp c ss
+      (at_mark pc m e (λ y. y.stack ≡ space ∷ ss) es) there l
+      (at_mark pc m e (λ y. To g t k (stacked y (region (Some sp) true ∷ ss)) (suc pc)) to)
 
   -- ---- jumps back
 
@@ -226,6 +249,14 @@ module _ (g : Program) (t : TaskCode) (k : ℕ) where
   head_back : (from to line c l v exit : ℕ) → fetch t.body to ≡ Some (line_of (instr.NextNumber c l v exit) line) →
       from < exit → may_jump t.body from to ≡ true
   head_back from to line c l v exit e h = of_test (nat_lt from to)
+    where
+      of_test : (b : Bool) → elim b [ true ↦ true | false ↦ goes_back from (fetch t.body to) ] ≡ true
+      of_test true = refl
+      of_test false = ap (goes_back from) e ∙ lt-ltb from exit h
+
+  head_point_back : (from to line s c v : ℕ) (ptr : Bool) (exit : ℕ) →
+      fetch t.body to ≡ Some (line_of (instr.NextPoint s c v ptr exit) line) → from < exit → may_jump t.body from to ≡ true
+  head_point_back from to line s c v ptr exit e h = of_test (nat_lt from to)
     where
       of_test : (b : Bool) → elim b [ true ↦ true | false ↦ goes_back from (fetch t.body to) ] ≡ true
       of_test true = refl
@@ -330,5 +361,24 @@ module _ (g : Program) (t : TaskCode) (k : ℕ) where
       (joined (suc pc) q _ (are_sound n body ms o (suc pc) f st.1 (marks_front ms (o ∷ []) (suc pc) h.1) end_body)
       (one_more q _
       (at_line q _ line st.2 (jumps pc (head_back q pc line c l v (suc q) st.0 (omega arith))
+      (at_mark q o hb.0 (λ y. To g t k (stacked y y.stack) pc) (omega (arith, to.0, front), into_same o _ h.0))))
+      (none_left (suc q))))
+  are_sound _ _ _ _ pc (typed_points m n s c v ptr line body ms ef hv r lg f) st h to =
+      let q = past body (suc pc) in
+      let o = stacked m m.stack in
+      let front : suc pc ≤ q = past_later body (suc pc) in
+      let hb = back_at n body ms (o ∷ []) o (suc pc) f h.1 in
+      let end_body : To g t k o q = (omega (arith, to.0), into_same o _ hb.0) in
+      let to_body = begins n body ms o (suc pc) f (marks_front ms (o ∷ []) (suc pc) h.1) end_body in
+      one_more pc _
+      (at_line pc _ line st.0 (counts_points s c v ptr (suc q)
+      (at_mark pc o h.0 (λ y. Among y.facts (counts c s)) ef)
+      (at_mark pc o h.0 (λ y. v < length y.slots) hv) (omega (arith, front))
+      (at_mark pc o h.0 (λ y. To g t k (stacked y y.stack) (suc q)) to) to_body.0
+      (at_mark pc o h.0 (λ y. RoundPoint g t s c v ptr y (g.marks k (suc pc)))
+      (λ x vs st u d i p es ec ep. to_body.1 x _ st (r x vs st u d i p es ec ep)))))
+      (joined (suc pc) q _ (are_sound n body ms o (suc pc) f st.1 (marks_front ms (o ∷ []) (suc pc) h.1) end_body)
+      (one_more q _
+      (at_line q _ line st.2 (jumps pc (head_point_back q pc line s c v ptr (suc q) st.0 (omega arith))
       (at_mark q o hb.0 (λ y. To g t k (stacked y y.stack) pc) (omega (arith, to.0, front), into_same o _ h.0))))
       (none_left (suc q))))

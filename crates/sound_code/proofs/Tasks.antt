@@ -1,73 +1,219 @@
--- The code that a task of numbers and truths is compiled to is sound.
-use Rattle.std.proofs.Common.{◌≡◌, zero, ℕ, suc, ◌<◌, ◌≤◌, ◌^◌, List, [], ◌∷◌, ◌++◌, refl, arith}
-use Rattle.std.specs.Prelude.{length, get_or}
+-- The code that tasks are compiled to is sound, with marks that are chosen task by task.
+use Rattle.std.proofs.Common.{◌≡◌, ◌⊎◌, ⊎_elim, ℕ, zero, suc, ◌<◌, ◌≤◌, ◌-◌, ◌^◌, List, [], ◌∷◌, ◌++◌, map, Option, Some, None, refl, sym, ap, ◌∙◌, subst, arith, append_assoc, length-append}
+use Rattle.std.specs.Prelude.{length, get_or, option_map, replicate, slice_get}
+use Rattle.std.proofs.lemmas.List.{length-map, length-replicate}
+use Rattle.std.proofs.lemmas.Option.{get_or_from_slice_get, none-some, same_Some, slice_get-map}
+use Rattle.regent_tree.specs.declared.typing.Bound.{Bound}
+use Rattle.regent_tree.specs.declared.typing.StaticType.{StaticType}
+use Rattle.regent_tree.specs.Scopes.{scope_of}
+use Rattle.regent_tree.specs.StaticTypes.{no_task}
 use Rattle.regent_tree.specs.Syntax.{Tree, TaskTree}
+use Rattle.regent_tree.specs.Typing.{param_types, result_type}
 use Rattle.task_code.specs.declared.code.TaskCode.{TaskCode}
-use Rattle.task_code.specs.declared.instr.Instr.TheVariants as instr
-use Rattle.code_rules.specs.Pieces.{Piece, op, ◌⨟◌, past, lines}
-use Rattle.code_rules.specs.Programs.{body_piece, task_code, place_of}
+use Rattle.code_rules.specs.Instructions.{tasks_of}
+use Rattle.code_rules.specs.Pieces.{lines}
+use Rattle.code_rules.specs.Programs.{body_piece, code_of, task_code, place_of}
 use Rattle.code_rules.specs.Statements.{block_code}
-use Rattle.code_laws.specs.Scalars.{IsTypedBlock}
-use Rattle.code_laws.proofs.Places.{past_after, stands_alone}
-use Rattle.fit_rules.specs.Shapes.{Each}
-use Rattle.fit_rules.specs.Marks.{Mark, stacked}
+use Rattle.code_laws.specs.Programs.{task_setting}
+use Rattle.code_laws.specs.Steps.{Forms}
+use Rattle.code_laws.specs.Typed.{IsTypedBlock}
+use Rattle.code_laws.proofs.Openings.{AreFrom, fits_slots, least_slots, params_from, params_length, types_in, types_cons, types_length}
+use Rattle.code_laws.proofs.Places.{stands_alone}
+use Rattle.fit_rules.specs.Shapes.{Each, Shape, anything}
+use Rattle.fit_rules.specs.Marks.{Into, Mark, stacked}
 use Rattle.fit_rules.specs.Fits.{Program}
-use Rattle.fit_rules.specs.Sound.{To, Valid}
-use Rattle.sound_code.specs.Named.{shape_of, HasSlots, Ready}
-use Rattle.sound_code.proofs.Placed.{long_marks, MarksAt, begins, marks_front, back_at, into_same}
-use Rattle.sound_code.proofs.Remarked.{marks_listed, remarked, typed_remarked}
+use Rattle.fit_rules.specs.Sound.{IsSound}
+use Rattle.sound_code.specs.Marked.{Typed}
+use Rattle.sound_code.specs.Named.{shape_of, slot_at, AreNamed, HasSlots, Ready}
+use Rattle.sound_code.proofs.Asked.{opening_mark, Known}
 use Rattle.sound_code.proofs.Blocks.{block_marked}
-use Rattle.sound_code.proofs.Validity.{after_long, valid_of}
+use Rattle.sound_code.proofs.Calling.{types_many}
+use Rattle.sound_code.proofs.Firsts.{begins_with}
+use Rattle.sound_code.proofs.Placed.{long_marks, MarksAt}
+use Rattle.sound_code.proofs.Remarked.{Begins, marks_listed, remarked, typed_remarked}
+use Rattle.sound_code.proofs.Validity.{valid_of}
 
--- the place of the last return is in the body
-inside_of : (p : Piece) (line : ℕ) → past p 0 < length (lines (p ⨟ op instr.Return line) 0)
-inside_of p line =
-    let a = after_long (lines (p ⨟ op instr.Return line) 0) 0 in
-    let b = past_after (p ⨟ op instr.Return line) 0 in
-    omega (arith, a, b)
+-- ---- the mark in which a body begins
 
--- The marks of a task's places, and that its code is valid with them; the first mark is one that
--- suits what the opening mark says.
-pub record ValidTask (g : Program) (t : TaskCode) (k : ℕ) (m : Mark) : Type 0 where
-  pub marks : List Mark
-  pub valid : Valid (remarked g marks m) t k
-  pub opening : To (remarked g marks m) t k (stacked m []) 0
-  pub slots : (pc : ℕ) → length ((remarked g marks m).marks k pc).slots ≡ length m.slots
+at_seam : (xs ys : List StaticType) (y : StaticType) (zs : List Shape) →
+    slice_get (map shape_of (xs ++ y ∷ ys) ++ zs) (length xs) ≡ Some (shape_of y)
+at_seam [] ys y zs = refl
+at_seam (x ∷ xs) ys y zs = at_seam xs ys y zs
 
--- a mark of a list, or the other one
-long_at : (c : ℕ) (ms : List Mark) (d : Mark) (pc : ℕ) → Each (λ y. length y.slots ≡ c) ms → length d.slots ≡ c →
-    length (get_or ms pc d).slots ≡ c
-long_at c [] d pc h e = e
-long_at c (m ∷ ms) d zero h e = h.0
-long_at c (m ∷ ms) d (suc pc) h e = long_at c ms d pc h.1 e
+named_open : (params : ℕ) (bs : List Bound) (more : List StaticType) (blanks : List Shape) → AreFrom 0 bs →
+    length bs ≤ params → AreNamed params (map shape_of (types_in bs ++ more) ++ blanks) bs
+named_open params [] more blanks a l = tt
+named_open params (b ∷ bs) more blanks a l =
+    let eq : types_in (b ∷ bs) ++ more ≡ types_in bs ++ b.static_type ∷ more =
+    ap (λ ts. ts ++ more) (types_cons b bs) ∙ append_assoc (types_in bs) (b.static_type ∷ []) more in
+    let place : slot_at params b.place ≡ length (types_in bs) = omega (arith, a.0, l, types_length bs) in
+    subst (λ ts. AreNamed params (map shape_of ts ++ blanks) (b ∷ bs)) (sym eq) (
+      omega (arith, a.0),
+      ap (slice_get (map shape_of (types_in bs ++ b.static_type ∷ more) ++ blanks)) place ∙ at_seam (types_in bs) more b.static_type blanks,
+      named_open params bs (b.static_type ∷ more) blanks a.1 (omega (arith, l)),
+    )
 
-long_last : (c : ℕ) (ms : List Mark) (n : Mark) → Each (λ y. length y.slots ≡ c) ms → length n.slots ≡ c →
-    Each (λ y. length y.slots ≡ c) (ms ++ n ∷ [])
-long_last c [] n h e = (e, tt)
-long_last c (m ∷ ms) n h e = (h.0, long_last c ms n h.1 e)
+free_behind : (ss : List Shape) (n s : ℕ) → length ss ≤ s → s < length (ss ++ replicate n anything) →
+    slice_get (ss ++ replicate n anything) s ≡ Some anything
+free_behind [] zero s h l = absurd (omega (arith, l))
+free_behind [] (suc n) zero h l = refl
+free_behind [] (suc n) (suc s) h l = free_behind [] n s (omega arith) (omega (arith, l))
+free_behind (x ∷ ss) n zero h l = absurd (omega (arith, h))
+free_behind (x ∷ ss) n (suc s) h l = free_behind ss n s (omega (arith, h)) (omega (arith, l))
 
-pub compiled_valid : (g : Program) (tree : Tree) (task : TaskTree) (k : ℕ) (m : Mark) →
-    IsTypedBlock (place_of tree task) task.body → Ready (length task.params) (place_of tree task).scope.names m →
-    g.results k ≡ shape_of (place_of tree task).result → HasSlots (task_code tree task) (length m.slots) →
-    length (task_code tree task).body ≤ 2 ^ 32 → ValidTask g (task_code tree task) k m
-compiled_valid g tree task k m typed ready er have short =
-    let t = task_code tree task in
-    let w = place_of tree task in
-    let p = block_code w task.body in
-    let f = block_marked g t k (length m.slots) have w m task.body typed
-    (record { ready = ready; params = refl; result = er; room = refl }) 0 (stands_alone (body_piece tree task) short).0 in
-    let n = stacked f.next [] in
-    let all : List Mark = f.is.marks ++ n ∷ [] in
-    let h = typed_remarked g t k all m (stacked m []) p f.is.marks n f.is.is in
-    let listed : MarksAt (remarked g all m) t k 0 all =
-    marks_listed (remarked g all m) t k m [] all (λ pc. refl) in
-    let last = back_at (remarked g all m) t k (stacked m []) p f.is.marks (n ∷ []) n 0 h listed in
-    let long = long_marks g t k (length m.slots) (stacked m []) p f.is.marks n f.is.is refl in
-    record {
-      marks = all;
-      slots = λ pc. long_at (length m.slots) all m pc (long_last (length m.slots) f.is.marks n long.each long.last) refl;
-      valid = valid_of (remarked g all m) t k (stacked m []) n p 0 f.is.marks h refl short listed;
-      opening = begins (remarked g all m) t k (stacked m []) p f.is.marks n 0 h
-          (marks_front (remarked g all m) t k f.is.marks (n ∷ []) 0 listed)
-          (inside_of p 0, into_same (remarked g all m) t k n _ last.0);
-    }
+append_none : {A : Type 0} (xs : List A) → xs ++ [] ≡ xs
+append_none [] = refl
+append_none (x ∷ xs) = ap (λ l. x ∷ l) (append_none xs)
+
+module _ (tree : Tree) where
+  names_many : (t : TaskTree) → length (scope_of tree t).names ≡ length t.params
+  names_many t = params_length tree t.params 0 t.params
+
+  slots_many : (t : TaskTree) → length (opening_mark tree t).slots ≡ (task_code tree t).slots
+  slots_many t =
+      let blanks = (task_code tree t).slots - length t.params in
+      length-append (map shape_of (param_types tree t)) (replicate blanks anything)
+      ∙ omega (
+        arith,
+        length-map (param_types tree t) shape_of,
+        length-replicate blanks anything,
+        types_many tree t,
+        least_slots (length t.params) (task_code tree t).body,
+      )
+
+  opening_ready : (t : TaskTree) → Ready (length t.params) (scope_of tree t).names (opening_mark tree t)
+  opening_ready t =
+      let blanks = (task_code tree t).slots - length t.params in
+      record {
+        named = subst (λ y. AreNamed (length t.params) (map shape_of y ++ replicate blanks anything) (scope_of tree t).names)
+            (append_none (param_types tree t)) (named_open (length t.params) (scope_of tree t).names [] (replicate blanks anything)
+            (params_from tree t.params 0 t.params) (omega (arith, names_many t)));
+        free = λ s h l. free_behind (map shape_of (param_types tree t)) blanks s
+            (omega (arith, h, names_many t, length-map (param_types tree t) shape_of, types_many tree t)) l;
+        facts = tt;
+        low = omega (arith, names_many t);
+      }
+
+  -- ---- the program before marks are chosen
+
+  abbrev pub task_at : ℕ → TaskTree
+  task_at k = get_or (tasks_of tree) k no_task
+
+  abbrev pub bare : Program
+  bare = record {
+    code = code_of tree;
+    positions = λ sp f. 0;
+    results = λ k. shape_of (result_type tree (task_at k).result);
+    marks = λ k pc. opening_mark tree (task_at k);
+  }
+
+  pub is_at : (k : ℕ) (t : TaskTree) → slice_get (tasks_of tree) k ≡ Some t → task_at k ≡ t
+  is_at k t e = get_or_from_slice_get (tasks_of tree) k t no_task e
+
+  bare_known : Known bare tree
+  bare_known = record {
+    code = refl;
+    results = λ k t e. ap (λ y. shape_of (result_type tree y.result)) (is_at k t e);
+    begins = λ k t e. ap (opening_mark tree) (is_at k t e);
+  }
+
+  -- marks of a task's body, and of the place behind it
+  pub record Treated (k : ℕ) (t : TaskTree) (ms : List Mark) : Type 0 where
+    pub front : List Mark
+    pub last : Mark
+    pub are : ms ≡ front ++ last ∷ []
+    pub typed : Typed bare (task_code tree t) k (opening_mark tree t) (block_code (place_of tree t) t.body) front last
+    pub small : length (task_code tree t).body ≤ 2 ^ 32
+
+  pub record HasMarks (k : ℕ) (t : TaskTree) : Type 0 where
+    pub marks : List Mark
+    pub treated : Treated k t marks
+
+  pub treat : (forms : Forms) (k : ℕ) (t : TaskTree) → slice_get (tasks_of tree) k ≡ Some t →
+      IsTypedBlock forms (place_of tree t) t.body → length (lines (body_piece tree t) 0) ≤ 2 ^ 32 → HasMarks k t
+  treat forms k t there typed small =
+      let code = task_code tree t in
+      let m = opening_mark tree t in
+      let have : HasSlots code code.slots = fits_slots (task_setting forms tree 0 0 0 [] t) tree t refl in
+      let f = block_marked bare code k code.slots have forms (place_of tree t) m t.body typed
+      (record {
+        ready = opening_ready t;
+        params = refl;
+        result = ap (λ y. shape_of (result_type tree y.result)) (is_at k t there);
+        room = slots_many t;
+        known = bare_known;
+      }) 0 (stands_alone (body_piece tree t) small).0 in
+      record {
+        marks = f.is.marks ++ stacked f.next [] ∷ [];
+        treated = record { front = f.is.marks; last = stacked f.next []; are = refl; typed = f.is.is; small = small };
+      }
+
+  -- ---- the program with its marks
+
+  -- the marks of each task: those of a list, and else the one in which it begins
+  abbrev pub marks_of : (ℕ → List Mark) → ℕ → ℕ → Mark
+  marks_of lists k pc = get_or (lists k) pc (opening_mark tree (task_at k))
+
+  -- a task has marks, or none
+  abbrev pub IsMarked : (ℕ → List Mark) → Type 0
+  IsMarked lists = (k : ℕ) (t : TaskTree) → slice_get (tasks_of tree) k ≡ Some t → (lists k ≡ []) ⊎ Treated k t (lists k)
+
+  -- a task's code is there
+  pub record TaskOf (k : ℕ) (callee : TaskCode) : Type 0 where
+    pub task : TaskTree
+    pub there : slice_get (tasks_of tree) k ≡ Some task
+    pub is : task_code tree task ≡ callee
+
+  task_of : (k : ℕ) (callee : TaskCode) → slice_get (code_of tree).tasks k ≡ Some callee → TaskOf k callee
+  task_of k callee e = found (slice_get (tasks_of tree) k) refl (sym (slice_get-map (task_code tree) (tasks_of tree) k) ∙ e)
+    where
+      found : (o : Option TaskTree) → slice_get (tasks_of tree) k ≡ o → option_map (task_code tree) o ≡ Some callee → TaskOf k callee
+      found None q e = absurd (none-some callee e)
+      found (Some t) q e = record { task = t; there = q; is = same_Some _ _ e }
+
+  pub begins : (lists : ℕ → List Mark) → IsMarked lists → Begins bare (marks_of lists)
+  begins lists marked k callee e =
+      let o = task_of k callee e in
+      ⊎_elim
+      (λ none. subst (λ ms. Into callee.params (opening_mark tree (task_at k)) (get_or ms 0 (opening_mark tree (task_at k)))) (sym none)
+      (λ x vs st s. s))
+      (λ (h : Treated k o.task (lists k)). subst (λ (c : TaskCode). Into c.params (opening_mark tree (task_at k)) (marks_of lists k 0)) o.is
+      (subst (λ ms. Into (task_code tree o.task).params (opening_mark tree (task_at k)) (get_or ms 0 (opening_mark tree (task_at k)))) (sym h.are)
+      (subst (λ y. Into (task_code tree o.task).params y (get_or (h.front ++ h.last ∷ []) 0 (opening_mark tree (task_at k))))
+      (ap (opening_mark tree) (sym (is_at k o.task o.there)))
+      (begins_with bare (task_code tree o.task) k (opening_mark tree (task_at k)) (opening_mark tree o.task) _ h.front h.last h.typed))))
+      (marked k o.task o.there)
+
+  -- a mark of a list, or the other one
+  long_at : (c : ℕ) (ms : List Mark) (d : Mark) (pc : ℕ) → Each (λ y. length y.slots ≡ c) ms → length d.slots ≡ c →
+      length (get_or ms pc d).slots ≡ c
+  long_at c [] d pc h e = e
+  long_at c (m ∷ ms) d zero h e = h.0
+  long_at c (m ∷ ms) d (suc pc) h e = long_at c ms d pc h.1 e
+
+  long_last : (c : ℕ) (ms : List Mark) (n : Mark) → Each (λ y. length y.slots ≡ c) ms → length n.slots ≡ c →
+      Each (λ y. length y.slots ≡ c) (ms ++ n ∷ [])
+  long_last c [] n h e = (e, tt)
+  long_last c (m ∷ ms) n h e = (h.0, long_last c ms n h.1 e)
+
+  pub sound_task : (lists : ℕ → List Mark) → IsMarked lists → (k : ℕ) (t : TaskTree) → slice_get (tasks_of tree) k ≡ Some t →
+      Treated k t (lists k) → IsSound (remarked bare (marks_of lists)) (task_code tree t) k
+  sound_task lists marked k t there h =
+      let code = task_code tree t in
+      let g = remarked bare (marks_of lists) in
+      let m = opening_mark tree t in
+      let p = block_code (place_of tree t) t.body in
+      let typed = typed_remarked bare code k (marks_of lists) (begins lists marked) m p h.front h.last h.typed in
+      let listed : MarksAt g code k 0 (h.front ++ h.last ∷ []) =
+      marks_listed g code k (opening_mark tree (task_at k)) [] (h.front ++ h.last ∷ [])
+      (λ pc. ap (λ l. get_or l pc (opening_mark tree (task_at k))) h.are) in
+      let long = long_marks g code k code.slots m p h.front h.last typed (slots_many t) in
+      let first : length (opening_mark tree (task_at k)).slots ≡ code.slots =
+      ap (λ y. length (opening_mark tree y).slots) (is_at k t there) ∙ slots_many t in
+      record {
+        there = slice_get-map (task_code tree) (tasks_of tree) k ∙ ap (option_map (task_code tree)) there;
+        short = h.small;
+        valid = valid_of g code k m h.last p 0 h.front typed refl h.small listed;
+        slots = λ pc. long_at code.slots (lists k) (opening_mark tree (task_at k)) pc
+            (subst (Each (λ y. length y.slots ≡ code.slots)) (sym h.are) (long_last code.slots h.front h.last long.each long.last)) first;
+      }

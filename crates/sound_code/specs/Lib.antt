@@ -1,3 +1,3 @@
 pub mod Named
 pub mod Marked
-pub mod Scalars
+pub mod Programs

@@ -1,13 +1,14 @@
 -- Pieces of code with a mark for each line: the code leads from mark to mark.
-use Rattle.std.specs.Prelude.{◌≡◌, ℕ, ◌<◌, ℤ, List, [], ◌∷◌, ◌++◌, length, Some, slice_get}
+use Rattle.std.specs.Prelude.{◌≡◌, ℕ, ◌<◌, ◌≤◌, ℤ, Bool, true, List, [], ◌∷◌, ◌++◌, length, Some, slice_get}
 use Rattle.task_code.specs.declared.code.TaskCode.{TaskCode}
 use Rattle.task_code.specs.declared.instr.Instr.{Instr}
 use Rattle.task_code.specs.declared.instr.Instr.TheVariants as instr
 use Rattle.code_rules.specs.Pieces.{Piece, empty, op, ◌⨟◌, over, branch, loop, rounds}
-use Rattle.fit_rules.specs.Shapes.{Shape, truth, Numeric, NumberIs}
-use Rattle.fit_rules.specs.Marks.{Mark, Into, Stores, stacked}
+use Rattle.task_code.specs.declared.code.SpaceCode.{SpaceCode}
+use Rattle.fit_rules.specs.Shapes.{Among, Each, Shape, truth, space, region, awaited, Numeric, NumberIs}
+use Rattle.fit_rules.specs.Marks.{ColoursStand, counts, Mark, Into, Stores, stacked, the_colour, top_colour, topped}
 use Rattle.fit_rules.specs.Fits.{Program}
-use Rattle.fit_rules.specs.Sound.{Effect, RoundNumber}
+use Rattle.fit_rules.specs.Sound.{Effect, Opens, RoundNumber, RoundPoint, Takes}
 
 module _ (g : Program) (t : TaskCode) (k : ℕ) where
   -- an instruction leads from a mark to a mark; behind a return any mark may stand
@@ -21,6 +22,19 @@ module _ (g : Program) (t : TaskCode) (k : ℕ) where
     leads_back : (m n : Mark) (a : Shape) (ss : List Shape) → m.stack ≡ a ∷ ss → Numeric a →
         ((z : ℤ) → NumberIs a z → NumberIs (g.results k) z) → length n.slots ≡ length m.slots →
         Leads m instr.ReturnValue n
+    -- a number that is known
+    leads_coloured : (m : Mark) (z : ℤ) (s : Shape) → NumberIs s z →
+        Leads m (instr.Num z) (topped m (s ∷ m.stack) (top_colour (the_colour z)))
+    -- a call, whose result may be pending, and where it is waited for
+    leads_calling : (m : Mark) (task n : ℕ) (callee : TaskCode) (args rest : List Shape) →
+        slice_get g.code.tasks task ≡ Some callee → callee.params ≡ n → 0 < length callee.body →
+        Takes n m.stack [] args rest → Opens g t m task callee args →
+        Leads m (instr.Call task n) (stacked m (awaited (g.results task) ∷ rest))
+    leads_waiting : (m : Mark) (i : ℕ) (s : Shape) → slice_get m.slots i ≡ Some (awaited s) → Numeric s →
+        Each (ColoursStand m.slots) m.facts → Leads m (instr.Load i) (stacked m (s ∷ m.stack))
+    leads_making : (m : Mark) (sp : ℕ) (c : SpaceCode) (ss : List Shape) → m.stack ≡ space ∷ ss →
+        slice_get g.code.spaces sp ≡ Some c → length c.fields ≤ 256 →
+        Leads m (instr.NewRoot sp) (stacked m (region (Some sp) true ∷ ss))
 
   -- A piece leads from a mark to a mark, with a mark for each of its lines.
   pub data Typed : Mark → Piece → List Mark → Mark → Type 0 where
@@ -58,4 +72,9 @@ module _ (g : Program) (t : TaskCode) (k : ℕ) where
         slice_get m.slots l ≡ Some b → Numeric b → v < length m.slots →
         RoundNumber g t c l v (stacked m m.stack) n → length n.slots ≡ length m.slots → Typed n body ms (stacked m m.stack) →
         Typed (stacked m m.stack) (rounds (instr.NextNumber c l v) line body)
+        (stacked m m.stack ∷ (ms ++ stacked m m.stack ∷ [])) (stacked m m.stack)
+    typed_points : (m n : Mark) (s c v : ℕ) (ptr : Bool) (line : ℕ) (body : Piece) (ms : List Mark) →
+        Among m.facts (counts c s) → v < length m.slots →
+        RoundPoint g t s c v ptr (stacked m m.stack) n → length n.slots ≡ length m.slots → Typed n body ms (stacked m m.stack) →
+        Typed (stacked m m.stack) (rounds (instr.NextPoint s c v ptr) line body)
         (stacked m m.stack ∷ (ms ++ stacked m m.stack ∷ [])) (stacked m m.stack)

@@ -1,13 +1,27 @@
-//! Compiled code is sound: numbers, truths and control.
+//! Compiled code is sound: numbers, truths and control, roots and calls.
 //!
 //! The laws are stated under specs/. Each function has an empty body; its contract is a law.
 #![tactic(auto)]
 
-ghost use Rattle.sound_code.specs.Scalars.{ScalarProgramsAreSound, ScalarTasksAreSound};
+ghost use Rattle.sound_code.specs.Programs.{CallsAreSound, RegionTasksAreSound, ScalarProgramsAreSound, ScalarTasksAreSound};
 
 /// Where the entry task's body is typed and treats scalars alone, its code is sound, and the frame in which
 /// its run begins fits, whatever its inputs and turns; and so it is of each accepted program over scalars.
 pub fn scalar_code_is_sound()
     ensures tasks { ScalarTasksAreSound }
     ensures programs { ScalarProgramsAreSound }
+{}
+
+/// So it is where the task also makes roots, goes through index spaces, and reads, writes, reduces and fills fields
+/// at points of regions.
+#[tactic(auto, using(crate::proofs::Openings::region_tasks_are_sound))]
+pub fn region_code_is_sound()
+    ensures { RegionTasksAreSound }
+{}
+
+/// Where all tasks are typed, and call others that take and give numbers and truths, the code of each is sound.
+/// The frame of a call fits when it opens, whatever its arguments and turns, and so does that in which a run begins.
+#[tactic(auto, using(crate::proofs::Openings::calls_are_sound))]
+pub fn code_with_calls_is_sound()
+    ensures { CallsAreSound }
 {}

@@ -1,0 +1,186 @@
+-- Code of calls has marks: the arguments are pushed one after the other, and the frame that a call opens suits the
+-- mark in which the task's body begins.
+use Rattle.std.proofs.Common.{◌≡◌, inl, ℕ, zero, suc, ◌<◌, ◌-◌, ◌+◌, pos, List, [], ◌∷◌, ◌++◌, map, Some, refl, sym, ap, ◌∙◌, subst, arith, length-append}
+use Rattle.std.specs.Prelude.{slice_get, length, replicate}
+use Rattle.std.proofs.lemmas.List.{length-map}
+use Rattle.regent_tree.specs.declared.typing.StaticType.{StaticType}
+use Rattle.regent_tree.specs.Scopes.{scope_of}
+use Rattle.regent_tree.specs.Syntax.{Name, TaskTree, Tree, Expressions, no_expr, an_expr}
+use Rattle.regent_tree.specs.StaticTypes.{task_named}
+use Rattle.regent_tree.specs.Typing.{param_types}
+use Rattle.region_tree.specs.Requirements.{IsWithin}
+use Rattle.task_code.specs.declared.code.TaskCode.{TaskCode}
+use Rattle.task_code.specs.declared.instr.Instr.TheVariants as instr
+use Rattle.machine_terms.specs.declared.value.Value.{Value}
+use Rattle.machine_terms.specs.declared.value.Value.TheVariants.{Number}
+use Rattle.machine_terms.specs.Pointers.{region_in}
+use Rattle.code_rules.specs.Expressions.{count}
+use Rattle.code_rules.specs.Instructions.{one, place_of_task, tasks_of}
+use Rattle.code_rules.specs.Pieces.{Piece, op, ◌⨟◌, past, lines}
+use Rattle.code_rules.specs.Programs.{place_of, task_code}
+use Rattle.code_rules.specs.Statements.{block_code}
+use Rattle.code_rules.specs.Slots.{Where}
+use Rattle.code_laws.specs.Simple.{AreAlike, two_integers, two_truths, IsScalar, scalar_integer, scalar_truth}
+use Rattle.code_laws.specs.Steps.{Forms}
+use Rattle.code_laws.specs.Typed.{ArePassed, IsCalled}
+use Rattle.code_laws.proofs.Calling.{code_there}
+use Rattle.code_laws.proofs.Openings.{params_length, types_length}
+use Rattle.fit_rules.specs.Shapes.{Each, Shape, anything, awaited, Numeric, numeric_integer, numeric_truth, World, Is, is_anything, is_number, Are, are_none, are_more}
+use Rattle.fit_rules.specs.Marks.{Mark, Suits, stacked}
+use Rattle.fit_rules.specs.Fits.{claims, declared_claims, Program}
+use Rattle.fit_rules.specs.Ends.{called, IsNeeded}
+use Rattle.fit_rules.specs.Sound.{Opens, Takes, takes_none, takes_more, settled_number}
+use Rattle.fit_laws.proofs.Lookup.{as_long}
+use Rattle.sound_code.specs.Marked.{leads_calling, typed_op}
+use Rattle.sound_code.specs.Named.{shape_of}
+use Rattle.sound_code.proofs.Asked.{opening_mark, Known}
+use Rattle.sound_code.proofs.Combining.{Marked}
+
+pub scalar_numeric : (t : StaticType) → IsScalar t → Numeric (shape_of t)
+scalar_numeric _ (scalar_integer w) = numeric_integer w
+scalar_numeric _ scalar_truth = numeric_truth
+
+pub alike_first : (t u : StaticType) → AreAlike t u → IsScalar t
+alike_first _ _ (two_integers a b) = scalar_integer a
+alike_first _ _ two_truths = scalar_truth
+
+pub alike_second : (t u : StaticType) → AreAlike t u → IsScalar u
+alike_second _ _ (two_integers a b) = scalar_integer b
+alike_second _ _ two_truths = scalar_truth
+
+-- ---- values that are pushed one after the other
+
+abbrev pub onto : List Shape → List Shape → List Shape
+onto [] us = us
+onto (s ∷ ss) us = onto ss (s ∷ us)
+
+append_none : {A : Type 0} (xs : List A) → xs ++ [] ≡ xs
+append_none [] = refl
+append_none (x ∷ xs) = ap (λ l. x ∷ l) (append_none xs)
+
+takes_onto : (ss us acc args rest : List Shape) (n : ℕ) → Each Numeric ss → Takes n us (ss ++ acc) args rest →
+    Takes (length ss + n) (onto ss us) acc args rest
+takes_onto [] us acc args rest n h t = subst (λ y. Takes y us acc args rest) (omega arith) t
+takes_onto (s ∷ ss) us acc args rest n h t =
+    let same : length ss + suc n ≡ suc (length ss) + n = omega arith in
+    subst (λ y. Takes y (onto ss (s ∷ us)) acc args rest) same
+    (takes_onto ss (s ∷ us) acc args rest (suc n) h.1 (takes_more n s us (ss ++ acc) args rest (settled_number s h.0) t))
+
+pub takes_pushed : (ss us : List Shape) → Each Numeric ss → Takes (length ss) (onto ss us) [] ss us
+takes_pushed ss us h =
+    let same : length ss + 0 ≡ length ss = omega arith in
+    subst (λ y. Takes y (onto ss us) [] ss us) same
+    (takes_onto ss us [] ss us 0 h (subst (λ l. Takes 0 us l ss us) (sym (append_none ss)) (takes_none us ss)))
+
+-- ---- the frame that opens
+
+are_both : (x : World) (ss us : List Shape) (vs ws : List Value) → Are x ss vs → Are x us ws → Are x (ss ++ us) (vs ++ ws)
+are_both x _ us _ ws are_none b = b
+are_both x _ us _ ws (are_more s v ss vs h a) b = are_more s v _ _ h (are_both x ss us vs ws a b)
+
+blanks_are : (x : World) (n : ℕ) → Are x (replicate n anything) (replicate n (Number (pos 0)))
+blanks_are x zero = are_none
+blanks_are x (suc n) = are_more anything _ _ _ (is_anything _) (blanks_are x n)
+
+get_front : (vs ws : List Value) (i : ℕ) → i < length vs → slice_get (vs ++ ws) i ≡ slice_get vs i
+get_front [] ws i l = absurd (omega (arith, l))
+get_front (v ∷ vs) ws zero l = refl
+get_front (v ∷ vs) ws (suc i) l = get_front vs ws i (omega (arith, l))
+
+-- as many types as parameters
+pub types_many : (tree : Tree) (t : TaskTree) → length (param_types tree t) ≡ length t.params
+types_many tree t = types_length (scope_of tree t).names ∙ params_length tree t.params 0 t.params
+
+-- what a frame has that opens with arguments of the parameters' shapes suits the mark
+pub opening_suits : (tree : Tree) (t : TaskTree) (x : World) (ws : List Value) →
+    Are (called x ws) (map shape_of (param_types tree t)) ws →
+    Suits (called x ws) (length t.params) (opening_mark tree t)
+    (ws ++ replicate ((task_code tree t).slots - length ws) (Number (pos 0))) []
+opening_suits tree t x ws a =
+    let long : length ws ≡ length t.params = as_long (called x ws) _ ws a ∙ length-map (param_types tree t) shape_of ∙ types_many tree t in
+    let same : (task_code tree t).slots - length t.params ≡ (task_code tree t).slots - length ws = omega (arith, long) in
+    subst (λ n. Suits (called x ws) (length t.params) (opening_mark tree t) (ws ++ replicate n (Number (pos 0))) [])
+    same
+    (record {
+      slots = are_both (called x ws) _ _ ws _ a (blanks_are (called x ws) ((task_code tree t).slots - length t.params));
+      stack = are_none;
+      facts = tt;
+      top = tt;
+      args = λ i l. ap region_in (get_front ws _ i (omega (arith, l, long)));
+    })
+
+-- numbers and truths are so around every frame
+pub scalars_are : (x y : World) (ts : List StaticType) (ws : List Value) → Each IsScalar ts → Are x (map shape_of ts) ws →
+    Are y (map shape_of ts) ws
+scalars_are x y [] _ h are_none = are_none
+scalars_are x y (t ∷ ts) _ h (are_more _ v _ vs i a) =
+    are_more (shape_of t) v _ vs (one t h.0 v i) (scalars_are x y ts vs h.1 a)
+  where
+    one : (t : StaticType) → IsScalar t → (v : Value) → Is x (shape_of t) v → Is y (shape_of t) v
+    one _ (scalar_integer w) _ (is_number _ z p) = is_number _ z p
+    one _ scalar_truth _ (is_number _ z p) = is_number _ z p
+
+-- ---- calls
+
+numerics : (ts : List StaticType) → Each IsScalar ts → Each Numeric (map shape_of ts)
+numerics [] h = tt
+numerics (t ∷ ts) h = (scalar_numeric t h.0, numerics ts h.1)
+
+passed_scalars : (forms : Forms) (w : Where) (ts ps : List StaticType) (es : Expressions) → ArePassed forms w ts ps es →
+    Each IsScalar ps
+passed_scalars forms w [] [] no_expr h = tt
+passed_scalars forms w (t ∷ ts) (p ∷ ps) (an_expr e es) h =
+    (subst IsScalar h.1 (alike_second _ t h.0), passed_scalars forms w ts ps es h.3)
+passed_scalars forms w [] [] (an_expr e es) h = absurd h
+passed_scalars forms w [] (p ∷ ps) es h = absurd h
+passed_scalars forms w (t ∷ ts) [] es h = absurd h
+passed_scalars forms w (t ∷ ts) (p ∷ ps) no_expr h = absurd h
+
+passed_many : (forms : Forms) (w : Where) (ts ps : List StaticType) (es : Expressions) → ArePassed forms w ts ps es →
+    length ps ≡ count es
+passed_many forms w [] [] no_expr h = refl
+passed_many forms w (t ∷ ts) (p ∷ ps) (an_expr e es) h = ap suc (passed_many forms w ts ps es h.3)
+passed_many forms w [] [] (an_expr e es) h = absurd h
+passed_many forms w [] (p ∷ ps) es h = absurd h
+passed_many forms w (t ∷ ts) [] es h = absurd h
+passed_many forms w (t ∷ ts) (p ∷ ps) no_expr h = absurd h
+
+-- a task's body has an instruction at least
+some_lines : (p : Piece) (line : ℕ) → 0 < length (lines (p ⨟ op instr.Return line) 0)
+some_lines p line = let e = length-append (lines p 0) (lines (op instr.Return line) (past p 0)) in omega (arith, e)
+
+pub some_body : (tree : Tree) (u : TaskTree) → 0 < length (task_code tree u).body
+some_body tree u = some_lines (block_code (place_of tree u) u.body) 0
+
+module _ (g : Program) (t : TaskCode) (k : ℕ) (w : Where) (known : Known g w.tree) where
+  opens : (m : Mark) (task : ℕ) (u : TaskTree) → slice_get (tasks_of w.tree) task ≡ Some u → (task_code w.tree u).needs ≡ [] →
+      Each IsScalar (param_types w.tree u) → Opens g t m task (task_code w.tree u) (map shape_of (param_types w.tree u))
+  opens m task u there none scalars x vs st ws s a = (
+    subst (λ y. Suits (called x ws) (length u.params) y (ws ++ replicate ((task_code w.tree u).slots - length ws) (Number (pos 0))) [])
+        (sym (known.begins task u there))
+        (opening_suits w.tree u x ws (scalars_are x (called x ws) (param_types w.tree u) ws scalars a)),
+    subst (λ ns. Each (IsNeeded g x ws) ns) (sym none) tt,
+    subst (λ ns. IsWithin (declared_claims ns ws) (claims g x t)) (sym none) (λ root field point. inl refl),
+  )
+
+  -- a call with its arguments on the stack
+  pub calls : (forms : Forms) (m : Mark) (task : Name) (ts : List StaticType) (es : Expressions) (us : List Shape) → IsCalled w.tree task →
+      ArePassed forms w ts (param_types w.tree (task_named w.tree task)) es →
+      Marked g t k (stacked m (onto (map shape_of (param_types w.tree (task_named w.tree task))) us))
+      (one w (instr.Call (place_of_task w.tree task) (count es)))
+      (stacked m (awaited (g.results (place_of_task w.tree task)) ∷ us))
+  calls forms m task ts es us is passed =
+      let u = task_named w.tree task in
+      let types = param_types w.tree u in
+      let scalars = passed_scalars forms w ts types es passed in
+      let many : length types ≡ count es = passed_many forms w ts types es passed in
+      record {
+        marks = _;
+        is = typed_op _ _ _ w.line (leads_calling (stacked m (onto (map shape_of types) us)) (place_of_task w.tree task) (count es)
+            (task_code w.tree u) (map shape_of types) us
+            (ap (λ c. slice_get c.tasks (place_of_task w.tree task)) known.code ∙ code_there w.tree task is.0)
+            (sym (types_many w.tree u) ∙ many) (some_body w.tree u)
+            (subst (λ y. Takes y (onto (map shape_of types) us) [] (map shape_of types) us) (length-map types shape_of ∙ many)
+            (takes_pushed (map shape_of types) us (numerics types scalars)))
+            (opens (stacked m (onto (map shape_of types) us)) (place_of_task w.tree task) u is.0 is.1 scalars));
+      }

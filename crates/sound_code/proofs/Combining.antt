@@ -1,0 +1,121 @@
+-- Pieces that have marks, put together: one behind the other, and with a value that is stored.
+use Rattle.std.proofs.Common.{◌≡◌, ℕ, suc, ◌<◌, ◌≤◌, ◌+◌, List, [], ◌∷◌, Bool, true, false, Some, None, refl, sym, ap, ◌∙◌, subst, arith}
+use Rattle.std.specs.Prelude.{slice_get, slice_set, length, ◌==◌}
+use Rattle.std.proofs.lemmas.Bool.{eqb-true, eqb-false}
+use Rattle.std.proofs.lemmas.List.{length-set}
+use Rattle.regent_tree.specs.declared.typing.Bound.{Bound}
+use Rattle.task_code.specs.declared.code.TaskCode.{TaskCode}
+use Rattle.task_code.specs.declared.instr.Instr.{Instr}
+use Rattle.task_code.specs.declared.instr.Instr.TheVariants as instr
+use Rattle.machine_terms.specs.declared.value.Value.{Value}
+use Rattle.machine_terms.specs.Pointers.{region_in}
+use Rattle.code_rules.specs.Pieces.{Piece, empty, op, ◌⨟◌}
+use Rattle.fit_rules.specs.Shapes.{Each, Shape, Numeric, numeric_integer, numeric_truth, numeric_index, numeric_pointer, World, Is, is_number, Are, are_more}
+use Rattle.fit_rules.specs.Marks.{Holds, Mark, Into, stacked}
+use Rattle.fit_rules.specs.Fits.{Program}
+use Rattle.fit_rules.specs.Sound.{Effect}
+use Rattle.fit_laws.proofs.Lookup.{value_at, as_long, set_at}
+use Rattle.sound_code.specs.Marked.{leads_on, leads_storing, Typed, typed_empty, typed_op, typed_both, typed_into}
+use Rattle.sound_code.specs.Named.{slot_at, Ready}
+use Rattle.sound_code.proofs.Narrowing.{get_set, get_other, set_kept, counts_kept, behind_counts, between_counts}
+
+-- the first of two values, and the others
+pub are_first : (x : World) (a : Shape) (us : List Shape) (v : Value) (st : List Value) → Are x (a ∷ us) (v ∷ st) → Is x a v
+are_first x _ _ _ _ (are_more a v us st h b) = h
+
+pub are_others : (x : World) (a : Shape) (us : List Shape) (v : Value) (st : List Value) → Are x (a ∷ us) (v ∷ st) → Are x us st
+are_others x _ _ _ _ (are_more a v us st h b) = b
+
+-- a number is no region, so that regions stay where numbers are put for numbers
+no_region : (x : World) (a : Shape) (v : Value) → Numeric a → Is x a v → region_in (Some v) ≡ None
+no_region x _ _ (numeric_integer w) (is_number _ z h) = refl
+no_region x _ _ numeric_truth (is_number _ z h) = refl
+no_region x _ _ numeric_index (is_number _ z h) = refl
+no_region x _ _ (numeric_pointer n) (is_number _ z h) = refl
+
+same_regions : (x : World) (ss : List Shape) (vs : List Value) (s : ℕ) (a : Shape) (v : Value) → Numeric a → Are x ss vs →
+    slice_get ss s ≡ Some a → Is x a v → s < length ss → (i : ℕ) →
+    region_in (slice_get (slice_set vs s v) i) ≡ region_in (slice_get vs i)
+same_regions x ss vs s a v na are e h l i = of_test (s == i) refl
+  where
+    of_test : (b : Bool) → s == i ≡ b → region_in (slice_get (slice_set vs s v) i) ≡ region_in (slice_get vs i)
+    of_test false q = ap region_in (get_other vs s i v (eqb-false s i q))
+    of_test true q =
+        let old = value_at x ss vs s a are e in
+        subst (λ j. region_in (slice_get (slice_set vs s v) j) ≡ region_in (slice_get vs j)) (eqb-true s i q)
+        (ap region_in (get_set vs s v (omega (arith, l, as_long x ss vs are))) ∙ no_region x a v na h
+        ∙ sym (ap region_in old.at ∙ no_region x a old.value na old.of))
+
+-- the slot behind, where names are more than the parameters
+pub slot_high : (params p : ℕ) → params ≤ p → params ≤ slot_at params p
+slot_high params p h = omega (arith, h)
+
+pub slot_next : (params p : ℕ) → params ≤ p → slot_at params (suc p) ≡ slot_at params p + 3
+slot_next params p h = omega (arith, h)
+
+-- a mark's facts stay where a slot is set
+abbrev pub Keeps : Mark → ℕ → Type 0
+Keeps m s = (vs : List Value) (v : Value) → Each (λ k. Holds k vs) m.facts → Each (λ k. Holds k (slice_set vs s v)) m.facts
+
+-- that behind the names, and that of a name
+pub behind_kept : (params : ℕ) (bs : List Bound) (m : Mark) (s : ℕ) → Ready params bs m → slot_at params (length bs) ≤ s → Keeps m s
+behind_kept params bs m s r h vs v k = counts_kept params (length bs) m.facts vs s v r.facts
+    (behind_counts params (length bs) s h) k
+
+pub named_kept : (params : ℕ) (bs : List Bound) (m : Mark) (p : ℕ) → Ready params bs m → Keeps m (slot_at params p)
+named_kept params bs m p r vs v k = counts_kept params (length bs) m.facts vs (slot_at params p) v r.facts
+    (between_counts params p (length bs)) k
+
+-- the mark with another shape in a slot
+abbrev pub set_mark : Mark → ℕ → Shape → List Shape → Mark
+set_mark m s b us = record m { slots = slice_set m.slots s b; stack = us; top = [] }
+
+module _ (g : Program) (t : TaskCode) (k : ℕ) where
+  -- a piece with some marks
+  pub record Marked (m : Mark) (p : Piece) (n : Mark) : Type 0 where
+    pub marks : List Mark
+    pub is : Typed g t k m p marks n
+
+  pub nothing_done : (m : Mark) → Marked m empty m
+  nothing_done m = record { marks = []; is = typed_empty m }
+
+  pub both : {m n o : Mark} {a b : Piece} → Marked m a n → Marked n b o → Marked m (a ⨟ b) o
+  both f h = record { marks = _; is = typed_both _ _ _ _ _ _ _ f.is h.is }
+
+  pub does : (m : Mark) (i : Instr) (line : ℕ) (us : List Shape) → Effect g t m i m.stack us →
+      Marked m (op i line) (stacked m us)
+  does m i line us e = record { marks = _; is = typed_op m _ i line (leads_on m i us e) }
+
+  pub into : {m n o : Mark} {p : Piece} → Marked m p n → Into t.params n o → length o.slots ≡ length n.slots → Marked m p o
+  into f h l = record { marks = _; is = typed_into _ _ _ _ _ f.is h l }
+
+  pub storing : (m : Mark) (s : ℕ) (a b : Shape) (us : List Shape) (line : ℕ) → Keeps m s → t.params ≤ s →
+      s < length m.slots → ((x : World) (v : Value) → Is x a v → Is x b v) →
+      Marked (stacked m (a ∷ us)) (op (instr.Store s) line) (set_mark m s b us)
+  storing m s a b us line kept lo hi h = record {
+    marks = _;
+    is = typed_op _ _ _ line (leads_storing (stacked m (a ∷ us)) (set_mark m s b us) s a us refl hi
+        (λ x vs st v q. record {
+          slots = set_at x m.slots vs s b v q.slots (h x v (are_first x a us v st q.stack));
+          stack = are_others x a us v st q.stack;
+          facts = kept vs v q.facts;
+          top = tt;
+          args = λ i l. ap region_in (get_other vs s i v (λ e. omega (arith, e, l, lo))) ∙ q.args i l;
+        }) (length-set m.slots s b));
+  }
+
+  -- a number in the place of a number
+  pub keeping : (m : Mark) (s : ℕ) (a : Shape) (us : List Shape) (line : ℕ) → Keeps m s → Numeric a →
+      s < length m.slots → slice_get m.slots s ≡ Some a →
+      Marked (stacked m (a ∷ us)) (op (instr.Store s) line) (stacked m us)
+  keeping m s a us line kept na hi e = record {
+    marks = _;
+    is = typed_op _ _ _ line (leads_storing (stacked m (a ∷ us)) (stacked m us) s a us refl hi
+        (λ x vs st v q. record {
+          slots = set_kept x m.slots vs s a v q.slots e (are_first x a us v st q.stack);
+          stack = are_others x a us v st q.stack;
+          facts = kept vs v q.facts;
+          top = tt;
+          args = λ i l. same_regions x m.slots vs s a v na q.slots e (are_first x a us v st q.stack) hi i ∙ q.args i l;
+        }) refl);
+  }

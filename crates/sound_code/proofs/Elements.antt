@@ -1,0 +1,197 @@
+-- Code that goes to a field of an element of a region that a name has, and reads, writes or reduces it, and code
+-- that fills fields, has marks: the task made the region.
+use Rattle.std.proofs.Common.{◌≡◌, ℕ, ◌<◌, List, [], ◌∷◌, map, true, Some, refl, sym, ap, ◌∙◌, subst, arith}
+use Rattle.std.specs.Prelude.{get_or, length, slice_get}
+use Rattle.std.proofs.lemmas.List.{length-map}
+use Rattle.std.proofs.lemmas.Simd.{map-map}
+use Rattle.std.proofs.Math.ListN.{get_or-map}
+use Rattle.lane_kernels.specs.declared.numbers.FieldKind.{FieldKind}
+use Rattle.lane_kernels.specs.declared.numbers.FieldKind.TheVariants as kind
+use Rattle.lane_kernels.specs.declared.numbers.Mode.{Mode}
+use Rattle.lane_kernels.specs.declared.numbers.Mode.TheVariants as mode
+use Rattle.lane_kernels.specs.declared.numbers.Op.{Op}
+use Rattle.lane_kernels.specs.Numbers.{width_of}
+use Rattle.regent_tree.specs.declared.statement.How.{How}
+use Rattle.regent_tree.specs.declared.statement.How.TheVariants as how
+use Rattle.regent_tree.specs.declared.types.Param.{Param}
+use Rattle.regent_tree.specs.declared.types.TypeTerm.TheVariants as term
+use Rattle.regent_tree.specs.declared.typing.StaticType.{StaticType}
+use Rattle.regent_tree.specs.Accesses.{space_in}
+use Rattle.regent_tree.specs.StaticTypes.{field_kind, field_kinds, field_place, kind_said, space_at}
+use Rattle.regent_tree.specs.Syntax.{Name, Tree, Expression, no_step, field_step, at_step}
+use Rattle.regent_tree.specs.Typing.{type_of_element}
+use Rattle.task_code.specs.declared.code.TaskCode.{TaskCode}
+use Rattle.task_code.specs.declared.instr.Instr.TheVariants as instr
+use Rattle.machine_terms.specs.Contents.{kinds_of}
+use Rattle.code_rules.specs.Assignments.{put_code, slot_behind}
+use Rattle.code_rules.specs.Expressions.{expr_code, steps_code}
+use Rattle.code_rules.specs.Instructions.{load_code, one, standing_code}
+use Rattle.code_rules.specs.Pieces.{Piece, ◌⨟◌}
+use Rattle.code_rules.specs.Programs.{code_of}
+use Rattle.code_rules.specs.Slots.{Where, own_slot, slot, slots_of, typed}
+use Rattle.code_laws.specs.Simple.{FieldFits, fits_32, fits_64, fits_truth, IsInteger, an_integer, IsNumber, number_integer, number_index, IsRegion, a_region_type}
+use Rattle.code_laws.specs.Standing.{Stands}
+use Rattle.code_laws.proofs.Reaching.{kinds_are}
+use Rattle.fit_rules.specs.Shapes.{Shape, pointer, region, Numeric, numeric_integer, numeric_index}
+use Rattle.fit_rules.specs.Marks.{Mark, stacked}
+use Rattle.fit_rules.specs.Fits.{Program, count_at, kept_as, kind_at, shape_at}
+use Rattle.fit_rules.specs.Sound.{Allowed, Through, does_element, does_read, does_write, does_reduce, does_fill}
+use Rattle.fit_laws.proofs.Allowing.{allowed_made}
+use Rattle.sound_code.specs.Named.{shape_of}
+use Rattle.sound_code.proofs.Asked.{Known}
+use Rattle.sound_code.proofs.Combining.{Marked, nothing_done, both, does}
+
+-- ---- fields
+
+kind_in : (tree : Tree) (sp place : ℕ) → get_or (field_kinds tree sp) place kind.Truth ≡ field_kind tree sp place
+kind_in tree sp place =
+    let ps = (space_at tree sp).fields in
+    ap (λ ks. get_or ks place kind.Truth) (sym (map-map kind_said (λ (p : Param). p.term) ps))
+    ∙ get_or-map kind_said (map (λ (p : Param). p.term) ps) place term.Truth
+
+kept_fits : (q : FieldKind) (n : ℕ) (out : StaticType) → FieldFits q out → kept_as q n ≡ shape_of out
+kept_fits _ n _ fits_32 = refl
+kept_fits _ n _ fits_64 = refl
+kept_fits _ n _ fits_truth = refl
+
+pub number_numeric : (u : StaticType) → IsNumber u → Numeric (shape_of u)
+number_numeric _ (number_integer w) = numeric_integer w
+number_numeric _ (number_index k) = numeric_index
+
+module _ (g : Program) (tree : Tree) (known : Known g tree) where
+  kind_same : (sp place : ℕ) → kind_at g sp place ≡ field_kind tree sp place
+  kind_same sp place = ap (λ c. get_or (kinds_of c sp) place kind.Truth) known.code
+      ∙ ap (λ ks. get_or ks place kind.Truth) (kinds_are (code_of tree) tree sp refl) ∙ kind_in tree sp place
+
+  field_there : (sp place : ℕ) → place < length (space_at tree sp).fields → place < count_at g sp
+  field_there sp place l =
+      let e = ap (λ c. length (kinds_of c sp)) known.code ∙ ap length (kinds_are (code_of tree) tree sp refl)
+      ∙ length-map (space_at tree sp).fields (λ (p : Param). kind_said p.term) in
+      omega (arith, l, e)
+
+  field_shape : (sp place : ℕ) (out : StaticType) → FieldFits (field_kind tree sp place) out → shape_at g sp place ≡ shape_of out
+  field_shape sp place out h = ap (λ q. kept_as q (g.positions sp place)) (kind_same sp place)
+      ∙ kept_fits (field_kind tree sp place) (g.positions sp place) out h
+
+-- ---- elements
+
+module _ (g : Program) (t : TaskCode) (k : ℕ) (w : Where) (m : Mark) (known : Known g w.tree) where
+  allowed : (sp place s : ℕ) (a : Mode) (us : List Shape) → slice_get m.slots s ≡ Some (region (Some sp) true) →
+      place < length (space_at w.tree sp).fields → Allowed g t (stacked m us) sp place a s
+  allowed sp place s a us e l = allowed_made g t (stacked m us) sp place s a e (field_there g w.tree known sp place l)
+
+  through : (sp place s : ℕ) (a : Mode) (us : List Shape) → slice_get m.slots s ≡ Some (region (Some sp) true) →
+      place < length (space_at w.tree sp).fields → Through g t (stacked m us) sp place a 1 (s ∷ [])
+  through sp place s a us e l = (omega arith, (allowed sp place s a us e l, tt))
+
+  standing_number : (u : StaticType) (us : List Shape) → IsNumber u → Marked g t k (stacked m us) (standing_code w u) (stacked m us)
+  standing_number _ us (number_integer v) = nothing_done g t k _
+  standing_number _ us (number_index v) = nothing_done g t k _
+
+  pub reads : (u : StaticType) (place : ℕ) (e : Expression) (f : Name) (out : StaticType) (d : ℕ) (us : List Shape) → IsRegion u →
+      slice_get m.slots (slot w place) ≡ Some (shape_of u) → IsNumber (typed w e) →
+      slots_of w (slot w place) (type_of_element w.scope u e) ≡ slot w place ∷ [] →
+      field_place w.tree (space_in u) f < length (space_at w.tree (space_in u)).fields →
+      FieldFits (field_kind w.tree (space_in u) (field_place w.tree (space_in u) f)) out →
+      ((pc : ℕ) → Stands t.body pc (expr_code w d e) →
+      Marked g t k (stacked m us) (expr_code w d e) (stacked m (shape_of (typed w e) ∷ us))) → (pc : ℕ) →
+      Stands t.body pc (load_code w u (slot w place) (at_step e (field_step f no_step))
+      ⨟ steps_code w d u (own_slot w u place) (at_step e (field_step f no_step))) →
+      Marked g t k (stacked m us)
+      (load_code w u (slot w place) (at_step e (field_step f no_step))
+      ⨟ steps_code w d u (own_slot w u place) (at_step e (field_step f no_step)))
+      (stacked m (shape_of out ∷ us))
+  reads _ place e f out d us (a_region_type q sp args r) there h goes l fits marked pc st =
+      let s = slot w place in
+      let fp = field_place w.tree sp f in
+      both g t k (nothing_done g t k _)
+      (both g t k (marked pc st.1.0) (both g t k (standing_number (typed w e) _ h)
+      (both g t k (does g t k _ (instr.At s) w.line (pointer 1 ∷ us)
+      (does_element s (Some sp) _ us (record { made = true; shape = there }) (number_numeric _ h)))
+      (both g t k (nothing_done g t k _)
+      (both g t k
+      (subst (λ y. Marked g t k (stacked m (pointer 1 ∷ us)) (one w (instr.Read y fp)) (stacked m (shape_of out ∷ us))) (sym goes)
+      (subst (λ y. Marked g t k (stacked m (pointer 1 ∷ us)) (one w (instr.Read (s ∷ []) fp)) (stacked m (y ∷ us)))
+      (field_shape g w.tree known sp fp out fits)
+      (does g t k (stacked m (pointer 1 ∷ us)) (instr.Read (s ∷ []) fp) w.line _
+      (does_read (s ∷ []) fp sp 1 us (through sp fp s mode.Read (pointer 1 ∷ us) there l)))))
+      (nothing_done g t k _))))))
+
+  -- a value goes into the field
+  module _ (u : StaticType) (place : ℕ) (e : Expression) (f : Name) (out : StaticType) (us : List Shape) (is : IsRegion u)
+      (there : slice_get m.slots (slot w place) ≡ Some (shape_of u)) (h : IsNumber (typed w e))
+      (goes : slots_of w (slot w place) (type_of_element w.scope u e) ≡ slot w place ∷ [])
+      (l : field_place w.tree (space_in u) f < length (space_at w.tree (space_in u)).fields)
+      (fits : FieldFits (field_kind w.tree (space_in u) (field_place w.tree (space_in u) f)) out) where
+    -- the code of a target
+    abbrev pub aimed : StaticType → How → Piece
+    aimed v o = (load_code w v (slot w place) (at_step e no_step)
+        ⨟ steps_code w 0 v (own_slot w v place) (at_step e no_step))
+        ⨟ put_code w (type_of_element w.scope v e) (slot_behind w 0 v (own_slot w v place) (at_step e no_step)) f o
+
+    pub writes : ((pc : ℕ) → Stands t.body pc (expr_code w 0 e) →
+        Marked g t k (stacked m (shape_of out ∷ us)) (expr_code w 0 e) (stacked m (shape_of (typed w e) ∷ shape_of out ∷ us))) →
+        (pc : ℕ) → Stands t.body pc (aimed u how.Set) → Marked g t k (stacked m (shape_of out ∷ us)) (aimed u how.Set) (stacked m us)
+    writes marked pc st = of_region u is there goes l fits st
+      where
+        of_region : (v : StaticType) → IsRegion v → slice_get m.slots (slot w place) ≡ Some (shape_of v) →
+            slots_of w (slot w place) (type_of_element w.scope v e) ≡ slot w place ∷ [] →
+            field_place w.tree (space_in v) f < length (space_at w.tree (space_in v)).fields →
+            FieldFits (field_kind w.tree (space_in v) (field_place w.tree (space_in v) f)) out →
+            Stands t.body pc (aimed v how.Set) → Marked g t k (stacked m (shape_of out ∷ us)) (aimed v how.Set) (stacked m us)
+        of_region _ (a_region_type q sp args r) there goes l fits st =
+            let s = slot w place in
+            let fp = field_place w.tree sp f in
+            let us1 : List Shape = pointer 1 ∷ shape_of out ∷ us in
+            both g t k
+            (both g t k (nothing_done g t k _) (both g t k (marked _ st.0.1.0) (both g t k (standing_number (typed w e) _ h)
+            (both g t k (does g t k _ (instr.At s) w.line us1
+            (does_element s (Some sp) _ _ (record { made = true; shape = there }) (number_numeric _ h)))
+            (both g t k (nothing_done g t k _) (nothing_done g t k _))))))
+            (subst (λ y. Marked g t k (stacked m us1) (one w (instr.Write y fp (width_of (field_kind w.tree sp fp)))) (stacked m us)) (sym goes)
+            (subst (λ y. Marked g t k (stacked m us1) (one w (instr.Write (s ∷ []) fp (width_of y))) (stacked m us)) (kind_same g w.tree known sp fp)
+            (subst (λ y. Marked g t k (stacked m (pointer 1 ∷ y ∷ us)) (one w (instr.Write (s ∷ []) fp (width_of (kind_at g sp fp)))) (stacked m us))
+            (field_shape g w.tree known sp fp out fits)
+            (does g t k (stacked m (pointer 1 ∷ shape_at g sp fp ∷ us)) (instr.Write (s ∷ []) fp (width_of (kind_at g sp fp))) w.line us
+            (does_write (s ∷ []) fp sp 1 us (through sp fp s mode.Write (pointer 1 ∷ shape_at g sp fp ∷ us) there l))))))
+
+    pub reduces : (o : Op) (a : Shape) → Numeric a → IsInteger out →
+        ((pc : ℕ) → Stands t.body pc (expr_code w 0 e) →
+        Marked g t k (stacked m (a ∷ us)) (expr_code w 0 e) (stacked m (shape_of (typed w e) ∷ a ∷ us))) →
+        (pc : ℕ) → Stands t.body pc (aimed u (how.Reduce o)) → Marked g t k (stacked m (a ∷ us)) (aimed u (how.Reduce o)) (stacked m us)
+    reduces o a na io marked pc st = of_region u is there goes l out io fits st
+      where
+        of_region : (v : StaticType) → IsRegion v → slice_get m.slots (slot w place) ≡ Some (shape_of v) →
+            slots_of w (slot w place) (type_of_element w.scope v e) ≡ slot w place ∷ [] →
+            field_place w.tree (space_in v) f < length (space_at w.tree (space_in v)).fields → (out : StaticType) → IsInteger out →
+            FieldFits (field_kind w.tree (space_in v) (field_place w.tree (space_in v) f)) out →
+            Stands t.body pc (aimed v (how.Reduce o)) → Marked g t k (stacked m (a ∷ us)) (aimed v (how.Reduce o)) (stacked m us)
+        of_region _ (a_region_type q sp args r) there goes l _ (an_integer wd) fits st =
+            let s = slot w place in
+            let fp = field_place w.tree sp f in
+            let us1 : List Shape = pointer 1 ∷ a ∷ us in
+            both g t k
+            (both g t k (nothing_done g t k _) (both g t k (marked _ st.0.1.0) (both g t k (standing_number (typed w e) _ h)
+            (both g t k (does g t k _ (instr.At s) w.line us1
+            (does_element s (Some sp) _ _ (record { made = true; shape = there }) (number_numeric _ h)))
+            (both g t k (nothing_done g t k _) (nothing_done g t k _))))))
+            (subst (λ y. Marked g t k (stacked m us1) (one w (instr.Reduce y fp o (width_of (field_kind w.tree sp fp)))) (stacked m us)) (sym goes)
+            (subst (λ y. Marked g t k (stacked m us1) (one w (instr.Reduce (s ∷ []) fp o (width_of y))) (stacked m us)) (kind_same g w.tree known sp fp)
+            (does g t k (stacked m us1) (instr.Reduce (s ∷ []) fp o (width_of (kind_at g sp fp))) w.line us
+            (does_reduce (s ∷ []) fp sp 1 o wd a us (field_shape g w.tree known sp fp _ fits) na
+            (through sp fp s (mode.Reduce o) us1 there l)))))
+
+  -- a field of a whole region is filled
+  pub fills : (u : StaticType) (s : ℕ) (f : Name) (out : StaticType) (us : List Shape) → IsRegion u →
+      slice_get m.slots s ≡ Some (shape_of u) → field_place w.tree (space_in u) f < length (space_at w.tree (space_in u)).fields →
+      FieldFits (field_kind w.tree (space_in u) (field_place w.tree (space_in u) f)) out →
+      Marked g t k (stacked m (shape_of out ∷ us))
+      (one w (instr.Fill s (field_place w.tree (space_in u) f) (width_of (field_kind w.tree (space_in u) (field_place w.tree (space_in u) f)))))
+      (stacked m us)
+  fills _ s f out us (a_region_type q sp args r) there l fits =
+      let fp = field_place w.tree sp f in
+      subst (λ y. Marked g t k (stacked m (shape_of out ∷ us)) (one w (instr.Fill s fp (width_of y))) (stacked m us)) (kind_same g w.tree known sp fp)
+      (subst (λ y. Marked g t k (stacked m (y ∷ us)) (one w (instr.Fill s fp (width_of (kind_at g sp fp)))) (stacked m us))
+      (field_shape g w.tree known sp fp out fits)
+      (does g t k (stacked m (shape_at g sp fp ∷ us)) (instr.Fill s fp (width_of (kind_at g sp fp))) w.line us
+      (does_fill s fp sp us (allowed sp fp s mode.Write (shape_at g sp fp ∷ us) there l))))

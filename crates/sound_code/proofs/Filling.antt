@@ -1,0 +1,61 @@
+-- The code of fills has marks: the value is put aside, and each field is filled with it.
+use Rattle.std.proofs.Common.{◌≡◌, inl, ℕ, ◌<◌, List, [], ◌∷◌, true, Some, refl, sym, arith}
+use Rattle.std.specs.Prelude.{slice_get, length}
+use Rattle.std.proofs.lemmas.List.{length-set}
+use Rattle.regent_tree.specs.Lookup.{is_bound}
+use Rattle.regent_tree.specs.Syntax.{Name, Expression, fill_form}
+use Rattle.regent_tree.specs.declared.typing.StaticType.{StaticType}
+use Rattle.task_code.specs.declared.code.TaskCode.{TaskCode}
+use Rattle.task_code.specs.declared.instr.Instr.TheVariants as instr
+use Rattle.code_rules.specs.Assignments.{fill_code}
+use Rattle.code_rules.specs.Slots.{Where, bound, slot_named, spare, typed}
+use Rattle.code_rules.specs.Statements.{form_code}
+use Rattle.code_laws.specs.Simple.{IsRegion}
+use Rattle.code_laws.specs.Standing.{Stands}
+use Rattle.code_laws.specs.Steps.{Forms}
+use Rattle.code_laws.specs.Typed.{AreFilled, IsTyped}
+use Rattle.fit_rules.specs.Marks.{Mark, stacked}
+use Rattle.fit_rules.specs.Fits.{Program}
+use Rattle.fit_rules.specs.Sound.{does_load}
+use Rattle.sound_code.specs.Named.{AreNamed, HasSlots, shape_of}
+use Rattle.sound_code.proofs.Asked.{Asked}
+use Rattle.sound_code.proofs.Calling.{alike_first}
+use Rattle.sound_code.proofs.Combining.{Marked, nothing_done, both, does, into, behind_kept, set_mark, slot_high, storing}
+use Rattle.sound_code.proofs.Elements.{fills}
+use Rattle.sound_code.proofs.Expressions.{converted_at, named_at, stored}
+use Rattle.sound_code.proofs.Narrowing.{get_set, narrow_itself, narrow_set, narrow_into, named_behind, same_facts}
+use Rattle.sound_code.proofs.Statements.{Followed, scalar_settled, unchanged, value_marked}
+
+module _ (g : Program) (t : TaskCode) (k slots : ℕ) (have : HasSlots t slots) (forms : Forms) (w : Where) (m : Mark)
+    (asked : Asked g t k slots w m) where
+  -- from a mark with the value in the slot
+  fields_marked : (o : Mark) (r : Name) (from : StaticType) (fs : List Name) → AreNamed w.params o.slots w.scope.names →
+      slice_get o.slots (spare w 0) ≡ Some (shape_of from) → is_bound w.scope.names r ≡ true → IsRegion (bound w r).static_type →
+      AreFilled w r from fs →
+      Marked g t k (stacked o []) (fill_code w from (bound w r).static_type (slot_named w r) fs) (stacked o [])
+  fields_marked o r from [] names there b is h = nothing_done g t k _
+  fields_marked o r from (f ∷ fs) names there b is h =
+      both g t k (does g t k (stacked o []) (instr.Load (spare w 0)) w.line _
+      (does_load (spare w 0) (shape_of from) [] there (scalar_settled from (alike_first from _ h.0))))
+      (both g t k (converted_at g t k w o from _ [] h.0)
+      (both g t k (fills g t k w o asked.known (bound w r).static_type (slot_named w r) f _ [] is
+      (named_at w.params o.slots w.scope.names r names b) h.1.field h.1.keeps)
+      (fields_marked o r from fs names there b is h.2)))
+
+  pub fill_marked : (r : Name) (fs : List Name) (e : Expression) → IsTyped forms w e → is_bound w.scope.names r ≡ true →
+      IsRegion (bound w r).static_type → AreFilled w r (typed w e) fs → (pc : ℕ) → Stands t.body pc (form_code w (fill_form r fs e)) →
+      Followed g t k w.params w.scope.names m (form_code w (fill_form r fs e))
+  fill_marked r fs e f b is h pc st =
+      let ready = asked.ready in
+      let s = spare w 0 in
+      let hi : s < length m.slots = stored g t k slots have forms w m asked _ s st.1.0 in
+      let a = shape_of (typed w e) in
+      let o = set_mark m s a [] in
+      unchanged g t k _ _ m _ ready
+      (both g t k (value_marked g t k slots have forms w m asked e [] f pc st.0)
+      (both g t k (storing g t k m s a a [] w.line (behind_kept w.params w.scope.names m s ready (omega arith))
+      (omega (arith, slot_high w.params (length w.scope.names) ready.low, asked.params)) hi (λ x v q. q))
+      (into g t k (fields_marked o r (typed w e) fs (named_behind w.params m.slots w.scope.names s a ready.named (omega arith))
+      (get_set m.slots s a hi) b is h)
+      (narrow_into t.params o m [] (narrow_set m.slots m.slots s a (narrow_itself m.slots) (inl (ready.free s (omega arith) hi))) (same_facts _ _ refl))
+      (sym (length-set m.slots s a)))))

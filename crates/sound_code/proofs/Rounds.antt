@@ -1,0 +1,81 @@
+-- The marks of a loop that counts: at its head the counter and the limit or the domain stand beside the slot of
+-- the variable, and in its body the variable has a value too.
+use Rattle.std.proofs.Common.{◌≡◌, inl, inr, ℕ, suc, ◌<◌, ◌+◌, List, [], ◌∷◌, Some, sym, ap, ◌∙◌, arith}
+use Rattle.std.specs.Prelude.{slice_get, slice_set, length}
+use Rattle.std.proofs.lemmas.List.{length-set}
+use Rattle.regent_tree.specs.declared.typing.Bound.{Bound}
+use Rattle.fit_rules.specs.Shapes.{Each, Shape}
+use Rattle.fit_rules.specs.Marks.{Fact, Mark}
+use Rattle.sound_code.specs.Named.{IsCount, shape_of, slot_at, Ready, Narrower}
+use Rattle.sound_code.proofs.Combining.{slot_next}
+use Rattle.sound_code.proofs.Narrowing.{get_set, get_other, narrow_itself, narrow_set, named_behind}
+
+-- the shapes of the limit or domain, of the counter and of the variable, and what is known of them
+module _ (params : ℕ) (bs : List Bound) (m : Mark) (r : Ready params bs m) (B C V : Shape) (fs : List Fact) where
+  abbrev pub va : ℕ
+  va = slot_at params (length bs)
+
+  abbrev pub co : ℕ
+  co = va + 1
+
+  abbrev pub be : ℕ
+  be = va + 2
+
+  abbrev pub head_mark : Mark
+  head_mark = record { slots = slice_set (slice_set m.slots be B) co C; facts = fs; stack = []; top = [] }
+
+  abbrev pub round_mark : Mark
+  round_mark = record { slots = slice_set (slice_set head_mark.slots va V) co C; facts = fs; stack = []; top = [] }
+
+  module _ (hi : be < length m.slots) where
+    pub long_be : length (slice_set m.slots be B) ≡ length m.slots
+    long_be = length-set m.slots be B
+
+    pub long_head : length head_mark.slots ≡ length m.slots
+    long_head = length-set (slice_set m.slots be B) co C ∙ long_be
+
+    pub long_va : length (slice_set head_mark.slots va V) ≡ length m.slots
+    long_va = length-set head_mark.slots va V ∙ long_head
+
+    pub long_round : length round_mark.slots ≡ length m.slots
+    long_round = length-set (slice_set head_mark.slots va V) co C ∙ long_va
+
+    pub counter_there : slice_get head_mark.slots co ≡ Some C
+    counter_there = get_set (slice_set m.slots be B) co C (omega (arith, hi, long_be))
+
+    pub limit_there : slice_get head_mark.slots be ≡ Some B
+    limit_there = get_other (slice_set m.slots be B) co be C (λ e. omega (arith, e)) ∙ get_set m.slots be B hi
+
+    pub round_ready : (b : Bound) → b.place ≡ length bs → shape_of b.static_type ≡ V →
+        Each (IsCount params (suc (length bs))) fs → Ready params (b ∷ bs) round_mark
+    round_ready b eb es counts = record {
+      named = (
+        eb,
+        ap (λ y. slice_get round_mark.slots (slot_at params y)) eb
+            ∙ get_other (slice_set head_mark.slots va V) co va C (λ e. omega (arith, e))
+            ∙ get_set head_mark.slots va V (omega (arith, hi, long_head)) ∙ ap Some (sym es),
+        named_behind params _ bs co C (named_behind params _ bs va V
+            (named_behind params _ bs co C (named_behind params _ bs be B r.named (omega arith)) (omega arith)) (omega arith)) (omega arith),
+      );
+      free = λ j l h.
+          let next = slot_next params (length bs) r.low in
+          get_other (slice_set head_mark.slots va V) co j C (λ q. omega (arith, q, l, next))
+          ∙ get_other head_mark.slots va j V (λ q. omega (arith, q, l, next))
+          ∙ get_other (slice_set m.slots be B) co j C (λ q. omega (arith, q, l, next))
+          ∙ get_other m.slots be j B (λ q. omega (arith, q, l, next))
+          ∙ r.free j (omega (arith, l, next)) (omega (arith, h, long_round));
+      facts = counts;
+      low = omega (arith, r.low);
+    }
+
+    pub head_narrow : Narrower head_mark.slots m.slots
+    head_narrow = narrow_set _ m.slots co C
+        (narrow_set m.slots m.slots be B (narrow_itself m.slots) (inl (r.free be (omega arith) hi)))
+        (inl (r.free co (omega arith) (omega (arith, hi))))
+
+    pub round_narrow : Narrower round_mark.slots head_mark.slots
+    round_narrow = narrow_set _ head_mark.slots co C
+        (narrow_set head_mark.slots head_mark.slots va V (narrow_itself head_mark.slots)
+        (inl (get_other (slice_set m.slots be B) co va C (λ e. omega (arith, e))
+        ∙ get_other m.slots be va B (λ e. omega (arith, e)) ∙ r.free va (omega arith) (omega (arith, hi)))))
+        (inr counter_there)
