@@ -79,7 +79,7 @@ entered_inside x store s vs [] (u ∷ us) a b = absurd a
 entered_inside x store s vs (t ∷ ts) [] a b = absurd a
 
 -- names in the places of their order
-abbrev AreFrom : ℕ → List Bound → Type 0
+abbrev pub AreFrom : ℕ → List Bound → Type 0
 AreFrom i [] = Unit {0}
 AreFrom i (b ∷ bs) = (b.place ≡ i + length bs) × AreFrom i bs
 
@@ -88,7 +88,7 @@ from_behind i [] b e a = (omega (arith, e), tt)
 from_behind i (c ∷ bs) b e a =
     (omega (arith, a.0, length-append bs (b ∷ [])), from_behind i bs b e a.1)
 
-params_from : (tree : Tree) (all : List Param) (i : ℕ) (ps : List Param) → AreFrom i (bound_params tree all i ps)
+pub params_from : (tree : Tree) (all : List Param) (i : ℕ) (ps : List Param) → AreFrom i (bound_params tree all i ps)
 params_from tree all i [] = tt
 params_from tree all i (p ∷ ps) =
     from_behind i (bound_params tree all (suc i) ps) _ refl (params_from tree all (suc i) ps)
