@@ -19,3 +19,4 @@ pub mod Validity
 pub mod Tasks
 pub mod Entries
 pub mod Openings
+pub mod Example

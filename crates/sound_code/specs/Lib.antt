@@ -1,3 +1,4 @@
 pub mod Named
 pub mod Marked
 pub mod Programs
+pub mod Example

@@ -3,6 +3,7 @@
 //! The laws are stated under specs/. Each function has an empty body; its contract is a law.
 #![tactic(auto)]
 
+ghost use Rattle.sound_code.specs.Example.{CodeExampleHolds};
 ghost use Rattle.sound_code.specs.Programs.{CallsAreSound, RegionTasksAreSound, ScalarProgramsAreSound, ScalarTasksAreSound};
 
 /// Where the entry task's body is typed and treats scalars alone, its code is sound, and the frame in which
@@ -24,4 +25,10 @@ pub fn region_code_is_sound()
 #[tactic(auto, using(crate::proofs::Openings::calls_are_sound))]
 pub fn code_with_calls_is_sound()
     ensures { CallsAreSound }
+{}
+
+/// A program with roots and calls of which each premise holds, and a run that begins in it.
+#[tactic(auto, using(crate::proofs::Example::code_example_holds))]
+pub fn code_example_holds()
+    ensures { CodeExampleHolds }
 {}
