@@ -39,7 +39,7 @@ use Rattle.code_laws.specs.Simple.{IsSimple, simple_integer, simple_truth, simpl
 use Rattle.code_laws.specs.Steps.{Forms}
 use Rattle.code_laws.specs.Typed.{element_field, IsTypedForm, AreTypedArms, IsTypedElse, IsTypedBlock}
 use Rattle.fit_rules.specs.Shapes.{index, space}
-use Rattle.sound_code.specs.Marked.{leads_nowhere, typed_op}
+use Rattle.marked_code.specs.Marked.{leads_nowhere, typed_op}
 use Rattle.sound_code.specs.Named.{shape_of, HasSlots, Ready}
 use Rattle.sound_code.proofs.Asked.{Asked}
 use Rattle.sound_code.proofs.Calling.{scalar_numeric}

@@ -31,7 +31,7 @@ use Rattle.fit_rules.specs.Fits.{claims, declared_claims, Program}
 use Rattle.fit_rules.specs.Ends.{called, IsNeeded}
 use Rattle.fit_rules.specs.Sound.{Opens, Takes, takes_none, takes_more, settled_number}
 use Rattle.fit_laws.proofs.Lookup.{as_long}
-use Rattle.sound_code.specs.Marked.{leads_calling, typed_op}
+use Rattle.marked_code.specs.Marked.{leads_calling, typed_op}
 use Rattle.sound_code.specs.Named.{shape_of}
 use Rattle.sound_code.proofs.Asked.{opening_mark, Known}
 use Rattle.sound_code.proofs.Combining.{Marked}

@@ -15,7 +15,7 @@ use Rattle.fit_rules.specs.Marks.{Holds, Mark, Into, stacked}
 use Rattle.fit_rules.specs.Fits.{Program}
 use Rattle.fit_rules.specs.Sound.{Effect}
 use Rattle.fit_laws.proofs.Lookup.{value_at, as_long, set_at}
-use Rattle.sound_code.specs.Marked.{leads_on, leads_storing, Typed, typed_empty, typed_op, typed_both, typed_into}
+use Rattle.marked_code.specs.Marked.{leads_on, leads_storing, Typed, typed_empty, typed_op, typed_both, typed_into}
 use Rattle.sound_code.specs.Named.{slot_at, Ready}
 use Rattle.sound_code.proofs.Narrowing.{get_set, get_other, set_kept, counts_kept, behind_counts, between_counts}
 

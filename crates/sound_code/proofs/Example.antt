@@ -1,7 +1,6 @@
 -- The code of the examples is sound.
-use Rattle.std.proofs.Common.{ℕ, pos, [], ◌∷◌, refl, sym, arith}
+use Rattle.std.proofs.Common.{pos, [], ◌∷◌, refl, sym, arith}
 use Rattle.std.proofs.lemmas.Int.{ints}
-use Rattle.std.specs.Int.{int_wrap}
 use Rattle.lane_kernels.specs.declared.numbers.Width.TheVariants.{W64}
 use Rattle.machine_terms.specs.declared.value.Value.TheVariants.{Number}
 use Rattle.code_laws.specs.CallExample.{calls_program}

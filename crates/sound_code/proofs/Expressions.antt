@@ -34,7 +34,7 @@ use Rattle.fit_rules.specs.Shapes.{numeric_index, Are, are_more, index, is_numbe
 use Rattle.fit_rules.specs.Marks.{Mark, stacked}
 use Rattle.fit_rules.specs.Fits.{Program}
 use Rattle.fit_rules.specs.Sound.{Settled, settled_number, settled_space, does_num, does_load, does_compute, does_compare, does_negate, does_wrap, does_invert, does_space}
-use Rattle.sound_code.specs.Marked.{leads_waiting, typed_op, typed_and, typed_or}
+use Rattle.marked_code.specs.Marked.{leads_waiting, typed_op, typed_and, typed_or}
 use Rattle.sound_code.specs.Named.{shape_of, slot_at, AreNamed, HasSlots}
 use Rattle.sound_code.proofs.Asked.{Asked}
 use Rattle.sound_code.proofs.Calling.{onto, calls, scalar_numeric}

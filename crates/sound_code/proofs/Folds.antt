@@ -15,7 +15,7 @@ use Rattle.fit_rules.specs.Shapes.{Shape, anything, integer, truth, Numeric, num
 use Rattle.fit_rules.specs.Marks.{Mark, stacked}
 use Rattle.fit_rules.specs.Fits.{Program}
 use Rattle.fit_rules.specs.Sound.{settled_number, does_load, does_compute, does_compare, does_wrap}
-use Rattle.sound_code.specs.Marked.{typed_if}
+use Rattle.marked_code.specs.Marked.{typed_if}
 use Rattle.sound_code.specs.Named.{Ready}
 use Rattle.sound_code.proofs.Narrowing.{narrow_itself, narrow_set, narrow_into, get_set, get_other, same_facts}
 use Rattle.sound_code.proofs.Combining.{Keeps, Marked, both, does, into, behind_kept, keeping, set_mark, slot_high, storing}

@@ -1,5 +1,3 @@
-pub mod Placed
-pub mod Remarked
 pub mod Narrowing
 pub mod Combining
 pub mod Asked
@@ -14,8 +12,6 @@ pub mod Folds
 pub mod Prints
 pub mod Filling
 pub mod Blocks
-pub mod Firsts
-pub mod Validity
 pub mod Tasks
 pub mod Entries
 pub mod Openings

@@ -16,7 +16,7 @@ use Rattle.fit_rules.specs.Shapes.{Shape, integer, numeric_integer, World, Is, i
 use Rattle.fit_rules.specs.Marks.{Mark, stacked}
 use Rattle.fit_rules.specs.Fits.{Program}
 use Rattle.fit_rules.specs.Sound.{RoundNumber}
-use Rattle.sound_code.specs.Marked.{typed_rounds}
+use Rattle.marked_code.specs.Marked.{typed_rounds}
 use Rattle.sound_code.specs.Named.{slot_at, Ready}
 use Rattle.fit_laws.proofs.Lookup.{value_at, set_at}
 use Rattle.sound_code.proofs.Narrowing.{get_other, narrow_into, same_facts}

@@ -29,7 +29,7 @@ use Rattle.sound_code.specs.Programs.{BeginsWell, CallsAreSound, entry_place, fi
 use Rattle.sound_code.proofs.Asked.{opening_mark}
 use Rattle.sound_code.proofs.Calling.{opening_suits, scalars_are, some_body, types_many}
 use Rattle.sound_code.proofs.Entries.{named_there}
-use Rattle.sound_code.proofs.Remarked.{remarked}
+use Rattle.marked_code.proofs.Remarked.{remarked}
 use Rattle.sound_code.proofs.Tasks.{bare, begins, HasMarks, is_at, IsMarked, marks_of, sound_task, Treated, treat}
 
 number_of_type : (t : StaticType) (w : Width) (z : ℤ) → IsOf t (a_number w z) → NumberIs (shape_of t) z

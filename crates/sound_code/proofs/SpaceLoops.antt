@@ -17,7 +17,7 @@ use Rattle.fit_rules.specs.Shapes.{Each, index, space, World, Is, is_number, is_
 use Rattle.fit_rules.specs.Marks.{Stores, AtMost, counts, Fact, HoldsTop, Mark, size_in, stacked, the_colour, top_colour, topped}
 use Rattle.fit_rules.specs.Fits.{Program}
 use Rattle.fit_rules.specs.Sound.{RoundPoint}
-use Rattle.sound_code.specs.Marked.{leads_coloured, leads_storing, typed_op, typed_points}
+use Rattle.marked_code.specs.Marked.{leads_coloured, leads_storing, typed_op, typed_points}
 use Rattle.sound_code.specs.Named.{IsCount, is_count, slot_at, Ready}
 use Rattle.fit_laws.proofs.Lookup.{as_long, value_at, set_at}
 use Rattle.sound_code.proofs.Combining.{are_first, are_others, Marked, both, into, behind_kept, set_mark, slot_high, storing}

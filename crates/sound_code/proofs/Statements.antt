@@ -33,7 +33,7 @@ use Rattle.fit_rules.specs.Shapes.{Shape, integer, truth, space, region, NumberI
 use Rattle.fit_rules.specs.Marks.{Mark, stacked}
 use Rattle.fit_rules.specs.Fits.{Program}
 use Rattle.fit_rules.specs.Sound.{Settled, settled_number, does_num, does_assert, does_drop}
-use Rattle.sound_code.specs.Marked.{leads_back, leads_making, typed_op, typed_branch, typed_loop}
+use Rattle.marked_code.specs.Marked.{leads_back, leads_making, typed_op, typed_branch, typed_loop}
 use Rattle.sound_code.specs.Named.{shape_of, slot_at, HasSlots, Ready, Narrower}
 use Rattle.sound_code.proofs.Asked.{Asked}
 use Rattle.sound_code.proofs.Calling.{alike_second, calls, scalar_numeric}

@@ -23,15 +23,16 @@ use Rattle.fit_rules.specs.Shapes.{Each, Shape, anything}
 use Rattle.fit_rules.specs.Marks.{Into, Mark, stacked}
 use Rattle.fit_rules.specs.Fits.{Program}
 use Rattle.fit_rules.specs.Sound.{IsSound}
-use Rattle.sound_code.specs.Marked.{Typed}
+use Rattle.marked_code.specs.Marked.{Typed}
 use Rattle.sound_code.specs.Named.{shape_of, slot_at, AreNamed, HasSlots, Ready}
 use Rattle.sound_code.proofs.Asked.{opening_mark, Known}
 use Rattle.sound_code.proofs.Blocks.{block_marked}
 use Rattle.sound_code.proofs.Calling.{types_many}
-use Rattle.sound_code.proofs.Firsts.{begins_with}
-use Rattle.sound_code.proofs.Placed.{long_marks, MarksAt}
-use Rattle.sound_code.proofs.Remarked.{Begins, marks_listed, remarked, typed_remarked}
-use Rattle.sound_code.proofs.Validity.{valid_of}
+use Rattle.marked_code.proofs.Firsts.{begins_with}
+use Rattle.marked_code.specs.Bodies.{MarksAt}
+use Rattle.marked_code.proofs.Placed.{long_marks}
+use Rattle.marked_code.proofs.Remarked.{Begins, marks_listed, remarked, typed_remarked}
+use Rattle.marked_code.proofs.Validity.{valid_of}
 
 -- ---- the mark in which a body begins
 
@@ -204,7 +205,7 @@ module _ (tree : Tree) where
       let m = opening_mark tree t in
       let p = block_code (place_of tree t) t.body in
       let typed = typed_remarked bare code k (marks_of lists) (begins lists marked) m p h.front h.last h.typed in
-      let listed : MarksAt g code k 0 (h.front ++ h.last ∷ []) =
+      let listed : MarksAt g k 0 (h.front ++ h.last ∷ []) =
       marks_listed g code k (opening_mark tree (task_at k)) [] (h.front ++ h.last ∷ [])
       (λ pc. ap (λ l. get_or l pc (opening_mark tree (task_at k))) h.are) in
       let long = long_marks g code k code.slots m p h.front h.last typed (slots_many t) in

@@ -1,5 +1,5 @@
 -- Programs whose code is sound, so that the laws are laws of something.
-use Rattle.std.specs.Prelude.{◌≡◌, ℕ, [], ◌∷◌, pos}
+use Rattle.std.specs.Prelude.{◌≡◌, [], ◌∷◌, pos}
 use Rattle.regent_tree.specs.StaticTypes.{task_named}
 use Rattle.task_code.specs.declared.code.TaskCode.{TaskCode}
 use Rattle.machine_terms.specs.declared.frame.Before.{Before}

@@ -1,4 +1,3 @@
 pub mod Named
-pub mod Marked
 pub mod Programs
 pub mod Example

@@ -16,17 +16,17 @@ use Rattle.region_tree.specs.Requirements.{IsWithin}
 use Rattle.machine_terms.specs.declared.value.Value.{Value}
 use Rattle.fit_rules.specs.Fits.{declared_claims, own_claims, root_claims, Program, Covers, made_it, declares_it, reads_and_writes}
 use Rattle.fit_rules.specs.Sound.{Allowed, Through, Effect, does_num, does_load, does_drop, does_compute, does_compare, does_pointers_equal, does_pointers_differ, does_negate, does_wrap, does_invert, does_point, does_is_null, does_assert, does_move, does_element, does_read, does_write, does_reduce, does_fill, does_cast, does_cast_pointer, does_space, does_colors, does_child, does_print}
-use Rattle.sound_code.specs.Marked.{Leads, leads_on, leads_storing, leads_nowhere, leads_back, leads_coloured, leads_calling, leads_waiting, leads_making, Typed, typed_empty, typed_op, typed_both, typed_into, typed_from, typed_and, typed_or, typed_if, typed_branch, typed_loop, typed_rounds, typed_points}
-use Rattle.sound_code.proofs.Placed.{MarksAt}
+use Rattle.marked_code.specs.Marked.{Leads, leads_on, leads_storing, leads_nowhere, leads_back, leads_coloured, leads_calling, leads_waiting, leads_making, Typed, typed_empty, typed_op, typed_both, typed_into, typed_from, typed_and, typed_or, typed_if, typed_branch, typed_loop, typed_rounds, typed_points}
+use Rattle.marked_code.specs.Bodies.{MarksAt}
 
 -- the marks of a list are those of the places from the front
 pub marks_listed : (g : Program) (t : TaskCode) (k : ℕ) (d : Mark) (pre ms : List Mark) →
-    ((pc : ℕ) → g.marks k pc ≡ get_or (pre ++ ms) pc d) → MarksAt g t k (length pre) ms
+    ((pc : ℕ) → g.marks k pc ≡ get_or (pre ++ ms) pc d) → MarksAt g k (length pre) ms
 marks_listed g t k d pre [] h = tt
 marks_listed g t k d pre (m ∷ ms) h =
     let n : length (pre ++ m ∷ []) ≡ suc (length pre) = omega (arith, length-append pre (m ∷ [])) in (
       h (length pre) ∙ get_or-append_seam pre m ms d,
-      subst (λ y. MarksAt g t k y ms) n (marks_listed g t k d (pre ++ m ∷ []) ms
+      subst (λ y. MarksAt g k y ms) n (marks_listed g t k d (pre ++ m ∷ []) ms
           (λ pc. h pc ∙ ap (λ l. get_or l pc d) (sym (append_assoc pre (m ∷ []) ms)))),
     )
 

@@ -5,7 +5,7 @@ use Rattle.task_code.specs.declared.code.TaskCode.{TaskCode}
 use Rattle.code_rules.specs.Pieces.{Piece}
 use Rattle.fit_rules.specs.Marks.{Mark, Into, stacked}
 use Rattle.fit_rules.specs.Fits.{Program}
-use Rattle.sound_code.specs.Marked.{Typed, typed_empty, typed_op, typed_both, typed_into, typed_from, typed_and, typed_or, typed_if, typed_branch, typed_loop, typed_rounds, typed_points}
+use Rattle.marked_code.specs.Marked.{Typed, typed_empty, typed_op, typed_both, typed_into, typed_from, typed_and, typed_or, typed_if, typed_branch, typed_loop, typed_rounds, typed_points}
 
 module _ (g : Program) (t : TaskCode) (k : ℕ) (d : Mark) where
   -- the first of marks, and the one behind

@@ -12,8 +12,9 @@ use Rattle.code_laws.proofs.Places.{after, past_after, stands_alone}
 use Rattle.fit_rules.specs.Marks.{Mark}
 use Rattle.fit_rules.specs.Fits.{Program}
 use Rattle.fit_rules.specs.Sound.{To, Sound, returns, Valid}
-use Rattle.sound_code.specs.Marked.{Typed}
-use Rattle.sound_code.proofs.Placed.{MarksAt, marks_front, back_at, into_same, below, are_sound, at_line}
+use Rattle.marked_code.specs.Bodies.{MarksAt, MarkedBodiesAreValid}
+use Rattle.marked_code.specs.Marked.{Typed}
+use Rattle.marked_code.proofs.Placed.{marks_front, back_at, into_same, below, are_sound, at_line}
 
 -- as many lines as places
 pub after_long : (ls : List Line) (pc : ℕ) → after ls pc ≡ pc + length ls
@@ -33,10 +34,10 @@ fetched_within body pc l e = of_test (nat_lt pc (2 ^ 32)) e
     of_test false e = absurd (none-some l e)
 
 module _ (g : Program) (t : TaskCode) (k : ℕ) where
-  pub valid_of : (m n : Mark) (p : Piece) (line : ℕ) (ms : List Mark) → Typed g t k m p ms n →
-      t.body ≡ lines (p ⨟ op instr.Return line) 0 → length t.body ≤ 2 ^ 32 → MarksAt g t k 0 (ms ++ n ∷ []) →
+  body_valid : (m n : Mark) (p : Piece) (line : ℕ) (ms : List Mark) → Typed g t k m p ms n →
+      t.body ≡ lines (p ⨟ op instr.Return line) 0 → length t.body ≤ 2 ^ 32 → MarksAt g k 0 (ms ++ n ∷ []) →
       Valid g t k
-  valid_of m n p line ms f eb small h pc l e =
+  body_valid m n p line ms f eb small h pc l e =
       let whole = p ⨟ op instr.Return line in
       let stands : Stands t.body 0 whole = subst (λ b. Stands b 0 whole) (sym eb)
       (stands_alone whole (subst (λ b. length b ≤ 2 ^ 32) eb small)) in
@@ -52,3 +53,6 @@ module _ (g : Program) (t : TaskCode) (k : ℕ) where
       subst (λ q. fetch t.body q ≡ Some l → Sound g t k q l.instr) same
       (λ d. at_line g t k (past p 0) instr.Return line stands.1 returns l d) e)
       (below pc (past p 0))
+
+pub valid_of : MarkedBodiesAreValid
+valid_of g t k m n p line ms f eb small h = body_valid g t k m n p line ms f eb small h

@@ -16,7 +16,8 @@ use Rattle.fit_rules.specs.Shapes.{Among, Each, truth, space, region, awaited}
 use Rattle.fit_rules.specs.Marks.{ColoursStand, counts, Mark, Suits, Into, stacked, the_colour, top_colour, topped}
 use Rattle.fit_rules.specs.Fits.{Program}
 use Rattle.fit_rules.specs.Sound.{Effect, Opens, RoundNumber, RoundPoint, Takes, To, ToStored, Sound, straight, stored, jumps, jumps_if_not, jumps_and, jumps_or, counts_numbers, counts_points, takes_turn, returns, returns_value, colours, awaits, makes_root, makes_call}
-use Rattle.sound_code.specs.Marked.{Leads, leads_on, leads_storing, leads_nowhere, leads_back, leads_coloured, leads_calling, leads_waiting, leads_making, Typed, typed_empty, typed_op, typed_both, typed_into, typed_from, typed_and, typed_or, typed_if, typed_branch, typed_loop, typed_rounds, typed_points}
+use Rattle.marked_code.specs.Bodies.{MarksAt}
+use Rattle.marked_code.specs.Marked.{Leads, leads_on, leads_storing, leads_nowhere, leads_back, leads_coloured, leads_calling, leads_waiting, leads_making, Typed, typed_empty, typed_op, typed_both, typed_into, typed_from, typed_and, typed_or, typed_if, typed_branch, typed_loop, typed_rounds, typed_points}
 
 -- a number is below another one or not
 pub below : (a b : ℕ) → (a < b) ⊎ (b ≤ a)
@@ -25,20 +26,15 @@ below zero (suc b) = inl (omega arith)
 below (suc a) (suc b) = ⊎_elim (λ l. inl (omega (arith, l))) (λ l. inr (omega (arith, l))) (below a b)
 
 module _ (g : Program) (t : TaskCode) (k : ℕ) where
-  -- these are the marks from a place on
-  abbrev pub MarksAt : ℕ → List Mark → Type 0
-  MarksAt pc [] = Unit {0}
-  MarksAt pc (m ∷ ms) = (g.marks k pc ≡ m) × MarksAt (suc pc) ms
-
   abbrev pub behind : List Mark → ℕ → ℕ
   behind [] pc = pc
   behind (m ∷ ms) pc = behind ms (suc pc)
 
-  pub marks_front : (ms ns : List Mark) (pc : ℕ) → MarksAt pc (ms ++ ns) → MarksAt pc ms
+  pub marks_front : (ms ns : List Mark) (pc : ℕ) → MarksAt g k pc (ms ++ ns) → MarksAt g k pc ms
   marks_front [] ns pc h = tt
   marks_front (m ∷ ms) ns pc h = (h.0, marks_front ms ns (suc pc) h.1)
 
-  marks_back : (ms ns : List Mark) (pc : ℕ) → MarksAt pc (ms ++ ns) → MarksAt (behind ms pc) ns
+  marks_back : (ms ns : List Mark) (pc : ℕ) → MarksAt g k pc (ms ++ ns) → MarksAt g k (behind ms pc) ns
   marks_back [] ns pc h = h
   marks_back (m ∷ ms) ns pc h = marks_back ms ns (suc pc) h.1
 
@@ -72,8 +68,8 @@ module _ (g : Program) (t : TaskCode) (k : ℕ) where
       behind_both ms (stacked m m.stack ∷ []) (suc pc) ∙ ap suc (past_marks n body ms _ (suc pc) f)
 
   pub back_at : (m : Mark) (p : Piece) (ms ns : List Mark) (n : Mark) (pc : ℕ) → Typed g t k m p ms n →
-      MarksAt pc (ms ++ ns) → MarksAt (past p pc) ns
-  back_at m p ms ns n pc f h = subst (λ y. MarksAt y ns) (past_marks m p ms n pc f) (marks_back ms ns pc h)
+      MarksAt g k pc (ms ++ ns) → MarksAt g k (past p pc) ns
+  back_at m p ms ns n pc f h = subst (λ y. MarksAt g k y ns) (past_marks m p ms n pc f) (marks_back ms ns pc h)
 
   -- ---- how many slots
 
@@ -149,7 +145,7 @@ module _ (g : Program) (t : TaskCode) (k : ℕ) where
 
   -- what suits the first mark may go on where the piece begins
   pub begins : (m : Mark) (p : Piece) (ms : List Mark) (n : Mark) (pc : ℕ) → Typed g t k m p ms n →
-      MarksAt pc ms → To g t k n (past p pc) → To g t k m pc
+      MarksAt g k pc ms → To g t k n (past p pc) → To g t k m pc
   begins _ _ _ _ pc (typed_empty m) h to = to
   begins _ _ _ _ pc (typed_op m n i line l) h to = (omega (arith, to.0), into_same m _ h.0)
   begins _ _ _ _ pc (typed_both m n o a b ms ns f q) h to = begins m a ms n pc f (marks_front ms ns pc h)
@@ -265,7 +261,7 @@ module _ (g : Program) (t : TaskCode) (k : ℕ) where
   -- ---- pieces
 
   pub are_sound : (m : Mark) (p : Piece) (ms : List Mark) (n : Mark) (pc : ℕ) → Typed g t k m p ms n →
-      Stands t.body pc p → MarksAt pc ms → To g t k n (past p pc) → AreSound pc (past p pc)
+      Stands t.body pc p → MarksAt g k pc ms → To g t k n (past p pc) → AreSound pc (past p pc)
   are_sound _ _ _ _ pc (typed_empty m) st h to = none_left pc
   are_sound _ _ _ _ pc (typed_op m n i line l) st h to = one_more pc (suc pc)
       (at_line pc i line st (led m n i pc h.0 l to)) (none_left (suc pc))

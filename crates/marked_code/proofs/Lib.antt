@@ -1,0 +1,4 @@
+pub mod Placed
+pub mod Validity
+pub mod Firsts
+pub mod Remarked
