@@ -22,10 +22,14 @@ use Rattle.code_laws.proofs.ScalarRuns.{scalar_run}
 use Rattle.fit_rules.specs.Shapes.{NumberIs, World, is_number, Are, are_none, are_more}
 use Rattle.fit_rules.specs.Marks.{Mark, Suits}
 use Rattle.fit_rules.specs.Ends.{called, opening_machine}
-use Rattle.fit_rules.specs.Fits.{Fits}
+use Rattle.fit_rules.specs.Fits.{Fits, Program}
+use Rattle.fit_rules.specs.Sound.{IsSound}
+use Rattle.task_code.specs.declared.code.TaskCode.{TaskCode}
 use Rattle.fit_laws.proofs.Calls.{opening_fits}
+use Rattle.fit_laws.proofs.Passing.{children_pass}
+use Rattle.fit_laws.proofs.Segments.{children_are_within, no_segment_breaks, partitions_are_sound, segments_keep_fitting, touches_are_covered}
 use Rattle.sound_code.specs.Named.{shape_of}
-use Rattle.sound_code.specs.Programs.{BeginsWell, CallsAreSound, entry_place, first_world, RegionTasksAreSound, RunsSoundly, ScalarTasksAreSound, ScalarProgramsAreSound, TasksRunSoundly}
+use Rattle.sound_code.specs.Programs.{BeginsWell, CallsAreSound, NeverBreaks, entry_place, first_world, RegionTasksAreSound, RunsSoundly, ScalarTasksAreSound, ScalarProgramsAreSound, TasksRunSoundly}
 use Rattle.sound_code.proofs.Asked.{opening_mark}
 use Rattle.sound_code.proofs.Calling.{opening_suits, scalars_are, some_body, types_many}
 use Rattle.sound_code.proofs.Entries.{named_there}
@@ -42,6 +46,16 @@ inputs_are x [] (z ∷ zs) a e = absurd (omega (arith, e))
 inputs_are x (t ∷ ts) [] a e = absurd (omega (arith, e))
 inputs_are x (t ∷ ts) (z ∷ zs) a e =
     are_more _ _ _ _ (is_number (shape_of t) z (number_of_type t _ z a.0)) (inputs_are x ts zs a.1 (omega (arith, e)))
+
+-- sound code never breaks
+never_breaks : (g : Program) (t : TaskCode) (k : ℕ) → IsSound g t k → NeverBreaks g t k
+never_breaks g t k sound x b fit = record {
+  fits = segments_keep_fitting g x t k b sound fit;
+  unbroken = no_segment_breaks g x t k b sound fit;
+  touches = touches_are_covered g x t k b sound fit;
+  children = λ cs e. (children_are_within g x t k b sound fit cs e, children_pass g x t k b sound fit cs e);
+  partitions = partitions_are_sound g x t k b sound fit;
+}
 
 module _ (tree : Tree) (lists : ℕ → List Mark) (marked : IsMarked tree lists) where
   -- a frame that opens with arguments of the parameters' shapes
@@ -91,13 +105,17 @@ module _ (forms : Forms) (tree : Tree) (inputs : List ℤ) (p : IsTypedRun forms
           (same_Some entry t (sym entry_there ∙ ap (slice_get (tasks_of tree)) (sym same) ∙ there))
           (subst (λ y. Treated tree y entry entry_marks.marks) (sym same) entry_marks.treated))
 
+  entry_sound : IsSound (remarked (bare tree) (marks_of tree entry_alone)) (task_code tree entry) (entry_place tree)
+  entry_sound = sound_task tree entry_alone entry_marked (entry_place tree) entry entry_there
+      (subst (λ b. Treated tree (entry_place tree) entry (cond b entry_marks.marks [])) (sym (eq-eqb (entry_place tree) (entry_place tree) refl))
+      entry_marks.treated)
+
   one_task : RunsSoundly forms tree
   one_task = record {
     program = remarked (bare tree) (marks_of tree entry_alone);
     code = refl;
-    sound = sound_task tree entry_alone entry_marked (entry_place tree) entry entry_there
-        (subst (λ b. Treated tree (entry_place tree) entry (cond b entry_marks.marks [])) (sym (eq-eqb (entry_place tree) (entry_place tree) refl))
-        entry_marks.treated);
+    sound = entry_sound;
+    segments = never_breaks _ _ _ entry_sound;
     begins = begins_well tree entry_alone entry_marked forms entry_there;
   }
 
@@ -140,6 +158,7 @@ module _ (tree : Tree) (typed : AreTypedTasks tree) where
     program = remarked (bare tree) (marks_of tree all);
     code = refl;
     sound = λ k t there. sound_task tree all all_marked k t there (all_treated k t there);
+    segments = λ k t there. never_breaks _ _ _ (sound_task tree all all_marked k t there (all_treated k t there));
     opens = λ k t there scalars x args turns depth few a.
         opened tree all all_marked k t there x args turns depth few (scalars_are x (called x args) (param_types tree t) args scalars a);
     begins = λ inputs turns p few.

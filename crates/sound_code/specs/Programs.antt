@@ -1,9 +1,18 @@
 -- Compiled code is sound, and the frames that open in it fit.
-use Rattle.std.specs.Prelude.{◌≡◌, ℕ, ◌<◌, ◌^◌, ℤ, List, [], map, false, Some, slice_get}
+use Rattle.std.specs.Prelude.{◌≡◌, ◌≢◌, ℕ, ◌<◌, ◌^◌, ℤ, List, [], map, Bool, false, true, Some, slice_get}
 use Rattle.regent_tree.specs.StaticTypes.{entry_name, task_named}
 use Rattle.regent_tree.specs.Syntax.{TaskTree, Tree}
 use Rattle.regent_tree.specs.Typing.{param_types}
+use Rattle.regent_tree.specs.Store.{Touch}
 use Rattle.task_code.specs.declared.code.TaskCode.{TaskCode}
+use Rattle.machine_terms.specs.declared.frame.Before.{Before}
+use Rattle.machine_terms.specs.declared.outcome.CallOut.{CallOut}
+use Rattle.machine_terms.specs.declared.outcome.Made.TheVariants as made
+use Rattle.machine_terms.specs.declared.outcome.Yield.TheVariants as yield
+use Rattle.machine_terms.specs.declared.value.RegionValue.{RegionValue}
+use Rattle.machine_terms.specs.Makes.{is_sound}
+use Rattle.machine_terms.specs.Segments.{segment}
+use Rattle.machine_terms.specs.Touches.{segment_touches}
 use Rattle.machine_terms.specs.declared.value.Value.{Value}
 use Rattle.machine_terms.specs.declared.value.Value.TheVariants.{Number}
 use Rattle.machine_terms.specs.Jobs.{first_frame}
@@ -14,9 +23,10 @@ use Rattle.code_laws.specs.ScalarPrograms.{IsScalarProgramRun}
 use Rattle.code_laws.specs.Simple.{IsScalar}
 use Rattle.code_laws.specs.Steps.{Forms}
 use Rattle.fit_rules.specs.Shapes.{anything, Are, Each, World}
-use Rattle.fit_rules.specs.Ends.{called, opening_machine}
-use Rattle.fit_rules.specs.Fits.{Program, Fits}
+use Rattle.fit_rules.specs.Ends.{AfterFits, called, CallsWell, opening_machine}
+use Rattle.fit_rules.specs.Fits.{BeforeFits, Covers, Fits, Program}
 use Rattle.fit_rules.specs.Sound.{IsSound}
+use Rattle.fit_laws.specs.Segments.{PassesTest}
 use Rattle.sound_code.specs.Named.{shape_of}
 
 -- the entry task's code
@@ -44,12 +54,29 @@ BeginsWell forms tree program = (inputs : List ℤ) (turns : ℕ) → IsTypedRun
     Fits program (first_world inputs) (entry_code tree) (entry_place tree)
     (record { frame = first_frame (job_of tree inputs turns) (entry_code tree); parts = [] })
 
--- The program's code, with a mark for each place, such that the entry task's code is sound; and its run begins
--- well.
+-- What a segment keeps: what it leaves fits again, and it isn't a machine fault. Each of its touches is covered by
+-- what its task declares or of a root that the task made; what each child needs is within what the task needs, its
+-- opening frame fits, and it passes the test of the run in order; and each partition lies in its region and keeps
+-- its flag.
+pub record KeepsAll (g : Program) (x : World) (t : TaskCode) (k : ℕ) (b : Before) : Type 0 where
+  pub fits : AfterFits g x t k (segment b)
+  pub unbroken : (segment b).ends ≢ yield.MachineFault
+  pub touches : Each (λ (u : Touch). Covers g x t u.root u.field u.point u.access) (segment_touches b)
+  pub children : (cs : List CallOut) → (segment b).ends ≡ yield.Calls cs → Each (CallsWell g x t) cs × Each (PassesTest g x t) cs
+  pub partitions : (r : RegionValue) (sets : List (List ℕ)) (flag : Bool) →
+      (segment b).ends ≡ yield.Make (made.Partition r sets flag) → is_sound r.points sets flag ≡ true
+
+-- from every state of a task that fits, whether a run in order comes to it or not
+abbrev pub NeverBreaks : Program → TaskCode → ℕ → Type 0
+NeverBreaks g t k = (x : World) (b : Before) → BeforeFits g x t k b → KeepsAll g x t k b
+
+-- The program's code, with a mark for each place, such that the entry task's code is sound and so never breaks;
+-- and its run begins well.
 pub record RunsSoundly (forms : Forms) (tree : Tree) : Type 0 where
   pub program : Program
   pub code : program.code ≡ code_of tree
   pub sound : IsSound program (entry_code tree) (entry_place tree)
+  pub segments : NeverBreaks program (entry_code tree) (entry_place tree)
   pub begins : BeginsWell forms tree program
 
 -- where the entry task's body is typed and treats scalars alone
@@ -64,12 +91,13 @@ RegionTasksAreSound = (tree : Tree) (inputs : List ℤ) → IsTypedRun region_fo
 abbrev pub ScalarProgramsAreSound : Type 0
 ScalarProgramsAreSound = (tree : Tree) (inputs : List ℤ) → IsScalarProgramRun tree inputs → RunsSoundly scalar_forms tree
 
--- The code of each task is sound. The frame of a task that takes numbers and truths fits when it opens, with
+-- The code of each task is sound and so never breaks. The frame of a task that takes numbers and truths fits when it opens, with
 -- any values of these types, around any roots, and its run begins well.
 pub record TasksRunSoundly (tree : Tree) : Type 0 where
   pub program : Program
   pub code : program.code ≡ code_of tree
   pub sound : (k : ℕ) (t : TaskTree) → slice_get (tasks_of tree) k ≡ Some t → IsSound program (task_code tree t) k
+  pub segments : (k : ℕ) (t : TaskTree) → slice_get (tasks_of tree) k ≡ Some t → NeverBreaks program (task_code tree t) k
   pub opens : (k : ℕ) (t : TaskTree) → slice_get (tasks_of tree) k ≡ Some t → Each IsScalar (param_types tree t) →
       (x : World) (args : List Value) (turns depth : ℕ) → turns < 2 ^ 64 → Are x (map shape_of (param_types tree t)) args →
       Fits program (called x args) (task_code tree t) k (opening_machine turns depth k (task_code tree t) args)
