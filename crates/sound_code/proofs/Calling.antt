@@ -20,12 +20,12 @@ use Rattle.code_rules.specs.Pieces.{Piece, op, ◌⨟◌, past, lines}
 use Rattle.code_rules.specs.Programs.{place_of, task_code}
 use Rattle.code_rules.specs.Statements.{block_code}
 use Rattle.code_rules.specs.Slots.{Where}
-use Rattle.code_laws.specs.Simple.{AreAlike, two_integers, two_truths, IsScalar, scalar_integer, scalar_truth}
+use Rattle.code_laws.specs.Simple.{AreAlike, two_integers, two_truths, IsScalar, scalar_integer, scalar_truth, IsSimple, simple_integer, simple_truth, simple_index, simple_space}
 use Rattle.code_laws.specs.Steps.{Forms}
 use Rattle.code_laws.specs.Typed.{ArePassed, IsCalled}
 use Rattle.code_laws.proofs.Calling.{code_there}
 use Rattle.code_laws.proofs.Openings.{params_length, types_length}
-use Rattle.fit_rules.specs.Shapes.{Each, Shape, anything, awaited, Numeric, numeric_integer, numeric_truth, World, Is, is_anything, is_number, Are, are_none, are_more}
+use Rattle.fit_rules.specs.Shapes.{Each, Shape, anything, awaited, Numeric, numeric_integer, numeric_truth, World, Is, is_anything, is_number, is_space, Are, are_none, are_more}
 use Rattle.fit_rules.specs.Marks.{Mark, Suits, stacked}
 use Rattle.fit_rules.specs.Fits.{claims, declared_claims, Program}
 use Rattle.fit_rules.specs.Ends.{called, IsNeeded}
@@ -109,16 +109,27 @@ opening_suits tree t x ws a =
       args = λ i l. ap region_in (get_front ws _ i (omega (arith, l, long)));
     })
 
--- numbers and truths are so around every frame
-pub scalars_are : (x y : World) (ts : List StaticType) (ws : List Value) → Each IsScalar ts → Are x (map shape_of ts) ws →
+-- numbers, truths, indices and index spaces are so around every frame
+pub simples_are : (x y : World) (ts : List StaticType) (ws : List Value) → Each IsSimple ts → Are x (map shape_of ts) ws →
     Are y (map shape_of ts) ws
-scalars_are x y [] _ h are_none = are_none
-scalars_are x y (t ∷ ts) _ h (are_more _ v _ vs i a) =
-    are_more (shape_of t) v _ vs (one t h.0 v i) (scalars_are x y ts vs h.1 a)
+simples_are x y [] _ h are_none = are_none
+simples_are x y (t ∷ ts) _ h (are_more _ v _ vs i a) =
+    are_more (shape_of t) v _ vs (one t h.0 v i) (simples_are x y ts vs h.1 a)
   where
-    one : (t : StaticType) → IsScalar t → (v : Value) → Is x (shape_of t) v → Is y (shape_of t) v
-    one _ (scalar_integer w) _ (is_number _ z p) = is_number _ z p
-    one _ scalar_truth _ (is_number _ z p) = is_number _ z p
+    one : (t : StaticType) → IsSimple t → (v : Value) → Is x (shape_of t) v → Is y (shape_of t) v
+    one _ (simple_integer w) _ (is_number _ z p) = is_number _ z p
+    one _ simple_truth _ (is_number _ z p) = is_number _ z p
+    one _ (simple_index k) _ (is_number _ z p) = is_number _ z p
+    one _ (simple_space k) _ (is_space n l) = is_space n l
+    one _ (simple_space k) _ (is_number _ z p) = absurd p
+
+scalars_simple : (ts : List StaticType) → Each IsScalar ts → Each IsSimple ts
+scalars_simple [] h = tt
+scalars_simple (t ∷ ts) h = (one t h.0, scalars_simple ts h.1)
+  where
+    one : (t : StaticType) → IsScalar t → IsSimple t
+    one _ (scalar_integer w) = simple_integer w
+    one _ scalar_truth = simple_truth
 
 -- ---- calls
 
@@ -158,7 +169,7 @@ module _ (g : Program) (t : TaskCode) (k : ℕ) (w : Where) (known : Known g w.t
   opens m task u there none scalars x vs st ws s a = (
     subst (λ y. Suits (called x ws) (length u.params) y (ws ++ replicate ((task_code w.tree u).slots - length ws) (Number (pos 0))) [])
         (sym (known.begins task u there))
-        (opening_suits w.tree u x ws (scalars_are x (called x ws) (param_types w.tree u) ws scalars a)),
+        (opening_suits w.tree u x ws (simples_are x (called x ws) (param_types w.tree u) ws (scalars_simple (param_types w.tree u) scalars) a)),
     subst (λ ns. Each (IsNeeded g x ws) ns) (sym none) tt,
     subst (λ ns. IsWithin (declared_claims ns ws) (claims g x t)) (sym none) (λ root field point. inl refl),
   )

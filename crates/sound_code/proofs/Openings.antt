@@ -31,7 +31,7 @@ use Rattle.fit_laws.proofs.Segments.{children_are_within, no_segment_breaks, par
 use Rattle.sound_code.specs.Named.{shape_of}
 use Rattle.sound_code.specs.Programs.{BeginsWell, CallsAreSound, NeverBreaks, entry_place, first_world, RegionTasksAreSound, RunsSoundly, ScalarTasksAreSound, ScalarProgramsAreSound, TasksRunSoundly}
 use Rattle.sound_code.proofs.Asked.{opening_mark}
-use Rattle.sound_code.proofs.Calling.{opening_suits, scalars_are, some_body, types_many}
+use Rattle.sound_code.proofs.Calling.{opening_suits, simples_are, some_body, types_many}
 use Rattle.sound_code.proofs.Entries.{named_there}
 use Rattle.marked_code.proofs.Remarked.{remarked}
 use Rattle.sound_code.proofs.Tasks.{bare, begins, HasMarks, is_at, IsMarked, marks_of, sound_task, Treated, treat}
@@ -159,8 +159,8 @@ module _ (tree : Tree) (typed : AreTypedTasks tree) where
     code = refl;
     sound = λ k t there. sound_task tree all all_marked k t there (all_treated k t there);
     segments = λ k t there. never_breaks _ _ _ (sound_task tree all all_marked k t there (all_treated k t there));
-    opens = λ k t there scalars x args turns depth few a.
-        opened tree all all_marked k t there x args turns depth few (scalars_are x (called x args) (param_types tree t) args scalars a);
+    opens = λ k t there simples x args turns depth few a.
+        opened tree all all_marked k t there x args turns depth few (simples_are x (called x args) (param_types tree t) args simples a);
     begins = λ inputs turns p few.
         begins_well tree all all_marked call_forms (named_there tree (entry_name tree) _ p.start) inputs turns p few;
   }

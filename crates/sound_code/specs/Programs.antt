@@ -20,7 +20,7 @@ use Rattle.code_rules.specs.Instructions.{place_of_task, tasks_of}
 use Rattle.code_rules.specs.Programs.{code_of, task_code}
 use Rattle.code_laws.specs.Programs.{AreTypedTasks, IsTypedRun, call_forms, job_of, region_forms, scalar_forms}
 use Rattle.code_laws.specs.ScalarPrograms.{IsScalarProgramRun}
-use Rattle.code_laws.specs.Simple.{IsScalar}
+use Rattle.code_laws.specs.Simple.{IsSimple}
 use Rattle.code_laws.specs.Steps.{Forms}
 use Rattle.fit_rules.specs.Shapes.{anything, Are, Each, World}
 use Rattle.fit_rules.specs.Ends.{AfterFits, called, CallsWell, opening_machine}
@@ -91,14 +91,14 @@ RegionTasksAreSound = (tree : Tree) (inputs : List ℤ) → IsTypedRun region_fo
 abbrev pub ScalarProgramsAreSound : Type 0
 ScalarProgramsAreSound = (tree : Tree) (inputs : List ℤ) → IsScalarProgramRun tree inputs → RunsSoundly scalar_forms tree
 
--- The code of each task is sound and so never breaks. The frame of a task that takes numbers and truths fits when it opens, with
--- any values of these types, around any roots, and its run begins well.
+-- The code of each task is sound and so never breaks. The frame of a task that takes numbers, truths, indices and
+-- index spaces fits when it opens, with any values of these types, around any roots, and its run begins well.
 pub record TasksRunSoundly (tree : Tree) : Type 0 where
   pub program : Program
   pub code : program.code ≡ code_of tree
   pub sound : (k : ℕ) (t : TaskTree) → slice_get (tasks_of tree) k ≡ Some t → IsSound program (task_code tree t) k
   pub segments : (k : ℕ) (t : TaskTree) → slice_get (tasks_of tree) k ≡ Some t → NeverBreaks program (task_code tree t) k
-  pub opens : (k : ℕ) (t : TaskTree) → slice_get (tasks_of tree) k ≡ Some t → Each IsScalar (param_types tree t) →
+  pub opens : (k : ℕ) (t : TaskTree) → slice_get (tasks_of tree) k ≡ Some t → Each IsSimple (param_types tree t) →
       (x : World) (args : List Value) (turns depth : ℕ) → turns < 2 ^ 64 → Are x (map shape_of (param_types tree t)) args →
       Fits program (called x args) (task_code tree t) k (opening_machine turns depth k (task_code tree t) args)
   pub begins : BeginsWell call_forms tree program
