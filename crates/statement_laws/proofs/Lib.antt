@@ -20,6 +20,7 @@ pub mod Starts
 pub mod Tasks
 pub mod Answers
 pub mod Entering
+pub mod Probing
 pub mod Watching
 pub mod Example
 pub mod WatchedExample

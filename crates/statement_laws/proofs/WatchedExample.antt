@@ -21,4 +21,4 @@ written t stands = by (Has-from_Contains (map (λ (i : ItemTree). i.form) (calli
     by (inr (inr (inr h))) = absurd h
 
 pub watched_example_holds : WatchedExampleHolds
-watched_example_holds = record { accepted = refl; written = written; quiet = refl; told = refl }
+watched_example_holds = record { accepted = refl; written = written; quiet = refl; told = refl; own = refl }

@@ -6,7 +6,7 @@
 
 ghost use Rattle.statement_laws.specs.Example.{ExampleHolds};
 ghost use Rattle.statement_laws.specs.WatchedExample.{WatchedExampleHolds};
-ghost use Rattle.statement_laws.specs.Watching.{MeaningsAreGuarded, ProgramsKeepPrivileges};
+ghost use Rattle.statement_laws.specs.Watching.{ProgramsKeepPrivileges};
 ghost use Rattle.statement_laws.specs.Laws.{AnswersAreSound, BodiesAreCovered, InstancesAreCovered, OpeningsAreSound, StatementsKeep};
 
 /// Every statement keeps what holds at a place.
@@ -39,19 +39,14 @@ pub fn programs_keep_privileges()
     ensures { ProgramsKeepPrivileges }
 {}
 
-/// The meaning's calls are guarded ones, with a guard that lets all pass.
-pub fn meanings_are_guarded()
-    ensures { MeaningsAreGuarded }
-{}
-
 /// A task and arguments of which each premise of the laws on openings, bodies and instances holds, with the
 /// touches that it makes.
 pub fn example_holds()
     ensures { ExampleHolds }
 {}
 
-/// A program of which the premises of the law on programs hold, with a quiet watch; and one without the
-/// privileges, of which the watch tells.
+/// A program of which the premises of the law on programs hold, and whose watched run has no alarm; and one without
+/// the privileges, whose watched run ends with it.
 pub fn watched_example_holds()
     ensures { WatchedExampleHolds }
 {}
