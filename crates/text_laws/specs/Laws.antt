@@ -1,0 +1,18 @@
+-- Laws of the programs that texts spell.
+use Rattle.std.specs.Prelude.{List, Ok, [], length, ℕ, ℤ, ◌≡◌}
+use Rattle.regent_tree.specs.StaticTypes.{entry_name, task_named}
+use Rattle.regent_tree.specs.Syntax.{Tree}
+use Rattle.check_rules.specs.Breaches.{breaches}
+use Rattle.regent_reader.specs.Texts.{Reads}
+use Rattle.statement_laws.specs.Watching.{IsWithinPrivileges}
+use Rattle.statement_laws.specs.WrittenStatements.{AreWrittenTasks}
+
+-- in each tree that is read a prefix has a sign
+abbrev pub ReadTreesAreWritten : Type 0
+ReadTreesAreWritten = (text : List ℕ) (tree : Tree) → Reads text (Ok tree) → AreWrittenTasks tree
+
+-- In a program that a text spells and that has no breach, no task of a run touches an element outside its declared
+-- privileges, whatever the numbers that the entry task is given and the turns.
+abbrev pub TextsKeepPrivileges : Type 0
+TextsKeepPrivileges = (text : List ℕ) (tree : Tree) (inputs : List ℤ) (turns : ℕ) → Reads text (Ok tree) → breaches tree ≡ [] →
+    length inputs ≡ length (task_named tree (entry_name tree)).params → IsWithinPrivileges tree inputs turns

@@ -1,0 +1,17 @@
+//! Laws of the programs that texts spell: what is proved of the trees that the reader gives holds of them.
+//!
+//! The laws are stated under specs/. Each function has an empty body; its contract is a law.
+#![tactic(auto)]
+
+ghost use Rattle.text_laws.specs.Laws.{ReadTreesAreWritten, TextsKeepPrivileges};
+
+/// In each tree that is read a prefix has a sign.
+pub fn read_trees_are_written()
+    ensures { ReadTreesAreWritten }
+{}
+
+/// In a program that a text spells and that has no breach, no task of a run touches an element outside its declared
+/// privileges.
+pub fn texts_keep_privileges()
+    ensures { TextsKeepPrivileges }
+{}
