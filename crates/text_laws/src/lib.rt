@@ -3,6 +3,7 @@
 //! The laws are stated under specs/. Each function has an empty body; its contract is a law.
 #![tactic(auto)]
 
+ghost use Rattle.text_laws.specs.Example.{ExampleIsRead};
 ghost use Rattle.text_laws.specs.Laws.{ReadTreesAreWritten, TextsKeepPrivileges};
 
 /// In each tree that is read a prefix has a sign.
@@ -14,4 +15,9 @@ pub fn read_trees_are_written()
 /// privileges.
 pub fn texts_keep_privileges()
     ensures { TextsKeepPrivileges }
+{}
+
+/// A text that is read, and of which the premises of the law hold.
+pub fn example_is_read()
+    ensures { ExampleIsRead }
 {}
