@@ -24,3 +24,4 @@ pub mod Probing
 pub mod Watching
 pub mod Example
 pub mod WatchedExample
+pub mod PlaceExample

@@ -7,7 +7,7 @@ use Rattle.regent_tree.specs.declared.program.Grant.TheVariants.{Reads, Reduces}
 use Rattle.statement_laws.specs.WatchedExample.{WatchedExampleHolds, calling_tree}
 use Rattle.statement_laws.specs.WrittenStatements.{AreWrittenTasks, IsWrittenBlock}
 
-abbrev body_of_item : ItemForm → Block
+abbrev pub body_of_item : ItemForm → Block
 body_of_item (task_item t) = t.body
 body_of_item form = no_statement
 

@@ -5,3 +5,4 @@ pub mod Laws
 pub mod Watching
 pub mod Example
 pub mod WatchedExample
+pub mod PlaceExample

@@ -5,6 +5,7 @@
 #![tactic(auto)]
 
 ghost use Rattle.statement_laws.specs.Example.{ExampleHolds};
+ghost use Rattle.statement_laws.specs.PlaceExample.{PlacesAreReady};
 ghost use Rattle.statement_laws.specs.WatchedExample.{WatchedExampleHolds};
 ghost use Rattle.statement_laws.specs.Watching.{ProgramsKeepPrivileges};
 ghost use Rattle.statement_laws.specs.Laws.{AnswersAreSound, BodiesAreCovered, InstancesAreCovered, OpeningsAreSound, StatementsKeep};
@@ -49,4 +50,10 @@ pub fn example_holds()
 /// the privileges, whose watched run ends with it.
 pub fn watched_example_holds()
     ensures { WatchedExampleHolds }
+{}
+
+/// Two places at which all holds that the laws on statements and expressions suppose: before a reduction, and before a
+/// call.
+pub fn places_are_ready()
+    ensures { PlacesAreReady }
 {}
