@@ -22,6 +22,7 @@ pub mod Answers
 pub mod Entering
 pub mod Probing
 pub mod Watching
+pub mod Opened
 pub mod Example
 pub mod WatchedExample
 pub mod PlaceExample

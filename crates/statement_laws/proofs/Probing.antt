@@ -43,26 +43,31 @@ probing kind tree turns (suc more) line task vs store =
     unless_alarmed (keeps_privileges tree (length store) t vs r) (ended (length store) (scope_of tree t) (result_type tree t.result) r)
     (broke (record { kind = Depth; line = line }) [])
 
-all_pass : (test : Touch → Bool) (ts : List Touch) → ((t : Touch) → Has ts t → test t ≡ true) → list_all test ts ≡ true
+pub all_pass : (test : Touch → Bool) (ts : List Touch) → ((t : Touch) → Has ts t → test t ≡ true) → list_all test ts ≡ true
 all_pass test [] h = refl
 all_pass test (t ∷ ts) h = and_from (test t) (list_all test ts) (h t (inl refl)) (all_pass test ts (λ y g. h y (inr g)))
 
 -- the kind of the fault that a call gave
-abbrev kind_of : Called → FaultKind
+abbrev pub kind_of : Called → FaultKind
 kind_of (came_back v store text) = Turns
 kind_of (broke f text) = f.kind
 
-abbrev kind_of_run : Result Going → FaultKind
+abbrev pub kind_of_run : Result Going → FaultKind
 kind_of_run (gives g u) = Turns
 kind_of_run (fails f u) = f.kind
 
-early_kind : (r : Result Going) → EndsEarly r → kind_of_run r ≡ Depth
+pub early_kind : (r : Result Going) → EndsEarly r → kind_of_run r ≡ Depth
 early_kind (gives g u) e = absurd e
 early_kind (fails f u) e = e
 
 kind_ended : (roots : ℕ) (s : Scope) (t : StaticType) (r : Result Going) → kind_of (ended roots s t r) ≡ kind_of_run r
 kind_ended roots s t (gives g u) = refl
 kind_ended roots s t (fails f u) = refl
+
+-- what a fault of depth is given by
+pub given_by : (x : Instance) (m : Interpretation) (n : ℕ) (t : Scope) (r : Result Going) → GoesOnSound x m n t r → kind_of_run r ≡ Depth → (f : Fault) × IsGivenFault x f × (f.kind ≡ Depth)
+given_by x m n t (gives g u) goes e = absurd cc
+given_by x m n t (fails f u) goes e = (f, goes.depth e, e)
 
 module _ (kind : FaultKind) (another : kind ≡ Depth → ⊥) (tree : Tree) (turns : ℕ) (none : breaches tree ≡ []) (written : AreWrittenTasks tree) where
   abbrev watched : ℕ → Calls
@@ -100,11 +105,6 @@ module _ (kind : FaultKind) (another : kind ≡ Depth → ⊥) (tree : Tree) (tu
 
   instance_keeps : (more : ℕ) (task : TaskTree) (vs : List Value) (store : Store) → StandsIn tree task → AreFitting tree task vs (length store) → Goes more task vs store
   instance_keeps more task vs store stands fit = instance_goes tree turns none written (watched more) task vs store stands fit (answers more (of_arguments vs))
-
-  -- what a fault of depth is given by
-  given_by : (x : Instance) (m : Interpretation) (n : ℕ) (t : Scope) (r : Result Going) → GoesOnSound x m n t r → kind_of_run r ≡ Depth → (f : Fault) × IsGivenFault x f × (f.kind ≡ Depth)
-  given_by x m n t (gives g u) goes e = absurd cc
-  given_by x m n t (fails f u) goes e = (f, goes.depth e, e)
 
   -- a call whose arguments fit never tells of depth
   quiet : (more line : ℕ) (name : Name) (vs : List Value) (store : Store) → has_task tree name ≡ true → AreFitting tree (task_named tree name) vs (length store) →

@@ -2,8 +2,8 @@
 --
 -- A watched call answers as the meaning's does where each touch of the called task's instance is covered by what
 -- that task declares. Where one isn't, it gives an alarm in place of its answer: any answer, the same for the whole
--- run. A run without an uncovered touch in its calls is the meaning's own whatever the alarm; with one it is another
--- run, for instance where the alarm is a fault that no call of the program has.
+-- run. A run without an uncovered touch in its calls is the meaning's own whatever the alarm. With one it is another
+-- run: where the alarm is a fault, that run ends with it.
 use Rattle.std.specs.Prelude.{Bool, List, [], false, length, suc, true, zero, ℕ, ℤ, ◌≡◌}
 use Rattle.std.specs.List.{list_all}
 use Rattle.regent_tree.specs.Cover.{is_covered}

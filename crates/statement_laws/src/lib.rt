@@ -5,6 +5,7 @@
 #![tactic(auto)]
 
 ghost use Rattle.statement_laws.specs.Example.{ExampleHolds};
+ghost use Rattle.statement_laws.specs.Opened.{OpenedInstancesAreCovered};
 ghost use Rattle.statement_laws.specs.PlaceExample.{PlacesAreReady};
 ghost use Rattle.statement_laws.specs.WatchedExample.{WatchedExampleHolds};
 ghost use Rattle.statement_laws.specs.Watching.{ProgramsKeepPrivileges};
@@ -38,6 +39,12 @@ pub fn instances_are_covered()
 /// In a program without a breach no task of a run touches an element outside its declared privileges.
 pub fn programs_keep_privileges()
     ensures { ProgramsKeepPrivileges }
+{}
+
+/// In a program without a breach each touch of each task instance that a run opens is covered by what its task
+/// declares.
+pub fn opened_instances_are_covered()
+    ensures { OpenedInstancesAreCovered }
 {}
 
 /// A task and arguments of which each premise of the laws on openings, bodies and instances holds, with the
