@@ -7,3 +7,4 @@ pub mod Opened
 pub mod Example
 pub mod WatchedExample
 pub mod PlaceExample
+pub mod OpenedExample

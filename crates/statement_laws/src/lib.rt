@@ -6,6 +6,7 @@
 
 ghost use Rattle.statement_laws.specs.Example.{ExampleHolds};
 ghost use Rattle.statement_laws.specs.Opened.{OpenedInstancesAreCovered};
+ghost use Rattle.statement_laws.specs.OpenedExample.{OpenedExampleHolds};
 ghost use Rattle.statement_laws.specs.PlaceExample.{PlacesAreReady};
 ghost use Rattle.statement_laws.specs.WatchedExample.{WatchedExampleHolds};
 ghost use Rattle.statement_laws.specs.Watching.{ProgramsKeepPrivileges};
@@ -63,4 +64,9 @@ pub fn watched_example_holds()
 /// call.
 pub fn places_are_ready()
     ensures { PlacesAreReady }
+{}
+
+/// An instance that a run opens by a call, with its touches.
+pub fn opened_example_holds()
+    ensures { OpenedExampleHolds }
 {}

@@ -14,8 +14,9 @@ use Rattle.regent_grammar.specs.Rules.{Sort}
 use Rattle.regent_grammar.specs.Terminals.{terminals}
 use Rattle.regent_reader.specs.Texts.{Nests, OfTokens, Outcome, Parses, Reads, counted, has_tokens, is_long, is_none, is_tree}
 use Rattle.statement_laws.specs.WrittenStatements.{AreWrittenTasks}
+use Rattle.statement_laws.proofs.Opened.{opened_instances_are_covered}
 use Rattle.statement_laws.proofs.Watching.{programs_keep_privileges}
-use Rattle.text_laws.specs.Laws.{ReadTreesAreWritten, TextsKeepPrivileges}
+use Rattle.text_laws.specs.Laws.{OpenedByTextsAreCovered, ReadTreesAreWritten, TextsKeepPrivileges}
 use Rattle.text_laws.proofs.Statements.{all_write, program'}
 use Rattle.text_laws.proofs.Writings.{IsWrittenItem, Written, written}
 
@@ -65,3 +66,7 @@ read_trees_are_written text tree reads = outcome_written text (Ok tree) reads
 
 pub texts_keep_privileges : TextsKeepPrivileges
 texts_keep_privileges text tree inputs turns reads none counted = programs_keep_privileges tree inputs turns none (read_trees_are_written text tree reads) counted
+
+pub opened_by_texts_are_covered : OpenedByTextsAreCovered
+opened_by_texts_are_covered text tree inputs turns reads none counted i opened =
+    opened_instances_are_covered tree inputs turns none (read_trees_are_written text tree reads) counted i opened

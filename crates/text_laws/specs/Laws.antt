@@ -1,10 +1,11 @@
 -- Laws of the programs that texts spell.
-use Rattle.std.specs.Prelude.{List, Ok, [], length, ℕ, ℤ, ◌≡◌}
+use Rattle.std.specs.Prelude.{List, Ok, [], length, true, ℕ, ℤ, ◌≡◌}
 use Rattle.regent_tree.specs.StaticTypes.{entry_name, task_named}
 use Rattle.regent_tree.specs.Syntax.{Tree}
 use Rattle.check_rules.specs.Breaches.{breaches}
 use Rattle.regent_reader.specs.Texts.{Reads}
-use Rattle.statement_laws.specs.Watching.{IsWithinPrivileges}
+use Rattle.statement_laws.specs.Opened.{Opened, Opens, run_of_opened}
+use Rattle.statement_laws.specs.Watching.{IsWithinPrivileges, keeps_privileges}
 use Rattle.statement_laws.specs.WrittenStatements.{AreWrittenTasks}
 
 -- in each tree that is read a prefix has a sign
@@ -16,3 +17,9 @@ ReadTreesAreWritten = (text : List ℕ) (tree : Tree) → Reads text (Ok tree) �
 abbrev pub TextsKeepPrivileges : Type 0
 TextsKeepPrivileges = (text : List ℕ) (tree : Tree) (inputs : List ℤ) (turns : ℕ) → Reads text (Ok tree) → breaches tree ≡ [] →
     length inputs ≡ length (task_named tree (entry_name tree)).params → IsWithinPrivileges tree inputs turns
+
+-- And each touch of each task instance that the run opens is covered by what its task declares.
+abbrev pub OpenedByTextsAreCovered : Type 0
+OpenedByTextsAreCovered = (text : List ℕ) (tree : Tree) (inputs : List ℤ) (turns : ℕ) → Reads text (Ok tree) → breaches tree ≡ [] →
+    length inputs ≡ length (task_named tree (entry_name tree)).params →
+    (i : Opened) → Opens tree inputs turns i → keeps_privileges tree (length i.store) i.task i.args (run_of_opened tree turns i) ≡ true

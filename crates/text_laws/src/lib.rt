@@ -4,7 +4,7 @@
 #![tactic(auto)]
 
 ghost use Rattle.text_laws.specs.Example.{ExampleIsRead};
-ghost use Rattle.text_laws.specs.Laws.{ReadTreesAreWritten, TextsKeepPrivileges};
+ghost use Rattle.text_laws.specs.Laws.{OpenedByTextsAreCovered, ReadTreesAreWritten, TextsKeepPrivileges};
 
 /// In each tree that is read a prefix has a sign.
 pub fn read_trees_are_written()
@@ -15,6 +15,12 @@ pub fn read_trees_are_written()
 /// privileges.
 pub fn texts_keep_privileges()
     ensures { TextsKeepPrivileges }
+{}
+
+/// In a program that a text spells and that has no breach, each touch of each task instance that a run opens is
+/// covered by what its task declares.
+pub fn opened_by_texts_are_covered()
+    ensures { OpenedByTextsAreCovered }
 {}
 
 /// A text that is read, and of which the premises of the law hold.
