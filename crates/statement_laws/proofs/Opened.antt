@@ -16,9 +16,10 @@ use Rattle.check_laws.proofs.Entries.{begins}
 use Rattle.alike_runs.specs.Alike.{instead, renamed_answer}
 use Rattle.fact_laws.specs.Regions.{Interpretation}
 use Rattle.expression_laws.proofs.Fitting.{standing_task}
+use Rattle.expression_laws.specs.Needs.{IsCallWithin}
 use Rattle.expression_laws.specs.Sound.{AreFitting, AreSoundAnswers, IsSoundAnswer, of_arguments}
 use Rattle.statement_laws.specs.Laws.{state_of}
-use Rattle.statement_laws.specs.Opened.{Call, Makes, Opened, OpenedInstancesAreCovered, Opens, by_call, entry, probed, run_of_opened, run_with_calls}
+use Rattle.statement_laws.specs.Opened.{Call, Makes, Opened, OpenedCallsLieWithin, OpenedInstancesAreCovered, Opens, by_call, entry, probed, run_of_opened, run_with_calls}
 use Rattle.statement_laws.specs.WrittenStatements.{AreWrittenTasks}
 use Rattle.regent_tree.specs.Cover.{is_covered}
 use Rattle.statement_laws.proofs.Answers.{answers_are_sound, instance_goes, instances_are_covered}
@@ -54,10 +55,14 @@ module _ (tree : Tree) (inputs : List ℤ) (turns : ℕ) (none : breaches tree �
   stands_there : (name : Name) → has_task tree name ≡ true → StandsIn tree (task_named tree name)
   stands_there name there = Contains-from_Has (map (λ (i : ItemTree). i.form) tree) (task_item (task_named tree name)) (standing_task tree name there)
 
-  -- what is called fits
-  called_fits : (more : ℕ) (task : TaskTree) (args : List Value) (store : Store) (c : Call) → IsFitting task args store →
-      Makes tree turns (record { more = more; task = task; args = args; store = store }) c → IsFitting (task_named tree c.task) c.args c.store
-  called_fits more task args store c fit makes =
+  -- what is called fits, and its needs lie within the caller's
+  record IsMet (more : ℕ) (task : TaskTree) (args : List Value) (store : Store) (c : Call) : Type 0 where
+    fitting : IsFitting (task_named tree c.task) c.args c.store
+    within : IsCallWithin (record { tree = tree; calls = calls_at tree turns more; task = task; args = args; roots = length store }) (task_named tree c.task) c.args
+
+  called_met : (more : ℕ) (task : TaskTree) (args : List Value) (store : Store) (c : Call) → IsFitting task args store →
+      Makes tree turns (record { more = more; task = task; args = args; store = store }) c → IsMet more task args store c
+  called_met more task args store c fit makes =
       let calls = probed makes.test (calls_at tree turns more) in
       let r = run_with_calls tree turns calls (record { more = more; task = task; args = args; store = store }) in
       let sound : AreSoundAnswers (of_arguments args) tree calls = λ line name vs before there fits.
@@ -68,15 +73,19 @@ module _ (tree : Tree) (inputs : List ℤ) (turns : ℕ) (none : breaches tree �
       let of = given.1 in
       let d : Call = record { line = of.line; task = of.task; args = of.args; store = of.store } in
       let passes = passing of.line (makes.test d) (calls_at tree turns more of.line of.task of.args of.store) (ap kind_of of.gave ∙ given.2) in
-      subst (λ (e : Call). IsFitting (task_named tree e.task) e.args e.store) (makes.only d passes) (record { stands = stands_there of.task of.there; fits = of.fits })
+      subst (λ (e : Call). IsMet more task args store e) (makes.only d passes) (record { fitting = record { stands = stands_there of.task of.there; fits = of.fits }; within = of.within })
 
   opened_fits : (i : Opened) → Opens tree inputs turns i → IsFitting i.task i.args i.store
   opened_fits _ entry = record { stands = stands_there (entry_name tree) (begins tree none).there; fits = entry_fits tree inputs none counted }
   opened_fits _ (by_call {more = more} {task = task} {args = args} {store = store} {c = c} opened makes) =
-      called_fits (suc more) task args store c (opened_fits (record { more = suc more; task = task; args = args; store = store }) opened) makes
+      (called_met (suc more) task args store c (opened_fits (record { more = suc more; task = task; args = args; store = store }) opened) makes).fitting
 
 pub opened_instances_are_covered : OpenedInstancesAreCovered
 opened_instances_are_covered tree inputs turns none written counted i opened =
     let fit = opened_fits tree inputs turns none written counted i opened in
     all_pass (is_covered tree (length i.store) i.task i.args) (state_of (run_of_opened tree turns i)).touches
     (λ t h. instances_are_covered tree turns i.more i.task i.args i.store none written fit.stands fit.fits t (Contains-from_Has (state_of (run_of_opened tree turns i)).touches t h))
+
+pub opened_calls_lie_within : OpenedCallsLieWithin
+opened_calls_lie_within tree inputs turns none written counted i c opened makes =
+    (called_met tree inputs turns none written counted i.more i.task i.args i.store c (opened_fits tree inputs turns none written counted i opened) makes).within

@@ -14,6 +14,7 @@ use Rattle.regent_tree.specs.Values.{Value}
 use Rattle.regent_tree.specs.declared.outcome.FaultKind.TheVariants.{Depth, Turns}
 use Rattle.check_rules.specs.Breaches.{breaches}
 use Rattle.alike_runs.specs.Alike.{EndsEarly, renamed_answer}
+use Rattle.expression_laws.specs.Needs.{IsCallWithin}
 use Rattle.statement_laws.specs.Watching.{entry_args, keeps_privileges}
 use Rattle.statement_laws.specs.WrittenStatements.{AreWrittenTasks}
 
@@ -63,3 +64,10 @@ abbrev pub OpenedInstancesAreCovered : Type 0
 OpenedInstancesAreCovered = (tree : Tree) (inputs : List ℤ) (turns : ℕ) → breaches tree ≡ [] → AreWrittenTasks tree →
     length inputs ≡ length (task_named tree (entry_name tree)).params →
     (i : Opened) → Opens tree inputs turns i → keeps_privileges tree (length i.store) i.task i.args (run_of_opened tree turns i) ≡ true
+
+-- And what each call of such an instance needs lies within what the instance has: at each field of each point.
+abbrev pub OpenedCallsLieWithin : Type 0
+OpenedCallsLieWithin = (tree : Tree) (inputs : List ℤ) (turns : ℕ) → breaches tree ≡ [] → AreWrittenTasks tree →
+    length inputs ≡ length (task_named tree (entry_name tree)).params →
+    (i : Opened) (c : Call) → Opens tree inputs turns i → Makes tree turns i c →
+    IsCallWithin (record { tree = tree; calls = calls_at tree turns i.more; task = i.task; args = i.args; roots = length i.store }) (task_named tree c.task) c.args

@@ -5,7 +5,7 @@
 #![tactic(auto)]
 
 ghost use Rattle.statement_laws.specs.Example.{ExampleHolds};
-ghost use Rattle.statement_laws.specs.Opened.{OpenedInstancesAreCovered};
+ghost use Rattle.statement_laws.specs.Opened.{OpenedCallsLieWithin, OpenedInstancesAreCovered};
 ghost use Rattle.statement_laws.specs.OpenedExample.{OpenedExampleHolds};
 ghost use Rattle.statement_laws.specs.PlaceExample.{PlacesAreReady};
 ghost use Rattle.statement_laws.specs.WatchedExample.{WatchedExampleHolds};
@@ -46,6 +46,11 @@ pub fn programs_keep_privileges()
 /// declares.
 pub fn opened_instances_are_covered()
     ensures { OpenedInstancesAreCovered }
+{}
+
+/// In a program without a breach what each call of an instance needs that a run opens lies within what the instance has.
+pub fn opened_calls_lie_within()
+    ensures { OpenedCallsLieWithin }
 {}
 
 /// A task and arguments of which each premise of the laws on openings, bodies and instances holds, with the

@@ -14,9 +14,9 @@ use Rattle.regent_grammar.specs.Rules.{Sort}
 use Rattle.regent_grammar.specs.Terminals.{terminals}
 use Rattle.regent_reader.specs.Texts.{Nests, OfTokens, Outcome, Parses, Reads, counted, has_tokens, is_long, is_none, is_tree}
 use Rattle.statement_laws.specs.WrittenStatements.{AreWrittenTasks}
-use Rattle.statement_laws.proofs.Opened.{opened_instances_are_covered}
+use Rattle.statement_laws.proofs.Opened.{opened_calls_lie_within, opened_instances_are_covered}
 use Rattle.statement_laws.proofs.Watching.{programs_keep_privileges}
-use Rattle.text_laws.specs.Laws.{OpenedByTextsAreCovered, ReadTreesAreWritten, TextsKeepPrivileges}
+use Rattle.text_laws.specs.Laws.{CallsOfTextsLieWithin, OpenedByTextsAreCovered, ReadTreesAreWritten, TextsKeepPrivileges}
 use Rattle.text_laws.proofs.Statements.{all_write, program'}
 use Rattle.text_laws.proofs.Writings.{IsWrittenItem, Written, written}
 
@@ -70,3 +70,7 @@ texts_keep_privileges text tree inputs turns reads none counted = programs_keep_
 pub opened_by_texts_are_covered : OpenedByTextsAreCovered
 opened_by_texts_are_covered text tree inputs turns reads none counted i opened =
     opened_instances_are_covered tree inputs turns none (read_trees_are_written text tree reads) counted i opened
+
+pub calls_of_texts_lie_within : CallsOfTextsLieWithin
+calls_of_texts_lie_within text tree inputs turns reads none counted i c opened makes =
+    opened_calls_lie_within tree inputs turns none (read_trees_are_written text tree reads) counted i c opened makes

@@ -4,7 +4,7 @@
 #![tactic(auto)]
 
 ghost use Rattle.text_laws.specs.Example.{ExampleIsRead};
-ghost use Rattle.text_laws.specs.Laws.{OpenedByTextsAreCovered, ReadTreesAreWritten, TextsKeepPrivileges};
+ghost use Rattle.text_laws.specs.Laws.{CallsOfTextsLieWithin, OpenedByTextsAreCovered, ReadTreesAreWritten, TextsKeepPrivileges};
 
 /// In each tree that is read a prefix has a sign.
 pub fn read_trees_are_written()
@@ -21,6 +21,11 @@ pub fn texts_keep_privileges()
 /// covered by what its task declares.
 pub fn opened_by_texts_are_covered()
     ensures { OpenedByTextsAreCovered }
+{}
+
+/// And what each call of such an instance needs lies within what the instance has.
+pub fn calls_of_texts_lie_within()
+    ensures { CallsOfTextsLieWithin }
 {}
 
 /// A text that is read, and of which the premises of the law hold.
