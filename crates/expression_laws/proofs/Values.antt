@@ -39,6 +39,8 @@ use Rattle.expression_laws.specs.Sound.{AreFitting, AreInStore, AreSoundAnswers,
 use Rattle.expression_laws.specs.Writing.{AreLinked, AreStepped, AreWritten, IsWritten}
 use Rattle.expression_laws.proofs.Fitting.{call_named}
 use Rattle.expression_laws.proofs.Passing.{call_fits}
+use Rattle.expression_laws.proofs.Calls.{call_within}
+use Rattle.expression_laws.specs.Needs.{IsCallWithin}
 use Rattle.expression_laws.proofs.Names.{named_fits, pointer_args, reached, said_named}
 use Rattle.expression_laws.proofs.Operators.{after, passed_is, arithmetic_is, as_number_is, as_truth, cast_is, chosen, computes_numbers, operand_any, signed_counted, signed_is, signs_value, size_is, standing_any, standing_is, value_from_number, weaker}
 use Rattle.expression_laws.proofs.Steps.{element_args, element_is, field_args_in, field_is, taking_stands}
@@ -91,8 +93,9 @@ module _ (task : TaskTree) (args : List Value) (roots : ℕ) (m : Interpretation
   written_go p names e fit = reached m h.scope names well_scoped fit (map (looked_up (in_scope h.scope)) p.regions) (pointer_args h.scope scope h.tree p e).1
 
   -- what a call gives
-  pub called_is : (name : Name) (vs : List Value) (u : State) → has_task h.tree name ≡ true → AreFitting h.tree (task_named h.tree name) vs (length u.store) → IsSoundState x m h.scope u → Is (result_type h.tree (task_named h.tree name).result) (called h name vs u)
-  called_is name vs u there fit st = paid u.turns
+  pub called_is : (name : Name) (vs : List Value) (u : State) → has_task h.tree name ≡ true → AreFitting h.tree (task_named h.tree name) vs (length u.store) → IsCallWithin x (task_named h.tree name) vs → IsSoundState x m h.scope u →
+      Is (result_type h.tree (task_named h.tree name).result) (called h name vs u)
+  called_is name vs u there fit within st = paid u.turns
     where
       answered_is : (w : State) → IsSoundState x m h.scope w → (c : Called) → h.calls h.line name vs u.store ≡ c → IsSoundAnswer m h.tree name w.store c → Is (result_type h.tree (task_named h.tree name).result) (answered c w)
       answered_is w st (came_back v store text) same is = (
@@ -101,7 +104,7 @@ module _ (task : TaskTree) (args : List Value) (roots : ℕ) (m : Interpretation
       )
       answered_is w st (broke f text) same is = record {
         covered = st.covered;
-        depth = λ e. record { line = h.line; task = name; args = vs; store = u.store; text = text; there = there; fits = fit; gave = same };
+        depth = λ e. record { line = h.line; task = name; args = vs; store = u.store; text = text; there = there; fits = fit; within = within; gave = same };
       }
 
       paid : (n : ℕ) → Is (result_type h.tree (task_named h.tree name).result) (and_then (pay_from n h u) (λ _ w. and_then (gives w w) (λ t. answered (h.calls h.line name vs t.store))))
@@ -191,7 +194,7 @@ module _ (task : TaskTree) (args : List Value) (roots : ℕ) (m : Interpretation
         (values_are types es wr parts.0 u st) (λ vs w st is.
         let call = (option_or_parts (first_of_call h.tree task h.scope (calling name (known_types h.tree h.scope es))) _ parts.1).0 in
         called_is name vs w (call_named h.tree task h.scope (calling name (known_types h.tree h.scope es)) call)
-        (call_fits task args roots m h sound sound_task scope place name es vs w wr parts.0 call is st) st))
+        (call_fits task args roots m h sound sound_task scope place name es vs w wr parts.0 call is st) (call_within task args roots m h sound sound_task scope place name es vs parts.0 call is) st))
     value_is (access_expr n no_step) wr e u st =
         let parts = option_or_parts (rule_if (not (is_bound h.scope.names n)) rule.Name) _ e in
         let bound = not-false (is_bound h.scope.names n) (rule_none _ rule.Name parts.0) in

@@ -10,7 +10,7 @@ use Rattle.regent_tree.specs.declared.rights.Access.{Access}
 use Rattle.regent_tree.specs.declared.rights.Access.TheVariants.{Read, Write, Reduce}
 use Rattle.regent_tree.specs.declared.rights.Right.{Right}
 use Rattle.check_rules.specs.rules.Privileges.{rights_declared}
-use Rattle.expression_laws.specs.Sound.{Instance}
+use Rattle.expression_laws.specs.Instances.{Instance}
 
 -- the mode of an access
 abbrev pub mode_of : Access → Mode

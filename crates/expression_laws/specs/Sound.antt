@@ -22,17 +22,10 @@ use Rattle.regent_tree.specs.declared.facts.Known.TheVariants.{Made, PartOf}
 use Rattle.check_rules.specs.types.Sorts.{is_region, type_at}
 use Rattle.regent_tree.specs.declared.typing.StaticType.{StaticType}
 use Rattle.regent_tree.specs.declared.typing.StaticType.TheVariants.{Index as index_type, Integer as integer_type, Partition as partition_type, Pointer as pointer_type}
+pub use Rattle.expression_laws.specs.Instances.{Instance}
+use Rattle.expression_laws.specs.Needs.{IsCallWithin}
 use Rattle.expression_laws.specs.Kinds.{IsOfType, NamesFit, number_stood_for}
 use Rattle.fact_laws.specs.Regions.{AllHold, IsColour, IsIn, Interpretation, child_at}
-
--- a task instance: its program, what calls give, its task, its arguments, and the roots that were there when
--- it began
-pub record Instance : Type 0 where
-  pub tree : Tree
-  pub calls : Calls
-  pub task : TaskTree
-  pub args : List Value
-  pub roots : ℕ
 
 -- each point of what the task made is of a root that wasn't there before
 abbrev pub AreOwnRoots : ℕ → Interpretation → List Known → Type 0
@@ -111,7 +104,7 @@ abbrev pub AreSoundAnswers : Interpretation → Tree → Calls → Type 0
 AreSoundAnswers m tree calls = (line : ℕ) (task : Name) (vs : List Value) (store : Store) → has_task tree task ≡ true →
     AreFitting tree (task_named tree task) vs (length store) → IsSoundAnswer m tree task store (calls line task vs store)
 
--- a fault that was given by a call whose arguments fit
+-- a fault that was given by a call whose arguments fit, and whose needs lie within the caller's
 pub record IsGivenFault (x : Instance) (f : Fault) : Type 0 where
   pub line : ℕ
   pub task : Name
@@ -120,6 +113,7 @@ pub record IsGivenFault (x : Instance) (f : Fault) : Type 0 where
   pub text : List ℕ
   pub there : has_task x.tree task ≡ true
   pub fits : AreFitting x.tree (task_named x.tree task) args (length store)
+  pub within : IsCallWithin x (task_named x.tree task) args
   pub gave : x.calls line task args store ≡ broke f text
 
 -- where an instance faults, each touch up to there is covered; and that calls nest too deep is told by calls

@@ -65,6 +65,7 @@ use Rattle.expression_laws.proofs.Operators.{after, converted_passes, weaker}
 use Rattle.statement_laws.specs.Places.{FormGoes, IsReady}
 use Rattle.statement_laws.proofs.Going.{either_goes, stays_goes, stays_here, then_goes}
 use Rattle.statement_laws.proofs.Loops.{evaluates}
+use Rattle.expression_laws.proofs.Calls.{call_within}
 use Rattle.expression_laws.proofs.Values.{called_is, values_are}
 use Rattle.regent_tree.specs.Accesses.{aimed}
 use Rattle.regent_tree.specs.Evaluation.{stepped}
@@ -183,7 +184,7 @@ module _ (task : TaskTree) (args : List Value) (roots : ℕ) where
       (let told = args_told h.tree task h.scope es parts.heads in
       let call = (option_or_parts (first_of_call h.tree task h.scope (calling f (known_types h.tree h.scope es))) _ parts.calls).0 in
       called_is task args roots m h r.sound r.sound_task r.scope r.static.well_scoped r.place r.answers f vs w (call_named h.tree task h.scope (calling f (known_types h.tree h.scope es)) call)
-      (call_fits task args roots m h r.sound r.sound_task r.scope r.place f es vs w wr told call is st) st) (λ v w st is.
+      (call_fits task args roots m h r.sound r.sound_task r.scope r.place f es vs w wr told call is st) (call_within task args roots m h r.sound r.sound_task r.scope r.place f es vs told call is) st) (λ v w st is.
       stays_here (inst h) m h.scope w r.place st))
 
   -- ---- what is returned

@@ -20,6 +20,10 @@ pub mod Starts
 pub mod Tasks
 pub mod Answers
 pub mod Entering
+pub mod Probing
 pub mod Watching
+pub mod Opened
 pub mod Example
 pub mod WatchedExample
+pub mod PlaceExample
+pub mod OpenedExample

@@ -7,7 +7,7 @@ use Rattle.regent_tree.specs.declared.program.Grant.TheVariants.{Reads, Reduces}
 use Rattle.statement_laws.specs.WatchedExample.{WatchedExampleHolds, calling_tree}
 use Rattle.statement_laws.specs.WrittenStatements.{AreWrittenTasks, IsWrittenBlock}
 
-abbrev body_of_item : ItemForm → Block
+abbrev pub body_of_item : ItemForm → Block
 body_of_item (task_item t) = t.body
 body_of_item form = no_statement
 
@@ -21,4 +21,4 @@ written t stands = by (Has-from_Contains (map (λ (i : ItemTree). i.form) (calli
     by (inr (inr (inr h))) = absurd h
 
 pub watched_example_holds : WatchedExampleHolds
-watched_example_holds = record { accepted = refl; written = written; quiet = refl; told = refl }
+watched_example_holds = record { accepted = refl; written = written; quiet = refl; told = refl; own = refl }

@@ -1,132 +1,149 @@
--- In a program without a breach a watched run never tells of a touch that isn't covered.
-use Rattle.std.proofs.Common.{Bool, List, [], ◌∷◌, true, refl, ap, sym, subst, ℕ, ℤ, zero, suc, ◌≡◌, ◌∙◌, inl, inr, length, map}
-use Rattle.std.proofs.lemmas.Bool.{and_from}
-use Rattle.std.specs.List.{list_all}
-use Rattle.regent_tree.proofs.Members.{Contains-from_Has, Has}
-use Rattle.regent_tree.specs.Cover.{is_covered}
+-- In a program without a breach a watched run is the program's own, whatever the alarm.
+--
+-- A probing run is like each of the two, but for the kind of fault where calls nest too deep. It never ends with
+-- Depth, whichever kind that is; and two results are one where they agree under each of two such kinds.
+use Rattle.std.proofs.Common.{Bool, List, [], true, false, refl, ap, sym, ℕ, ℤ, zero, suc, ◌≡◌, ◌∙◌, ◌⊎◌, inl, inr, length}
 use Rattle.regent_tree.specs.Execution.{Going}
-use Rattle.regent_tree.specs.Lookup.{has_task}
-use Rattle.regent_tree.specs.Meaning.{ended, inputs_of, run_task}
-use Rattle.regent_tree.specs.Running.{Called, Calls, Result, broke, came_back, fails, gives}
-use Rattle.regent_tree.specs.Scopes.{Scope, scope_of}
+use Rattle.regent_tree.specs.Meaning.{body_of, calls_at, ended, opening, outcome, run_task}
+use Rattle.regent_tree.specs.Running.{Called, Calls, Result, State, broke, fails, gives}
+use Rattle.regent_tree.specs.Scopes.{scope_of}
 use Rattle.regent_tree.specs.StaticTypes.{entry_name, task_named}
-use Rattle.regent_tree.specs.Store.{Store, Touch}
-use Rattle.regent_tree.specs.Syntax.{ItemTree, Name, TaskTree, Tree, task_item}
-use Rattle.regent_tree.specs.Typing.{param_types, result_type, scope_after_block}
+use Rattle.regent_tree.specs.Store.{Store}
+use Rattle.regent_tree.specs.Syntax.{Name, TaskTree, Tree}
+use Rattle.regent_tree.specs.Typing.{result_type}
 use Rattle.regent_tree.specs.Values.{Value}
 use Rattle.regent_tree.specs.declared.outcome.Fault.{Fault}
 use Rattle.regent_tree.specs.declared.outcome.FaultKind.{FaultKind}
-use Rattle.regent_tree.specs.declared.outcome.FaultKind.TheVariants.{Depth, Turns}
-use Rattle.regent_tree.specs.declared.typing.StaticType.{StaticType}
+use Rattle.regent_tree.specs.declared.outcome.FaultKind.TheVariants.{Depth, NullPointer, Turns}
 use Rattle.check_rules.specs.Breaches.{breaches}
-use Rattle.check_rules.specs.scopes.Sound.{StandsIn}
-use Rattle.check_laws.proofs.Bodies.{body_told}
 use Rattle.check_laws.proofs.Entries.{begins}
-use Rattle.fact_laws.specs.Regions.{Interpretation}
-use Rattle.expression_laws.proofs.Fitting.{standing_task}
-use Rattle.expression_laws.specs.Sound.{AreFitting, AreSoundAnswers, Instance, IsGivenFault, IsSoundAnswer, of_arguments}
-use Rattle.statement_laws.specs.Laws.{state_of}
-use Rattle.statement_laws.specs.Steady.{GoesOnSound}
-use Rattle.statement_laws.specs.Watching.{IsWithinPrivileges, MeaningsAreGuarded, ProgramsKeepPrivileges, guarded_calls, keeps_privileges, passing}
+use Rattle.alike_runs.specs.Alike.{AnswersAlike, AreAlike, BreaksEarly, EndsEarly, IsAlike, instead, renamed, renamed_answer}
+use Rattle.alike_runs.proofs.Statements.{runs_alike}
+use Rattle.statement_laws.specs.Watching.{ProgramsKeepPrivileges, entry_args, keeps_privileges, own_run, run_with, unless_alarmed, watched_calls, watched_run}
 use Rattle.statement_laws.specs.WrittenStatements.{AreWrittenTasks}
-use Rattle.statement_laws.proofs.Answers.{instance_goes, task_ended}
 use Rattle.statement_laws.proofs.Entering.{entry_fits}
-use Rattle.statement_laws.proofs.Tasks.{covered_there}
+use Rattle.statement_laws.proofs.Probing.{always_keeps, never_early, probing, stands_there}
 
--- ---- the meaning's calls
+-- ---- results that agree under two kinds of fault in place of Depth
 
-pub meanings_are_guarded : MeaningsAreGuarded
-meanings_are_guarded tree turns zero = refl
-meanings_are_guarded tree turns (suc more) =
-    λ j line task vs store. ended (length store) (scope_of tree (task_named tree task)) (result_type tree (task_named tree task).result)
-    (run_task tree turns (meanings_are_guarded tree turns more j) (task_named tree task) vs store)
+one_kind : (k l : FaultKind) → instead Turns k ≡ instead Turns l → instead NullPointer k ≡ instead NullPointer l → k ≡ l
+one_kind Depth Depth e d = refl
+one_kind Depth _ e d = absurd cc
+one_kind _ Depth e d = absurd cc
+one_kind _ _ e d = e
 
--- ---- watched calls
+abbrev fault_in : Fault → Result Going → Fault
+fault_in f (gives g u) = f
+fault_in f (fails h u) = h
 
-all_pass : (test : Touch → Bool) (ts : List Touch) → ((t : Touch) → Has ts t → test t ≡ true) → list_all test ts ≡ true
-all_pass test [] h = refl
-all_pass test (t ∷ ts) h = and_from (test t) (list_all test ts) (h t (inl refl)) (all_pass test ts (λ y g. h y (inr g)))
+abbrev state_in : Result Going → State
+state_in (gives g u) = u
+state_in (fails f u) = u
 
--- the kind of the fault that a call gave
-abbrev kind_of : Called → FaultKind
-kind_of (came_back v store text) = Turns
-kind_of (broke f text) = f.kind
+one_result : (r q : Result Going) → renamed Turns r ≡ renamed Turns q → renamed NullPointer r ≡ renamed NullPointer q → r ≡ q
+one_result (gives g u) (gives h v) e d = e
+one_result (gives g u) (fails f v) e d = absurd cc
+one_result (fails f u) (gives g v) e d = absurd cc
+one_result (fails f u) (fails g v) e d =
+    ap (λ k. fails (record { kind = k; line = f.line }) u) (one_kind f.kind g.kind (ap (λ r. (fault_in f r).kind) e) (ap (λ r. (fault_in f r).kind) d))
+    ∙ ap (λ l. fails (record { kind = g.kind; line = l }) u) (ap (λ r. (fault_in f r).line) e)
+    ∙ ap (fails g) (ap state_in e)
 
-abbrev kind_of_run : Result Going → FaultKind
-kind_of_run (gives g u) = Turns
-kind_of_run (fails f u) = f.kind
+-- ---- families of calls that answer as the meaning's where no alarm is due
 
-kind_ended : (roots : ℕ) (s : Scope) (t : StaticType) (r : Result Going) → kind_of (ended roots s t r) ≡ kind_of_run r
-kind_ended roots s t (gives g u) = refl
-kind_ended roots s t (fails f u) = refl
+module _ (tree : Tree) (turns : ℕ) where
+  abbrev run_of : Calls → TaskTree → List Value → Store → Result Going
+  run_of calls task vs store = run_task tree turns calls task vs store
 
-module _ (tree : Tree) (turns : ℕ) (none : breaches tree ≡ []) (written : AreWrittenTasks tree) where
-  abbrev watched : ℕ → Calls
-  watched more = guarded_calls (keeps_privileges tree) Turns tree turns more
+  abbrev answer_of : Store → TaskTree → Result Going → Called
+  answer_of store task r = ended (length store) (scope_of tree task) (result_type tree task.result) r
 
-  abbrev instance_of : ℕ → TaskTree → List Value → Store → Instance
-  instance_of more task vs store = record { tree = tree; calls = watched more; task = task; args = vs; roots = length store }
+  record IsFaithful (family : ℕ → Calls) : Type 0 where
+    none : (line : ℕ) (name : Name) (vs : List Value) (store : Store) → family zero line name vs store ≡ calls_at tree turns zero line name vs store
+    answers : (more line : ℕ) (name : Name) (vs : List Value) (store : Store) →
+        keeps_privileges tree (length store) (task_named tree name) vs (run_of (family more) (task_named tree name) vs store) ≡ true →
+        family (suc more) line name vs store ≡ answer_of store (task_named tree name) (run_of (family more) (task_named tree name) vs store)
 
-  abbrev run_of : ℕ → TaskTree → List Value → Store → Result Going
-  run_of more task vs store = run_task tree turns (watched more) task vs store
+  own_faithful : IsFaithful (λ more. calls_at tree turns more)
+  own_faithful = record { none = λ line name vs store. refl; answers = λ more line name vs store e. refl }
 
-  abbrev Goes : ℕ → TaskTree → List Value → Store → Type 0
-  Goes more task vs store =
-      GoesOnSound (instance_of more task vs store) (of_arguments vs) (scope_of tree task).next (scope_after_block tree (scope_of tree task) task.body) (run_of more task vs store)
+  watched_faithful : (alarm : Called) → IsFaithful (λ more. watched_calls alarm tree turns more)
+  watched_faithful alarm = record {
+    none = λ line name vs store. refl;
+    answers = λ more line name vs store e. ap (λ b. unless_alarmed b (answer_of store (task_named tree name) (run_of (watched_calls alarm tree turns more) (task_named tree name) vs store)) alarm) e;
+  }
 
-  -- the guard lets an instance pass that keeps what holds
-  passes : (more : ℕ) (task : TaskTree) (vs : List Value) (store : Store) → Goes more task vs store → keeps_privileges tree (length store) task vs (run_of more task vs store) ≡ true
-  passes more task vs store goes =
-      all_pass (is_covered tree (length store) task vs) (state_of (run_of more task vs store)).touches (λ t h.
-      covered_there (instance_of more task vs store) (of_arguments vs) (scope_of tree task).next (scope_after_block tree (scope_of tree task) task.body) (run_of more task vs store) goes
-      t (Contains-from_Has (state_of (run_of more task vs store)).touches t h))
+  keeps_renamed : (kind : FaultKind) (roots : ℕ) (task : TaskTree) (vs : List Value) (r : Result Going) → keeps_privileges tree roots task vs (renamed kind r) ≡ keeps_privileges tree roots task vs r
+  keeps_renamed kind roots task vs (gives g u) = refl
+  keeps_renamed kind roots task vs (fails f u) = refl
 
-  stands_there : (name : Name) → has_task tree name ≡ true → StandsIn tree (task_named tree name)
-  stands_there name there = Contains-from_Has (map (λ (i : ItemTree). i.form) tree) (task_item (task_named tree name)) (standing_task tree name there)
+  answer_renamed : (kind : FaultKind) (store : Store) (task : TaskTree) (r : Result Going) → answer_of store task (renamed kind r) ≡ renamed_answer kind (answer_of store task r)
+  answer_renamed kind store task (gives g u) = refl
+  answer_renamed kind store task (fails f u) = refl
 
-  answers : (more : ℕ) (m : Interpretation) → AreSoundAnswers m tree (watched more)
-  answers zero m line name vs store there fit = tt
-  answers (suc more) m line name vs store there fit =
+  breaks_early : (store : Store) (task : TaskTree) (r : Result Going) → EndsEarly r → BreaksEarly (answer_of store task r)
+  breaks_early store task (gives g u) e = absurd e
+  breaks_early store task (fails f u) e = e
+
+  -- a probing call is like one of such a family, where the runs of the instances are
+  answers_alike : (kind : FaultKind) (line : ℕ) (task : TaskTree) (vs : List Value) (store : Store) (r q : Result Going) (c : Called) →
+      IsAlike kind r q → (keeps_privileges tree (length store) task vs q ≡ true → c ≡ answer_of store task q) →
+      (b : Bool) → keeps_privileges tree (length store) task vs r ≡ b →
+      AnswersAlike kind (unless_alarmed b (answer_of store task r) (broke (record { kind = Depth; line = line }) [])) c
+  answers_alike kind line task vs store r q c alike h false e = inl refl
+  answers_alike kind line task vs store r q c (inl early) h true e = inl (breaks_early store task r early)
+  answers_alike kind line task vs store r q c (inr same) h true e =
+      let kept = sym (keeps_renamed kind (length store) task vs q) ∙ ap (keeps_privileges tree (length store) task vs) (sym same) ∙ e in
+      inr (ap (answer_of store task) same ∙ answer_renamed kind store task q ∙ ap (renamed_answer kind) (sym (h kept)))
+
+  family_alike : (kind : FaultKind) (family : ℕ → Calls) → IsFaithful family → (more : ℕ) → AreAlike kind (probing kind tree turns more) (family more)
+  family_alike kind family faithful zero line name vs store = inr (ap (renamed_answer kind) (sym (faithful.none line name vs store)))
+  family_alike kind family faithful (suc more) line name vs store =
       let t = task_named tree name in
-      let stands = stands_there name there in
-      let goes : Goes more t vs store = instance_goes tree turns none written (watched more) t vs store stands fit (answers more (of_arguments vs)) in
-      let end = ended (length store) (scope_of tree t) (result_type tree t.result) (run_of more t vs store) in
-      subst (λ b. IsSoundAnswer m tree name store (passing b line end)) (sym (passes more t vs store goes))
-      (task_ended tree turns none written (watched more) m (of_arguments vs) name vs store _ _ (body_told tree t none stands).sound_task.result (run_of more t vs store) goes)
+      let like = runs_alike kind (body_of tree (probing kind tree turns more) t) (family more) (family_alike kind family faithful more) t.body (opening tree turns t vs store) in
+      answers_alike kind line t vs store (run_of (probing kind tree turns more) t vs store) (run_of (family more) t vs store) (family (suc more) line name vs store) like
+      (faithful.answers more line name vs store) (keeps_privileges tree (length store) t vs (run_of (probing kind tree turns more) t vs store)) refl
 
-  instance_keeps : (more : ℕ) (task : TaskTree) (vs : List Value) (store : Store) → StandsIn tree task → AreFitting tree task vs (length store) → Goes more task vs store
-  instance_keeps more task vs store stands fit = instance_goes tree turns none written (watched more) task vs store stands fit (answers more (of_arguments vs))
+-- ---- the run of the entry task
 
-  -- what a fault of depth is given by
-  given_by : (x : Instance) (m : Interpretation) (n : ℕ) (t : Scope) (r : Result Going) → GoesOnSound x m n t r → kind_of_run r ≡ Depth → (f : Fault) × IsGivenFault x f × (f.kind ≡ Depth)
-  given_by x m n t (gives g u) goes e = absurd cc
-  given_by x m n t (fails f u) goes e = (f, goes.depth e, e)
+later : {A B : Type 0} → (A → ⊥) → A ⊎ B → B
+later never (inl a) = absurd (never a)
+later never (inr b) = b
 
-  -- a call whose arguments fit never tells of depth
-  quiet : (more line : ℕ) (name : Name) (vs : List Value) (store : Store) → has_task tree name ≡ true → AreFitting tree (task_named tree name) vs (length store) →
-      kind_of (watched more line name vs store) ≡ Depth → ⊥
-  quiet zero line name vs store there fit e = absurd cc
-  quiet (suc more) line name vs store there fit e =
-      let t = task_named tree name in
-      let goes : Goes more t vs store = instance_keeps more t vs store (stands_there name there) fit in
-      let end = ended (length store) (scope_of tree t) (result_type tree t.result) (run_of more t vs store) in
-      let passed : kind_of end ≡ Depth = subst (λ b. kind_of (passing b line end) ≡ Depth) (passes more t vs store goes) e in
-      let given = given_by (instance_of more t vs store) (of_arguments vs) _ _ (run_of more t vs store) goes (sym (kind_ended (length store) (scope_of tree t) (result_type tree t.result) (run_of more t vs store)) ∙ passed) in
-      let of = given.1 in
-      quiet more of.line of.task of.args of.store of.there of.fits (ap kind_of of.gave ∙ given.2)
+module _ (tree : Tree) (inputs : List ℤ) (turns : ℕ) (none : breaches tree ≡ []) (written : AreWrittenTasks tree)
+    (counted : length inputs ≡ length (task_named tree (entry_name tree)).params) where
+  abbrev entry : TaskTree
+  entry = task_named tree (entry_name tree)
 
-  -- the run of the entry task
-  pub within : (inputs : List ℤ) → length inputs ≡ length (task_named tree (entry_name tree)).params → IsWithinPrivileges tree inputs turns
-  within inputs counted =
-      let t = task_named tree (entry_name tree) in
-      let vs = inputs_of (param_types tree t) inputs in
-      let goes : Goes 63 t vs [] = instance_keeps 63 t vs [] (stands_there (entry_name tree) (begins tree none).there) (entry_fits tree inputs none counted) in record {
-        entry = passes 63 t vs [] goes;
-        calls = λ f u same e.
-            let given = given_by (instance_of 63 t vs []) (of_arguments vs) _ _ (run_of 63 t vs []) goes (ap kind_of_run same ∙ e) in
-            let of = given.1 in
-            quiet 63 of.line of.task of.args of.store of.there of.fits (ap kind_of of.gave ∙ given.2);
-      }
+  abbrev probing_run : FaultKind → Result Going
+  probing_run kind = run_with (probing kind tree turns 63) tree inputs turns
+
+  -- the probing run is the run with such a family's calls, but for the kind of fault in place of Depth
+  probed : (kind : FaultKind) → (kind ≡ Depth → ⊥) → (family : ℕ → Calls) → IsFaithful tree turns family → probing_run kind ≡ renamed kind (run_with (family 63) tree inputs turns)
+  probed kind another family faithful = later
+      (never_early kind another tree turns none written 63 entry (entry_args tree inputs) [] (stands_there kind another tree turns none written (entry_name tree) (begins tree none).there)
+      (entry_fits tree inputs none counted))
+      (runs_alike kind (body_of tree (probing kind tree turns 63) entry) (family 63) (family_alike tree turns kind family faithful 63) entry.body (opening tree turns entry (entry_args tree inputs) []))
+
+  watched_is_own : (alarm : Called) → watched_run alarm tree inputs turns ≡ own_run tree inputs turns
+  watched_is_own alarm = one_result (watched_run alarm tree inputs turns) (own_run tree inputs turns)
+      (both Turns (λ e. absurd cc)) (both NullPointer (λ e. absurd cc))
+    where
+      both : (kind : FaultKind) → (kind ≡ Depth → ⊥) → renamed kind (watched_run alarm tree inputs turns) ≡ renamed kind (own_run tree inputs turns)
+      both kind another =
+          sym (probed kind another (λ more. watched_calls alarm tree turns more) (watched_faithful tree turns alarm))
+          ∙ probed kind another (λ more. calls_at tree turns more) (own_faithful tree turns)
+
+  entry_keeps : keeps_privileges tree 0 entry (entry_args tree inputs) (own_run tree inputs turns) ≡ true
+  entry_keeps =
+      sym (keeps_renamed tree turns Turns 0 entry (entry_args tree inputs) (own_run tree inputs turns))
+      ∙ ap (keeps_privileges tree 0 entry (entry_args tree inputs)) (sym (probed Turns (λ e. absurd cc) (λ more. calls_at tree turns more) (own_faithful tree turns)))
+      ∙ always_keeps Turns (λ e. absurd cc) tree turns none written 63 entry (entry_args tree inputs) []
+      (stands_there Turns (λ e. absurd cc) tree turns none written (entry_name tree) (begins tree none).there) (entry_fits tree inputs none counted)
 
 pub programs_keep_privileges : ProgramsKeepPrivileges
-programs_keep_privileges tree inputs turns none written counted = within tree turns none written inputs counted
+programs_keep_privileges tree inputs turns none written counted = record {
+  entry = entry_keeps tree inputs turns none written counted;
+  calls = watched_is_own tree inputs turns none written counted;
+  meant = λ alarm. ap outcome (watched_is_own tree inputs turns none written counted alarm);
+}

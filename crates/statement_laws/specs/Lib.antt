@@ -3,5 +3,8 @@ pub mod WrittenStatements
 pub mod Places
 pub mod Laws
 pub mod Watching
+pub mod Opened
 pub mod Example
 pub mod WatchedExample
+pub mod PlaceExample
+pub mod OpenedExample

@@ -5,8 +5,11 @@
 #![tactic(auto)]
 
 ghost use Rattle.statement_laws.specs.Example.{ExampleHolds};
+ghost use Rattle.statement_laws.specs.Opened.{OpenedCallsLieWithin, OpenedInstancesAreCovered};
+ghost use Rattle.statement_laws.specs.OpenedExample.{OpenedExampleHolds};
+ghost use Rattle.statement_laws.specs.PlaceExample.{PlacesAreReady};
 ghost use Rattle.statement_laws.specs.WatchedExample.{WatchedExampleHolds};
-ghost use Rattle.statement_laws.specs.Watching.{MeaningsAreGuarded, ProgramsKeepPrivileges};
+ghost use Rattle.statement_laws.specs.Watching.{ProgramsKeepPrivileges};
 ghost use Rattle.statement_laws.specs.Laws.{AnswersAreSound, BodiesAreCovered, InstancesAreCovered, OpeningsAreSound, StatementsKeep};
 
 /// Every statement keeps what holds at a place.
@@ -39,9 +42,15 @@ pub fn programs_keep_privileges()
     ensures { ProgramsKeepPrivileges }
 {}
 
-/// The meaning's calls are guarded ones, with a guard that lets all pass.
-pub fn meanings_are_guarded()
-    ensures { MeaningsAreGuarded }
+/// In a program without a breach each touch of each task instance that a run opens is covered by what its task
+/// declares.
+pub fn opened_instances_are_covered()
+    ensures { OpenedInstancesAreCovered }
+{}
+
+/// In a program without a breach what each call of an instance needs that a run opens lies within what the instance has.
+pub fn opened_calls_lie_within()
+    ensures { OpenedCallsLieWithin }
 {}
 
 /// A task and arguments of which each premise of the laws on openings, bodies and instances holds, with the
@@ -50,8 +59,19 @@ pub fn example_holds()
     ensures { ExampleHolds }
 {}
 
-/// A program of which the premises of the law on programs hold, with a quiet watch; and one without the
-/// privileges, of which the watch tells.
+/// A program of which the premises of the law on programs hold, and whose watched run has no alarm; and one without
+/// the privileges, whose watched run ends with it.
 pub fn watched_example_holds()
     ensures { WatchedExampleHolds }
+{}
+
+/// Two places at which all holds that the laws on statements and expressions suppose: before a reduction, and before a
+/// call.
+pub fn places_are_ready()
+    ensures { PlacesAreReady }
+{}
+
+/// An instance that a run opens by a call, with its touches.
+pub fn opened_example_holds()
+    ensures { OpenedExampleHolds }
 {}
