@@ -1,33 +1,38 @@
 -- The code of an expression leaves its value on the stack, or ends with its fault.
-use Rattle.std.proofs.Common.{◌≡◌, ℕ, suc, ◌^◌, ◌<◌, ◌≤◌, ℤ, pos, List, ◌∷◌, Bool, true, false, Option, Some, None, refl, sym, ap, ◌∙◌, subst, arith}
+use Rattle.code_laws.proofs.Accesses.{access_reads}
+use Rattle.regent_tree.proofs.Laws.{expressions_keep_names}
+use Rattle.machine_terms.specs.Machine.{faults, next, when}
+use Rattle.regent_tree.specs.declared.types.Kind.{Kind}
+use Rattle.std.proofs.Common.{◌≡◌, ℕ, suc, ◌^◌, ◌<◌, ◌≤◌, ℤ, negsuc, pos, List, ◌∷◌, Bool, true, false, Option, Some, None, refl, sym, ap, ◌∙◌, subst, arith}
 use Rattle.lane_kernels.specs.declared.numbers.Width.TheVariants.{W32, W64}
 use Rattle.regent_tree.specs.declared.types.NumberTerm.{NumberTerm}
 use Rattle.std.proofs.lemmas.Int.{SFits-int_wrap}
 use Rattle.lane_kernels.specs.Numbers.{FitsWidth, wrapped, std_width}
-use Rattle.std.specs.Prelude.{get_or, length, not, nat_lt, slice_get}
-use Rattle.std.proofs.lemmas.Bool.{ltb-true}
+use Rattle.std.specs.Prelude.{get_or, length, not, nat_le, nat_lt, slice_get}
+use Rattle.std.proofs.lemmas.Bool.{leb-true, ltb-true}
 use Rattle.std.proofs.lemmas.Option.{slice_get-get_or, none-some}
 use Rattle.lane_kernels.specs.declared.numbers.Width.{Width}
 use Rattle.regent_tree.specs.declared.expression.Arithmetic.{Arithmetic}
 use Rattle.regent_tree.specs.declared.expression.Comparison.{Comparison}
 use Rattle.regent_tree.specs.declared.expression.Operator.TheVariants.{Or, And, Compare, Compute}
 use Rattle.regent_tree.specs.declared.expression.Sign.{Sign}
-use Rattle.regent_tree.specs.declared.outcome.FaultKind.TheVariants.{DivideByZero}
+use Rattle.regent_tree.specs.declared.outcome.FaultKind.TheVariants.{BadSize, DivideByZero}
 use Rattle.regent_tree.specs.declared.typing.StaticType.{StaticType}
-use Rattle.regent_tree.specs.declared.typing.StaticType.TheVariants.{Integer as integer_type, Truth as truth_type}
+use Rattle.regent_tree.specs.declared.typing.StaticType.TheVariants.{Integer as integer_type, Ispace as ispace_type, Truth as truth_type}
 use Rattle.regent_tree.specs.Lookup.{is_bound}
 use Rattle.regent_tree.specs.Scopes.{bound_to}
 use Rattle.regent_tree.specs.Syntax.{Name, Expression, number_expr, truth_expr, chain_expr, prefix_expr, access_expr, call_expr, convert_expr, is_null_expr, null_expr, cast_expr, space_expr, Links, no_link, a_link, no_step, field_step, at_step}
 use Rattle.regent_tree.specs.Numbers.{computed, wider}
-use Rattle.regent_tree.specs.Values.{Value, a_number, a_truth, kept_truth, truth_of, Region}
+use Rattle.regent_tree.specs.Values.{Value, a_number, a_space, a_truth, number_of, kept_truth, truth_of, Region}
 use Rattle.regent_tree.specs.StaticTypes.{number_type}
 use Rattle.regent_tree.specs.Typing.{operated, linked_type, signed_type, are_pointers}
-use Rattle.regent_tree.specs.Running.{State, Here, Run, if_true, gives}
-use Rattle.regent_tree.specs.Operators.{unless_divided, all_signed, combined, negated, operand, as_number}
+use Rattle.regent_tree.specs.Running.{State, Here, Run, fault, given, if_true, gives}
+use Rattle.regent_tree.specs.Operators.{unless_divided, all_signed, combined, negated, operand, as_number, space_of_size}
 use Rattle.regent_tree.specs.Accesses.{standing, converted}
 use Rattle.regent_tree.specs.Evaluation.{value, linked, named_value}
 use Rattle.task_code.specs.declared.instr.Instr.{Instr}
 use Rattle.task_code.specs.declared.instr.Instr.TheVariants as instr
+use Rattle.machine_terms.specs.declared.order.Contents.{Contents}
 use Rattle.machine_terms.specs.declared.value.Value.{Value as MachineValue}
 use Rattle.machine_terms.specs.declared.value.Value.TheVariants as machine
 use Rattle.machine_terms.specs.Numbers.{divided, load}
@@ -42,8 +47,8 @@ use Rattle.code_rules.specs.Slots.{typed, slot, slot_named}
 use Rattle.code_rules.specs.Expressions.{expr_code, links_code}
 use Rattle.code_rules.specs.Instructions.{converted_code, signs_code, standing_code, operand_code, computing, comparing, operating, one, as_number_code}
 use Rattle.code_laws.specs.Steps.{Setting, machine_of, placed, on_step, Leads}
-use Rattle.code_laws.specs.Standing.{Stands, machine_value, IsOf, of_integer, of_truth, nothing, blank, Aside, SlotsFit, where_of, Agrees, Comes}
-use Rattle.code_laws.specs.Scalars.{IsInteger, an_integer, IsTruth, a_truth_type, AreAlike, two_integers, two_truths, IsScalar, scalar_integer, scalar_truth, SignsFit, of_a_truth, of_an_integer, not_before, minus_before, IsTyped, AreTypedLinks, IsIntegerTerm, term_32, term_64}
+use Rattle.code_laws.specs.Standing.{Stands, machine_value, IsInside, IsOf, of_integer, of_space, of_truth, nothing, blank, Aside, SlotsFit, where_of, Agrees, Comes}
+use Rattle.code_laws.specs.Typed.{IsInteger, an_integer, IsTruth, a_truth_type, AreAlike, two_integers, two_truths, IsScalar, scalar_integer, scalar_truth, SignsFit, of_a_truth, of_an_integer, not_before, minus_before, IsTyped, AreTypedLinks, IsIntegerTerm, term_32, term_64}
 use Rattle.code_laws.proofs.Runs.{leads_none, leads_twice, leads_by, ends_by, then, comes_before, comes_said}
 use Rattle.code_laws.proofs.Good.{valued, Good, Gives, pushes}
 use Rattle.code_laws.proofs.Values.{past_later, jump_later, load_value, named, act_computing, act_comparing, computed_fits}
@@ -76,31 +81,31 @@ module _ (x : Setting) (params slots : ℕ) (fit : SlotsFit x slots) (aside : As
       ∙ ap (λ u. IsOver (Broke (Some (record { kind = DivideByZero; line = h.line })) u)) a.text)
 
   -- the arithmetic of two integers
-  compute_runs : (h : Here) (o : Arithmetic) (t u : StaticType) (v w : Value) (s : State) (pc : ℕ)
+  compute_runs : (c : Contents) (h : Here) (o : Arithmetic) (t u : StaticType) (v w : Value) (s : State) (pc : ℕ)
       (st : List MachineValue) (i : Instance) → IsInteger t → IsInteger u → IsOf t v → IsOf u w →
       Agrees x params slots aside h s i →
       Stands x.body pc (one (where_of params h) (operating (Compute o) t u)) →
       Gives x params slots fit aside h (operated (Compute o) t u) (one (where_of params h) (operating (Compute o) t u)) pc
-      (machine_value w ∷ machine_value v ∷ st) st i (combined h (Compute o) v w s)
-  compute_runs h o _ _ _ _ s pc st i (an_integer a) (an_integer b) (of_integer _ y _) (of_integer _ z _) g f =
+      (machine_value i.contents w ∷ machine_value c v ∷ st) st i (combined h (Compute o) v w s)
+  compute_runs c h o _ _ _ _ s pc st i (an_integer a) (an_integer b) (of_integer _ y _) (of_integer _ z _) g f =
       divided_runs h (wider a b) s pc (machine.Number z ∷ machine.Number y ∷ st) st i (computing o (wider a b)) h.line refl f
       g (computed o (wider a b) y z) (computed_fits o (wider a b) y z)
       (act_computing x.code x.body o (wider a b) h.line _)
 
   -- ---- comparisons
 
-  compare_runs : (h : Here) (c : Comparison) (t u : StaticType) (v w : Value) (s : State) (pc : ℕ)
+  compare_runs : (below : Contents) (h : Here) (c : Comparison) (t u : StaticType) (v w : Value) (s : State) (pc : ℕ)
       (st : List MachineValue) (i : Instance) → AreAlike t u → IsOf t v → IsOf u w →
       Agrees x params slots aside h s i →
       Stands x.body pc (one (where_of params h) (operating (Compare c) t u)) →
       Gives x params slots fit aside h truth_type (one (where_of params h) (operating (Compare c) t u)) pc
-      (machine_value w ∷ machine_value v ∷ st) st i (combined h (Compare c) v w s)
-  compare_runs h c _ _ _ _ s pc st i (two_integers a b) (of_integer _ y _) (of_integer _ z _) g f =
+      (machine_value i.contents w ∷ machine_value below v ∷ st) st i (combined h (Compare c) v w s)
+  compare_runs below h c _ _ _ _ s pc st i (two_integers a b) (of_integer _ y _) (of_integer _ z _) g f =
       pushes x params slots fit aside h truth_type _ s pc _ st i (comparing c false) h.line f (of_truth _) g
       (ap (on_step x (placed pc (machine.Number z ∷ machine.Number y ∷ st) i)) (act_comparing x.code x.body c h.line _))
-  compare_runs h c _ _ _ _ s pc st i two_truths (of_truth a) (of_truth b) g f =
+  compare_runs below h c _ _ _ _ s pc st i two_truths (of_truth a) (of_truth b) g f =
       pushes x params slots fit aside h truth_type _ s pc _ st i (comparing c false) h.line f (of_truth _) g
-      (ap (on_step x (placed pc (machine_value (a_truth b) ∷ machine_value (a_truth a) ∷ st) i)) (act_comparing x.code x.body c h.line _))
+      (ap (on_step x (placed pc (machine_value i.contents (a_truth b) ∷ machine_value below (a_truth a) ∷ st) i)) (act_comparing x.code x.body c h.line _))
 
   -- ---- prefixes
 
@@ -157,14 +162,14 @@ module _ (x : Setting) (params slots : ℕ) (fit : SlotsFit x slots) (aside : As
   -- a value that stands for itself
   standing_runs : (h : Here) (t : StaticType) (v : Value) (s : State) (pc : ℕ)
       (st : List MachineValue) (i : Instance) → IsScalar t → IsOf t v → Agrees x params slots aside h s i →
-      Gives x params slots fit aside h t (standing_code (where_of params h) t) pc (machine_value v ∷ st) st i (standing h v s)
+      Gives x params slots fit aside h t (standing_code (where_of params h) t) pc (machine_value i.contents v ∷ st) st i (standing h v s)
   standing_runs h _ _ s pc st i (scalar_integer w) (of_integer _ z p) g =
       (i, leads_none x _, (of_integer w z p, g))
   standing_runs h _ _ s pc st i scalar_truth (of_truth b) g = (i, leads_none x _, (of_truth b, g))
 
   operand_runs : (h : Here) (b : Bool) (t : StaticType) (v : Value) (s : State) (pc : ℕ)
       (st : List MachineValue) (i : Instance) → IsScalar t → IsOf t v → Agrees x params slots aside h s i →
-      Gives x params slots fit aside h t (operand_code (where_of params h) b t) pc (machine_value v ∷ st) st i (operand h b v s)
+      Gives x params slots fit aside h t (operand_code (where_of params h) b t) pc (machine_value i.contents v ∷ st) st i (operand h b v s)
   operand_runs h true t v s pc st i p o g = (i, leads_none x _, (o, g))
   operand_runs h false t v s pc st i p o g = standing_runs h t v s pc st i p o g
 
@@ -192,7 +197,7 @@ module _ (x : Setting) (params slots : ℕ) (fit : SlotsFit x slots) (aside : As
       (named_value h n s)
   named_runs h n s pc st i b g f =
       let w = where_of params h in
-      let m = named h.scope.names s.names n g.typed b in
+      let m = named IsOf h.scope.names s.names n g.typed b in
       let place = (bound_to h.scope.names n).place in
       let v = get_or s.names place nothing in
       let there : slot w place < length i.frame.slots = omega (arith, fit pc _ f, g.slots_are) in
@@ -202,8 +207,8 @@ module _ (x : Setting) (params slots : ℕ) (fit : SlotsFit x slots) (aside : As
             (ap (on_step x (placed pc st i))
             (ap (load (machine_of (placed pc st i)))
             (slice_get-get_or i.frame.slots (slot w place) blank there ∙ ap Some (g.names place below))
-            ∙ load_value v (machine_of (placed pc st i)))),
-        (m.typed, g),
+            ∙ load_value i.contents v (machine_of (placed pc st i)))),
+        (m.holding, g),
       )
 
   -- ---- and, or
@@ -260,7 +265,7 @@ module _ (x : Setting) (params slots : ℕ) (fit : SlotsFit x slots) (aside : As
       (st : List MachineValue) (i : Instance) → IsIntegerTerm t → IsInteger from → IsOf from v →
       Agrees x params slots aside h s i → Stands x.body pc (as_number_code (where_of params h) t) →
       Gives x params slots fit aside h (number_type t) (as_number_code (where_of params h) t) pc
-      (machine_value v ∷ st) st i (gives (as_number t v) s)
+      (machine_value i.contents v ∷ st) st i (gives (as_number t v) s)
   wraps_run h _ _ _ s pc st i term_32 (an_integer w) (of_integer _ z _) g f =
       pushes x params slots fit aside h (integer_type W32) _ s pc _ st i (instr.Wrap W32) h.line f
       (of_integer W32 _ (SFits-int_wrap (std_width W32) z)) g refl
@@ -278,6 +283,32 @@ module _ (x : Setting) (params slots : ℕ) (fit : SlotsFit x slots) (aside : As
       (of_integer b _ (SFits-int_wrap (std_width b) z)) g refl
   converted_runs h _ _ rs _ s pc st i two_truths (of_truth b) g f =
       (i, leads_none x _, (of_truth b, g))
+
+  -- an index space of a size; too large a one, or one of a number below 0, is a fault
+  space_runs : (h : Here) (k : Kind) (from : StaticType) (v : Value) (s : State) (pc : ℕ)
+      (st : List MachineValue) (i : Instance) → IsInteger from → IsOf from v →
+      Agrees x params slots aside h s i → Stands x.body pc (op instr.Space h.line) →
+      Gives x params slots fit aside h (ispace_type k) (op instr.Space h.line) pc
+      (machine_value i.contents v ∷ st) st i (space_of_size h (number_of v) s)
+  space_runs h k _ _ s pc st i (an_integer w) (of_integer _ (negsuc n) _) g f =
+      ends_by x _ _ instr.Space h.line f
+      (ap (λ t. IsOver (Broke (Some (record { kind = BadSize; line = h.line })) t)) g.text)
+  space_runs h k _ _ s pc st i (an_integer w) (of_integer _ (pos n) _) g f = by (nat_le n 4194304) refl
+    where
+      acts : (b : Bool) → nat_le n 4194304 ≡ b →
+          on_step x (placed pc (machine.Number (pos n) ∷ st) i) (act x.code x.body instr.Space h.line (machine_of (placed pc (machine.Number (pos n) ∷ st) i)))
+          ≡ on_step x (placed pc (machine.Number (pos n) ∷ st) i) (when b (next (machine.Space n ∷ st) (machine_of (placed pc (machine.Number (pos n) ∷ st) i)))
+          (faults BadSize h.line (machine_of (placed pc (machine.Number (pos n) ∷ st) i))))
+      acts b e = ap (λ b. on_step x (placed pc (machine.Number (pos n) ∷ st) i) (when b (next (machine.Space n ∷ st) (machine_of (placed pc (machine.Number (pos n) ∷ st) i)))
+          (faults BadSize h.line (machine_of (placed pc (machine.Number (pos n) ∷ st) i))))) e
+
+      by : (b : Bool) → nat_le n 4194304 ≡ b →
+          Gives x params slots fit aside h (ispace_type k) (op instr.Space h.line) pc (machine.Number (pos n) ∷ st) st i
+          (if_true b (given (a_space n)) (fault h BadSize) s)
+      by true e = pushes x params slots fit aside h (ispace_type k) (a_space n) s pc _ st i instr.Space h.line f
+          (of_space k n (leb-true n 4194304 e)) g (acts true e)
+      by false e = ends_by x _ _ instr.Space h.line f
+          (acts false e ∙ ap (λ t. IsOver (Broke (Some (record { kind = BadSize; line = h.line })) t)) g.text)
 
   -- ---- expressions
 
@@ -326,18 +357,32 @@ module _ (x : Setting) (params slots : ℕ) (fit : SlotsFit x slots) (aside : As
         (λ u s2 j2 k2. wraps_run h t from u s2 _ st j2 fine.2 fine.1 k2.0 k2.1 f.1.1))
     value_runs h d low (call_expr _ _) s pc st i fine g f = absurd fine
     value_runs h d low (access_expr n (field_step _ _)) s pc st i fine g f = absurd fine
-    value_runs h d low (access_expr n (at_step _ _)) s pc st i fine g f = absurd fine
+    value_runs h d low (access_expr n (at_step e (field_step name no_step))) s pc st i fine g f =
+        let b = bound_to h.scope.names n in
+        let m = named IsOf h.scope.names s.names n g.typed fine.3.named in
+        access_reads x params slots fit aside h d b.static_type b.place (get_or s.names b.place nothing) e name _ s pc st i
+        fine.3.region m.holding refl (omega (arith, m.below, g.count))
+        (λ a f1. value_runs h d low e s a st i fine.0 g f1) fine.1 (expressions_keep_names h e s)
+        fine.2 fine.3.field fine.3.keeps
+        (λ s1 j g1. (named (IsInside x.code s1.store) h.scope.names s1.names n g1.inside_store fine.3.named).holding) f
+    value_runs h d low (access_expr n (at_step _ no_step)) s pc st i fine g f = absurd fine
+    value_runs h d low (access_expr n (at_step _ (at_step _ _))) s pc st i fine g f = absurd fine
+    value_runs h d low (access_expr n (at_step _ (field_step _ (field_step _ _)))) s pc st i fine g f = absurd fine
+    value_runs h d low (access_expr n (at_step _ (field_step _ (at_step _ _)))) s pc st i fine g f = absurd fine
     value_runs h d low (is_null_expr _) s pc st i fine g f = absurd fine
     value_runs h d low (null_expr _) s pc st i fine g f = absurd fine
     value_runs h d low (cast_expr _ _) s pc st i fine g f = absurd fine
-    value_runs h d low (space_expr _ _) s pc st i fine g f = absurd fine
+    value_runs h d low (space_expr k e) s pc st i fine g f =
+        let w = where_of params h in
+        then x (comes_said x _ _) _ _ _ (value h e s) _ (value_runs h d low e s pc st i fine.0 g f.0)
+        (λ v s1 j k1. space_runs h k (typed w e) v s1 _ st j fine.1 k1.0 k1.1 f.1)
 
     pub linked_runs : (h : Here) (d : ℕ) → params ≤ length h.scope.names →
         (t : StaticType) (v : Value) (ls : Links) (s : State) (pc : ℕ)
         (st : List MachineValue) (i : Instance) → AreTypedLinks (where_of params h) t ls → IsOf t v →
         Agrees x params slots aside h s i → Stands x.body pc (links_code (where_of params h) d t ls) →
         Gives x params slots fit aside h (linked_type h.tree h.scope t ls) (links_code (where_of params h) d t ls) pc
-        (machine_value v ∷ st) st i (linked h t v ls s)
+        (machine_value i.contents v ∷ st) st i (linked h t v ls s)
     linked_runs h d low t v no_link s pc st i fine o g f = (i, leads_none x _, (o, g))
     linked_runs h d low t v (a_link Or e rest) s pc st i fine o g f =
         let o2 = truth_of_type t v fine.0 o in
@@ -366,11 +411,11 @@ module _ (x : Setting) (params slots : ℕ) (fit : SlotsFit x slots) (aside : As
         then x (comes_said x _ _) _ _ _ (operand h b v s) _
         (operand_runs h b t v s pc st i (integer_scalar t fine.0) o g)
         (λ v1 s1 j1 k1. then x (comes_said x _ _) _ _ _ (value h e s1) _
-        (value_runs h d low e s1 _ (machine_value v1 ∷ st) j1 fine.2 k1.1 f.1.0)
+        (value_runs h d low e s1 _ (machine_value j1.contents v1 ∷ st) j1 fine.2 k1.1 f.1.0)
         (λ v2 s2 j2 k2. then x (comes_said x _ _) _ _ _ (operand h b v2 s2) _
-        (operand_runs h b u v2 s2 _ (machine_value v1 ∷ st) j2 (integer_scalar u fine.1) k2.0 k2.1)
+        (operand_runs h b u v2 s2 _ (machine_value j1.contents v1 ∷ st) j2 (integer_scalar u fine.1) k2.0 k2.1)
         (λ v3 s3 j3 k3. then x (comes_said x _ _) _ _ _ (combined h (Compute c) v1 v3 s3) _
-        (compute_runs h c t u v1 v3 s3 _ st j3 fine.0 fine.1 k1.0 k3.0 k3.1 f.1.1.1.0)
+        (compute_runs j1.contents h c t u v1 v3 s3 _ st j3 fine.0 fine.1 k1.0 k3.0 k3.1 f.1.1.1.0)
         (λ v4 s4 j4 k4. linked_runs h d low _ v4 rest s4 _ st j4 fine.3 k4.0 k4.1 f.1.1.1.1))))
     linked_runs h d low t v (a_link (Compare c) e rest) s pc st i fine o g f =
         let w = where_of params h in
@@ -380,9 +425,9 @@ module _ (x : Setting) (params slots : ℕ) (fit : SlotsFit x slots) (aside : As
         then x (comes_said x _ _) _ _ _ (operand h b v s) _
         (operand_runs h b t v s pc st i (alike_left t u fine.0) o g)
         (λ v1 s1 j1 k1. then x (comes_said x _ _) _ _ _ (value h e s1) _
-        (value_runs h d low e s1 _ (machine_value v1 ∷ st) j1 fine.1 k1.1 f.1.0)
+        (value_runs h d low e s1 _ (machine_value j1.contents v1 ∷ st) j1 fine.1 k1.1 f.1.0)
         (λ v2 s2 j2 k2. then x (comes_said x _ _) _ _ _ (operand h b v2 s2) _
-        (operand_runs h b u v2 s2 _ (machine_value v1 ∷ st) j2 (alike_right t u fine.0) k2.0 k2.1)
+        (operand_runs h b u v2 s2 _ (machine_value j1.contents v1 ∷ st) j2 (alike_right t u fine.0) k2.0 k2.1)
         (λ v3 s3 j3 k3. then x (comes_said x _ _) (valued (suc pc3) st) (Good x params slots fit aside h truth_type) _
-        (combined h (Compare c) v1 v3 s3) _ (compare_runs h c t u v1 v3 s3 pc3 st j3 fine.0 k1.0 k3.0 k3.1 f.1.1.1.0)
+        (combined h (Compare c) v1 v3 s3) _ (compare_runs j1.contents h c t u v1 v3 s3 pc3 st j3 fine.0 k1.0 k3.0 k3.1 f.1.1.1.0)
         (λ v4 s4 j4 k4. linked_runs h d low _ v4 rest s4 _ st j4 fine.2 k4.0 k4.1 f.1.1.1.1))))

@@ -1,4 +1,5 @@
 -- Loops: the code of a loop does what its rounds mean.
+use Rattle.machine_terms.specs.declared.order.Contents.{Contents}
 use Rattle.code_laws.proofs.Rows.{does_before, does_said, fewer, fewer_turns, jumps_back, no_turn, relimit, tests, then_going, three_least, pays_from}
 use Rattle.std.proofs.lemmas.Int.{ints}
 use Rattle.lane_kernels.specs.declared.numbers.Width.TheVariants.{W32, W64}
@@ -30,9 +31,9 @@ use Rattle.code_rules.specs.Slots.{typed, slot, counter, beside}
 use Rattle.code_rules.specs.Expressions.{expr_code}
 use Rattle.code_laws.specs.Steps.{Setting, machine_of, placed, on_step, Leads, Ends}
 use Rattle.code_laws.specs.Standing.{Stands, machine_value, IsOf, of_integer, blank, Aside, where_of, Agrees, SlotsFit, Does}
-use Rattle.code_laws.specs.Scalars.{CountsDown, IsInteger, an_integer, IsTruth, IsTyped}
+use Rattle.code_laws.specs.Typed.{CountsDown, IsInteger, an_integer, IsTruth, IsTyped}
 use Rattle.code_laws.proofs.Runs.{leads_none, leads_end, leads_by, ends_by, then}
-use Rattle.code_laws.proofs.Values.{past_later}
+use Rattle.code_laws.proofs.Values.{number_inside, past_later}
 use Rattle.code_laws.proofs.Good.{valued, Good}
 use Rattle.code_laws.proofs.Expressions.{value_runs, truth_of_type}
 use Rattle.code_laws.proofs.Names.{Grown}
@@ -192,7 +193,7 @@ module _ (x : Setting) (params slots : ℕ) (fit : SlotsFit x slots) (counts : C
       slice_get i.frame.slots (beside (where_of params h) (length h.scope.names)) ≡ Some (machine.Number b) →
       Stands x.body pc (rounds (instr.NextNumber (counter (where_of params h) (length h.scope.names))
       (beside (where_of params h) (length h.scope.names)) (slot (where_of params h) (length h.scope.names))) h.line code) →
-      Grown h.scope.names h2.scope.names →
+      Grown h.scope.names h2.scope.names → h2.tree ≡ h.tree →
       ((aside2 : Aside) (s1 : State) (j : Instance) → Agrees x params slots aside2 (looping h n t) s1 j →
       Does x params slots aside2 (placed (suc pc) [] j) (past code (suc pc)) h2 (body s1)) →
       (rest : Run Going) → s.turns ≡ m →
@@ -204,10 +205,10 @@ module _ (x : Setting) (params slots : ℕ) (fit : SlotsFit x slots) (counts : C
       Does x params slots aside (placed pc [] i) (suc (past code (suc pc))) h
       (and_then (and_then (pay_from m h s) (λ _. scoped (bind (a_number wd z) >>= λ _. body)))
       (λ g. going_on rest g))
-  one_round zero aside h h2 n t wd body code z b s pc i ty low some g ec el f grown more rest q again =
+  one_round zero aside h h2 n t wd body code z b s pc i ty low some g ec el f grown tree more rest q again =
       subst (λ u. Ends x (placed pc [] i) (Broke (Some (record { kind = Turns; line = h.line })) u)) g.text
       (head_faults pc _ _ _ _ h.line z b i some (g.turns ∙ q) ec el f.0)
-  one_round (suc m) aside h h2 n t wd body code z b s pc i ty low some g ec el f grown more rest q again =
+  one_round (suc m) aside h h2 n t wd body code z b s pc i ty low some g ec el f grown tree more rest q again =
       let w = where_of params h in
       let k = length h.scope.names in
       let c = counter w k in
@@ -222,7 +223,7 @@ module _ (x : Setting) (params slots : ℕ) (fit : SlotsFit x slots) (counts : C
       let i2 = stored v (machine.Number z) i1 in
       let j = headed c v z m i in
       let g2 = bound_more x params slots fit aside h s1 i1 n t true (a_number wd z) low
-      (omega (arith, used.2)) ty g1 in
+      (omega (arith, used.2)) ty (number_inside x.code s1.store t wd z ty) g1 in
       let up : aside.upto ≤ k = omega (arith, g.inside, g.count) in
       let g3 = aside_stored x params slots fit aside (looping h n t) s2 i2 k 1 (machine.Number (z +ℤ pos 1))
       low up (omega arith) (omega arith) (omega arith) g2 in
@@ -246,7 +247,7 @@ module _ (x : Setting) (params slots : ℕ) (fit : SlotsFit x slots) (counts : C
       does_before x params slots fit counts aside (suc e) h _ _ _ (jumps_to_head e pc h.line h.line c l v j3 f.0 f.2)
       (again (record s3 { names = take (length s.names) s3.names }) j3
       (leaves_round x params slots fit aside aside2 h h2 (length s.names) s2 s3 j j3 refl (omega (arith, up))
-      (omega (arith, g.bound, q)) grown g.count (omega (arith, up, g.count)) g3.hidden g5) cs ls)))
+      (omega (arith, g.bound, q)) grown tree g.count (omega (arith, up, g.count)) g3.hidden g5) cs ls)))
 
   -- from the head on
   pub counting_runs : (k : ℕ) (aside : Aside) (h h2 : Here) (n : Name) (t : StaticType) (wd : Width)
@@ -257,24 +258,24 @@ module _ (x : Setting) (params slots : ℕ) (fit : SlotsFit x slots) (counts : C
       slice_get i.frame.slots (beside (where_of params h) (length h.scope.names)) ≡ Some (machine.Number b) →
       Stands x.body pc (rounds (instr.NextNumber (counter (where_of params h) (length h.scope.names))
       (beside (where_of params h) (length h.scope.names)) (slot (where_of params h) (length h.scope.names))) h.line code) →
-      Grown h.scope.names h2.scope.names →
+      Grown h.scope.names h2.scope.names → h2.tree ≡ h.tree →
       ((aside2 : Aside) (s1 : State) (j : Instance) → Agrees x params slots aside2 (looping h n t) s1 j →
       Does x params slots aside2 (placed (suc pc) [] j) (past code (suc pc)) h2 (body s1)) →
       Does x params slots aside (placed pc [] i) (suc (past code (suc pc))) h
       (counting h k wd z body s)
-  counting_runs zero aside h h2 n t wd body code z b s pc i ty fz fb low e g ec el f grown more =
+  counting_runs zero aside h h2 n t wd body code z b s pc i ty fz fb low e g ec el f grown tree more =
       let later : pc < suc (past code (suc pc)) = omega (arith, past_later code (suc pc)) in
       (i, head_leaves pc _ _ _ _ h.line z b i later (counts.none z b e) ec el f.0, g)
-  counting_runs (suc k) aside h h2 n t wd body code z b s pc i ty fz fb low e g ec el f grown more =
+  counting_runs (suc k) aside h h2 n t wd body code z b s pc i ty fz fb low e g ec el f grown tree more =
       let c = counts.some k z b e in
-      one_round s.turns aside h h2 n t wd body code z b s pc i (ty z fz) low c.0 g ec el f grown more
+      one_round s.turns aside h h2 n t wd body code z b s pc i (ty z fz) low c.0 g ec el f grown tree more
       (counting h k wd (z +ℤ pos 1) body) refl
       (λ s3 j3 g3 e3 f3. counting_runs k aside h h2 n t wd body code (z +ℤ pos 1) b s3 pc j3 ty (next_fits wd z b fz fb c.0) fb low c.1 g3
-      e3 f3 f grown more)
+      e3 f3 f grown tree more)
 
-  pub integer_kept : (t : StaticType) (v : Value) → IsInteger t → IsOf t v →
-      machine_value v ≡ machine.Number (number_of v)
-  integer_kept _ _ (an_integer w) (of_integer _ z _) = refl
+  pub integer_kept : (c : Contents) (t : StaticType) (v : Value) → IsInteger t → IsOf t v →
+      machine_value c v ≡ machine.Number (number_of v)
+  integer_kept c _ _ (an_integer w) (of_integer _ z _) = refl
 
   pub loop_typed : (t u : StaticType) (y : ℤ) → IsInteger t → IsInteger u → FitsWidth (width_of_type (arithmetic_type t u)) y →
       IsOf (arithmetic_type t u) (a_number (width_of_type (arithmetic_type t u)) y)

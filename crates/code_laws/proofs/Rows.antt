@@ -1,11 +1,11 @@
 -- What statements do in a row: jumps, turns, tests, blocks, and the ends of a task.
 use Rattle.std.proofs.Common.{◌≡◌, ℕ, zero, suc, ◌<◌, ◌≤◌, ⊎_elim, List, [], ◌∷◌, Bool, true, false, Some, refl, sym, ap, ◌∙◌, subst, arith}
-use Rattle.std.specs.Prelude.{get_or, length, slice_set, nat_lt, cond}
+use Rattle.std.specs.Prelude.{get_or, length, map, slice_set, nat_lt, cond}
 use Rattle.std.proofs.lemmas.Bool.{lt-ltb, le-ltb, cases_lt}
 use Rattle.regent_tree.specs.declared.outcome.FaultKind.TheVariants.{Turns, AssertFailed}
 use Rattle.regent_tree.specs.declared.statement.How.TheVariants as how
 use Rattle.regent_tree.specs.declared.typing.StaticType.{StaticType}
-use Rattle.regent_tree.specs.declared.typing.StaticType.TheVariants.{Integer as integer_type, Truth as truth_type}
+use Rattle.regent_tree.specs.declared.typing.StaticType.TheVariants.{Integer as integer_type, Ispace as ispace_type, Truth as truth_type}
 use Rattle.regent_tree.specs.Lookup.{is_bound}
 use Rattle.regent_tree.specs.Scopes.{bound_to}
 use Rattle.regent_tree.specs.Syntax.{Name, Expression, access_expr, no_step, Block}
@@ -21,47 +21,55 @@ use Rattle.machine_terms.specs.declared.order.Ended.TheVariants.{Broke}
 use Rattle.machine_terms.specs.declared.order.Instance.{Instance}
 use Rattle.machine_terms.specs.declared.order.Resumed.TheVariants.{IsOver}
 use Rattle.code_rules.specs.Pieces.{empty, op, past}
+use Rattle.code_rules.specs.Programs.{space_code}
+use Rattle.regent_tree.specs.StaticTypes.{spaces_of}
 use Rattle.code_rules.specs.Slots.{slot_named}
 use Rattle.code_rules.specs.Expressions.{expr_code}
 use Rattle.code_rules.specs.Initializers.{beside_code, plain_code}
 use Rattle.code_rules.specs.Used.{greatest, above_all}
 use Rattle.code_laws.specs.Steps.{Setting, machine_of, placed, on_step, Leads, Ends}
-use Rattle.code_laws.specs.Standing.{Stands, machine_value, IsOf, AreOf, of_integer, of_truth, nothing, Aside, where_of, Agrees, SlotsFit, Does}
-use Rattle.code_laws.specs.Scalars.{CountsDown, IsScalar, scalar_integer, scalar_truth}
+use Rattle.code_laws.specs.Standing.{Stands, machine_value, IsInside, IsOf, AreOf, of_integer, of_truth, nothing, Aside, where_of, Agrees, SlotsFit, Does}
+use Rattle.code_laws.specs.Typed.{CountsDown, IsScalar, IsSimple, scalar_integer, scalar_truth, simple_integer, simple_space, simple_truth}
 use Rattle.code_laws.proofs.Runs.{Said, leads_twice, leads_end, leads_by, ends_by}
-use Rattle.code_laws.proofs.Values.{jump_later}
+use Rattle.code_laws.proofs.Values.{jump_later, scalar_simple, simple_inside}
 use Rattle.code_laws.proofs.Good.{valued}
 use Rattle.code_laws.proofs.Names.{Grown, block_grown}
 use Rattle.code_laws.proofs.States.{stored, stores, changed, cut}
 
 -- ---- plain start values
 
-pub beside_empty : (params : ℕ) (h : Here) (t : StaticType) (e : Expression) → IsScalar t →
+pub beside_empty : (params : ℕ) (h : Here) (t : StaticType) (e : Expression) → IsSimple t →
     beside_code (where_of params h) t e ≡ empty
-beside_empty params h _ (access_expr n no_step) (scalar_integer w) = refl
-beside_empty params h _ (access_expr n no_step) scalar_truth = refl
+beside_empty params h _ (access_expr n no_step) (simple_integer w) = refl
+beside_empty params h _ (access_expr n no_step) simple_truth = refl
+beside_empty params h _ (access_expr n no_step) (simple_space k) = refl
 beside_empty params h _ e p = refl
 
-pub owned_plain : (n : ℕ) (t : StaticType) → IsScalar t → t ≡ owned n t
-owned_plain n _ (scalar_integer w) = refl
-owned_plain n _ scalar_truth = refl
+pub owned_plain : (n : ℕ) (t : StaticType) → IsSimple t → t ≡ owned n t
+owned_plain n _ (simple_integer w) = refl
+owned_plain n _ simple_truth = refl
+owned_plain n _ (simple_space k) = refl
 
 -- the code of a plain start value is that of the expression
-pub plain_past : (params : ℕ) (h : Here) (t : StaticType) (e : Expression) (pc n : ℕ) → IsScalar t →
+pub plain_past : (params : ℕ) (h : Here) (t : StaticType) (e : Expression) (pc n : ℕ) → IsSimple t →
     past (plain_code (where_of params h) (owned n t) e) pc
     ≡ past (expr_code (where_of params h) 0 e) pc
-plain_past params h _ e pc n (scalar_integer w) =
+plain_past params h _ e pc n (simple_integer w) =
     ap (λ p. past p (past (expr_code (where_of params h) 0 e) pc))
-    (beside_empty params h (integer_type w) e (scalar_integer w))
-plain_past params h _ e pc n scalar_truth =
+    (beside_empty params h (integer_type w) e (simple_integer w))
+plain_past params h _ e pc n simple_truth =
     ap (λ p. past p (past (expr_code (where_of params h) 0 e) pc))
-    (beside_empty params h truth_type e scalar_truth)
+    (beside_empty params h truth_type e simple_truth)
+plain_past params h _ e pc n (simple_space k) =
+    ap (λ p. past p (past (expr_code (where_of params h) 0 e) pc))
+    (beside_empty params h (ispace_type k) e (simple_space k))
 
 pub plain_stands : (body : List Line) (params : ℕ) (h : Here) (t : StaticType) (e : Expression) (pc n : ℕ) →
-    IsScalar t → Stands body pc (plain_code (where_of params h) (owned n t) e) →
+    IsSimple t → Stands body pc (plain_code (where_of params h) (owned n t) e) →
     Stands body pc (expr_code (where_of params h) 0 e)
-plain_stands body params h _ e pc n (scalar_integer w) f = f.0
-plain_stands body params h _ e pc n scalar_truth f = f.0
+plain_stands body params h _ e pc n (simple_integer w) f = f.0
+plain_stands body params h _ e pc n simple_truth f = f.0
+plain_stands body params h _ e pc n (simple_space k) f = f.0
 
 -- a value that carries no regions
 pub plain_kept : (u : StaticType) (old v : Value) → IsScalar u → IsOf u v → with_regions_of old v ≡ v
@@ -84,20 +92,26 @@ three_least a b c n l =
 
 -- ---- the same state in another scope with the same names
 
+-- two places of a program with the same names
+abbrev pub IsAlike : Here → Here → Type 0
+IsAlike h h2 = (h.scope.names ≡ h2.scope.names) × (h2.tree ≡ h.tree)
+
 pub same_scope : (x : Setting) (params slots : ℕ) (aside : Aside) (h h2 : Here) (s : State) (i : Instance) →
-    h.scope.names ≡ h2.scope.names → Agrees x params slots aside h s i → Agrees x params slots aside h2 s i
+    IsAlike h h2 → Agrees x params slots aside h s i → Agrees x params slots aside h2 s i
 same_scope x params slots aside h h2 s i e g = record {
   names = g.names;
   hidden = g.hidden;
-  typed = subst (λ bs. AreOf bs s.names) e g.typed;
-  count = g.count ∙ ap length e;
+  typed = subst (λ bs. AreOf IsOf bs s.names) e.0 g.typed;
+  inside_store = subst (λ bs. AreOf (IsInside x.code s.store) bs s.names) e.0 g.inside_store;
+  count = g.count ∙ ap length e.0;
   inside = g.inside;
   slots_are = g.slots_are;
   turns = g.turns;
   bound = g.bound;
   text = g.text;
-  own = g.own;
-  store = g.store;
+  spaces = g.spaces ∙ ap (λ t. map space_code (spaces_of t)) (sym e.1);
+  memory = g.memory;
+  framed = g.framed;
 }
 
 module _ (x : Setting) (params slots : ℕ) (fit : SlotsFit x slots) (counts : CountsDown) where
@@ -137,7 +151,7 @@ module _ (x : Setting) (params slots : ℕ) (fit : SlotsFit x slots) (counts : C
 
   -- another scope with the same names
   pub does_as : (aside : Aside) (pc : ℕ) (h h2 : Here) (i : Instance) (r : Result Going) →
-      h.scope.names ≡ h2.scope.names → Does x params slots aside i pc h r →
+      IsAlike h h2 → Does x params slots aside i pc h r →
       Does x params slots aside i pc h2 r
   does_as aside pc h h2 i (gives goes_on s) e d =
       (d.0, d.1, same_scope x params slots aside h h2 s d.0 e d.2)
@@ -146,12 +160,12 @@ module _ (x : Setting) (params slots : ℕ) (fit : SlotsFit x slots) (counts : C
 
   -- a block leaves its names
   pub does_cut : (aside : Aside) (pc n : ℕ) (h h2 : Here) (i : Instance) (r : Result Going) →
-      Grown h.scope.names h2.scope.names → n ≡ length h.scope.names → aside.upto ≤ n →
+      Grown h.scope.names h2.scope.names → h2.tree ≡ h.tree → n ≡ length h.scope.names → aside.upto ≤ n →
       Does x params slots aside i pc h2 r → Does x params slots aside i pc h (leaving n r)
-  does_cut aside pc n h h2 i (gives goes_on s) w e up d =
-      (d.0, d.1, cut x params slots fit aside h h2 n s d.0 w e up d.2)
-  does_cut aside pc n h h2 i (gives (returned v) s) w e up d = (d.0, d.1, d.2, d.3, d.4, d.5, d.6)
-  does_cut aside pc n h h2 i (fails f s) w e up d = d
+  does_cut aside pc n h h2 i (gives goes_on s) w tree e up d =
+      (d.0, d.1, cut x params slots fit aside h h2 n s d.0 w tree e up d.2)
+  does_cut aside pc n h h2 i (gives (returned v) s) w tree e up d = (d.0, d.1, d.2, d.3, d.4, d.5, d.6)
+  does_cut aside pc n h h2 i (fails f s) w tree e up d = d
 
   -- ---- jumps
 
@@ -196,14 +210,16 @@ module _ (x : Setting) (params slots : ℕ) (fit : SlotsFit x slots) (counts : C
     names = g.names;
     hidden = g.hidden;
     typed = g.typed;
+    inside_store = g.inside_store;
     count = g.count;
     inside = g.inside;
     slots_are = g.slots_are;
     turns = refl;
     bound = omega (arith, g.bound, l);
     text = g.text;
-    own = g.own;
-    store = g.store;
+    spaces = g.spaces;
+    memory = g.memory;
+    framed = g.framed;
   }
 
   pub relimit : (aside : Aside) (k : ℕ) (h : Here) (s : State) (i : Instance) → s.turns ≤ k →
@@ -212,14 +228,16 @@ module _ (x : Setting) (params slots : ℕ) (fit : SlotsFit x slots) (counts : C
     names = g.names;
     hidden = g.hidden;
     typed = g.typed;
+    inside_store = g.inside_store;
     count = g.count;
     inside = g.inside;
     slots_are = g.slots_are;
     turns = g.turns;
     bound = l;
     text = g.text;
-    own = g.own;
-    store = g.store;
+    spaces = g.spaces;
+    memory = g.memory;
+    framed = g.framed;
   }
 
   -- a turn is paid, or there is none
@@ -262,9 +280,9 @@ module _ (x : Setting) (params slots : ℕ) (fit : SlotsFit x slots) (counts : C
       subst (λ u. Does x params slots aside (valued pc [] v i) (suc pc) h
       (gives goes_on (record s { names = slice_set s.names (bound_to h.scope.names n).place u })))
       (sym (plain_kept _ old v p ty)) (
-        stored k (machine_value v) i,
-        stores x params slots fit k pc h.line (machine_value v) [] i g.slots_are f,
-        changed x params slots fit aside h s i n v b room ty g,
+        stored k (machine_value i.contents v) i,
+        stores x params slots fit k pc h.line (machine_value i.contents v) [] i g.slots_are f,
+        changed x params slots fit aside h s i n v b room ty (simple_inside x.code s.store _ v (scalar_simple _ p)) g,
       )
 
   -- ---- asserts and returns
@@ -287,8 +305,8 @@ module _ (x : Setting) (params slots : ℕ) (fit : SlotsFit x slots) (counts : C
     ends_by x _ _ instr.ReturnValue h.line f refl,
     refl,
     g.text,
-    g.own,
-    g.store,
+    g.memory,
+    g.framed,
   )
   returns aside h _ _ s pc pc2 i scalar_truth (of_truth b) g f = (
     Some (kept_truth b),
@@ -296,8 +314,8 @@ module _ (x : Setting) (params slots : ℕ) (fit : SlotsFit x slots) (counts : C
     ends_by x _ _ instr.ReturnValue h.line f refl,
     refl,
     g.text,
-    g.own,
-    g.store,
+    g.memory,
+    g.framed,
   )
 
   -- ---- blocks and loops
@@ -310,4 +328,4 @@ module _ (x : Setting) (params slots : ℕ) (fit : SlotsFit x slots) (counts : C
       Does x params slots aside i pc h (scoped (exec_block h body) s)
   scoped_by aside h body s pc i j g d =
       does_cut aside pc (length s.names) h (record h { scope = scope_after_block h.tree h.scope body }) i
-      (exec_block h body s) (block_grown h.tree h.scope body) g.count g.inside d
+      (exec_block h body s) (block_grown h.tree h.scope body) refl g.count g.inside d

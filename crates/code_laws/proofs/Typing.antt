@@ -1,4 +1,5 @@
 -- Expressions over scalars of which no breach is told are typed.
+use Rattle.code_laws.proofs.Values.{scalar_simple}
 use Rattle.std.proofs.Common.{◌≡◌, Bool, List, [], ◌∷◌, ◌++◌, None, false, true, refl, ap, sym, subst, ℕ, ◌∙◌, inl, inr, cond, not, ℤ, pos, ◌≤◌, arith}
 use Rattle.check_laws.proofs.Blocks.{head_known}
 use Rattle.check_laws.specs.SoundScopes.{IsSoundScope}
@@ -43,7 +44,7 @@ use Rattle.check_rules.specs.types.TypedForms.{computing}
 use Rattle.check_rules.specs.declared.rule.Rule.TheVariants as rule
 use Rattle.check_rules.proofs.Untold.{rule_none, standing_none}
 use Rattle.code_rules.specs.Slots.{Where, typed}
-use Rattle.code_laws.specs.Scalars.{AreAlike, AreNumbers, AreTypedLinks, IsInteger, IsIntegerTerm, IsScalar, IsTruth, IsTyped, SignsFit, a_truth_type, an_integer, minus_before, not_before, of_a_truth, of_an_integer, scalar_integer, scalar_truth, term_32, term_64, two_integers, two_truths}
+use Rattle.code_laws.specs.Typed.{AreAlike, AreNumbers, AreTypedLinks, IsInteger, IsIntegerTerm, IsScalar, IsTruth, IsTyped, SignsFit, a_truth_type, an_integer, minus_before, not_before, of_a_truth, of_an_integer, scalar_integer, scalar_truth, term_32, term_64, two_integers, two_truths}
 use Rattle.scalar_form.specs.ScalarForm.{are_scalar_expressions, are_scalar_links, is_scalar_expression, is_scalar_number}
 
 -- ---- types
@@ -273,7 +274,7 @@ module _ (task : TaskTree) (w : Where) (sound : IsSound w.tree) (scope : IsSound
         let told = option_or_parts (rule_if (not (is_bound w.scope.names n)) rule.Name) _ e in
         let bound = not-false (is_bound w.scope.names n) (rule_none (not (is_bound w.scope.names n)) rule.Name told.0) in
         let scalar = named_scalar w.scope.names n names bound in
-        record { is = (bound, scalar); scalar = scalar }
+        record { is = (bound, scalar_simple _ scalar); scalar = scalar }
     well (access_expr n (field_step _ _)) sc k e = absurd (no_way_back sc)
     well (access_expr n (at_step _ _)) sc k e = absurd (no_way_back sc)
     well (convert_expr t e) sc k none =

@@ -1,6 +1,6 @@
 pub mod Steps
 pub mod Standing
-pub mod Scalars
+pub mod Typed
 pub mod Programs
 pub mod ScalarPrograms
 pub mod Example

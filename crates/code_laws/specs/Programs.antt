@@ -1,5 +1,5 @@
 -- Programs whose entry task treats scalars alone, and what is to be shown of them.
-use Rattle.std.specs.Prelude.{◌≡◌, ℕ, ◌^◌, ◌≤◌, ℤ, List, [], ◌∷◌, length, Some, slice_get}
+use Rattle.std.specs.Prelude.{◌≡◌, Bool, false, ℕ, ◌^◌, ◌≤◌, ℤ, List, [], ◌∷◌, length, Some, slice_get}
 use Rattle.regent_tree.specs.Meaning.{inputs_of, meaning}
 use Rattle.regent_tree.specs.StaticTypes.{entry_name, task_named}
 use Rattle.regent_tree.specs.Syntax.{TaskTree, Tree}
@@ -14,7 +14,7 @@ use Rattle.machine_terms.specs.Orders.{runs}
 use Rattle.code_rules.specs.Instructions.{place_of_task}
 use Rattle.code_rules.specs.Pieces.{lines}
 use Rattle.code_rules.specs.Programs.{body_piece, code_of, place_of, task_code}
-use Rattle.code_laws.specs.Scalars.{IsTypedBlock}
+use Rattle.code_laws.specs.Typed.{IsTypedBlock}
 use Rattle.code_laws.specs.Standing.{IsOf}
 use Rattle.code_laws.specs.Steps.{Setting}
 
@@ -22,30 +22,33 @@ use Rattle.code_laws.specs.Steps.{Setting}
 abbrev pub job_of : Tree → List ℤ → ℕ → Job
 job_of tree inputs turns = record { code = code_of tree; inputs = inputs; turns = turns }
 
--- values of these types
-abbrev pub AreTaken : List StaticType → List Value → Type 0
-AreTaken [] [] = Unit {0}
-AreTaken (t ∷ ts) (v ∷ vs) = IsOf t v × AreTaken ts vs
-AreTaken _ _ = ⊥
+-- values of each of which something holds by these types
+abbrev pub AreTaken : (StaticType → Value → Type 0) → List StaticType → List Value → Type 0
+AreTaken Holding [] [] = Unit {0}
+AreTaken Holding (t ∷ ts) (v ∷ vs) = Holding t v × AreTaken Holding ts vs
+AreTaken Holding _ _ = ⊥
 
--- the entry task's run
-abbrev pub scalar_setting : Tree → ℕ → TaskTree → Setting
-scalar_setting tree turns t = record {
+-- the entry task's run, which may make roots or not
+abbrev pub entry_setting : Bool → Tree → ℕ → TaskTree → Setting
+entry_setting makes tree turns t = record {
   code = code_of tree;
   turns = turns;
   child = runs (code_of tree) turns 63;
   body = (task_code tree t).body;
   result = result_type tree t.result;
+  before = [];
+  makes = makes;
 }
 
--- The entry task is one of the program, needs nothing, is typed and not too long, and takes the inputs.
-pub record IsScalarRun (tree : Tree) (inputs : List ℤ) : Type 0 where
+-- The entry task is one of the program, needs nothing, is typed and not too long, and takes the inputs. It
+-- makes roots or not.
+pub record IsTypedRun (makes : Bool) (tree : Tree) (inputs : List ℤ) : Type 0 where
   pub start : slice_get (code_of tree).tasks (place_of_task tree (entry_name tree))
       ≡ Some (task_code tree (task_named tree (entry_name tree)))
   pub needs : (task_code tree (task_named tree (entry_name tree))).needs ≡ []
-  pub typed : IsTypedBlock (place_of tree (task_named tree (entry_name tree))) (task_named tree (entry_name tree)).body
+  pub typed : IsTypedBlock makes (place_of tree (task_named tree (entry_name tree))) (task_named tree (entry_name tree)).body
   pub small : length (lines (body_piece tree (task_named tree (entry_name tree))) 0) ≤ 2 ^ 32
-  pub taken : AreTaken (param_types tree (task_named tree (entry_name tree)))
+  pub taken : AreTaken IsOf (param_types tree (task_named tree (entry_name tree)))
       (inputs_of (param_types tree (task_named tree (entry_name tree))) inputs)
   pub count : length inputs ≡ length (task_named tree (entry_name tree)).params
 
@@ -54,7 +57,7 @@ abbrev pub RunsAsMeant : Tree → List ℤ → ℕ → Type 0
 RunsAsMeant tree inputs turns = order_run (job_of tree inputs turns) ≡ meaning tree inputs turns
 
 abbrev pub ScalarsRunAsMeant : Type 0
-ScalarsRunAsMeant = (tree : Tree) (inputs : List ℤ) (turns : ℕ) → IsScalarRun tree inputs → RunsAsMeant tree inputs turns
+ScalarsRunAsMeant = (tree : Tree) (inputs : List ℤ) (turns : ℕ) → IsTypedRun false tree inputs → RunsAsMeant tree inputs turns
 
 -- a run ends without roots, or with a fault
 abbrev pub LeavesNoRoots : Ending → Type 0

@@ -1,0 +1,197 @@
+-- Well-typed expressions and statements of numbers and truths, also those of fields at points of regions that
+-- have names: no call, partition, index or pointer that is kept. Roots are made where that is allowed.
+use Rattle.std.specs.Prelude.{◌≡◌, Bool, ℕ, suc, ◌<◌, ◌≤◌, ℤ, pos, ◌+ℤ◌, int_lt, length, List, [], ◌∷◌, true, false, Some, None}
+use Rattle.lane_kernels.specs.Numbers.{FitsWidth}
+use Rattle.lane_kernels.specs.declared.numbers.FieldKind.{FieldKind}
+use Rattle.lane_kernels.specs.declared.numbers.FieldKind.TheVariants.{Int32, Int64, Truth}
+use Rattle.lane_kernels.specs.declared.numbers.Width.{Width}
+use Rattle.lane_kernels.specs.declared.numbers.Width.TheVariants.{W32, W64}
+use Rattle.regent_tree.specs.declared.expression.Operator.TheVariants.{Or, And, Compare, Compute}
+use Rattle.regent_tree.specs.declared.expression.Sign.{Sign}
+use Rattle.regent_tree.specs.declared.expression.Sign.TheVariants.{Minus, Not}
+use Rattle.regent_tree.specs.declared.statement.How.TheVariants as how
+use Rattle.regent_tree.specs.declared.types.NumberTerm.{NumberTerm}
+use Rattle.regent_tree.specs.declared.types.NumberTerm.TheVariants as number
+use Rattle.regent_tree.specs.declared.typing.StaticType.{StaticType}
+use Rattle.regent_tree.specs.declared.typing.StaticType.TheVariants.{Integer as integer_type, Truth as truth_type, Ispace as ispace_type, Region as region_type}
+use Rattle.regent_tree.specs.declared.facts.Term.{Term}
+use Rattle.regent_tree.specs.declared.types.Kind.{Kind}
+use Rattle.regent_tree.specs.Accesses.{args_in, space_in}
+use Rattle.regent_tree.specs.StaticTypes.{Reach, field_kind, field_place, field_type, place_of_space, space_at, spaces_of}
+use Rattle.regent_tree.specs.Lookup.{is_bound}
+use Rattle.regent_tree.specs.Numbers.{distance}
+use Rattle.regent_tree.specs.Syntax.{a_statement, Form, var_form, if_form, while_form, for_to_form, do_form, assert_form, print_form, assign_form, return_form, Block, no_statement, then_statement, Arms, no_arm, an_arm, Otherwise, no_else, else_block, plain_initializer, region_initializer, Name, Tree, fill_form, Expression, number_expr, truth_expr, chain_expr, prefix_expr, access_expr, convert_expr, Expressions, no_expr, an_expr, Links, no_link, a_link, no_step, field_step, at_step, space_expr}
+use Rattle.regent_tree.specs.Typing.{arithmetic_type, operated, type_of_element, type_of_field, var_type}
+use Rattle.code_rules.specs.Slots.{Where, typed, bound, slot_named, slots_of}
+use Rattle.code_rules.specs.Expressions.{count}
+use Rattle.code_rules.specs.Statements.{on_line, after_form, after_arm, after_arms, looping}
+use Rattle.check_rules.specs.rules.Formats.{numbers_in}
+
+-- ---- types
+
+pub data IsInteger : StaticType → Type 0 where
+  an_integer : (w : Width) → IsInteger (integer_type w)
+
+pub data IsTruth : StaticType → Type 0 where
+  a_truth_type : IsTruth truth_type
+
+-- an integer or a truth
+pub data IsScalar : StaticType → Type 0 where
+  scalar_integer : (w : Width) → IsScalar (integer_type w)
+  scalar_truth : IsScalar truth_type
+
+-- an integer, a truth, or an index space
+pub data IsSimple : StaticType → Type 0 where
+  simple_integer : (w : Width) → IsSimple (integer_type w)
+  simple_truth : IsSimple truth_type
+  simple_space : (k : Kind) → IsSimple (ispace_type k)
+
+pub data IsSpace : StaticType → Type 0 where
+  a_space_type : (k : Kind) → IsSpace (ispace_type k)
+
+pub data IsRegion : StaticType → Type 0 where
+  a_region_type : (k : Kind) (sp : ℕ) (args : List Reach) (r : Term) → IsRegion (region_type k sp args r)
+
+-- two integers, or two truths
+pub data AreAlike : StaticType → StaticType → Type 0 where
+  two_integers : (v w : Width) → AreAlike (integer_type v) (integer_type w)
+  two_truths : AreAlike truth_type truth_type
+
+-- prefixes of a truth, or of an integer
+pub data SignsFit : StaticType → List Sign → Type 0 where
+  of_a_truth : SignsFit truth_type []
+  of_an_integer : (w : Width) → SignsFit (integer_type w) []
+  not_before : (ss : List Sign) → SignsFit truth_type ss → SignsFit truth_type (Not ∷ ss)
+  minus_before : (w : Width) (ss : List Sign) → SignsFit (integer_type w) ss →
+      SignsFit (integer_type w) (Minus ∷ ss)
+
+-- the numbers of a field of a kind are values of a type
+pub data FieldFits : FieldKind → StaticType → Type 0 where
+  fits_32 : FieldFits Int32 (integer_type W32)
+  fits_64 : FieldFits Int64 (integer_type W64)
+  fits_truth : FieldFits Truth truth_type
+
+-- A name in scope has a region, and the field is one of its field space, which keeps values of a type.
+pub record IsField (w : Where) (n f : Name) (t : StaticType) : Type 0 where
+  pub named : is_bound w.scope.names n ≡ true
+  pub region : IsRegion (bound w n).static_type
+  pub field : field_place w.tree (space_in (bound w n).static_type) f
+      < length (space_at w.tree (space_in (bound w n).static_type)).fields
+  pub keeps : FieldFits (field_kind w.tree (space_in (bound w n).static_type)
+      (field_place w.tree (space_in (bound w n).static_type) f)) t
+
+-- a pointer to an element of a region that has a name goes through the name's slot
+abbrev pub GoesThrough : Where → Name → Expression → Type 0
+GoesThrough w n e =
+    slots_of w (slot_named w n) (type_of_element w.scope (bound w n).static_type e) ≡ slot_named w n ∷ []
+
+-- the type of a field of an element
+abbrev pub element_field : Where → Name → Expression → Name → StaticType
+element_field w n e f = type_of_field w.tree (type_of_element w.scope (bound w n).static_type e) f
+
+pub data IsIntegerTerm : NumberTerm → Type 0 where
+  term_32 : IsIntegerTerm number.Int32
+  term_64 : IsIntegerTerm number.Int64
+
+-- ---- expressions
+
+abbrev mutual
+  pub IsTyped : Where → Expression → Type 0
+  IsTyped w (number_expr z v) = FitsWidth v z
+  IsTyped w (truth_expr b) = Unit {0}
+  IsTyped w (chain_expr first rest) = IsTyped w first × AreTypedLinks w (typed w first) rest
+  IsTyped w (prefix_expr signs e) = IsTyped w e × SignsFit (typed w e) signs
+  IsTyped w (access_expr n no_step) =
+      (is_bound w.scope.names n ≡ true) × IsSimple (bound w n).static_type
+  IsTyped w (access_expr n (at_step e (field_step f no_step))) = IsTyped w e × IsInteger (typed w e)
+      × GoesThrough w n e × IsField w n f (element_field w n e f)
+  IsTyped w (space_expr k e) = IsTyped w e × IsInteger (typed w e)
+  IsTyped w (convert_expr t e) = IsTyped w e × IsInteger (typed w e) × IsIntegerTerm t
+  IsTyped w _ = ⊥
+
+  pub AreTypedLinks : Where → StaticType → Links → Type 0
+  AreTypedLinks w t no_link = Unit {0}
+  AreTypedLinks w t (a_link Or e rest) =
+      IsTruth t × IsTruth (typed w e) × IsTyped w e × AreTypedLinks w truth_type rest
+  AreTypedLinks w t (a_link And e rest) =
+      IsTruth t × IsTruth (typed w e) × IsTyped w e × AreTypedLinks w truth_type rest
+  AreTypedLinks w t (a_link (Compare c) e rest) = AreAlike t (typed w e) × IsTyped w e
+      × AreTypedLinks w (operated (Compare c) t (typed w e)) rest
+  AreTypedLinks w t (a_link (Compute o) e rest) = IsInteger t × IsInteger (typed w e) × IsTyped w e
+      × AreTypedLinks w (operated (Compute o) t (typed w e)) rest
+
+-- numbers that are printed
+abbrev pub AreNumbers : Where → Expressions → Type 0
+AreNumbers w no_expr = Unit {0}
+AreNumbers w (an_expr e es) = IsInteger (typed w e) × IsTyped w e × AreNumbers w es
+
+-- ---- statements
+
+-- fields of a region that are filled with a value of a type
+abbrev pub AreFilled : Where → Name → StaticType → List Name → Type 0
+AreFilled w r from [] = Unit {0}
+AreFilled w r from (f ∷ fs) =
+    let out = field_type w.tree (space_in (bound w r).static_type) (args_in (bound w r).static_type) f in
+    AreAlike from out × IsField w r f out × AreFilled w r from fs
+
+-- a field space that is there and has no more fields than a root may have
+pub record IsMakable (tree : Tree) (space : ℕ) : Type 0 where
+  pub there : space < length (spaces_of tree)
+  pub few : length (space_at tree space).fields ≤ 256
+
+abbrev mutual
+  pub IsTypedForm : Bool → Where → Form → Type 0
+  IsTypedForm makes w (var_form n None (Some (plain_initializer e))) = IsSimple (typed w e) × IsTyped w e
+  IsTypedForm makes w (var_form n None (Some (region_initializer e u))) = (makes ≡ true) × IsSpace (typed w e)
+      × IsTyped w e × IsMakable w.tree (place_of_space w.tree u.name)
+  IsTypedForm makes w (var_form n (Some t) (Some (plain_initializer e))) =
+      AreAlike (typed w e) (var_type w.tree w.scope (Some t) (Some (plain_initializer e))) × IsTyped w e
+  IsTypedForm makes w (var_form n (Some t) None) = IsScalar (var_type w.tree w.scope (Some t) None)
+  IsTypedForm makes w (if_form arms other) = AreTypedArms makes w w arms × IsTypedElse makes (after_arms w arms) other
+  IsTypedForm makes w (while_form test body) =
+      IsTruth (typed w test) × IsTyped w test × IsTypedBlock makes w body
+  IsTypedForm makes w (do_form body) = IsTypedBlock makes w body
+  IsTypedForm makes w (assert_form e) = IsTruth (typed w e) × IsTyped w e
+  IsTypedForm makes w (print_form alias format args) =
+      AreNumbers w args × (numbers_in format ≡ Some (count args))
+  IsTypedForm makes w (return_form None) = Unit {0}
+  IsTypedForm makes w (return_form (Some e)) = AreAlike (typed w e) w.result × IsTyped w e
+  IsTypedForm makes w (for_to_form demanded n from to body) =
+      IsInteger (typed w from) × IsInteger (typed w to) × IsTyped w from × IsTyped w to
+      × IsTypedBlock makes (looping w n (arithmetic_type (typed w from) (typed w to))) body
+  IsTypedForm makes w (assign_form n no_step how.Set e) =
+      AreAlike (typed w e) (bound w n).static_type × IsTyped w e × (is_bound w.scope.names n ≡ true)
+  IsTypedForm makes w (assign_form n no_step (how.Reduce o) e) = IsInteger (typed w e)
+      × IsInteger (bound w n).static_type × IsTyped w e × (is_bound w.scope.names n ≡ true)
+  IsTypedForm makes w (assign_form n (at_step e (field_step f no_step)) how.Set y) =
+      AreAlike (typed w y) (element_field w n e f) × IsTyped w y × IsTyped w e × IsInteger (typed w e)
+      × GoesThrough w n e × IsField w n f (element_field w n e f)
+  IsTypedForm makes w (assign_form n (at_step e (field_step f no_step)) (how.Reduce o) y) =
+      IsInteger (typed w y) × IsInteger (element_field w n e f) × IsTyped w y × IsTyped w e
+      × IsInteger (typed w e) × GoesThrough w n e × IsField w n f (element_field w n e f)
+  IsTypedForm makes w (fill_form r fields e) = IsTyped w e × (is_bound w.scope.names r ≡ true)
+      × IsRegion (bound w r).static_type × AreFilled w r (typed w e) fields
+  IsTypedForm makes w _ = ⊥
+
+  -- tests stand in the scope of the `if` itself
+  pub AreTypedArms : Bool → Where → Where → Arms → Type 0
+  AreTypedArms makes own w no_arm = Unit {0}
+  AreTypedArms makes own w (an_arm test body rest) = IsTruth (typed own test) × IsTyped own test
+      × IsTypedBlock makes w body × AreTypedArms makes own (after_arm w body) rest
+
+  pub IsTypedElse : Bool → Where → Otherwise → Type 0
+  IsTypedElse makes w no_else = Unit {0}
+  IsTypedElse makes w (else_block body) = IsTypedBlock makes w body
+
+  pub IsTypedBlock : Bool → Where → Block → Type 0
+  IsTypedBlock makes w no_statement = Unit {0}
+  IsTypedBlock makes w (then_statement (a_statement line form) rest) =
+      IsTypedForm makes (on_line w line) form × IsTypedBlock makes (after_form w form) rest
+
+-- ---- counting
+
+-- how many numbers there are from one to below another
+pub record CountsDown : Type 0 where
+  pub none : (a b : ℤ) → distance a b ≡ 0 → int_lt a b ≡ false
+  pub some : (k : ℕ) (a b : ℤ) → distance a b ≡ suc k →
+      (int_lt a b ≡ true) × (distance (a +ℤ pos 1) b ≡ k)
