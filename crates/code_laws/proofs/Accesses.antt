@@ -1,5 +1,5 @@
 -- Reading a field of a region's point.
-use Rattle.std.proofs.Common.{◌≡◌, ℕ, suc, ◌+◌, ◌*◌, ◌^◌, ◌/◌, ◌<◌, ℤ, pos, negsuc, List, [], ◌∷◌, ◌++◌, Bool, true, false, Some, refl, sym, ap, ◌∙◌, subst, arith}
+use Rattle.std.proofs.Common.{◌≡◌, ℕ, suc, ◌+◌, ◌*◌, ◌^◌, ◌/◌, ◌<◌, ℤ, pos, negsuc, List, [], ◌∷◌, Bool, true, false, Some, refl, sym, ap, ◌∙◌, subst, arith}
 use Rattle.std.specs.Prelude.{get_or, slice_get, length}
 use Rattle.std.proofs.lemmas.Option.{slice_get-get_or}
 use Rattle.std.proofs.lemmas.Nat.{mod-mul-add, div-mul-add}
@@ -15,7 +15,7 @@ use Rattle.regent_tree.specs.Evaluation.{value, stepped}
 use Rattle.regent_tree.specs.Laws.{Leaves, SameNames}
 use Rattle.regent_tree.specs.Running.{State, Here, Run, Result, gives, fails, given, and_then, if_true, fault}
 use Rattle.regent_tree.specs.StaticTypes.{field_kind, field_place, space_at}
-use Rattle.regent_tree.specs.Store.{Store, read_at}
+use Rattle.regent_tree.specs.Store.{read_at}
 use Rattle.regent_tree.specs.Syntax.{Name, Expression, no_step, field_step, at_step}
 use Rattle.regent_tree.specs.Typing.{type_of_element}
 use Rattle.regent_tree.specs.Values.{Value, a_pointer, a_region, Region, point_target, target_kept, kept_target, meant, number_of}
@@ -42,7 +42,7 @@ use Rattle.code_laws.specs.Standing.{Stands, machine_value, IsInside, IsOf, Lies
 use Rattle.code_laws.specs.Typed.{FieldFits, IsInteger, IsRegion, a_region_type, an_integer, fits_32, fits_64, fits_truth}
 use Rattle.code_laws.proofs.Good.{valued, Good, Gives}
 use Rattle.code_laws.proofs.Reaching.{Reached, reached, rewritten}
-use Rattle.code_laws.proofs.Runs.{Said, leads_by, ends_by, comes_before}
+use Rattle.code_laws.proofs.Runs.{leads_by, ends_by, comes_before}
 use Rattle.code_laws.proofs.Touching.{parted, reads}
 
 -- ---- kept pointers

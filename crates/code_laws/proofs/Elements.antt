@@ -1,10 +1,9 @@
 -- Assignments to fields of elements: the code does what the assignment means.
-use Rattle.std.proofs.Common.{◌≡◌, ℕ, suc, ◌≤◌, ℤ, List, [], ◌∷◌, true, refl, sym, ap, ◌∙◌, subst, arith}
+use Rattle.std.proofs.Common.{◌≡◌, ℕ, ◌≤◌, [], ◌∷◌, refl, sym, subst, arith}
 use Rattle.std.specs.Prelude.{get_or, length}
 use Rattle.regent_tree.specs.declared.statement.How.TheVariants as how
 use Rattle.regent_tree.specs.declared.typing.StaticType.{StaticType}
 use Rattle.lane_kernels.specs.declared.numbers.Op.{Op}
-use Rattle.regent_tree.specs.Evaluation.{value}
 use Rattle.regent_tree.specs.Execution.{Going, goes_on, returned, write_to}
 use Rattle.regent_tree.specs.Running.{State, Here, Result, gives, fails}
 use Rattle.regent_tree.specs.Scopes.{bound_to}

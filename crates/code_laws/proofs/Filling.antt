@@ -1,5 +1,5 @@
 -- The fields of a region that has a name are filled.
-use Rattle.std.proofs.Common.{◌≡◌, ◌⊎◌, inl, inr, ℕ, suc, ◌<◌, ◌≤◌, ℤ, List, [], ◌∷◌, ◌++◌, true, Some, None, refl, sym, ap, ◌∙◌, subst, arith}
+use Rattle.std.proofs.Common.{◌≡◌, ◌⊎◌, inl, inr, ℕ, suc, ◌<◌, ℤ, List, [], ◌∷◌, ◌++◌, true, Some, refl, sym, ap, ◌∙◌, subst, arith}
 use Rattle.std.specs.Prelude.{get_or, length, slice_get}
 use Rattle.std.proofs.lemmas.Int.{int_wrap_fits}
 use Rattle.std.proofs.lemmas.Option.{none-some, same_Some, slice_get-get_or}
@@ -10,27 +10,25 @@ use Rattle.lane_kernels.specs.declared.numbers.Width.{Width}
 use Rattle.lane_kernels.specs.Numbers.{std_width, width_of, wrapped}
 use Rattle.region_tree.specs.declared.piece.Part.{Part}
 use Rattle.regent_tree.specs.declared.typing.StaticType.{StaticType}
-use Rattle.regent_tree.specs.Accesses.{args_in, converted, space_in}
-use Rattle.regent_tree.specs.Execution.{Going, fill_fields, goes_on}
+use Rattle.regent_tree.specs.Accesses.{args_in, space_in}
+use Rattle.regent_tree.specs.Execution.{Going, fill_fields}
 use Rattle.regent_tree.specs.Laws.{SameRoots}
 use Rattle.regent_tree.specs.Running.{State, Here, and_then}
 use Rattle.regent_tree.specs.Scopes.{bound_to}
 use Rattle.regent_tree.specs.StaticTypes.{field_kind, field_place, field_type}
-use Rattle.regent_tree.specs.Store.{Store, read_at, touch_all, write_all, write_at}
+use Rattle.regent_tree.specs.Store.{Store, touch_all, write_all, write_at}
 use Rattle.regent_tree.specs.Syntax.{Name}
 use Rattle.regent_tree.specs.Values.{Region, Value, a_region, kept_number}
 use Rattle.regent_tree.proofs.Roots.{shapes_written}
 use Rattle.task_code.specs.declared.instr.Instr.TheVariants as instr
 use Rattle.machine_terms.specs.declared.order.Instance.{Instance}
-use Rattle.machine_terms.specs.declared.order.Resumed.TheVariants as resumed
-use Rattle.machine_terms.specs.declared.value.RegionValue.{RegionValue}
 use Rattle.machine_terms.specs.declared.value.Value.{Value as MachineValue}
 use Rattle.machine_terms.specs.declared.value.Value.TheVariants as machine
 use Rattle.machine_terms.specs.Contents.{kind_of}
 use Rattle.machine_terms.specs.Machine.{Machine, next}
 use Rattle.machine_terms.specs.Makes.{region_with}
 use Rattle.machine_terms.specs.Numbers.{load}
-use Rattle.machine_terms.specs.Parts.{find, found, part_of, set_part}
+use Rattle.machine_terms.specs.Parts.{part_of, set_part}
 use Rattle.machine_terms.specs.Pointers.{region_in, same_width, written}
 use Rattle.machine_terms.specs.Regions.{fill_cell, fill_points, filled, with_region}
 use Rattle.machine_terms.specs.Segments.{act}
@@ -46,13 +44,13 @@ use Rattle.memory_laws.proofs.Cells.{part_set}
 use Rattle.memory_laws.proofs.Finding.{covered_is_found}
 use Rattle.memory_laws.proofs.Touching.{found_tells, set_cells_hold}
 use Rattle.code_laws.specs.Steps.{Setting, machine_of, placed, on_step, Leads}
-use Rattle.code_laws.specs.Standing.{Agrees, Aside, Comes, IsInside, IsOf, LiesIn, SlotsFit, Stands, blank, machine_value, nothing, where_of}
+use Rattle.code_laws.specs.Standing.{Agrees, Aside, Comes, IsOf, LiesIn, SlotsFit, Stands, blank, machine_value, nothing, where_of}
 use Rattle.code_laws.specs.Typed.{AreFilled}
 use Rattle.code_laws.proofs.Accesses.{region_there}
 use Rattle.code_laws.proofs.Reaching.{lies_stays, reached, rewritten}
 use Rattle.code_laws.proofs.Runs.{comes_before, leads_by, leads_none, leads_twice}
 use Rattle.code_laws.proofs.Touching.{parted, same_width-itself, touches}
-use Rattle.code_laws.proofs.Values.{load_value, named}
+use Rattle.code_laws.proofs.Values.{load_value}
 use Rattle.code_laws.proofs.Writes.{GoesOn, converted_at, field_kept, field_value}
 
 -- writes keep the shapes of roots

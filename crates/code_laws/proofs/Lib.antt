@@ -11,6 +11,7 @@ pub mod Accesses
 pub mod Writes
 pub mod Filling
 pub mod Making
+pub mod Operations
 pub mod Expressions
 pub mod Rows
 pub mod Loops
@@ -18,6 +19,7 @@ pub mod Prints
 pub mod PrintRuns
 pub mod Elements
 pub mod Folds
+pub mod Variables
 pub mod Statements
 pub mod Segments
 pub mod Openings
@@ -27,3 +29,4 @@ pub mod TypedStatements
 pub mod TypedBlocks
 pub mod ScalarRuns
 pub mod Example
+pub mod RegionExample

@@ -35,7 +35,8 @@ use Rattle.code_laws.specs.Typed.{CountsDown, IsInteger, an_integer, IsTruth, Is
 use Rattle.code_laws.proofs.Runs.{leads_none, leads_end, leads_by, ends_by, then}
 use Rattle.code_laws.proofs.Values.{number_inside, past_later}
 use Rattle.code_laws.proofs.Good.{valued, Good}
-use Rattle.code_laws.proofs.Expressions.{value_runs, truth_of_type}
+use Rattle.code_laws.proofs.Operations.{truth_of_type}
+use Rattle.code_laws.proofs.Expressions.{value_runs}
 use Rattle.code_laws.proofs.Names.{Grown}
 use Rattle.code_laws.proofs.States.{stored, bound_more, aside_stored, enters, leaves_round}
 

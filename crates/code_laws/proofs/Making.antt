@@ -1,6 +1,6 @@
 -- A root is made for a new variable: the instance agrees with the state whose store has one root more.
-use Rattle.std.proofs.Common.{◌≡◌, ℕ, zero, suc, ◌+◌, ◌^◌, ◌<◌, ◌≤◌, List, [], ◌∷◌, ◌++◌, Bool, true, false, Some, refl, sym, ap, ◌∙◌, subst, arith, length-append, ⊎_elim}
-use Rattle.std.specs.Prelude.{get_or, leb, length, ltb, map, nat_le, nat_lt, slice_get, ◌&&◌}
+use Rattle.std.proofs.Common.{◌≡◌, ℕ, suc, ◌+◌, ◌^◌, ◌<◌, ◌≤◌, List, [], ◌∷◌, ◌++◌, true, false, refl, sym, ap, ◌∙◌, subst, arith, length-append, ⊎_elim}
+use Rattle.std.specs.Prelude.{get_or, leb, length, ltb, map}
 use Rattle.std.proofs.lemmas.Bool.{and_parts, cases_lt, le-leb, lt-ltb, ltb-true}
 use Rattle.std.proofs.lemmas.List.{length-map}
 use Rattle.std.proofs.lemmas.Option.{slice_get-get_or}
@@ -8,10 +8,9 @@ use Rattle.std.proofs.Math.ListN.{get_or-append}
 use Rattle.std.proofs.Math.Seq.{get_or-append_seam}
 use Rattle.plain_values.specs.Points.{has, points}
 use Rattle.point_sets.proofs.Rising.{has-counted_from}
-use Rattle.lane_kernels.specs.declared.numbers.FieldKind.{FieldKind}
 use Rattle.regent_tree.specs.Running.{Here, State}
 use Rattle.regent_tree.specs.StaticTypes.{field_kinds, kind_said, space_at}
-use Rattle.regent_tree.specs.Store.{Store, column, new_root, no_root}
+use Rattle.regent_tree.specs.Store.{Store, new_root, no_root}
 use Rattle.regent_tree.specs.Values.{Region, Value, a_region}
 use Rattle.regent_tree.specs.declared.outcome.RootImage.{RootImage}
 use Rattle.regent_tree.specs.declared.types.Param.{Param}
@@ -19,27 +18,23 @@ use Rattle.regent_tree.specs.declared.typing.Bound.{Bound}
 use Rattle.regent_tree.specs.declared.typing.StaticType.{StaticType}
 use Rattle.task_code.specs.declared.code.Code.{Code}
 use Rattle.task_code.specs.declared.code.FieldCode.{FieldCode}
-use Rattle.task_code.specs.declared.code.SpaceCode.{SpaceCode}
 use Rattle.task_code.specs.declared.instr.Instr.TheVariants as instr
 use Rattle.machine_terms.specs.declared.order.Contents.{Contents}
 use Rattle.machine_terms.specs.declared.order.Instance.{Instance}
 use Rattle.machine_terms.specs.declared.order.Resumed.TheVariants.{GoesOn}
 use Rattle.machine_terms.specs.declared.outcome.Made.TheVariants as made
 use Rattle.machine_terms.specs.declared.outcome.Yield.TheVariants as yield
-use Rattle.machine_terms.specs.declared.value.Value.{Value as MachineValue}
 use Rattle.machine_terms.specs.declared.value.Value.TheVariants as machine
-use Rattle.machine_terms.specs.Contents.{kinds_of, no_space, with_root}
+use Rattle.machine_terms.specs.Contents.{kinds_of, no_space}
 use Rattle.machine_terms.specs.Machine.{at, broken, stops, when, yields}
 use Rattle.machine_terms.specs.Makes.{make_root, region_with}
 use Rattle.machine_terms.specs.Regions.{root_of_space}
-use Rattle.machine_terms.specs.Segments.{act}
 use Rattle.code_rules.specs.Pieces.{op}
-use Rattle.memory_laws.specs.Memory.{Holds, memory_of}
 use Rattle.memory_laws.specs.Places.{number_at}
 use Rattle.memory_laws.proofs.Covering.{made_covers}
-use Rattle.memory_laws.proofs.Made.{number_old, size_of, zeros}
+use Rattle.memory_laws.proofs.Made.{number_old, size_of}
 use Rattle.memory_laws.proofs.Making.{made_holds, made_is_numbered, made_is_own}
-use Rattle.code_laws.specs.Standing.{Agrees, AreOf, Aside, IsInside, IsOf, LiesIn, SlotsFit, Stands, machine_value, nothing, of_index, of_integer, of_partition, of_pointer, of_region, of_space, of_truth}
+use Rattle.code_laws.specs.Standing.{Agrees, AreOf, Aside, IsInside, IsOf, LiesIn, Stands, machine_value, nothing, of_index, of_integer, of_partition, of_pointer, of_region, of_space, of_truth}
 use Rattle.code_laws.specs.Steps.{Setting, machine_of, placed, on_step, Leads}
 use Rattle.code_laws.specs.Typed.{IsMakable}
 use Rattle.code_laws.proofs.Reaching.{kinds_are}

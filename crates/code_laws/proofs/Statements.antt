@@ -1,152 +1,47 @@
 -- The code of a statement does what the statement means.
-use Rattle.regent_tree.specs.StaticTypes.{Reach, place_of_space}
-use Rattle.regent_tree.specs.declared.facts.Term.{Term}
-use Rattle.regent_tree.specs.declared.types.Kind.{Kind}
-use Rattle.regent_tree.specs.declared.types.SpaceUse.{SpaceUse}
-use Rattle.machine_terms.specs.Makes.{make_root as make_instance}
-use Rattle.code_laws.proofs.Making.{made_agrees, makes_root, new_inside}
-use Rattle.task_code.specs.declared.code.Code.{Code}
-use Rattle.regent_tree.specs.Store.{Store}
-use Rattle.regent_tree.specs.Lookup.{is_bound}
-use Rattle.code_laws.proofs.Writes.{GoesOn}
-use Rattle.code_laws.proofs.Filling.{fields_filled}
-use Rattle.code_laws.proofs.Elements.{does_come, folds_element, sets_element}
-use Rattle.regent_tree.specs.Initializers.{initial_value, make_root, zero_of}
-use Rattle.std.proofs.lemmas.Int.{ints}
-use Rattle.lane_kernels.specs.declared.numbers.Width.TheVariants.{W32, W64}
-use Rattle.lane_kernels.specs.Numbers.{FitsWidth}
-use Rattle.regent_tree.specs.declared.types.TypeTerm.{TypeTerm}
+use Rattle.code_laws.proofs.Variables.{GoodInside, binds, fill_runs, region_runs, zero_runs}
+use Rattle.code_laws.proofs.Elements.{folds_element, sets_element}
+use Rattle.regent_tree.specs.Initializers.{initial_value, make_root}
 use Rattle.code_laws.proofs.Folds.{folds}
 use Rattle.code_laws.proofs.Loops.{counting_runs, integer_kept, loop_typed, turning_runs, from_fits, to_fits}
 use Rattle.code_rules.specs.Instructions.{converted_code}
 use Rattle.code_laws.proofs.Rows.{IsAlike, asserts, does_as, does_before, does_said, plain_past, returns, same_scope, scoped_by, tests, then_going, then_leads, writes_name, plain_stands, owned_plain, relimit, jumps_later}
-use Rattle.std.proofs.Common.{◌≡◌, ℕ, suc, ◌+◌, ◌^◌, ◌<◌, ◌≤◌, List, true, pos, [], ◌∷◌, ◌++◌, false, Some, None, refl, sym, ap, ◌∙◌, subst, arith, length-append, Option}
-use Rattle.std.specs.Prelude.{get_or, length, slice_get}
+use Rattle.std.proofs.Common.{◌≡◌, ℕ, suc, ◌<◌, ◌≤◌, [], ◌∷◌, ◌++◌, Some, None, refl, sym, ap, ◌∙◌, subst, arith, length-append}
+use Rattle.std.specs.Prelude.{length, slice_get}
 use Rattle.std.proofs.lemmas.Option.{slice_get-get_or}
 use Rattle.std.proofs.lemmas.List.{get_or-set_same, get_or-set_other, append_assoc}
-use Rattle.lane_kernels.specs.declared.numbers.Width.{Width}
 use Rattle.regent_tree.specs.declared.statement.How.TheVariants as how
-use Rattle.regent_tree.specs.declared.typing.StaticType.{StaticType}
-use Rattle.regent_tree.specs.declared.typing.StaticType.TheVariants.{Integer as integer_type, Region as region_type, Truth as truth_type}
-use Rattle.regent_tree.specs.Scopes.{bound_to, with_name}
-use Rattle.regent_tree.specs.Syntax.{Name, no_step, field_step, at_step, plain_initializer, a_statement, Form, var_form, if_form, while_form, for_to_form, do_form, assert_form, assign_form, return_form, call_form, fill_form, Block, no_statement, then_statement, Arms, no_arm, an_arm, Otherwise, no_else, else_block, Initializer, both_initializer, by_field_initializer, either_initializer, equal_initializer, image_initializer, preimage_initializer, region_initializer, print_form, for_in_form}
+use Rattle.regent_tree.specs.Scopes.{bound_to}
+use Rattle.regent_tree.specs.Syntax.{no_step, field_step, at_step, plain_initializer, a_statement, Form, var_form, if_form, while_form, for_to_form, do_form, assert_form, assign_form, return_form, call_form, fill_form, Block, no_statement, then_statement, Arms, no_arm, an_arm, Otherwise, no_else, else_block, both_initializer, by_field_initializer, either_initializer, equal_initializer, image_initializer, preimage_initializer, region_initializer, print_form, for_in_form}
 use Rattle.regent_tree.specs.Typing.{scope_after_block, arithmetic_type, width_of_type, reaches_of, var_type}
-use Rattle.regent_tree.specs.Values.{Region, Value, a_number, a_region, a_truth, number_of, region_of, size_of}
-use Rattle.regent_tree.specs.Running.{State, Here, Run, and_then, gives}
-use Rattle.regent_tree.specs.Accesses.{converted, regions_reached, space_in}
-use Rattle.regent_tree.specs.Evaluation.{named_value, value, values}
-use Rattle.regent_tree.specs.Execution.{Going, fill_fields, scoped, right_side, bind, looping, exec, exec_arms, exec_else, exec_block, on_line, after_statement, after_arm, after_arms}
+use Rattle.regent_tree.specs.Values.{number_of, size_of}
+use Rattle.regent_tree.specs.Running.{State, Here, Run}
+use Rattle.regent_tree.specs.Accesses.{converted, regions_reached}
+use Rattle.regent_tree.specs.Evaluation.{value, values}
+use Rattle.regent_tree.specs.Execution.{Going, scoped, right_side, bind, looping, exec, exec_arms, exec_else, exec_block, on_line, after_statement, after_arm, after_arms}
 use Rattle.task_code.specs.declared.instr.Instr.TheVariants as instr
 use Rattle.regent_tree.specs.Numbers.{distance}
 use Rattle.machine_terms.specs.declared.value.Value.TheVariants as machine
 use Rattle.machine_terms.specs.declared.order.Instance.{Instance}
 use Rattle.code_rules.specs.Pieces.{Piece, op, past}
-use Rattle.code_rules.specs.Slots.{typed, slot, slot_named, spare, counter, beside}
+use Rattle.code_rules.specs.Slots.{typed, slot, counter, beside}
 use Rattle.code_rules.specs.Expressions.{expr_code, count}
-use Rattle.code_rules.specs.Initializers.{new_place, zero_kept}
+use Rattle.code_rules.specs.Initializers.{new_place}
 use Rattle.code_rules.specs.Statements.{form_code, arms_code, else_code, block_code}
-use Rattle.code_rules.specs.Assignments.{fill_code, right_code}
+use Rattle.code_rules.specs.Assignments.{right_code}
 use Rattle.code_laws.specs.Steps.{Setting, placed}
-use Rattle.code_laws.specs.Standing.{Stands, machine_value, Comes, IsInside, IsOf, LiesIn, nothing, of_integer, of_region, of_space, of_truth, blank, Aside, where_of, Agrees, SlotsFit, Does}
-use Rattle.code_laws.specs.Typed.{AreFilled, CountsDown, IsMakable, IsRegion, IsScalar, IsSpace, a_region_type, a_space_type, element_field, scalar_integer, scalar_truth, AreTypedArms, IsTypedBlock, IsTypedElse, IsTypedForm}
+use Rattle.code_laws.specs.Standing.{Stands, machine_value, IsInside, IsOf, blank, Aside, where_of, Agrees, SlotsFit, Does}
+use Rattle.code_laws.specs.Typed.{CountsDown, element_field, AreTypedArms, IsTypedBlock, IsTypedElse, IsTypedForm}
 use Rattle.code_laws.proofs.Runs.{leads_none, leads_twice, ends_by, then, comes_said}
-use Rattle.code_laws.proofs.Values.{named, past_later, scalar_simple, simple_inside}
-use Rattle.code_laws.proofs.Good.{valued, Good, Gives, pushes}
-use Rattle.code_laws.proofs.Expressions.{converted_runs, fetch_small, value_runs, alike_right, truth_of_type}
+use Rattle.code_laws.proofs.Values.{past_later, scalar_simple, simple_inside}
+use Rattle.code_laws.proofs.Good.{valued, Good}
+use Rattle.code_laws.proofs.Operations.{converted_runs, fetch_small, alike_right, truth_of_type}
+use Rattle.code_laws.proofs.Expressions.{value_runs}
 use Rattle.code_laws.proofs.PrintRuns.{values_run, prints}
 use Rattle.code_laws.proofs.Names.{form_grown, block_grown, arms_names, else_names}
-use Rattle.code_laws.proofs.States.{stored, stores, bound_more, aside_stored}
-
--- 0 fits
-zero_fits : (w : Width) → FitsWidth w (pos 0)
-zero_fits W32 = omega (arith, ints)
-zero_fits W64 = omega (arith, ints)
-
--- a value of a region's type is a region
-a_region_there : (t : StaticType) (v : Value) → IsRegion t → IsOf t v → (q : Region) × (region_of v ≡ q) × (v ≡ a_region q)
-a_region_there _ _ (a_region_type k sp args r) (of_region _ _ _ _ q) = (q, refl, refl)
-
-region_lies : (code : Code) (store : Store) (t : StaticType) (v : Value) → IsRegion t → (q : Region) → v ≡ a_region q →
-    IsInside code store t v → LiesIn code store (space_in t) q
-region_lies code store _ v (a_region_type k sp args r) q e l = subst (IsInside code store (region_type k sp args r)) e l
+use Rattle.code_laws.proofs.States.{stored, stores, aside_stored}
 
 module _ (x : Setting) (params slots : ℕ) (fit : SlotsFit x slots) (counts : CountsDown) where
-  -- ---- variables
-
-  -- a new variable has the value that stands on the stack
-  binds : (aside : Aside) (h : Here) (n : Name) (t : Option TypeTerm) (start : Option Initializer) (v : Value) (s : State)
-      (pc : ℕ) (i : Instance) → params ≤ length h.scope.names → IsOf (var_type h.tree h.scope t start) v →
-      IsInside x.code s.store (var_type h.tree h.scope t start) v → Agrees x params slots aside h s i → Stands x.body pc (op (instr.Store (slot (where_of params h) (new_place (where_of params h)))) h.line) →
-      Does x params slots aside (valued pc [] v i) (suc pc) (after_statement h (var_form n t start)) (bind v s)
-  binds aside h n t start v s pc i low ty inside g f =
-      let w = where_of params h in
-      let k = slot w (new_place w) in
-      let u = var_type h.tree h.scope t start in
-      let room : k < slots = omega (arith, fit pc _ f) in (
-        stored k (machine_value i.contents v) i,
-        stores x params slots fit k pc h.line (machine_value i.contents v) [] i g.slots_are f,
-        same_scope x params slots aside (record h { scope = with_name h.scope n u false }) _ _ _ (refl, refl)
-            (bound_more x params slots fit aside h s i n u false v low room ty inside g),
-      )
-
-  -- 0 or false
-  zero_runs : (aside : Aside) (h : Here) (t : StaticType) (s : State) (pc : ℕ) (i : Instance) → IsScalar t →
-      Agrees x params slots aside h s i → Stands x.body pc (op (instr.Num (zero_kept t)) h.line) →
-      Gives x params slots fit aside h t (op (instr.Num (zero_kept t)) h.line) pc [] [] i (gives (zero_of h.scope s.names t) s)
-  zero_runs aside h _ s pc i (scalar_integer w) g f =
-      pushes x params slots fit aside h (integer_type w) (a_number w (pos 0)) s pc [] [] i (instr.Num (pos 0)) h.line f
-      (of_integer w (pos 0) (zero_fits w)) g refl
-  zero_runs aside h _ s pc i scalar_truth g f =
-      pushes x params slots fit aside h truth_type (a_truth false) s pc [] [] i (instr.Num (pos 0)) h.line f (of_truth false) g refl
-
-  -- a value that may be a region
-  abbrev GoodInside : Aside → Here → StaticType → Value → State → Instance → Type 0
-  GoodInside aside h t v s j = IsOf t v × IsInside x.code s.store t v × Agrees x params slots aside h s j
-
-  -- a root of an index space's size
-  region_runs : (aside : Aside) (h : Here) (from : StaticType) (v : Value) (u : SpaceUse) (s : State) (pc : ℕ) (i : Instance)
-      (k : Kind) (args : List Reach) (r : Term) → x.makes ≡ true → IsSpace from →
-      IsMakable h.tree (place_of_space h.tree u.name) → IsOf from v → Agrees x params slots aside h s i →
-      Stands x.body pc (op (instr.NewRoot (place_of_space h.tree u.name)) h.line) → suc pc < 2 ^ 32 →
-      Comes x (valued pc [] v i) (valued (suc pc) []) (GoodInside aside h (region_type k (place_of_space h.tree u.name) args r))
-      (make_root h u (size_of v) s)
-  region_runs aside h _ _ u s pc i k args r makes (a_space_type kind) can (of_space _ size small) g f near =
-      let sp = place_of_space h.tree u.name in (
-        make_instance x.code size sp i,
-        makes_root x params slots aside h s i sp size pc h.line near can g f,
-        (of_region k sp args r _, new_inside x params slots aside h s i sp size small g, made_agrees x params slots aside h s i sp size makes g),
-      )
-
-  -- the value is put aside, and the fields are filled with it
-  fill_runs : (aside : Aside) (h : Here) (r : Name) (fs : List Name) (from : StaticType) (v : Value) (s : State) (pc : ℕ) (i : Instance) →
-      params ≤ length h.scope.names → is_bound h.scope.names r ≡ true → IsRegion (bound_to h.scope.names r).static_type →
-      AreFilled (where_of params h) r from fs → IsOf from v → Agrees x params slots aside h s i →
-      Stands x.body pc (op (instr.Store (spare (where_of params h) 0)) h.line) →
-      Stands x.body (suc pc) (fill_code (where_of params h) from (bound_to h.scope.names r).static_type (slot_named (where_of params h) r) fs) →
-      Does x params slots aside (valued pc [] v i)
-      (past (fill_code (where_of params h) from (bound_to h.scope.names r).static_type (slot_named (where_of params h) r) fs) (suc pc)) h
-      (and_then (named_value h r s) (λ u. fill_fields h from v (bound_to h.scope.names r).static_type (region_of u) fs))
-  fill_runs aside h r fs from v s pc i low bound region fine o g at code =
-      let w = where_of params h in
-      let b = bound_to h.scope.names r in
-      let k = length h.scope.names in
-      let m = named IsOf h.scope.names s.names r g.typed bound in
-      let lies = (named (IsInside x.code s.store) h.scope.names s.names r g.inside_store bound).holding in
-      let q = a_region_there b.static_type (get_or s.names b.place nothing) region m.holding in
-      let put = machine_value i.contents v in
-      let j = stored (spare w 0) put i in
-      let same : slot w k + 2 ≡ spare w 0 = omega arith in
-      let g2 = subst (λ d. Agrees x params slots aside h s (stored d put i)) same
-      (aside_stored x params slots fit aside h s i k 2 put low (omega (arith, g.inside, g.count)) (omega arith) (omega arith) (omega arith) g) in
-      does_before x params slots fit counts aside _ h _ _ _ (stores x params slots fit (spare w 0) pc h.line put [] i g.slots_are at)
-      (does_come x params slots fit aside _ h _ _
-      (subst (λ u. Comes x (placed (suc pc) [] j)
-      (λ g3 j3. placed (past (fill_code w from b.static_type (slot_named w r) fs) (suc pc)) [] j3) (GoesOn x params slots fit aside h)
-      (fill_fields h from v b.static_type u fs s)) (sym q.1)
-      (fields_filled x params slots fit aside h r from v q.0 fs s (suc pc) j fine o q.2
-      (region_lies x.code s.store b.static_type (get_or s.names b.place nothing) region q.0 q.2 lies) (omega (arith, m.below, g.count))
-      (get_or-set_same i.frame.slots (spare w 0) put blank (omega (arith, fit pc _ at, g.slots_are))) g2 code)))
-
   -- ---- statements
 
   mutual
@@ -170,7 +65,7 @@ module _ (x : Setting) (params slots : ℕ) (fit : SlotsFit x slots) (counts : C
         _ _ _ (value h e s) _
         (value_runs x params slots fit aside h 0 low e s pc [] i fine.1 g
         (plain_stands x.body params h t e pc h.scope.next fine.0 f.0))
-        (λ v s1 j k1. binds aside h n None (Some (plain_initializer e)) v s1 (past code pc) j low
+        (λ v s1 j k1. binds x params slots fit counts aside h n None (Some (plain_initializer e)) v s1 (past code pc) j low
         (subst (λ u. IsOf u v) (owned_plain h.scope.next t fine.0) k1.0)
         (subst (λ u. IsInside x.code s1.store u v) (owned_plain h.scope.next t fine.0) (simple_inside x.code s1.store t v fine.0)) k1.1 f2))
     form_runs aside h (var_form n (Some t) (Some (plain_initializer e))) s pc i low fine g f =
@@ -187,15 +82,15 @@ module _ (x : Setting) (params slots : ℕ) (fit : SlotsFit x slots) (counts : C
         (value_runs x params slots fit aside h 0 low e s pc [] i fine.1 g f.0.0)
         (λ v s1 j k. converted_runs x params slots fit aside h from u (regions_reached h.scope s1.names (reaches_of u)) v s1 a [] j
         fine.0 k.0 k.1 f.0.1))
-        (λ v s1 j k. binds aside h n (Some t) (Some (plain_initializer e)) v s1 b j low k.0
+        (λ v s1 j k. binds x params slots fit counts aside h n (Some t) (Some (plain_initializer e)) v s1 b j low k.0
         (simple_inside x.code s1.store u v (scalar_simple u (alike_right x params slots fit aside from u fine.0))) k.1 f.1)
     form_runs aside h (var_form n (Some t) None) s pc i low fine g f =
         let form = var_form n (Some t) None in
         let u = var_type h.tree h.scope (Some t) None in
         then x (does_said x params slots fit counts aside (suc (suc pc)) (after_statement h form)) (valued (suc pc) [])
         (Good x params slots fit aside h u) _ (initial_value h (Some t) u None s) (λ v. bind v)
-        (zero_runs aside h u s pc i fine g f.0)
-        (λ v s1 j k. binds aside h n (Some t) None v s1 (suc pc) j low k.0 (simple_inside x.code s1.store u v (scalar_simple u fine)) k.1 f.1)
+        (zero_runs x params slots fit counts aside h u s pc i fine g f.0)
+        (λ v s1 j k. binds x params slots fit counts aside h n (Some t) None v s1 (suc pc) j low k.0 (simple_inside x.code s1.store u v (scalar_simple u fine)) k.1 f.1)
     form_runs aside h (assign_form n no_step how.Set e) s pc i low fine g f =
         let w = where_of params h in
         let t = typed w e in
@@ -322,11 +217,11 @@ module _ (x : Setting) (params slots : ℕ) (fit : SlotsFit x slots) (counts : C
         let t = var_type h.tree h.scope None start in
         let a = past (expr_code w 0 e) pc in
         then x (does_said x params slots fit counts aside (suc (suc a)) (after_statement h (var_form n None start))) (valued (suc a) [])
-        (GoodInside aside h t) _ (initial_value h None t start s) (λ v. bind v)
+        (GoodInside x params slots fit counts aside h t) _ (initial_value h None t start s) (λ v. bind v)
         (then x (comes_said x _ _) (valued a []) (Good x params slots fit aside h (typed w e)) _ (value h e s)
         (λ v. make_root h u (size_of v)) (value_runs x params slots fit aside h 0 low e s pc [] i fine.2 g f.0.0)
-        (λ v s1 j k. region_runs aside h (typed w e) v u s1 a j _ _ _ fine.0 fine.1 fine.3 k.0 k.1 f.0.1 (fetch_small x.body (suc a) _ f.1)))
-        (λ v s1 j k. binds aside h n None start v s1 (suc a) j low k.0 k.1 k.2 f.1)
+        (λ v s1 j k. region_runs x params slots fit counts aside h (typed w e) v u s1 a j _ _ _ fine.0 fine.1 fine.3 k.0 k.1 f.0.1 (fetch_small x.body (suc a) _ f.1)))
+        (λ v s1 j k. binds x params slots fit counts aside h n None start v s1 (suc a) j low k.0 k.1 k.2 f.1)
     form_runs aside h (var_form n (Some t) (Some (region_initializer _ _))) s pc i low fine g f = absurd fine
     form_runs aside h (var_form n None (Some (equal_initializer _ _))) s pc i low fine g f = absurd fine
     form_runs aside h (var_form n (Some t) (Some (equal_initializer _ _))) s pc i low fine g f = absurd fine
@@ -377,7 +272,7 @@ module _ (x : Setting) (params slots : ℕ) (fit : SlotsFit x slots) (counts : C
         let t = typed (where_of params h) e in
         then x (does_said x params slots fit counts aside _ h) _ _ _ (value h e s) _
         (value_runs x params slots fit aside h 0 low e s pc [] i fine.0 g f.0)
-        (λ v s1 j k. fill_runs aside h r fields t v s1 _ j low fine.1 fine.2 fine.3 k.0 k.1 f.1.0 f.1.1)
+        (λ v s1 j k. fill_runs x params slots fit counts aside h r fields t v s1 _ j low fine.1 fine.2 fine.3 k.0 k.1 f.1.0 f.1.1)
     form_runs aside h (call_form task args) s pc i low fine g f = absurd fine
 
     arms_run : (aside : Aside) (own h h0 : Here) (arms : Arms) (other : Run Going) (oc : Piece) (s : State)

@@ -35,7 +35,7 @@ use Rattle.regent_tree.specs.declared.outcome.RootImage.{RootImage}
 use Rattle.task_code.specs.declared.code.Code.{Code}
 use Rattle.machine_terms.specs.declared.order.Instance.{Instance}
 use Rattle.code_laws.proofs.Values.{number_inside}
-use Rattle.code_laws.specs.Programs.{AreTaken, IsTypedRun, LeavesNoRoots, RunsAsMeant, ScalarsRunAsMeant, entry_setting, job_of}
+use Rattle.code_laws.specs.Programs.{AreTaken, IsTypedRun, LeavesNoRoots, RegionsRunAsMeant, RunsAsMeant, ScalarsRunAsMeant, entry_setting, job_of}
 use Rattle.code_laws.specs.Standing.{Does, IsFramed, IsInside, IsOf, Stands, machine_value}
 use Rattle.code_laws.specs.Steps.{Ends, Setting, placed}
 use Rattle.code_laws.proofs.Counts.{counts_down}
@@ -156,6 +156,9 @@ typed_run_ends makes tree inputs turns p =
 
 pub scalars_run_as_meant : ScalarsRunAsMeant
 scalars_run_as_meant tree inputs turns p = (typed_run_ends false tree inputs turns p).0
+
+pub regions_run_as_meant : RegionsRunAsMeant
+regions_run_as_meant tree inputs turns p = (typed_run_ends true tree inputs turns p).0
 
 pub scalars_leave_no_roots : (tree : Tree) (inputs : List ℤ) (turns : ℕ) → IsTypedRun false tree inputs →
     LeavesNoRoots (meaning tree inputs turns).ending

@@ -1,31 +1,28 @@
 -- Writing to a field of a region's point, and folding a number into it.
 use Rattle.std.proofs.Common.{◌≡◌, ◌≢◌, ℕ, suc, ◌<◌, ℤ, pos, negsuc, List, [], ◌∷◌, ◌++◌, Bool, true, false, Some, refl, sym, ap, ◌∙◌, subst, arith}
-use Rattle.std.specs.Prelude.{get_or, length, slice_get}
+use Rattle.std.specs.Prelude.{get_or, length}
 use Rattle.std.proofs.lemmas.Int.{SFits-int_wrap, ints, int_wrap_fits}
 use Rattle.plain_values.specs.Points.{has}
 use Rattle.lane_kernels.specs.declared.numbers.FieldKind.{FieldKind}
-use Rattle.lane_kernels.specs.declared.numbers.Mode.{Mode}
 use Rattle.lane_kernels.specs.declared.numbers.Mode.TheVariants as mode
 use Rattle.lane_kernels.specs.declared.numbers.Op.{Op}
 use Rattle.lane_kernels.specs.declared.numbers.Width.{Width}
-use Rattle.lane_kernels.specs.declared.numbers.Width.TheVariants.{W64}
 use Rattle.lane_kernels.proofs.Operators.{closed}
 use Rattle.lane_kernels.specs.Numbers.{FitsWidth, applied, std_width, width_of, wrapped}
 use Rattle.regent_tree.specs.declared.outcome.FaultKind.TheVariants.{OutOfRegion}
-use Rattle.regent_tree.specs.declared.statement.How.{How}
 use Rattle.regent_tree.specs.declared.statement.How.TheVariants as how
 use Rattle.regent_tree.specs.declared.typing.StaticType.{StaticType}
 use Rattle.regent_tree.specs.declared.typing.StaticType.TheVariants.{Integer as integer_type, Region as region_type}
-use Rattle.regent_tree.specs.Accesses.{aimed, aimed_in, converted, hits, space_in, standing, take_element}
+use Rattle.regent_tree.specs.Accesses.{aimed, aimed_in, converted, space_in, standing, take_element}
 use Rattle.regent_tree.specs.Evaluation.{stepped, value}
 use Rattle.regent_tree.specs.Execution.{Going, goes_on, updated, write_field}
 use Rattle.regent_tree.specs.Laws.{Leaves, SameNames}
 use Rattle.regent_tree.specs.Running.{State, Here, Run, Result, gives, fails, given, and_then, if_true, fault}
 use Rattle.regent_tree.specs.StaticTypes.{field_kind, field_place, space_at}
-use Rattle.regent_tree.specs.Store.{Touch, read_at, write_at}
+use Rattle.regent_tree.specs.Store.{read_at, write_at}
 use Rattle.regent_tree.specs.Syntax.{Name, Expression, at_step, no_step}
-use Rattle.regent_tree.specs.Typing.{type_of_element, width_of_type}
-use Rattle.regent_tree.specs.Values.{Region, Value, a_number, a_pointer, a_region, a_truth, kept_number, kept_target, kept_truth, meant, number_of, point_target}
+use Rattle.regent_tree.specs.Typing.{type_of_element}
+use Rattle.regent_tree.specs.Values.{Region, Value, a_number, a_pointer, a_region, a_truth, kept_number, kept_target, meant, number_of, point_target}
 use Rattle.regent_tree.proofs.Roots.{shapes_written}
 use Rattle.task_code.specs.declared.instr.Instr.TheVariants as instr
 use Rattle.machine_terms.specs.declared.order.Contents.{Contents}
@@ -34,7 +31,6 @@ use Rattle.machine_terms.specs.declared.order.Instance.{Instance}
 use Rattle.machine_terms.specs.declared.order.Resumed.TheVariants.{IsOver}
 use Rattle.machine_terms.specs.declared.value.Value.{Value as MachineValue}
 use Rattle.machine_terms.specs.declared.value.Value.TheVariants as machine
-use Rattle.machine_terms.specs.Contents.{kind_of}
 use Rattle.machine_terms.specs.Machine.{faults, next, when}
 use Rattle.machine_terms.specs.Makes.{region_with}
 use Rattle.machine_terms.specs.Pointers.{element, region_in}
@@ -47,7 +43,7 @@ use Rattle.code_rules.specs.Slots.{own_slot, slot, slots_of, typed}
 use Rattle.memory_laws.specs.Memory.{Holds, IsKept, memory_of}
 use Rattle.memory_laws.specs.Places.{number_at}
 use Rattle.code_laws.specs.Steps.{Setting, machine_of, placed, on_step, Leads}
-use Rattle.code_laws.specs.Standing.{Agrees, Aside, Comes, IsInside, IsOf, LiesIn, SlotsFit, Stands, machine_value, nothing, of_integer, of_region, of_truth, where_of}
+use Rattle.code_laws.specs.Standing.{Agrees, Aside, Comes, IsInside, IsOf, SlotsFit, Stands, machine_value, nothing, of_integer, of_region, of_truth, where_of}
 use Rattle.code_laws.specs.Typed.{AreAlike, FieldFits, IsInteger, IsRegion, a_region_type, an_integer, fits_32, fits_64, fits_truth, two_integers, two_truths}
 use Rattle.code_laws.proofs.Accesses.{HasRegion, aims_first, region_there}
 use Rattle.code_laws.proofs.Good.{valued, Gives}

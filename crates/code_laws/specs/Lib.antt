@@ -4,3 +4,4 @@ pub mod Typed
 pub mod Programs
 pub mod ScalarPrograms
 pub mod Example
+pub mod RegionExample

@@ -1,5 +1,5 @@
 -- Programs whose entry task treats scalars alone, and what is to be shown of them.
-use Rattle.std.specs.Prelude.{◌≡◌, Bool, false, ℕ, ◌^◌, ◌≤◌, ℤ, List, [], ◌∷◌, length, Some, slice_get}
+use Rattle.std.specs.Prelude.{◌≡◌, Bool, false, true, ℕ, ◌^◌, ◌≤◌, ℤ, List, [], ◌∷◌, length, Some, slice_get}
 use Rattle.regent_tree.specs.Meaning.{inputs_of, meaning}
 use Rattle.regent_tree.specs.StaticTypes.{entry_name, task_named}
 use Rattle.regent_tree.specs.Syntax.{TaskTree, Tree}
@@ -58,6 +58,11 @@ RunsAsMeant tree inputs turns = order_run (job_of tree inputs turns) ≡ meaning
 
 abbrev pub ScalarsRunAsMeant : Type 0
 ScalarsRunAsMeant = (tree : Tree) (inputs : List ℤ) (turns : ℕ) → IsTypedRun false tree inputs → RunsAsMeant tree inputs turns
+
+-- Also where it makes roots, whose fields are read, written, reduced and filled at the points of regions that
+-- have names.
+abbrev pub RegionsRunAsMeant : Type 0
+RegionsRunAsMeant = (tree : Tree) (inputs : List ℤ) (turns : ℕ) → IsTypedRun true tree inputs → RunsAsMeant tree inputs turns
 
 -- a run ends without roots, or with a fault
 abbrev pub LeavesNoRoots : Ending → Type 0
