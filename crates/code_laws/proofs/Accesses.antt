@@ -123,7 +123,7 @@ module _ (x : Setting) (params slots : ℕ) (fit : SlotsFit x slots) (aside : As
       Gives x params slots fit aside h (typed (where_of params h) e) (expr_code (where_of params h) d e) pc st st i (value h e s) →
       IsInteger (typed (where_of params h) e) → Leaves SameNames s (value h e s) →
       ((s1 : State) (j : Instance) → s1.names ≡ s.names → Agrees x params slots aside h s1 j →
-      HasRegion j sl q × LiesIn x.code s1.store (space_in t) q) →
+      HasRegion j sl q × LiesIn x s1.store (space_in t) q) →
       slots_of (where_of params h) sl (type_of_element h.scope t e) ≡ sl ∷ [] →
       field_place h.tree (space_in t) f < length (space_at h.tree (space_in t)).fields →
       FieldFits (field_kind h.tree (space_in t) (field_place h.tree (space_in t) f)) out →
@@ -136,7 +136,7 @@ module _ (x : Setting) (params slots : ℕ) (fit : SlotsFit x slots) (aside : As
       (past (expr_code (where_of params h) d e) pc) stands.1)
     where
       by_index : (t : StaticType) → IsRegion t → (ty : StaticType) → IsInteger ty → (u : Value) → IsOf ty u →
-          (s1 : State) (j : Instance) → HasRegion j sl q × LiesIn x.code s1.store (space_in t) q →
+          (s1 : State) (j : Instance) → HasRegion j sl q × LiesIn x s1.store (space_in t) q →
           slots_of (where_of params h) sl (type_of_element h.scope t e) ≡ sl ∷ [] →
           field_place h.tree (space_in t) f < length (space_at h.tree (space_in t)).fields →
           FieldFits (field_kind h.tree (space_in t) (field_place h.tree (space_in t) f)) out →
@@ -210,7 +210,7 @@ module _ (x : Setting) (params slots : ℕ) (fit : SlotsFit x slots) (aside : As
       slots_of (where_of params h) (slot (where_of params h) p) (type_of_element h.scope t e) ≡ slot (where_of params h) p ∷ [] →
       field_place h.tree (space_in t) f < length (space_at h.tree (space_in t)).fields →
       FieldFits (field_kind h.tree (space_in t) (field_place h.tree (space_in t) f)) out →
-      ((s1 : State) (j : Instance) → Agrees x params slots aside h s1 j → IsInside x.code s1.store t (get_or s1.names p nothing)) →
+      ((s1 : State) (j : Instance) → Agrees x params slots aside h s1 j → IsInside x s1.store t (get_or s1.names p nothing)) →
       Stands x.body pc (load_code (where_of params h) t (slot (where_of params h) p) (at_step e (field_step f no_step))
       ⨟ steps_code (where_of params h) d t (own_slot (where_of params h) t p) (at_step e (field_step f no_step))) →
       Gives x params slots fit aside h out
@@ -223,5 +223,5 @@ module _ (x : Setting) (params slots : ℕ) (fit : SlotsFit x slots) (aside : As
       element_reads h d _ sl e f q out s pc st i (a_region_type k sp args r) (runs pc stands.1.0) index same
       (λ s1 j names g. (
         region_there h s1 j p q (ap (λ ns. get_or ns p nothing) names ∙ is) (subst (λ ns. p < length ns) (sym names) low) room g,
-        subst (IsInside x.code s1.store (region_type k sp args r)) (ap (λ ns. get_or ns p nothing) names ∙ is) (lies s1 j g),
+        subst (IsInside x s1.store (region_type k sp args r)) (ap (λ ns. get_or ns p nothing) names ∙ is) (lies s1 j g),
       )) single field fits stands.1

@@ -40,7 +40,7 @@ module _ (x : Setting) (params slots : ℕ) (fit : SlotsFit x slots) (aside : As
 
   -- `r[e].f = v`, with the value on the stack
   pub sets_element : (h : Here) (n : Name) (e : Expression) (f : Name) (out : StaticType) (v : Value) (s : State) (pc : ℕ)
-      (i : Instance) → params ≤ length h.scope.names → IsTyped (where_of params h) e → IsInteger (typed (where_of params h) e) →
+      (i : Instance) → params ≤ length h.scope.names → IsTyped x.forms (where_of params h) e → IsInteger (typed (where_of params h) e) →
       GoesThrough (where_of params h) n e → IsField (where_of params h) n f out → IsOf out v →
       Agrees x params slots aside h s i →
       Stands x.body pc (target_code (where_of params h) n (at_step e (field_step f no_step)) how.Set) →
@@ -58,11 +58,11 @@ module _ (x : Setting) (params slots : ℕ) (fit : SlotsFit x slots) (aside : As
       field.region m.holding refl (omega (arith, m.below, g.count))
       (λ a f1. value_runs x params slots fit aside h 0 low e s a (machine.Number (kept_number v) ∷ []) i fine g f1)
       index (expressions_keep_names h e s) through field.field field.keeps o
-      (λ s1 j g1. (named (IsInside x.code s1.store) h.scope.names s1.names n g1.inside_store field.named).holding) stands))
+      (λ s1 j g1. (named (IsInside x s1.store) h.scope.names s1.names n g1.inside_store field.named).holding) stands))
 
   -- `r[e].f o= v`
   pub folds_element : (o : Op) (h : Here) (n : Name) (e : Expression) (f : Name) (out t : StaticType) (v : Value) (s : State)
-      (pc : ℕ) (i : Instance) → params ≤ length h.scope.names → IsTyped (where_of params h) e →
+      (pc : ℕ) (i : Instance) → params ≤ length h.scope.names → IsTyped x.forms (where_of params h) e →
       IsInteger (typed (where_of params h) e) → GoesThrough (where_of params h) n e → IsField (where_of params h) n f out →
       IsInteger out → IsInteger t → IsOf t v → Agrees x params slots aside h s i →
       Stands x.body pc (target_code (where_of params h) n (at_step e (field_step f no_step)) (how.Reduce o)) →
@@ -78,4 +78,4 @@ module _ (x : Setting) (params slots : ℕ) (fit : SlotsFit x slots) (aside : As
       field.region m.holding refl (omega (arith, m.below, g.count))
       (λ a f1. value_runs x params slots fit aside h 0 low e s a (machine.Number y ∷ []) i fine g f1)
       index (expressions_keep_names h e s) through field.field field.keeps
-      (λ s1 j g1. (named (IsInside x.code s1.store) h.scope.names s1.names n g1.inside_store field.named).holding) stands)
+      (λ s1 j g1. (named (IsInside x s1.store) h.scope.names s1.names n g1.inside_store field.named).holding) stands)

@@ -35,7 +35,7 @@ module _ (x : Setting) (params slots : ℕ) (fit : SlotsFit x slots) (aside : As
   mutual
     pub value_runs : (h : Here) (d : ℕ) → params ≤ length h.scope.names →
         (e : Expression) (s : State) (pc : ℕ)
-        (st : List MachineValue) (i : Instance) → IsTyped (where_of params h) e →
+        (st : List MachineValue) (i : Instance) → IsTyped x.forms (where_of params h) e →
         Agrees x params slots aside h s i → Stands x.body pc (expr_code (where_of params h) d e) →
         Gives x params slots fit aside h (typed (where_of params h) e) (expr_code (where_of params h) d e) pc st st i
         (value h e s)
@@ -84,7 +84,7 @@ module _ (x : Setting) (params slots : ℕ) (fit : SlotsFit x slots) (aside : As
         fine.3.region m.holding refl (omega (arith, m.below, g.count))
         (λ a f1. value_runs h d low e s a st i fine.0 g f1) fine.1 (expressions_keep_names h e s)
         fine.2 fine.3.field fine.3.keeps
-        (λ s1 j g1. (named (IsInside x.code s1.store) h.scope.names s1.names n g1.inside_store fine.3.named).holding) f
+        (λ s1 j g1. (named (IsInside x s1.store) h.scope.names s1.names n g1.inside_store fine.3.named).holding) f
     value_runs h d low (access_expr n (at_step _ no_step)) s pc st i fine g f = absurd fine
     value_runs h d low (access_expr n (at_step _ (at_step _ _))) s pc st i fine g f = absurd fine
     value_runs h d low (access_expr n (at_step _ (field_step _ (field_step _ _)))) s pc st i fine g f = absurd fine
@@ -99,7 +99,7 @@ module _ (x : Setting) (params slots : ℕ) (fit : SlotsFit x slots) (aside : As
 
     pub linked_runs : (h : Here) (d : ℕ) → params ≤ length h.scope.names →
         (t : StaticType) (v : Value) (ls : Links) (s : State) (pc : ℕ)
-        (st : List MachineValue) (i : Instance) → AreTypedLinks (where_of params h) t ls → IsOf t v →
+        (st : List MachineValue) (i : Instance) → AreTypedLinks x.forms (where_of params h) t ls → IsOf t v →
         Agrees x params slots aside h s i → Stands x.body pc (links_code (where_of params h) d t ls) →
         Gives x params slots fit aside h (linked_type h.tree h.scope t ls) (links_code (where_of params h) d t ls) pc
         (machine_value i.contents v ∷ st) st i (linked h t v ls s)

@@ -168,7 +168,7 @@ module _ (x : Setting) (params slots : ℕ) (fit : SlotsFit x slots) (aside : As
   pub fields_filled : (h : Here) (r : Name) (from : StaticType) (v : Value) (q : Region) (fs : List Name)
       (s : State) (pc : ℕ) (i : Instance) → AreFilled (where_of params h) r from fs → IsOf from v →
       get_or s.names (bound_to h.scope.names r).place nothing ≡ a_region q →
-      LiesIn x.code s.store (space_in (bound_to h.scope.names r).static_type) q →
+      LiesIn x s.store (space_in (bound_to h.scope.names r).static_type) q →
       (bound_to h.scope.names r).place < length s.names →
       get_or i.frame.slots (spare (where_of params h) 0) blank ≡ machine_value i.contents v →
       Agrees x params slots aside h s i →
@@ -229,4 +229,4 @@ module _ (x : Setting) (params slots : ℕ) (fit : SlotsFit x slots) (aside : As
         touches = s1.touches ++ touch_all q.root place mode.Write q.points;
       }))) c.gives_it))
       (fields_filled h r from v q fs (record s { store = store; touches = ts }) (suc a) (parted filled.0 i) fine.2 o is
-      (lies_stays x.code s.store store (space_in t) q roots lies) low kept_there g2 stands.1.1.1)))))
+      (lies_stays x s.store store (space_in t) q roots lies) low kept_there g2 stands.1.1.1)))))

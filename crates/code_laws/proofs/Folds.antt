@@ -87,7 +87,7 @@ module _ (x : Setting) (params slots : ℕ) (fit : SlotsFit x slots) (counts : C
         stores x params slots fit k pc line (machine.Number z) [] i g.slots_are f,
         changed x params slots fit aside h s i n (a_number w z) b room
             (subst (λ t. IsOf t (a_number w z)) (sym ty) (of_integer w z p))
-            (number_inside x.code s.store _ w z (subst (λ t. IsOf t (a_number w z)) (sym ty) (of_integer w z p))) g,
+            (number_inside x s.store _ w z (subst (λ t. IsOf t (a_number w z)) (sym ty) (of_integer w z p))) g,
       )
 
   before : (pc : ℕ) (h : Here) (i j : Instance) (s : State) → Leads x i j →
@@ -143,7 +143,7 @@ module _ (x : Setting) (params slots : ℕ) (fit : SlotsFit x slots) (counts : C
         stores x params slots fit (spare w 0) pc h.line (machine.Number u) [] i g.slots_are f,
         subst (λ d. Agrees x params slots aside h s (stored d (machine.Number u) i)) same
             (aside_stored x params slots fit aside h s i k 2 (machine.Number u) low (omega (arith, g.inside, g.count))
-            (omega (arith)) (omega (arith)) (omega (arith)) g),
+            (omega (arith)) (omega (arith)) (omega (arith)) refl g),
       )
 
   -- and comes back

@@ -65,7 +65,7 @@ module _ (x : Setting) (params slots : ℕ) (fit : SlotsFit x slots) (counts : C
   -- a loop with a test, from the place of the test; its body is known to run
   pub turning_runs : (k : ℕ) (aside : Aside) (h : Here) (test : Expression) (body : Run Going)
       (code : Piece) (s : State) (pc : ℕ) (i : Instance) → params ≤ length h.scope.names →
-      IsTruth (typed (where_of params h) test) → IsTyped (where_of params h) test →
+      IsTruth (typed (where_of params h) test) → IsTyped x.forms (where_of params h) test →
       k ≤ aside.turns → Agrees x params slots (record aside { turns = k }) h s i →
       Stands x.body pc (loop h.line (expr_code (where_of params h) 0 test) code) →
       ((n : ℕ) (s1 : State) (j : Instance) → Agrees x params slots (record aside { turns = n }) h s1 j →
@@ -224,10 +224,10 @@ module _ (x : Setting) (params slots : ℕ) (fit : SlotsFit x slots) (counts : C
       let i2 = stored v (machine.Number z) i1 in
       let j = headed c v z m i in
       let g2 = bound_more x params slots fit aside h s1 i1 n t true (a_number wd z) low
-      (omega (arith, used.2)) ty (number_inside x.code s1.store t wd z ty) g1 in
+      (omega (arith, used.2)) ty (number_inside x s1.store t wd z ty) g1 in
       let up : aside.upto ≤ k = omega (arith, g.inside, g.count) in
       let g3 = aside_stored x params slots fit aside (looping h n t) s2 i2 k 1 (machine.Number (z +ℤ pos 1))
-      low up (omega arith) (omega arith) (omega arith) g2 in
+      low up (omega arith) (omega arith) (omega arith) refl g2 in
       let aside2 : Aside = record { upto = suc k; slots = j.frame.slots; turns = m } in
       let g4 = enters x params slots fit aside (looping h n t) s2 j (suc k) (omega (arith, g3.count)) g3 in
       let e = past code (suc pc) in

@@ -16,7 +16,6 @@ use Rattle.regent_tree.specs.declared.outcome.RootImage.{RootImage}
 use Rattle.regent_tree.specs.declared.types.Param.{Param}
 use Rattle.regent_tree.specs.declared.typing.Bound.{Bound}
 use Rattle.regent_tree.specs.declared.typing.StaticType.{StaticType}
-use Rattle.task_code.specs.declared.code.Code.{Code}
 use Rattle.task_code.specs.declared.code.FieldCode.{FieldCode}
 use Rattle.task_code.specs.declared.instr.Instr.TheVariants as instr
 use Rattle.machine_terms.specs.declared.order.Contents.{Contents}
@@ -34,7 +33,9 @@ use Rattle.memory_laws.specs.Places.{number_at}
 use Rattle.memory_laws.proofs.Covering.{made_covers}
 use Rattle.memory_laws.proofs.Made.{number_old, size_of}
 use Rattle.memory_laws.proofs.Making.{made_holds, made_is_numbered, made_is_own}
-use Rattle.code_laws.specs.Standing.{Agrees, AreOf, Aside, IsInside, IsOf, LiesIn, Stands, machine_value, nothing, of_index, of_integer, of_partition, of_pointer, of_region, of_space, of_truth}
+use Rattle.region_tree.specs.declared.tree.RootId.{RootId}
+use Rattle.machine_terms.specs.declared.order.Root.{Root}
+use Rattle.code_laws.specs.Standing.{Agrees, AreOf, Aside, IsInside, is_own, IsOf, LiesIn, Stands, machine_value, nothing, of_index, of_integer, of_partition, of_pointer, of_region, of_space, of_truth}
 use Rattle.code_laws.specs.Steps.{Setting, machine_of, placed, on_step, Leads}
 use Rattle.code_laws.specs.Typed.{IsMakable}
 use Rattle.code_laws.proofs.Reaching.{kinds_are}
@@ -42,18 +43,19 @@ use Rattle.code_laws.proofs.Runs.{leads_by}
 
 -- ---- what was there stays
 
-module _ (code : Code) (store : Store) (image : RootImage) where
-  lies_more : (sp : ℕ) (q : Region) → LiesIn code store sp q → LiesIn code (store ++ image ∷ []) sp q
+module _ (x : Setting) (store : Store) (image : RootImage) where
+  lies_more : (sp : ℕ) (q : Region) → LiesIn x store sp q → LiesIn x (store ++ image ∷ []) sp q
   lies_more sp q l =
       let same : get_or (store ++ image ∷ []) q.root no_root ≡ get_or store q.root no_root =
       get_or-append store (image ∷ []) no_root q.root l.there in record {
+        own = l.own;
         there = omega (arith, l.there, length-append store (image ∷ []));
         of_space = ap (λ (r : RootImage). r.space) same ∙ l.of_space;
         points = λ f n low h. subst (λ (r : RootImage). n < length (get_or r.fields f [])) (sym same) (l.points f n low h);
         small = l.small;
       }
 
-  inside_more : (t : StaticType) (v : Value) → IsOf t v → IsInside code store t v → IsInside code (store ++ image ∷ []) t v
+  inside_more : (t : StaticType) (v : Value) → IsOf t v → IsInside x store t v → IsInside x (store ++ image ∷ []) t v
   inside_more _ _ (of_integer w z p) l = tt
   inside_more _ _ (of_truth b) l = tt
   inside_more _ _ (of_index k z) l = tt
@@ -62,15 +64,15 @@ module _ (code : Code) (store : Store) (image : RootImage) where
   inside_more _ _ (of_region k sp args r q) l = lies_more sp q l
   inside_more _ _ (of_partition d r p q) l = omega (arith, l, length-append store (image ∷ []))
 
-  all_more : (bs : List Bound) (names : List Value) → AreOf IsOf bs names → AreOf (IsInside code store) bs names →
-      AreOf (IsInside code (store ++ image ∷ [])) bs names
+  all_more : (bs : List Bound) (names : List Value) → AreOf IsOf bs names → AreOf (IsInside x store) bs names →
+      AreOf (IsInside x (store ++ image ∷ [])) bs names
   all_more [] names a l = tt
   all_more (b ∷ bs) names a l =
       (a.0, inside_more b.static_type (get_or names b.place nothing) a.1 l.1, all_more bs names a.2 l.2)
 
   -- values have the numbers that they had
   same_value : (c d : Contents) → ((r : ℕ) → r < length store → number_at d r ≡ number_at c r) → (t : StaticType) (v : Value) →
-      IsOf t v → IsInside code store t v → machine_value d v ≡ machine_value c v
+      IsOf t v → IsInside x store t v → machine_value d v ≡ machine_value c v
   same_value c d same _ _ (of_integer w z p) l = refl
   same_value c d same _ _ (of_truth b) l = refl
   same_value c d same _ _ (of_index k z) l = refl
@@ -84,7 +86,7 @@ module _ (code : Code) (store : Store) (image : RootImage) where
   })) (same q.root l)
 
   same_names : (c d : Contents) → ((r : ℕ) → r < length store → number_at d r ≡ number_at c r) → (bs : List Bound) (names : List Value) →
-      AreOf IsOf bs names → AreOf (IsInside code store) bs names → (p : ℕ) → p < length bs →
+      AreOf IsOf bs names → AreOf (IsInside x store) bs names → (p : ℕ) → p < length bs →
       machine_value d (get_or names p nothing) ≡ machine_value c (get_or names p nothing)
   same_names c d same [] names a l p low = absurd (omega (arith, low))
   same_names c d same (b ∷ bs) names a l p low = ⊎_elim
@@ -102,15 +104,16 @@ point_below size n e =
     omega (arith, ltb-true n (0 + size) (and_parts (leb 0 n) (ltb n (0 + size)) (sym (has-counted_from 0 size n) ∙ e)).1)
 
 -- the region of all points of a new root lies in it
-new_lies : (code : Code) (store : Store) (sp size : ℕ) → size ≤ 4194304 →
-    LiesIn code (store ++ new_root sp size (kinds_of code sp) ∷ []) sp (record { root = length store; points = points size })
-new_lies code store sp size small =
-    let image = new_root sp size (kinds_of code sp) in
+new_lies : (x : Setting) (store : Store) (sp size : ℕ) → size ≤ 4194304 → length x.before ≤ length store →
+    LiesIn x (store ++ new_root sp size (kinds_of x.code sp) ∷ []) sp (record { root = length store; points = points size })
+new_lies x store sp size small before =
+    let image = new_root sp size (kinds_of x.code sp) in
     let seam : get_or (store ++ image ∷ []) (length store) no_root ≡ image = get_or-append_seam store image [] no_root in record {
+      own = before;
       there = omega (arith, length-append store (image ∷ []));
       of_space = ap (λ (r : RootImage). r.space) seam;
       points = λ f n low h. subst (λ (r : RootImage). n < length (get_or r.fields f [])) (sym seam)
-          (subst (λ k. n < k) (sym (size_of (kinds_of code sp) size f low)) (point_below size n h));
+          (subst (λ k. n < k) (sym (size_of (kinds_of x.code sp) size f low)) (point_below size n h));
       small = λ n h. omega (arith, point_below size n h, small);
     }
 
@@ -122,31 +125,33 @@ module _ (x : Setting) (params slots : ℕ) (aside : Aside) where
   abbrev pub new_region : State → ℕ → Value
   new_region s size = a_region (record { root = length s.store; points = points size })
 
-  pub made_agrees : (h : Here) (s : State) (i : Instance) (sp size : ℕ) → x.makes ≡ true → Agrees x params slots aside h s i →
+  pub made_agrees : (h : Here) (s : State) (i : Instance) (sp size : ℕ) → x.forms.makes ≡ true → Agrees x params slots aside h s i →
       Agrees x params slots aside h (with_new h sp size s) (make_root x.code size sp i)
   made_agrees h s i sp size makes g =
       let kinds = kinds_are x.code h.tree sp g.spaces in
       let j = make_root x.code size sp i in
       let image = new_root sp size (kinds_of x.code sp) in
       subst (λ ks. Agrees x params slots aside h (record s { store = s.store ++ new_root sp size ks ∷ [] }) j) kinds (record {
-        names = λ p l. g.names p l ∙ sym (same_names x.code s.store image i.contents j.contents
+        names = λ p l. g.names p l ∙ sym (same_names x s.store image i.contents j.contents
             (λ r low. number_old i.contents image g.memory.stands.numbered r (omega (arith, low, g.memory.stands.count)))
             h.scope.names s.names g.typed g.inside_store p (omega (arith, l, g.count)));
         hidden = g.hidden;
         typed = g.typed;
-        inside_store = all_more x.code s.store image h.scope.names s.names g.typed g.inside_store;
+        inside_store = all_more x s.store image h.scope.names s.names g.typed g.inside_store;
         count = g.count;
         inside = g.inside;
         slots_are = g.slots_are;
         turns = g.turns;
         bound = g.bound;
         text = g.text;
+        ready = g.ready;
+        calls = record { few = g.calls.few; children = g.calls.children; depth = g.calls.depth };
         spaces = g.spaces;
         memory = made_holds x.code s.store i size sp g.memory;
         framed = record {
           own_are = made_is_own x.code i size sp x.before g.framed.own_are;
           none = λ e. absurd (no_way (sym makes ∙ e));
-          allows = made_covers x.code s.store i size sp (λ u. true) g.memory g.framed.allows;
+          allows = made_covers x.code s.store i size sp (is_own x) g.memory g.framed.allows;
         };
       })
     where
@@ -178,8 +183,18 @@ module _ (x : Setting) (params slots : ℕ) (aside : Aside) where
       (lt-ltb (suc pc) (2 ^ 32) near)
       ∙ ap (λ n. GoesOn (placed (suc pc) (machine.Region (region_with n (points size)) ∷ []) (make_root x.code size sp i))) (sym at_end))
 
+  -- the roots that were there before the instance are among those of the store
+  own_below : (h : Here) (s : State) (i : Instance) → Agrees x params slots aside h s i → length x.before ≤ length s.store
+  own_below h s i g = omega (
+    arith,
+    ap length g.framed.own_are,
+    length-append x.before (map (λ (id : RootId). id.0) i.frame.own),
+    length-map i.contents.roots (λ (r : Root). r.id.0),
+    g.memory.stands.count,
+  )
+
   pub new_inside : (h : Here) (s : State) (i : Instance) (sp size : ℕ) → size ≤ 4194304 → Agrees x params slots aside h s i →
-      LiesIn x.code (with_new h sp size s).store sp (record { root = length s.store; points = points size })
+      LiesIn x (with_new h sp size s).store sp (record { root = length s.store; points = points size })
   new_inside h s i sp size small g =
-      subst (λ ks. LiesIn x.code (s.store ++ new_root sp size ks ∷ []) sp (record { root = length s.store; points = points size }))
-      (kinds_are x.code h.tree sp g.spaces) (new_lies x.code s.store sp size small)
+      subst (λ ks. LiesIn x (s.store ++ new_root sp size ks ∷ []) sp (record { root = length s.store; points = points size }))
+      (kinds_are x.code h.tree sp g.spaces) (new_lies x s.store sp size small (own_below h s i g))

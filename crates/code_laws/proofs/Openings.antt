@@ -1,8 +1,8 @@
 -- Where the body of a task begins, its instance agrees with the meaning's state.
 use Rattle.std.proofs.Common.{◌≡◌, ⊎_elim, ℕ, zero, suc, ◌+◌, ◌-◌, ◌^◌, ◌<◌, ◌≤◌, List, [], ◌∷◌, ◌++◌, Bool, true, false, Some, None, refl, sym, ap, ◌∙◌, subst, arith, length-append}
 use Rattle.std.specs.Prelude.{cond, get_or, length, map, reverse, replicate, slice_get, nat_lt}
-use Rattle.std.proofs.lemmas.Bool.{cases_lt, lt-ltb, le-ltb}
-use Rattle.std.proofs.lemmas.List.{length-map, length-replicate, reverse-append, map-append}
+use Rattle.std.proofs.lemmas.Bool.{cases_lt, leb-true, lt-ltb, le-ltb}
+use Rattle.std.proofs.lemmas.List.{append-nil, length-map, length-replicate, reverse-append, map-append}
 use Rattle.std.proofs.lemmas.Option.{none-some, same_Some}
 use Rattle.std.proofs.Math.ListN.{get_or-append, get_or-map}
 use Rattle.std.proofs.Math.Seq.{get_or-append_seam}
@@ -15,22 +15,25 @@ use Rattle.regent_tree.specs.Scopes.{Scope, scope_of, bound_params}
 use Rattle.regent_tree.specs.Syntax.{TaskTree, Tree}
 use Rattle.regent_tree.specs.Typing.{param_types}
 use Rattle.regent_tree.specs.Values.{Value}
-use Rattle.task_code.specs.declared.code.Code.{Code}
 use Rattle.task_code.specs.declared.code.Line.{Line}
 use Rattle.regent_tree.specs.Store.{Store, column}
 use Rattle.machine_terms.specs.declared.order.Contents.{Contents}
 use Rattle.machine_terms.specs.declared.order.Instance.{Instance}
-use Rattle.machine_terms.specs.Contents.{no_contents}
 use Rattle.machine_terms.specs.Jumps.{fetch}
 use Rattle.machine_terms.specs.Opening as frames
 use Rattle.machine_terms.specs.Orders.{begun}
 use Rattle.code_rules.specs.Programs.{code_of, task_code}
 use Rattle.code_rules.specs.Slots.{slot}
 use Rattle.code_rules.specs.Used.{greatest, slots_of_lines, slots_used}
-use Rattle.code_laws.specs.Programs.{AreTaken, entry_setting}
-use Rattle.memory_laws.proofs.Beginning.{first_holds}
-use Rattle.code_laws.specs.Standing.{Agrees, AreOf, Aside, IsInside, IsOf, SlotsFit, blank, machine_value, nothing, of_index, of_integer, of_partition, of_pointer, of_region, of_space, of_truth, where_of}
-use Rattle.code_laws.specs.Steps.{Setting}
+use Rattle.code_laws.specs.Programs.{AreTaken, task_setting}
+use Rattle.memory_laws.proofs.Keeping.{root_below}
+use Rattle.memory_laws.specs.Memory.{Holds, memory_of}
+use Rattle.memory_laws.specs.Places.{numbers}
+use Rattle.machine_terms.specs.declared.order.Root.{Root}
+use Rattle.machine_terms.specs.declared.value.Value.{Value as MachineValue}
+use Rattle.code_laws.specs.Standing.{Agrees, AreOf, AreReady, Aside, IsInside, IsOf, SlotsFit, blank, machine_value, nothing, of_index, of_integer, of_partition, of_pointer, of_region, of_space, of_truth, where_of}
+use Rattle.code_laws.specs.Steps.{Forms, Setting}
+use Rattle.code_laws.proofs.States.{ready_value}
 use Rattle.code_laws.proofs.Names.{typed_more}
 
 -- ---- arguments as a task has them
@@ -58,13 +61,13 @@ entered_taken c s vs [] (u ∷ us) a = absurd a
 entered_taken c s vs (t ∷ ts) [] a = absurd a
 
 -- regions and partitions go as they are
-entered_inside : (code : Code) (store : Store) (s : Scope) (vs : List Value) (ts : List StaticType) (us : List Value) →
-    AreTaken IsOf ts us → AreTaken (IsInside code store) ts us → AreTaken (IsInside code store) ts (entered s vs ts us)
-entered_inside code store s vs [] [] a b = tt
-entered_inside code store s vs (t ∷ ts) (u ∷ us) a b =
-    (one t u a.0 b.0, entered_inside code store s vs ts us a.1 b.1)
+entered_inside : (x : Setting) (store : Store) (s : Scope) (vs : List Value) (ts : List StaticType) (us : List Value) →
+    AreTaken IsOf ts us → AreTaken (IsInside x store) ts us → AreTaken (IsInside x store) ts (entered s vs ts us)
+entered_inside x store s vs [] [] a b = tt
+entered_inside x store s vs (t ∷ ts) (u ∷ us) a b =
+    (one t u a.0 b.0, entered_inside x store s vs ts us a.1 b.1)
   where
-    one : (t : StaticType) (v : Value) → IsOf t v → IsInside code store t v → IsInside code store t (entered_as s vs t v)
+    one : (t : StaticType) (v : Value) → IsOf t v → IsInside x store t v → IsInside x store t (entered_as s vs t v)
     one _ _ (of_integer w z p) b = tt
     one _ _ (of_truth v) b = tt
     one _ _ (of_index k z) b = tt
@@ -72,8 +75,8 @@ entered_inside code store s vs (t ∷ ts) (u ∷ us) a b =
     one _ _ (of_space k n l) b = tt
     one _ _ (of_region k sp args r q) b = b
     one _ _ (of_partition d r p q) b = b
-entered_inside code store s vs [] (u ∷ us) a b = absurd a
-entered_inside code store s vs (t ∷ ts) [] a b = absurd a
+entered_inside x store s vs [] (u ∷ us) a b = absurd a
+entered_inside x store s vs (t ∷ ts) [] a b = absurd a
 
 -- names in the places of their order
 abbrev AreFrom : ℕ → List Bound → Type 0
@@ -178,50 +181,79 @@ fits_slots x tree t e pc l f = by (nat_lt pc (2 ^ 32)) (subst (λ b. fetch b pc 
 abbrev pub before_all : ℕ → Aside
 before_all turns = record { upto = 0; slots = []; turns = turns }
 
-module _ (tree : Tree) (turns : ℕ) (calls : Calls) (t : TaskTree) (place : ℕ) (vs : List Value) where
-  abbrev pub first : Instance
-  first = begun (frames.opening turns 1 place (task_code tree t) (map (machine_value no_contents) vs)) [] no_contents
+-- ---- slots where a task begins
 
-  no_column : (root field : ℕ) → length (column [] root field) ≡ 0
-  no_column root field = refl
+ready_append : (xs ys : List MachineValue) → AreReady xs → AreReady ys → AreReady (xs ++ ys)
+ready_append [] ys a b k = b k
+ready_append (x ∷ xs) ys a b zero = a 0
+ready_append (x ∷ xs) ys a b (suc k) = ready_append xs ys (λ n. a (suc n)) b k
 
-  pub opens : (makes : Bool) → AreTaken IsOf (param_types tree t) vs →
-      AreTaken (IsInside (code_of tree) []) (param_types tree t) vs → length vs ≤ (task_code tree t).slots →
-      Agrees (entry_setting makes tree turns t) (length t.params) (task_code tree t).slots (before_all turns) (body_of tree calls t) (opening tree turns t vs []) first
-  opens makes takes inside room =
+ready_values : (c : Contents) (vs : List Value) → AreReady (map (machine_value c) vs)
+ready_values c [] zero = refl
+ready_values c [] (suc k) = refl
+ready_values c (v ∷ vs) zero = ready_value c v
+ready_values c (v ∷ vs) (suc k) = ready_values c vs k
+
+ready_blanks : (n : ℕ) → AreReady (replicate n blank)
+ready_blanks zero zero = refl
+ready_blanks zero (suc k) = refl
+ready_blanks (suc n) zero = refl
+ready_blanks (suc n) (suc k) = ready_blanks n k
+
+-- a task that begins at a depth, with these roots
+module _ (tree : Tree) (turns more depth : ℕ) (t : TaskTree) (place : ℕ) (vs : List Value) (store : Store) (c : Contents) where
+  abbrev pub begins : Instance
+  begins = begun (frames.opening turns depth place (task_code tree t) (map (machine_value c) vs)) [] c
+
+  pub opens : (forms : Forms) (calls : Calls) → AreTaken IsOf (param_types tree t) vs →
+      AreTaken (IsInside (task_setting forms tree turns more depth (numbers c) t) store) (param_types tree t) vs →
+      length vs ≤ (task_code tree t).slots → Holds (code_of tree) store (memory_of begins) →
+      Agrees (task_setting forms tree turns more depth (numbers c) t) (length t.params) (task_code tree t).slots
+      (before_all turns) (body_of tree calls t) (opening tree turns t vs store) begins
+  opens forms calls takes inside room holds =
+      let x = task_setting forms tree turns more depth (numbers c) t in
       let code = task_code tree t in
       let sc = scope_of tree t in
-      let e = entered_taken no_contents sc vs (param_types tree t) vs takes in
+      let e = entered_taken c sc vs (param_types tree t) vs takes in
       let us = entered sc vs (param_types tree t) vs in
       let w = where_of (length t.params) (body_of tree calls t) in
-      let ms = map (machine_value no_contents) vs in
+      let ms = map (machine_value c) vs in
+      let blanks = replicate (code.slots - length ms) blank in
       let long : length us ≡ length t.params = taken_length IsOf (param_types tree t) us e.0 ∙ types_length sc.names
       ∙ params_length tree t.params 0 t.params in
-      let same : length ms ≡ length us = ap length (sym e.1) ∙ length-map us (machine_value no_contents) in
+      let same : length ms ≡ length us = ap length (sym e.1) ∙ length-map us (machine_value c) in
       record {
         names = λ k l.
             let low : k < length t.params = omega (arith, l, long) in
             let at : slot w k ≡ k = omega (arith, low) in
-            ap (λ n. get_or (ms ++ replicate (code.slots - length ms) blank) n blank) at
-            ∙ get_or-append ms (replicate (code.slots - length ms) blank) blank k (omega (arith, l, same))
-            ∙ ap (λ ys. get_or ys k blank) (sym e.1) ∙ get_or-map (machine_value no_contents) us k nothing;
+            ap (λ n. get_or (ms ++ blanks) n blank) at
+            ∙ get_or-append ms blanks blank k (omega (arith, l, same))
+            ∙ ap (λ ys. get_or ys k blank) (sym e.1) ∙ get_or-map (machine_value c) us k nothing;
         hidden = λ k a b. absurd (omega (arith, b));
         typed = names_typed IsOf sc.names us (params_from tree t.params 0 t.params) e.0;
-        inside_store = names_typed (IsInside (code_of tree) []) sc.names us (params_from tree t.params 0 t.params)
-            (entered_inside (code_of tree) [] sc vs (param_types tree t) vs takes inside);
+        inside_store = names_typed (IsInside x store) sc.names us (params_from tree t.params 0 t.params)
+            (entered_inside x store sc vs (param_types tree t) vs takes inside);
         count = taken_length IsOf (param_types tree t) us e.0 ∙ types_length sc.names;
         inside = omega arith;
-        slots_are = length-append ms (replicate (code.slots - length ms) blank)
+        slots_are = length-append ms blanks
             ∙ ap (λ n. length ms + n) (length-replicate (code.slots - length ms) blank)
-            ∙ omega (arith, subst (λ n. n ≤ code.slots) (sym (length-map vs (machine_value no_contents))) room);
+            ∙ omega (arith, subst (λ n. n ≤ code.slots) (sym (length-map vs (machine_value c))) room);
         turns = refl;
         bound = omega arith;
         text = refl;
+        ready = ready_append ms blanks (ready_values c vs) (ready_blanks (code.slots - length ms));
+        calls = record { few = omega arith; children = refl; depth = refl };
         spaces = refl;
-        memory = first_holds (code_of tree) first.frame;
+        memory = holds;
         framed = record {
-          own_are = refl;
+          own_are = sym (append-nil (numbers c));
           none = λ e. refl;
-          allows = λ u p l. absurd (omega (arith, l, no_column u.root u.field));
+          allows = λ u own l. absurd (omega (
+            arith,
+            leb-true (length (numbers c)) u.root own,
+            root_below store u.root u.field u.point l,
+            length-map c.roots (λ (r : Root). r.id.0),
+            holds.stands.count,
+          ));
         };
       }

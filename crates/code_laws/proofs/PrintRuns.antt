@@ -39,7 +39,7 @@ module _ (x : Setting) (params slots : ℕ) (fit : SlotsFit x slots) (aside : As
       × Agrees x params slots aside h s j
 
   pub values_run : (h : Here) → params ≤ length h.scope.names → (args : Expressions) (s : State) (pc : ℕ)
-      (st : List MachineValue) (i : Instance) → AreNumbers (where_of params h) args →
+      (st : List MachineValue) (i : Instance) → AreNumbers x.forms (where_of params h) args →
       Agrees x params slots aside h s i → Stands x.body pc (exprs_code (where_of params h) 0 [] args) →
       Comes x (placed pc st i) (λ vs j. placed (past (exprs_code (where_of params h) 0 [] args) pc) (pushed_all no_contents vs st) j)
       (AreGood h (count args)) (values h [] args s)
@@ -93,6 +93,8 @@ module _ (x : Setting) (params slots : ℕ) (fit : SlotsFit x slots) (aside : As
           turns = g.turns;
           bound = g.bound;
           text = ap (λ t. t ++ text) g.text;
+          ready = g.ready;
+          calls = g.calls;
           spaces = g.spaces;
           memory = g.memory;
           framed = g.framed;

@@ -17,18 +17,9 @@ use Rattle.machine_terms.specs.declared.value.Value.{Value as MachineValue}
 use Rattle.machine_terms.specs.declared.value.Value.TheVariants as machine
 use Rattle.machine_terms.specs.Calls.{before_text, count_numbers, few, take_values, taken, text_of, is_pending}
 use Rattle.code_rules.specs.Prints.{parts_after, parts_of, text_part}
+use Rattle.code_laws.proofs.States.{ready_value}
 use Rattle.code_laws.specs.Standing.{machine_value}
 use Rattle.regent_tree.specs.Values.{a_number, a_partition, a_pointer, a_region, a_space, a_truth, an_index}
-
--- no value is a child that is pending
-ready_value : (c : Contents) (v : Value) → is_pending (machine_value c v) ≡ false
-ready_value c (a_number w z) = refl
-ready_value c (a_truth b) = refl
-ready_value c (an_index z) = refl
-ready_value c (a_pointer t rs) = refl
-ready_value c (a_space n) = refl
-ready_value c (a_region r) = refl
-ready_value c (a_partition p) = refl
 
 -- ---- values in a row on the stack, the last on top
 

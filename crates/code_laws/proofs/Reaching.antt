@@ -5,6 +5,7 @@ use Rattle.std.specs.Prelude.{get_or, length, map}
 use Rattle.std.proofs.lemmas.List.{length-map}
 use Rattle.std.proofs.lemmas.Simd.{map-map}
 use Rattle.std.proofs.Math.ListN.{get_or-map}
+use Rattle.std.proofs.lemmas.Bool.{le-leb}
 use Rattle.plain_values.specs.Points.{has}
 use Rattle.lane_kernels.specs.declared.numbers.FieldKind.TheVariants.{Truth}
 use Rattle.lane_kernels.specs.declared.numbers.Mode.{Mode}
@@ -30,7 +31,7 @@ use Rattle.memory_laws.specs.Places.{number_at}
 use Rattle.memory_laws.specs.Touches.{IsCovered}
 use Rattle.memory_laws.proofs.Covering.{covered_stays}
 use Rattle.memory_laws.proofs.Shapes.{length_of, shapes_at}
-use Rattle.code_laws.specs.Standing.{Agrees, AreOf, Aside, IsInside, IsOf, LiesIn, nothing, of_index, of_integer, of_partition, of_pointer, of_region, of_space, of_truth}
+use Rattle.code_laws.specs.Standing.{Agrees, is_own, AreOf, Aside, IsInside, IsOf, LiesIn, nothing, of_index, of_integer, of_partition, of_pointer, of_region, of_space, of_truth}
 use Rattle.code_laws.specs.Steps.{Setting}
 use Rattle.code_laws.proofs.Touching.{parted}
 
@@ -53,9 +54,10 @@ kind_in tree sp place =
 -- ---- what stays where no root is made
 
 -- a region lies in its root still
-pub lies_stays : (code : Code) (store after : Store) (sp : ℕ) (q : Region) → SameRoots store after →
-    LiesIn code store sp q → LiesIn code after sp q
-lies_stays code store after sp q same l = record {
+pub lies_stays : (x : Setting) (store after : Store) (sp : ℕ) (q : Region) → SameRoots store after →
+    LiesIn x store sp q → LiesIn x after sp q
+lies_stays x store after sp q same l = record {
+  own = l.own;
   there = subst (λ n. q.root < n) (sym (length-map store shape_of) ∙ ap length (sym same) ∙ length-map after shape_of) l.there;
   of_space = ap (λ (s : Shape). s.space) (shapes_at store after q.root same) ∙ l.of_space;
   points = λ f n low h. subst (λ k. n < k)
@@ -64,24 +66,24 @@ lies_stays code store after sp q same l = record {
   small = l.small;
 }
 
-pub inside_stays : (code : Code) (store after : Store) (t : StaticType) (v : Value) → SameRoots store after → IsOf t v →
-    IsInside code store t v → IsInside code after t v
-inside_stays code store after _ _ same (of_integer w z p) l = tt
-inside_stays code store after _ _ same (of_truth b) l = tt
-inside_stays code store after _ _ same (of_index k z) l = tt
-inside_stays code store after _ _ same (of_pointer k sp args rs t regions) l = tt
-inside_stays code store after _ _ same (of_space k n p) l = tt
-inside_stays code store after _ _ same (of_region k sp args r q) l = lies_stays code store after sp q same l
-inside_stays code store after _ _ same (of_partition d r p q) l =
+pub inside_stays : (x : Setting) (store after : Store) (t : StaticType) (v : Value) → SameRoots store after → IsOf t v →
+    IsInside x store t v → IsInside x after t v
+inside_stays x store after _ _ same (of_integer w z p) l = tt
+inside_stays x store after _ _ same (of_truth b) l = tt
+inside_stays x store after _ _ same (of_index k z) l = tt
+inside_stays x store after _ _ same (of_pointer k sp args rs t regions) l = tt
+inside_stays x store after _ _ same (of_space k n p) l = tt
+inside_stays x store after _ _ same (of_region k sp args r q) l = lies_stays x store after sp q same l
+inside_stays x store after _ _ same (of_partition d r p q) l =
     subst (λ n. q.root < n) (sym (length-map store shape_of) ∙ ap length (sym same) ∙ length-map after shape_of) l
 
-pub all_inside : (code : Code) (store after : Store) (bs : List Bound) (names : List Value) → SameRoots store after →
-    AreOf IsOf bs names → AreOf (IsInside code store) bs names → AreOf (IsInside code after) bs names
-all_inside code store after [] names same a l = tt
-all_inside code store after (b ∷ bs) names same a l = (
+pub all_inside : (x : Setting) (store after : Store) (bs : List Bound) (names : List Value) → SameRoots store after →
+    AreOf IsOf bs names → AreOf (IsInside x store) bs names → AreOf (IsInside x after) bs names
+all_inside x store after [] names same a l = tt
+all_inside x store after (b ∷ bs) names same a l = (
   a.0,
-  inside_stays code store after b.static_type (get_or names b.place nothing) same a.1 l.1,
-  all_inside code store after bs names same a.2 l.2,
+  inside_stays x store after b.static_type (get_or names b.place nothing) same a.1 l.1,
+  all_inside x store after bs names same a.2 l.2,
 )
 
 -- other numbers in the same roots, and other parts
@@ -93,19 +95,21 @@ rewritten x params slots aside h s i ps ts store same g holds = record {
   names = g.names;
   hidden = g.hidden;
   typed = g.typed;
-  inside_store = all_inside x.code s.store store h.scope.names s.names same g.typed g.inside_store;
+  inside_store = all_inside x s.store store h.scope.names s.names same g.typed g.inside_store;
   count = g.count;
   inside = g.inside;
   slots_are = g.slots_are;
   turns = g.turns;
   bound = g.bound;
   text = g.text;
+  ready = g.ready;
+  calls = g.calls;
   spaces = g.spaces;
   memory = holds;
   framed = record {
     own_are = g.framed.own_are;
     none = g.framed.none;
-    allows = covered_stays x.code s.store store (memory_of i) (memory_of (parted ps i)) (λ u. true) g.memory refl refl same g.framed.allows;
+    allows = covered_stays x.code s.store store (memory_of i) (memory_of (parted ps i)) (is_own x) g.memory refl refl same g.framed.allows;
   };
 }
 
@@ -119,7 +123,7 @@ pub record Reached (x : Setting) (tree : Tree) (i : Instance) (store : Store) (q
   pub kind_is : kind_of x.code i.contents (number_at i.contents q.root) place ≡ field_kind tree sp place
 
 pub reached : (x : Setting) (params slots : ℕ) (aside : Aside) (h : Here) (s : State) (i : Instance) (q : Region)
-    (sp place n : ℕ) (a : Mode) → Agrees x params slots aside h s i → LiesIn x.code s.store sp q →
+    (sp place n : ℕ) (a : Mode) → Agrees x params slots aside h s i → LiesIn x s.store sp q →
     place < length (space_at h.tree sp).fields → has q.points n ≡ true →
     Reached x h.tree i s.store q sp place n a
 reached x params slots aside h s i q sp place n a g l field e =
@@ -129,7 +133,7 @@ reached x params slots aside h s i q sp place n a g l field e =
     let is = l.points place n low e in record {
       small = l.small n e;
       there = is;
-      covers = g.framed.allows (record { root = q.root; field = place; point = n; access = a }) refl is;
+      covers = g.framed.allows (record { root = q.root; field = place; point = n; access = a }) (le-leb (length x.before) q.root l.own) is;
       kind_is = ap (λ (s : Shape). get_or (kinds_of x.code s.space) place Truth) (g.memory.stands.shape q.root)
           ∙ ap (λ k. get_or (kinds_of x.code k) place Truth) l.of_space
           ∙ ap (λ ks. get_or ks place Truth) kinds ∙ kind_in h.tree sp place;

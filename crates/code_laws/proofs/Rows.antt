@@ -102,13 +102,15 @@ same_scope x params slots aside h h2 s i e g = record {
   names = g.names;
   hidden = g.hidden;
   typed = subst (λ bs. AreOf IsOf bs s.names) e.0 g.typed;
-  inside_store = subst (λ bs. AreOf (IsInside x.code s.store) bs s.names) e.0 g.inside_store;
+  inside_store = subst (λ bs. AreOf (IsInside x s.store) bs s.names) e.0 g.inside_store;
   count = g.count ∙ ap length e.0;
   inside = g.inside;
   slots_are = g.slots_are;
   turns = g.turns;
   bound = g.bound;
   text = g.text;
+  ready = g.ready;
+  calls = g.calls;
   spaces = g.spaces ∙ ap (λ t. map space_code (spaces_of t)) (sym e.1);
   memory = g.memory;
   framed = g.framed;
@@ -217,6 +219,8 @@ module _ (x : Setting) (params slots : ℕ) (fit : SlotsFit x slots) (counts : C
     turns = refl;
     bound = omega (arith, g.bound, l);
     text = g.text;
+    ready = g.ready;
+    calls = record { few = omega (arith, g.calls.few, g.turns, l); children = g.calls.children; depth = g.calls.depth };
     spaces = g.spaces;
     memory = g.memory;
     framed = g.framed;
@@ -235,6 +239,8 @@ module _ (x : Setting) (params slots : ℕ) (fit : SlotsFit x slots) (counts : C
     turns = g.turns;
     bound = l;
     text = g.text;
+    ready = g.ready;
+    calls = g.calls;
     spaces = g.spaces;
     memory = g.memory;
     framed = g.framed;
@@ -282,7 +288,7 @@ module _ (x : Setting) (params slots : ℕ) (fit : SlotsFit x slots) (counts : C
       (sym (plain_kept _ old v p ty)) (
         stored k (machine_value i.contents v) i,
         stores x params slots fit k pc h.line (machine_value i.contents v) [] i g.slots_are f,
-        changed x params slots fit aside h s i n v b room ty (simple_inside x.code s.store _ v (scalar_simple _ p)) g,
+        changed x params slots fit aside h s i n v b room ty (simple_inside x s.store _ v (scalar_simple _ p)) g,
       )
 
   -- ---- asserts and returns

@@ -39,7 +39,7 @@ use Rattle.code_laws.specs.Typed.{IsInteger, an_integer}
 use Rattle.check_rules.specs.rules.Repeats.{Given}
 use Rattle.lane_kernels.specs.Numbers.{FitsWidth}
 use Rattle.regent_tree.proofs.Members.{Contains-from_Has, Has, Has-map}
-use Rattle.code_laws.specs.Programs.{AreTaken, IsTypedRun}
+use Rattle.code_laws.specs.Programs.{AreTaken, IsTypedRun, scalar_forms}
 use Rattle.scalar_form.specs.ScalarForm.{is_scalar_item, is_scalar_task, is_scalar_term, is_scalar_if_said, is_empty, is_scalar_block}
 use Rattle.code_laws.specs.ScalarPrograms.{AreInputs, IsScalarProgramRun, ScalarProgramsLeaveNoRoots, ScalarProgramsRunAsMeant}
 use Rattle.code_laws.proofs.Typing.{AllScalar, AreKept, kept_left, kept_right, no_way_back}
@@ -261,7 +261,7 @@ short_body tree n within at =
     subst (λ u. length (task_code tree u).body < 2 ^ 32) (get_or_from_slice_get (tasks_of tree) k t t at)
     (bodies_are_short tree within k t (slice_get_within (tasks_of tree) k t at))
 
-scalar_run : (tree : Tree) (inputs : List ℤ) → IsScalarProgramRun tree inputs → IsTypedRun false tree inputs
+scalar_run : (tree : Tree) (inputs : List ℤ) → IsScalarProgramRun tree inputs → IsTypedRun scalar_forms tree inputs
 scalar_run tree inputs p =
     let main = entry_name tree in
     let t = task_named tree main in

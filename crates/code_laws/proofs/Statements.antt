@@ -1,4 +1,5 @@
 -- The code of a statement does what the statement means.
+use Rattle.code_laws.proofs.States.{ready_value}
 use Rattle.code_laws.proofs.Variables.{GoodInside, binds, fill_runs, region_runs, zero_runs}
 use Rattle.code_laws.proofs.Elements.{folds_element, sets_element}
 use Rattle.regent_tree.specs.Initializers.{initial_value, make_root}
@@ -46,7 +47,7 @@ module _ (x : Setting) (params slots : ℕ) (fit : SlotsFit x slots) (counts : C
 
   mutual
     pub form_runs : (aside : Aside) (h : Here) (form : Form) (s : State) (pc : ℕ) (i : Instance) →
-        params ≤ length h.scope.names → IsTypedForm x.makes (where_of params h) form →
+        params ≤ length h.scope.names → IsTypedForm x.forms (where_of params h) form →
         Agrees x params slots aside h s i → Stands x.body pc (form_code (where_of params h) form) →
         Does x params slots aside (placed pc [] i) (past (form_code (where_of params h) form) pc)
         (after_statement h form) (exec h form s)
@@ -67,7 +68,7 @@ module _ (x : Setting) (params slots : ℕ) (fit : SlotsFit x slots) (counts : C
         (plain_stands x.body params h t e pc h.scope.next fine.0 f.0))
         (λ v s1 j k1. binds x params slots fit counts aside h n None (Some (plain_initializer e)) v s1 (past code pc) j low
         (subst (λ u. IsOf u v) (owned_plain h.scope.next t fine.0) k1.0)
-        (subst (λ u. IsInside x.code s1.store u v) (owned_plain h.scope.next t fine.0) (simple_inside x.code s1.store t v fine.0)) k1.1 f2))
+        (subst (λ u. IsInside x s1.store u v) (owned_plain h.scope.next t fine.0) (simple_inside x s1.store t v fine.0)) k1.1 f2))
     form_runs aside h (var_form n (Some t) (Some (plain_initializer e))) s pc i low fine g f =
         let w = where_of params h in
         let from = typed w e in
@@ -83,14 +84,14 @@ module _ (x : Setting) (params slots : ℕ) (fit : SlotsFit x slots) (counts : C
         (λ v s1 j k. converted_runs x params slots fit aside h from u (regions_reached h.scope s1.names (reaches_of u)) v s1 a [] j
         fine.0 k.0 k.1 f.0.1))
         (λ v s1 j k. binds x params slots fit counts aside h n (Some t) (Some (plain_initializer e)) v s1 b j low k.0
-        (simple_inside x.code s1.store u v (scalar_simple u (alike_right x params slots fit aside from u fine.0))) k.1 f.1)
+        (simple_inside x s1.store u v (scalar_simple u (alike_right x params slots fit aside from u fine.0))) k.1 f.1)
     form_runs aside h (var_form n (Some t) None) s pc i low fine g f =
         let form = var_form n (Some t) None in
         let u = var_type h.tree h.scope (Some t) None in
         then x (does_said x params slots fit counts aside (suc (suc pc)) (after_statement h form)) (valued (suc pc) [])
         (Good x params slots fit aside h u) _ (initial_value h (Some t) u None s) (λ v. bind v)
         (zero_runs x params slots fit counts aside h u s pc i fine g f.0)
-        (λ v s1 j k. binds x params slots fit counts aside h n (Some t) None v s1 (suc pc) j low k.0 (simple_inside x.code s1.store u v (scalar_simple u fine)) k.1 f.1)
+        (λ v s1 j k. binds x params slots fit counts aside h n (Some t) None v s1 (suc pc) j low k.0 (simple_inside x s1.store u v (scalar_simple u fine)) k.1 f.1)
     form_runs aside h (assign_form n no_step how.Set e) s pc i low fine g f =
         let w = where_of params h in
         let t = typed w e in
@@ -187,9 +188,9 @@ module _ (x : Setting) (params slots : ℕ) (fit : SlotsFit x slots) (counts : C
         let f2 = f.1.1.0 in
         let f3 = f.1.1.1.0 in
         let g3 = aside_stored x params slots fit aside h s2 j2 k 2 (machine_value j2.contents v2) low up (omega arith)
-        (omega arith) (omega arith) k2.1 in
+        (omega arith) (omega arith) (ready_value j2.contents v2) k2.1 in
         let g4 = aside_stored x params slots fit aside h s2 j3 k 1 (machine_value j.contents v) low up (omega arith)
-        (omega arith) (omega arith) g3 in
+        (omega arith) (omega arith) (ready_value j.contents v) g3 in
         let cs : slice_get j4.frame.slots c ≡ Some (machine.Number (number_of v)) =
         slice_get-get_or j4.frame.slots c blank (omega (arith, g4.slots_are, fit _ _ f3))
         ∙ ap Some (get_or-set_same j3.frame.slots c (machine_value j.contents v) blank (omega (arith, g3.slots_are, fit _ _ f3))
@@ -277,7 +278,7 @@ module _ (x : Setting) (params slots : ℕ) (fit : SlotsFit x slots) (counts : C
 
     arms_run : (aside : Aside) (own h h0 : Here) (arms : Arms) (other : Run Going) (oc : Piece) (s : State)
         (pc : ℕ) (i : Instance) → params ≤ length own.scope.names → IsAlike own h → IsAlike h h0 →
-        AreTypedArms x.makes (where_of params own) (where_of params h) arms → Agrees x params slots aside h s i →
+        AreTypedArms x.forms (where_of params own) (where_of params h) arms → Agrees x params slots aside h s i →
         Stands x.body pc (arms_code (where_of params own) (where_of params h) arms oc) →
         ((s1 : State) (pc1 : ℕ) (j : Instance) → Agrees x params slots aside h0 s1 j →
         Stands x.body pc1 oc → Does x params slots aside (placed pc1 [] j) (past oc pc1) h0 (other s1)) →
@@ -308,7 +309,7 @@ module _ (x : Setting) (params slots : ℕ) (fit : SlotsFit x slots) (counts : C
         (same_scope x params slots aside h (after_arm h body) s1 j (refl, refl) g1) f.1.3 more))
 
     else_runs : (aside : Aside) (h : Here) (other : Otherwise) (s : State) (pc : ℕ) (i : Instance) →
-        params ≤ length h.scope.names → IsTypedElse x.makes (where_of params h) other →
+        params ≤ length h.scope.names → IsTypedElse x.forms (where_of params h) other →
         Agrees x params slots aside h s i → Stands x.body pc (else_code (where_of params h) other) →
         Does x params slots aside (placed pc [] i) (past (else_code (where_of params h) other) pc) h
         (exec_else h other s)
@@ -317,7 +318,7 @@ module _ (x : Setting) (params slots : ℕ) (fit : SlotsFit x slots) (counts : C
         scoped_by x params slots fit counts aside h body s _ _ i g (block_runs aside h body s pc i low fine g f)
 
     pub block_runs : (aside : Aside) (h : Here) (body : Block) (s : State) (pc : ℕ) (i : Instance) →
-        params ≤ length h.scope.names → IsTypedBlock x.makes (where_of params h) body →
+        params ≤ length h.scope.names → IsTypedBlock x.forms (where_of params h) body →
         Agrees x params slots aside h s i → Stands x.body pc (block_code (where_of params h) body) →
         Does x params slots aside (placed pc [] i) (past (block_code (where_of params h) body) pc)
         (record h { scope = scope_after_block h.tree h.scope body }) (exec_block h body s)

@@ -1,18 +1,20 @@
 -- What storing a value, taking a turn and leaving a block keep.
-use Rattle.std.proofs.Common.{◌≡◌, ◌≢◌, ℕ, suc, ◌+◌, ◌<◌, ◌≤◌, List, [], ◌∷◌, ◌++◌, Bool, true, refl, sym, ap, ◌∙◌, subst, arith, ⊎_elim, length-append}
-use Rattle.std.specs.Prelude.{get_or, length, map, take, slice_set}
-use Rattle.std.proofs.lemmas.Bool.{lt-ltb, cases_lt}
+use Rattle.std.proofs.Common.{◌≡◌, ◌≢◌, ℕ, suc, ◌+◌, ◌<◌, ◌≤◌, List, [], ◌∷◌, ◌++◌, Bool, true, false, ◌⊎◌, inl, inr, refl, sym, ap, ◌∙◌, subst, arith, ⊎_elim, length-append}
+use Rattle.std.specs.Prelude.{get_or, length, map, take, slice_set, ◌==◌}
+use Rattle.std.proofs.lemmas.Bool.{cases_lt, eqb-false, eqb-true, lt-ltb}
 use Rattle.std.proofs.lemmas.List.{get_or-take, get_or-set_same, get_or-set_other, length-take-le, length-set}
-use Rattle.std.proofs.Math.ListN.{get_or-append}
+use Rattle.std.proofs.Math.ListN.{get_or-append, get_or-eq_default}
 use Rattle.std.proofs.Math.Seq.{get_or-append_seam}
 use Rattle.regent_tree.specs.declared.typing.StaticType.{StaticType}
 use Rattle.regent_tree.specs.Lookup.{is_bound}
 use Rattle.regent_tree.specs.Scopes.{bound_to, with_name}
 use Rattle.regent_tree.specs.Syntax.{Name}
-use Rattle.regent_tree.specs.Values.{Value, kept_number}
+use Rattle.regent_tree.specs.Values.{Value, a_number, a_partition, a_pointer, a_region, a_space, a_truth, an_index}
 use Rattle.regent_tree.specs.Running.{State, Here}
 use Rattle.task_code.specs.declared.instr.Instr.TheVariants as instr
 use Rattle.machine_terms.specs.declared.value.Value.{Value as MachineValue}
+use Rattle.machine_terms.specs.Calls.{is_pending}
+use Rattle.machine_terms.specs.declared.order.Contents.{Contents}
 use Rattle.machine_terms.specs.Machine.{when, goes, broken, put, at}
 use Rattle.machine_terms.specs.declared.order.Instance.{Instance}
 use Rattle.code_rules.specs.Pieces.{op}
@@ -20,10 +22,32 @@ use Rattle.code_rules.specs.Programs.{space_code}
 use Rattle.regent_tree.specs.StaticTypes.{spaces_of}
 use Rattle.code_rules.specs.Slots.{slot, counter, beside}
 use Rattle.code_laws.specs.Steps.{Setting, machine_of, placed, on_step, Leads}
-use Rattle.code_laws.specs.Standing.{Stands, machine_value, IsInside, IsOf, AreOf, nothing, blank, Aside, where_of, Agrees, SlotsFit}
+use Rattle.code_laws.specs.Standing.{Stands, machine_value, IsInside, IsOf, AreOf, AreReady, nothing, blank, Aside, where_of, Agrees, SlotsFit}
 use Rattle.code_laws.proofs.Runs.{leads_by}
 use Rattle.code_laws.proofs.Values.{named}
 use Rattle.code_laws.proofs.Names.{Grown, typed_more, typed_cut, typed_set, typed_fewer}
+
+-- no value is a child that is pending
+pub ready_value : (c : Contents) (v : Value) → is_pending (machine_value c v) ≡ false
+ready_value c (a_number w z) = refl
+ready_value c (a_truth b) = refl
+ready_value c (an_index z) = refl
+ready_value c (a_pointer t rs) = refl
+ready_value c (a_space n) = refl
+ready_value c (a_region r) = refl
+ready_value c (a_partition p) = refl
+
+pub ready_set : (xs : List MachineValue) (k : ℕ) (v : MachineValue) → is_pending v ≡ false → AreReady xs →
+    AreReady (slice_set xs k v)
+ready_set xs k v quiet r p = chosen (k == p) refl (cases_lt k (length xs))
+  where
+    chosen : (b : Bool) → (k == p) ≡ b → (k < length xs) ⊎ (length xs ≤ k) →
+        is_pending (get_or (slice_set xs k v) p blank) ≡ false
+    chosen true e (inl l) = subst (λ p. is_pending (get_or (slice_set xs k v) p blank) ≡ false) (eqb-true k p e)
+        (ap is_pending (get_or-set_same xs k v blank l) ∙ quiet)
+    chosen true e (inr l) = ap is_pending (get_or-eq_default (slice_set xs k v) blank {n = p}
+        (subst (λ n. n ≤ p) (sym (length-set xs k v)) (subst (λ p. length xs ≤ p) (eqb-true k p e) l)))
+    chosen false e l = ap is_pending (get_or-set_other xs k p v blank (λ q. eqb-false k p e (sym q))) ∙ r p
 
 -- another value in a slot
 abbrev pub stored : ℕ → MachineValue → Instance → Instance
@@ -49,7 +73,7 @@ module _ (x : Setting) (params slots : ℕ) (fit : SlotsFit x slots) where
   -- a new name
   pub bound_more : (o : Aside) (h : Here) (s : State) (i : Instance) (n : Name) (t : StaticType)
       (by_loop : Bool) (v : Value) → params ≤ length h.scope.names →
-      slot (where_of params h) (length h.scope.names) < slots → IsOf t v → IsInside x.code s.store t v →
+      slot (where_of params h) (length h.scope.names) < slots → IsOf t v → IsInside x s.store t v →
       Agrees x params slots o h s i → Agrees x params slots o (record h { scope = with_name h.scope n t by_loop })
       (record s { names = s.names ++ v ∷ [] })
       (stored (slot (where_of params h) (length h.scope.names)) (machine_value i.contents v) i)
@@ -85,8 +109,8 @@ module _ (x : Setting) (params slots : ℕ) (fit : SlotsFit x slots) where
         );
         inside_store = (
           refl,
-          subst (IsInside x.code s.store t) (sym last) inside,
-          typed_more (IsInside x.code s.store) h.scope.names s.names (v ∷ []) (omega (arith, c)) g.inside_store,
+          subst (IsInside x s.store t) (sym last) inside,
+          typed_more (IsInside x s.store) h.scope.names s.names (v ∷ []) (omega (arith, c)) g.inside_store,
         );
         count = grown;
         inside = omega (arith, g.inside, grown, c);
@@ -94,6 +118,8 @@ module _ (x : Setting) (params slots : ℕ) (fit : SlotsFit x slots) where
         turns = g.turns;
         bound = g.bound;
         text = g.text;
+        ready = ready_set xs (slot w k) m (ready_value i.contents v) g.ready;
+        calls = g.calls;
         spaces = g.spaces;
         memory = g.memory;
         framed = g.framed;
@@ -103,7 +129,7 @@ module _ (x : Setting) (params slots : ℕ) (fit : SlotsFit x slots) where
   pub changed : (o : Aside) (h : Here) (s : State) (i : Instance) (n : Name) (v : Value) →
       is_bound h.scope.names n ≡ true →
       slot (where_of params h) (bound_to h.scope.names n).place < slots →
-      IsOf (bound_to h.scope.names n).static_type v → IsInside x.code s.store (bound_to h.scope.names n).static_type v →
+      IsOf (bound_to h.scope.names n).static_type v → IsInside x s.store (bound_to h.scope.names n).static_type v →
       Agrees x params slots o h s i →
       Agrees x params slots o h (record s { names = slice_set s.names (bound_to h.scope.names n).place v })
       (stored (slot (where_of params h) (bound_to h.scope.names n).place) (machine_value i.contents v) i)
@@ -136,13 +162,15 @@ module _ (x : Setting) (params slots : ℕ) (fit : SlotsFit x slots) where
           set_other xs (slot w k) (beside w p) m (λ q. omega (arith, q, a, b)) ∙ (g.hidden p a b).1,
         );
         typed = typed_set IsOf h.scope.names s.names n v (omega (arith, c)) b ty g.typed;
-        inside_store = typed_set (IsInside x.code s.store) h.scope.names s.names n v (omega (arith, c)) b inside g.inside_store;
+        inside_store = typed_set (IsInside x s.store) h.scope.names s.names n v (omega (arith, c)) b inside g.inside_store;
         count = same ∙ c;
         inside = omega (arith, g.inside, same);
         slots_are = length-set xs (slot w k) m ∙ g.slots_are;
         turns = g.turns;
         bound = g.bound;
         text = g.text;
+        ready = ready_set xs (slot w k) m (ready_value i.contents v) g.ready;
+        calls = g.calls;
         spaces = g.spaces;
         memory = g.memory;
         framed = g.framed;
@@ -164,15 +192,17 @@ module _ (x : Setting) (params slots : ℕ) (fit : SlotsFit x slots) where
         hidden = g.hidden;
         typed = typed_cut IsOf h.scope.names s.names n (omega (arith, e))
             (typed_fewer IsOf grown.more h.scope.names s.names (subst (λ bs. AreOf IsOf bs s.names) grown.are g.typed));
-        inside_store = typed_cut (IsInside x.code s.store) h.scope.names s.names n (omega (arith, e))
-            (typed_fewer (IsInside x.code s.store) grown.more h.scope.names s.names
-            (subst (λ bs. AreOf (IsInside x.code s.store) bs s.names) grown.are g.inside_store));
+        inside_store = typed_cut (IsInside x s.store) h.scope.names s.names n (omega (arith, e))
+            (typed_fewer (IsInside x s.store) grown.more h.scope.names s.names
+            (subst (λ bs. AreOf (IsInside x s.store) bs s.names) grown.are g.inside_store));
         count = len ∙ e;
         inside = omega (arith, len, up);
         slots_are = g.slots_are;
         turns = g.turns;
         bound = g.bound;
         text = g.text;
+        ready = g.ready;
+        calls = g.calls;
         spaces = g.spaces ∙ ap (λ t. map space_code (spaces_of t)) tree;
         memory = g.memory;
         framed = g.framed;
@@ -180,10 +210,10 @@ module _ (x : Setting) (params slots : ℕ) (fit : SlotsFit x slots) where
 
   -- a loop's counter, or its limit, beside the slots that are kept_number
   pub aside_stored : (o : Aside) (h : Here) (s : State) (i : Instance) (k d : ℕ) (v : MachineValue) →
-      params ≤ k → o.upto ≤ k → length h.scope.names ≤ suc k → 0 < d → d < 3 →
+      params ≤ k → o.upto ≤ k → length h.scope.names ≤ suc k → 0 < d → d < 3 → is_pending v ≡ false →
       Agrees x params slots o h s i →
       Agrees x params slots o h s (stored (slot (where_of params h) k + d) v i)
-  aside_stored o h s i k d v low up names some few g =
+  aside_stored o h s i k d v low up names some few quiet g =
       let w = where_of params h in
       let xs = i.frame.slots in
       record {
@@ -201,6 +231,8 @@ module _ (x : Setting) (params slots : ℕ) (fit : SlotsFit x slots) where
         turns = g.turns;
         bound = g.bound;
         text = g.text;
+        ready = ready_set xs (slot w k + d) v quiet g.ready;
+        calls = g.calls;
         spaces = g.spaces;
         memory = g.memory;
         framed = g.framed;
@@ -221,6 +253,8 @@ module _ (x : Setting) (params slots : ℕ) (fit : SlotsFit x slots) where
     turns = g.turns;
     bound = omega arith;
     text = g.text;
+    ready = g.ready;
+    calls = g.calls;
     spaces = g.spaces;
     memory = g.memory;
     framed = g.framed;
@@ -252,15 +286,17 @@ module _ (x : Setting) (params slots : ℕ) (fit : SlotsFit x slots) where
         );
         typed = typed_cut IsOf h.scope.names s2.names n (omega (arith, en))
             (typed_fewer IsOf grown.more h.scope.names s2.names (subst (λ bs. AreOf IsOf bs s2.names) grown.are g.typed));
-        inside_store = typed_cut (IsInside x.code s2.store) h.scope.names s2.names n (omega (arith, en))
-            (typed_fewer (IsInside x.code s2.store) grown.more h.scope.names s2.names
-            (subst (λ bs. AreOf (IsInside x.code s2.store) bs s2.names) grown.are g.inside_store));
+        inside_store = typed_cut (IsInside x s2.store) h.scope.names s2.names n (omega (arith, en))
+            (typed_fewer (IsInside x s2.store) grown.more h.scope.names s2.names
+            (subst (λ bs. AreOf (IsInside x s2.store) bs s2.names) grown.are g.inside_store));
         count = len ∙ en;
         inside = omega (arith, len, low);
         slots_are = g.slots_are;
         turns = g.turns;
         bound = omega (arith, g.bound, fewer);
         text = g.text;
+        ready = g.ready;
+        calls = g.calls;
         spaces = g.spaces ∙ ap (λ t. map space_code (spaces_of t)) tree;
         memory = g.memory;
         framed = g.framed;

@@ -26,20 +26,20 @@ use Rattle.code_rules.specs.Pieces.{op, past}
 use Rattle.code_rules.specs.Programs.{body_piece, code_of, place_of, task_code}
 use Rattle.code_rules.specs.Statements.{block_code}
 use Rattle.code_rules.specs.Used.{slots_of_lines, slots_used}
+use Rattle.memory_laws.proofs.Beginning.{first_holds}
 use Rattle.memory_laws.proofs.Closed.{ends_with_store}
 use Rattle.memory_laws.proofs.Given.{given_keeps_numbers, given_stands}
 use Rattle.memory_laws.specs.Memory.{Holds, memory_of}
 use Rattle.regent_tree.specs.Store.{Store}
 use Rattle.regent_tree.specs.declared.outcome.Ending.{Ending}
 use Rattle.regent_tree.specs.declared.outcome.RootImage.{RootImage}
-use Rattle.task_code.specs.declared.code.Code.{Code}
 use Rattle.machine_terms.specs.declared.order.Instance.{Instance}
 use Rattle.code_laws.proofs.Values.{number_inside}
-use Rattle.code_laws.specs.Programs.{AreTaken, IsTypedRun, LeavesNoRoots, RegionsRunAsMeant, RunsAsMeant, ScalarsRunAsMeant, entry_setting, job_of}
+use Rattle.code_laws.specs.Programs.{AreTaken, IsTypedRun, LeavesNoRoots, RegionsRunAsMeant, RunsAsMeant, ScalarsRunAsMeant, entry_setting, job_of, region_forms, scalar_forms}
 use Rattle.code_laws.specs.Standing.{Does, IsFramed, IsInside, IsOf, Stands, machine_value}
-use Rattle.code_laws.specs.Steps.{Ends, Setting, placed}
+use Rattle.code_laws.specs.Steps.{Ends, Forms, Setting, placed}
 use Rattle.code_laws.proofs.Counts.{counts_down}
-use Rattle.code_laws.proofs.Openings.{before_all, first, fits_slots, greatest_left, opens, params_length, taken_length, types_length}
+use Rattle.code_laws.proofs.Openings.{before_all, begins, fits_slots, greatest_left, opens, params_length, taken_length, types_length}
 use Rattle.code_laws.proofs.Places.{stands_alone}
 use Rattle.code_laws.proofs.Runs.{ends_by, leads_end}
 use Rattle.code_laws.proofs.Segments.{segments_give}
@@ -53,13 +53,13 @@ inputs_kept [] (z ∷ zs) e = absurd (omega (arith, e))
 inputs_kept (t ∷ ts) [] e = absurd (omega (arith, e))
 inputs_kept (t ∷ ts) (z ∷ zs) e = ap (λ vs. machine.Number z ∷ vs) (inputs_kept ts zs (omega (arith, e)))
 
-inputs_inside : (code : Code) (store : Store) (ts : List StaticType) (zs : List ℤ) → AreTaken IsOf ts (inputs_of ts zs) →
-    AreTaken (IsInside code store) ts (inputs_of ts zs)
-inputs_inside code store [] [] a = tt
-inputs_inside code store [] (z ∷ zs) a = tt
-inputs_inside code store (t ∷ ts) [] a = absurd a
-inputs_inside code store (t ∷ ts) (z ∷ zs) a =
-    (number_inside code store t (width_of_type t) z a.0, inputs_inside code store ts zs a.1)
+inputs_inside : (x : Setting) (store : Store) (ts : List StaticType) (zs : List ℤ) → AreTaken IsOf ts (inputs_of ts zs) →
+    AreTaken (IsInside x store) ts (inputs_of ts zs)
+inputs_inside x store [] [] a = tt
+inputs_inside x store [] (z ∷ zs) a = tt
+inputs_inside x store (t ∷ ts) [] a = absurd a
+inputs_inside x store (t ∷ ts) (z ∷ zs) a =
+    (number_inside x store t (width_of_type t) z a.0, inputs_inside x store ts zs a.1)
 
 least_slots : (least : ℕ) (ls : List Line) → least ≤ slots_of_lines least ls
 least_slots least [] = omega arith
@@ -79,18 +79,18 @@ roots_in (Finished roots) = roots
 roots_in _ = []
 
 -- without own roots the store is empty
-no_roots : (x : Setting) (s : State) (j : Instance) → x.before ≡ [] → x.makes ≡ false → Holds x.code s.store (memory_of j) →
+no_roots : (x : Setting) (s : State) (j : Instance) → x.before ≡ [] → x.forms.makes ≡ false → Holds x.code s.store (memory_of j) →
     IsFramed x s.store j.frame.own (memory_of j) → s.store ≡ []
 no_roots x s j e m h f = ap roots_in (sym (roots_are x s j e h f)
     ∙ ap (λ own. images_of own (give_parts j.parts j.contents)) (f.none m))
 
-module _ (makes : Bool) (tree : Tree) (turns : ℕ) (t : TaskTree) where
+module _ (forms : Forms) (tree : Tree) (turns : ℕ) (t : TaskTree) where
   abbrev x : Setting
-  x = entry_setting makes tree turns t
+  x = entry_setting forms tree turns t
 
   -- what the body comes to is told as the meaning tells it
   abbrev IsTold : Result Going → Ended → Type 0
-  IsTold r e = (run_outcome e ≡ outcome r) × (makes ≡ false → LeavesNoRoots (outcome r).ending)
+  IsTold r e = (run_outcome e ≡ outcome r) × (forms.makes ≡ false → LeavesNoRoots (outcome r).ending)
 
   by_end : (i : _) (r : Result Going) → Does x (length t.params) (task_code tree t).slots (before_all turns) i
       (past (block_code (place_of tree t) t.body) 0)
@@ -118,26 +118,27 @@ module _ (makes : Bool) (tree : Tree) (turns : ℕ) (t : TaskTree) where
   )
   by_end i (fails k s) d f = (_, d, (refl, λ m. tt))
 
-typed_run_ends : (makes : Bool) (tree : Tree) (inputs : List ℤ) (turns : ℕ) → IsTypedRun makes tree inputs →
-    RunsAsMeant tree inputs turns × (makes ≡ false → LeavesNoRoots (meaning tree inputs turns).ending)
-typed_run_ends makes tree inputs turns p =
+typed_run_ends : (forms : Forms) (tree : Tree) (inputs : List ℤ) (turns : ℕ) → IsTypedRun forms tree inputs →
+    RunsAsMeant tree inputs turns × (forms.makes ≡ false → LeavesNoRoots (meaning tree inputs turns).ending)
+typed_run_ends forms tree inputs turns p =
     let t = task_named tree (entry_name tree) in
     let code = task_code tree t in
     let place = place_of_task tree (entry_name tree) in
     let job = job_of tree inputs turns in
     let ts = param_types tree t in
     let vs = inputs_of ts inputs in
-    let x = entry_setting makes tree turns t in
+    let x = entry_setting forms tree turns t in
     let h = body_of tree (calls_at tree turns 63) t in
-    let i = first tree turns (calls_at tree turns 63) t place vs in
+    let i = begins tree turns 63 1 t place vs [] no_contents in
     let params : length ts ≡ length t.params = types_length (scope_of tree t).names ∙ params_length tree t.params 0 t.params in
     let same : map (machine_value no_contents) vs ≡ map machine.Number inputs = inputs_kept ts inputs (p.count ∙ sym params) in
     let room : length t.params ≤ code.slots = least_slots (length t.params) code.body in
     let few : length vs ≤ code.slots = omega (arith, taken_length IsOf ts vs p.taken, params, room) in
-    let g = opens tree turns (calls_at tree turns 63) t place vs makes p.taken (inputs_inside (code_of tree) [] ts inputs p.taken) few in
+    let g = opens tree turns 63 1 t place vs [] no_contents forms (calls_at tree turns 63) p.taken (inputs_inside x [] ts inputs p.taken) few
+    (first_holds (code_of tree) i.frame) in
     let low : length t.params ≤ length h.scope.names = omega (arith, params_length tree t.params 0 t.params) in
     let stands = stands_alone (body_piece tree t) p.small in
-    let done = by_end makes tree turns t i _ (block_runs x (length t.params) code.slots (fits_slots x tree t refl) counts_down
+    let done = by_end forms tree turns t i _ (block_runs x (length t.params) code.slots (fits_slots x tree t refl) counts_down
     (before_all turns) h t.body (opening tree turns t vs []) 0 i low p.typed g stands.0) stands.1 in
     let many : (length i.frame.slots == code.slots) ≡ true = eq-eqb (length i.frame.slots) code.slots g.slots_are in
     let ran : runs (code_of tree) turns 64 i ≡ done.0 =
@@ -155,11 +156,11 @@ typed_run_ends makes tree inputs turns p =
     )
 
 pub scalars_run_as_meant : ScalarsRunAsMeant
-scalars_run_as_meant tree inputs turns p = (typed_run_ends false tree inputs turns p).0
+scalars_run_as_meant tree inputs turns p = (typed_run_ends scalar_forms tree inputs turns p).0
 
 pub regions_run_as_meant : RegionsRunAsMeant
-regions_run_as_meant tree inputs turns p = (typed_run_ends true tree inputs turns p).0
+regions_run_as_meant tree inputs turns p = (typed_run_ends region_forms tree inputs turns p).0
 
-pub scalars_leave_no_roots : (tree : Tree) (inputs : List ℤ) (turns : ℕ) → IsTypedRun false tree inputs →
+pub scalars_leave_no_roots : (tree : Tree) (inputs : List ℤ) (turns : ℕ) → IsTypedRun scalar_forms tree inputs →
     LeavesNoRoots (meaning tree inputs turns).ending
-scalars_leave_no_roots tree inputs turns p = (typed_run_ends false tree inputs turns p).1 refl
+scalars_leave_no_roots tree inputs turns p = (typed_run_ends scalar_forms tree inputs turns p).1 refl

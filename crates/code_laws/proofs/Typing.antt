@@ -1,4 +1,5 @@
 -- Expressions over scalars of which no breach is told are typed.
+use Rattle.code_laws.specs.Programs.{scalar_forms}
 use Rattle.code_laws.proofs.Values.{scalar_simple}
 use Rattle.std.proofs.Common.{◌≡◌, Bool, List, [], ◌∷◌, ◌++◌, None, false, true, refl, ap, sym, subst, ℕ, ◌∙◌, inl, inr, cond, not, ℤ, pos, ◌≤◌, arith}
 use Rattle.check_laws.proofs.Blocks.{head_known}
@@ -220,11 +221,11 @@ operated_scalar o _ _ (an_integer v) (an_integer w) = scalar_integer (wider v w)
 
 module _ (task : TaskTree) (w : Where) (sound : IsSound w.tree) (scope : IsSoundScope w.scope) (names : AllScalar w.scope.names) where
   pub record Well (e : Expression) : Type 0 where
-    pub is : IsTyped w e
+    pub is : IsTyped scalar_forms w e
     pub scalar : IsScalar (typed w e)
 
   pub record AreWell (t : StaticType) (ls : Links) : Type 0 where
-    pub are : AreTypedLinks w t ls
+    pub are : AreTypedLinks scalar_forms w t ls
     pub scalar : IsScalar (linked_type w.tree w.scope t ls)
 
   -- the checker's type is the meaning's
@@ -310,7 +311,7 @@ module _ (task : TaskTree) (w : Where) (sound : IsSound w.tree) (scope : IsSound
   -- numbers that are printed
   pub numbers_well : (es : Expressions) → are_scalar_expressions es ≡ true → AreKept (parts_of_expressions es) →
       first_in_args w.tree task w.scope es ≡ None →
-      list_any (λ t. not (may_be is_integer t)) (known_types w.tree w.scope es) ≡ false → AreNumbers w es
+      list_any (λ t. not (may_be is_integer t)) (known_types w.tree w.scope es) ≡ false → AreNumbers scalar_forms w es
   numbers_well no_expr sc k e whole = tt
   numbers_well (an_expr e es) sc k none whole =
       let s = and_parts (is_scalar_expression e) (are_scalar_expressions es) sc in

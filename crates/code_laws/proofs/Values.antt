@@ -30,6 +30,7 @@ use Rattle.machine_terms.specs.Jumps.{jump, goes_back, fetch}
 use Rattle.machine_terms.specs.Segments.{act}
 use Rattle.code_rules.specs.Pieces.{Piece, empty, op, ◌⨟◌, over, branch, loop, rounds, past}
 use Rattle.code_rules.specs.Instructions.{computing, comparing}
+use Rattle.code_laws.specs.Steps.{Setting}
 use Rattle.code_laws.specs.Standing.{machine_value, AreOf, IsInside, IsOf, of_integer, nothing}
 
 -- ---- places
@@ -94,15 +95,15 @@ scalar_simple _ (scalar_integer w) = simple_integer w
 scalar_simple _ scalar_truth = simple_truth
 
 -- and nothing simple is a region
-pub simple_inside : (code : Code) (store : Store) (t : StaticType) (v : Value) → IsSimple t → IsInside code store t v
-simple_inside code store _ v (simple_integer w) = tt
-simple_inside code store _ v simple_truth = tt
-simple_inside code store _ v (simple_space k) = tt
+pub simple_inside : (x : Setting) (store : Store) (t : StaticType) (v : Value) → IsSimple t → IsInside x store t v
+simple_inside x store _ v (simple_integer w) = tt
+simple_inside x store _ v simple_truth = tt
+simple_inside x store _ v (simple_space k) = tt
 
 -- a number is no region
-pub number_inside : (code : Code) (store : Store) (t : StaticType) (w : Width) (z : ℤ) → IsOf t (a_number w z) →
-    IsInside code store t (a_number w z)
-number_inside code store _ _ _ (of_integer w z p) = tt
+pub number_inside : (x : Setting) (store : Store) (t : StaticType) (w : Width) (z : ℤ) → IsOf t (a_number w z) →
+    IsInside x store t (a_number w z)
+number_inside x store _ _ _ (of_integer w z p) = tt
 
 -- ---- operators
 

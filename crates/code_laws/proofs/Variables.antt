@@ -1,11 +1,11 @@
 -- New variables, new roots, and fills.
+use Rattle.code_laws.proofs.States.{ready_value}
 use Rattle.regent_tree.specs.StaticTypes.{Reach, place_of_space}
 use Rattle.regent_tree.specs.declared.facts.Term.{Term}
 use Rattle.regent_tree.specs.declared.types.Kind.{Kind}
 use Rattle.regent_tree.specs.declared.types.SpaceUse.{SpaceUse}
 use Rattle.machine_terms.specs.Makes.{make_root as make_instance}
 use Rattle.code_laws.proofs.Making.{made_agrees, makes_root, new_inside}
-use Rattle.task_code.specs.declared.code.Code.{Code}
 use Rattle.regent_tree.specs.Store.{Store}
 use Rattle.regent_tree.specs.Lookup.{is_bound}
 use Rattle.code_laws.proofs.Writes.{GoesOn}
@@ -53,9 +53,9 @@ zero_fits W64 = omega (arith, ints)
 a_region_there : (t : StaticType) (v : Value) → IsRegion t → IsOf t v → (q : Region) × (region_of v ≡ q) × (v ≡ a_region q)
 a_region_there _ _ (a_region_type k sp args r) (of_region _ _ _ _ q) = (q, refl, refl)
 
-region_lies : (code : Code) (store : Store) (t : StaticType) (v : Value) → IsRegion t → (q : Region) → v ≡ a_region q →
-    IsInside code store t v → LiesIn code store (space_in t) q
-region_lies code store _ v (a_region_type k sp args r) q e l = subst (IsInside code store (region_type k sp args r)) e l
+region_lies : (x : Setting) (store : Store) (t : StaticType) (v : Value) → IsRegion t → (q : Region) → v ≡ a_region q →
+    IsInside x store t v → LiesIn x store (space_in t) q
+region_lies x store _ v (a_region_type k sp args r) q e l = subst (IsInside x store (region_type k sp args r)) e l
 
 module _ (x : Setting) (params slots : ℕ) (fit : SlotsFit x slots) (counts : CountsDown) where
   -- ---- variables
@@ -63,7 +63,7 @@ module _ (x : Setting) (params slots : ℕ) (fit : SlotsFit x slots) (counts : C
   -- a new variable has the value that stands on the stack
   pub binds : (aside : Aside) (h : Here) (n : Name) (t : Option TypeTerm) (start : Option Initializer) (v : Value) (s : State)
       (pc : ℕ) (i : Instance) → params ≤ length h.scope.names → IsOf (var_type h.tree h.scope t start) v →
-      IsInside x.code s.store (var_type h.tree h.scope t start) v → Agrees x params slots aside h s i → Stands x.body pc (op (instr.Store (slot (where_of params h) (new_place (where_of params h)))) h.line) →
+      IsInside x s.store (var_type h.tree h.scope t start) v → Agrees x params slots aside h s i → Stands x.body pc (op (instr.Store (slot (where_of params h) (new_place (where_of params h)))) h.line) →
       Does x params slots aside (valued pc [] v i) (suc pc) (after_statement h (var_form n t start)) (bind v s)
   binds aside h n t start v s pc i low ty inside g f =
       let w = where_of params h in
@@ -88,11 +88,11 @@ module _ (x : Setting) (params slots : ℕ) (fit : SlotsFit x slots) (counts : C
 
   -- a value that may be a region
   abbrev pub GoodInside : Aside → Here → StaticType → Value → State → Instance → Type 0
-  GoodInside aside h t v s j = IsOf t v × IsInside x.code s.store t v × Agrees x params slots aside h s j
+  GoodInside aside h t v s j = IsOf t v × IsInside x s.store t v × Agrees x params slots aside h s j
 
   -- a root of an index space's size
   pub region_runs : (aside : Aside) (h : Here) (from : StaticType) (v : Value) (u : SpaceUse) (s : State) (pc : ℕ) (i : Instance)
-      (k : Kind) (args : List Reach) (r : Term) → x.makes ≡ true → IsSpace from →
+      (k : Kind) (args : List Reach) (r : Term) → x.forms.makes ≡ true → IsSpace from →
       IsMakable h.tree (place_of_space h.tree u.name) → IsOf from v → Agrees x params slots aside h s i →
       Stands x.body pc (op (instr.NewRoot (place_of_space h.tree u.name)) h.line) → suc pc < 2 ^ 32 →
       Comes x (valued pc [] v i) (valued (suc pc) []) (GoodInside aside h (region_type k (place_of_space h.tree u.name) args r))
@@ -118,18 +118,18 @@ module _ (x : Setting) (params slots : ℕ) (fit : SlotsFit x slots) (counts : C
       let b = bound_to h.scope.names r in
       let k = length h.scope.names in
       let m = named IsOf h.scope.names s.names r g.typed bound in
-      let lies = (named (IsInside x.code s.store) h.scope.names s.names r g.inside_store bound).holding in
+      let lies = (named (IsInside x s.store) h.scope.names s.names r g.inside_store bound).holding in
       let q = a_region_there b.static_type (get_or s.names b.place nothing) region m.holding in
       let put = machine_value i.contents v in
       let j = stored (spare w 0) put i in
       let same : slot w k + 2 ≡ spare w 0 = omega arith in
       let g2 = subst (λ d. Agrees x params slots aside h s (stored d put i)) same
-      (aside_stored x params slots fit aside h s i k 2 put low (omega (arith, g.inside, g.count)) (omega arith) (omega arith) (omega arith) g) in
+      (aside_stored x params slots fit aside h s i k 2 put low (omega (arith, g.inside, g.count)) (omega arith) (omega arith) (omega arith) (ready_value i.contents v) g) in
       does_before x params slots fit counts aside _ h _ _ _ (stores x params slots fit (spare w 0) pc h.line put [] i g.slots_are at)
       (does_come x params slots fit aside _ h _ _
       (subst (λ u. Comes x (placed (suc pc) [] j)
       (λ g3 j3. placed (past (fill_code w from b.static_type (slot_named w r) fs) (suc pc)) [] j3) (GoesOn x params slots fit aside h)
       (fill_fields h from v b.static_type u fs s)) (sym q.1)
       (fields_filled x params slots fit aside h r from v q.0 fs s (suc pc) j fine o q.2
-      (region_lies x.code s.store b.static_type (get_or s.names b.place nothing) region q.0 q.2 lies) (omega (arith, m.below, g.count))
+      (region_lies x s.store b.static_type (get_or s.names b.place nothing) region q.0 q.2 lies) (omega (arith, m.below, g.count))
       (get_or-set_same i.frame.slots (spare w 0) put blank (omega (arith, fit pc _ at, g.slots_are))) g2 code)))

@@ -238,7 +238,7 @@ module _ (x : Setting) (params slots : ℕ) (fit : SlotsFit x slots) (aside : As
       slots_of (where_of params h) (slot (where_of params h) p) (type_of_element h.scope t e) ≡ slot (where_of params h) p ∷ [] →
       field_place h.tree (space_in t) f < length (space_at h.tree (space_in t)).fields →
       FieldFits (field_kind h.tree (space_in t) (field_place h.tree (space_in t) f)) out → IsOf out v →
-      ((s1 : State) (j : Instance) → Agrees x params slots aside h s1 j → IsInside x.code s1.store t (get_or s1.names p nothing)) →
+      ((s1 : State) (j : Instance) → Agrees x params slots aside h s1 j → IsInside x s1.store t (get_or s1.names p nothing)) →
       Stands x.body pc ((load_code (where_of params h) t (slot (where_of params h) p) (at_step e no_step)
       ⨟ steps_code (where_of params h) 0 t (own_slot (where_of params h) t p) (at_step e no_step))
       ⨟ put_code (where_of params h) (type_of_element h.scope t e)
@@ -264,7 +264,7 @@ module _ (x : Setting) (params slots : ℕ) (fit : SlotsFit x slots) (aside : As
       (runs pc stands.0.1.0) index same there stands.0.1
       (λ n s1 j names b g. field_writes h pt f place n sl q out v s1 a [] j fits o (there s1 j names g) b refl
       (reached x params slots aside h s1 j q sp place n (mode.Write) g
-      (subst (IsInside x.code s1.store (region_type k sp args r)) (ap (λ ns. get_or ns p nothing) names ∙ is) (lies s1 j g)) field b) g
+      (subst (IsInside x s1.store (region_type k sp args r)) (ap (λ ns. get_or ns p nothing) names ∙ is) (lies s1 j g)) field b) g
       (subst (λ rs. Stands x.body a (op (instr.Write rs place (width_of (field_kind h.tree sp place))) h.line)) single stands.1))
 
   -- `r[e].f o= y`
@@ -278,7 +278,7 @@ module _ (x : Setting) (params slots : ℕ) (fit : SlotsFit x slots) (aside : As
       slots_of (where_of params h) (slot (where_of params h) p) (type_of_element h.scope t e) ≡ slot (where_of params h) p ∷ [] →
       field_place h.tree (space_in t) f < length (space_at h.tree (space_in t)).fields →
       FieldFits (field_kind h.tree (space_in t) (field_place h.tree (space_in t) f)) (integer_type wd) →
-      ((s1 : State) (j : Instance) → Agrees x params slots aside h s1 j → IsInside x.code s1.store t (get_or s1.names p nothing)) →
+      ((s1 : State) (j : Instance) → Agrees x params slots aside h s1 j → IsInside x s1.store t (get_or s1.names p nothing)) →
       Stands x.body pc ((load_code (where_of params h) t (slot (where_of params h) p) (at_step e no_step)
       ⨟ steps_code (where_of params h) 0 t (own_slot (where_of params h) t p) (at_step e no_step))
       ⨟ put_code (where_of params h) (type_of_element h.scope t e)
@@ -304,7 +304,7 @@ module _ (x : Setting) (params slots : ℕ) (fit : SlotsFit x slots) (aside : As
       (runs pc stands.0.1.0) index same there stands.0.1
       (λ n s1 j names b g. field_folds o h pt f place n sl q wd we y s1 a [] j fits (there s1 j names g) b refl
       (reached x params slots aside h s1 j q sp place n (mode.Reduce o) g
-      (subst (IsInside x.code s1.store (region_type k sp args r)) (ap (λ ns. get_or ns p nothing) names ∙ is) (lies s1 j g)) field b) g
+      (subst (IsInside x s1.store (region_type k sp args r)) (ap (λ ns. get_or ns p nothing) names ∙ is) (lies s1 j g)) field b) g
       (subst (λ rs. Stands x.body a (op (instr.Reduce rs place o (width_of (field_kind h.tree sp place))) h.line)) single stands.1))
 
   -- ---- conversions

@@ -1,5 +1,5 @@
 -- Programs whose entry task treats scalars alone, and what is to be shown of them.
-use Rattle.std.specs.Prelude.{◌≡◌, Bool, false, true, ℕ, ◌^◌, ◌≤◌, ℤ, List, [], ◌∷◌, length, Some, slice_get}
+use Rattle.std.specs.Prelude.{◌≡◌, false, true, ℕ, ◌^◌, ◌≤◌, ℤ, List, [], ◌∷◌, length, Some, slice_get}
 use Rattle.regent_tree.specs.Meaning.{inputs_of, meaning}
 use Rattle.regent_tree.specs.StaticTypes.{entry_name, task_named}
 use Rattle.regent_tree.specs.Syntax.{TaskTree, Tree}
@@ -16,7 +16,7 @@ use Rattle.code_rules.specs.Pieces.{lines}
 use Rattle.code_rules.specs.Programs.{body_piece, code_of, place_of, task_code}
 use Rattle.code_laws.specs.Typed.{IsTypedBlock}
 use Rattle.code_laws.specs.Standing.{IsOf}
-use Rattle.code_laws.specs.Steps.{Setting}
+use Rattle.code_laws.specs.Steps.{Forms, Setting}
 
 -- a program's code with the numbers and turns of a run
 abbrev pub job_of : Tree → List ℤ → ℕ → Job
@@ -28,25 +28,37 @@ AreTaken Holding [] [] = Unit {0}
 AreTaken Holding (t ∷ ts) (v ∷ vs) = Holding t v × AreTaken Holding ts vs
 AreTaken Holding _ _ = ⊥
 
--- the entry task's run, which may make roots or not
-abbrev pub entry_setting : Bool → Tree → ℕ → TaskTree → Setting
-entry_setting makes tree turns t = record {
+-- numbers and truths alone; roots too; and calls too
+abbrev pub scalar_forms : Forms
+scalar_forms = record { makes = false; calls = false }
+
+abbrev pub region_forms : Forms
+region_forms = record { makes = true; calls = false }
+
+-- a task at a depth, where so many more calls may nest, and these roots are there
+abbrev pub task_setting : Forms → Tree → ℕ → ℕ → ℕ → List ℕ → TaskTree → Setting
+task_setting forms tree turns more depth before t = record {
   code = code_of tree;
   turns = turns;
-  child = runs (code_of tree) turns 63;
+  child = runs (code_of tree) turns more;
   body = (task_code tree t).body;
   result = result_type tree t.result;
-  before = [];
-  makes = makes;
+  depth = depth;
+  before = before;
+  forms = forms;
 }
 
--- The entry task is one of the program, needs nothing, is typed and not too long, and takes the inputs. It
--- makes roots or not.
-pub record IsTypedRun (makes : Bool) (tree : Tree) (inputs : List ℤ) : Type 0 where
+-- the entry task
+abbrev pub entry_setting : Forms → Tree → ℕ → TaskTree → Setting
+entry_setting forms tree turns t = task_setting forms tree turns 63 1 [] t
+
+-- The entry task is one of the program, needs nothing, is typed and not too long, and takes the inputs. Its
+-- body has these forms.
+pub record IsTypedRun (forms : Forms) (tree : Tree) (inputs : List ℤ) : Type 0 where
   pub start : slice_get (code_of tree).tasks (place_of_task tree (entry_name tree))
       ≡ Some (task_code tree (task_named tree (entry_name tree)))
   pub needs : (task_code tree (task_named tree (entry_name tree))).needs ≡ []
-  pub typed : IsTypedBlock makes (place_of tree (task_named tree (entry_name tree))) (task_named tree (entry_name tree)).body
+  pub typed : IsTypedBlock forms (place_of tree (task_named tree (entry_name tree))) (task_named tree (entry_name tree)).body
   pub small : length (lines (body_piece tree (task_named tree (entry_name tree))) 0) ≤ 2 ^ 32
   pub taken : AreTaken IsOf (param_types tree (task_named tree (entry_name tree)))
       (inputs_of (param_types tree (task_named tree (entry_name tree))) inputs)
@@ -57,12 +69,12 @@ abbrev pub RunsAsMeant : Tree → List ℤ → ℕ → Type 0
 RunsAsMeant tree inputs turns = order_run (job_of tree inputs turns) ≡ meaning tree inputs turns
 
 abbrev pub ScalarsRunAsMeant : Type 0
-ScalarsRunAsMeant = (tree : Tree) (inputs : List ℤ) (turns : ℕ) → IsTypedRun false tree inputs → RunsAsMeant tree inputs turns
+ScalarsRunAsMeant = (tree : Tree) (inputs : List ℤ) (turns : ℕ) → IsTypedRun scalar_forms tree inputs → RunsAsMeant tree inputs turns
 
 -- Also where it makes roots, whose fields are read, written, reduced and filled at the points of regions that
 -- have names.
 abbrev pub RegionsRunAsMeant : Type 0
-RegionsRunAsMeant = (tree : Tree) (inputs : List ℤ) (turns : ℕ) → IsTypedRun true tree inputs → RunsAsMeant tree inputs turns
+RegionsRunAsMeant = (tree : Tree) (inputs : List ℤ) (turns : ℕ) → IsTypedRun region_forms tree inputs → RunsAsMeant tree inputs turns
 
 -- a run ends without roots, or with a fault
 abbrev pub LeavesNoRoots : Ending → Type 0

@@ -6,7 +6,7 @@ use Rattle.regent_tree.specs.Syntax.{Tree}
 use Rattle.regent_tree.specs.declared.outcome.FaultKind.TheVariants.{OutOfRegion}
 use Rattle.regent_tree.specs.declared.types.NumberTerm.TheVariants.{Int32, Int64}
 use Rattle.worked_examples.specs.Words.{access, at, count, dot, faults, field_space, fill, get, int, item, line, naturals, new_region, number, param, print, prints, reduce, root, set, space, space_of, task, var_from}
-use Rattle.code_laws.specs.Programs.{IsTypedRun}
+use Rattle.code_laws.specs.Programs.{IsTypedRun, region_forms}
 
 --     fspace f { x : int, y : int64 }
 --     task main(n : int)
@@ -33,8 +33,8 @@ regions_program =
 -- The premises of the law hold of it. With 2 for its number it ends with its root, with 4 there is a point that
 -- its region lacks.
 pub record RegionExampleHolds : Type 0 where
-  pub ends : IsTypedRun true regions_program (pos 2 ∷ [])
-  pub faults_too : IsTypedRun true regions_program (pos 4 ∷ [])
+  pub ends : IsTypedRun region_forms regions_program (pos 2 ∷ [])
+  pub faults_too : IsTypedRun region_forms regions_program (pos 4 ∷ [])
   pub end_is : meaning regions_program (pos 2 ∷ []) 100 ≡ prints "2 9\n"
       (root 0 3 (naturals (7 ∷ 2 ∷ 7 ∷ []) ∷ naturals (9 ∷ 9 ∷ 7 ∷ []) ∷ []) ∷ [])
   pub fault_is : meaning regions_program (pos 4 ∷ []) 100 ≡ faults "" OutOfRegion 6

@@ -1,9 +1,8 @@
 -- Where code stands, and how an instance agrees with a state of the meaning.
-use Rattle.std.specs.Prelude.{◌≡◌, ℕ, suc, ◌^◌, ◌<◌, ◌≤◌, ℤ, pos, false, true, List, [], ◌∷◌, map, length, Option, Some, get_or, Bool}
+use Rattle.std.specs.Prelude.{◌≡◌, ℕ, suc, ◌+◌, ◌^◌, ◌<◌, ◌≤◌, ℤ, pos, false, true, List, [], ◌∷◌, map, length, Option, Some, get_or, nat_le, Bool}
 use Rattle.plain_values.specs.Points.{has}
 use Rattle.lane_kernels.specs.Numbers.{FitsWidth}
 use Rattle.lane_kernels.specs.declared.numbers.Width.{Width}
-use Rattle.task_code.specs.declared.code.Code.{Code}
 use Rattle.task_code.specs.declared.code.Line.{Line}
 use Rattle.task_code.specs.declared.instr.Instr.TheVariants as instr
 use Rattle.region_tree.specs.declared.tree.RootId.{RootId}
@@ -13,7 +12,7 @@ use Rattle.regent_tree.specs.declared.typing.StaticType.TheVariants.{Integer as 
 use Rattle.regent_tree.specs.declared.types.Kind.{Kind}
 use Rattle.regent_tree.specs.declared.facts.Term.{Term}
 use Rattle.regent_tree.specs.StaticTypes.{Reach, spaces_of}
-use Rattle.regent_tree.specs.Store.{Store, column, no_root}
+use Rattle.regent_tree.specs.Store.{Store, Touch, column, no_root}
 use Rattle.regent_tree.specs.Values.{Target, Region, Partition, Value, a_number, a_truth, an_index, a_pointer, a_space, a_region, a_partition, kept_number}
 use Rattle.regent_tree.specs.Running.{State, Here, Result, gives, fails}
 use Rattle.regent_tree.specs.Execution.{Going, goes_on, returned}
@@ -24,6 +23,8 @@ use Rattle.machine_terms.specs.declared.value.Value.{Value as MachineValue}
 use Rattle.machine_terms.specs.declared.value.Value.TheVariants as machine
 use Rattle.machine_terms.specs.declared.order.Contents.{Contents}
 use Rattle.machine_terms.specs.Contents.{kinds_of}
+use Rattle.machine_terms.specs.Calls.{is_pending}
+use Rattle.machine_terms.specs.declared.frame.Frame.{Frame}
 use Rattle.machine_terms.specs.Copies.{give_parts}
 use Rattle.machine_terms.specs.Jumps.{fetch}
 use Rattle.machine_terms.specs.Makes.{region_with}
@@ -103,20 +104,21 @@ AreOf Holding [] names = Unit {0}
 AreOf Holding (b ∷ bs) names = (b.place ≡ length bs) × Holding b.static_type (get_or names b.place nothing)
     × AreOf Holding bs names
 
--- A region lies in a root of the store: that is of a field space, and each of its fields has a number at
--- each of the region's points.
-pub record LiesIn (code : Code) (store : Store) (space : ℕ) (q : Region) : Type 0 where
+-- A region lies in a root of the store that the instance made itself: that is of a field space, and each of
+-- its fields has a number at each of the region's points.
+pub record LiesIn (x : Setting) (store : Store) (space : ℕ) (q : Region) : Type 0 where
+  pub own : length x.before ≤ q.root
   pub there : q.root < length store
   pub of_space : (get_or store q.root no_root).space ≡ space
-  pub points : (field n : ℕ) → field < length (kinds_of code space) → has q.points n ≡ true →
+  pub points : (field n : ℕ) → field < length (kinds_of x.code space) → has q.points n ≡ true →
       n < length (column store q.root field)
   pub small : (n : ℕ) → has q.points n ≡ true → n < 2 ^ 32
 
 -- a value stays within the store: regions lie in it, and partitions are of its roots
-abbrev pub IsInside : Code → Store → StaticType → Value → Type 0
-IsInside code store (region_type k space args r) (a_region q) = LiesIn code store space q
-IsInside code store (partition_type d r p) (a_partition q) = q.root < length store
-IsInside code store t v = Unit {0}
+abbrev pub IsInside : Setting → Store → StaticType → Value → Type 0
+IsInside x store (region_type k space args r) (a_region q) = LiesIn x store space q
+IsInside x store (partition_type d r p) (a_partition q) = q.root < length store
+IsInside x store t v = Unit {0}
 
 abbrev pub where_of : ℕ → Here → Where
 where_of params h = record {
@@ -134,12 +136,30 @@ pub record Aside : Type 0 where
   pub slots : List MachineValue
   pub turns : ℕ
 
+-- a touch of a root that the instance made itself: these come behind those that were there before it
+abbrev pub is_own : Setting → Touch → Bool
+is_own x t = nat_le (length x.before) t.root
+
 -- What stays while an instance runs: its own roots come behind those that were there before it, and its
--- needs allow each touch of a point that is there.
+-- needs allow each touch of a point of these.
 pub record IsFramed (x : Setting) (store : Store) (own : List RootId) (m : Memory) : Type 0 where
   pub own_are : AreOwn x.before own m.contents
-  pub none : x.makes ≡ false → own ≡ []
-  pub allows : AreCovered (λ u. true) store m
+  pub none : x.forms.makes ≡ false → own ≡ []
+  pub allows : AreCovered (is_own x) store m
+
+-- a frame without its slots, stack and place
+abbrev pub unplaced : Frame → Frame
+unplaced f = record f { pc = 0; slots = []; stack = [] }
+
+-- no child is pending in a slot
+abbrev pub AreReady : List MachineValue → Type 0
+AreReady slots = (k : ℕ) → is_pending (get_or slots k blank) ≡ false
+
+-- An instance may call as often as it has turns; it has a value of each child that it called, and its depth.
+pub record MayCall (x : Setting) (f : Frame) (results : List ℤ) : Type 0 where
+  pub few : f.children + f.turns ≤ x.turns
+  pub children : f.children ≡ length results
+  pub depth : f.depth ≡ x.depth
 
 -- An instance agrees with a state: the names stand in their slots, the turns and the text are alike,
 -- and what it has of the roots stands for the store. The slots beside those of names that were in scope
@@ -154,13 +174,15 @@ pub record Agrees (x : Setting) (params slots : ℕ) (o : Aside) (h : Here) (s :
       × (get_or i.frame.slots (beside (where_of params h) p) blank
       ≡ get_or o.slots (beside (where_of params h) p) blank)
   pub typed : AreOf IsOf h.scope.names s.names
-  pub inside_store : AreOf (IsInside x.code s.store) h.scope.names s.names
+  pub inside_store : AreOf (IsInside x s.store) h.scope.names s.names
   pub count : length s.names ≡ length h.scope.names
   pub inside : o.upto ≤ length s.names
   pub slots_are : length i.frame.slots ≡ slots
   pub turns : i.frame.turns ≡ s.turns
   pub bound : s.turns ≤ o.turns
   pub text : i.text ≡ s.text
+  pub ready : AreReady i.frame.slots
+  pub calls : MayCall x (unplaced i.frame) i.results
   pub spaces : x.code.spaces ≡ map space_code (spaces_of h.tree)
   pub memory : Holds x.code s.store (memory_of i)
   pub framed : IsFramed x s.store i.frame.own (memory_of i)

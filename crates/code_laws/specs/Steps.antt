@@ -14,17 +14,23 @@ use Rattle.machine_terms.specs.Machine.{Machine, Stepped, goes, prints, stops}
 use Rattle.machine_terms.specs.Orders.{Runner, resume_in, until_over}
 use Rattle.machine_terms.specs.Segments.{frame_after, step}
 
+-- which forms a body may have beside those of numbers and truths: roots that are made, and calls
+pub record Forms : Type 0 where
+  pub makes : Bool
+  pub calls : Bool
+
 -- The code of all tasks, the turns of each instance, what calls give, the code of the task, and its
--- result's type; the numbers of the roots that were there when the instance began, and whether it may make
--- roots.
+-- result's type; its depth, the numbers of the roots that were there when it began, and the forms that its body
+-- may have.
 pub record Setting : Type 0 where
   pub code : Code
   pub turns : ℕ
   pub child : Runner
   pub body : List Line
   pub result : StaticType
+  pub depth : ℕ
   pub before : List ℕ
-  pub makes : Bool
+  pub forms : Forms
 
 abbrev pub machine_of : Instance → Machine
 machine_of i = record { frame = i.frame; parts = i.parts }

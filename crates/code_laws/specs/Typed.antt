@@ -1,6 +1,6 @@
 -- Well-typed expressions and statements of numbers and truths, also those of fields at points of regions that
 -- have names: no call, partition, index or pointer that is kept. Roots are made where that is allowed.
-use Rattle.std.specs.Prelude.{◌≡◌, Bool, ℕ, suc, ◌<◌, ◌≤◌, ℤ, pos, ◌+ℤ◌, int_lt, length, List, [], ◌∷◌, true, false, Some, None}
+use Rattle.std.specs.Prelude.{◌≡◌, ℕ, suc, ◌<◌, ◌≤◌, ℤ, pos, ◌+ℤ◌, int_lt, length, List, [], ◌∷◌, true, false, Some, None}
 use Rattle.lane_kernels.specs.Numbers.{FitsWidth}
 use Rattle.lane_kernels.specs.declared.numbers.FieldKind.{FieldKind}
 use Rattle.lane_kernels.specs.declared.numbers.FieldKind.TheVariants.{Int32, Int64, Truth}
@@ -22,6 +22,7 @@ use Rattle.regent_tree.specs.Lookup.{is_bound}
 use Rattle.regent_tree.specs.Numbers.{distance}
 use Rattle.regent_tree.specs.Syntax.{a_statement, Form, var_form, if_form, while_form, for_to_form, do_form, assert_form, print_form, assign_form, return_form, Block, no_statement, then_statement, Arms, no_arm, an_arm, Otherwise, no_else, else_block, plain_initializer, region_initializer, Name, Tree, fill_form, Expression, number_expr, truth_expr, chain_expr, prefix_expr, access_expr, convert_expr, Expressions, no_expr, an_expr, Links, no_link, a_link, no_step, field_step, at_step, space_expr}
 use Rattle.regent_tree.specs.Typing.{arithmetic_type, operated, type_of_element, type_of_field, var_type}
+use Rattle.code_laws.specs.Steps.{Forms}
 use Rattle.code_rules.specs.Slots.{Where, typed, bound, slot_named, slots_of}
 use Rattle.code_rules.specs.Expressions.{count}
 use Rattle.code_rules.specs.Statements.{on_line, after_form, after_arm, after_arms, looping}
@@ -96,34 +97,34 @@ pub data IsIntegerTerm : NumberTerm → Type 0 where
 -- ---- expressions
 
 abbrev mutual
-  pub IsTyped : Where → Expression → Type 0
-  IsTyped w (number_expr z v) = FitsWidth v z
-  IsTyped w (truth_expr b) = Unit {0}
-  IsTyped w (chain_expr first rest) = IsTyped w first × AreTypedLinks w (typed w first) rest
-  IsTyped w (prefix_expr signs e) = IsTyped w e × SignsFit (typed w e) signs
-  IsTyped w (access_expr n no_step) =
+  pub IsTyped : Forms → Where → Expression → Type 0
+  IsTyped forms w (number_expr z v) = FitsWidth v z
+  IsTyped forms w (truth_expr b) = Unit {0}
+  IsTyped forms w (chain_expr first rest) = IsTyped forms w first × AreTypedLinks forms w (typed w first) rest
+  IsTyped forms w (prefix_expr signs e) = IsTyped forms w e × SignsFit (typed w e) signs
+  IsTyped forms w (access_expr n no_step) =
       (is_bound w.scope.names n ≡ true) × IsSimple (bound w n).static_type
-  IsTyped w (access_expr n (at_step e (field_step f no_step))) = IsTyped w e × IsInteger (typed w e)
+  IsTyped forms w (access_expr n (at_step e (field_step f no_step))) = IsTyped forms w e × IsInteger (typed w e)
       × GoesThrough w n e × IsField w n f (element_field w n e f)
-  IsTyped w (space_expr k e) = IsTyped w e × IsInteger (typed w e)
-  IsTyped w (convert_expr t e) = IsTyped w e × IsInteger (typed w e) × IsIntegerTerm t
-  IsTyped w _ = ⊥
+  IsTyped forms w (space_expr k e) = IsTyped forms w e × IsInteger (typed w e)
+  IsTyped forms w (convert_expr t e) = IsTyped forms w e × IsInteger (typed w e) × IsIntegerTerm t
+  IsTyped forms w _ = ⊥
 
-  pub AreTypedLinks : Where → StaticType → Links → Type 0
-  AreTypedLinks w t no_link = Unit {0}
-  AreTypedLinks w t (a_link Or e rest) =
-      IsTruth t × IsTruth (typed w e) × IsTyped w e × AreTypedLinks w truth_type rest
-  AreTypedLinks w t (a_link And e rest) =
-      IsTruth t × IsTruth (typed w e) × IsTyped w e × AreTypedLinks w truth_type rest
-  AreTypedLinks w t (a_link (Compare c) e rest) = AreAlike t (typed w e) × IsTyped w e
-      × AreTypedLinks w (operated (Compare c) t (typed w e)) rest
-  AreTypedLinks w t (a_link (Compute o) e rest) = IsInteger t × IsInteger (typed w e) × IsTyped w e
-      × AreTypedLinks w (operated (Compute o) t (typed w e)) rest
+  pub AreTypedLinks : Forms → Where → StaticType → Links → Type 0
+  AreTypedLinks forms w t no_link = Unit {0}
+  AreTypedLinks forms w t (a_link Or e rest) =
+      IsTruth t × IsTruth (typed w e) × IsTyped forms w e × AreTypedLinks forms w truth_type rest
+  AreTypedLinks forms w t (a_link And e rest) =
+      IsTruth t × IsTruth (typed w e) × IsTyped forms w e × AreTypedLinks forms w truth_type rest
+  AreTypedLinks forms w t (a_link (Compare c) e rest) = AreAlike t (typed w e) × IsTyped forms w e
+      × AreTypedLinks forms w (operated (Compare c) t (typed w e)) rest
+  AreTypedLinks forms w t (a_link (Compute o) e rest) = IsInteger t × IsInteger (typed w e) × IsTyped forms w e
+      × AreTypedLinks forms w (operated (Compute o) t (typed w e)) rest
 
 -- numbers that are printed
-abbrev pub AreNumbers : Where → Expressions → Type 0
-AreNumbers w no_expr = Unit {0}
-AreNumbers w (an_expr e es) = IsInteger (typed w e) × IsTyped w e × AreNumbers w es
+abbrev pub AreNumbers : Forms → Where → Expressions → Type 0
+AreNumbers forms w no_expr = Unit {0}
+AreNumbers forms w (an_expr e es) = IsInteger (typed w e) × IsTyped forms w e × AreNumbers forms w es
 
 -- ---- statements
 
@@ -140,53 +141,53 @@ pub record IsMakable (tree : Tree) (space : ℕ) : Type 0 where
   pub few : length (space_at tree space).fields ≤ 256
 
 abbrev mutual
-  pub IsTypedForm : Bool → Where → Form → Type 0
-  IsTypedForm makes w (var_form n None (Some (plain_initializer e))) = IsSimple (typed w e) × IsTyped w e
-  IsTypedForm makes w (var_form n None (Some (region_initializer e u))) = (makes ≡ true) × IsSpace (typed w e)
-      × IsTyped w e × IsMakable w.tree (place_of_space w.tree u.name)
-  IsTypedForm makes w (var_form n (Some t) (Some (plain_initializer e))) =
-      AreAlike (typed w e) (var_type w.tree w.scope (Some t) (Some (plain_initializer e))) × IsTyped w e
-  IsTypedForm makes w (var_form n (Some t) None) = IsScalar (var_type w.tree w.scope (Some t) None)
-  IsTypedForm makes w (if_form arms other) = AreTypedArms makes w w arms × IsTypedElse makes (after_arms w arms) other
-  IsTypedForm makes w (while_form test body) =
-      IsTruth (typed w test) × IsTyped w test × IsTypedBlock makes w body
-  IsTypedForm makes w (do_form body) = IsTypedBlock makes w body
-  IsTypedForm makes w (assert_form e) = IsTruth (typed w e) × IsTyped w e
-  IsTypedForm makes w (print_form alias format args) =
-      AreNumbers w args × (numbers_in format ≡ Some (count args))
-  IsTypedForm makes w (return_form None) = Unit {0}
-  IsTypedForm makes w (return_form (Some e)) = AreAlike (typed w e) w.result × IsTyped w e
-  IsTypedForm makes w (for_to_form demanded n from to body) =
-      IsInteger (typed w from) × IsInteger (typed w to) × IsTyped w from × IsTyped w to
-      × IsTypedBlock makes (looping w n (arithmetic_type (typed w from) (typed w to))) body
-  IsTypedForm makes w (assign_form n no_step how.Set e) =
-      AreAlike (typed w e) (bound w n).static_type × IsTyped w e × (is_bound w.scope.names n ≡ true)
-  IsTypedForm makes w (assign_form n no_step (how.Reduce o) e) = IsInteger (typed w e)
-      × IsInteger (bound w n).static_type × IsTyped w e × (is_bound w.scope.names n ≡ true)
-  IsTypedForm makes w (assign_form n (at_step e (field_step f no_step)) how.Set y) =
-      AreAlike (typed w y) (element_field w n e f) × IsTyped w y × IsTyped w e × IsInteger (typed w e)
+  pub IsTypedForm : Forms → Where → Form → Type 0
+  IsTypedForm forms w (var_form n None (Some (plain_initializer e))) = IsSimple (typed w e) × IsTyped forms w e
+  IsTypedForm forms w (var_form n None (Some (region_initializer e u))) = (forms.makes ≡ true) × IsSpace (typed w e)
+      × IsTyped forms w e × IsMakable w.tree (place_of_space w.tree u.name)
+  IsTypedForm forms w (var_form n (Some t) (Some (plain_initializer e))) =
+      AreAlike (typed w e) (var_type w.tree w.scope (Some t) (Some (plain_initializer e))) × IsTyped forms w e
+  IsTypedForm forms w (var_form n (Some t) None) = IsScalar (var_type w.tree w.scope (Some t) None)
+  IsTypedForm forms w (if_form arms other) = AreTypedArms forms w w arms × IsTypedElse forms (after_arms w arms) other
+  IsTypedForm forms w (while_form test body) =
+      IsTruth (typed w test) × IsTyped forms w test × IsTypedBlock forms w body
+  IsTypedForm forms w (do_form body) = IsTypedBlock forms w body
+  IsTypedForm forms w (assert_form e) = IsTruth (typed w e) × IsTyped forms w e
+  IsTypedForm forms w (print_form alias format args) =
+      AreNumbers forms w args × (numbers_in format ≡ Some (count args))
+  IsTypedForm forms w (return_form None) = Unit {0}
+  IsTypedForm forms w (return_form (Some e)) = AreAlike (typed w e) w.result × IsTyped forms w e
+  IsTypedForm forms w (for_to_form demanded n from to body) =
+      IsInteger (typed w from) × IsInteger (typed w to) × IsTyped forms w from × IsTyped forms w to
+      × IsTypedBlock forms (looping w n (arithmetic_type (typed w from) (typed w to))) body
+  IsTypedForm forms w (assign_form n no_step how.Set e) =
+      AreAlike (typed w e) (bound w n).static_type × IsTyped forms w e × (is_bound w.scope.names n ≡ true)
+  IsTypedForm forms w (assign_form n no_step (how.Reduce o) e) = IsInteger (typed w e)
+      × IsInteger (bound w n).static_type × IsTyped forms w e × (is_bound w.scope.names n ≡ true)
+  IsTypedForm forms w (assign_form n (at_step e (field_step f no_step)) how.Set y) =
+      AreAlike (typed w y) (element_field w n e f) × IsTyped forms w y × IsTyped forms w e × IsInteger (typed w e)
       × GoesThrough w n e × IsField w n f (element_field w n e f)
-  IsTypedForm makes w (assign_form n (at_step e (field_step f no_step)) (how.Reduce o) y) =
-      IsInteger (typed w y) × IsInteger (element_field w n e f) × IsTyped w y × IsTyped w e
+  IsTypedForm forms w (assign_form n (at_step e (field_step f no_step)) (how.Reduce o) y) =
+      IsInteger (typed w y) × IsInteger (element_field w n e f) × IsTyped forms w y × IsTyped forms w e
       × IsInteger (typed w e) × GoesThrough w n e × IsField w n f (element_field w n e f)
-  IsTypedForm makes w (fill_form r fields e) = IsTyped w e × (is_bound w.scope.names r ≡ true)
+  IsTypedForm forms w (fill_form r fields e) = IsTyped forms w e × (is_bound w.scope.names r ≡ true)
       × IsRegion (bound w r).static_type × AreFilled w r (typed w e) fields
-  IsTypedForm makes w _ = ⊥
+  IsTypedForm forms w _ = ⊥
 
   -- tests stand in the scope of the `if` itself
-  pub AreTypedArms : Bool → Where → Where → Arms → Type 0
-  AreTypedArms makes own w no_arm = Unit {0}
-  AreTypedArms makes own w (an_arm test body rest) = IsTruth (typed own test) × IsTyped own test
-      × IsTypedBlock makes w body × AreTypedArms makes own (after_arm w body) rest
+  pub AreTypedArms : Forms → Where → Where → Arms → Type 0
+  AreTypedArms forms own w no_arm = Unit {0}
+  AreTypedArms forms own w (an_arm test body rest) = IsTruth (typed own test) × IsTyped forms own test
+      × IsTypedBlock forms w body × AreTypedArms forms own (after_arm w body) rest
 
-  pub IsTypedElse : Bool → Where → Otherwise → Type 0
-  IsTypedElse makes w no_else = Unit {0}
-  IsTypedElse makes w (else_block body) = IsTypedBlock makes w body
+  pub IsTypedElse : Forms → Where → Otherwise → Type 0
+  IsTypedElse forms w no_else = Unit {0}
+  IsTypedElse forms w (else_block body) = IsTypedBlock forms w body
 
-  pub IsTypedBlock : Bool → Where → Block → Type 0
-  IsTypedBlock makes w no_statement = Unit {0}
-  IsTypedBlock makes w (then_statement (a_statement line form) rest) =
-      IsTypedForm makes (on_line w line) form × IsTypedBlock makes (after_form w form) rest
+  pub IsTypedBlock : Forms → Where → Block → Type 0
+  IsTypedBlock forms w no_statement = Unit {0}
+  IsTypedBlock forms w (then_statement (a_statement line form) rest) =
+      IsTypedForm forms (on_line w line) form × IsTypedBlock forms (after_form w form) rest
 
 -- ---- counting
 
