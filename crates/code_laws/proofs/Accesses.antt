@@ -39,7 +39,7 @@ use Rattle.memory_laws.specs.Memory.{IsKept}
 use Rattle.memory_laws.specs.Places.{number_at}
 use Rattle.code_laws.specs.Steps.{Setting, machine_of, placed, on_step, Leads}
 use Rattle.code_laws.specs.Standing.{Stands, machine_value, IsInside, IsOf, LiesIn, of_integer, of_truth, of_region, nothing, blank, Aside, SlotsFit, where_of, Agrees, Comes}
-use Rattle.code_laws.specs.Typed.{FieldFits, IsInteger, IsRegion, a_region_type, an_integer, fits_32, fits_64, fits_truth}
+use Rattle.code_laws.specs.Simple.{FieldFits, IsInteger, IsRegion, a_region_type, an_integer, fits_32, fits_64, fits_truth}
 use Rattle.code_laws.proofs.Good.{valued, Good, Gives}
 use Rattle.code_laws.proofs.Reaching.{Reached, reached, rewritten}
 use Rattle.code_laws.proofs.Runs.{leads_by, ends_by, comes_before}

@@ -17,7 +17,8 @@ use Rattle.code_rules.specs.Pieces.{past}
 use Rattle.code_rules.specs.Slots.{typed}
 use Rattle.code_laws.specs.Steps.{Setting, placed}
 use Rattle.code_laws.specs.Standing.{Agrees, Aside, Comes, Does, IsInside, IsOf, SlotsFit, Stands, nothing, of_integer, where_of}
-use Rattle.code_laws.specs.Typed.{GoesThrough, IsField, IsInteger, IsTyped, an_integer}
+use Rattle.code_laws.specs.Simple.{IsInteger, an_integer}
+use Rattle.code_laws.specs.Typed.{GoesThrough, IsField, IsTyped}
 use Rattle.code_laws.proofs.Expressions.{value_runs}
 use Rattle.code_laws.proofs.Good.{valued}
 use Rattle.code_laws.proofs.Values.{named}

@@ -28,7 +28,8 @@ use Rattle.machine_terms.specs.Numbers.{load}
 use Rattle.code_rules.specs.Assignments.{fold_code, set_code}
 use Rattle.code_rules.specs.Pieces.{op, over, past, ◌⨟◌}
 use Rattle.code_rules.specs.Slots.{slot, slot_named, spare}
-use Rattle.code_laws.specs.Typed.{CountsDown, IsInteger, an_integer}
+use Rattle.code_laws.specs.Simple.{IsInteger, an_integer}
+use Rattle.code_laws.specs.Typed.{CountsDown}
 use Rattle.code_laws.specs.Standing.{Agrees, Aside, Does, IsOf, SlotsFit, Stands, blank, machine_value, nothing, of_integer, where_of}
 use Rattle.code_laws.specs.Steps.{Leads, Setting, machine_of, on_step, placed}
 use Rattle.code_laws.proofs.Good.{valued}

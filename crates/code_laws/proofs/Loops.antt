@@ -30,8 +30,9 @@ use Rattle.code_rules.specs.Pieces.{Piece, op, loop, rounds, past}
 use Rattle.code_rules.specs.Slots.{typed, slot, counter, beside}
 use Rattle.code_rules.specs.Expressions.{expr_code}
 use Rattle.code_laws.specs.Steps.{Setting, machine_of, placed, on_step, Leads, Ends}
-use Rattle.code_laws.specs.Standing.{Stands, machine_value, IsOf, of_integer, blank, Aside, where_of, Agrees, SlotsFit, Does}
-use Rattle.code_laws.specs.Typed.{CountsDown, IsInteger, an_integer, IsTruth, IsTyped}
+use Rattle.code_laws.specs.Standing.{program_of, Stands, machine_value, IsOf, of_integer, blank, Aside, where_of, Agrees, SlotsFit, Does}
+use Rattle.code_laws.specs.Simple.{IsInteger, an_integer, IsTruth}
+use Rattle.code_laws.specs.Typed.{CountsDown, IsTyped}
 use Rattle.code_laws.proofs.Runs.{leads_none, leads_end, leads_by, ends_by, then}
 use Rattle.code_laws.proofs.Values.{number_inside, past_later}
 use Rattle.code_laws.proofs.Good.{valued, Good}
@@ -194,7 +195,7 @@ module _ (x : Setting) (params slots : ℕ) (fit : SlotsFit x slots) (counts : C
       slice_get i.frame.slots (beside (where_of params h) (length h.scope.names)) ≡ Some (machine.Number b) →
       Stands x.body pc (rounds (instr.NextNumber (counter (where_of params h) (length h.scope.names))
       (beside (where_of params h) (length h.scope.names)) (slot (where_of params h) (length h.scope.names))) h.line code) →
-      Grown h.scope.names h2.scope.names → h2.tree ≡ h.tree →
+      Grown h.scope.names h2.scope.names → program_of h2 ≡ program_of h →
       ((aside2 : Aside) (s1 : State) (j : Instance) → Agrees x params slots aside2 (looping h n t) s1 j →
       Does x params slots aside2 (placed (suc pc) [] j) (past code (suc pc)) h2 (body s1)) →
       (rest : Run Going) → s.turns ≡ m →
@@ -259,7 +260,7 @@ module _ (x : Setting) (params slots : ℕ) (fit : SlotsFit x slots) (counts : C
       slice_get i.frame.slots (beside (where_of params h) (length h.scope.names)) ≡ Some (machine.Number b) →
       Stands x.body pc (rounds (instr.NextNumber (counter (where_of params h) (length h.scope.names))
       (beside (where_of params h) (length h.scope.names)) (slot (where_of params h) (length h.scope.names))) h.line code) →
-      Grown h.scope.names h2.scope.names → h2.tree ≡ h.tree →
+      Grown h.scope.names h2.scope.names → program_of h2 ≡ program_of h →
       ((aside2 : Aside) (s1 : State) (j : Instance) → Agrees x params slots aside2 (looping h n t) s1 j →
       Does x params slots aside2 (placed (suc pc) [] j) (past code (suc pc)) h2 (body s1)) →
       Does x params slots aside (placed pc [] i) (suc (past code (suc pc))) h

@@ -85,7 +85,7 @@ module _ (x : Setting) (store : Store) (image : RootImage) where
     children = map (region_with n) q.sets;
   })) (same q.root l)
 
-  same_names : (c d : Contents) → ((r : ℕ) → r < length store → number_at d r ≡ number_at c r) → (bs : List Bound) (names : List Value) →
+  pub same_names : (c d : Contents) → ((r : ℕ) → r < length store → number_at d r ≡ number_at c r) → (bs : List Bound) (names : List Value) →
       AreOf IsOf bs names → AreOf (IsInside x store) bs names → (p : ℕ) → p < length bs →
       machine_value d (get_or names p nothing) ≡ machine_value c (get_or names p nothing)
   same_names c d same [] names a l p low = absurd (omega (arith, low))
@@ -146,6 +146,7 @@ module _ (x : Setting) (params slots : ℕ) (aside : Aside) where
         text = g.text;
         ready = g.ready;
         calls = record { few = g.calls.few; children = g.calls.children; depth = g.calls.depth };
+        answers = g.answers;
         spaces = g.spaces;
         memory = made_holds x.code s.store i size sp g.memory;
         framed = record {

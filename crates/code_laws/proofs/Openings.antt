@@ -25,13 +25,13 @@ use Rattle.machine_terms.specs.Orders.{begun}
 use Rattle.code_rules.specs.Programs.{code_of, task_code}
 use Rattle.code_rules.specs.Slots.{slot}
 use Rattle.code_rules.specs.Used.{greatest, slots_of_lines, slots_used}
-use Rattle.code_laws.specs.Programs.{AreTaken, task_setting}
+use Rattle.code_laws.specs.Programs.{task_setting}
 use Rattle.memory_laws.proofs.Keeping.{root_below}
 use Rattle.memory_laws.specs.Memory.{Holds, memory_of}
 use Rattle.memory_laws.specs.Places.{numbers}
 use Rattle.machine_terms.specs.declared.order.Root.{Root}
 use Rattle.machine_terms.specs.declared.value.Value.{Value as MachineValue}
-use Rattle.code_laws.specs.Standing.{Agrees, AreOf, AreReady, Aside, IsInside, IsOf, SlotsFit, blank, machine_value, nothing, of_index, of_integer, of_partition, of_pointer, of_region, of_space, of_truth, where_of}
+use Rattle.code_laws.specs.Standing.{Answering, AreTaken, Agrees, AreOf, AreReady, Aside, IsInside, IsOf, SlotsFit, blank, machine_value, nothing, of_index, of_integer, of_partition, of_pointer, of_region, of_space, of_truth, where_of}
 use Rattle.code_laws.specs.Steps.{Forms, Setting}
 use Rattle.code_laws.proofs.States.{ready_value}
 use Rattle.code_laws.proofs.Names.{typed_more}
@@ -158,6 +158,10 @@ greatest_left a b = ⊎_elim
     (λ e. subst (λ c. (a ≤ cond c b a) × (b ≤ cond c b a)) (sym (le-ltb a b e)) (omega arith, omega (arith, e)))
     (cases_lt a b)
 
+pub least_slots : (least : ℕ) (ls : List Line) → least ≤ slots_of_lines least ls
+least_slots least [] = omega arith
+least_slots least (l ∷ ls) = omega (arith, least_slots least ls, (greatest_left (slots_used l.instr) (slots_of_lines least ls)).1)
+
 slots_there : (least : ℕ) (ls : List Line) (k : ℕ) (l : Line) → slice_get ls k ≡ Some l →
     slots_used l.instr ≤ slots_of_lines least ls
 slots_there least [] k l e = absurd (none-some l e)
@@ -205,12 +209,13 @@ module _ (tree : Tree) (turns more depth : ℕ) (t : TaskTree) (place : ℕ) (vs
   abbrev pub begins : Instance
   begins = begun (frames.opening turns depth place (task_code tree t) (map (machine_value c) vs)) [] c
 
-  pub opens : (forms : Forms) (calls : Calls) → AreTaken IsOf (param_types tree t) vs →
+  pub opens : (forms : Forms) (calls : Calls) →
+      (forms.calls ≡ true → Answering (task_setting forms tree turns more depth (numbers c) t) tree calls) → AreTaken IsOf (param_types tree t) vs →
       AreTaken (IsInside (task_setting forms tree turns more depth (numbers c) t) store) (param_types tree t) vs →
       length vs ≤ (task_code tree t).slots → Holds (code_of tree) store (memory_of begins) →
       Agrees (task_setting forms tree turns more depth (numbers c) t) (length t.params) (task_code tree t).slots
       (before_all turns) (body_of tree calls t) (opening tree turns t vs store) begins
-  opens forms calls takes inside room holds =
+  opens forms calls answers takes inside room holds =
       let x = task_setting forms tree turns more depth (numbers c) t in
       let code = task_code tree t in
       let sc = scope_of tree t in
@@ -243,6 +248,7 @@ module _ (tree : Tree) (turns more depth : ℕ) (t : TaskTree) (place : ℕ) (vs
         text = refl;
         ready = ready_append ms blanks (ready_values c vs) (ready_blanks (code.slots - length ms));
         calls = record { few = omega arith; children = refl; depth = refl };
+        answers = answers;
         spaces = refl;
         memory = holds;
         framed = record {

@@ -45,7 +45,7 @@ use Rattle.code_rules.specs.Slots.{slot, slot_named}
 use Rattle.code_rules.specs.Instructions.{converted_code, signs_code, standing_code, operand_code, computing, comparing, operating, one, as_number_code}
 use Rattle.code_laws.specs.Steps.{Setting, machine_of, placed, on_step, Leads}
 use Rattle.code_laws.specs.Standing.{Stands, machine_value, IsOf, of_integer, of_space, of_truth, nothing, blank, Aside, SlotsFit, where_of, Agrees, Comes}
-use Rattle.code_laws.specs.Typed.{IsInteger, an_integer, IsTruth, a_truth_type, AreAlike, two_integers, two_truths, IsScalar, scalar_integer, scalar_truth, SignsFit, of_a_truth, of_an_integer, not_before, minus_before, IsIntegerTerm, term_32, term_64}
+use Rattle.code_laws.specs.Simple.{IsInteger, an_integer, IsTruth, a_truth_type, AreAlike, two_integers, two_truths, IsScalar, scalar_integer, scalar_truth, SignsFit, of_a_truth, of_an_integer, not_before, minus_before, IsIntegerTerm, term_32, term_64}
 use Rattle.code_laws.proofs.Runs.{leads_none, leads_twice, leads_by, ends_by, comes_before}
 use Rattle.code_laws.proofs.Good.{valued, Good, Gives, pushes}
 use Rattle.code_laws.proofs.Values.{jump_later, load_value, named, act_computing, act_comparing, computed_fits}

@@ -21,7 +21,8 @@ use Rattle.code_rules.specs.Expressions.{count, expr_code, exprs_code}
 use Rattle.code_rules.specs.Pieces.{op, past}
 use Rattle.code_rules.specs.Prints.{parts_of}
 use Rattle.code_rules.specs.Slots.{typed}
-use Rattle.code_laws.specs.Typed.{AreNumbers, IsInteger, an_integer}
+use Rattle.code_laws.specs.Simple.{IsInteger, an_integer}
+use Rattle.code_laws.specs.Typed.{AreNumbers}
 use Rattle.code_laws.specs.Standing.{Agrees, Aside, Comes, Does, IsOf, SlotsFit, Stands, machine_value, of_integer, where_of}
 use Rattle.code_laws.specs.Steps.{Setting, machine_of, on_step, placed}
 use Rattle.code_laws.proofs.Expressions.{value_runs}
@@ -95,6 +96,7 @@ module _ (x : Setting) (params slots : ℕ) (fit : SlotsFit x slots) (aside : As
           text = ap (λ t. t ++ text) g.text;
           ready = g.ready;
           calls = g.calls;
+          answers = g.answers;
           spaces = g.spaces;
           memory = g.memory;
           framed = g.framed;

@@ -8,7 +8,7 @@ use Rattle.std.specs.Fmt.{digits}
 use Rattle.code_laws.specs.Programs.{IsTypedRun, region_forms}
 use Rattle.code_laws.specs.RegionExample.{RegionExampleHolds, regions_program}
 use Rattle.code_laws.specs.Standing.{of_integer}
-use Rattle.code_laws.specs.Typed.{a_region_type, a_space_type, an_integer, fits_32, fits_64, simple_integer, two_integers}
+use Rattle.code_laws.specs.Simple.{a_region_type, a_space_type, an_integer, fits_32, fits_64, simple_integer, two_integers}
 
 runs : (z : ℤ) → FitsWidth W32 z → IsTypedRun region_forms regions_program (z ∷ [])
 runs z fits = record {

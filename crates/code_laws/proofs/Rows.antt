@@ -8,10 +8,10 @@ use Rattle.regent_tree.specs.declared.typing.StaticType.{StaticType}
 use Rattle.regent_tree.specs.declared.typing.StaticType.TheVariants.{Integer as integer_type, Ispace as ispace_type, Truth as truth_type}
 use Rattle.regent_tree.specs.Lookup.{is_bound}
 use Rattle.regent_tree.specs.Scopes.{bound_to}
-use Rattle.regent_tree.specs.Syntax.{Name, Expression, access_expr, no_step, Block}
+use Rattle.regent_tree.specs.Syntax.{Name, Expression, access_expr, no_step, Block, Tree}
 use Rattle.regent_tree.specs.Typing.{owned, scope_after_block}
 use Rattle.regent_tree.specs.Values.{Value, a_number, a_truth, truth_of, kept_truth}
-use Rattle.regent_tree.specs.Running.{State, Here, Run, Result, gives, fails, given, and_then, if_true, fault, pay_from}
+use Rattle.regent_tree.specs.Running.{Calls, State, Here, Run, Result, gives, fails, given, and_then, if_true, fault, pay_from}
 use Rattle.regent_tree.specs.Execution.{Going, goes_on, returned, going_on, leaving, scoped, with_regions_of, write_name, exec_block}
 use Rattle.task_code.specs.declared.code.Line.{Line}
 use Rattle.task_code.specs.declared.instr.Instr.TheVariants as instr
@@ -28,8 +28,9 @@ use Rattle.code_rules.specs.Expressions.{expr_code}
 use Rattle.code_rules.specs.Initializers.{beside_code, plain_code}
 use Rattle.code_rules.specs.Used.{greatest, above_all}
 use Rattle.code_laws.specs.Steps.{Setting, machine_of, placed, on_step, Leads, Ends}
-use Rattle.code_laws.specs.Standing.{Stands, machine_value, IsInside, IsOf, AreOf, of_integer, of_truth, nothing, Aside, where_of, Agrees, SlotsFit, Does}
-use Rattle.code_laws.specs.Typed.{CountsDown, IsScalar, IsSimple, scalar_integer, scalar_truth, simple_integer, simple_space, simple_truth}
+use Rattle.code_laws.specs.Standing.{Answering, program_of, Stands, machine_value, IsInside, IsOf, AreOf, of_integer, of_truth, nothing, Aside, where_of, Agrees, SlotsFit, Does}
+use Rattle.code_laws.specs.Simple.{IsScalar, IsSimple, scalar_integer, scalar_truth, simple_integer, simple_space, simple_truth}
+use Rattle.code_laws.specs.Typed.{CountsDown}
 use Rattle.code_laws.proofs.Runs.{Said, leads_twice, leads_end, leads_by, ends_by}
 use Rattle.code_laws.proofs.Values.{jump_later, scalar_simple, simple_inside}
 use Rattle.code_laws.proofs.Good.{valued}
@@ -94,7 +95,7 @@ three_least a b c n l =
 
 -- two places of a program with the same names
 abbrev pub IsAlike : Here → Here → Type 0
-IsAlike h h2 = (h.scope.names ≡ h2.scope.names) × (h2.tree ≡ h.tree)
+IsAlike h h2 = (h.scope.names ≡ h2.scope.names) × (program_of h2 ≡ program_of h)
 
 pub same_scope : (x : Setting) (params slots : ℕ) (aside : Aside) (h h2 : Here) (s : State) (i : Instance) →
     IsAlike h h2 → Agrees x params slots aside h s i → Agrees x params slots aside h2 s i
@@ -111,7 +112,8 @@ same_scope x params slots aside h h2 s i e g = record {
   text = g.text;
   ready = g.ready;
   calls = g.calls;
-  spaces = g.spaces ∙ ap (λ t. map space_code (spaces_of t)) (sym e.1);
+  answers = λ c. subst (λ (p : Tree × Calls). Answering x p.0 p.1) (sym e.1) (g.answers c);
+  spaces = g.spaces ∙ ap (λ (p : Tree × Calls). map space_code (spaces_of p.0)) (sym e.1);
   memory = g.memory;
   framed = g.framed;
 }
@@ -162,7 +164,7 @@ module _ (x : Setting) (params slots : ℕ) (fit : SlotsFit x slots) (counts : C
 
   -- a block leaves its names
   pub does_cut : (aside : Aside) (pc n : ℕ) (h h2 : Here) (i : Instance) (r : Result Going) →
-      Grown h.scope.names h2.scope.names → h2.tree ≡ h.tree → n ≡ length h.scope.names → aside.upto ≤ n →
+      Grown h.scope.names h2.scope.names → program_of h2 ≡ program_of h → n ≡ length h.scope.names → aside.upto ≤ n →
       Does x params slots aside i pc h2 r → Does x params slots aside i pc h (leaving n r)
   does_cut aside pc n h h2 i (gives goes_on s) w tree e up d =
       (d.0, d.1, cut x params slots fit aside h h2 n s d.0 w tree e up d.2)
@@ -221,6 +223,7 @@ module _ (x : Setting) (params slots : ℕ) (fit : SlotsFit x slots) (counts : C
     text = g.text;
     ready = g.ready;
     calls = record { few = omega (arith, g.calls.few, g.turns, l); children = g.calls.children; depth = g.calls.depth };
+    answers = g.answers;
     spaces = g.spaces;
     memory = g.memory;
     framed = g.framed;
@@ -241,6 +244,7 @@ module _ (x : Setting) (params slots : ℕ) (fit : SlotsFit x slots) (counts : C
     text = g.text;
     ready = g.ready;
     calls = g.calls;
+    answers = g.answers;
     spaces = g.spaces;
     memory = g.memory;
     framed = g.framed;

@@ -34,12 +34,12 @@ use Rattle.check_rules.specs.scopes.Sound.{StandsIn}
 use Rattle.regent_tree.specs.StaticTypes.{Looking, entry_name, task_named, type_said}
 use Rattle.regent_tree.specs.Limits.{KeepsLimit, Part, parts_of_items, parts_of_program, parts_of_item, parts_of_type, parts_of_params, parts_of_block, WithinLimits}
 use Rattle.regent_tree.specs.Syntax.{ItemForm, ItemTree, Name, TaskTree, Tree, alias_item, import_item, space_item, start_item, task_item}
-use Rattle.code_laws.specs.Standing.{IsOf, of_integer}
-use Rattle.code_laws.specs.Typed.{IsInteger, an_integer}
+use Rattle.code_laws.specs.Standing.{AreTaken, IsOf, of_integer}
+use Rattle.code_laws.specs.Simple.{IsInteger, an_integer}
 use Rattle.check_rules.specs.rules.Repeats.{Given}
 use Rattle.lane_kernels.specs.Numbers.{FitsWidth}
 use Rattle.regent_tree.proofs.Members.{Contains-from_Has, Has, Has-map}
-use Rattle.code_laws.specs.Programs.{AreTaken, IsTypedRun, scalar_forms}
+use Rattle.code_laws.specs.Programs.{IsTypedRun, scalar_forms}
 use Rattle.scalar_form.specs.ScalarForm.{is_scalar_item, is_scalar_task, is_scalar_term, is_scalar_if_said, is_empty, is_scalar_block}
 use Rattle.code_laws.specs.ScalarPrograms.{AreInputs, IsScalarProgramRun, ScalarProgramsLeaveNoRoots, ScalarProgramsRunAsMeant}
 use Rattle.code_laws.proofs.Typing.{AllScalar, AreKept, kept_left, kept_right, no_way_back}

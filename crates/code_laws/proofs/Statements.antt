@@ -5,7 +5,7 @@ use Rattle.code_laws.proofs.Elements.{folds_element, sets_element}
 use Rattle.regent_tree.specs.Initializers.{initial_value, make_root}
 use Rattle.code_laws.proofs.Folds.{folds}
 use Rattle.code_laws.proofs.Loops.{counting_runs, integer_kept, loop_typed, turning_runs, from_fits, to_fits}
-use Rattle.code_rules.specs.Instructions.{converted_code}
+use Rattle.code_rules.specs.Instructions.{converted_code, place_of_task}
 use Rattle.code_laws.proofs.Rows.{IsAlike, asserts, does_as, does_before, does_said, plain_past, returns, same_scope, scoped_by, tests, then_going, then_leads, writes_name, plain_stands, owned_plain, relimit, jumps_later}
 use Rattle.std.proofs.Common.{◌≡◌, ℕ, suc, ◌<◌, ◌≤◌, [], ◌∷◌, ◌++◌, Some, None, refl, sym, ap, ◌∙◌, subst, arith, length-append}
 use Rattle.std.specs.Prelude.{length, slice_get}
@@ -14,11 +14,11 @@ use Rattle.std.proofs.lemmas.List.{get_or-set_same, get_or-set_other, append_ass
 use Rattle.regent_tree.specs.declared.statement.How.TheVariants as how
 use Rattle.regent_tree.specs.Scopes.{bound_to}
 use Rattle.regent_tree.specs.Syntax.{no_step, field_step, at_step, plain_initializer, a_statement, Form, var_form, if_form, while_form, for_to_form, do_form, assert_form, assign_form, return_form, call_form, fill_form, Block, no_statement, then_statement, Arms, no_arm, an_arm, Otherwise, no_else, else_block, both_initializer, by_field_initializer, either_initializer, equal_initializer, image_initializer, preimage_initializer, region_initializer, print_form, for_in_form}
-use Rattle.regent_tree.specs.Typing.{scope_after_block, arithmetic_type, width_of_type, reaches_of, var_type}
+use Rattle.regent_tree.specs.Typing.{param_types, params_at, scope_after_block, arithmetic_type, width_of_type, reaches_of, var_type}
 use Rattle.regent_tree.specs.Values.{number_of, size_of}
 use Rattle.regent_tree.specs.Running.{State, Here, Run}
 use Rattle.regent_tree.specs.Accesses.{converted, regions_reached}
-use Rattle.regent_tree.specs.Evaluation.{value, values}
+use Rattle.regent_tree.specs.Evaluation.{called, value, values}
 use Rattle.regent_tree.specs.Execution.{Going, scoped, right_side, bind, looping, exec, exec_arms, exec_else, exec_block, on_line, after_statement, after_arm, after_arms}
 use Rattle.task_code.specs.declared.instr.Instr.TheVariants as instr
 use Rattle.regent_tree.specs.Numbers.{distance}
@@ -26,18 +26,22 @@ use Rattle.machine_terms.specs.declared.value.Value.TheVariants as machine
 use Rattle.machine_terms.specs.declared.order.Instance.{Instance}
 use Rattle.code_rules.specs.Pieces.{Piece, op, past}
 use Rattle.code_rules.specs.Slots.{typed, slot, counter, beside}
-use Rattle.code_rules.specs.Expressions.{expr_code, count}
+use Rattle.code_rules.specs.Expressions.{expr_code, exprs_code, count}
 use Rattle.code_rules.specs.Initializers.{new_place}
 use Rattle.code_rules.specs.Statements.{form_code, arms_code, else_code, block_code}
 use Rattle.code_rules.specs.Assignments.{right_code}
 use Rattle.code_laws.specs.Steps.{Setting, placed}
 use Rattle.code_laws.specs.Standing.{Stands, machine_value, IsInside, IsOf, blank, Aside, where_of, Agrees, SlotsFit, Does}
 use Rattle.code_laws.specs.Typed.{CountsDown, element_field, AreTypedArms, IsTypedBlock, IsTypedElse, IsTypedForm}
-use Rattle.code_laws.proofs.Runs.{leads_none, leads_twice, ends_by, then, comes_said}
+use Rattle.code_laws.proofs.Runs.{leads_by, leads_none, leads_twice, ends_by, then, comes_said}
 use Rattle.code_laws.proofs.Values.{past_later, scalar_simple, simple_inside}
 use Rattle.code_laws.proofs.Good.{valued, Good}
 use Rattle.code_laws.proofs.Operations.{converted_runs, fetch_small, alike_right, truth_of_type}
-use Rattle.code_laws.proofs.Expressions.{value_runs}
+use Rattle.code_laws.proofs.Expressions.{AreGiven, args_run, value_runs}
+use Rattle.code_laws.proofs.Calling.{HasResult, calls_run, pending}
+use Rattle.code_laws.proofs.Prints.{pushed_all}
+use Rattle.machine_terms.specs.Contents.{no_contents}
+use Rattle.regent_tree.specs.StaticTypes.{task_named}
 use Rattle.code_laws.proofs.PrintRuns.{values_run, prints}
 use Rattle.code_laws.proofs.Names.{form_grown, block_grown, arms_names, else_names}
 use Rattle.code_laws.proofs.States.{stored, stores, aside_stored}
@@ -274,7 +278,23 @@ module _ (x : Setting) (params slots : ℕ) (fit : SlotsFit x slots) (counts : C
         then x (does_said x params slots fit counts aside _ h) _ _ _ (value h e s) _
         (value_runs x params slots fit aside h 0 low e s pc [] i fine.0 g f.0)
         (λ v s1 j k. fill_runs x params slots fit counts aside h r fields t v s1 _ j low fine.1 fine.2 fine.3 k.0 k.1 f.1.0 f.1.1)
-    form_runs aside h (call_form task args) s pc i low fine g f = absurd fine
+    form_runs aside h (call_form task args) s pc i low fine g f =
+        let w = where_of params h in
+        let callee = task_named h.tree task in
+        let ts = params_at h.tree h.scope callee args in
+        let ps = param_types h.tree callee in
+        let a = past (exprs_code w 0 ts args) pc in
+        let done = past (form_code w (call_form task args)) pc in
+        then x (does_said x params slots fit counts aside done h) (λ vs j. placed a (pushed_all no_contents vs []) j)
+        (AreGiven x params slots fit aside h ps (count args)) _ (values h ts args s) _
+        (args_run x params slots fit aside h 0 low ts ps args s pc [] i fine.2 g f.0)
+        (λ vs s1 j k.
+        let called_at = subst (λ n. Stands x.body a (op (instr.Call (place_of_task h.tree task) n) h.line)) (sym k.1) f.1.0 in
+        then x (does_said x params slots fit counts aside done h) (pending x params slots fit aside j.frame.children (suc a) [])
+        (HasResult x params slots fit aside j.frame.children h task) _ (called h task vs s1) _
+        (calls_run x params slots fit aside h task vs s1 a [] j (k.2.answers fine.0)
+        (record { there = fine.1.0; needs = fine.1.1; taken = k.0 }) (fetch_small x.body (suc a) _ f.1.1) k.2 called_at)
+        (λ v s2 j2 k2. (j2, leads_by x _ _ instr.Drop h.line f.1.1 refl, k2.0)))
 
     arms_run : (aside : Aside) (own h h0 : Here) (arms : Arms) (other : Run Going) (oc : Piece) (s : State)
         (pc : ℕ) (i : Instance) → params ≤ length own.scope.names → IsAlike own h → IsAlike h h0 →

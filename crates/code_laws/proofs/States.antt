@@ -8,9 +8,9 @@ use Rattle.std.proofs.Math.Seq.{get_or-append_seam}
 use Rattle.regent_tree.specs.declared.typing.StaticType.{StaticType}
 use Rattle.regent_tree.specs.Lookup.{is_bound}
 use Rattle.regent_tree.specs.Scopes.{bound_to, with_name}
-use Rattle.regent_tree.specs.Syntax.{Name}
+use Rattle.regent_tree.specs.Syntax.{Name, Tree}
 use Rattle.regent_tree.specs.Values.{Value, a_number, a_partition, a_pointer, a_region, a_space, a_truth, an_index}
-use Rattle.regent_tree.specs.Running.{State, Here}
+use Rattle.regent_tree.specs.Running.{Calls, State, Here}
 use Rattle.task_code.specs.declared.instr.Instr.TheVariants as instr
 use Rattle.machine_terms.specs.declared.value.Value.{Value as MachineValue}
 use Rattle.machine_terms.specs.Calls.{is_pending}
@@ -22,7 +22,7 @@ use Rattle.code_rules.specs.Programs.{space_code}
 use Rattle.regent_tree.specs.StaticTypes.{spaces_of}
 use Rattle.code_rules.specs.Slots.{slot, counter, beside}
 use Rattle.code_laws.specs.Steps.{Setting, machine_of, placed, on_step, Leads}
-use Rattle.code_laws.specs.Standing.{Stands, machine_value, IsInside, IsOf, AreOf, AreReady, nothing, blank, Aside, where_of, Agrees, SlotsFit}
+use Rattle.code_laws.specs.Standing.{Answering, program_of, Stands, machine_value, IsInside, IsOf, AreOf, AreReady, nothing, blank, Aside, where_of, Agrees, SlotsFit}
 use Rattle.code_laws.proofs.Runs.{leads_by}
 use Rattle.code_laws.proofs.Values.{named}
 use Rattle.code_laws.proofs.Names.{Grown, typed_more, typed_cut, typed_set, typed_fewer}
@@ -120,6 +120,7 @@ module _ (x : Setting) (params slots : ℕ) (fit : SlotsFit x slots) where
         text = g.text;
         ready = ready_set xs (slot w k) m (ready_value i.contents v) g.ready;
         calls = g.calls;
+        answers = g.answers;
         spaces = g.spaces;
         memory = g.memory;
         framed = g.framed;
@@ -171,6 +172,7 @@ module _ (x : Setting) (params slots : ℕ) (fit : SlotsFit x slots) where
         text = g.text;
         ready = ready_set xs (slot w k) m (ready_value i.contents v) g.ready;
         calls = g.calls;
+        answers = g.answers;
         spaces = g.spaces;
         memory = g.memory;
         framed = g.framed;
@@ -178,7 +180,7 @@ module _ (x : Setting) (params slots : ℕ) (fit : SlotsFit x slots) where
 
   -- a block's names are left
   pub cut : (o : Aside) (h : Here) (h2 : Here) (n : ℕ) (s : State) (i : Instance) →
-      Grown h.scope.names h2.scope.names → h2.tree ≡ h.tree → n ≡ length h.scope.names → o.upto ≤ n →
+      Grown h.scope.names h2.scope.names → program_of h2 ≡ program_of h → n ≡ length h.scope.names → o.upto ≤ n →
       Agrees x params slots o h2 s i → Agrees x params slots o h (record s { names = take n s.names }) i
   cut o h h2 n s i grown tree e up g =
       let w = where_of params h in
@@ -203,7 +205,8 @@ module _ (x : Setting) (params slots : ℕ) (fit : SlotsFit x slots) where
         text = g.text;
         ready = g.ready;
         calls = g.calls;
-        spaces = g.spaces ∙ ap (λ t. map space_code (spaces_of t)) tree;
+        answers = λ c. subst (λ (p : Tree × Calls). Answering x p.0 p.1) tree (g.answers c);
+        spaces = g.spaces ∙ ap (λ (p : Tree × Calls). map space_code (spaces_of p.0)) tree;
         memory = g.memory;
         framed = g.framed;
       }
@@ -233,6 +236,7 @@ module _ (x : Setting) (params slots : ℕ) (fit : SlotsFit x slots) where
         text = g.text;
         ready = ready_set xs (slot w k + d) v quiet g.ready;
         calls = g.calls;
+        answers = g.answers;
         spaces = g.spaces;
         memory = g.memory;
         framed = g.framed;
@@ -255,6 +259,7 @@ module _ (x : Setting) (params slots : ℕ) (fit : SlotsFit x slots) where
     text = g.text;
     ready = g.ready;
     calls = g.calls;
+    answers = g.answers;
     spaces = g.spaces;
     memory = g.memory;
     framed = g.framed;
@@ -263,7 +268,7 @@ module _ (x : Setting) (params slots : ℕ) (fit : SlotsFit x slots) where
   -- and ends: the slots that were kept_number before it are those that were kept_number in it
   pub leaves_round : (o o2 : Aside) (h h2 : Here) (n : ℕ) (s s2 : State) (i j : Instance) →
       o2.slots ≡ i.frame.slots → o.upto ≤ o2.upto → o2.turns ≤ o.turns →
-      Grown h.scope.names h2.scope.names → h2.tree ≡ h.tree → n ≡ length h.scope.names → o.upto ≤ n →
+      Grown h.scope.names h2.scope.names → program_of h2 ≡ program_of h → n ≡ length h.scope.names → o.upto ≤ n →
       ((p : ℕ) → params ≤ p → p < o.upto →
       (get_or i.frame.slots (counter (where_of params h) p) blank
       ≡ get_or o.slots (counter (where_of params h) p) blank)
@@ -297,7 +302,8 @@ module _ (x : Setting) (params slots : ℕ) (fit : SlotsFit x slots) where
         text = g.text;
         ready = g.ready;
         calls = g.calls;
-        spaces = g.spaces ∙ ap (λ t. map space_code (spaces_of t)) tree;
+        answers = λ c. subst (λ (p : Tree × Calls). Answering x p.0 p.1) tree (g.answers c);
+        spaces = g.spaces ∙ ap (λ (p : Tree × Calls). map space_code (spaces_of p.0)) tree;
         memory = g.memory;
         framed = g.framed;
       }

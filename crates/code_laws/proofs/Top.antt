@@ -34,12 +34,12 @@ use Rattle.regent_tree.specs.Store.{Store}
 use Rattle.regent_tree.specs.declared.outcome.Ending.{Ending}
 use Rattle.regent_tree.specs.declared.outcome.RootImage.{RootImage}
 use Rattle.machine_terms.specs.declared.order.Instance.{Instance}
-use Rattle.code_laws.proofs.Values.{number_inside}
-use Rattle.code_laws.specs.Programs.{AreTaken, IsTypedRun, LeavesNoRoots, RegionsRunAsMeant, RunsAsMeant, ScalarsRunAsMeant, entry_setting, job_of, region_forms, scalar_forms}
-use Rattle.code_laws.specs.Standing.{Does, IsFramed, IsInside, IsOf, Stands, machine_value}
+use Rattle.code_laws.proofs.Values.{not_true, number_inside}
+use Rattle.code_laws.specs.Programs.{IsTypedRun, LeavesNoRoots, RegionsRunAsMeant, RunsAsMeant, ScalarsRunAsMeant, entry_setting, job_of, region_forms, scalar_forms}
+use Rattle.code_laws.specs.Standing.{Answering, AreTaken, Does, IsFramed, IsInside, IsOf, Stands, machine_value}
 use Rattle.code_laws.specs.Steps.{Ends, Forms, Setting, placed}
 use Rattle.code_laws.proofs.Counts.{counts_down}
-use Rattle.code_laws.proofs.Openings.{before_all, begins, fits_slots, greatest_left, opens, params_length, taken_length, types_length}
+use Rattle.code_laws.proofs.Openings.{before_all, begins, fits_slots, least_slots, opens, params_length, taken_length, types_length}
 use Rattle.code_laws.proofs.Places.{stands_alone}
 use Rattle.code_laws.proofs.Runs.{ends_by, leads_end}
 use Rattle.code_laws.proofs.Segments.{segments_give}
@@ -60,10 +60,6 @@ inputs_inside x store [] (z ∷ zs) a = tt
 inputs_inside x store (t ∷ ts) [] a = absurd a
 inputs_inside x store (t ∷ ts) (z ∷ zs) a =
     (number_inside x store t (width_of_type t) z a.0, inputs_inside x store ts zs a.1)
-
-least_slots : (least : ℕ) (ls : List Line) → least ≤ slots_of_lines least ls
-least_slots least [] = omega arith
-least_slots least (l ∷ ls) = omega (arith, least_slots least ls, (greatest_left (slots_used l.instr) (slots_of_lines least ls)).1)
 
 -- at the end of the first task what its roots hold is the store
 roots_are : (x : Setting) (s : State) (j : Instance) → x.before ≡ [] → Holds x.code s.store (memory_of j) →
@@ -118,9 +114,11 @@ module _ (forms : Forms) (tree : Tree) (turns : ℕ) (t : TaskTree) where
   )
   by_end i (fails k s) d f = (_, d, (refl, λ m. tt))
 
-typed_run_ends : (forms : Forms) (tree : Tree) (inputs : List ℤ) (turns : ℕ) → IsTypedRun forms tree inputs →
+pub typed_run_ends : (forms : Forms) (tree : Tree) (inputs : List ℤ) (turns : ℕ) →
+    (forms.calls ≡ true → Answering (entry_setting forms tree turns (task_named tree (entry_name tree))) tree (calls_at tree turns 63)) →
+    IsTypedRun forms tree inputs →
     RunsAsMeant tree inputs turns × (forms.makes ≡ false → LeavesNoRoots (meaning tree inputs turns).ending)
-typed_run_ends forms tree inputs turns p =
+typed_run_ends forms tree inputs turns answers p =
     let t = task_named tree (entry_name tree) in
     let code = task_code tree t in
     let place = place_of_task tree (entry_name tree) in
@@ -134,7 +132,7 @@ typed_run_ends forms tree inputs turns p =
     let same : map (machine_value no_contents) vs ≡ map machine.Number inputs = inputs_kept ts inputs (p.count ∙ sym params) in
     let room : length t.params ≤ code.slots = least_slots (length t.params) code.body in
     let few : length vs ≤ code.slots = omega (arith, taken_length IsOf ts vs p.taken, params, room) in
-    let g = opens tree turns 63 1 t place vs [] no_contents forms (calls_at tree turns 63) p.taken (inputs_inside x [] ts inputs p.taken) few
+    let g = opens tree turns 63 1 t place vs [] no_contents forms (calls_at tree turns 63) answers p.taken (inputs_inside x [] ts inputs p.taken) few
     (first_holds (code_of tree) i.frame) in
     let low : length t.params ≤ length h.scope.names = omega (arith, params_length tree t.params 0 t.params) in
     let stands = stands_alone (body_piece tree t) p.small in
@@ -156,11 +154,11 @@ typed_run_ends forms tree inputs turns p =
     )
 
 pub scalars_run_as_meant : ScalarsRunAsMeant
-scalars_run_as_meant tree inputs turns p = (typed_run_ends scalar_forms tree inputs turns p).0
+scalars_run_as_meant tree inputs turns p = (typed_run_ends scalar_forms tree inputs turns (λ e. absurd (not_true e)) p).0
 
 pub regions_run_as_meant : RegionsRunAsMeant
-regions_run_as_meant tree inputs turns p = (typed_run_ends region_forms tree inputs turns p).0
+regions_run_as_meant tree inputs turns p = (typed_run_ends region_forms tree inputs turns (λ e. absurd (not_true e)) p).0
 
 pub scalars_leave_no_roots : (tree : Tree) (inputs : List ℤ) (turns : ℕ) → IsTypedRun scalar_forms tree inputs →
     LeavesNoRoots (meaning tree inputs turns).ending
-scalars_leave_no_roots tree inputs turns p = (typed_run_ends scalar_forms tree inputs turns p).1 refl
+scalars_leave_no_roots tree inputs turns p = (typed_run_ends scalar_forms tree inputs turns (λ e. absurd (not_true e)) p).1 refl

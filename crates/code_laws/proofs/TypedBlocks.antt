@@ -35,7 +35,8 @@ use Rattle.check_rules.specs.rules.Standing.{Spot, integer_spot, stands, truth_s
 use Rattle.regent_tree.specs.Scopes.{Scope, past, with_name, bound_to}
 use Rattle.check_rules.specs.scopes.Sound.{IsSound}
 use Rattle.regent_tree.specs.Syntax.{Arms, Block, Expression, Expressions, Form, Initializer, Name, Otherwise, TaskTree, Tree, both_initializer, by_field_initializer, either_initializer, equal_initializer, image_initializer, plain_initializer, preimage_initializer, region_initializer, a_statement, an_arm, assert_form, assign_form, at_step, call_form, do_form, else_block, field_step, fill_form, for_in_form, for_to_form, if_form, no_arm, no_else, no_statement, no_step, print_form, return_form, then_statement, var_form, while_form}
-use Rattle.code_laws.specs.Typed.{AreTypedArms, IsInteger, IsScalar, IsTruth, IsTyped, IsTypedBlock, IsTypedElse, IsTypedForm}
+use Rattle.code_laws.specs.Simple.{IsInteger, IsScalar, IsTruth}
+use Rattle.code_laws.specs.Typed.{AreTypedArms, IsTyped, IsTypedBlock, IsTypedElse, IsTypedForm}
 use Rattle.code_laws.proofs.Typing.{AllScalar, AreKept, Well, as_integer, as_truth, kept_behind, kept_left, kept_right, no_way, no_way_back, numbers_well, well, fitting, named_scalar}
 use Rattle.std.proofs.Common.{◌≡◌, List, [], ◌∷◌, ◌++◌, None, Option, Some, false, true, ap, sym, subst, ℕ, ◌∙◌, not}
 use Rattle.std.specs.Prelude.{length, cond}

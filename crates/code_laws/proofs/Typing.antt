@@ -45,7 +45,8 @@ use Rattle.check_rules.specs.types.TypedForms.{computing}
 use Rattle.check_rules.specs.declared.rule.Rule.TheVariants as rule
 use Rattle.check_rules.proofs.Untold.{rule_none, standing_none}
 use Rattle.code_rules.specs.Slots.{Where, typed}
-use Rattle.code_laws.specs.Typed.{AreAlike, AreNumbers, AreTypedLinks, IsInteger, IsIntegerTerm, IsScalar, IsTruth, IsTyped, SignsFit, a_truth_type, an_integer, minus_before, not_before, of_a_truth, of_an_integer, scalar_integer, scalar_truth, term_32, term_64, two_integers, two_truths}
+use Rattle.code_laws.specs.Simple.{AreAlike, IsInteger, IsIntegerTerm, IsScalar, IsTruth, SignsFit, a_truth_type, an_integer, minus_before, not_before, of_a_truth, of_an_integer, scalar_integer, scalar_truth, term_32, term_64, two_integers, two_truths}
+use Rattle.code_laws.specs.Typed.{AreNumbers, AreTypedLinks, IsTyped}
 use Rattle.scalar_form.specs.ScalarForm.{are_scalar_expressions, are_scalar_links, is_scalar_expression, is_scalar_number}
 
 -- ---- types

@@ -1,5 +1,5 @@
 -- What single instructions do with values.
-use Rattle.code_laws.specs.Typed.{IsScalar, IsSimple, scalar_integer, scalar_truth, simple_integer, simple_space, simple_truth}
+use Rattle.code_laws.specs.Simple.{IsScalar, IsSimple, scalar_integer, scalar_truth, simple_integer, simple_space, simple_truth}
 use Rattle.regent_tree.specs.Store.{Store}
 use Rattle.std.proofs.Common.{◌≡◌, ℕ, suc, ◌<◌, ◌≤◌, ℤ, pos, List, [], ◌∷◌, Bool, true, false, Some, refl, ap, subst, arith}
 use Rattle.std.specs.Ordering.{int_eq}

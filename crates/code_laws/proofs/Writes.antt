@@ -44,7 +44,7 @@ use Rattle.memory_laws.specs.Memory.{Holds, IsKept, memory_of}
 use Rattle.memory_laws.specs.Places.{number_at}
 use Rattle.code_laws.specs.Steps.{Setting, machine_of, placed, on_step, Leads}
 use Rattle.code_laws.specs.Standing.{Agrees, Aside, Comes, IsInside, IsOf, SlotsFit, Stands, machine_value, nothing, of_integer, of_region, of_truth, where_of}
-use Rattle.code_laws.specs.Typed.{AreAlike, FieldFits, IsInteger, IsRegion, a_region_type, an_integer, fits_32, fits_64, fits_truth, two_integers, two_truths}
+use Rattle.code_laws.specs.Simple.{AreAlike, FieldFits, IsInteger, IsRegion, a_region_type, an_integer, fits_32, fits_64, fits_truth, two_integers, two_truths}
 use Rattle.code_laws.proofs.Accesses.{HasRegion, aims_first, region_there}
 use Rattle.code_laws.proofs.Good.{valued, Gives}
 use Rattle.code_laws.proofs.Reaching.{Reached, reached, rewritten}

@@ -1,4 +1,5 @@
 pub mod Steps
+pub mod Simple
 pub mod Standing
 pub mod Typed
 pub mod Programs

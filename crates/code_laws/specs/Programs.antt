@@ -15,18 +15,12 @@ use Rattle.code_rules.specs.Instructions.{place_of_task}
 use Rattle.code_rules.specs.Pieces.{lines}
 use Rattle.code_rules.specs.Programs.{body_piece, code_of, place_of, task_code}
 use Rattle.code_laws.specs.Typed.{IsTypedBlock}
-use Rattle.code_laws.specs.Standing.{IsOf}
+use Rattle.code_laws.specs.Standing.{AreTaken, IsOf}
 use Rattle.code_laws.specs.Steps.{Forms, Setting}
 
 -- a program's code with the numbers and turns of a run
 abbrev pub job_of : Tree → List ℤ → ℕ → Job
 job_of tree inputs turns = record { code = code_of tree; inputs = inputs; turns = turns }
-
--- values of each of which something holds by these types
-abbrev pub AreTaken : (StaticType → Value → Type 0) → List StaticType → List Value → Type 0
-AreTaken Holding [] [] = Unit {0}
-AreTaken Holding (t ∷ ts) (v ∷ vs) = Holding t v × AreTaken Holding ts vs
-AreTaken Holding _ _ = ⊥
 
 -- numbers and truths alone; roots too; and calls too
 abbrev pub scalar_forms : Forms

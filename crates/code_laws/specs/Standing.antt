@@ -1,5 +1,5 @@
 -- Where code stands, and how an instance agrees with a state of the meaning.
-use Rattle.std.specs.Prelude.{◌≡◌, ℕ, suc, ◌+◌, ◌^◌, ◌<◌, ◌≤◌, ℤ, pos, false, true, List, [], ◌∷◌, map, length, Option, Some, get_or, nat_le, Bool}
+use Rattle.std.specs.Prelude.{◌≡◌, ℕ, suc, ◌+◌, ◌^◌, ◌<◌, ◌≤◌, ℤ, pos, false, true, List, [], ◌∷◌, map, length, Option, Some, get_or, nat_le, slice_get, take, Bool}
 use Rattle.plain_values.specs.Points.{has}
 use Rattle.lane_kernels.specs.Numbers.{FitsWidth}
 use Rattle.lane_kernels.specs.declared.numbers.Width.{Width}
@@ -11,10 +11,10 @@ use Rattle.regent_tree.specs.declared.typing.StaticType.{StaticType}
 use Rattle.regent_tree.specs.declared.typing.StaticType.TheVariants.{Integer as integer_type, Truth as truth_type, Index as index_type, Pointer as pointer_type, Ispace as ispace_type, Region as region_type, Partition as partition_type}
 use Rattle.regent_tree.specs.declared.types.Kind.{Kind}
 use Rattle.regent_tree.specs.declared.facts.Term.{Term}
-use Rattle.regent_tree.specs.StaticTypes.{Reach, spaces_of}
+use Rattle.regent_tree.specs.StaticTypes.{Reach, spaces_of, task_named}
 use Rattle.regent_tree.specs.Store.{Store, Touch, column, no_root}
 use Rattle.regent_tree.specs.Values.{Target, Region, Partition, Value, a_number, a_truth, an_index, a_pointer, a_space, a_region, a_partition, kept_number}
-use Rattle.regent_tree.specs.Running.{State, Here, Result, gives, fails}
+use Rattle.regent_tree.specs.Running.{State, Here, Called, Calls, Result, broke, came_back, gives, fails}
 use Rattle.regent_tree.specs.Execution.{Going, goes_on, returned}
 use Rattle.machine_terms.specs.declared.order.Ended.{Ended}
 use Rattle.machine_terms.specs.declared.order.Ended.TheVariants.{Broke, CameBack}
@@ -28,15 +28,24 @@ use Rattle.machine_terms.specs.declared.frame.Frame.{Frame}
 use Rattle.machine_terms.specs.Copies.{give_parts}
 use Rattle.machine_terms.specs.Jumps.{fetch}
 use Rattle.machine_terms.specs.Makes.{region_with}
-use Rattle.machine_terms.specs.Orders.{result_of}
+use Rattle.machine_terms.specs.Orders.{begun, result_of}
+use Rattle.code_laws.specs.Simple.{IsScalar}
+use Rattle.code_rules.specs.Instructions.{place_of_task}
+use Rattle.machine_terms.specs.Opening.{opening}
+use Rattle.regent_tree.specs.Laws.{SameRoots}
+use Rattle.regent_tree.specs.Syntax.{Name, Tree}
+use Rattle.regent_tree.specs.Typing.{param_types, result_type}
+use Rattle.regent_tree.specs.declared.outcome.Fault.{Fault}
+use Rattle.regent_tree.specs.declared.outcome.FaultKind.TheVariants.{Depth}
+use Rattle.task_code.specs.declared.code.Code.{Code}
 use Rattle.code_rules.specs.Pieces.{Piece, empty, op, ◌⨟◌, over, branch, loop, rounds, past, line_of}
-use Rattle.code_rules.specs.Programs.{space_code}
+use Rattle.code_rules.specs.Programs.{code_of, space_code, task_code}
 use Rattle.code_rules.specs.Slots.{Where, slot, counter, beside}
 use Rattle.code_rules.specs.Used.{slots_used}
 use Rattle.memory_laws.specs.Closing.{AreOwn}
 use Rattle.memory_laws.specs.Covering.{AreCovered}
-use Rattle.memory_laws.specs.Memory.{Holds, Memory, memory_of}
-use Rattle.memory_laws.specs.Places.{number_at}
+use Rattle.memory_laws.specs.Memory.{Holds, Memory, StandFor, memory_of}
+use Rattle.memory_laws.specs.Places.{number_at, numbers}
 use Rattle.code_laws.specs.Steps.{Setting, placed, Leads, Ends}
 
 -- a piece stands in a body at a place
@@ -90,6 +99,12 @@ pub data IsOf : StaticType → Value → Type 0 where
       IsOf (region_type k sp args r) (a_region q)
   of_partition : (d : Bool) (r p : ℕ) (q : Partition) → IsOf (partition_type d r p) (a_partition q)
 
+-- values of each of which something holds by these types
+abbrev pub AreTaken : (StaticType → Value → Type 0) → List StaticType → List Value → Type 0
+AreTaken Holding [] [] = Unit {0}
+AreTaken Holding (t ∷ ts) (v ∷ vs) = Holding t v × AreTaken Holding ts vs
+AreTaken Holding _ _ = ⊥
+
 -- a value, and a machine's, where there is none
 abbrev pub nothing : Value
 nothing = a_truth false
@@ -129,6 +144,10 @@ where_of params h = record {
   line = h.line;
 }
 
+-- the program, and what calls in it give
+abbrev pub program_of : Here → Tree × Calls
+program_of h = (h.tree, h.calls)
+
 -- the slots when the round of the innermost loop began, how many names were in scope there, and a
 -- bound of the turns that were left
 pub record Aside : Type 0 where
@@ -146,6 +165,44 @@ pub record IsFramed (x : Setting) (store : Store) (own : List RootId) (m : Memor
   pub own_are : AreOwn x.before own m.contents
   pub none : x.forms.makes ≡ false → own ≡ []
   pub allows : AreCovered (is_own x) store m
+
+-- ---- calls
+
+-- a task of the program that needs nothing, and numbers and truths that it takes
+pub record Takes (tree : Tree) (task : Name) (vs : List Value) : Type 0 where
+  pub there : slice_get (code_of tree).tasks (place_of_task tree task) ≡ Some (task_code tree (task_named tree task))
+  pub needs : (task_code tree (task_named tree task)).needs ≡ []
+  pub taken : AreTaken (λ t v. IsScalar t × IsOf t v) (param_types tree (task_named tree task)) vs
+
+-- the value that a task gives is of its result's type, where that is a number's or a truth's
+abbrev pub Returns : Tree → Name → Value → Type 0
+Returns tree task v = IsScalar (result_type tree (task_named tree task).result) →
+    IsOf (result_type tree (task_named tree task).result) v
+
+-- Both come back, with a value and what stands for the store with the call's own roots behind; or both end
+-- with a fault.
+pub data Matches (code : Code) (Returned : Value → Type 0) (store : Store) (before : List ℕ) : Called → Ended → Type 0 where
+  both_back : (v : Value) (after : Store) (text : List ℕ) (result : Option ℤ) (own : List RootId) (c : Contents) →
+      Returned v → result_of result ≡ kept_number v → SameRoots store (take (length store) after) →
+      StandFor code c [] after → AreOwn before own c →
+      Matches code Returned store before (came_back v (take (length store) after) text) (CameBack result own c text)
+  both_broke : (f : Fault) (text : List ℕ) → Matches code Returned store before (broke f text) (Broke (Some f) text)
+
+-- a task that begins as a call of it
+abbrev pub called_with : Tree → ℕ → ℕ → Name → List Value → Contents → Instance
+called_with tree turns depth task vs c = begun
+    (opening turns depth (place_of_task tree task) (task_code tree (task_named tree task)) (map (machine_value c) vs)) [] c
+
+-- What calls give, children give; at depth 64 there is none, and the call is a fault.
+pub record Answering (x : Setting) (tree : Tree) (calls : Calls) : Type 0 where
+  pub code_is : x.code ≡ code_of tree
+  pub few : x.turns < 2 ^ 64
+  pub at_end : 64 ≤ x.depth → (line : ℕ) (task : Name) (vs : List Value) (store : Store) →
+      calls line task vs store ≡ broke (record { kind = Depth; line = line }) []
+  pub below : x.depth < 64 → (line : ℕ) (task : Name) (vs : List Value) (store : Store) (c : Contents) →
+      Takes tree task vs → Holds x.code store (memory_of (called_with tree x.turns (suc x.depth) task vs c)) →
+      Matches x.code (Returns tree task) store (numbers c) (calls line task vs store)
+      (x.child (called_with tree x.turns (suc x.depth) task vs c))
 
 -- a frame without its slots, stack and place
 abbrev pub unplaced : Frame → Frame
@@ -183,6 +240,7 @@ pub record Agrees (x : Setting) (params slots : ℕ) (o : Aside) (h : Here) (s :
   pub text : i.text ≡ s.text
   pub ready : AreReady i.frame.slots
   pub calls : MayCall x (unplaced i.frame) i.results
+  pub answers : x.forms.calls ≡ true → Answering x h.tree h.calls
   pub spaces : x.code.spaces ≡ map space_code (spaces_of h.tree)
   pub memory : Holds x.code s.store (memory_of i)
   pub framed : IsFramed x s.store i.frame.own (memory_of i)

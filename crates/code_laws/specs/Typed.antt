@@ -1,6 +1,6 @@
 -- Well-typed expressions and statements of numbers and truths, also those of fields at points of regions that
 -- have names: no call, partition, index or pointer that is kept. Roots are made where that is allowed.
-use Rattle.std.specs.Prelude.{◌≡◌, ℕ, suc, ◌<◌, ◌≤◌, ℤ, pos, ◌+ℤ◌, int_lt, length, List, [], ◌∷◌, true, false, Some, None}
+use Rattle.std.specs.Prelude.{◌≡◌, ℕ, suc, ◌<◌, ◌≤◌, ℤ, pos, ◌+ℤ◌, int_lt, length, slice_get, List, [], ◌∷◌, true, false, Some, None}
 use Rattle.lane_kernels.specs.Numbers.{FitsWidth}
 use Rattle.lane_kernels.specs.declared.numbers.FieldKind.{FieldKind}
 use Rattle.lane_kernels.specs.declared.numbers.FieldKind.TheVariants.{Int32, Int64, Truth}
@@ -17,60 +17,19 @@ use Rattle.regent_tree.specs.declared.typing.StaticType.TheVariants.{Integer as 
 use Rattle.regent_tree.specs.declared.facts.Term.{Term}
 use Rattle.regent_tree.specs.declared.types.Kind.{Kind}
 use Rattle.regent_tree.specs.Accesses.{args_in, space_in}
-use Rattle.regent_tree.specs.StaticTypes.{Reach, field_kind, field_place, field_type, place_of_space, space_at, spaces_of}
+use Rattle.regent_tree.specs.StaticTypes.{Reach, field_kind, field_place, field_type, place_of_space, space_at, spaces_of, task_named}
 use Rattle.regent_tree.specs.Lookup.{is_bound}
 use Rattle.regent_tree.specs.Numbers.{distance}
-use Rattle.regent_tree.specs.Syntax.{a_statement, Form, var_form, if_form, while_form, for_to_form, do_form, assert_form, print_form, assign_form, return_form, Block, no_statement, then_statement, Arms, no_arm, an_arm, Otherwise, no_else, else_block, plain_initializer, region_initializer, Name, Tree, fill_form, Expression, number_expr, truth_expr, chain_expr, prefix_expr, access_expr, convert_expr, Expressions, no_expr, an_expr, Links, no_link, a_link, no_step, field_step, at_step, space_expr}
-use Rattle.regent_tree.specs.Typing.{arithmetic_type, operated, type_of_element, type_of_field, var_type}
+use Rattle.regent_tree.specs.Syntax.{a_statement, Form, var_form, if_form, while_form, for_to_form, do_form, assert_form, print_form, assign_form, return_form, Block, no_statement, then_statement, Arms, no_arm, an_arm, Otherwise, no_else, else_block, plain_initializer, region_initializer, Name, Tree, fill_form, call_form, call_expr, Expression, number_expr, truth_expr, chain_expr, prefix_expr, access_expr, convert_expr, Expressions, no_expr, an_expr, Links, no_link, a_link, no_step, field_step, at_step, space_expr}
+use Rattle.regent_tree.specs.Typing.{arithmetic_type, operated, param_types, params_at, result_type, type_of_element, type_of_field, var_type}
+use Rattle.code_laws.specs.Simple.{IsInteger, IsTruth, IsScalar, IsSimple, IsSpace, IsRegion, AreAlike, SignsFit, FieldFits, IsIntegerTerm}
+use Rattle.code_rules.specs.Instructions.{place_of_task}
+use Rattle.code_rules.specs.Programs.{code_of, task_code}
 use Rattle.code_laws.specs.Steps.{Forms}
 use Rattle.code_rules.specs.Slots.{Where, typed, bound, slot_named, slots_of}
 use Rattle.code_rules.specs.Expressions.{count}
 use Rattle.code_rules.specs.Statements.{on_line, after_form, after_arm, after_arms, looping}
 use Rattle.check_rules.specs.rules.Formats.{numbers_in}
-
--- ---- types
-
-pub data IsInteger : StaticType → Type 0 where
-  an_integer : (w : Width) → IsInteger (integer_type w)
-
-pub data IsTruth : StaticType → Type 0 where
-  a_truth_type : IsTruth truth_type
-
--- an integer or a truth
-pub data IsScalar : StaticType → Type 0 where
-  scalar_integer : (w : Width) → IsScalar (integer_type w)
-  scalar_truth : IsScalar truth_type
-
--- an integer, a truth, or an index space
-pub data IsSimple : StaticType → Type 0 where
-  simple_integer : (w : Width) → IsSimple (integer_type w)
-  simple_truth : IsSimple truth_type
-  simple_space : (k : Kind) → IsSimple (ispace_type k)
-
-pub data IsSpace : StaticType → Type 0 where
-  a_space_type : (k : Kind) → IsSpace (ispace_type k)
-
-pub data IsRegion : StaticType → Type 0 where
-  a_region_type : (k : Kind) (sp : ℕ) (args : List Reach) (r : Term) → IsRegion (region_type k sp args r)
-
--- two integers, or two truths
-pub data AreAlike : StaticType → StaticType → Type 0 where
-  two_integers : (v w : Width) → AreAlike (integer_type v) (integer_type w)
-  two_truths : AreAlike truth_type truth_type
-
--- prefixes of a truth, or of an integer
-pub data SignsFit : StaticType → List Sign → Type 0 where
-  of_a_truth : SignsFit truth_type []
-  of_an_integer : (w : Width) → SignsFit (integer_type w) []
-  not_before : (ss : List Sign) → SignsFit truth_type ss → SignsFit truth_type (Not ∷ ss)
-  minus_before : (w : Width) (ss : List Sign) → SignsFit (integer_type w) ss →
-      SignsFit (integer_type w) (Minus ∷ ss)
-
--- the numbers of a field of a kind are values of a type
-pub data FieldFits : FieldKind → StaticType → Type 0 where
-  fits_32 : FieldFits Int32 (integer_type W32)
-  fits_64 : FieldFits Int64 (integer_type W64)
-  fits_truth : FieldFits Truth truth_type
 
 -- A name in scope has a region, and the field is one of its field space, which keeps values of a type.
 pub record IsField (w : Where) (n f : Name) (t : StaticType) : Type 0 where
@@ -90,11 +49,13 @@ GoesThrough w n e =
 abbrev pub element_field : Where → Name → Expression → Name → StaticType
 element_field w n e f = type_of_field w.tree (type_of_element w.scope (bound w n).static_type e) f
 
-pub data IsIntegerTerm : NumberTerm → Type 0 where
-  term_32 : IsIntegerTerm number.Int32
-  term_64 : IsIntegerTerm number.Int64
-
 -- ---- expressions
+
+-- a task of the program that needs nothing
+abbrev pub IsCalled : Tree → Name → Type 0
+IsCalled tree task =
+    (slice_get (code_of tree).tasks (place_of_task tree task) ≡ Some (task_code tree (task_named tree task)))
+    × ((task_code tree (task_named tree task)).needs ≡ [])
 
 abbrev mutual
   pub IsTyped : Forms → Where → Expression → Type 0
@@ -106,6 +67,10 @@ abbrev mutual
       (is_bound w.scope.names n ≡ true) × IsSimple (bound w n).static_type
   IsTyped forms w (access_expr n (at_step e (field_step f no_step))) = IsTyped forms w e × IsInteger (typed w e)
       × GoesThrough w n e × IsField w n f (element_field w n e f)
+  IsTyped forms w (call_expr task args) = (forms.calls ≡ true)
+      × IsScalar (result_type w.tree (task_named w.tree task).result) × IsCalled w.tree task
+      × ArePassed forms w (params_at w.tree w.scope (task_named w.tree task) args)
+      (param_types w.tree (task_named w.tree task)) args
   IsTyped forms w (space_expr k e) = IsTyped forms w e × IsInteger (typed w e)
   IsTyped forms w (convert_expr t e) = IsTyped forms w e × IsInteger (typed w e) × IsIntegerTerm t
   IsTyped forms w _ = ⊥
@@ -120,6 +85,13 @@ abbrev mutual
       × AreTypedLinks forms w (operated (Compare c) t (typed w e)) rest
   AreTypedLinks forms w t (a_link (Compute o) e rest) = IsInteger t × IsInteger (typed w e) × IsTyped forms w e
       × AreTypedLinks forms w (operated (Compute o) t (typed w e)) rest
+
+  -- numbers and truths that are given to parameters of these types
+  pub ArePassed : Forms → Where → List StaticType → List StaticType → Expressions → Type 0
+  ArePassed forms w [] [] no_expr = Unit {0}
+  ArePassed forms w (t ∷ ts) (p ∷ ps) (an_expr e es) =
+      AreAlike (typed w e) t × (t ≡ p) × IsTyped forms w e × ArePassed forms w ts ps es
+  ArePassed forms w _ _ _ = ⊥
 
 -- numbers that are printed
 abbrev pub AreNumbers : Forms → Where → Expressions → Type 0
@@ -170,6 +142,9 @@ abbrev mutual
   IsTypedForm forms w (assign_form n (at_step e (field_step f no_step)) (how.Reduce o) y) =
       IsInteger (typed w y) × IsInteger (element_field w n e f) × IsTyped forms w y × IsTyped forms w e
       × IsInteger (typed w e) × GoesThrough w n e × IsField w n f (element_field w n e f)
+  IsTypedForm forms w (call_form task args) = (forms.calls ≡ true) × IsCalled w.tree task
+      × ArePassed forms w (params_at w.tree w.scope (task_named w.tree task) args)
+      (param_types w.tree (task_named w.tree task)) args
   IsTypedForm forms w (fill_form r fields e) = IsTyped forms w e × (is_bound w.scope.names r ≡ true)
       × IsRegion (bound w r).static_type × AreFilled w r (typed w e) fields
   IsTypedForm forms w _ = ⊥
