@@ -1,8 +1,9 @@
 -- A call: its turn, its depth, the child that runs whole, and what it gives.
 use Rattle.std.proofs.Common.{◌≡◌, ℕ, zero, suc, ◌+◌, ◌^◌, ◌<◌, ◌≤◌, ℤ, pos, List, [], ◌∷◌, ◌++◌, ◌⊎◌, inl, inr, Bool, true, false, Option, Some, None, refl, sym, ap, ◌∙◌, subst, arith, length-append}
-use Rattle.std.specs.Prelude.{cond, get_or, length, map, nat_le, nat_lt, slice_get, take, ◌==◌}
+use Rattle.std.specs.Prelude.{cond, get_or, length, map, nat_le, nat_lt, option_map, slice_get, take, ◌==◌}
 use Rattle.std.proofs.lemmas.Bool.{cases_lt, eq-eqb, le-leb, le-ltb, lt-ltb}
 use Rattle.std.proofs.lemmas.List.{append-nil, get_or_default, length-map}
+use Rattle.std.proofs.lemmas.Option.{slice_get-map}
 use Rattle.std.proofs.Math.Seq.{get_or-append_seam}
 use Rattle.region_tree.specs.declared.tree.RootId.{RootId}
 use Rattle.region_tree.specs.Requirements.{is_within}
@@ -11,7 +12,7 @@ use Rattle.regent_tree.specs.Laws.{SameRoots}
 use Rattle.regent_tree.specs.Running.{State, Here, Called, and_then, pay_from}
 use Rattle.regent_tree.specs.Store.{Store, no_root}
 use Rattle.regent_tree.specs.StaticTypes.{task_named}
-use Rattle.regent_tree.specs.Syntax.{Name}
+use Rattle.regent_tree.specs.Syntax.{Name, Tree}
 use Rattle.regent_tree.specs.Typing.{param_types}
 use Rattle.regent_tree.specs.Values.{Value, kept_number}
 use Rattle.regent_tree.specs.declared.outcome.FaultKind.TheVariants.{Depth, Turns}
@@ -36,9 +37,9 @@ use Rattle.machine_terms.specs.Machine.{Machine, broken, faults, on_turn, stops,
 use Rattle.machine_terms.specs.Opening.{opening, requirements_on}
 use Rattle.machine_terms.specs.Orders.{after_call, begun, breaks, call_task as calls_task, call_within, give_all, on_resumed, result_of}
 use Rattle.machine_terms.specs.Segments.{act}
-use Rattle.code_rules.specs.Instructions.{place_of_task}
+use Rattle.code_rules.specs.Instructions.{place_of_task, tasks_of}
 use Rattle.code_rules.specs.Pieces.{op}
-use Rattle.code_rules.specs.Programs.{task_code}
+use Rattle.code_rules.specs.Programs.{code_of, task_code}
 use Rattle.memory_laws.specs.Memory.{Holds, StandFor, memory_of}
 use Rattle.memory_laws.specs.Closing.{AreOwn}
 use Rattle.memory_laws.specs.Places.{number_at, numbers}
@@ -72,6 +73,21 @@ scalar_values c d (t ∷ ts) (v ∷ vs) a =
     ∙ ap (λ ms. machine_value d v ∷ ms) (scalar_values c d ts vs a.1)
 scalar_values c d [] (v ∷ vs) a = absurd a
 scalar_values c d (t ∷ ts) [] a = absurd a
+
+-- the code of a task stands at its place
+pub code_there : (tree : Tree) (task : Name) → slice_get (tasks_of tree) (place_of_task tree task) ≡ Some (task_named tree task) →
+    slice_get (code_of tree).tasks (place_of_task tree task) ≡ Some (task_code tree (task_named tree task))
+code_there tree task e =
+    slice_get-map (task_code tree) (tasks_of tree) (place_of_task tree task) ∙ ap (option_map (task_code tree)) e
+
+-- a task has enough slots for its arguments
+pub room_for : (h : Here) (task : Name) (vs : List Value) → Takes h.tree task vs →
+    (length vs ≡ (task_code h.tree (task_named h.tree task)).params) × (length vs ≤ (task_code h.tree (task_named h.tree task)).slots)
+room_for h task vs takes =
+    let t = task_named h.tree task in
+    let long : length vs ≡ length t.params = taken_length (λ t v. IsScalar t × IsOf t v) (param_types h.tree t) vs takes.taken
+    ∙ types_length (scope_of h.tree t).names ∙ params_length h.tree t.params 0 t.params in
+    (long, omega (arith, long, least_slots (length t.params) (task_code h.tree t).body))
 
 module _ (x : Setting) (params slots : ℕ) (fit : SlotsFit x slots) (aside : Aside) where
   -- the value of a child is among the results
@@ -159,6 +175,7 @@ module _ (x : Setting) (params slots : ℕ) (fit : SlotsFit x slots) (aside : As
           children = omega (arith, g.calls.children, length-append i.results (z ∷ []));
           depth = g.calls.depth;
         };
+        result_is = g.result_is;
         answers = g.answers;
         spaces = g.spaces;
         memory = holds;
@@ -197,15 +214,6 @@ module _ (x : Setting) (params slots : ℕ) (fit : SlotsFit x slots) (aside : As
       subst (λ u. Ends x j0 (Broke (Some f) (u ++ text))) g.text
       ((by (resumes.IsOver (Broke (Some f) (i.text ++ text))) refl).1 _ refl)
 
-  -- a task has enough slots for its arguments
-  room_for : (h : Here) (task : Name) (vs : List Value) → Takes h.tree task vs →
-      (length vs ≡ (task_code h.tree (task_named h.tree task)).params) × (length vs ≤ (task_code h.tree (task_named h.tree task)).slots)
-  room_for h task vs takes =
-      let t = task_named h.tree task in
-      let long : length vs ≡ length t.params = taken_length (λ t v. IsScalar t × IsOf t v) (param_types h.tree t) vs takes.taken
-      ∙ types_length (scope_of h.tree t).names ∙ params_length h.tree t.params 0 t.params in
-      (long, omega (arith, long, least_slots (length t.params) (task_code h.tree t).body))
-
   pub calls_run : (h : Here) (task : Name) (vs : List Value) (s : State) (pc : ℕ) (st : List MachineValue)
       (i : Instance) → Answering x h.tree h.calls → Takes h.tree task vs → suc pc < 2 ^ 32 → Agrees x params slots aside h s i →
       Stands x.body pc (op (instr.Call (place_of_task h.tree task) (length vs)) h.line) →
@@ -217,7 +225,7 @@ module _ (x : Setting) (params slots : ℕ) (fit : SlotsFit x slots) (aside : As
       code = task_code h.tree (task_named h.tree task)
 
       there : slice_get x.code.tasks (place_of_task h.tree task) ≡ Some (task_code h.tree (task_named h.tree task))
-      there = ap (λ c. slice_get c.tasks (place_of_task h.tree task)) ok.code_is ∙ takes.there
+      there = ap (λ c. slice_get c.tasks (place_of_task h.tree task)) ok.code_is ∙ code_there h.tree task takes.there
 
       by_turns : (n : ℕ) → s.turns ≡ n →
           Comes x (placed pc (pushed_all no_contents vs st) i) (pending i.frame.children (suc pc) st) (HasResult i.frame.children h task)

@@ -25,6 +25,7 @@ pub mod Folds
 pub mod Variables
 pub mod Statements
 pub mod Segments
+pub mod Tasks
 pub mod Top
 pub mod Typing
 pub mod TypedStatements
@@ -32,3 +33,4 @@ pub mod TypedBlocks
 pub mod ScalarRuns
 pub mod Example
 pub mod RegionExample
+pub mod CallExample

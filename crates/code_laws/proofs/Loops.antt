@@ -115,7 +115,7 @@ module _ (x : Setting) (params slots : ℕ) (fit : SlotsFit x slots) (counts : C
       Does x params slots aside2 i pc2 h3 (and_then (leaving n r) (λ g. going_on rest g))
   then_round aside aside2 pc pc2 n h2 h3 i (gives goes_on s) rest d more =
       does_before x params slots fit counts aside2 pc2 h3 i _ (rest (record s { names = take n s.names })) d.1 (more s d.0 d.2)
-  then_round aside aside2 pc pc2 n h2 h3 i (gives (returned v) s) rest d more = (d.0, d.1, d.2, d.3, d.4, d.5, d.6)
+  then_round aside aside2 pc pc2 n h2 h3 i (gives (returned v) s) rest d more = (d.0, d.1, d.2, d.3, d.4, d.5, d.6, d.7)
   then_round aside aside2 pc pc2 n h2 h3 i (fails f s) rest d more = d
 
   -- the instance after a loop's head

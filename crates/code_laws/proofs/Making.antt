@@ -146,6 +146,7 @@ module _ (x : Setting) (params slots : ℕ) (aside : Aside) where
         text = g.text;
         ready = g.ready;
         calls = record { few = g.calls.few; children = g.calls.children; depth = g.calls.depth };
+        result_is = g.result_is;
         answers = g.answers;
         spaces = g.spaces;
         memory = made_holds x.code s.store i size sp g.memory;

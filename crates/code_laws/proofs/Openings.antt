@@ -248,6 +248,7 @@ module _ (tree : Tree) (turns more depth : ℕ) (t : TaskTree) (place : ℕ) (vs
         text = refl;
         ready = ready_append ms blanks (ready_values c vs) (ready_blanks (code.slots - length ms));
         calls = record { few = omega arith; children = refl; depth = refl };
+        result_is = refl;
         answers = answers;
         spaces = refl;
         memory = holds;

@@ -96,6 +96,7 @@ module _ (x : Setting) (params slots : ℕ) (fit : SlotsFit x slots) (aside : As
           text = ap (λ t. t ++ text) g.text;
           ready = g.ready;
           calls = g.calls;
+          result_is = g.result_is;
           answers = g.answers;
           spaces = g.spaces;
           memory = g.memory;

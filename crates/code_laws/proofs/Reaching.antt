@@ -104,6 +104,7 @@ rewritten x params slots aside h s i ps ts store same g holds = record {
   text = g.text;
   ready = g.ready;
   calls = g.calls;
+  result_is = g.result_is;
   answers = g.answers;
   spaces = g.spaces;
   memory = holds;

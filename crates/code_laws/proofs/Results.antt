@@ -71,6 +71,7 @@ module _ (x : Setting) (params slots : ℕ) (fit : SlotsFit x slots) (aside : As
         text = g.text;
         ready = ready_set xs k v quiet g.ready;
         calls = g.calls;
+        result_is = g.result_is;
         answers = g.answers;
         spaces = g.spaces;
         memory = g.memory;

@@ -112,8 +112,9 @@ same_scope x params slots aside h h2 s i e g = record {
   text = g.text;
   ready = g.ready;
   calls = g.calls;
-  answers = λ c. subst (λ (p : Tree × Calls). Answering x p.0 p.1) (sym e.1) (g.answers c);
-  spaces = g.spaces ∙ ap (λ (p : Tree × Calls). map space_code (spaces_of p.0)) (sym e.1);
+  result_is = sym (ap (λ (p : Tree × Calls × StaticType). p.2) (sym e.1)) ∙ g.result_is;
+  answers = λ c. subst (λ (p : Tree × Calls × StaticType). Answering x p.0 p.1) (sym e.1) (g.answers c);
+  spaces = g.spaces ∙ ap (λ (p : Tree × Calls × StaticType). map space_code (spaces_of p.0)) (sym e.1);
   memory = g.memory;
   framed = g.framed;
 }
@@ -124,7 +125,7 @@ module _ (x : Setting) (params slots : ℕ) (fit : SlotsFit x slots) (counts : C
   pub does_before : (aside : Aside) (pc : ℕ) (h : Here) (i j : Instance) (r : Result Going) → Leads x i j →
       Does x params slots aside j pc h r → Does x params slots aside i pc h r
   does_before aside pc h i j (gives goes_on s) l d = (d.0, leads_twice x l d.1, d.2)
-  does_before aside pc h i j (gives (returned v) s) l d = (d.0, d.1, leads_end x l d.2, d.3, d.4, d.5, d.6)
+  does_before aside pc h i j (gives (returned v) s) l d = (d.0, d.1, leads_end x l d.2, d.3, d.4, d.5, d.6, d.7)
   does_before aside pc h i j (fails f s) l d = leads_end x l d
 
   pub does_said : (aside : Aside) (pc : ℕ) (h : Here) → Said x (λ i r. Does x params slots aside i pc h r)
@@ -168,7 +169,7 @@ module _ (x : Setting) (params slots : ℕ) (fit : SlotsFit x slots) (counts : C
       Does x params slots aside i pc h2 r → Does x params slots aside i pc h (leaving n r)
   does_cut aside pc n h h2 i (gives goes_on s) w tree e up d =
       (d.0, d.1, cut x params slots fit aside h h2 n s d.0 w tree e up d.2)
-  does_cut aside pc n h h2 i (gives (returned v) s) w tree e up d = (d.0, d.1, d.2, d.3, d.4, d.5, d.6)
+  does_cut aside pc n h h2 i (gives (returned v) s) w tree e up d = (d.0, d.1, d.2, d.3, d.4, d.5, d.6, d.7)
   does_cut aside pc n h h2 i (fails f s) w tree e up d = d
 
   -- ---- jumps
@@ -223,6 +224,7 @@ module _ (x : Setting) (params slots : ℕ) (fit : SlotsFit x slots) (counts : C
     text = g.text;
     ready = g.ready;
     calls = record { few = omega (arith, g.calls.few, g.turns, l); children = g.calls.children; depth = g.calls.depth };
+    result_is = g.result_is;
     answers = g.answers;
     spaces = g.spaces;
     memory = g.memory;
@@ -244,6 +246,7 @@ module _ (x : Setting) (params slots : ℕ) (fit : SlotsFit x slots) (counts : C
     text = g.text;
     ready = g.ready;
     calls = g.calls;
+    result_is = g.result_is;
     answers = g.answers;
     spaces = g.spaces;
     memory = g.memory;
@@ -306,10 +309,10 @@ module _ (x : Setting) (params slots : ℕ) (fit : SlotsFit x slots) (counts : C
       (ap (λ t. IsOver (Broke (Some (record { kind = AssertFailed; line = h.line })) t)) g.text)
 
   pub returns : (aside : Aside) (h : Here) (u : StaticType) (v : Value) (s : State) (pc pc2 : ℕ) (i : Instance) →
-      IsScalar u → IsOf u v → Agrees x params slots aside h s i →
+      IsScalar u → u ≡ x.result → IsOf u v → Agrees x params slots aside h s i →
       Stands x.body pc (op instr.ReturnValue h.line) →
       Does x params slots aside (valued pc [] v i) pc2 h (gives (returned v) s)
-  returns aside h _ _ s pc pc2 i (scalar_integer w) (of_integer _ z _) g f = (
+  returns aside h _ _ s pc pc2 i (scalar_integer w) e (of_integer _ z p) g f = (
     Some z,
     valued pc [] (a_number w z) i,
     ends_by x _ _ instr.ReturnValue h.line f refl,
@@ -317,8 +320,9 @@ module _ (x : Setting) (params slots : ℕ) (fit : SlotsFit x slots) (counts : C
     g.text,
     g.memory,
     g.framed,
+    λ c q. subst (λ t. IsOf t (a_number w z)) e (of_integer w z p),
   )
-  returns aside h _ _ s pc pc2 i scalar_truth (of_truth b) g f = (
+  returns aside h _ _ s pc pc2 i scalar_truth e (of_truth b) g f = (
     Some (kept_truth b),
     valued pc [] (a_truth b) i,
     ends_by x _ _ instr.ReturnValue h.line f refl,
@@ -326,6 +330,7 @@ module _ (x : Setting) (params slots : ℕ) (fit : SlotsFit x slots) (counts : C
     g.text,
     g.memory,
     g.framed,
+    λ c q. subst (λ t. IsOf t (a_truth b)) e (of_truth b),
   )
 
   -- ---- blocks and loops

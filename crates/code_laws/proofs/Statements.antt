@@ -32,6 +32,7 @@ use Rattle.code_rules.specs.Statements.{form_code, arms_code, else_code, block_c
 use Rattle.code_rules.specs.Assignments.{right_code}
 use Rattle.code_laws.specs.Steps.{Setting, placed}
 use Rattle.code_laws.specs.Standing.{Stands, machine_value, IsInside, IsOf, blank, Aside, where_of, Agrees, SlotsFit, Does}
+use Rattle.code_laws.specs.Simple.{IsScalar}
 use Rattle.code_laws.specs.Typed.{CountsDown, element_field, AreTypedArms, IsTypedBlock, IsTypedElse, IsTypedForm}
 use Rattle.code_laws.proofs.Runs.{leads_by, leads_none, leads_twice, ends_by, then, comes_said}
 use Rattle.code_laws.proofs.Values.{past_later, scalar_simple, simple_inside}
@@ -134,6 +135,7 @@ module _ (x : Setting) (params slots : ℕ) (fit : SlotsFit x slots) (counts : C
       g.text,
       g.memory,
       g.framed,
+      λ c q. absurd (fine c (subst IsScalar (sym g.result_is) q)),
     )
     form_runs aside h (return_form (Some e)) s pc i low fine g f =
         let t = typed (where_of params h) e in
@@ -143,7 +145,7 @@ module _ (x : Setting) (params slots : ℕ) (fit : SlotsFit x slots) (counts : C
         (λ v s1 j k. then x (does_said x params slots fit counts aside _ h) _ (Good x params slots fit aside h h.result) _ (converted h t h.result [] v s1) _
         (converted_runs x params slots fit aside h t h.result [] v s1 _ [] j fine.0 k.0 k.1 f.1.0)
         (λ u s2 j2 k2. returns x params slots fit counts aside h h.result u s2 _ done j2
-        (alike_right x params slots fit aside t h.result fine.0) k2.0 k2.1 f.1.1))
+        (alike_right x params slots fit aside t h.result fine.0) k2.1.result_is k2.0 k2.1 f.1.1))
     form_runs aside h (do_form body) s pc i low fine g f =
         does_as x params slots fit counts aside _ h (after_statement h (do_form body)) _ _ (refl, refl)
         (scoped_by x params slots fit counts aside h body s _ _ i g (block_runs aside h body s pc i low fine g f))

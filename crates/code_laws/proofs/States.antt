@@ -120,6 +120,7 @@ module _ (x : Setting) (params slots : ℕ) (fit : SlotsFit x slots) where
         text = g.text;
         ready = ready_set xs (slot w k) m (ready_value i.contents v) g.ready;
         calls = g.calls;
+        result_is = g.result_is;
         answers = g.answers;
         spaces = g.spaces;
         memory = g.memory;
@@ -172,6 +173,7 @@ module _ (x : Setting) (params slots : ℕ) (fit : SlotsFit x slots) where
         text = g.text;
         ready = ready_set xs (slot w k) m (ready_value i.contents v) g.ready;
         calls = g.calls;
+        result_is = g.result_is;
         answers = g.answers;
         spaces = g.spaces;
         memory = g.memory;
@@ -205,8 +207,9 @@ module _ (x : Setting) (params slots : ℕ) (fit : SlotsFit x slots) where
         text = g.text;
         ready = g.ready;
         calls = g.calls;
-        answers = λ c. subst (λ (p : Tree × Calls). Answering x p.0 p.1) tree (g.answers c);
-        spaces = g.spaces ∙ ap (λ (p : Tree × Calls). map space_code (spaces_of p.0)) tree;
+        result_is = sym (ap (λ (p : Tree × Calls × StaticType). p.2) tree) ∙ g.result_is;
+        answers = λ c. subst (λ (p : Tree × Calls × StaticType). Answering x p.0 p.1) tree (g.answers c);
+        spaces = g.spaces ∙ ap (λ (p : Tree × Calls × StaticType). map space_code (spaces_of p.0)) tree;
         memory = g.memory;
         framed = g.framed;
       }
@@ -236,6 +239,7 @@ module _ (x : Setting) (params slots : ℕ) (fit : SlotsFit x slots) where
         text = g.text;
         ready = ready_set xs (slot w k + d) v quiet g.ready;
         calls = g.calls;
+        result_is = g.result_is;
         answers = g.answers;
         spaces = g.spaces;
         memory = g.memory;
@@ -259,6 +263,7 @@ module _ (x : Setting) (params slots : ℕ) (fit : SlotsFit x slots) where
     text = g.text;
     ready = g.ready;
     calls = g.calls;
+    result_is = g.result_is;
     answers = g.answers;
     spaces = g.spaces;
     memory = g.memory;
@@ -302,8 +307,9 @@ module _ (x : Setting) (params slots : ℕ) (fit : SlotsFit x slots) where
         text = g.text;
         ready = g.ready;
         calls = g.calls;
-        answers = λ c. subst (λ (p : Tree × Calls). Answering x p.0 p.1) tree (g.answers c);
-        spaces = g.spaces ∙ ap (λ (p : Tree × Calls). map space_code (spaces_of p.0)) tree;
+        result_is = sym (ap (λ (p : Tree × Calls × StaticType). p.2) tree) ∙ g.result_is;
+        answers = λ c. subst (λ (p : Tree × Calls × StaticType). Answering x p.0 p.1) tree (g.answers c);
+        spaces = g.spaces ∙ ap (λ (p : Tree × Calls × StaticType). map space_code (spaces_of p.0)) tree;
         memory = g.memory;
         framed = g.framed;
       }

@@ -34,8 +34,9 @@ use Rattle.regent_tree.specs.Store.{Store}
 use Rattle.regent_tree.specs.declared.outcome.Ending.{Ending}
 use Rattle.regent_tree.specs.declared.outcome.RootImage.{RootImage}
 use Rattle.machine_terms.specs.declared.order.Instance.{Instance}
+use Rattle.code_laws.proofs.Tasks.{answering}
 use Rattle.code_laws.proofs.Values.{not_true, number_inside}
-use Rattle.code_laws.specs.Programs.{IsTypedRun, LeavesNoRoots, RegionsRunAsMeant, RunsAsMeant, ScalarsRunAsMeant, entry_setting, job_of, region_forms, scalar_forms}
+use Rattle.code_laws.specs.Programs.{CallsRunAsMeant, call_forms, IsTypedRun, LeavesNoRoots, RegionsRunAsMeant, RunsAsMeant, ScalarsRunAsMeant, entry_setting, job_of, region_forms, scalar_forms}
 use Rattle.code_laws.specs.Standing.{Answering, AreTaken, Does, IsFramed, IsInside, IsOf, Stands, machine_value}
 use Rattle.code_laws.specs.Steps.{Ends, Forms, Setting, placed}
 use Rattle.code_laws.proofs.Counts.{counts_down}
@@ -158,6 +159,11 @@ scalars_run_as_meant tree inputs turns p = (typed_run_ends scalar_forms tree inp
 
 pub regions_run_as_meant : RegionsRunAsMeant
 regions_run_as_meant tree inputs turns p = (typed_run_ends region_forms tree inputs turns (λ e. absurd (not_true e)) p).0
+
+-- by what calls are answered
+pub calls_run_as_meant : CallsRunAsMeant
+calls_run_as_meant tree inputs turns few are p =
+    (typed_run_ends call_forms tree inputs turns (λ e. answering tree turns few are 63 1 [] (task_named tree (entry_name tree)) refl) p).0
 
 pub scalars_leave_no_roots : (tree : Tree) (inputs : List ℤ) (turns : ℕ) → IsTypedRun scalar_forms tree inputs →
     LeavesNoRoots (meaning tree inputs turns).ending

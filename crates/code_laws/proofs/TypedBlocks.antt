@@ -1,6 +1,6 @@
 -- Bodies over scalars of which no breach is told are typed.
 use Rattle.code_laws.specs.Programs.{scalar_forms}
-use Rattle.code_laws.proofs.Values.{scalar_simple}
+use Rattle.code_laws.proofs.Values.{not_true, scalar_simple}
 use Rattle.regent_tree.specs.declared.statement.How.TheVariants as how
 use Rattle.check_rules.specs.declared.rule.Rule.TheVariants as rule
 use Rattle.check_laws.proofs.Parts.{unless_false}
@@ -149,7 +149,7 @@ module _ (tree : Tree) (task : TaskTree) (sound : IsSound tree) (params : ℕ) (
 
   return_typed : (s : Scope) (line : ℕ) (y : Option Expression) → is_scalar_value y ≡ true → AreKept (parts_of_value y) → IsSoundScope s →
       AllScalar s.names → first_of_form tree task s (return_form y) ≡ None → IsTypedForm scalar_forms (at s line) (return_form y)
-  return_typed s line None sc k scope names e = tt
+  return_typed s line None sc k scope names e = λ c. absurd (not_true c)
   return_typed s line (Some y) sc k scope names e =
       let form = return_form (Some y) in
       let parts = told_of_form tree task s sound scope form e in

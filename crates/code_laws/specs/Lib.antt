@@ -6,3 +6,4 @@ pub mod Programs
 pub mod ScalarPrograms
 pub mod Example
 pub mod RegionExample
+pub mod CallExample

@@ -1,5 +1,5 @@
 -- Programs whose entry task treats scalars alone, and what is to be shown of them.
-use Rattle.std.specs.Prelude.{◌≡◌, false, true, ℕ, ◌^◌, ◌≤◌, ℤ, List, [], ◌∷◌, length, Some, slice_get}
+use Rattle.std.specs.Prelude.{◌≡◌, false, true, ℕ, ◌^◌, ◌<◌, ◌≤◌, ℤ, List, [], ◌∷◌, length, Some, slice_get}
 use Rattle.regent_tree.specs.Meaning.{inputs_of, meaning}
 use Rattle.regent_tree.specs.StaticTypes.{entry_name, task_named}
 use Rattle.regent_tree.specs.Syntax.{TaskTree, Tree}
@@ -11,9 +11,11 @@ use Rattle.regent_tree.specs.declared.typing.StaticType.{StaticType}
 use Rattle.task_code.specs.declared.job.Job.{Job}
 use Rattle.machine_terms.specs.Jobs.{order_run}
 use Rattle.machine_terms.specs.Orders.{runs}
-use Rattle.code_rules.specs.Instructions.{place_of_task}
+use Rattle.code_rules.specs.Instructions.{place_of_task, tasks_of}
 use Rattle.code_rules.specs.Pieces.{lines}
 use Rattle.code_rules.specs.Programs.{body_piece, code_of, place_of, task_code}
+use Rattle.code_laws.specs.Simple.{IsScalar}
+use Rattle.regent_tree.specs.declared.typing.StaticType.TheVariants.{Nothing as no_type}
 use Rattle.code_laws.specs.Typed.{IsTypedBlock}
 use Rattle.code_laws.specs.Standing.{AreTaken, IsOf}
 use Rattle.code_laws.specs.Steps.{Forms, Setting}
@@ -28,6 +30,9 @@ scalar_forms = record { makes = false; calls = false }
 
 abbrev pub region_forms : Forms
 region_forms = record { makes = true; calls = false }
+
+abbrev pub call_forms : Forms
+call_forms = record { makes = true; calls = true }
 
 -- a task at a depth, where so many more calls may nest, and these roots are there
 abbrev pub task_setting : Forms → Tree → ℕ → ℕ → ℕ → List ℕ → TaskTree → Setting
@@ -69,6 +74,25 @@ ScalarsRunAsMeant = (tree : Tree) (inputs : List ℤ) (turns : ℕ) → IsTypedR
 -- have names.
 abbrev pub RegionsRunAsMeant : Type 0
 RegionsRunAsMeant = (tree : Tree) (inputs : List ℤ) (turns : ℕ) → IsTypedRun region_forms tree inputs → RunsAsMeant tree inputs turns
+
+-- a result of numbers or truths, or none
+pub data IsGiven : StaticType → Type 0 where
+  gives_scalar : (t : StaticType) → IsScalar t → IsGiven t
+  gives_nothing : IsGiven no_type
+
+-- Each task of the program gives such a result, is typed and not too long.
+pub record IsTypedTask (tree : Tree) (t : TaskTree) : Type 0 where
+  pub given : IsGiven (result_type tree t.result)
+  pub typed : IsTypedBlock call_forms (place_of tree t) t.body
+  pub small : length (lines (body_piece tree t) 0) ≤ 2 ^ 32
+
+abbrev pub AreTypedTasks : Tree → Type 0
+AreTypedTasks tree = (k : ℕ) (t : TaskTree) → slice_get (tasks_of tree) k ≡ Some t → IsTypedTask tree t
+
+-- Also where tasks call others that take and give numbers and truths: each may make roots of its own.
+abbrev pub CallsRunAsMeant : Type 0
+CallsRunAsMeant = (tree : Tree) (inputs : List ℤ) (turns : ℕ) → turns < 2 ^ 64 → AreTypedTasks tree →
+    IsTypedRun call_forms tree inputs → RunsAsMeant tree inputs turns
 
 -- a run ends without roots, or with a fault
 abbrev pub LeavesNoRoots : Ending → Type 0

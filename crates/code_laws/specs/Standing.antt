@@ -30,7 +30,7 @@ use Rattle.machine_terms.specs.Jumps.{fetch}
 use Rattle.machine_terms.specs.Makes.{region_with}
 use Rattle.machine_terms.specs.Orders.{begun, result_of}
 use Rattle.code_laws.specs.Simple.{IsScalar}
-use Rattle.code_rules.specs.Instructions.{place_of_task}
+use Rattle.code_rules.specs.Instructions.{place_of_task, tasks_of}
 use Rattle.machine_terms.specs.Opening.{opening}
 use Rattle.regent_tree.specs.Laws.{SameRoots}
 use Rattle.regent_tree.specs.Syntax.{Name, Tree}
@@ -144,9 +144,9 @@ where_of params h = record {
   line = h.line;
 }
 
--- the program, and what calls in it give
-abbrev pub program_of : Here → Tree × Calls
-program_of h = (h.tree, h.calls)
+-- the program, what calls in it give, and the result's type
+abbrev pub program_of : Here → Tree × Calls × StaticType
+program_of h = (h.tree, h.calls, h.result)
 
 -- the slots when the round of the innermost loop began, how many names were in scope there, and a
 -- bound of the turns that were left
@@ -170,7 +170,7 @@ pub record IsFramed (x : Setting) (store : Store) (own : List RootId) (m : Memor
 
 -- a task of the program that needs nothing, and numbers and truths that it takes
 pub record Takes (tree : Tree) (task : Name) (vs : List Value) : Type 0 where
-  pub there : slice_get (code_of tree).tasks (place_of_task tree task) ≡ Some (task_code tree (task_named tree task))
+  pub there : slice_get (tasks_of tree) (place_of_task tree task) ≡ Some (task_named tree task)
   pub needs : (task_code tree (task_named tree task)).needs ≡ []
   pub taken : AreTaken (λ t v. IsScalar t × IsOf t v) (param_types tree (task_named tree task)) vs
 
@@ -240,6 +240,7 @@ pub record Agrees (x : Setting) (params slots : ℕ) (o : Aside) (h : Here) (s :
   pub text : i.text ≡ s.text
   pub ready : AreReady i.frame.slots
   pub calls : MayCall x (unplaced i.frame) i.results
+  pub result_is : h.result ≡ x.result
   pub answers : x.forms.calls ≡ true → Answering x h.tree h.calls
   pub spaces : x.code.spaces ≡ map space_code (spaces_of h.tree)
   pub memory : Holds x.code s.store (memory_of i)
@@ -269,4 +270,5 @@ Does x params slots o i pc h (gives (returned v) s) =
     (result : Option ℤ) × (j : Instance) × Ends x i (back result j)
     × (result_of result ≡ kept_number v) × (j.text ≡ s.text) × Holds x.code s.store (memory_of j)
     × IsFramed x s.store j.frame.own (memory_of j)
+    × (x.forms.calls ≡ true → IsScalar x.result → IsOf x.result v)
 Does x params slots o i pc h (fails f s) = Ends x i (Broke (Some f) s.text)

@@ -23,8 +23,8 @@ use Rattle.regent_tree.specs.Numbers.{distance}
 use Rattle.regent_tree.specs.Syntax.{a_statement, Form, var_form, if_form, while_form, for_to_form, do_form, assert_form, print_form, assign_form, return_form, Block, no_statement, then_statement, Arms, no_arm, an_arm, Otherwise, no_else, else_block, plain_initializer, region_initializer, Name, Tree, fill_form, call_form, call_expr, Expression, number_expr, truth_expr, chain_expr, prefix_expr, access_expr, convert_expr, Expressions, no_expr, an_expr, Links, no_link, a_link, no_step, field_step, at_step, space_expr}
 use Rattle.regent_tree.specs.Typing.{arithmetic_type, operated, param_types, params_at, result_type, type_of_element, type_of_field, var_type}
 use Rattle.code_laws.specs.Simple.{IsInteger, IsTruth, IsScalar, IsSimple, IsSpace, IsRegion, AreAlike, SignsFit, FieldFits, IsIntegerTerm}
-use Rattle.code_rules.specs.Instructions.{place_of_task}
-use Rattle.code_rules.specs.Programs.{code_of, task_code}
+use Rattle.code_rules.specs.Instructions.{place_of_task, tasks_of}
+use Rattle.code_rules.specs.Programs.{task_code}
 use Rattle.code_laws.specs.Steps.{Forms}
 use Rattle.code_rules.specs.Slots.{Where, typed, bound, slot_named, slots_of}
 use Rattle.code_rules.specs.Expressions.{count}
@@ -54,7 +54,7 @@ element_field w n e f = type_of_field w.tree (type_of_element w.scope (bound w n
 -- a task of the program that needs nothing
 abbrev pub IsCalled : Tree → Name → Type 0
 IsCalled tree task =
-    (slice_get (code_of tree).tasks (place_of_task tree task) ≡ Some (task_code tree (task_named tree task)))
+    (slice_get (tasks_of tree) (place_of_task tree task) ≡ Some (task_named tree task))
     × ((task_code tree (task_named tree task)).needs ≡ [])
 
 abbrev mutual
@@ -127,7 +127,7 @@ abbrev mutual
   IsTypedForm forms w (assert_form e) = IsTruth (typed w e) × IsTyped forms w e
   IsTypedForm forms w (print_form alias format args) =
       AreNumbers forms w args × (numbers_in format ≡ Some (count args))
-  IsTypedForm forms w (return_form None) = Unit {0}
+  IsTypedForm forms w (return_form None) = forms.calls ≡ true → IsScalar w.result → ⊥
   IsTypedForm forms w (return_form (Some e)) = AreAlike (typed w e) w.result × IsTyped forms w e
   IsTypedForm forms w (for_to_form demanded n from to body) =
       IsInteger (typed w from) × IsInteger (typed w to) × IsTyped forms w from × IsTyped forms w to
