@@ -18,7 +18,7 @@ use Rattle.regent_tree.specs.StaticTypes.{field_kind, field_place, space_at}
 use Rattle.regent_tree.specs.Store.{read_at}
 use Rattle.regent_tree.specs.Syntax.{Name, Expression, no_step, field_step, at_step}
 use Rattle.regent_tree.specs.Typing.{type_of_element}
-use Rattle.regent_tree.specs.Values.{Value, a_pointer, a_region, Region, point_target, target_kept, kept_target, meant, number_of}
+use Rattle.regent_tree.specs.Values.{Value, a_number, a_pointer, a_region, Region, point_target, target_kept, kept_target, meant, number_of}
 use Rattle.task_code.specs.declared.instr.Instr.TheVariants as instr
 use Rattle.machine_terms.specs.declared.order.Contents.{Contents}
 use Rattle.machine_terms.specs.declared.order.Ended.TheVariants.{Broke}
@@ -38,8 +38,8 @@ use Rattle.code_rules.specs.Slots.{own_slot, slot, slots_of, typed}
 use Rattle.memory_laws.specs.Memory.{IsKept}
 use Rattle.memory_laws.specs.Places.{number_at}
 use Rattle.code_laws.specs.Steps.{Setting, machine_of, placed, on_step, Leads}
-use Rattle.code_laws.specs.Standing.{Stands, machine_value, IsInside, IsOf, LiesIn, of_integer, of_truth, of_region, nothing, blank, Aside, SlotsFit, where_of, Agrees, Comes}
-use Rattle.code_laws.specs.Simple.{FieldFits, IsInteger, IsRegion, a_region_type, an_integer, fits_32, fits_64, fits_truth}
+use Rattle.code_laws.specs.Standing.{Stands, machine_value, IsInside, IsOf, LiesIn, of_index, of_integer, of_truth, of_region, nothing, blank, Aside, SlotsFit, where_of, Agrees, Comes}
+use Rattle.code_laws.specs.Simple.{FieldFits, IsInteger, IsNumber, an_integer, number_index, number_integer, IsRegion, a_region_type, fits_32, fits_64, fits_truth}
 use Rattle.code_laws.proofs.Good.{valued, Good, Gives}
 use Rattle.code_laws.proofs.Reaching.{Reached, reached, rewritten}
 use Rattle.code_laws.proofs.Runs.{leads_by, ends_by, comes_before}
@@ -117,11 +117,31 @@ module _ (x : Setting) (params slots : ℕ) (fit : SlotsFit x slots) (aside : As
         (meant_typed kind out _ y fits sound, rewritten x params slots aside h s i d.0 _ s.store refl g d.2),
       )
 
+  -- what is to be shown where the index was evaluated
+  abbrev ReadsElement : Here → ℕ → ℕ → Expression → Name → Region → StaticType → List MachineValue →
+      StaticType → StaticType → Value → State → Instance → Type 0
+  ReadsElement h d sl e f q out st t ty u s1 j =
+      HasRegion j sl q × LiesIn x s1.store (space_in t) q →
+      slots_of (where_of params h) sl (type_of_element h.scope t e) ≡ sl ∷ [] →
+      field_place h.tree (space_in t) f < length (space_at h.tree (space_in t)).fields →
+      FieldFits (field_kind h.tree (space_in t) (field_place h.tree (space_in t) f)) out →
+      Agrees x params slots aside h s1 j → (a : ℕ) →
+      Stands x.body a (standing_code (where_of params h) ty ⨟ element_code (where_of params h) t sl
+      ⨟ kept_code (where_of params h) d t (field_step f no_step)
+      ⨟ steps_code (where_of params h) (suc d) (type_of_element h.scope t e) (slot_after (where_of params h) d t sl) (field_step f no_step)) →
+      Comes x (valued a st u j)
+      (valued (past (standing_code (where_of params h) ty ⨟ element_code (where_of params h) t sl
+      ⨟ kept_code (where_of params h) d t (field_step f no_step)
+      ⨟ steps_code (where_of params h) (suc d) (type_of_element h.scope t e) (slot_after (where_of params h) d t sl) (field_step f no_step)) a) st)
+      (Good x params slots fit aside h out)
+      (and_then (standing h u s1) (λ z. λ s2. and_then (take_element h (number_of z) (a_region q) s2)
+      (λ v. stepped h (type_of_element h.scope t e) v (field_step f no_step))))
+
   -- `r[e].f`, where the index runs, and the region stands in a slot still
   pub element_reads : (h : Here) (d : ℕ) (t : StaticType) (sl : ℕ) (e : Expression) (f : Name) (q : Region)
       (out : StaticType) (s : State) (pc : ℕ) (st : List MachineValue) (i : Instance) → IsRegion t →
       Gives x params slots fit aside h (typed (where_of params h) e) (expr_code (where_of params h) d e) pc st st i (value h e s) →
-      IsInteger (typed (where_of params h) e) → Leaves SameNames s (value h e s) →
+      IsNumber (typed (where_of params h) e) → Leaves SameNames s (value h e s) →
       ((s1 : State) (j : Instance) → s1.names ≡ s.names → Agrees x params slots aside h s1 j →
       HasRegion j sl q × LiesIn x s1.store (space_in t) q) →
       slots_of (where_of params h) sl (type_of_element h.scope t e) ≡ sl ∷ [] →
@@ -135,27 +155,13 @@ module _ (x : Setting) (params slots : ℕ) (fit : SlotsFit x slots) (aside : As
       (λ u s1 j names k. by_index t region (typed (where_of params h) e) index u k.0 s1 j (there s1 j names k.1) one field fits k.1
       (past (expr_code (where_of params h) d e) pc) stands.1)
     where
-      by_index : (t : StaticType) → IsRegion t → (ty : StaticType) → IsInteger ty → (u : Value) → IsOf ty u →
-          (s1 : State) (j : Instance) → HasRegion j sl q × LiesIn x s1.store (space_in t) q →
-          slots_of (where_of params h) sl (type_of_element h.scope t e) ≡ sl ∷ [] →
-          field_place h.tree (space_in t) f < length (space_at h.tree (space_in t)).fields →
-          FieldFits (field_kind h.tree (space_in t) (field_place h.tree (space_in t) f)) out →
-          Agrees x params slots aside h s1 j → (a : ℕ) →
-          Stands x.body a (standing_code (where_of params h) ty ⨟ element_code (where_of params h) t sl
-          ⨟ kept_code (where_of params h) d t (field_step f no_step)
-          ⨟ steps_code (where_of params h) (suc d) (type_of_element h.scope t e) (slot_after (where_of params h) d t sl) (field_step f no_step)) →
-          Comes x (valued a st u j)
-          (valued (past (standing_code (where_of params h) ty ⨟ element_code (where_of params h) t sl
-          ⨟ kept_code (where_of params h) d t (field_step f no_step)
-          ⨟ steps_code (where_of params h) (suc d) (type_of_element h.scope t e) (slot_after (where_of params h) d t sl) (field_step f no_step)) a) st)
-          (Good x params slots fit aside h out)
-          (and_then (standing h u s1) (λ z. λ s2. and_then (take_element h (number_of z) (a_region q) s2)
-          (λ v. stepped h (type_of_element h.scope t e) v (field_step f no_step))))
-      by_index _ (a_region_type k sp args r) _ (an_integer w) _ (of_integer _ (negsuc n) _) s1 j there one field fits g a stands =
+      by_integer : (t : StaticType) → IsRegion t → (ty : StaticType) → IsInteger ty → (u : Value) → IsOf ty u →
+          (s1 : State) (j : Instance) → ReadsElement h d sl e f q out st t ty u s1 j
+      by_integer _ (a_region_type k sp args r) _ (an_integer w) _ (of_integer _ (negsuc n) _) s1 j there one field fits g a stands =
           ends_by x _ _ (instr.At sl) h.line stands.1.0
           (ap (λ o. on_step x (placed a (machine.Number (negsuc n) ∷ st) j) (element (region_in o) (negsuc n) h.line st (machine_of (placed a (machine.Number (negsuc n) ∷ st) j)))) there.0
           ∙ ap (λ t. IsOver (Broke (Some (record { kind = OutOfRegion; line = h.line })) t)) g.text)
-      by_index _ (a_region_type k sp args r) _ (an_integer w) _ (of_integer _ (pos n) _) s1 j there one field fits g a stands =
+      by_integer _ (a_region_type k sp args r) _ (an_integer w) _ (of_integer _ (pos n) _) s1 j there one field fits g a stands =
           by_has (has q.points n) refl
         where
           at_acts : (b : Bool) → has q.points n ≡ b →
@@ -192,6 +198,12 @@ module _ (x : Setting) (params slots : ℕ) (fit : SlotsFit x slots) (aside : As
               given_on (gives v s2) c = c
               given_on (fails f s2) c = c
 
+      by_index : (t : StaticType) → IsRegion t → (ty : StaticType) → IsNumber ty → (u : Value) → IsOf ty u →
+          (s1 : State) (j : Instance) → ReadsElement h d sl e f q out st t ty u s1 j
+      by_index t region _ (number_index k) _ (of_index _ z p) s1 j there one field fits g a stands =
+          by_integer t region _ (an_integer W64) (a_number W64 z) (of_integer W64 z p) s1 j there one field fits g a stands
+      by_index t region _ (number_integer w) u o s1 j there one field fits g a stands = by_integer t region _ (an_integer w) u o s1 j there one field fits g a stands
+
   -- the region that a name has, where its slot is there
   pub region_there : (h : Here) (s1 : State) (j : Instance) (p : ℕ) (q : Region) →
       get_or s1.names p nothing ≡ a_region q → p < length s1.names → slot (where_of params h) p < slots →
@@ -206,7 +218,7 @@ module _ (x : Setting) (params slots : ℕ) (fit : SlotsFit x slots) (aside : As
       get_or s.names p nothing ≡ v → p < length s.names →
       ((pc : ℕ) → Stands x.body pc (expr_code (where_of params h) d e) →
       Gives x params slots fit aside h (typed (where_of params h) e) (expr_code (where_of params h) d e) pc st st i (value h e s)) →
-      IsInteger (typed (where_of params h) e) → Leaves SameNames s (value h e s) →
+      IsNumber (typed (where_of params h) e) → Leaves SameNames s (value h e s) →
       slots_of (where_of params h) (slot (where_of params h) p) (type_of_element h.scope t e) ≡ slot (where_of params h) p ∷ [] →
       field_place h.tree (space_in t) f < length (space_at h.tree (space_in t)).fields →
       FieldFits (field_kind h.tree (space_in t) (field_place h.tree (space_in t) f)) out →

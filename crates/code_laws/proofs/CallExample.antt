@@ -13,7 +13,7 @@ use Rattle.code_rules.specs.Programs.{place_of}
 use Rattle.code_laws.specs.Typed.{IsTypedBlock}
 use Rattle.code_laws.specs.CallExample.{CallExampleHolds, calls_program}
 use Rattle.code_laws.specs.Programs.{AreTypedTasks, IsTypedRun, IsTypedTask, call_forms, gives_nothing, gives_scalar}
-use Rattle.code_laws.specs.Simple.{a_region_type, a_space_type, an_integer, fits_64, scalar_integer, simple_integer, two_integers}
+use Rattle.code_laws.specs.Simple.{number_integer, a_region_type, a_space_type, an_integer, fits_64, scalar_integer, simple_integer, two_integers}
 use Rattle.code_laws.specs.Standing.{of_integer}
 
 -- the entry task
@@ -28,7 +28,7 @@ main_typed = (
       two_integers _ _,
       (refl, scalar_integer _, (refl, refl), (two_integers _ _, refl, (refl, simple_integer _), tt)),
       omega (arith, ints),
-      an_integer _,
+      number_integer _,
       refl,
       record { named = refl; region = a_region_type _ _ _ _; field = omega arith; keeps = fits_64 },
     ),
@@ -44,12 +44,12 @@ main_typed = (
             (
               two_integers _ _,
               refl,
-              (omega (arith, ints), an_integer _, refl, record { named = refl; region = a_region_type _ _ _ _; field = omega arith; keeps = fits_64 }),
+              (omega (arith, ints), number_integer _, refl, record { named = refl; region = a_region_type _ _ _ _; field = omega arith; keeps = fits_64 }),
               tt,
             ),
           ),
           omega (arith, ints),
-          an_integer _,
+          number_integer _,
           refl,
           record { named = refl; region = a_region_type _ _ _ _; field = omega arith; keeps = fits_64 },
         ),
@@ -57,7 +57,7 @@ main_typed = (
           (
             (
               an_integer _,
-              (omega (arith, ints), an_integer _, refl, record { named = refl; region = a_region_type _ _ _ _; field = omega arith; keeps = fits_64 }),
+              (omega (arith, ints), number_integer _, refl, record { named = refl; region = a_region_type _ _ _ _; field = omega arith; keeps = fits_64 }),
               tt,
             ),
             refl,
@@ -79,14 +79,14 @@ tasks zero t e = subst (IsTypedTask calls_program) (same_Some _ t e) (record {
         two_integers _ _,
         ((refl, simple_integer _), (an_integer _, an_integer _, (refl, simple_integer _), tt)),
         omega (arith, ints),
-        an_integer _,
+        number_integer _,
         refl,
         record { named = refl; region = a_region_type _ _ _ _; field = omega arith; keeps = fits_64 },
       ),
       (
         (
           two_integers _ _,
-          (omega (arith, ints), an_integer _, refl, record { named = refl; region = a_region_type _ _ _ _; field = omega arith; keeps = fits_64 }),
+          (omega (arith, ints), number_integer _, refl, record { named = refl; region = a_region_type _ _ _ _; field = omega arith; keeps = fits_64 }),
         ),
         tt,
       ),

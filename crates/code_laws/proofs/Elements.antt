@@ -17,7 +17,7 @@ use Rattle.code_rules.specs.Pieces.{past}
 use Rattle.code_rules.specs.Slots.{typed}
 use Rattle.code_laws.specs.Steps.{Setting, placed}
 use Rattle.code_laws.specs.Standing.{Agrees, Aside, Comes, Does, IsInside, IsOf, SlotsFit, Stands, nothing, of_integer, where_of}
-use Rattle.code_laws.specs.Simple.{IsInteger, an_integer}
+use Rattle.code_laws.specs.Simple.{IsInteger, IsNumber, an_integer}
 use Rattle.code_laws.specs.Typed.{GoesThrough, IsField, IsTyped}
 use Rattle.code_laws.proofs.Expressions.{value_runs}
 use Rattle.code_laws.proofs.Good.{valued}
@@ -41,7 +41,7 @@ module _ (x : Setting) (params slots : ℕ) (fit : SlotsFit x slots) (aside : As
 
   -- `r[e].f = v`, with the value on the stack
   pub sets_element : (h : Here) (n : Name) (e : Expression) (f : Name) (out : StaticType) (v : Value) (s : State) (pc : ℕ)
-      (i : Instance) → params ≤ length h.scope.names → IsTyped x.forms (where_of params h) e → IsInteger (typed (where_of params h) e) →
+      (i : Instance) → params ≤ length h.scope.names → IsTyped x.forms (where_of params h) e → IsNumber (typed (where_of params h) e) →
       GoesThrough (where_of params h) n e → IsField (where_of params h) n f out → IsOf out v →
       Agrees x params slots aside h s i →
       Stands x.body pc (target_code (where_of params h) n (at_step e (field_step f no_step)) how.Set) →
@@ -64,7 +64,7 @@ module _ (x : Setting) (params slots : ℕ) (fit : SlotsFit x slots) (aside : As
   -- `r[e].f o= v`
   pub folds_element : (o : Op) (h : Here) (n : Name) (e : Expression) (f : Name) (out t : StaticType) (v : Value) (s : State)
       (pc : ℕ) (i : Instance) → params ≤ length h.scope.names → IsTyped x.forms (where_of params h) e →
-      IsInteger (typed (where_of params h) e) → GoesThrough (where_of params h) n e → IsField (where_of params h) n f out →
+      IsNumber (typed (where_of params h) e) → GoesThrough (where_of params h) n e → IsField (where_of params h) n f out →
       IsInteger out → IsInteger t → IsOf t v → Agrees x params slots aside h s i →
       Stands x.body pc (target_code (where_of params h) n (at_step e (field_step f no_step)) (how.Reduce o)) →
       Does x params slots aside (valued pc [] v i)

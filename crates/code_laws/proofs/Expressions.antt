@@ -4,7 +4,7 @@ use Rattle.code_laws.proofs.States.{stored}
 use Rattle.code_laws.proofs.Prints.{pushed_all}
 use Rattle.code_laws.proofs.Results.{results_run}
 use Rattle.code_laws.proofs.Calling.{HasResult, calls_run, pending, scalar_value}
-use Rattle.code_laws.proofs.Operations.{alike_left, alike_right, and_runs, compare_runs, compute_runs, converted_runs, fetch_small, integer_scalar, named_runs, operand_runs, or_runs, plain_signs, same_type, signs_run, signs_typed, space_runs, standing_runs, truth_of_type, wraps_run}
+use Rattle.code_laws.proofs.Operations.{standing_number, alike_left, alike_right, and_runs, compare_runs, compute_runs, converted_runs, fetch_small, integer_scalar, named_runs, operand_runs, or_runs, plain_signs, same_type, signs_run, signs_typed, space_runs, standing_runs, truth_of_type, wraps_run}
 use Rattle.code_laws.proofs.Accesses.{access_reads}
 use Rattle.regent_tree.proofs.Laws.{expressions_keep_names}
 use Rattle.std.proofs.Common.{◌≡◌, ℕ, suc, ◌<◌, ◌≤◌, List, [], ◌∷◌, false, refl, sym, ap, subst, arith}
@@ -84,7 +84,7 @@ module _ (x : Setting) (params slots : ℕ) (fit : SlotsFit x slots) (aside : As
         (Good x params slots fit aside h (typed w (convert_expr t e))) in
         then x said _ _ _ (value h e s) _ (value_runs h d low e s pc st i fine.0 g f.0)
         (λ v s1 j k. then x said _ _ _ (standing h v s1) _
-        (standing_runs x params slots fit aside h from v s1 _ st j (integer_scalar x params slots fit aside from fine.1) k.0 k.1)
+        (standing_number x params slots fit aside h from v s1 _ st j fine.1 k.0 k.1)
         (λ u s2 j2 k2. wraps_run x params slots fit aside h t from u s2 _ st j2 fine.2 fine.1 k2.0 k2.1 f.1.1))
     value_runs h d low (call_expr task args) s pc st i fine g f =
         let w = where_of params h in

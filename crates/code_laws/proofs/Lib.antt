@@ -19,6 +19,7 @@ pub mod Operations
 pub mod Expressions
 pub mod Rows
 pub mod Loops
+pub mod SpaceLoops
 pub mod PrintRuns
 pub mod Elements
 pub mod Folds

@@ -58,7 +58,7 @@ module _ (x : Setting) (store : Store) (image : RootImage) where
   inside_more : (t : StaticType) (v : Value) → IsOf t v → IsInside x store t v → IsInside x (store ++ image ∷ []) t v
   inside_more _ _ (of_integer w z p) l = tt
   inside_more _ _ (of_truth b) l = tt
-  inside_more _ _ (of_index k z) l = tt
+  inside_more _ _ (of_index k z p) l = tt
   inside_more _ _ (of_pointer k sp args rs t regions) l = tt
   inside_more _ _ (of_space k n p) l = tt
   inside_more _ _ (of_region k sp args r q) l = lies_more sp q l
@@ -75,7 +75,7 @@ module _ (x : Setting) (store : Store) (image : RootImage) where
       IsOf t v → IsInside x store t v → machine_value d v ≡ machine_value c v
   same_value c d same _ _ (of_integer w z p) l = refl
   same_value c d same _ _ (of_truth b) l = refl
-  same_value c d same _ _ (of_index k z) l = refl
+  same_value c d same _ _ (of_index k z p) l = refl
   same_value c d same _ _ (of_pointer k sp args rs t regions) l = refl
   same_value c d same _ _ (of_space k n p) l = refl
   same_value c d same _ _ (of_region k sp args r q) l = ap (λ n. machine.Region (region_with n q.points)) (same q.root l.there)

@@ -42,7 +42,7 @@ entered_value : (c : Contents) (s : Scope) (vs : List Value) (t : StaticType) (v
     (IsOf t (entered_as s vs t v)) × (machine_value c (entered_as s vs t v) ≡ machine_value c v)
 entered_value c s vs _ _ (of_integer w z p) = (of_integer w z p, refl)
 entered_value c s vs _ _ (of_truth b) = (of_truth b, refl)
-entered_value c s vs _ _ (of_index k z) = (of_index k z, refl)
+entered_value c s vs _ _ (of_index k z p) = (of_index k z p, refl)
 entered_value c s vs _ _ (of_pointer k sp args rs t regions) = (of_pointer k sp args rs t _, refl)
 entered_value c s vs _ _ (of_space k n l) = (of_space k n l, refl)
 entered_value c s vs _ _ (of_region k sp args r q) = (of_region k sp args r q, refl)
@@ -70,7 +70,7 @@ entered_inside x store s vs (t ∷ ts) (u ∷ us) a b =
     one : (t : StaticType) (v : Value) → IsOf t v → IsInside x store t v → IsInside x store t (entered_as s vs t v)
     one _ _ (of_integer w z p) b = tt
     one _ _ (of_truth v) b = tt
-    one _ _ (of_index k z) b = tt
+    one _ _ (of_index k z p) b = tt
     one _ _ (of_pointer k sp args rs t regions) b = tt
     one _ _ (of_space k n l) b = tt
     one _ _ (of_region k sp args r q) b = b

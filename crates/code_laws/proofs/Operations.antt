@@ -44,8 +44,8 @@ use Rattle.machine_terms.specs.Jumps.{fetch}
 use Rattle.code_rules.specs.Slots.{slot, slot_named}
 use Rattle.code_rules.specs.Instructions.{converted_code, signs_code, standing_code, operand_code, computing, comparing, operating, one, as_number_code}
 use Rattle.code_laws.specs.Steps.{Setting, machine_of, placed, on_step, Leads}
-use Rattle.code_laws.specs.Standing.{Stands, machine_value, IsOf, of_integer, of_space, of_truth, nothing, blank, Aside, SlotsFit, where_of, Agrees, Comes}
-use Rattle.code_laws.specs.Simple.{IsInteger, an_integer, IsTruth, a_truth_type, AreAlike, two_integers, two_truths, IsScalar, scalar_integer, scalar_truth, SignsFit, of_a_truth, of_an_integer, not_before, minus_before, IsIntegerTerm, term_32, term_64}
+use Rattle.code_laws.specs.Standing.{Stands, machine_value, IsOf, of_index, of_integer, of_space, of_truth, nothing, blank, Aside, SlotsFit, where_of, Agrees, Comes}
+use Rattle.code_laws.specs.Simple.{IsNumber, number_index, number_integer, IsInteger, an_integer, IsTruth, a_truth_type, AreAlike, two_integers, two_truths, IsScalar, scalar_integer, scalar_truth, SignsFit, of_a_truth, of_an_integer, not_before, minus_before, IsIntegerTerm, term_32, term_64}
 use Rattle.code_laws.proofs.Runs.{leads_none, leads_twice, leads_by, ends_by, comes_before}
 use Rattle.code_laws.proofs.Good.{valued, Good, Gives, pushes}
 use Rattle.code_laws.proofs.Values.{jump_later, load_value, named, act_computing, act_comparing, computed_fits}
@@ -259,16 +259,29 @@ module _ (x : Setting) (params slots : ℕ) (fit : SlotsFit x slots) (aside : As
 
   -- a conversion to an integer type wraps
   pub wraps_run : (h : Here) (t : NumberTerm) (from : StaticType) (v : Value) (s : State) (pc : ℕ)
-      (st : List MachineValue) (i : Instance) → IsIntegerTerm t → IsInteger from → IsOf from v →
+      (st : List MachineValue) (i : Instance) → IsIntegerTerm t → IsNumber from → IsOf from v →
       Agrees x params slots aside h s i → Stands x.body pc (as_number_code (where_of params h) t) →
       Gives x params slots fit aside h (number_type t) (as_number_code (where_of params h) t) pc
       (machine_value i.contents v ∷ st) st i (gives (as_number t v) s)
-  wraps_run h _ _ _ s pc st i term_32 (an_integer w) (of_integer _ z _) g f =
+  wraps_run h _ _ _ s pc st i term_32 (number_integer w) (of_integer _ z _) g f =
       pushes x params slots fit aside h (integer_type W32) _ s pc _ st i (instr.Wrap W32) h.line f
       (of_integer W32 _ (SFits-int_wrap (std_width W32) z)) g refl
-  wraps_run h _ _ _ s pc st i term_64 (an_integer w) (of_integer _ z _) g f =
+  wraps_run h _ _ _ s pc st i term_64 (number_integer w) (of_integer _ z _) g f =
       pushes x params slots fit aside h (integer_type W64) _ s pc _ st i (instr.Wrap W64) h.line f
       (of_integer W64 _ (SFits-int_wrap (std_width W64) z)) g refl
+  wraps_run h _ _ _ s pc st i term_32 (number_index k) (of_index _ z _) g f =
+      pushes x params slots fit aside h (integer_type W32) _ s pc _ st i (instr.Wrap W32) h.line f
+      (of_integer W32 _ (SFits-int_wrap (std_width W32) z)) g refl
+  wraps_run h _ _ _ s pc st i term_64 (number_index k) (of_index _ z _) g f =
+      pushes x params slots fit aside h (integer_type W64) _ s pc _ st i (instr.Wrap W64) h.line f
+      (of_integer W64 _ (SFits-int_wrap (std_width W64) z)) g refl
+
+  -- an integer or an index stands for itself
+  pub standing_number : (h : Here) (t : StaticType) (v : Value) (s : State) (pc : ℕ)
+      (st : List MachineValue) (i : Instance) → IsNumber t → IsOf t v → Agrees x params slots aside h s i →
+      Gives x params slots fit aside h t (standing_code (where_of params h) t) pc (machine_value i.contents v ∷ st) st i (standing h v s)
+  standing_number h _ _ s pc st i (number_integer w) (of_integer _ z p) g = (i, leads_none x _, (of_integer w z p, g))
+  standing_number h _ _ s pc st i (number_index k) (of_index _ z p) g = (i, leads_none x _, (of_index k z p, g))
 
   pub converted_runs : (h : Here) (t u : StaticType) (rs : List Region) (v : Value) (s : State) (pc : ℕ)
       (st : List MachineValue) (i : Instance) → AreAlike t u → IsOf t v → Agrees x params slots aside h s i →

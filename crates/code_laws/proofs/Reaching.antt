@@ -70,7 +70,7 @@ pub inside_stays : (x : Setting) (store after : Store) (t : StaticType) (v : Val
     IsInside x store t v → IsInside x after t v
 inside_stays x store after _ _ same (of_integer w z p) l = tt
 inside_stays x store after _ _ same (of_truth b) l = tt
-inside_stays x store after _ _ same (of_index k z) l = tt
+inside_stays x store after _ _ same (of_index k z p) l = tt
 inside_stays x store after _ _ same (of_pointer k sp args rs t regions) l = tt
 inside_stays x store after _ _ same (of_space k n p) l = tt
 inside_stays x store after _ _ same (of_region k sp args r q) l = lies_stays x store after sp q same l

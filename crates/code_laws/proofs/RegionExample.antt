@@ -8,7 +8,7 @@ use Rattle.std.specs.Fmt.{digits}
 use Rattle.code_laws.specs.Programs.{IsTypedRun, region_forms}
 use Rattle.code_laws.specs.RegionExample.{RegionExampleHolds, regions_program}
 use Rattle.code_laws.specs.Standing.{of_integer}
-use Rattle.code_laws.specs.Simple.{a_region_type, a_space_type, an_integer, fits_32, fits_64, simple_integer, two_integers}
+use Rattle.code_laws.specs.Simple.{number_index, simple_index, term_32, number_integer, a_region_type, a_space_type, an_integer, fits_32, fits_64, simple_integer, two_integers}
 
 runs : (z : ℤ) → FitsWidth W32 z → IsTypedRun region_forms regions_program (z ∷ [])
 runs z fits = record {
@@ -39,7 +39,7 @@ runs z fits = record {
           two_integers _ _,
           (refl, simple_integer _),
           omega (arith, ints),
-          an_integer _,
+          number_integer _,
           refl,
           record { named = refl; region = a_region_type _ _ _ _; field = omega arith; keeps = fits_32 },
         ),
@@ -54,30 +54,49 @@ runs z fits = record {
               (
                 an_integer _,
                 an_integer _,
-                (omega (arith, ints), an_integer _, refl, record { named = refl; region = a_region_type _ _ _ _; field = omega arith; keeps = fits_32 }),
+                (omega (arith, ints), number_integer _, refl, record { named = refl; region = a_region_type _ _ _ _; field = omega arith; keeps = fits_32 }),
                 (refl, simple_integer _),
-                an_integer _,
+                number_integer _,
                 refl,
                 record { named = refl; region = a_region_type _ _ _ _; field = omega arith; keeps = fits_64 },
               ),
               tt,
             ),
           ),
-          -- the print
+          -- the loop over an index space
           (
             (
+              a_space_type _,
+              (omega (arith, ints), an_integer _),
               (
-                an_integer _,
-                (omega (arith, ints), an_integer _, refl, record { named = refl; region = a_region_type _ _ _ _; field = omega arith; keeps = fits_32 }),
                 (
                   an_integer _,
-                  (omega (arith, ints), an_integer _, refl, record { named = refl; region = a_region_type _ _ _ _; field = omega arith; keeps = fits_64 }),
-                  tt,
+                  an_integer _,
+                  ((refl, simple_index _), number_index _, term_32),
+                  (refl, simple_index _),
+                  number_index _,
+                  refl,
+                  record { named = refl; region = a_region_type _ _ _ _; field = omega arith; keeps = fits_32 },
                 ),
+                tt,
               ),
-              refl,
             ),
-            tt,
+            -- the print
+            (
+              (
+                (
+                  an_integer _,
+                  (omega (arith, ints), number_integer _, refl, record { named = refl; region = a_region_type _ _ _ _; field = omega arith; keeps = fits_32 }),
+                  (
+                    an_integer _,
+                    (omega (arith, ints), number_integer _, refl, record { named = refl; region = a_region_type _ _ _ _; field = omega arith; keeps = fits_64 }),
+                    tt,
+                  ),
+                ),
+                refl,
+              ),
+              tt,
+            ),
           ),
         ),
       ),

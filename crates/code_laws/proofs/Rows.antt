@@ -5,7 +5,7 @@ use Rattle.std.proofs.lemmas.Bool.{lt-ltb, le-ltb, cases_lt}
 use Rattle.regent_tree.specs.declared.outcome.FaultKind.TheVariants.{Turns, AssertFailed}
 use Rattle.regent_tree.specs.declared.statement.How.TheVariants as how
 use Rattle.regent_tree.specs.declared.typing.StaticType.{StaticType}
-use Rattle.regent_tree.specs.declared.typing.StaticType.TheVariants.{Integer as integer_type, Ispace as ispace_type, Truth as truth_type}
+use Rattle.regent_tree.specs.declared.typing.StaticType.TheVariants.{Integer as integer_type, Index as index_type, Ispace as ispace_type, Truth as truth_type}
 use Rattle.regent_tree.specs.Lookup.{is_bound}
 use Rattle.regent_tree.specs.Scopes.{bound_to}
 use Rattle.regent_tree.specs.Syntax.{Name, Expression, access_expr, no_step, Block, Tree}
@@ -29,7 +29,7 @@ use Rattle.code_rules.specs.Initializers.{beside_code, plain_code}
 use Rattle.code_rules.specs.Used.{greatest, above_all}
 use Rattle.code_laws.specs.Steps.{Setting, machine_of, placed, on_step, Leads, Ends}
 use Rattle.code_laws.specs.Standing.{Answering, program_of, Stands, machine_value, IsInside, IsOf, AreOf, of_integer, of_truth, nothing, Aside, where_of, Agrees, SlotsFit, Does}
-use Rattle.code_laws.specs.Simple.{IsScalar, IsSimple, scalar_integer, scalar_truth, simple_integer, simple_space, simple_truth}
+use Rattle.code_laws.specs.Simple.{IsScalar, IsSimple, scalar_integer, scalar_truth, simple_index, simple_integer, simple_space, simple_truth}
 use Rattle.code_laws.specs.Typed.{CountsDown}
 use Rattle.code_laws.proofs.Runs.{Said, leads_twice, leads_end, leads_by, ends_by}
 use Rattle.code_laws.proofs.Values.{jump_later, scalar_simple, simple_inside}
@@ -44,12 +44,14 @@ pub beside_empty : (params : ℕ) (h : Here) (t : StaticType) (e : Expression) �
 beside_empty params h _ (access_expr n no_step) (simple_integer w) = refl
 beside_empty params h _ (access_expr n no_step) simple_truth = refl
 beside_empty params h _ (access_expr n no_step) (simple_space k) = refl
+beside_empty params h _ (access_expr n no_step) (simple_index k) = refl
 beside_empty params h _ e p = refl
 
 pub owned_plain : (n : ℕ) (t : StaticType) → IsSimple t → t ≡ owned n t
 owned_plain n _ (simple_integer w) = refl
 owned_plain n _ simple_truth = refl
 owned_plain n _ (simple_space k) = refl
+owned_plain n _ (simple_index k) = refl
 
 -- the code of a plain start value is that of the expression
 pub plain_past : (params : ℕ) (h : Here) (t : StaticType) (e : Expression) (pc n : ℕ) → IsSimple t →
@@ -64,6 +66,9 @@ plain_past params h _ e pc n simple_truth =
 plain_past params h _ e pc n (simple_space k) =
     ap (λ p. past p (past (expr_code (where_of params h) 0 e) pc))
     (beside_empty params h (ispace_type k) e (simple_space k))
+plain_past params h _ e pc n (simple_index k) =
+    ap (λ p. past p (past (expr_code (where_of params h) 0 e) pc))
+    (beside_empty params h (index_type k) e (simple_index k))
 
 pub plain_stands : (body : List Line) (params : ℕ) (h : Here) (t : StaticType) (e : Expression) (pc n : ℕ) →
     IsSimple t → Stands body pc (plain_code (where_of params h) (owned n t) e) →
@@ -71,6 +76,7 @@ pub plain_stands : (body : List Line) (params : ℕ) (h : Here) (t : StaticType)
 plain_stands body params h _ e pc n (simple_integer w) f = f.0
 plain_stands body params h _ e pc n simple_truth f = f.0
 plain_stands body params h _ e pc n (simple_space k) f = f.0
+plain_stands body params h _ e pc n (simple_index k) f = f.0
 
 -- a value that carries no regions
 pub plain_kept : (u : StaticType) (old v : Value) → IsScalar u → IsOf u v → with_regions_of old v ≡ v

@@ -1,4 +1,5 @@
 -- The code of a statement does what the statement means.
+use Rattle.code_laws.proofs.SpaceLoops.{spaces_run}
 use Rattle.code_laws.proofs.States.{ready_value}
 use Rattle.code_laws.proofs.Variables.{GoodInside, binds, fill_runs, region_runs, zero_runs}
 use Rattle.code_laws.proofs.Elements.{folds_element, sets_element}
@@ -14,7 +15,7 @@ use Rattle.std.proofs.lemmas.List.{get_or-set_same, get_or-set_other, append_ass
 use Rattle.regent_tree.specs.declared.statement.How.TheVariants as how
 use Rattle.regent_tree.specs.Scopes.{bound_to}
 use Rattle.regent_tree.specs.Syntax.{no_step, field_step, at_step, plain_initializer, a_statement, Form, var_form, if_form, while_form, for_to_form, do_form, assert_form, assign_form, return_form, call_form, fill_form, Block, no_statement, then_statement, Arms, no_arm, an_arm, Otherwise, no_else, else_block, both_initializer, by_field_initializer, either_initializer, equal_initializer, image_initializer, preimage_initializer, region_initializer, print_form, for_in_form}
-use Rattle.regent_tree.specs.Typing.{param_types, params_at, scope_after_block, arithmetic_type, width_of_type, reaches_of, var_type}
+use Rattle.regent_tree.specs.Typing.{taken_from, param_types, params_at, scope_after_block, arithmetic_type, width_of_type, reaches_of, var_type}
 use Rattle.regent_tree.specs.Values.{number_of, size_of}
 use Rattle.regent_tree.specs.Running.{State, Here, Run}
 use Rattle.regent_tree.specs.Accesses.{converted, regions_reached}
@@ -242,7 +243,21 @@ module _ (x : Setting) (params slots : ℕ) (fit : SlotsFit x slots) (counts : C
     form_runs aside h (var_form n (Some t) (Some (both_initializer _ _))) s pc i low fine g f = absurd fine
     form_runs aside h (var_form n None (Some (either_initializer _ _))) s pc i low fine g f = absurd fine
     form_runs aside h (var_form n (Some t) (Some (either_initializer _ _))) s pc i low fine g f = absurd fine
-    form_runs aside h (for_in_form demanded n domain body) s pc i low fine g f = absurd fine
+    form_runs aside h (for_in_form demanded n domain body) s pc i low fine g f =
+        let w = where_of params h in
+        let t = typed w domain in
+        let a = past (expr_code w 0 domain) pc in
+        let done = past (form_code w (for_in_form demanded n domain body)) pc in
+        let h1 = looping h n (taken_from t) in
+        let h2 = record h1 { scope = scope_after_block h.tree h1.scope body } in
+        let grown = block_grown h.tree h1.scope body in
+        does_as x params slots fit counts aside _ h (after_statement h (for_in_form demanded n domain body)) _ _ (refl, refl)
+        (then x (does_said x params slots fit counts aside done h) _ _ _ (value h domain s) _
+        (value_runs x params slots fit aside h 0 low domain s pc [] i fine.1 g f.0)
+        (λ v s1 j k1. spaces_run x params slots fit counts aside h h2 n t v (exec_block h1 body) (block_code (where_of params h1) body)
+        s1 a j fine.0 k1.0 low k1.1 f.1.0 f.1.1.0 f.1.1.1.0 f.1.1.1.1
+        (record { more = grown.more ++ _ ∷ []; are = grown.are ∙ sym (append_assoc grown.more (_ ∷ []) h.scope.names) }) refl
+        (λ aside2 s5 j5 g5. block_runs aside2 h1 body s5 (suc (suc (suc (suc a)))) j5 (omega (arith, low)) fine.2 g5 f.1.1.1.1.1)))
     form_runs aside h (assign_form n (field_step _ _) how.Set e) s pc i low fine g f = absurd fine
     form_runs aside h (assign_form n (field_step _ _) (how.Reduce o) e) s pc i low fine g f = absurd fine
     form_runs aside h (assign_form n (at_step y (field_step f2 no_step)) how.Set e) s pc i low fine g f =

@@ -45,7 +45,7 @@ use Rattle.check_rules.specs.types.TypedForms.{computing}
 use Rattle.check_rules.specs.declared.rule.Rule.TheVariants as rule
 use Rattle.check_rules.proofs.Untold.{rule_none, standing_none}
 use Rattle.code_rules.specs.Slots.{Where, typed}
-use Rattle.code_laws.specs.Simple.{AreAlike, IsInteger, IsIntegerTerm, IsScalar, IsTruth, SignsFit, a_truth_type, an_integer, minus_before, not_before, of_a_truth, of_an_integer, scalar_integer, scalar_truth, term_32, term_64, two_integers, two_truths}
+use Rattle.code_laws.specs.Simple.{IsNumber, number_integer, AreAlike, IsInteger, IsIntegerTerm, IsScalar, IsTruth, SignsFit, a_truth_type, an_integer, minus_before, not_before, of_a_truth, of_an_integer, scalar_integer, scalar_truth, term_32, term_64, two_integers, two_truths}
 use Rattle.code_laws.specs.Typed.{AreNumbers, AreTypedLinks, IsTyped}
 use Rattle.scalar_form.specs.ScalarForm.{are_scalar_expressions, are_scalar_links, is_scalar_expression, is_scalar_number}
 
@@ -58,6 +58,9 @@ pub no_way_back : false ≡ true → ⊥
 no_way_back e = absurd cc
 
 -- what may be an integer, a truth or a number among scalars
+integer_number : (t : StaticType) → IsInteger t → IsNumber t
+integer_number _ (an_integer w) = number_integer w
+
 pub as_integer : (t : StaticType) → IsScalar t → may_be is_integer t ≡ true → IsInteger t
 as_integer _ (scalar_integer w) e = an_integer w
 as_integer _ scalar_truth e = absurd (no_way_back e)
@@ -286,7 +289,7 @@ module _ (task : TaskTree) (w : Where) (sound : IsSound w.tree) (scope : IsSound
         let may = stands_well [] (typed w e) number_spot
         (subst (λ u. first_of_standing [] (stands u number_spot) ≡ None) (known_typed e told.0) told.1) in
         let term = integer_term t s.0 in
-        record { is = (a.is, as_number_type (typed w e) a.scalar may, term); scalar = number_scalar t term }
+        record { is = (a.is, integer_number (typed w e) (as_number_type (typed w e) a.scalar may), term); scalar = number_scalar t term }
     well (call_expr _ _) sc k e = absurd (no_way_back sc)
     well (is_null_expr _) sc k e = absurd (no_way_back sc)
     well (null_expr _) sc k e = absurd (no_way_back sc)

@@ -1,5 +1,5 @@
 -- What single instructions do with values.
-use Rattle.code_laws.specs.Simple.{IsScalar, IsSimple, scalar_integer, scalar_truth, simple_integer, simple_space, simple_truth}
+use Rattle.code_laws.specs.Simple.{IsScalar, IsSimple, scalar_integer, scalar_truth, simple_index, simple_integer, simple_space, simple_truth}
 use Rattle.regent_tree.specs.Store.{Store}
 use Rattle.std.proofs.Common.{◌≡◌, ℕ, suc, ◌<◌, ◌≤◌, ℤ, pos, List, [], ◌∷◌, Bool, true, false, Some, refl, ap, subst, arith}
 use Rattle.std.specs.Ordering.{int_eq}
@@ -99,6 +99,7 @@ pub simple_inside : (x : Setting) (store : Store) (t : StaticType) (v : Value) �
 simple_inside x store _ v (simple_integer w) = tt
 simple_inside x store _ v simple_truth = tt
 simple_inside x store _ v (simple_space k) = tt
+simple_inside x store _ v (simple_index k) = tt
 
 -- a number is no region
 pub number_inside : (x : Setting) (store : Store) (t : StaticType) (w : Width) (z : ℤ) → IsOf t (a_number w z) →

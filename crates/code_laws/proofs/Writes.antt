@@ -1,4 +1,5 @@
 -- Writing to a field of a region's point, and folding a number into it.
+use Rattle.lane_kernels.specs.declared.numbers.Width.TheVariants.{W64}
 use Rattle.std.proofs.Common.{◌≡◌, ◌≢◌, ℕ, suc, ◌<◌, ℤ, pos, negsuc, List, [], ◌∷◌, ◌++◌, Bool, true, false, Some, refl, sym, ap, ◌∙◌, subst, arith}
 use Rattle.std.specs.Prelude.{get_or, length}
 use Rattle.std.proofs.lemmas.Int.{SFits-int_wrap, ints, int_wrap_fits}
@@ -43,8 +44,8 @@ use Rattle.code_rules.specs.Slots.{own_slot, slot, slots_of, typed}
 use Rattle.memory_laws.specs.Memory.{Holds, IsKept, memory_of}
 use Rattle.memory_laws.specs.Places.{number_at}
 use Rattle.code_laws.specs.Steps.{Setting, machine_of, placed, on_step, Leads}
-use Rattle.code_laws.specs.Standing.{Agrees, Aside, Comes, IsInside, IsOf, SlotsFit, Stands, machine_value, nothing, of_integer, of_region, of_truth, where_of}
-use Rattle.code_laws.specs.Simple.{AreAlike, FieldFits, IsInteger, IsRegion, a_region_type, an_integer, fits_32, fits_64, fits_truth, two_integers, two_truths}
+use Rattle.code_laws.specs.Standing.{Agrees, Aside, Comes, IsInside, IsOf, SlotsFit, Stands, machine_value, nothing, of_index, of_integer, of_region, of_truth, where_of}
+use Rattle.code_laws.specs.Simple.{AreAlike, FieldFits, IsInteger, IsNumber, IsRegion, an_integer, number_index, number_integer, a_region_type, fits_32, fits_64, fits_truth, two_integers, two_truths}
 use Rattle.code_laws.proofs.Accesses.{HasRegion, aims_first, region_there}
 use Rattle.code_laws.proofs.Good.{valued, Gives}
 use Rattle.code_laws.proofs.Reaching.{Reached, reached, rewritten}
@@ -160,12 +161,29 @@ module _ (x : Setting) (params slots : ℕ) (fit : SlotsFit x slots) (aside : As
       folded _ _ old fits_32 = refl
       folded _ _ old fits_64 = refl
 
+  -- what is to be shown where the index was evaluated
+  abbrev PointsAt : {B : Type 0} → (Instance → Result B → Type 0) → (Value → Run B) → Here → ℕ → ℕ → Expression → Region → List MachineValue →
+      StaticType → StaticType → Value → State → Instance → Type 0
+  PointsAt T K h d sl e q st t ty u s1 j =
+      HasRegion j sl q → Agrees x params slots aside h s1 j → (a : ℕ) →
+      Stands x.body a (standing_code (where_of params h) ty ⨟ element_code (where_of params h) t sl
+      ⨟ kept_code (where_of params h) d t no_step
+      ⨟ steps_code (where_of params h) (suc d) (type_of_element h.scope t e) (slot_after (where_of params h) d t sl) no_step) →
+      ((n : ℕ) → has q.points n ≡ true →
+      T (placed (past (standing_code (where_of params h) ty ⨟ element_code (where_of params h) t sl
+      ⨟ kept_code (where_of params h) d t no_step
+      ⨟ steps_code (where_of params h) (suc d) (type_of_element h.scope t e) (slot_after (where_of params h) d t sl) no_step) a)
+      (machine.Number (kept_target (point_target n 1)) ∷ st) j) (K (a_pointer (point_target n 1) (q ∷ [])) s1)) →
+      T (valued a st u j)
+      (and_then (and_then (standing h u s1) (λ z. λ s2. and_then (take_element h (number_of z) (a_region q) s2)
+      (λ v. stepped h (type_of_element h.scope t e) v no_step))) K)
+
   -- A pointer to a point of a region on the stack, where the index runs, for what comes next.
   pub element_points : {B : Type 0} (T : Instance → Result B → Type 0) → Said x T → (h : Here) (d : ℕ) (t : StaticType)
       (sl : ℕ) (e : Expression) (q : Region) (s : State) (pc : ℕ) (st : List MachineValue) (i : Instance) (K : Value → Run B) →
       IsRegion t →
       Gives x params slots fit aside h (typed (where_of params h) e) (expr_code (where_of params h) d e) pc st st i (value h e s) →
-      IsInteger (typed (where_of params h) e) → Leaves SameNames s (value h e s) →
+      IsNumber (typed (where_of params h) e) → Leaves SameNames s (value h e s) →
       ((s1 : State) (j : Instance) → s1.names ≡ s.names → Agrees x params slots aside h s1 j → HasRegion j sl q) →
       Stands x.body pc (steps_code (where_of params h) d t sl (at_step e no_step)) →
       ((n : ℕ) (s1 : State) (j : Instance) → s1.names ≡ s.names → has q.points n ≡ true → Agrees x params slots aside h s1 j →
@@ -175,24 +193,13 @@ module _ (x : Setting) (params slots : ℕ) (fit : SlotsFit x slots) (aside : As
   element_points T said h d t sl e q s pc st i K region runs index same there stands more =
       by_value (value h e s) runs same
     where
-      by_index : (t : StaticType) → IsRegion t → (ty : StaticType) → IsInteger ty → (u : Value) → IsOf ty u →
-          (s1 : State) (j : Instance) → HasRegion j sl q → Agrees x params slots aside h s1 j → (a : ℕ) →
-          Stands x.body a (standing_code (where_of params h) ty ⨟ element_code (where_of params h) t sl
-          ⨟ kept_code (where_of params h) d t no_step
-          ⨟ steps_code (where_of params h) (suc d) (type_of_element h.scope t e) (slot_after (where_of params h) d t sl) no_step) →
-          ((n : ℕ) → has q.points n ≡ true →
-          T (placed (past (standing_code (where_of params h) ty ⨟ element_code (where_of params h) t sl
-          ⨟ kept_code (where_of params h) d t no_step
-          ⨟ steps_code (where_of params h) (suc d) (type_of_element h.scope t e) (slot_after (where_of params h) d t sl) no_step) a)
-          (machine.Number (kept_target (point_target n 1)) ∷ st) j) (K (a_pointer (point_target n 1) (q ∷ [])) s1)) →
-          T (valued a st u j)
-          (and_then (and_then (standing h u s1) (λ z. λ s2. and_then (take_element h (number_of z) (a_region q) s2)
-          (λ v. stepped h (type_of_element h.scope t e) v no_step))) K)
-      by_index _ (a_region_type k sp args r) _ (an_integer w) _ (of_integer _ (negsuc n) _) s1 j there g a stands go =
+      by_integer : (t : StaticType) → IsRegion t → (ty : StaticType) → IsInteger ty → (u : Value) → IsOf ty u →
+          (s1 : State) (j : Instance) → PointsAt T K h d sl e q st t ty u s1 j
+      by_integer _ (a_region_type k sp args r) _ (an_integer w) _ (of_integer _ (negsuc n) _) s1 j there g a stands go =
           said.failing _ _ s1 (ends_by x _ _ (instr.At sl) h.line stands.1.0
           (ap (λ o. on_step x (placed a (machine.Number (negsuc n) ∷ st) j) (element (region_in o) (negsuc n) h.line st (machine_of (placed a (machine.Number (negsuc n) ∷ st) j)))) there
           ∙ ap (λ t. IsOver (Broke (Some (record { kind = OutOfRegion; line = h.line })) t)) g.text))
-      by_index _ (a_region_type k sp args r) _ (an_integer w) _ (of_integer _ (pos n) _) s1 j there g a stands go =
+      by_integer _ (a_region_type k sp args r) _ (an_integer w) _ (of_integer _ (pos n) _) s1 j there g a stands go =
           by_has (has q.points n) refl
         where
           at_acts : (b : Bool) → has q.points n ≡ b →
@@ -216,6 +223,12 @@ module _ (x : Setting) (params slots : ℕ) (fit : SlotsFit x slots) (aside : As
               (leads_by x _ (placed (suc a) (machine.Number (kept_target (point_target n 1)) ∷ st) j) (instr.At sl) h.line stands.1.0 (at_acts true c))
               (go n c)
 
+      by_index : (t : StaticType) → IsRegion t → (ty : StaticType) → IsNumber ty → (u : Value) → IsOf ty u →
+          (s1 : State) (j : Instance) → PointsAt T K h d sl e q st t ty u s1 j
+      by_index t region _ (number_index k) _ (of_index _ z p) s1 j there g a stands go =
+          by_integer t region _ (an_integer W64) (a_number W64 z) (of_integer W64 z p) s1 j there g a stands go
+      by_index t region _ (number_integer w) u o s1 j there g a stands go = by_integer t region _ (an_integer w) u o s1 j there g a stands go
+
       by_value : (r : Result Value) →
           Gives x params slots fit aside h (typed (where_of params h) e) (expr_code (where_of params h) d e) pc st st i r →
           Leaves SameNames s r →
@@ -234,7 +247,7 @@ module _ (x : Setting) (params slots : ℕ) (fit : SlotsFit x slots) (aside : As
       ((pc : ℕ) → Stands x.body pc (expr_code (where_of params h) 0 e) →
       Gives x params slots fit aside h (typed (where_of params h) e) (expr_code (where_of params h) 0 e) pc
       (machine.Number (kept_number v) ∷ []) (machine.Number (kept_number v) ∷ []) i (value h e s)) →
-      IsInteger (typed (where_of params h) e) → Leaves SameNames s (value h e s) →
+      IsNumber (typed (where_of params h) e) → Leaves SameNames s (value h e s) →
       slots_of (where_of params h) (slot (where_of params h) p) (type_of_element h.scope t e) ≡ slot (where_of params h) p ∷ [] →
       field_place h.tree (space_in t) f < length (space_at h.tree (space_in t)).fields →
       FieldFits (field_kind h.tree (space_in t) (field_place h.tree (space_in t) f)) out → IsOf out v →
@@ -274,7 +287,7 @@ module _ (x : Setting) (params slots : ℕ) (fit : SlotsFit x slots) (aside : As
       ((pc : ℕ) → Stands x.body pc (expr_code (where_of params h) 0 e) →
       Gives x params slots fit aside h (typed (where_of params h) e) (expr_code (where_of params h) 0 e) pc
       (machine.Number y ∷ []) (machine.Number y ∷ []) i (value h e s)) →
-      IsInteger (typed (where_of params h) e) → Leaves SameNames s (value h e s) →
+      IsNumber (typed (where_of params h) e) → Leaves SameNames s (value h e s) →
       slots_of (where_of params h) (slot (where_of params h) p) (type_of_element h.scope t e) ≡ slot (where_of params h) p ∷ [] →
       field_place h.tree (space_in t) f < length (space_at h.tree (space_in t)).fields →
       FieldFits (field_kind h.tree (space_in t) (field_place h.tree (space_in t) f)) (integer_type wd) →

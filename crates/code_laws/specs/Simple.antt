@@ -11,7 +11,7 @@ use Rattle.regent_tree.specs.declared.types.Kind.{Kind}
 use Rattle.regent_tree.specs.declared.types.NumberTerm.{NumberTerm}
 use Rattle.regent_tree.specs.declared.types.NumberTerm.TheVariants as number
 use Rattle.regent_tree.specs.declared.typing.StaticType.{StaticType}
-use Rattle.regent_tree.specs.declared.typing.StaticType.TheVariants.{Integer as integer_type, Truth as truth_type, Ispace as ispace_type, Region as region_type}
+use Rattle.regent_tree.specs.declared.typing.StaticType.TheVariants.{Integer as integer_type, Truth as truth_type, Index as index_type, Ispace as ispace_type, Region as region_type}
 use Rattle.regent_tree.specs.StaticTypes.{Reach}
 
 pub data IsInteger : StaticType → Type 0 where
@@ -25,11 +25,17 @@ pub data IsScalar : StaticType → Type 0 where
   scalar_integer : (w : Width) → IsScalar (integer_type w)
   scalar_truth : IsScalar truth_type
 
--- an integer, a truth, or an index space
+-- an integer, a truth, an index space, or an index
 pub data IsSimple : StaticType → Type 0 where
   simple_integer : (w : Width) → IsSimple (integer_type w)
   simple_truth : IsSimple truth_type
   simple_space : (k : Kind) → IsSimple (ispace_type k)
+  simple_index : (k : Kind) → IsSimple (index_type k)
+
+-- an integer or an index, which stands for a number
+pub data IsNumber : StaticType → Type 0 where
+  number_integer : (w : Width) → IsNumber (integer_type w)
+  number_index : (k : Kind) → IsNumber (index_type k)
 
 pub data IsSpace : StaticType → Type 0 where
   a_space_type : (k : Kind) → IsSpace (ispace_type k)

@@ -2,6 +2,7 @@
 use Rattle.std.specs.Prelude.{◌≡◌, ℕ, suc, ◌+◌, ◌^◌, ◌<◌, ◌≤◌, ℤ, pos, false, true, List, [], ◌∷◌, map, length, Option, Some, get_or, nat_le, slice_get, take, Bool}
 use Rattle.plain_values.specs.Points.{has}
 use Rattle.lane_kernels.specs.Numbers.{FitsWidth}
+use Rattle.lane_kernels.specs.declared.numbers.Width.TheVariants.{W64}
 use Rattle.lane_kernels.specs.declared.numbers.Width.{Width}
 use Rattle.task_code.specs.declared.code.Line.{Line}
 use Rattle.task_code.specs.declared.instr.Instr.TheVariants as instr
@@ -87,11 +88,11 @@ machine_value contents (a_partition p) = machine.Partition (record {
 })
 machine_value contents v = machine.Number (kept_number v)
 
--- a value is of a static type; a number fits its width, and no index space is too large
+-- a value is of a static type; numbers and indices fit, and no index space is too large
 pub data IsOf : StaticType → Value → Type 0 where
   of_integer : (w : Width) (z : ℤ) → FitsWidth w z → IsOf (integer_type w) (a_number w z)
   of_truth : (b : Bool) → IsOf truth_type (a_truth b)
-  of_index : (k : Kind) (z : ℤ) → IsOf (index_type k) (an_index z)
+  of_index : (k : Kind) (z : ℤ) → FitsWidth W64 z → IsOf (index_type k) (an_index z)
   of_pointer : (k : Kind) (sp : ℕ) (args rs : List Reach) (t : Target) (regions : List Region) →
       IsOf (pointer_type k sp args rs) (a_pointer t regions)
   of_space : (k : Kind) (n : ℕ) → n ≤ 4194304 → IsOf (ispace_type k) (a_space n)

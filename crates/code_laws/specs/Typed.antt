@@ -1,5 +1,5 @@
 -- Well-typed expressions and statements of numbers and truths, also those of fields at points of regions that
--- have names: no call, partition, index or pointer that is kept. Roots are made where that is allowed.
+-- have names, indices, and loops over index spaces: no partition, and no pointer that is kept. Roots are made where that is allowed.
 use Rattle.std.specs.Prelude.{◌≡◌, ℕ, suc, ◌<◌, ◌≤◌, ℤ, pos, ◌+ℤ◌, int_lt, length, slice_get, List, [], ◌∷◌, true, false, Some, None}
 use Rattle.lane_kernels.specs.Numbers.{FitsWidth}
 use Rattle.lane_kernels.specs.declared.numbers.FieldKind.{FieldKind}
@@ -20,9 +20,9 @@ use Rattle.regent_tree.specs.Accesses.{args_in, space_in}
 use Rattle.regent_tree.specs.StaticTypes.{Reach, field_kind, field_place, field_type, place_of_space, space_at, spaces_of, task_named}
 use Rattle.regent_tree.specs.Lookup.{is_bound}
 use Rattle.regent_tree.specs.Numbers.{distance}
-use Rattle.regent_tree.specs.Syntax.{a_statement, Form, var_form, if_form, while_form, for_to_form, do_form, assert_form, print_form, assign_form, return_form, Block, no_statement, then_statement, Arms, no_arm, an_arm, Otherwise, no_else, else_block, plain_initializer, region_initializer, Name, Tree, fill_form, call_form, call_expr, Expression, number_expr, truth_expr, chain_expr, prefix_expr, access_expr, convert_expr, Expressions, no_expr, an_expr, Links, no_link, a_link, no_step, field_step, at_step, space_expr}
-use Rattle.regent_tree.specs.Typing.{arithmetic_type, operated, param_types, params_at, result_type, type_of_element, type_of_field, var_type}
-use Rattle.code_laws.specs.Simple.{IsInteger, IsTruth, IsScalar, IsSimple, IsSpace, IsRegion, AreAlike, SignsFit, FieldFits, IsIntegerTerm}
+use Rattle.regent_tree.specs.Syntax.{a_statement, Form, var_form, if_form, while_form, for_in_form, for_to_form, do_form, assert_form, print_form, assign_form, return_form, Block, no_statement, then_statement, Arms, no_arm, an_arm, Otherwise, no_else, else_block, plain_initializer, region_initializer, Name, Tree, fill_form, call_form, call_expr, Expression, number_expr, truth_expr, chain_expr, prefix_expr, access_expr, convert_expr, Expressions, no_expr, an_expr, Links, no_link, a_link, no_step, field_step, at_step, space_expr}
+use Rattle.regent_tree.specs.Typing.{arithmetic_type, operated, param_types, params_at, result_type, taken_from, type_of_element, type_of_field, var_type}
+use Rattle.code_laws.specs.Simple.{IsInteger, IsTruth, IsScalar, IsSimple, IsNumber, IsSpace, IsRegion, AreAlike, SignsFit, FieldFits, IsIntegerTerm}
 use Rattle.code_rules.specs.Instructions.{place_of_task, tasks_of}
 use Rattle.code_rules.specs.Programs.{task_code}
 use Rattle.code_laws.specs.Steps.{Forms}
@@ -65,14 +65,14 @@ abbrev mutual
   IsTyped forms w (prefix_expr signs e) = IsTyped forms w e × SignsFit (typed w e) signs
   IsTyped forms w (access_expr n no_step) =
       (is_bound w.scope.names n ≡ true) × IsSimple (bound w n).static_type
-  IsTyped forms w (access_expr n (at_step e (field_step f no_step))) = IsTyped forms w e × IsInteger (typed w e)
+  IsTyped forms w (access_expr n (at_step e (field_step f no_step))) = IsTyped forms w e × IsNumber (typed w e)
       × GoesThrough w n e × IsField w n f (element_field w n e f)
   IsTyped forms w (call_expr task args) = (forms.calls ≡ true)
       × IsScalar (result_type w.tree (task_named w.tree task).result) × IsCalled w.tree task
       × ArePassed forms w (params_at w.tree w.scope (task_named w.tree task) args)
       (param_types w.tree (task_named w.tree task)) args
   IsTyped forms w (space_expr k e) = IsTyped forms w e × IsInteger (typed w e)
-  IsTyped forms w (convert_expr t e) = IsTyped forms w e × IsInteger (typed w e) × IsIntegerTerm t
+  IsTyped forms w (convert_expr t e) = IsTyped forms w e × IsNumber (typed w e) × IsIntegerTerm t
   IsTyped forms w _ = ⊥
 
   pub AreTypedLinks : Forms → Where → StaticType → Links → Type 0
@@ -132,16 +132,18 @@ abbrev mutual
   IsTypedForm forms w (for_to_form demanded n from to body) =
       IsInteger (typed w from) × IsInteger (typed w to) × IsTyped forms w from × IsTyped forms w to
       × IsTypedBlock forms (looping w n (arithmetic_type (typed w from) (typed w to))) body
+  IsTypedForm forms w (for_in_form demanded n domain body) = IsSpace (typed w domain) × IsTyped forms w domain
+      × IsTypedBlock forms (looping w n (taken_from (typed w domain))) body
   IsTypedForm forms w (assign_form n no_step how.Set e) =
       AreAlike (typed w e) (bound w n).static_type × IsTyped forms w e × (is_bound w.scope.names n ≡ true)
   IsTypedForm forms w (assign_form n no_step (how.Reduce o) e) = IsInteger (typed w e)
       × IsInteger (bound w n).static_type × IsTyped forms w e × (is_bound w.scope.names n ≡ true)
   IsTypedForm forms w (assign_form n (at_step e (field_step f no_step)) how.Set y) =
-      AreAlike (typed w y) (element_field w n e f) × IsTyped forms w y × IsTyped forms w e × IsInteger (typed w e)
+      AreAlike (typed w y) (element_field w n e f) × IsTyped forms w y × IsTyped forms w e × IsNumber (typed w e)
       × GoesThrough w n e × IsField w n f (element_field w n e f)
   IsTypedForm forms w (assign_form n (at_step e (field_step f no_step)) (how.Reduce o) y) =
       IsInteger (typed w y) × IsInteger (element_field w n e f) × IsTyped forms w y × IsTyped forms w e
-      × IsInteger (typed w e) × GoesThrough w n e × IsField w n f (element_field w n e f)
+      × IsNumber (typed w e) × GoesThrough w n e × IsField w n f (element_field w n e f)
   IsTypedForm forms w (call_form task args) = (forms.calls ≡ true) × IsCalled w.tree task
       × ArePassed forms w (params_at w.tree w.scope (task_named w.tree task) args)
       (param_types w.tree (task_named w.tree task)) args
