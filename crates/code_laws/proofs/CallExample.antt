@@ -1,12 +1,10 @@
 -- The premises of the law on calls hold of a program.
-use Rattle.std.proofs.Common.{◌≡◌, ◌≤◌, ℕ, zero, suc, ◌^◌, pos, [], ◌∷◌, Some, refl, subst, arith}
+use Rattle.std.proofs.Common.{zero, suc, pos, [], ◌∷◌, refl, subst, arith}
 use Rattle.std.proofs.lemmas.Int.{ints}
 use Rattle.std.proofs.lemmas.Option.{none-some, same_Some}
 use Rattle.std.specs.Int.{int_wrap}
 use Rattle.std.specs.Fmt.{digits}
 use Rattle.lane_kernels.specs.declared.numbers.Width.TheVariants.{W64}
-use Rattle.code_rules.specs.Instructions.{tasks_of}
-use Rattle.std.specs.Prelude.{slice_get}
 use Rattle.regent_tree.specs.Syntax.{TaskTree}
 use Rattle.regent_tree.specs.StaticTypes.{entry_name, task_named}
 use Rattle.code_rules.specs.Programs.{place_of}

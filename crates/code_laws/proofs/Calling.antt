@@ -1,12 +1,11 @@
 -- A call: its turn, its depth, the child that runs whole, and what it gives.
-use Rattle.std.proofs.Common.{◌≡◌, ℕ, zero, suc, ◌+◌, ◌^◌, ◌<◌, ◌≤◌, ℤ, pos, List, [], ◌∷◌, ◌++◌, ◌⊎◌, inl, inr, Bool, true, false, Option, Some, None, refl, sym, ap, ◌∙◌, subst, arith, length-append}
-use Rattle.std.specs.Prelude.{cond, get_or, length, map, nat_le, nat_lt, option_map, slice_get, take, ◌==◌}
+use Rattle.std.proofs.Common.{◌≡◌, ℕ, zero, suc, ◌^◌, ◌<◌, ◌≤◌, ℤ, pos, List, [], ◌∷◌, ◌++◌, ◌⊎◌, inl, inr, Some, refl, sym, ap, ◌∙◌, subst, arith, length-append}
+use Rattle.std.specs.Prelude.{cond, get_or, length, map, nat_lt, option_map, slice_get, take}
 use Rattle.std.proofs.lemmas.Bool.{cases_lt, eq-eqb, le-leb, le-ltb, lt-ltb}
 use Rattle.std.proofs.lemmas.List.{append-nil, get_or_default, length-map}
 use Rattle.std.proofs.lemmas.Option.{slice_get-map}
 use Rattle.std.proofs.Math.Seq.{get_or-append_seam}
 use Rattle.region_tree.specs.declared.tree.RootId.{RootId}
-use Rattle.region_tree.specs.Requirements.{is_within}
 use Rattle.regent_tree.specs.Evaluation.{answered, called}
 use Rattle.regent_tree.specs.Laws.{SameRoots}
 use Rattle.regent_tree.specs.Running.{State, Here, Called, and_then, pay_from}
@@ -40,9 +39,9 @@ use Rattle.machine_terms.specs.Segments.{act}
 use Rattle.code_rules.specs.Instructions.{place_of_task, tasks_of}
 use Rattle.code_rules.specs.Pieces.{op}
 use Rattle.code_rules.specs.Programs.{code_of, task_code}
-use Rattle.memory_laws.specs.Memory.{Holds, StandFor, memory_of}
+use Rattle.memory_laws.specs.Memory.{StandFor, memory_of}
 use Rattle.memory_laws.specs.Closing.{AreOwn}
-use Rattle.memory_laws.specs.Places.{number_at, numbers}
+use Rattle.memory_laws.specs.Places.{numbers}
 use Rattle.memory_laws.proofs.Beginning.{begun_holds}
 use Rattle.memory_laws.proofs.Closed.{closed_stands}
 use Rattle.memory_laws.proofs.Covering.{covered_stays}

@@ -16,7 +16,7 @@ use Rattle.regent_tree.specs.Syntax.{TaskTree, Tree}
 use Rattle.regent_tree.specs.Typing.{param_types}
 use Rattle.regent_tree.specs.Values.{Value}
 use Rattle.task_code.specs.declared.code.Line.{Line}
-use Rattle.regent_tree.specs.Store.{Store, column}
+use Rattle.regent_tree.specs.Store.{Store}
 use Rattle.machine_terms.specs.declared.order.Contents.{Contents}
 use Rattle.machine_terms.specs.declared.order.Instance.{Instance}
 use Rattle.machine_terms.specs.Jumps.{fetch}

@@ -15,11 +15,10 @@ use Rattle.task_code.specs.declared.instr.PrintPart.TheVariants as part
 use Rattle.machine_terms.specs.declared.order.Contents.{Contents}
 use Rattle.machine_terms.specs.declared.value.Value.{Value as MachineValue}
 use Rattle.machine_terms.specs.declared.value.Value.TheVariants as machine
-use Rattle.machine_terms.specs.Calls.{before_text, count_numbers, few, take_values, taken, text_of, is_pending}
+use Rattle.machine_terms.specs.Calls.{before_text, count_numbers, few, take_values, taken, text_of}
 use Rattle.code_rules.specs.Prints.{parts_after, parts_of, text_part}
 use Rattle.code_laws.proofs.States.{ready_value}
 use Rattle.code_laws.specs.Standing.{machine_value}
-use Rattle.regent_tree.specs.Values.{a_number, a_partition, a_pointer, a_region, a_space, a_truth, an_index}
 
 -- ---- values in a row on the stack, the last on top
 

@@ -1,5 +1,5 @@
 -- The premises of the law on regions hold of a program.
-use Rattle.std.proofs.Common.{ℤ, pos, [], ◌∷◌, true, refl, arith}
+use Rattle.std.proofs.Common.{ℤ, pos, [], ◌∷◌, refl, arith}
 use Rattle.std.proofs.lemmas.Int.{ints}
 use Rattle.lane_kernels.specs.declared.numbers.Width.TheVariants.{W32}
 use Rattle.lane_kernels.specs.Numbers.{FitsWidth}

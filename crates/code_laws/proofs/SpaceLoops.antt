@@ -1,20 +1,18 @@
 -- A loop over an index space: its variable is each index, in order.
-use Rattle.std.proofs.Common.{◌≡◌, ℕ, zero, suc, ◌+◌, ◌<◌, ◌≤◌, ℤ, pos, ◌+ℤ◌, List, [], ◌∷◌, Bool, true, false, None, Some, refl, sym, ap, ◌∙◌, subst, arith}
-use Rattle.std.specs.Prelude.{cond, length, map, nat_lt, slice_get, ◌==◌}
+use Rattle.std.proofs.Common.{◌≡◌, ℕ, zero, suc, ◌+◌, ◌<◌, ◌≤◌, pos, ◌+ℤ◌, [], ◌∷◌, true, false, None, Some, refl, ap, ◌∙◌, arith}
+use Rattle.std.specs.Prelude.{cond, length, map, slice_get}
 use Rattle.std.proofs.lemmas.Bool.{eq-eqb, lt-ltb, ne_eqb}
 use Rattle.std.proofs.lemmas.Int.{ints}
 use Rattle.plain_values.specs.Points.{counted_from}
 use Rattle.lane_kernels.specs.Numbers.{FitsWidth}
 use Rattle.lane_kernels.specs.declared.numbers.Width.TheVariants.{W64}
-use Rattle.regent_tree.specs.Execution.{Going, goes_on, items_of, looping, rounds as rounds_over}
+use Rattle.regent_tree.specs.Execution.{Going, items_of, looping, rounds as rounds_over}
 use Rattle.regent_tree.specs.Running.{State, Here, Run}
 use Rattle.regent_tree.specs.Syntax.{Name}
 use Rattle.regent_tree.specs.Values.{Value, an_index}
-use Rattle.regent_tree.specs.declared.outcome.FaultKind.TheVariants.{Turns}
 use Rattle.regent_tree.specs.declared.types.Kind.{Kind}
 use Rattle.regent_tree.specs.declared.typing.StaticType.TheVariants.{Index as index_type}
 use Rattle.task_code.specs.declared.instr.Instr.TheVariants as instr
-use Rattle.machine_terms.specs.declared.order.Ended.TheVariants.{Broke}
 use Rattle.machine_terms.specs.declared.order.Instance.{Instance}
 use Rattle.machine_terms.specs.declared.value.Value.TheVariants as machine
 use Rattle.machine_terms.specs.Jumps.{leave, point_at, point_round, points_round, round, take_point}
@@ -30,9 +28,9 @@ use Rattle.regent_tree.specs.declared.typing.StaticType.{StaticType}
 use Rattle.std.proofs.lemmas.List.{get_or-set_other, get_or-set_same}
 use Rattle.std.proofs.lemmas.Option.{slice_get-get_or}
 use Rattle.code_laws.specs.Standing.{Agrees, Aside, Does, IsOf, SlotsFit, Stands, blank, of_index, of_space, program_of, where_of}
-use Rattle.code_laws.specs.Steps.{Setting, machine_of, placed, on_step, Leads, Ends}
+use Rattle.code_laws.specs.Steps.{Setting, machine_of, placed, on_step, Leads}
 use Rattle.code_laws.specs.Typed.{CountsDown}
-use Rattle.code_laws.proofs.Loops.{IsHead, headed, one_round}
+use Rattle.code_laws.proofs.Loops.{one_round}
 use Rattle.code_laws.proofs.Names.{Grown}
 use Rattle.code_laws.proofs.Rows.{does_before, three_least}
 use Rattle.code_laws.proofs.Runs.{ends_by, leads_by, leads_twice}

@@ -1,6 +1,6 @@
 -- What a call of a task means, its child comes to: by induction on how many more calls may nest.
-use Rattle.std.proofs.Common.{◌≡◌, ℕ, zero, suc, ◌+◌, ◌^◌, ◌<◌, ◌≤◌, ℤ, pos, List, [], ◌∷◌, ◌++◌, true, Option, Some, None, refl, sym, ap, ◌∙◌, subst, arith}
-use Rattle.std.specs.Prelude.{length, map, slice_get, take, ◌==◌}
+use Rattle.std.proofs.Common.{◌≡◌, ℕ, zero, suc, ◌+◌, ◌^◌, ◌<◌, ◌≤◌, ℤ, pos, List, [], ◌∷◌, ◌++◌, Option, Some, None, refl, sym, ap, ◌∙◌, subst, arith}
+use Rattle.std.specs.Prelude.{length, map, take}
 use Rattle.std.proofs.lemmas.Bool.{eq-eqb}
 use Rattle.std.proofs.lemmas.Int.{ints}
 use Rattle.lane_kernels.specs.declared.numbers.Width.{Width}
@@ -10,7 +10,7 @@ use Rattle.region_tree.specs.declared.tree.RootId.{RootId}
 use Rattle.regent_tree.specs.Execution.{Going, goes_on, returned}
 use Rattle.regent_tree.specs.Initializers.{zero_of}
 use Rattle.regent_tree.specs.Laws.{Answers, SameRoots}
-use Rattle.regent_tree.specs.Meaning.{body_of, calls_at, ended, opening, run_task, value_at_end}
+use Rattle.regent_tree.specs.Meaning.{body_of, calls_at, ended, opening, run_task}
 use Rattle.regent_tree.specs.Running.{Called, Result, State, came_back, fails, gives}
 use Rattle.regent_tree.specs.Scopes.{Scope, scope_of}
 use Rattle.regent_tree.specs.StaticTypes.{task_named}

@@ -1,5 +1,5 @@
 -- The run in order of a program over scalars is what the program means.
-use Rattle.std.proofs.Common.{◌≡◌, Bool, ℕ, ◌≤◌, ℤ, List, [], ◌∷◌, ◌++◌, true, false, refl, sym, ap, ◌∙◌, arith}
+use Rattle.std.proofs.Common.{◌≡◌, ℕ, ◌≤◌, ℤ, List, [], ◌∷◌, ◌++◌, true, false, refl, sym, ap, ◌∙◌, arith}
 use Rattle.std.specs.Prelude.{cond, length, map, nat_le, ◌==◌, ◌&&◌}
 use Rattle.std.proofs.lemmas.Bool.{le-leb, eq-eqb}
 use Rattle.regent_tree.specs.Execution.{Going, goes_on, returned}
@@ -11,7 +11,6 @@ use Rattle.regent_tree.specs.Syntax.{TaskTree, Tree}
 use Rattle.regent_tree.specs.Typing.{param_types, scope_after_block, width_of_type}
 use Rattle.regent_tree.specs.declared.outcome.Ending.TheVariants.{Finished}
 use Rattle.regent_tree.specs.declared.typing.StaticType.{StaticType}
-use Rattle.task_code.specs.declared.code.Line.{Line}
 use Rattle.task_code.specs.declared.instr.Instr.TheVariants as instr
 use Rattle.machine_terms.specs.declared.order.Ended.{Ended}
 use Rattle.machine_terms.specs.declared.value.Value.TheVariants as machine
@@ -25,7 +24,6 @@ use Rattle.code_rules.specs.Instructions.{place_of_task}
 use Rattle.code_rules.specs.Pieces.{op, past}
 use Rattle.code_rules.specs.Programs.{body_piece, code_of, place_of, task_code}
 use Rattle.code_rules.specs.Statements.{block_code}
-use Rattle.code_rules.specs.Used.{slots_of_lines, slots_used}
 use Rattle.memory_laws.proofs.Beginning.{first_holds}
 use Rattle.memory_laws.proofs.Closed.{ends_with_store}
 use Rattle.memory_laws.proofs.Given.{given_keeps_numbers, given_stands}

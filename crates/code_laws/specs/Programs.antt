@@ -1,10 +1,9 @@
 -- Programs whose entry task treats scalars alone, and what is to be shown of them.
-use Rattle.std.specs.Prelude.{◌≡◌, false, true, ℕ, ◌^◌, ◌<◌, ◌≤◌, ℤ, List, [], ◌∷◌, length, Some, slice_get}
+use Rattle.std.specs.Prelude.{◌≡◌, false, true, ℕ, ◌^◌, ◌<◌, ◌≤◌, ℤ, List, [], length, Some, slice_get}
 use Rattle.regent_tree.specs.Meaning.{inputs_of, meaning}
 use Rattle.regent_tree.specs.StaticTypes.{entry_name, task_named}
 use Rattle.regent_tree.specs.Syntax.{TaskTree, Tree}
 use Rattle.regent_tree.specs.Typing.{param_types, result_type}
-use Rattle.regent_tree.specs.Values.{Value}
 use Rattle.regent_tree.specs.declared.outcome.Ending.{Ending}
 use Rattle.regent_tree.specs.declared.outcome.Ending.TheVariants.{Finished, Faulted, Broken}
 use Rattle.regent_tree.specs.declared.typing.StaticType.{StaticType}

@@ -1,5 +1,5 @@
 -- A program whose one task makes a root, and has accesses of every kind that the law on regions treats.
-use Rattle.std.specs.Prelude.{◌≡◌, [], ◌∷◌, pos, true}
+use Rattle.std.specs.Prelude.{◌≡◌, [], ◌∷◌, pos}
 use Rattle.lane_kernels.specs.declared.numbers.Op.TheVariants.{Sum}
 use Rattle.regent_tree.specs.Meaning.{meaning}
 use Rattle.regent_tree.specs.Syntax.{Tree, convert_expr}

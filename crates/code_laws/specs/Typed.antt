@@ -2,22 +2,12 @@
 -- have names, indices, and loops over index spaces: no partition, and no pointer that is kept. Roots are made where that is allowed.
 use Rattle.std.specs.Prelude.{◌≡◌, ℕ, suc, ◌<◌, ◌≤◌, ℤ, pos, ◌+ℤ◌, int_lt, length, slice_get, List, [], ◌∷◌, true, false, Some, None}
 use Rattle.lane_kernels.specs.Numbers.{FitsWidth}
-use Rattle.lane_kernels.specs.declared.numbers.FieldKind.{FieldKind}
-use Rattle.lane_kernels.specs.declared.numbers.FieldKind.TheVariants.{Int32, Int64, Truth}
-use Rattle.lane_kernels.specs.declared.numbers.Width.{Width}
-use Rattle.lane_kernels.specs.declared.numbers.Width.TheVariants.{W32, W64}
 use Rattle.regent_tree.specs.declared.expression.Operator.TheVariants.{Or, And, Compare, Compute}
-use Rattle.regent_tree.specs.declared.expression.Sign.{Sign}
-use Rattle.regent_tree.specs.declared.expression.Sign.TheVariants.{Minus, Not}
 use Rattle.regent_tree.specs.declared.statement.How.TheVariants as how
-use Rattle.regent_tree.specs.declared.types.NumberTerm.{NumberTerm}
-use Rattle.regent_tree.specs.declared.types.NumberTerm.TheVariants as number
 use Rattle.regent_tree.specs.declared.typing.StaticType.{StaticType}
-use Rattle.regent_tree.specs.declared.typing.StaticType.TheVariants.{Integer as integer_type, Truth as truth_type, Ispace as ispace_type, Region as region_type}
-use Rattle.regent_tree.specs.declared.facts.Term.{Term}
-use Rattle.regent_tree.specs.declared.types.Kind.{Kind}
+use Rattle.regent_tree.specs.declared.typing.StaticType.TheVariants.{Truth as truth_type}
 use Rattle.regent_tree.specs.Accesses.{args_in, space_in}
-use Rattle.regent_tree.specs.StaticTypes.{Reach, field_kind, field_place, field_type, place_of_space, space_at, spaces_of, task_named}
+use Rattle.regent_tree.specs.StaticTypes.{field_kind, field_place, field_type, place_of_space, space_at, spaces_of, task_named}
 use Rattle.regent_tree.specs.Lookup.{is_bound}
 use Rattle.regent_tree.specs.Numbers.{distance}
 use Rattle.regent_tree.specs.Syntax.{a_statement, Form, var_form, if_form, while_form, for_in_form, for_to_form, do_form, assert_form, print_form, assign_form, return_form, Block, no_statement, then_statement, Arms, no_arm, an_arm, Otherwise, no_else, else_block, plain_initializer, region_initializer, Name, Tree, fill_form, call_form, call_expr, Expression, number_expr, truth_expr, chain_expr, prefix_expr, access_expr, convert_expr, Expressions, no_expr, an_expr, Links, no_link, a_link, no_step, field_step, at_step, space_expr}
