@@ -75,7 +75,7 @@ tasks zero t e = subst (IsTypedTask calls_program) (same_Some _ t e) (record {
     (
       (
         two_integers _ _,
-        ((refl, simple_integer _), (an_integer _, an_integer _, (refl, simple_integer _), tt)),
+        ((refl, simple_integer _), (number_integer _, number_integer _, (refl, simple_integer _), tt)),
         omega (arith, ints),
         number_integer _,
         refl,

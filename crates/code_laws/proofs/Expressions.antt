@@ -189,11 +189,11 @@ module _ (x : Setting) (params slots : ℕ) (fit : SlotsFit x slots) (aside : As
         let u = typed w e in
         let b = false in
         then x (comes_said x _ _) _ _ _ (operand h b v s) _
-        (operand_runs x params slots fit aside h b t v s pc st i (integer_scalar x params slots fit aside t fine.0) o g)
+        (standing_number x params slots fit aside h t v s pc st i fine.0 o g)
         (λ v1 s1 j1 k1. then x (comes_said x _ _) _ _ _ (value h e s1) _
         (value_runs h d low e s1 _ (machine_value j1.contents v1 ∷ st) j1 fine.2 k1.1 f.1.0)
         (λ v2 s2 j2 k2. then x (comes_said x _ _) _ _ _ (operand h b v2 s2) _
-        (operand_runs x params slots fit aside h b u v2 s2 _ (machine_value j1.contents v1 ∷ st) j2 (integer_scalar x params slots fit aside u fine.1) k2.0 k2.1)
+        (standing_number x params slots fit aside h u v2 s2 _ (machine_value j1.contents v1 ∷ st) j2 fine.1 k2.0 k2.1)
         (λ v3 s3 j3 k3. then x (comes_said x _ _) _ _ _ (combined h (Compute c) v1 v3 s3) _
         (compute_runs x params slots fit aside j1.contents h c t u v1 v3 s3 _ st j3 fine.0 fine.1 k1.0 k3.0 k3.1 f.1.1.1.0)
         (λ v4 s4 j4 k4. linked_runs h d low _ v4 rest s4 _ st j4 fine.3 k4.0 k4.1 f.1.1.1.1))))

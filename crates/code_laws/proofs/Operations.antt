@@ -16,12 +16,12 @@ use Rattle.regent_tree.specs.declared.expression.Operator.TheVariants.{Compare, 
 use Rattle.regent_tree.specs.declared.expression.Sign.{Sign}
 use Rattle.regent_tree.specs.declared.outcome.FaultKind.TheVariants.{BadSize, DivideByZero}
 use Rattle.regent_tree.specs.declared.typing.StaticType.{StaticType}
-use Rattle.regent_tree.specs.declared.typing.StaticType.TheVariants.{Integer as integer_type, Ispace as ispace_type, Truth as truth_type}
+use Rattle.regent_tree.specs.declared.typing.StaticType.TheVariants.{Index as index_type, Integer as integer_type, Ispace as ispace_type, Truth as truth_type}
 use Rattle.regent_tree.specs.Lookup.{is_bound}
 use Rattle.regent_tree.specs.Scopes.{bound_to}
 use Rattle.regent_tree.specs.Syntax.{Name}
 use Rattle.regent_tree.specs.Numbers.{computed, wider}
-use Rattle.regent_tree.specs.Values.{Value, a_number, a_space, a_truth, number_of, truth_of, Region}
+use Rattle.regent_tree.specs.Values.{Value, a_number, an_index, a_space, a_truth, number_of, truth_of, Region}
 use Rattle.regent_tree.specs.StaticTypes.{number_type}
 use Rattle.regent_tree.specs.Typing.{operated, signed_type}
 use Rattle.regent_tree.specs.Running.{State, Here, Run, fault, given, if_true, gives}
@@ -37,7 +37,7 @@ use Rattle.machine_terms.specs.Numbers.{divided, load}
 use Rattle.machine_terms.specs.Segments.{act}
 use Rattle.machine_terms.specs.declared.order.Ended.TheVariants.{Broke}
 use Rattle.machine_terms.specs.declared.order.Instance.{Instance}
-use Rattle.machine_terms.specs.declared.order.Resumed.TheVariants.{IsOver}
+use Rattle.machine_terms.specs.declared.order.Resumed.TheVariants.{GoesOn, IsOver}
 use Rattle.code_rules.specs.Pieces.{op, past}
 use Rattle.task_code.specs.declared.code.Line.{Line}
 use Rattle.machine_terms.specs.Jumps.{fetch}
@@ -62,32 +62,48 @@ fetch_small body pc l e = by (nat_lt pc (2 ^ 32)) refl e
 module _ (x : Setting) (params slots : ℕ) (fit : SlotsFit x slots) (aside : Aside) where
   -- ---- arithmetic
 
-  pub divided_runs : (h : Here) (w : Width) (s : State) (pc : ℕ) (before st : List MachineValue) (i : Instance)
-      (ins : Instr) (line : ℕ) → h.line ≡ line → Stands x.body pc (op ins line) →
+  pub divided_runs : (h : Here) (w : Width) (t : StaticType) (made : ℤ → Value) (s : State) (pc : ℕ)
+      (before st : List MachineValue) (i : Instance) (ins : Instr) (line : ℕ) →
+      ((z : ℤ) → FitsWidth w z → IsOf t (made z)) → ((z : ℤ) → machine_value i.contents (made z) ≡ machine.Number z) →
+      h.line ≡ line → Stands x.body pc (op ins line) →
       Agrees x params slots aside h s i → (r : Option ℤ) → ((z : ℤ) → r ≡ Some z → FitsWidth w z) →
       act x.code x.body ins line (machine_of (placed pc before i))
       ≡ divided r line st (machine_of (placed pc before i)) →
-      Gives x params slots fit aside h (integer_type w) (op ins line) pc before st i (unless_divided h (a_number w) r s)
-  divided_runs h w s pc before st i ins line hl f a (Some z) fits e =
-      pushes x params slots fit aside h (integer_type w) (a_number w z) s pc before st i ins line f
-      (of_integer w z (fits z refl)) a (ap (on_step x (placed pc before i)) e)
-  divided_runs h w s pc before st i ins line hl f a None fits e =
+      Gives x params slots fit aside h t (op ins line) pc before st i (unless_divided h made r s)
+  divided_runs h w t made s pc before st i ins line typed number hl f a (Some z) fits e =
+      pushes x params slots fit aside h t (made z) s pc before st i ins line f
+      (typed z (fits z refl)) a
+      (ap (on_step x (placed pc before i)) e ∙ ap (λ v. GoesOn (placed (suc pc) (v ∷ st) i)) (sym (number z)))
+  divided_runs h w t made s pc before st i ins line typed number hl f a None fits e =
       ends_by x _ _ ins line f
       (ap (on_step x (placed pc before i)) e
       ∙ ap (λ l. IsOver (Broke (Some (record { kind = DivideByZero; line = l })) i.text)) (sym hl)
       ∙ ap (λ u. IsOver (Broke (Some (record { kind = DivideByZero; line = h.line })) u)) a.text)
 
-  -- the arithmetic of two integers
+  -- the arithmetic of two numbers: of integers an integer, and else an index
   pub compute_runs : (c : Contents) (h : Here) (o : Arithmetic) (t u : StaticType) (v w : Value) (s : State) (pc : ℕ)
-      (st : List MachineValue) (i : Instance) → IsInteger t → IsInteger u → IsOf t v → IsOf u w →
+      (st : List MachineValue) (i : Instance) → IsNumber t → IsNumber u → IsOf t v → IsOf u w →
       Agrees x params slots aside h s i →
       Stands x.body pc (one (where_of params h) (operating (Compute o) t u)) →
       Gives x params slots fit aside h (operated (Compute o) t u) (one (where_of params h) (operating (Compute o) t u)) pc
       (machine_value i.contents w ∷ machine_value c v ∷ st) st i (combined h (Compute o) v w s)
-  compute_runs c h o _ _ _ _ s pc st i (an_integer a) (an_integer b) (of_integer _ y _) (of_integer _ z _) g f =
-      divided_runs h (wider a b) s pc (machine.Number z ∷ machine.Number y ∷ st) st i (computing o (wider a b)) h.line refl f
+  compute_runs c h o _ _ _ _ s pc st i (number_integer a) (number_integer b) (of_integer _ y _) (of_integer _ z _) g f =
+      divided_runs h (wider a b) (integer_type (wider a b)) (a_number (wider a b)) s pc (machine.Number z ∷ machine.Number y ∷ st) st i
+      (computing o (wider a b)) h.line (λ r p. of_integer (wider a b) r p) (λ r. refl) refl f
       g (computed o (wider a b) y z) (computed_fits o (wider a b) y z)
       (act_computing x.code x.body o (wider a b) h.line _)
+  compute_runs c h o _ _ _ _ s pc st i (number_index k) (number_integer b) (of_index _ y _) (of_integer _ z _) g f =
+      divided_runs h W64 (index_type k) an_index s pc (machine.Number z ∷ machine.Number y ∷ st) st i
+      (computing o W64) h.line (λ r p. of_index k r p) (λ r. refl) refl f
+      g (computed o W64 y z) (computed_fits o W64 y z) (act_computing x.code x.body o W64 h.line _)
+  compute_runs c h o _ _ _ _ s pc st i (number_integer a) (number_index k) (of_integer _ y _) (of_index _ z _) g f =
+      divided_runs h W64 (index_type k) an_index s pc (machine.Number z ∷ machine.Number y ∷ st) st i
+      (computing o W64) h.line (λ r p. of_index k r p) (λ r. refl) refl f
+      g (computed o W64 y z) (computed_fits o W64 y z) (act_computing x.code x.body o W64 h.line _)
+  compute_runs c h o _ _ _ _ s pc st i (number_index k) (number_index n) (of_index _ y _) (of_index _ z _) g f =
+      divided_runs h W64 (index_type k) an_index s pc (machine.Number z ∷ machine.Number y ∷ st) st i
+      (computing o W64) h.line (λ r p. of_index k r p) (λ r. refl) refl f
+      g (computed o W64 y z) (computed_fits o W64 y z) (act_computing x.code x.body o W64 h.line _)
 
   -- ---- comparisons
 

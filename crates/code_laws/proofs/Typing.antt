@@ -254,7 +254,7 @@ module _ (task : TaskTree) (w : Where) (sound : IsSound w.tree) (scope : IsSound
   by_operator (Compute o) t e rest scalar a does more =
       let both = computed t (typed w e) scalar a.scalar does in
       let r = more (operated_scalar o t (typed w e) both.0 both.1) in
-      record { are = (both.0, both.1, a.is, r.are); scalar = r.scalar }
+      record { are = (integer_number t both.0, integer_number (typed w e) both.1, a.is, r.are); scalar = r.scalar }
 
   mutual
     pub well : (e : Expression) → is_scalar_expression e ≡ true → AreKept (parts_of_expression e) →

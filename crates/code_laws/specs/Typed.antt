@@ -73,7 +73,7 @@ abbrev mutual
       IsTruth t × IsTruth (typed w e) × IsTyped forms w e × AreTypedLinks forms w truth_type rest
   AreTypedLinks forms w t (a_link (Compare c) e rest) = AreAlike t (typed w e) × IsTyped forms w e
       × AreTypedLinks forms w (operated (Compare c) t (typed w e)) rest
-  AreTypedLinks forms w t (a_link (Compute o) e rest) = IsInteger t × IsInteger (typed w e) × IsTyped forms w e
+  AreTypedLinks forms w t (a_link (Compute o) e rest) = IsNumber t × IsNumber (typed w e) × IsTyped forms w e
       × AreTypedLinks forms w (operated (Compute o) t (typed w e)) rest
 
   -- numbers and truths that are given to parameters of these types
