@@ -4,7 +4,7 @@ use Rattle.code_laws.proofs.States.{stored}
 use Rattle.code_laws.proofs.Prints.{pushed_all}
 use Rattle.code_laws.proofs.Results.{results_run}
 use Rattle.code_laws.proofs.Calling.{HasResult, calls_run, pending, scalar_value}
-use Rattle.code_laws.proofs.Operations.{standing_number, alike_left, alike_right, and_runs, compare_runs, compute_runs, converted_runs, fetch_small, integer_scalar, named_runs, operand_runs, or_runs, plain_signs, same_type, signs_run, signs_typed, space_runs, standing_runs, truth_of_type, wraps_run}
+use Rattle.code_laws.proofs.Operations.{compared_left, compared_operand, compared_right, standing_number, alike_right, and_runs, compare_runs, compute_runs, converted_runs, fetch_small, named_runs, or_runs, plain_signs, same_type, signs_run, signs_typed, space_runs, standing_runs, truth_of_type, wraps_run}
 use Rattle.code_laws.proofs.Accesses.{access_reads}
 use Rattle.regent_tree.proofs.Laws.{expressions_keep_names}
 use Rattle.std.proofs.Common.{◌≡◌, ℕ, suc, ◌<◌, ◌≤◌, List, [], ◌∷◌, false, refl, sym, ap, subst, arith}
@@ -203,11 +203,11 @@ module _ (x : Setting) (params slots : ℕ) (fit : SlotsFit x slots) (aside : As
         let b = are_pointers t u in
         let pc3 = past (operand_code w b u) (past (expr_code w d e) (past (operand_code w b t) pc)) in
         then x (comes_said x _ _) _ _ _ (operand h b v s) _
-        (operand_runs x params slots fit aside h b t v s pc st i (alike_left x params slots fit aside t u fine.0) o g)
+        (compared_operand x params slots fit aside h b t v s pc st i (compared_left x params slots fit aside t u fine.0) o g)
         (λ v1 s1 j1 k1. then x (comes_said x _ _) _ _ _ (value h e s1) _
         (value_runs h d low e s1 _ (machine_value j1.contents v1 ∷ st) j1 fine.1 k1.1 f.1.0)
         (λ v2 s2 j2 k2. then x (comes_said x _ _) _ _ _ (operand h b v2 s2) _
-        (operand_runs x params slots fit aside h b u v2 s2 _ (machine_value j1.contents v1 ∷ st) j2 (alike_right x params slots fit aside t u fine.0) k2.0 k2.1)
+        (compared_operand x params slots fit aside h b u v2 s2 _ (machine_value j1.contents v1 ∷ st) j2 (compared_right x params slots fit aside t u fine.0) k2.0 k2.1)
         (λ v3 s3 j3 k3. then x (comes_said x _ _) (valued (suc pc3) st) (Good x params slots fit aside h truth_type) _
         (combined h (Compare c) v1 v3 s3) _ (compare_runs x params slots fit aside j1.contents h c t u v1 v3 s3 pc3 st j3 fine.0 k1.0 k3.0 k3.1 f.1.1.1.0)
         (λ v4 s4 j4 k4. linked_runs h d low _ v4 rest s4 _ st j4 fine.2 k4.0 k4.1 f.1.1.1.1))))

@@ -1,7 +1,7 @@
 -- Single operations of expressions: arithmetic, comparisons, prefixes, names, jumps and conversions.
 use Rattle.machine_terms.specs.Machine.{faults, next, when}
 use Rattle.regent_tree.specs.declared.types.Kind.{Kind}
-use Rattle.std.proofs.Common.{◌≡◌, ℕ, suc, ◌^◌, ◌<◌, ℤ, negsuc, pos, List, ◌∷◌, Bool, true, false, Option, Some, None, refl, sym, ap, ◌∙◌, arith}
+use Rattle.std.proofs.Common.{◌≡◌, ◌⊎◌, inl, inr, ℕ, suc, ◌^◌, ◌<◌, ℤ, negsuc, pos, List, ◌∷◌, Bool, true, false, Option, Some, None, refl, sym, ap, ◌∙◌, arith}
 use Rattle.lane_kernels.specs.declared.numbers.Width.TheVariants.{W32, W64}
 use Rattle.regent_tree.specs.declared.types.NumberTerm.{NumberTerm}
 use Rattle.std.proofs.lemmas.Int.{SFits-int_wrap}
@@ -45,7 +45,7 @@ use Rattle.code_rules.specs.Slots.{slot, slot_named}
 use Rattle.code_rules.specs.Instructions.{converted_code, signs_code, standing_code, operand_code, computing, comparing, operating, one, as_number_code}
 use Rattle.code_laws.specs.Steps.{Setting, machine_of, placed, on_step, Leads}
 use Rattle.code_laws.specs.Standing.{Stands, machine_value, IsOf, of_index, of_integer, of_space, of_truth, nothing, blank, Aside, SlotsFit, where_of, Agrees, Comes}
-use Rattle.code_laws.specs.Simple.{IsNumber, number_index, number_integer, IsInteger, an_integer, IsTruth, a_truth_type, AreAlike, two_integers, two_truths, IsScalar, scalar_integer, scalar_truth, SignsFit, of_a_truth, of_an_integer, not_before, minus_before, IsIntegerTerm, term_32, term_64}
+use Rattle.code_laws.specs.Simple.{AreComparable, compare_numbers, compare_truths, IsNumber, number_index, number_integer, IsInteger, an_integer, IsTruth, a_truth_type, AreAlike, two_integers, two_truths, IsScalar, scalar_integer, scalar_truth, SignsFit, of_a_truth, of_an_integer, not_before, minus_before, IsIntegerTerm, term_32, term_64}
 use Rattle.code_laws.proofs.Runs.{leads_none, leads_twice, leads_by, ends_by, comes_before}
 use Rattle.code_laws.proofs.Good.{valued, Good, Gives, pushes}
 use Rattle.code_laws.proofs.Values.{jump_later, load_value, named, act_computing, act_comparing, computed_fits}
@@ -108,15 +108,24 @@ module _ (x : Setting) (params slots : ℕ) (fit : SlotsFit x slots) (aside : As
   -- ---- comparisons
 
   pub compare_runs : (below : Contents) (h : Here) (c : Comparison) (t u : StaticType) (v w : Value) (s : State) (pc : ℕ)
-      (st : List MachineValue) (i : Instance) → AreAlike t u → IsOf t v → IsOf u w →
+      (st : List MachineValue) (i : Instance) → AreComparable t u → IsOf t v → IsOf u w →
       Agrees x params slots aside h s i →
       Stands x.body pc (one (where_of params h) (operating (Compare c) t u)) →
       Gives x params slots fit aside h truth_type (one (where_of params h) (operating (Compare c) t u)) pc
       (machine_value i.contents w ∷ machine_value below v ∷ st) st i (combined h (Compare c) v w s)
-  compare_runs below h c _ _ _ _ s pc st i (two_integers a b) (of_integer _ y _) (of_integer _ z _) g f =
+  compare_runs below h c _ _ _ _ s pc st i (compare_numbers _ _ (number_integer a) (number_integer b)) (of_integer _ y _) (of_integer _ z _) g f =
       pushes x params slots fit aside h truth_type _ s pc _ st i (comparing c false) h.line f (of_truth _) g
       (ap (on_step x (placed pc (machine.Number z ∷ machine.Number y ∷ st) i)) (act_comparing x.code x.body c h.line _))
-  compare_runs below h c _ _ _ _ s pc st i two_truths (of_truth a) (of_truth b) g f =
+  compare_runs below h c _ _ _ _ s pc st i (compare_numbers _ _ (number_integer a) (number_index n)) (of_integer _ y _) (of_index _ z _) g f =
+      pushes x params slots fit aside h truth_type _ s pc _ st i (comparing c false) h.line f (of_truth _) g
+      (ap (on_step x (placed pc (machine.Number z ∷ machine.Number y ∷ st) i)) (act_comparing x.code x.body c h.line _))
+  compare_runs below h c _ _ _ _ s pc st i (compare_numbers _ _ (number_index k) (number_integer b)) (of_index _ y _) (of_integer _ z _) g f =
+      pushes x params slots fit aside h truth_type _ s pc _ st i (comparing c false) h.line f (of_truth _) g
+      (ap (on_step x (placed pc (machine.Number z ∷ machine.Number y ∷ st) i)) (act_comparing x.code x.body c h.line _))
+  compare_runs below h c _ _ _ _ s pc st i (compare_numbers _ _ (number_index k) (number_index n)) (of_index _ y _) (of_index _ z _) g f =
+      pushes x params slots fit aside h truth_type _ s pc _ st i (comparing c false) h.line f (of_truth _) g
+      (ap (on_step x (placed pc (machine.Number z ∷ machine.Number y ∷ st) i)) (act_comparing x.code x.body c h.line _))
+  compare_runs below h c _ _ _ _ s pc st i compare_truths (of_truth a) (of_truth b) g f =
       pushes x params slots fit aside h truth_type _ s pc _ st i (comparing c false) h.line f (of_truth _) g
       (ap (on_step x (placed pc (machine_value i.contents (a_truth b) ∷ machine_value below (a_truth a) ∷ st) i)) (act_comparing x.code x.body c h.line _))
 
@@ -179,19 +188,6 @@ module _ (x : Setting) (params slots : ℕ) (fit : SlotsFit x slots) (aside : As
   standing_runs h _ _ s pc st i (scalar_integer w) (of_integer _ z p) g =
       (i, leads_none x _, (of_integer w z p, g))
   standing_runs h _ _ s pc st i scalar_truth (of_truth b) g = (i, leads_none x _, (of_truth b, g))
-
-  pub operand_runs : (h : Here) (b : Bool) (t : StaticType) (v : Value) (s : State) (pc : ℕ)
-      (st : List MachineValue) (i : Instance) → IsScalar t → IsOf t v → Agrees x params slots aside h s i →
-      Gives x params slots fit aside h t (operand_code (where_of params h) b t) pc (machine_value i.contents v ∷ st) st i (operand h b v s)
-  operand_runs h true t v s pc st i p o g = (i, leads_none x _, (o, g))
-  operand_runs h false t v s pc st i p o g = standing_runs h t v s pc st i p o g
-
-  pub integer_scalar : (t : StaticType) → IsInteger t → IsScalar t
-  integer_scalar _ (an_integer w) = scalar_integer w
-
-  pub alike_left : (t u : StaticType) → AreAlike t u → IsScalar t
-  alike_left _ _ (two_integers a b) = scalar_integer a
-  alike_left _ _ two_truths = scalar_truth
 
   pub alike_right : (t u : StaticType) → AreAlike t u → IsScalar u
   alike_right _ _ (two_integers a b) = scalar_integer b
@@ -298,6 +294,22 @@ module _ (x : Setting) (params slots : ℕ) (fit : SlotsFit x slots) (aside : As
       Gives x params slots fit aside h t (standing_code (where_of params h) t) pc (machine_value i.contents v ∷ st) st i (standing h v s)
   standing_number h _ _ s pc st i (number_integer w) (of_integer _ z p) g = (i, leads_none x _, (of_integer w z p, g))
   standing_number h _ _ s pc st i (number_index k) (of_index _ z p) g = (i, leads_none x _, (of_index k z p, g))
+
+  -- an operand of a comparison, which stands for itself
+  pub compared_left : (t u : StaticType) → AreComparable t u → IsScalar t ⊎ IsNumber t
+  compared_left t u (compare_numbers _ _ n m) = inr n
+  compared_left _ _ compare_truths = inl scalar_truth
+
+  pub compared_right : (t u : StaticType) → AreComparable t u → IsScalar u ⊎ IsNumber u
+  compared_right t u (compare_numbers _ _ n m) = inr m
+  compared_right _ _ compare_truths = inl scalar_truth
+
+  pub compared_operand : (h : Here) (b : Bool) (t : StaticType) (v : Value) (s : State) (pc : ℕ)
+      (st : List MachineValue) (i : Instance) → IsScalar t ⊎ IsNumber t → IsOf t v → Agrees x params slots aside h s i →
+      Gives x params slots fit aside h t (operand_code (where_of params h) b t) pc (machine_value i.contents v ∷ st) st i (operand h b v s)
+  compared_operand h true t v s pc st i p o g = (i, leads_none x _, (o, g))
+  compared_operand h false t v s pc st i (inl p) o g = standing_runs h t v s pc st i p o g
+  compared_operand h false t v s pc st i (inr p) o g = standing_number h t v s pc st i p o g
 
   pub converted_runs : (h : Here) (t u : StaticType) (rs : List Region) (v : Value) (s : State) (pc : ℕ)
       (st : List MachineValue) (i : Instance) → AreAlike t u → IsOf t v → Agrees x params slots aside h s i →

@@ -45,7 +45,7 @@ use Rattle.check_rules.specs.types.TypedForms.{computing}
 use Rattle.check_rules.specs.declared.rule.Rule.TheVariants as rule
 use Rattle.check_rules.proofs.Untold.{rule_none, standing_none}
 use Rattle.code_rules.specs.Slots.{Where, typed}
-use Rattle.code_laws.specs.Simple.{IsNumber, number_integer, AreAlike, IsInteger, IsIntegerTerm, IsScalar, IsTruth, SignsFit, a_truth_type, an_integer, minus_before, not_before, of_a_truth, of_an_integer, scalar_integer, scalar_truth, term_32, term_64, two_integers, two_truths}
+use Rattle.code_laws.specs.Simple.{AreComparable, compare_numbers, compare_truths, IsNumber, number_integer, AreAlike, IsInteger, IsIntegerTerm, IsScalar, IsTruth, SignsFit, a_truth_type, an_integer, minus_before, not_before, of_a_truth, of_an_integer, scalar_integer, scalar_truth, term_32, term_64, two_integers, two_truths}
 use Rattle.code_laws.specs.Typed.{AreNumbers, AreTypedLinks, IsTyped}
 use Rattle.scalar_form.specs.ScalarForm.{are_scalar_expressions, are_scalar_links, is_scalar_expression, is_scalar_number}
 
@@ -60,6 +60,10 @@ no_way_back e = absurd cc
 -- what may be an integer, a truth or a number among scalars
 integer_number : (t : StaticType) → IsInteger t → IsNumber t
 integer_number _ (an_integer w) = number_integer w
+
+alike_comparable : (t u : StaticType) → AreAlike t u → AreComparable t u
+alike_comparable _ _ (two_integers v w) = compare_numbers _ _ (number_integer v) (number_integer w)
+alike_comparable _ _ two_truths = compare_truths
 
 pub as_integer : (t : StaticType) → IsScalar t → may_be is_integer t ≡ true → IsInteger t
 as_integer _ (scalar_integer w) e = an_integer w
@@ -250,7 +254,7 @@ module _ (task : TaskTree) (w : Where) (sound : IsSound w.tree) (scope : IsSound
       record { are = (both.0, both.1, a.is, r.are); scalar = r.scalar }
   by_operator (Compare c) t e rest scalar a does more =
       let r = more scalar_truth in
-      record { are = (compared c t (typed w e) scalar a.scalar does, a.is, r.are); scalar = r.scalar }
+      record { are = (alike_comparable t (typed w e) (compared c t (typed w e) scalar a.scalar does), a.is, r.are); scalar = r.scalar }
   by_operator (Compute o) t e rest scalar a does more =
       let both = computed t (typed w e) scalar a.scalar does in
       let r = more (operated_scalar o t (typed w e) both.0 both.1) in

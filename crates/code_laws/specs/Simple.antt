@@ -48,6 +48,11 @@ pub data AreAlike : StaticType → StaticType → Type 0 where
   two_integers : (v w : Width) → AreAlike (integer_type v) (integer_type w)
   two_truths : AreAlike truth_type truth_type
 
+-- two numbers that are compared, integers or indices, or two truths
+pub data AreComparable : StaticType → StaticType → Type 0 where
+  compare_numbers : (t u : StaticType) → IsNumber t → IsNumber u → AreComparable t u
+  compare_truths : AreComparable truth_type truth_type
+
 -- prefixes of a truth, or of an integer
 pub data SignsFit : StaticType → List Sign → Type 0 where
   of_a_truth : SignsFit truth_type []

@@ -1,5 +1,6 @@
 -- Well-typed expressions and statements of numbers and truths, also those of fields at points of regions that
--- have names, indices, and loops over index spaces: no partition, and no pointer that is kept. Roots are made where that is allowed.
+-- have names, of indices, and of loops over index spaces: no partition, and no pointer that is kept. Roots are
+-- made, and tasks called, where the forms allow it.
 use Rattle.std.specs.Prelude.{◌≡◌, ℕ, suc, ◌<◌, ◌≤◌, ℤ, pos, ◌+ℤ◌, int_lt, length, slice_get, List, [], ◌∷◌, true, false, Some, None}
 use Rattle.lane_kernels.specs.Numbers.{FitsWidth}
 use Rattle.regent_tree.specs.declared.expression.Operator.TheVariants.{Or, And, Compare, Compute}
@@ -12,7 +13,7 @@ use Rattle.regent_tree.specs.Lookup.{is_bound}
 use Rattle.regent_tree.specs.Numbers.{distance}
 use Rattle.regent_tree.specs.Syntax.{a_statement, Form, var_form, if_form, while_form, for_in_form, for_to_form, do_form, assert_form, print_form, assign_form, return_form, Block, no_statement, then_statement, Arms, no_arm, an_arm, Otherwise, no_else, else_block, plain_initializer, region_initializer, Name, Tree, fill_form, call_form, call_expr, Expression, number_expr, truth_expr, chain_expr, prefix_expr, access_expr, convert_expr, Expressions, no_expr, an_expr, Links, no_link, a_link, no_step, field_step, at_step, space_expr}
 use Rattle.regent_tree.specs.Typing.{arithmetic_type, operated, param_types, params_at, result_type, taken_from, type_of_element, type_of_field, var_type}
-use Rattle.code_laws.specs.Simple.{IsInteger, IsTruth, IsScalar, IsSimple, IsNumber, IsSpace, IsRegion, AreAlike, SignsFit, FieldFits, IsIntegerTerm}
+use Rattle.code_laws.specs.Simple.{AreComparable, IsInteger, IsTruth, IsScalar, IsSimple, IsNumber, IsSpace, IsRegion, AreAlike, SignsFit, FieldFits, IsIntegerTerm}
 use Rattle.code_rules.specs.Instructions.{place_of_task, tasks_of}
 use Rattle.code_rules.specs.Programs.{task_code}
 use Rattle.code_laws.specs.Steps.{Forms}
@@ -71,7 +72,7 @@ abbrev mutual
       IsTruth t × IsTruth (typed w e) × IsTyped forms w e × AreTypedLinks forms w truth_type rest
   AreTypedLinks forms w t (a_link And e rest) =
       IsTruth t × IsTruth (typed w e) × IsTyped forms w e × AreTypedLinks forms w truth_type rest
-  AreTypedLinks forms w t (a_link (Compare c) e rest) = AreAlike t (typed w e) × IsTyped forms w e
+  AreTypedLinks forms w t (a_link (Compare c) e rest) = AreComparable t (typed w e) × IsTyped forms w e
       × AreTypedLinks forms w (operated (Compare c) t (typed w e)) rest
   AreTypedLinks forms w t (a_link (Compute o) e rest) = IsNumber t × IsNumber (typed w e) × IsTyped forms w e
       × AreTypedLinks forms w (operated (Compute o) t (typed w e)) rest
