@@ -261,7 +261,7 @@ short_body tree n within at =
     subst (λ u. length (task_code tree u).body < 2 ^ 32) (get_or_from_slice_get (tasks_of tree) k t t at)
     (bodies_are_short tree within k t (slice_get_within (tasks_of tree) k t at))
 
-scalar_run : (tree : Tree) (inputs : List ℤ) → IsScalarProgramRun tree inputs → IsTypedRun scalar_forms tree inputs
+pub scalar_run : (tree : Tree) (inputs : List ℤ) → IsScalarProgramRun tree inputs → IsTypedRun scalar_forms tree inputs
 scalar_run tree inputs p =
     let main = entry_name tree in
     let t = task_named tree main in
