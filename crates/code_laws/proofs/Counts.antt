@@ -4,7 +4,7 @@ use Rattle.std.specs.Prelude.{int_lt, cond}
 use Rattle.std.proofs.Math.IntN.{sub_ℕ}
 use Rattle.std.proofs.lemmas.Bool.{lt-ltb, le-ltb, cases_lt}
 use Rattle.regent_tree.specs.Numbers.{distance}
-use Rattle.code_laws.specs.Scalars.{CountsDown}
+use Rattle.code_laws.specs.Typed.{CountsDown}
 
 sub_low : (a b : ℕ) → a < b → sub_ℕ a b ≡ negsuc (b - suc a)
 sub_low a b h = ap (λ c. cond c (negsuc (b - suc a)) (pos (a - b))) (lt-ltb a b h)

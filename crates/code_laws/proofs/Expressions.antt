@@ -1,290 +1,52 @@
 -- The code of an expression leaves its value on the stack, or ends with its fault.
-use Rattle.std.proofs.Common.{◌≡◌, ℕ, suc, ◌^◌, ◌<◌, ◌≤◌, ℤ, pos, List, ◌∷◌, Bool, true, false, Option, Some, None, refl, sym, ap, ◌∙◌, subst, arith}
-use Rattle.lane_kernels.specs.declared.numbers.Width.TheVariants.{W32, W64}
-use Rattle.regent_tree.specs.declared.types.NumberTerm.{NumberTerm}
-use Rattle.std.proofs.lemmas.Int.{SFits-int_wrap}
-use Rattle.lane_kernels.specs.Numbers.{FitsWidth, wrapped, std_width}
-use Rattle.std.specs.Prelude.{get_or, length, not, nat_lt, slice_get}
-use Rattle.std.proofs.lemmas.Bool.{ltb-true}
-use Rattle.std.proofs.lemmas.Option.{slice_get-get_or, none-some}
-use Rattle.lane_kernels.specs.declared.numbers.Width.{Width}
-use Rattle.regent_tree.specs.declared.expression.Arithmetic.{Arithmetic}
-use Rattle.regent_tree.specs.declared.expression.Comparison.{Comparison}
+use Rattle.machine_terms.specs.Contents.{no_contents}
+use Rattle.code_laws.proofs.States.{stored}
+use Rattle.code_laws.proofs.Prints.{pushed_all}
+use Rattle.code_laws.proofs.Results.{results_run}
+use Rattle.code_laws.proofs.Calling.{HasResult, calls_run, pending, scalar_value}
+use Rattle.code_laws.proofs.Operations.{compared_left, compared_operand, compared_right, standing_number, alike_right, and_runs, compare_runs, compute_runs, converted_runs, fetch_small, named_runs, or_runs, plain_signs, same_type, signs_run, signs_typed, space_runs, standing_runs, truth_of_type, wraps_run}
+use Rattle.code_laws.proofs.Accesses.{access_reads}
+use Rattle.regent_tree.proofs.Laws.{expressions_keep_names}
+use Rattle.std.proofs.Common.{◌≡◌, ℕ, suc, ◌<◌, ◌≤◌, List, [], ◌∷◌, false, refl, sym, ap, subst, arith}
+use Rattle.std.specs.Prelude.{get_or, length}
 use Rattle.regent_tree.specs.declared.expression.Operator.TheVariants.{Or, And, Compare, Compute}
-use Rattle.regent_tree.specs.declared.expression.Sign.{Sign}
-use Rattle.regent_tree.specs.declared.outcome.FaultKind.TheVariants.{DivideByZero}
 use Rattle.regent_tree.specs.declared.typing.StaticType.{StaticType}
-use Rattle.regent_tree.specs.declared.typing.StaticType.TheVariants.{Integer as integer_type, Truth as truth_type}
-use Rattle.regent_tree.specs.Lookup.{is_bound}
+use Rattle.regent_tree.specs.declared.typing.StaticType.TheVariants.{Truth as truth_type}
 use Rattle.regent_tree.specs.Scopes.{bound_to}
-use Rattle.regent_tree.specs.Syntax.{Name, Expression, number_expr, truth_expr, chain_expr, prefix_expr, access_expr, call_expr, convert_expr, is_null_expr, null_expr, cast_expr, space_expr, Links, no_link, a_link, no_step, field_step, at_step}
-use Rattle.regent_tree.specs.Numbers.{computed, wider}
-use Rattle.regent_tree.specs.Values.{Value, a_number, a_truth, kept_truth, truth_of, Region}
-use Rattle.regent_tree.specs.StaticTypes.{number_type}
-use Rattle.regent_tree.specs.Typing.{operated, linked_type, signed_type, are_pointers}
-use Rattle.regent_tree.specs.Running.{State, Here, Run, if_true, gives}
-use Rattle.regent_tree.specs.Operators.{unless_divided, all_signed, combined, negated, operand, as_number}
-use Rattle.regent_tree.specs.Accesses.{standing, converted}
-use Rattle.regent_tree.specs.Evaluation.{value, linked, named_value}
-use Rattle.task_code.specs.declared.instr.Instr.{Instr}
+use Rattle.regent_tree.specs.Syntax.{Expression, number_expr, truth_expr, chain_expr, prefix_expr, access_expr, call_expr, convert_expr, is_null_expr, null_expr, cast_expr, space_expr, Expressions, no_expr, an_expr, Links, no_link, a_link, no_step, field_step, at_step}
+use Rattle.regent_tree.specs.Values.{Value, a_number, a_truth, kept_truth}
+use Rattle.regent_tree.specs.Typing.{linked_type, signed_type, are_pointers, param_types, params_at, result_type}
+use Rattle.regent_tree.specs.Running.{State, Here}
+use Rattle.regent_tree.specs.Operators.{all_signed, combined, operand}
+use Rattle.regent_tree.specs.Accesses.{converted, standing}
+use Rattle.regent_tree.specs.Evaluation.{called, value, values, linked}
 use Rattle.task_code.specs.declared.instr.Instr.TheVariants as instr
 use Rattle.machine_terms.specs.declared.value.Value.{Value as MachineValue}
-use Rattle.machine_terms.specs.declared.value.Value.TheVariants as machine
-use Rattle.machine_terms.specs.Numbers.{divided, load}
-use Rattle.machine_terms.specs.Segments.{act}
-use Rattle.machine_terms.specs.declared.order.Ended.TheVariants.{Broke}
 use Rattle.machine_terms.specs.declared.order.Instance.{Instance}
-use Rattle.machine_terms.specs.declared.order.Resumed.TheVariants.{IsOver}
 use Rattle.code_rules.specs.Pieces.{op, past}
-use Rattle.task_code.specs.declared.code.Line.{Line}
-use Rattle.machine_terms.specs.Jumps.{fetch}
-use Rattle.code_rules.specs.Slots.{typed, slot, slot_named}
-use Rattle.code_rules.specs.Expressions.{expr_code, links_code}
-use Rattle.code_rules.specs.Instructions.{converted_code, signs_code, standing_code, operand_code, computing, comparing, operating, one, as_number_code}
-use Rattle.code_laws.specs.Steps.{Setting, machine_of, placed, on_step, Leads}
-use Rattle.code_laws.specs.Standing.{Stands, machine_value, IsOf, of_integer, of_truth, nothing, blank, Aside, SlotsFit, where_of, Agrees, Comes}
-use Rattle.code_laws.specs.Scalars.{IsInteger, an_integer, IsTruth, a_truth_type, AreAlike, two_integers, two_truths, IsScalar, scalar_integer, scalar_truth, SignsFit, of_a_truth, of_an_integer, not_before, minus_before, IsTyped, AreTypedLinks, IsIntegerTerm, term_32, term_64}
-use Rattle.code_laws.proofs.Runs.{leads_none, leads_twice, leads_by, ends_by, then, comes_before, comes_said}
+use Rattle.code_rules.specs.Slots.{spare, typed}
+use Rattle.code_rules.specs.Expressions.{count, expr_code, exprs_code, links_code}
+use Rattle.code_rules.specs.Instructions.{converted_code, operand_code, place_of_task}
+use Rattle.code_laws.specs.Steps.{Setting, placed}
+use Rattle.code_laws.specs.Standing.{AreTaken, Comes, Stands, machine_value, IsInside, IsOf, of_integer, of_truth, nothing, Aside, SlotsFit, where_of, Agrees}
+use Rattle.code_laws.specs.Simple.{IsScalar}
+use Rattle.regent_tree.specs.StaticTypes.{task_named}
+use Rattle.code_laws.specs.Typed.{ArePassed, IsTyped, AreTypedLinks}
+use Rattle.code_laws.proofs.Runs.{comes_on, leads_none, then, comes_said}
 use Rattle.code_laws.proofs.Good.{valued, Good, Gives, pushes}
-use Rattle.code_laws.proofs.Values.{past_later, jump_later, load_value, named, act_computing, act_comparing, computed_fits}
-
--- an instruction stands at a place of 32 bits
-pub fetch_small : (body : List Line) (pc : ℕ) (l : Line) → fetch body pc ≡ Some l → pc < 2 ^ 32
-fetch_small body pc l e = by (nat_lt pc (2 ^ 32)) refl e
-  where
-    by : (b : Bool) → nat_lt pc (2 ^ 32) ≡ b →
-        elim b [ true ↦ slice_get body pc | false ↦ None ] ≡ Some l → pc < 2 ^ 32
-    by true q e = ltb-true pc (2 ^ 32) q
-    by false q e = absurd (none-some l e)
+use Rattle.code_laws.proofs.Values.{past_later, named}
 
 module _ (x : Setting) (params slots : ℕ) (fit : SlotsFit x slots) (aside : Aside) where
-  -- ---- arithmetic
-
-  divided_runs : (h : Here) (w : Width) (s : State) (pc : ℕ) (before st : List MachineValue) (i : Instance)
-      (ins : Instr) (line : ℕ) → h.line ≡ line → Stands x.body pc (op ins line) →
-      Agrees x params slots aside h s i → (r : Option ℤ) → ((z : ℤ) → r ≡ Some z → FitsWidth w z) →
-      act x.code x.body ins line (machine_of (placed pc before i))
-      ≡ divided r line st (machine_of (placed pc before i)) →
-      Gives x params slots fit aside h (integer_type w) (op ins line) pc before st i (unless_divided h (a_number w) r s)
-  divided_runs h w s pc before st i ins line hl f a (Some z) fits e =
-      pushes x params slots fit aside h (integer_type w) (a_number w z) s pc before st i ins line f
-      (of_integer w z (fits z refl)) a (ap (on_step x (placed pc before i)) e)
-  divided_runs h w s pc before st i ins line hl f a None fits e =
-      ends_by x _ _ ins line f
-      (ap (on_step x (placed pc before i)) e
-      ∙ ap (λ l. IsOver (Broke (Some (record { kind = DivideByZero; line = l })) i.text)) (sym hl)
-      ∙ ap (λ u. IsOver (Broke (Some (record { kind = DivideByZero; line = h.line })) u)) a.text)
-
-  -- the arithmetic of two integers
-  compute_runs : (h : Here) (o : Arithmetic) (t u : StaticType) (v w : Value) (s : State) (pc : ℕ)
-      (st : List MachineValue) (i : Instance) → IsInteger t → IsInteger u → IsOf t v → IsOf u w →
-      Agrees x params slots aside h s i →
-      Stands x.body pc (one (where_of params h) (operating (Compute o) t u)) →
-      Gives x params slots fit aside h (operated (Compute o) t u) (one (where_of params h) (operating (Compute o) t u)) pc
-      (machine_value w ∷ machine_value v ∷ st) st i (combined h (Compute o) v w s)
-  compute_runs h o _ _ _ _ s pc st i (an_integer a) (an_integer b) (of_integer _ y _) (of_integer _ z _) g f =
-      divided_runs h (wider a b) s pc (machine.Number z ∷ machine.Number y ∷ st) st i (computing o (wider a b)) h.line refl f
-      g (computed o (wider a b) y z) (computed_fits o (wider a b) y z)
-      (act_computing x.code x.body o (wider a b) h.line _)
-
-  -- ---- comparisons
-
-  compare_runs : (h : Here) (c : Comparison) (t u : StaticType) (v w : Value) (s : State) (pc : ℕ)
-      (st : List MachineValue) (i : Instance) → AreAlike t u → IsOf t v → IsOf u w →
-      Agrees x params slots aside h s i →
-      Stands x.body pc (one (where_of params h) (operating (Compare c) t u)) →
-      Gives x params slots fit aside h truth_type (one (where_of params h) (operating (Compare c) t u)) pc
-      (machine_value w ∷ machine_value v ∷ st) st i (combined h (Compare c) v w s)
-  compare_runs h c _ _ _ _ s pc st i (two_integers a b) (of_integer _ y _) (of_integer _ z _) g f =
-      pushes x params slots fit aside h truth_type _ s pc _ st i (comparing c false) h.line f (of_truth _) g
-      (ap (on_step x (placed pc (machine.Number z ∷ machine.Number y ∷ st) i)) (act_comparing x.code x.body c h.line _))
-  compare_runs h c _ _ _ _ s pc st i two_truths (of_truth a) (of_truth b) g f =
-      pushes x params slots fit aside h truth_type _ s pc _ st i (comparing c false) h.line f (of_truth _) g
-      (ap (on_step x (placed pc (machine_value (a_truth b) ∷ machine_value (a_truth a) ∷ st) i)) (act_comparing x.code x.body c h.line _))
-
-  -- ---- prefixes
-
-  not_runs : (u : Value) (pc line : ℕ) (st : List MachineValue) (i : Instance) →
-      IsOf truth_type u → Stands x.body pc (op instr.Not line) →
-      Leads x (valued pc st u i) (valued (suc pc) st (a_truth (not (truth_of u))) i)
-  not_runs _ pc line st i (of_truth true) f = leads_by x _ _ instr.Not line f refl
-  not_runs _ pc line st i (of_truth false) f = leads_by x _ _ instr.Not line f refl
-
-  minus_runs : (w : Width) (u : Value) (pc line : ℕ) (st : List MachineValue) (i : Instance) →
-      IsOf (integer_type w) u → Stands x.body pc (op (instr.Neg w) line) →
-      Leads x (valued pc st u i) (valued (suc pc) st (negated u) i)
-  minus_runs w _ pc line st i (of_integer _ z _) f = leads_by x _ _ (instr.Neg w) line f refl
-
-  minus_typed : (w : Width) (u : Value) → IsOf (integer_type w) u → IsOf (integer_type w) (negated u)
-  minus_typed w _ (of_integer _ z _) = of_integer w _ (SFits-int_wrap (std_width w) _)
-
-  signs_typed : (t : StaticType) (signs : List Sign) (v : Value) → SignsFit t signs → IsOf t v →
-      IsOf t (all_signed signs v)
-  signs_typed _ _ v of_a_truth o = o
-  signs_typed _ _ v (of_an_integer w) o = o
-  signs_typed _ _ v (not_before ss fit) o = of_truth _
-  signs_typed _ _ v (minus_before w ss fit) o = minus_typed w _ (signs_typed _ ss v fit o)
-
-  signs_run : (h : Here) (t : StaticType) (signs : List Sign) (v : Value) (pc : ℕ)
-      (st : List MachineValue) (i : Instance) → SignsFit t signs → IsOf t v →
-      Stands x.body pc (signs_code (where_of params h) t signs) →
-      Leads x (valued pc st v i)
-      (valued (past (signs_code (where_of params h) t signs) pc) st (all_signed signs v) i)
-  signs_run h _ _ v pc st i of_a_truth o f = leads_none x _
-  signs_run h _ _ v pc st i (of_an_integer w) o f = leads_none x _
-  signs_run h _ _ v pc st i (not_before ss fit) o f =
-      leads_twice x (signs_run h _ ss v pc st i fit o f.0)
-      (not_runs _ _ h.line st i (signs_typed _ ss v fit o) f.1)
-  signs_run h _ _ v pc st i (minus_before w ss fit) o f =
-      leads_twice x (signs_run h _ ss v pc st i fit o f.0)
-      (minus_runs w _ _ h.line st i (signs_typed _ ss v fit o) f.1)
-
-  -- integers and truths have the type of what prefixes make of them
-  same_type : (t : StaticType) (signs : List Sign) → SignsFit t signs → t ≡ signed_type signs t
-  same_type _ _ of_a_truth = refl
-  same_type _ _ (of_an_integer w) = refl
-  same_type _ _ (not_before ss fit) = refl
-  same_type _ _ (minus_before w ss fit) = refl
-
-  -- ---- operands that are no pointers
-
-  plain_signs : (t : StaticType) (signs : List Sign) → SignsFit t signs → IsScalar t
-  plain_signs _ _ of_a_truth = scalar_truth
-  plain_signs _ _ (of_an_integer w) = scalar_integer w
-  plain_signs _ _ (not_before ss fit) = scalar_truth
-  plain_signs _ _ (minus_before w ss fit) = scalar_integer w
-
-  -- a value that stands for itself
-  standing_runs : (h : Here) (t : StaticType) (v : Value) (s : State) (pc : ℕ)
-      (st : List MachineValue) (i : Instance) → IsScalar t → IsOf t v → Agrees x params slots aside h s i →
-      Gives x params slots fit aside h t (standing_code (where_of params h) t) pc (machine_value v ∷ st) st i (standing h v s)
-  standing_runs h _ _ s pc st i (scalar_integer w) (of_integer _ z p) g =
-      (i, leads_none x _, (of_integer w z p, g))
-  standing_runs h _ _ s pc st i scalar_truth (of_truth b) g = (i, leads_none x _, (of_truth b, g))
-
-  operand_runs : (h : Here) (b : Bool) (t : StaticType) (v : Value) (s : State) (pc : ℕ)
-      (st : List MachineValue) (i : Instance) → IsScalar t → IsOf t v → Agrees x params slots aside h s i →
-      Gives x params slots fit aside h t (operand_code (where_of params h) b t) pc (machine_value v ∷ st) st i (operand h b v s)
-  operand_runs h true t v s pc st i p o g = (i, leads_none x _, (o, g))
-  operand_runs h false t v s pc st i p o g = standing_runs h t v s pc st i p o g
-
-  integer_scalar : (t : StaticType) → IsInteger t → IsScalar t
-  integer_scalar _ (an_integer w) = scalar_integer w
-
-  alike_left : (t u : StaticType) → AreAlike t u → IsScalar t
-  alike_left _ _ (two_integers a b) = scalar_integer a
-  alike_left _ _ two_truths = scalar_truth
-
-  pub alike_right : (t u : StaticType) → AreAlike t u → IsScalar u
-  alike_right _ _ (two_integers a b) = scalar_integer b
-  alike_right _ _ two_truths = scalar_truth
-
-  pub truth_of_type : (t : StaticType) (v : Value) → IsTruth t → IsOf t v → IsOf truth_type v
-  truth_of_type _ v a_truth_type o = o
-
-  -- ---- names
-
-  named_runs : (h : Here) (n : Name) (s : State) (pc : ℕ) (st : List MachineValue) (i : Instance) →
-      is_bound h.scope.names n ≡ true → Agrees x params slots aside h s i →
-      Stands x.body pc (one (where_of params h) (instr.Load (slot_named (where_of params h) n))) →
-      Gives x params slots fit aside h (bound_to h.scope.names n).static_type
-      (one (where_of params h) (instr.Load (slot_named (where_of params h) n))) pc st st i
-      (named_value h n s)
-  named_runs h n s pc st i b g f =
-      let w = where_of params h in
-      let m = named h.scope.names s.names n g.typed b in
-      let place = (bound_to h.scope.names n).place in
-      let v = get_or s.names place nothing in
-      let there : slot w place < length i.frame.slots = omega (arith, fit pc _ f, g.slots_are) in
-      let below : place < length s.names = omega (arith, m.below, g.count) in (
-        i,
-        leads_by x (placed pc st i) (valued (suc pc) st v i) _ h.line f
-            (ap (on_step x (placed pc st i))
-            (ap (load (machine_of (placed pc st i)))
-            (slice_get-get_or i.frame.slots (slot w place) blank there ∙ ap Some (g.names place below))
-            ∙ load_value v (machine_of (placed pc st i)))),
-        (m.typed, g),
-      )
-
-  -- ---- and, or
-
-  or_jumps : (h : Here) (pc to : ℕ) (st : List MachineValue) (i : Instance) → pc < to →
-      Stands x.body pc (op (instr.OrJump to) h.line) →
-      Leads x (valued pc st (a_truth true) i) (valued to st (a_truth true) i)
-  or_jumps h pc to st i l f = leads_by x _ _ (instr.OrJump to) h.line f
-      (ap (on_step x (valued pc st (a_truth true) i))
-      (jump_later x.body to (machine.Number (pos 1) ∷ st) (machine_of (valued pc st (a_truth true) i)) l))
-
-  or_goes_on : (h : Here) (pc to : ℕ) (st : List MachineValue) (i : Instance) →
-      Stands x.body pc (op (instr.OrJump to) h.line) →
-      Leads x (valued pc st (a_truth false) i) (placed (suc pc) st i)
-  or_goes_on h pc to st i f = leads_by x _ _ (instr.OrJump to) h.line f refl
-
-  and_jumps : (h : Here) (pc to : ℕ) (st : List MachineValue) (i : Instance) → pc < to →
-      Stands x.body pc (op (instr.AndJump to) h.line) →
-      Leads x (valued pc st (a_truth false) i) (valued to st (a_truth false) i)
-  and_jumps h pc to st i l f = leads_by x _ _ (instr.AndJump to) h.line f
-      (ap (on_step x (valued pc st (a_truth false) i))
-      (jump_later x.body to (machine.Number (pos 0) ∷ st) (machine_of (valued pc st (a_truth false) i)) l))
-
-  and_goes_on : (h : Here) (pc to : ℕ) (st : List MachineValue) (i : Instance) →
-      Stands x.body pc (op (instr.AndJump to) h.line) →
-      Leads x (valued pc st (a_truth true) i) (placed (suc pc) st i)
-  and_goes_on h pc to st i f = leads_by x _ _ (instr.AndJump to) h.line f refl
-
-  -- `or` and `and`, where the jump stands before the right side
-  or_runs : (h : Here) (pc to : ℕ) (st : List MachineValue) (i : Instance) (v : Value) (s : State)
-      (A B : Run Value) (shape : Value → Instance → Instance) (G : Value → State → Instance → Type 0) →
-      IsOf truth_type v → pc < to → Stands x.body pc (op (instr.OrJump to) h.line) →
-      Comes x (valued to st v i) shape G (A s) → Comes x (placed (suc pc) st i) shape G (B s) →
-      Comes x (valued pc st v i) shape G (if_true (truth_of v) A B s)
-  or_runs h pc to st i _ s A B shape G (of_truth true) l f this that =
-      comes_before x shape G _ _ (A s) (or_jumps h pc to st i l f) this
-  or_runs h pc to st i _ s A B shape G (of_truth false) l f this that =
-      comes_before x shape G _ _ (B s) (or_goes_on h pc to st i f) that
-
-  and_runs : (h : Here) (pc to : ℕ) (st : List MachineValue) (i : Instance) (v : Value) (s : State)
-      (A B : Run Value) (shape : Value → Instance → Instance) (G : Value → State → Instance → Type 0) →
-      IsOf truth_type v → pc < to → Stands x.body pc (op (instr.AndJump to) h.line) →
-      Comes x (placed (suc pc) st i) shape G (A s) → Comes x (valued to st v i) shape G (B s) →
-      Comes x (valued pc st v i) shape G (if_true (truth_of v) A B s)
-  and_runs h pc to st i _ s A B shape G (of_truth true) l f this that =
-      comes_before x shape G _ _ (A s) (and_goes_on h pc to st i f) this
-  and_runs h pc to st i _ s A B shape G (of_truth false) l f this that =
-      comes_before x shape G _ _ (B s) (and_jumps h pc to st i l f) that
-
-  -- ---- conversions and arguments
-
-  -- a conversion to an integer type wraps
-  wraps_run : (h : Here) (t : NumberTerm) (from : StaticType) (v : Value) (s : State) (pc : ℕ)
-      (st : List MachineValue) (i : Instance) → IsIntegerTerm t → IsInteger from → IsOf from v →
-      Agrees x params slots aside h s i → Stands x.body pc (as_number_code (where_of params h) t) →
-      Gives x params slots fit aside h (number_type t) (as_number_code (where_of params h) t) pc
-      (machine_value v ∷ st) st i (gives (as_number t v) s)
-  wraps_run h _ _ _ s pc st i term_32 (an_integer w) (of_integer _ z _) g f =
-      pushes x params slots fit aside h (integer_type W32) _ s pc _ st i (instr.Wrap W32) h.line f
-      (of_integer W32 _ (SFits-int_wrap (std_width W32) z)) g refl
-  wraps_run h _ _ _ s pc st i term_64 (an_integer w) (of_integer _ z _) g f =
-      pushes x params slots fit aside h (integer_type W64) _ s pc _ st i (instr.Wrap W64) h.line f
-      (of_integer W64 _ (SFits-int_wrap (std_width W64) z)) g refl
-
-  pub converted_runs : (h : Here) (t u : StaticType) (rs : List Region) (v : Value) (s : State) (pc : ℕ)
-      (st : List MachineValue) (i : Instance) → AreAlike t u → IsOf t v → Agrees x params slots aside h s i →
-      Stands x.body pc (converted_code (where_of params h) t u) →
-      Comes x (valued pc st v i) (valued (past (converted_code (where_of params h) t u) pc) st)
-      (Good x params slots fit aside h u) (converted h t u rs v s)
-  converted_runs h _ _ rs _ s pc st i (two_integers a b) (of_integer _ z _) g f =
-      pushes x params slots fit aside h (integer_type b) _ s pc _ st i (instr.Wrap b) h.line f
-      (of_integer b _ (SFits-int_wrap (std_width b) z)) g refl
-  converted_runs h _ _ rs _ s pc st i two_truths (of_truth b) g f =
-      (i, leads_none x _, (of_truth b, g))
+  -- so many values, each a number or a truth of its parameter's type
+  abbrev pub AreGiven : Here → List StaticType → ℕ → List Value → State → Instance → Type 0
+  AreGiven h ps n vs s j = AreTaken (λ t v. IsScalar t × IsOf t v) ps vs × (length vs ≡ n) × Agrees x params slots aside h s j
 
   -- ---- expressions
 
   mutual
     pub value_runs : (h : Here) (d : ℕ) → params ≤ length h.scope.names →
         (e : Expression) (s : State) (pc : ℕ)
-        (st : List MachineValue) (i : Instance) → IsTyped (where_of params h) e →
+        (st : List MachineValue) (i : Instance) → IsTyped x.forms (where_of params h) e →
         Agrees x params slots aside h s i → Stands x.body pc (expr_code (where_of params h) d e) →
         Gives x params slots fit aside h (typed (where_of params h) e) (expr_code (where_of params h) d e) pc st st i
         (value h e s)
@@ -293,7 +55,7 @@ module _ (x : Setting) (params slots : ℕ) (fit : SlotsFit x slots) (aside : As
     value_runs h d low (truth_expr b) s pc st i fine g f =
         pushes x params slots fit aside h _ (a_truth b) s pc st st i (instr.Num (kept_truth b)) h.line f (of_truth b) g refl
     value_runs h d low (access_expr n no_step) s pc st i fine g f =
-        named_runs h n s pc st i fine.0 g f.0
+        named_runs x params slots fit aside h n s pc st i fine.0 g f.0
     value_runs h d low (prefix_expr signs e) s pc st i fine g f =
         let w = where_of params h in
         let t = typed w e in
@@ -301,13 +63,13 @@ module _ (x : Setting) (params slots : ℕ) (fit : SlotsFit x slots) (aside : As
         (Good x params slots fit aside h (signed_type signs t)) in
         then x said _ _ _ (value h e s) _ (value_runs h d low e s pc st i fine.0 g f.0)
         (λ v s1 j k. then x said _ _ _ (standing h v s1) _
-        (standing_runs h t v s1 _ st j (plain_signs t signs fine.1) k.0 k.1)
+        (standing_runs x params slots fit aside h t v s1 _ st j (plain_signs x params slots fit aside t signs fine.1) k.0 k.1)
         (λ u s2 j2 k2. (
           j2,
-          signs_run h t signs u _ st j2 fine.1 k2.0 f.1.1,
+          signs_run x params slots fit aside h t signs u _ st j2 fine.1 k2.0 f.1.1,
           (
-            subst (λ a. IsOf a (all_signed signs u)) (same_type t signs fine.1)
-                (signs_typed t signs u fine.1 k2.0),
+            subst (λ a. IsOf a (all_signed signs u)) (same_type x params slots fit aside t signs fine.1)
+                (signs_typed x params slots fit aside t signs u fine.1 k2.0),
             k2.1,
           ),
         )))
@@ -322,55 +84,118 @@ module _ (x : Setting) (params slots : ℕ) (fit : SlotsFit x slots) (aside : As
         (Good x params slots fit aside h (typed w (convert_expr t e))) in
         then x said _ _ _ (value h e s) _ (value_runs h d low e s pc st i fine.0 g f.0)
         (λ v s1 j k. then x said _ _ _ (standing h v s1) _
-        (standing_runs h from v s1 _ st j (integer_scalar from fine.1) k.0 k.1)
-        (λ u s2 j2 k2. wraps_run h t from u s2 _ st j2 fine.2 fine.1 k2.0 k2.1 f.1.1))
-    value_runs h d low (call_expr _ _) s pc st i fine g f = absurd fine
+        (standing_number x params slots fit aside h from v s1 _ st j fine.1 k.0 k.1)
+        (λ u s2 j2 k2. wraps_run x params slots fit aside h t from u s2 _ st j2 fine.2 fine.1 k2.0 k2.1 f.1.1))
+    value_runs h d low (call_expr task args) s pc st i fine g f =
+        let w = where_of params h in
+        let callee = task_named h.tree task in
+        let ts = params_at h.tree h.scope callee args in
+        let t = result_type h.tree callee.result in
+        let a = past (exprs_code w d ts args) pc in
+        let done = past (expr_code w d (call_expr task args)) pc in
+        let said = comes_said x (valued done st) (Good x params slots fit aside h t) in
+        then x said _ _ _ (values h ts args s) _
+        (args_run h d low ts (param_types h.tree callee) args s pc st i fine.3 g f.0)
+        (λ vs s1 j k.
+        let called_at = subst (λ n. Stands x.body a (op (instr.Call (place_of_task h.tree task) n) h.line)) (sym k.1) f.1.0 in
+        comes_on x (pending x params slots fit aside j.frame.children (suc a) st) (valued done st)
+        (HasResult x params slots fit aside j.frame.children h task) (Good x params slots fit aside h t) _ (called h task vs s1)
+        (calls_run x params slots fit aside h task vs s1 a st j (k.2.answers fine.0)
+        (record { there = fine.2.0; needs = fine.2.1; taken = k.0 }) (fetch_small x.body (suc a) _ f.1.1.0) k.2 called_at)
+        (λ v s2 j2 k2.
+        let o = k2.2 fine.1 in
+        let r = results_run x params slots fit aside h t d j.frame.children v s2 (suc a) h.line st j2 low fine.1 o k2.0 k2.1 f.1.1.0 f.1.1.1 in
+        (stored (spare w d) (machine_value j2.contents v) j2, r.0, (o, r.1))))
     value_runs h d low (access_expr n (field_step _ _)) s pc st i fine g f = absurd fine
-    value_runs h d low (access_expr n (at_step _ _)) s pc st i fine g f = absurd fine
+    value_runs h d low (access_expr n (at_step e (field_step name no_step))) s pc st i fine g f =
+        let b = bound_to h.scope.names n in
+        let m = named IsOf h.scope.names s.names n g.typed fine.3.named in
+        access_reads x params slots fit aside h d b.static_type b.place (get_or s.names b.place nothing) e name _ s pc st i
+        fine.3.region m.holding refl (omega (arith, m.below, g.count))
+        (λ a f1. value_runs h d low e s a st i fine.0 g f1) fine.1 (expressions_keep_names h e s)
+        fine.2 fine.3.field fine.3.keeps
+        (λ s1 j g1. (named (IsInside x s1.store) h.scope.names s1.names n g1.inside_store fine.3.named).holding) f
+    value_runs h d low (access_expr n (at_step _ no_step)) s pc st i fine g f = absurd fine
+    value_runs h d low (access_expr n (at_step _ (at_step _ _))) s pc st i fine g f = absurd fine
+    value_runs h d low (access_expr n (at_step _ (field_step _ (field_step _ _)))) s pc st i fine g f = absurd fine
+    value_runs h d low (access_expr n (at_step _ (field_step _ (at_step _ _)))) s pc st i fine g f = absurd fine
     value_runs h d low (is_null_expr _) s pc st i fine g f = absurd fine
     value_runs h d low (null_expr _) s pc st i fine g f = absurd fine
     value_runs h d low (cast_expr _ _) s pc st i fine g f = absurd fine
-    value_runs h d low (space_expr _ _) s pc st i fine g f = absurd fine
+    value_runs h d low (space_expr k e) s pc st i fine g f =
+        let w = where_of params h in
+        then x (comes_said x _ _) _ _ _ (value h e s) _ (value_runs h d low e s pc st i fine.0 g f.0)
+        (λ v s1 j k1. space_runs x params slots fit aside h k (typed w e) v s1 _ st j fine.1 k1.0 k1.1 f.1)
+
+    -- arguments: numbers and truths in a row on the stack
+    pub args_run : (h : Here) (d : ℕ) → params ≤ length h.scope.names → (ts ps : List StaticType) (args : Expressions)
+        (s : State) (pc : ℕ) (st : List MachineValue) (i : Instance) → ArePassed x.forms (where_of params h) ts ps args →
+        Agrees x params slots aside h s i → Stands x.body pc (exprs_code (where_of params h) d ts args) →
+        Comes x (placed pc st i)
+        (λ vs j. placed (past (exprs_code (where_of params h) d ts args) pc) (pushed_all no_contents vs st) j)
+        (AreGiven h ps (count args)) (values h ts args s)
+    args_run h d low [] [] no_expr s pc st i fine g f = (i, leads_none x _, (tt, refl, g))
+    args_run h d low (t ∷ ts) (p ∷ ps) (an_expr e es) s pc st i fine g f =
+        let w = where_of params h in
+        let a = past (converted_code w (typed w e) t) (past (expr_code w d e) pc) in
+        let said = comes_said x (λ vs j. placed (past (exprs_code w d (t ∷ ts) (an_expr e es)) pc) (pushed_all no_contents vs st) j)
+        (AreGiven h (p ∷ ps) (count (an_expr e es))) in
+        then x said _ _ _ (value h e s) _ (value_runs h d low e s pc st i fine.2 g f.0)
+        (λ v s1 j k. then x said (valued a st) (Good x params slots fit aside h t) _ (converted h (typed w e) t [] v s1) _
+        (converted_runs x params slots fit aside h (typed w e) t [] v s1 _ st j fine.0 k.0 k.1 f.1.0)
+        (λ u s2 j2 k2.
+        let scalar = alike_right x params slots fit aside (typed w e) t fine.0 in
+        then x said _ _ _ (values h ts es s2) _
+        (subst (λ m. Comes x (placed a (m ∷ st) j2)
+        (λ vs j. placed (past (exprs_code w d ts es) a) (pushed_all no_contents vs (machine_value no_contents u ∷ st)) j)
+        (AreGiven h ps (count es)) (values h ts es s2)) (scalar_value no_contents j2.contents t u scalar k2.0)
+        (args_run h d low ts ps es s2 a (machine_value no_contents u ∷ st) j2 fine.3 k2.1 f.1.1))
+        (λ us s3 j3 k3. (
+          j3,
+          leads_none x _,
+          ((subst (λ q. IsScalar q × IsOf q u) fine.1 (scalar, k2.0), k3.0), ap suc k3.1, k3.2),
+        ))))
+    args_run h d low _ _ _ s pc st i fine g f = absurd fine
 
     pub linked_runs : (h : Here) (d : ℕ) → params ≤ length h.scope.names →
         (t : StaticType) (v : Value) (ls : Links) (s : State) (pc : ℕ)
-        (st : List MachineValue) (i : Instance) → AreTypedLinks (where_of params h) t ls → IsOf t v →
+        (st : List MachineValue) (i : Instance) → AreTypedLinks x.forms (where_of params h) t ls → IsOf t v →
         Agrees x params slots aside h s i → Stands x.body pc (links_code (where_of params h) d t ls) →
         Gives x params slots fit aside h (linked_type h.tree h.scope t ls) (links_code (where_of params h) d t ls) pc
-        (machine_value v ∷ st) st i (linked h t v ls s)
+        (machine_value i.contents v ∷ st) st i (linked h t v ls s)
     linked_runs h d low t v no_link s pc st i fine o g f = (i, leads_none x _, (o, g))
     linked_runs h d low t v (a_link Or e rest) s pc st i fine o g f =
-        let o2 = truth_of_type t v fine.0 o in
+        let o2 = truth_of_type x params slots fit aside t v fine.0 o in
         let a = expr_code (where_of params h) d e in
         let to = past a (suc pc) in
         let later : pc < to = omega (arith, past_later a (suc pc)) in
-        or_runs h pc to st i v s _ _ _ _ o2 later f.0.0
+        or_runs x params slots fit aside h pc to st i v s _ _ _ _ o2 later f.0.0
         (linked_runs h d low truth_type v rest s to st i fine.3 o2 g f.1)
         (then x (comes_said x _ _) _ _ _ (value h e s) _ (value_runs h d low e s (suc pc) st i fine.2 g f.0.1)
         (λ u s1 j k. linked_runs h d low truth_type u rest s1 to st j fine.3
-        (truth_of_type _ u fine.1 k.0) k.1 f.1))
+        (truth_of_type x params slots fit aside _ u fine.1 k.0) k.1 f.1))
     linked_runs h d low t v (a_link And e rest) s pc st i fine o g f =
-        let o2 = truth_of_type t v fine.0 o in
+        let o2 = truth_of_type x params slots fit aside t v fine.0 o in
         let a = expr_code (where_of params h) d e in
         let to = past a (suc pc) in
         let later : pc < to = omega (arith, past_later a (suc pc)) in
-        and_runs h pc to st i v s _ _ _ _ o2 later f.0.0
+        and_runs x params slots fit aside h pc to st i v s _ _ _ _ o2 later f.0.0
         (then x (comes_said x _ _) _ _ _ (value h e s) _ (value_runs h d low e s (suc pc) st i fine.2 g f.0.1)
         (λ u s1 j k. linked_runs h d low truth_type u rest s1 to st j fine.3
-        (truth_of_type _ u fine.1 k.0) k.1 f.1))
+        (truth_of_type x params slots fit aside _ u fine.1 k.0) k.1 f.1))
         (linked_runs h d low truth_type v rest s to st i fine.3 o2 g f.1)
     linked_runs h d low t v (a_link (Compute c) e rest) s pc st i fine o g f =
         let w = where_of params h in
         let u = typed w e in
         let b = false in
         then x (comes_said x _ _) _ _ _ (operand h b v s) _
-        (operand_runs h b t v s pc st i (integer_scalar t fine.0) o g)
+        (standing_number x params slots fit aside h t v s pc st i fine.0 o g)
         (λ v1 s1 j1 k1. then x (comes_said x _ _) _ _ _ (value h e s1) _
-        (value_runs h d low e s1 _ (machine_value v1 ∷ st) j1 fine.2 k1.1 f.1.0)
+        (value_runs h d low e s1 _ (machine_value j1.contents v1 ∷ st) j1 fine.2 k1.1 f.1.0)
         (λ v2 s2 j2 k2. then x (comes_said x _ _) _ _ _ (operand h b v2 s2) _
-        (operand_runs h b u v2 s2 _ (machine_value v1 ∷ st) j2 (integer_scalar u fine.1) k2.0 k2.1)
+        (standing_number x params slots fit aside h u v2 s2 _ (machine_value j1.contents v1 ∷ st) j2 fine.1 k2.0 k2.1)
         (λ v3 s3 j3 k3. then x (comes_said x _ _) _ _ _ (combined h (Compute c) v1 v3 s3) _
-        (compute_runs h c t u v1 v3 s3 _ st j3 fine.0 fine.1 k1.0 k3.0 k3.1 f.1.1.1.0)
+        (compute_runs x params slots fit aside j1.contents h c t u v1 v3 s3 _ st j3 fine.0 fine.1 k1.0 k3.0 k3.1 f.1.1.1.0)
         (λ v4 s4 j4 k4. linked_runs h d low _ v4 rest s4 _ st j4 fine.3 k4.0 k4.1 f.1.1.1.1))))
     linked_runs h d low t v (a_link (Compare c) e rest) s pc st i fine o g f =
         let w = where_of params h in
@@ -378,11 +203,11 @@ module _ (x : Setting) (params slots : ℕ) (fit : SlotsFit x slots) (aside : As
         let b = are_pointers t u in
         let pc3 = past (operand_code w b u) (past (expr_code w d e) (past (operand_code w b t) pc)) in
         then x (comes_said x _ _) _ _ _ (operand h b v s) _
-        (operand_runs h b t v s pc st i (alike_left t u fine.0) o g)
+        (compared_operand x params slots fit aside h b t v s pc st i (compared_left x params slots fit aside t u fine.0) o g)
         (λ v1 s1 j1 k1. then x (comes_said x _ _) _ _ _ (value h e s1) _
-        (value_runs h d low e s1 _ (machine_value v1 ∷ st) j1 fine.1 k1.1 f.1.0)
+        (value_runs h d low e s1 _ (machine_value j1.contents v1 ∷ st) j1 fine.1 k1.1 f.1.0)
         (λ v2 s2 j2 k2. then x (comes_said x _ _) _ _ _ (operand h b v2 s2) _
-        (operand_runs h b u v2 s2 _ (machine_value v1 ∷ st) j2 (alike_right t u fine.0) k2.0 k2.1)
+        (compared_operand x params slots fit aside h b u v2 s2 _ (machine_value j1.contents v1 ∷ st) j2 (compared_right x params slots fit aside t u fine.0) k2.0 k2.1)
         (λ v3 s3 j3 k3. then x (comes_said x _ _) (valued (suc pc3) st) (Good x params slots fit aside h truth_type) _
-        (combined h (Compare c) v1 v3 s3) _ (compare_runs h c t u v1 v3 s3 pc3 st j3 fine.0 k1.0 k3.0 k3.1 f.1.1.1.0)
+        (combined h (Compare c) v1 v3 s3) _ (compare_runs x params slots fit aside j1.contents h c t u v1 v3 s3 pc3 st j3 fine.0 k1.0 k3.0 k3.1 f.1.1.1.0)
         (λ v4 s4 j4 k4. linked_runs h d low _ v4 rest s4 _ st j4 fine.2 k4.0 k4.1 f.1.1.1.1))))

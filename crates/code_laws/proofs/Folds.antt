@@ -28,13 +28,14 @@ use Rattle.machine_terms.specs.Numbers.{load}
 use Rattle.code_rules.specs.Assignments.{fold_code, set_code}
 use Rattle.code_rules.specs.Pieces.{op, over, past, ◌⨟◌}
 use Rattle.code_rules.specs.Slots.{slot, slot_named, spare}
-use Rattle.code_laws.specs.Scalars.{CountsDown, IsInteger, an_integer}
+use Rattle.code_laws.specs.Simple.{IsInteger, an_integer}
+use Rattle.code_laws.specs.Typed.{CountsDown}
 use Rattle.code_laws.specs.Standing.{Agrees, Aside, Does, IsOf, SlotsFit, Stands, blank, machine_value, nothing, of_integer, where_of}
 use Rattle.code_laws.specs.Steps.{Leads, Setting, machine_of, on_step, placed}
 use Rattle.code_laws.proofs.Good.{valued}
 use Rattle.code_laws.proofs.Runs.{leads_by, leads_twice}
 use Rattle.code_laws.proofs.States.{aside_stored, changed, stored, stores}
-use Rattle.code_laws.proofs.Values.{jump_later, named}
+use Rattle.code_laws.proofs.Values.{jump_later, named, number_inside}
 
 -- ---- numbers
 
@@ -65,14 +66,14 @@ module _ (x : Setting) (params slots : ℕ) (fit : SlotsFit x slots) (counts : C
       Agrees x params slots aside h s i → Stands x.body pc (op (instr.Load (slot_named (where_of params h) n)) line) →
       Leads x (placed pc st i) (placed (suc pc) (machine.Number z ∷ st) i)
   loads h n z w s pc line st i b is g f =
-      let m = named h.scope.names s.names n g.typed b in
+      let m = named IsOf h.scope.names s.names n g.typed b in
       let place = (bound_to h.scope.names n).place in
       let k = slot (where_of params h) place in
       let there : k < length i.frame.slots = omega (arith, fit pc _ f, g.slots_are) in
       let below : place < length s.names = omega (arith, m.below, g.count) in
       leads_by x (placed pc st i) _ (instr.Load k) line f
       (ap (λ o. on_step x (placed pc st i) (load (machine_of (placed pc st i)) o))
-      (slice_get-get_or i.frame.slots k blank there ∙ ap Some (g.names place below ∙ ap machine_value is)))
+      (slice_get-get_or i.frame.slots k blank there ∙ ap Some (g.names place below ∙ ap (machine_value i.contents) is)))
 
   -- the number on the stack goes into the name's slot
   puts : (h : Here) (n : Name) (z : ℤ) (w : Width) (s : State) (pc line : ℕ) (i : Instance) →
@@ -86,7 +87,8 @@ module _ (x : Setting) (params slots : ℕ) (fit : SlotsFit x slots) (counts : C
         stored k (machine.Number z) i,
         stores x params slots fit k pc line (machine.Number z) [] i g.slots_are f,
         changed x params slots fit aside h s i n (a_number w z) b room
-            (subst (λ t. IsOf t (a_number w z)) (sym ty) (of_integer w z p)) g,
+            (subst (λ t. IsOf t (a_number w z)) (sym ty) (of_integer w z p))
+            (number_inside x s.store _ w z (subst (λ t. IsOf t (a_number w z)) (sym ty) (of_integer w z p))) g,
       )
 
   before : (pc : ℕ) (h : Here) (i j : Instance) (s : State) → Leads x i j →
@@ -142,7 +144,7 @@ module _ (x : Setting) (params slots : ℕ) (fit : SlotsFit x slots) (counts : C
         stores x params slots fit (spare w 0) pc h.line (machine.Number u) [] i g.slots_are f,
         subst (λ d. Agrees x params slots aside h s (stored d (machine.Number u) i)) same
             (aside_stored x params slots fit aside h s i k 2 (machine.Number u) low (omega (arith, g.inside, g.count))
-            (omega (arith)) (omega (arith)) (omega (arith)) g),
+            (omega (arith)) (omega (arith)) (omega (arith)) refl g),
       )
 
   -- and comes back
@@ -261,6 +263,6 @@ module _ (x : Setting) (params slots : ℕ) (fit : SlotsFit x slots) (counts : C
       (past (set_code (where_of params h) (slot_named (where_of params h) n) (how.Reduce o) (bound_to h.scope.names n).static_type) pc) h
       (write_name h n (how.Reduce o) v s)
   folds h n o t v s pc i low ti ui o1 b g f =
-      let m = named h.scope.names s.names n g.typed b in
+      let m = named IsOf h.scope.names s.names n g.typed b in
       by_types o h n t (bound_to h.scope.names n).static_type v (get_or s.names (bound_to h.scope.names n).place nothing) s pc i
-      low b ti ui o1 m.typed refl refl g f
+      low b ti ui o1 m.holding refl refl g f

@@ -15,7 +15,7 @@ use Rattle.code_laws.proofs.Runs.{leads_by}
 
 -- the value on the stack, at a place
 abbrev pub valued : ℕ → List MachineValue → Value → Instance → Instance
-valued pc st v j = placed pc (machine_value v ∷ st) j
+valued pc st v j = placed pc (machine_value j.contents v ∷ st) j
 
 module _ (x : Setting) (params slots : ℕ) (fit : SlotsFit x slots) (aside : Aside) where
   -- the value is of its type, and the instance agrees with the state

@@ -1,4 +1,7 @@
 -- Loops: the code of a loop does what its rounds mean.
+use Rattle.machine_terms.specs.declared.value.Value.{Value as MachineValue}
+use Rattle.task_code.specs.declared.instr.Instr.{Instr}
+use Rattle.machine_terms.specs.declared.order.Contents.{Contents}
 use Rattle.code_laws.proofs.Rows.{does_before, does_said, fewer, fewer_turns, jumps_back, no_turn, relimit, tests, then_going, three_least, pays_from}
 use Rattle.std.proofs.lemmas.Int.{ints}
 use Rattle.lane_kernels.specs.declared.numbers.Width.TheVariants.{W32, W64}
@@ -22,19 +25,21 @@ use Rattle.regent_tree.specs.Numbers.{distance, wider}
 use Rattle.machine_terms.specs.declared.value.Value.TheVariants as machine
 use Rattle.machine_terms.specs.Segments.{act}
 use Rattle.machine_terms.specs.Machine.{goes, when, broken, at, put, with_turns, on_turn, next}
-use Rattle.machine_terms.specs.Jumps.{fetch, goes_back, count_round, round, leave}
+use Rattle.machine_terms.specs.Jumps.{fetch, turns_back, goes_back, count_round, round, leave}
 use Rattle.machine_terms.specs.declared.order.Ended.TheVariants.{Broke}
 use Rattle.machine_terms.specs.declared.order.Instance.{Instance}
 use Rattle.code_rules.specs.Pieces.{Piece, op, loop, rounds, past}
 use Rattle.code_rules.specs.Slots.{typed, slot, counter, beside}
 use Rattle.code_rules.specs.Expressions.{expr_code}
 use Rattle.code_laws.specs.Steps.{Setting, machine_of, placed, on_step, Leads, Ends}
-use Rattle.code_laws.specs.Standing.{Stands, machine_value, IsOf, of_integer, blank, Aside, where_of, Agrees, SlotsFit, Does}
-use Rattle.code_laws.specs.Scalars.{CountsDown, IsInteger, an_integer, IsTruth, IsTyped}
+use Rattle.code_laws.specs.Standing.{IsInside, program_of, Stands, machine_value, IsOf, of_integer, blank, Aside, where_of, Agrees, SlotsFit, Does}
+use Rattle.code_laws.specs.Simple.{IsInteger, an_integer, IsTruth}
+use Rattle.code_laws.specs.Typed.{CountsDown, IsTyped}
 use Rattle.code_laws.proofs.Runs.{leads_none, leads_end, leads_by, ends_by, then}
-use Rattle.code_laws.proofs.Values.{past_later}
+use Rattle.code_laws.proofs.Values.{number_inside, past_later}
 use Rattle.code_laws.proofs.Good.{valued, Good}
-use Rattle.code_laws.proofs.Expressions.{value_runs, truth_of_type}
+use Rattle.code_laws.proofs.Operations.{truth_of_type}
+use Rattle.code_laws.proofs.Expressions.{value_runs}
 use Rattle.code_laws.proofs.Names.{Grown}
 use Rattle.code_laws.proofs.States.{stored, bound_more, aside_stored, enters, leaves_round}
 
@@ -63,7 +68,7 @@ module _ (x : Setting) (params slots : ℕ) (fit : SlotsFit x slots) (counts : C
   -- a loop with a test, from the place of the test; its body is known to run
   pub turning_runs : (k : ℕ) (aside : Aside) (h : Here) (test : Expression) (body : Run Going)
       (code : Piece) (s : State) (pc : ℕ) (i : Instance) → params ≤ length h.scope.names →
-      IsTruth (typed (where_of params h) test) → IsTyped (where_of params h) test →
+      IsTruth (typed (where_of params h) test) → IsTyped x.forms (where_of params h) test →
       k ≤ aside.turns → Agrees x params slots (record aside { turns = k }) h s i →
       Stands x.body pc (loop h.line (expr_code (where_of params h) 0 test) code) →
       ((n : ℕ) (s1 : State) (j : Instance) → Agrees x params slots (record aside { turns = n }) h s1 j →
@@ -112,13 +117,13 @@ module _ (x : Setting) (params slots : ℕ) (fit : SlotsFit x slots) (counts : C
       Does x params slots aside2 i pc2 h3 (and_then (leaving n r) (λ g. going_on rest g))
   then_round aside aside2 pc pc2 n h2 h3 i (gives goes_on s) rest d more =
       does_before x params slots fit counts aside2 pc2 h3 i _ (rest (record s { names = take n s.names })) d.1 (more s d.0 d.2)
-  then_round aside aside2 pc pc2 n h2 h3 i (gives (returned v) s) rest d more = (d.0, d.1, d.2, d.3, d.4, d.5, d.6)
+  then_round aside aside2 pc pc2 n h2 h3 i (gives (returned v) s) rest d more = (d.0, d.1, d.2, d.3, d.4, d.5, d.6, d.7)
   then_round aside aside2 pc pc2 n h2 h3 i (fails f s) rest d more = d
 
   -- the instance after a loop's head
-  abbrev headed : ℕ → ℕ → ℤ → ℕ → Instance → Instance
-  headed c v z n i =
-      stored c (machine.Number (z +ℤ pos 1)) (stored v (machine.Number z) (fewer_turns x params slots fit counts n i))
+  abbrev pub headed : ℕ → ℕ → MachineValue → ℤ → ℕ → Instance → Instance
+  headed c v put z n i =
+      stored c (machine.Number (z +ℤ pos 1)) (stored v put (fewer_turns x params slots fit counts n i))
 
   -- the head: nothing is left, or there is no turn, or a round begins
   head_acts : (pc c l v to line : ℕ) (z b : ℤ) (i : Instance) →
@@ -160,7 +165,7 @@ module _ (x : Setting) (params slots : ℕ) (fit : SlotsFit x slots) (counts : C
       slice_get i.frame.slots c ≡ Some (machine.Number z) →
       slice_get i.frame.slots l ≡ Some (machine.Number b) →
       Stands x.body pc (op (instr.NextNumber c l v to) line) →
-      Leads x (placed pc [] i) (placed (suc pc) [] (headed c v z n i))
+      Leads x (placed pc [] i) (placed (suc pc) [] (headed c v (machine.Number z) z n i))
   head_goes_on pc c l v to line n z b i some t room e f st =
       let m = machine_of (placed pc [] i) in
       let p = with_turns n m in
@@ -172,81 +177,92 @@ module _ (x : Setting) (params slots : ℕ) (fit : SlotsFit x slots) (counts : C
       (lt-ltb v (length i.frame.slots) room)))
 
   -- a jump back to a head whose exit is behind the jump
-  jumps_to_head : (pc to line line2 c l v : ℕ) (i : Instance) →
-      Stands x.body to (op (instr.NextNumber c l v (suc pc)) line2) →
+  jumps_to_head : (pc to line line2 : ℕ) (head : Instr) (i : Instance) → turns_back pc head ≡ true →
+      Stands x.body to (op head line2) →
       Stands x.body pc (op (instr.Jump to) line) → Leads x (placed pc [] i) (placed to [] i)
-  jumps_to_head pc to line line2 c l v i t f = leads_by x _ _ (instr.Jump to) line f
+  jumps_to_head pc to line line2 head i back t f = leads_by x _ _ (instr.Jump to) line f
       (ap (λ b. on_step x (placed pc [] i) (when b (goes (at to [] (machine_of (placed pc [] i))))
       (broken (machine_of (placed pc [] i))))) (may (nat_lt pc to)))
     where
       may : (b : Bool) → elim b [ true ↦ true | false ↦ goes_back pc (fetch x.body to) ] ≡ true
       may true = refl
-      may false = ap (goes_back pc) t ∙ lt-ltb pc (suc pc) (omega arith)
+      may false = ap (goes_back pc) t ∙ back
+
+  -- A loop's head at a place begins a round with a value, where there is a turn; a jump from the body's end
+  -- may go back to it.
+  pub record IsHead (h : Here) (head : Instr) (from pc : ℕ) (put : MachineValue) (z : ℤ) (i : Instance) : Type 0 where
+    pub back : turns_back from head ≡ true
+    pub counts_in : suc (counter (where_of params h) (length h.scope.names)) ≤ slots
+    pub keeps_in : suc (beside (where_of params h) (length h.scope.names)) ≤ slots
+    pub puts_in : suc (slot (where_of params h) (length h.scope.names)) ≤ slots
+    pub faults : i.frame.turns ≡ 0 →
+        Ends x (placed pc [] i) (Broke (Some (record { kind = Turns; line = h.line })) i.text)
+    pub begins : (m : ℕ) → i.frame.turns ≡ suc m → Leads x (placed pc [] i)
+        (placed (suc pc) [] (headed (counter (where_of params h) (length h.scope.names))
+        (slot (where_of params h) (length h.scope.names)) put z m i))
 
   -- one round, and what comes after it
-  one_round : (m : ℕ) (aside : Aside) (h h2 : Here) (n : Name) (t : StaticType) (wd : Width)
-      (body : Run Going) (code : Piece) (z b : ℤ) (s : State) (pc : ℕ) (i : Instance) →
-      IsOf t (a_number wd z) → params ≤ length h.scope.names → int_lt z b ≡ true →
+  pub one_round : (m : ℕ) (aside : Aside) (h h2 : Here) (n : Name) (t : StaticType) (item : Value)
+      (body : Run Going) (code : Piece) (z : ℤ) (keeps : MachineValue) (head : ℕ → Instr) (s : State) (pc : ℕ) (i : Instance) →
+      IsOf t item → IsInside x s.store t item → params ≤ length h.scope.names →
+      IsHead h (head (suc (past code (suc pc)))) (past code (suc pc)) pc (machine_value i.contents item) z i →
       Agrees x params slots aside h s i →
-      slice_get i.frame.slots (counter (where_of params h) (length h.scope.names)) ≡ Some (machine.Number z) →
-      slice_get i.frame.slots (beside (where_of params h) (length h.scope.names)) ≡ Some (machine.Number b) →
-      Stands x.body pc (rounds (instr.NextNumber (counter (where_of params h) (length h.scope.names))
-      (beside (where_of params h) (length h.scope.names)) (slot (where_of params h) (length h.scope.names))) h.line code) →
-      Grown h.scope.names h2.scope.names →
+      slice_get i.frame.slots (beside (where_of params h) (length h.scope.names)) ≡ Some keeps →
+      Stands x.body pc (rounds head h.line code) →
+      Grown h.scope.names h2.scope.names → program_of h2 ≡ program_of h →
       ((aside2 : Aside) (s1 : State) (j : Instance) → Agrees x params slots aside2 (looping h n t) s1 j →
       Does x params slots aside2 (placed (suc pc) [] j) (past code (suc pc)) h2 (body s1)) →
       (rest : Run Going) → s.turns ≡ m →
       ((s3 : State) (j3 : Instance) → Agrees x params slots aside h s3 j3 →
       slice_get j3.frame.slots (counter (where_of params h) (length h.scope.names))
       ≡ Some (machine.Number (z +ℤ pos 1)) →
-      slice_get j3.frame.slots (beside (where_of params h) (length h.scope.names)) ≡ Some (machine.Number b) →
+      slice_get j3.frame.slots (beside (where_of params h) (length h.scope.names)) ≡ Some keeps →
       Does x params slots aside (placed pc [] j3) (suc (past code (suc pc))) h (rest s3)) →
       Does x params slots aside (placed pc [] i) (suc (past code (suc pc))) h
-      (and_then (and_then (pay_from m h s) (λ _. scoped (bind (a_number wd z) >>= λ _. body)))
+      (and_then (and_then (pay_from m h s) (λ _. scoped (bind item >>= λ _. body)))
       (λ g. going_on rest g))
-  one_round zero aside h h2 n t wd body code z b s pc i ty low some g ec el f grown more rest q again =
+  one_round zero aside h h2 n t item body code z keeps head s pc i ty inside low is g el f grown tree more rest q again =
       subst (λ u. Ends x (placed pc [] i) (Broke (Some (record { kind = Turns; line = h.line })) u)) g.text
-      (head_faults pc _ _ _ _ h.line z b i some (g.turns ∙ q) ec el f.0)
-  one_round (suc m) aside h h2 n t wd body code z b s pc i ty low some g ec el f grown more rest q again =
+      (is.faults (g.turns ∙ q))
+  one_round (suc m) aside h h2 n t item body code z keeps head s pc i ty inside low is g el f grown tree more rest q again =
       let w = where_of params h in
       let k = length h.scope.names in
       let c = counter w k in
       let l = beside w k in
       let v = slot w k in
-      let used = three_least c l v slots (fit pc _ f.0) in
-      let room : v < length i.frame.slots = omega (arith, used.2, g.slots_are) in
+      let put = machine_value i.contents item in
       let s1 = record s { turns = m } in
       let i1 = fewer_turns x params slots fit counts m i in
       let g1 = fewer x params slots fit counts m aside h s i (omega (arith, q)) g in
-      let s2 = record s1 { names = s.names ++ a_number wd z ∷ [] } in
-      let i2 = stored v (machine.Number z) i1 in
-      let j = headed c v z m i in
-      let g2 = bound_more x params slots fit aside h s1 i1 n t true (a_number wd z) low
-      (omega (arith, used.2)) ty g1 in
+      let s2 = record s1 { names = s.names ++ item ∷ [] } in
+      let i2 = stored v put i1 in
+      let j = headed c v put z m i in
+      let g2 = bound_more x params slots fit aside h s1 i1 n t true item low
+      (omega (arith, is.puts_in)) ty inside g1 in
       let up : aside.upto ≤ k = omega (arith, g.inside, g.count) in
       let g3 = aside_stored x params slots fit aside (looping h n t) s2 i2 k 1 (machine.Number (z +ℤ pos 1))
-      low up (omega arith) (omega arith) (omega arith) g2 in
+      low up (omega arith) (omega arith) (omega arith) refl g2 in
       let aside2 : Aside = record { upto = suc k; slots = j.frame.slots; turns = m } in
       let g4 = enters x params slots fit aside (looping h n t) s2 j (suc k) (omega (arith, g3.count)) g3 in
       let e = past code (suc pc) in
-      does_before x params slots fit counts aside (suc e) h _ _ _ (head_goes_on pc c l v (suc e) h.line m z b i some (g.turns ∙ q) room ec el f.0)
+      does_before x params slots fit counts aside (suc e) h _ _ _ (is.begins m (g.turns ∙ q))
       (then_round aside2 aside e (suc e) (length s.names) h2 h _ (body s2) rest (more aside2 s2 j g4)
       (λ s3 j3 g5.
       let bigger : length j3.frame.slots ≡ slots = g5.slots_are in
       let kept_number = g5.hidden k low (omega arith) in
       let cs : slice_get j3.frame.slots c ≡ Some (machine.Number (z +ℤ pos 1)) =
-      slice_get-get_or j3.frame.slots c blank (omega (arith, bigger, used.0))
+      slice_get-get_or j3.frame.slots c blank (omega (arith, bigger, is.counts_in))
       ∙ ap Some (kept_number.0 ∙ get_or-set_same i2.frame.slots c (machine.Number (z +ℤ pos 1)) blank
-      (omega (arith, used.0, g2.slots_are))) in
-      let ls : slice_get j3.frame.slots l ≡ Some (machine.Number b) =
-      slice_get-get_or j3.frame.slots l blank (omega (arith, bigger, used.1))
+      (omega (arith, is.counts_in, g2.slots_are))) in
+      let ls : slice_get j3.frame.slots l ≡ Some keeps =
+      slice_get-get_or j3.frame.slots l blank (omega (arith, bigger, is.keeps_in))
       ∙ ap Some (kept_number.1 ∙ get_or-set_other i2.frame.slots c l _ blank (λ q. omega (arith, q))
       ∙ get_or-set_other i.frame.slots v l _ blank (λ q. omega (arith, q))
-      ∙ get_or_from_slice_get i.frame.slots l (machine.Number b) blank el) in
-      does_before x params slots fit counts aside (suc e) h _ _ _ (jumps_to_head e pc h.line h.line c l v j3 f.0 f.2)
+      ∙ get_or_from_slice_get i.frame.slots l keeps blank el) in
+      does_before x params slots fit counts aside (suc e) h _ _ _ (jumps_to_head e pc h.line h.line (head (suc e)) j3 is.back f.0 f.2)
       (again (record s3 { names = take (length s.names) s3.names }) j3
       (leaves_round x params slots fit aside aside2 h h2 (length s.names) s2 s3 j j3 refl (omega (arith, up))
-      (omega (arith, g.bound, q)) grown g.count (omega (arith, up, g.count)) g3.hidden g5) cs ls)))
+      (omega (arith, g.bound, q)) grown tree g.count (omega (arith, up, g.count)) g3.hidden g5) cs ls)))
 
   -- from the head on
   pub counting_runs : (k : ℕ) (aside : Aside) (h h2 : Here) (n : Name) (t : StaticType) (wd : Width)
@@ -257,24 +273,38 @@ module _ (x : Setting) (params slots : ℕ) (fit : SlotsFit x slots) (counts : C
       slice_get i.frame.slots (beside (where_of params h) (length h.scope.names)) ≡ Some (machine.Number b) →
       Stands x.body pc (rounds (instr.NextNumber (counter (where_of params h) (length h.scope.names))
       (beside (where_of params h) (length h.scope.names)) (slot (where_of params h) (length h.scope.names))) h.line code) →
-      Grown h.scope.names h2.scope.names →
+      Grown h.scope.names h2.scope.names → program_of h2 ≡ program_of h →
       ((aside2 : Aside) (s1 : State) (j : Instance) → Agrees x params slots aside2 (looping h n t) s1 j →
       Does x params slots aside2 (placed (suc pc) [] j) (past code (suc pc)) h2 (body s1)) →
       Does x params slots aside (placed pc [] i) (suc (past code (suc pc))) h
       (counting h k wd z body s)
-  counting_runs zero aside h h2 n t wd body code z b s pc i ty fz fb low e g ec el f grown more =
+  counting_runs zero aside h h2 n t wd body code z b s pc i ty fz fb low e g ec el f grown tree more =
       let later : pc < suc (past code (suc pc)) = omega (arith, past_later code (suc pc)) in
       (i, head_leaves pc _ _ _ _ h.line z b i later (counts.none z b e) ec el f.0, g)
-  counting_runs (suc k) aside h h2 n t wd body code z b s pc i ty fz fb low e g ec el f grown more =
+  counting_runs (suc k) aside h h2 n t wd body code z b s pc i ty fz fb low e g ec el f grown tree more =
       let c = counts.some k z b e in
-      one_round s.turns aside h h2 n t wd body code z b s pc i (ty z fz) low c.0 g ec el f grown more
+      let w = where_of params h in
+      let m = length h.scope.names in
+      let to = suc (past code (suc pc)) in
+      let used = three_least (counter w m) (beside w m) (slot w m) slots (fit pc _ f.0) in
+      one_round s.turns aside h h2 n t (a_number wd z) body code z (machine.Number b)
+      (instr.NextNumber (counter w m) (beside w m) (slot w m)) s pc i (ty z fz) (number_inside x s.store t wd z (ty z fz)) low
+      (record {
+        back = lt-ltb (past code (suc pc)) to (omega arith);
+        counts_in = used.0;
+        keeps_in = used.1;
+        puts_in = used.2;
+        faults = λ none. head_faults pc _ _ _ to h.line z b i c.0 none ec el f.0;
+        begins = λ more some. head_goes_on pc (counter w m) (beside w m) (slot w m) to h.line more z b i c.0 some
+            (omega (arith, used.2, g.slots_are)) ec el f.0;
+      }) g el f grown tree more
       (counting h k wd (z +ℤ pos 1) body) refl
       (λ s3 j3 g3 e3 f3. counting_runs k aside h h2 n t wd body code (z +ℤ pos 1) b s3 pc j3 ty (next_fits wd z b fz fb c.0) fb low c.1 g3
-      e3 f3 f grown more)
+      e3 f3 f grown tree more)
 
-  pub integer_kept : (t : StaticType) (v : Value) → IsInteger t → IsOf t v →
-      machine_value v ≡ machine.Number (number_of v)
-  integer_kept _ _ (an_integer w) (of_integer _ z _) = refl
+  pub integer_kept : (c : Contents) (t : StaticType) (v : Value) → IsInteger t → IsOf t v →
+      machine_value c v ≡ machine.Number (number_of v)
+  integer_kept c _ _ (an_integer w) (of_integer _ z _) = refl
 
   pub loop_typed : (t u : StaticType) (y : ℤ) → IsInteger t → IsInteger u → FitsWidth (width_of_type (arithmetic_type t u)) y →
       IsOf (arithmetic_type t u) (a_number (width_of_type (arithmetic_type t u)) y)

@@ -1,8 +1,8 @@
 -- Where the body of a task begins, its instance agrees with the meaning's state.
 use Rattle.std.proofs.Common.{◌≡◌, ⊎_elim, ℕ, zero, suc, ◌+◌, ◌-◌, ◌^◌, ◌<◌, ◌≤◌, List, [], ◌∷◌, ◌++◌, Bool, true, false, Some, None, refl, sym, ap, ◌∙◌, subst, arith, length-append}
 use Rattle.std.specs.Prelude.{cond, get_or, length, map, reverse, replicate, slice_get, nat_lt}
-use Rattle.std.proofs.lemmas.Bool.{cases_lt, lt-ltb, le-ltb}
-use Rattle.std.proofs.lemmas.List.{length-map, length-replicate, reverse-append, map-append}
+use Rattle.std.proofs.lemmas.Bool.{cases_lt, leb-true, lt-ltb, le-ltb}
+use Rattle.std.proofs.lemmas.List.{append-nil, length-map, length-replicate, reverse-append, map-append}
 use Rattle.std.proofs.lemmas.Option.{none-some, same_Some}
 use Rattle.std.proofs.Math.ListN.{get_or-append, get_or-map}
 use Rattle.std.proofs.Math.Seq.{get_or-append_seam}
@@ -16,42 +16,67 @@ use Rattle.regent_tree.specs.Syntax.{TaskTree, Tree}
 use Rattle.regent_tree.specs.Typing.{param_types}
 use Rattle.regent_tree.specs.Values.{Value}
 use Rattle.task_code.specs.declared.code.Line.{Line}
+use Rattle.regent_tree.specs.Store.{Store}
+use Rattle.machine_terms.specs.declared.order.Contents.{Contents}
 use Rattle.machine_terms.specs.declared.order.Instance.{Instance}
-use Rattle.machine_terms.specs.Contents.{no_contents}
 use Rattle.machine_terms.specs.Jumps.{fetch}
 use Rattle.machine_terms.specs.Opening as frames
 use Rattle.machine_terms.specs.Orders.{begun}
-use Rattle.code_rules.specs.Programs.{task_code}
+use Rattle.code_rules.specs.Programs.{code_of, task_code}
 use Rattle.code_rules.specs.Slots.{slot}
 use Rattle.code_rules.specs.Used.{greatest, slots_of_lines, slots_used}
-use Rattle.code_laws.specs.Programs.{AreTaken}
-use Rattle.code_laws.specs.Standing.{Agrees, AreOf, Aside, IsOf, SlotsFit, blank, machine_value, nothing, of_index, of_integer, of_partition, of_pointer, of_region, of_space, of_truth, where_of}
-use Rattle.code_laws.specs.Steps.{Setting}
+use Rattle.code_laws.specs.Programs.{task_setting}
+use Rattle.memory_laws.proofs.Keeping.{root_below}
+use Rattle.memory_laws.specs.Memory.{Holds, memory_of}
+use Rattle.memory_laws.specs.Places.{numbers}
+use Rattle.machine_terms.specs.declared.order.Root.{Root}
+use Rattle.machine_terms.specs.declared.value.Value.{Value as MachineValue}
+use Rattle.code_laws.specs.Standing.{Answering, AreTaken, Agrees, AreOf, AreReady, Aside, IsInside, IsOf, SlotsFit, blank, machine_value, nothing, of_index, of_integer, of_partition, of_pointer, of_region, of_space, of_truth, where_of}
+use Rattle.code_laws.specs.Steps.{Forms, Setting}
+use Rattle.code_laws.proofs.States.{ready_value}
 use Rattle.code_laws.proofs.Names.{typed_more}
 
 -- ---- arguments as a task has them
 
-entered_value : (s : Scope) (vs : List Value) (t : StaticType) (v : Value) → IsOf t v →
-    (IsOf t (entered_as s vs t v)) × (machine_value (entered_as s vs t v) ≡ machine_value v)
-entered_value s vs _ _ (of_integer w z p) = (of_integer w z p, refl)
-entered_value s vs _ _ (of_truth b) = (of_truth b, refl)
-entered_value s vs _ _ (of_index k z) = (of_index k z, refl)
-entered_value s vs _ _ (of_pointer k sp args rs t regions) = (of_pointer k sp args rs t _, refl)
-entered_value s vs _ _ (of_space k n) = (of_space k n, refl)
-entered_value s vs _ _ (of_region k sp args r q) = (of_region k sp args r q, refl)
-entered_value s vs _ _ (of_partition d r p q) = (of_partition d r p q, refl)
+entered_value : (c : Contents) (s : Scope) (vs : List Value) (t : StaticType) (v : Value) → IsOf t v →
+    (IsOf t (entered_as s vs t v)) × (machine_value c (entered_as s vs t v) ≡ machine_value c v)
+entered_value c s vs _ _ (of_integer w z p) = (of_integer w z p, refl)
+entered_value c s vs _ _ (of_truth b) = (of_truth b, refl)
+entered_value c s vs _ _ (of_index k z p) = (of_index k z p, refl)
+entered_value c s vs _ _ (of_pointer k sp args rs t regions) = (of_pointer k sp args rs t _, refl)
+entered_value c s vs _ _ (of_space k n l) = (of_space k n l, refl)
+entered_value c s vs _ _ (of_region k sp args r q) = (of_region k sp args r q, refl)
+entered_value c s vs _ _ (of_partition d r p q) = (of_partition d r p q, refl)
 
-entered_taken : (s : Scope) (vs : List Value) (ts : List StaticType) (us : List Value) → AreTaken ts us →
-    AreTaken ts (entered s vs ts us) × (map machine_value (entered s vs ts us) ≡ map machine_value us)
-entered_taken s vs [] [] a = (tt, refl)
-entered_taken s vs (t ∷ ts) (u ∷ us) a =
-    let one = entered_value s vs t u a.0 in
-    let more = entered_taken s vs ts us a.1 in (
+entered_taken : (c : Contents) (s : Scope) (vs : List Value) (ts : List StaticType) (us : List Value) → AreTaken IsOf ts us →
+    AreTaken IsOf ts (entered s vs ts us) × (map (machine_value c) (entered s vs ts us) ≡ map (machine_value c) us)
+entered_taken c s vs [] [] a = (tt, refl)
+entered_taken c s vs (t ∷ ts) (u ∷ us) a =
+    let one = entered_value c s vs t u a.0 in
+    let more = entered_taken c s vs ts us a.1 in (
       (one.0, more.0),
-      ap (λ v. v ∷ map machine_value (entered s vs ts us)) one.1 ∙ ap (λ ms. machine_value u ∷ ms) more.1,
+      ap (λ v. v ∷ map (machine_value c) (entered s vs ts us)) one.1 ∙ ap (λ ms. machine_value c u ∷ ms) more.1,
     )
-entered_taken s vs [] (u ∷ us) a = absurd a
-entered_taken s vs (t ∷ ts) [] a = absurd a
+entered_taken c s vs [] (u ∷ us) a = absurd a
+entered_taken c s vs (t ∷ ts) [] a = absurd a
+
+-- regions and partitions go as they are
+entered_inside : (x : Setting) (store : Store) (s : Scope) (vs : List Value) (ts : List StaticType) (us : List Value) →
+    AreTaken IsOf ts us → AreTaken (IsInside x store) ts us → AreTaken (IsInside x store) ts (entered s vs ts us)
+entered_inside x store s vs [] [] a b = tt
+entered_inside x store s vs (t ∷ ts) (u ∷ us) a b =
+    (one t u a.0 b.0, entered_inside x store s vs ts us a.1 b.1)
+  where
+    one : (t : StaticType) (v : Value) → IsOf t v → IsInside x store t v → IsInside x store t (entered_as s vs t v)
+    one _ _ (of_integer w z p) b = tt
+    one _ _ (of_truth v) b = tt
+    one _ _ (of_index k z p) b = tt
+    one _ _ (of_pointer k sp args rs t regions) b = tt
+    one _ _ (of_space k n l) b = tt
+    one _ _ (of_region k sp args r q) b = b
+    one _ _ (of_partition d r p q) b = b
+entered_inside x store s vs [] (u ∷ us) a b = absurd a
+entered_inside x store s vs (t ∷ ts) [] a b = absurd a
 
 -- names in the places of their order
 abbrev AreFrom : ℕ → List Bound → Type 0
@@ -79,27 +104,27 @@ params_length tree all i (p ∷ ps) =
     length_one (bound_params tree all (suc i) ps) _ ∙ ap (λ n. suc n) (params_length tree all (suc i) ps)
 
 -- values of types, where the last comes first
-record TakenLast (ts : List StaticType) (t : StaticType) (vs : List Value) : Type 0 where
+record TakenLast (Holding : StaticType → Value → Type 0) (ts : List StaticType) (t : StaticType) (vs : List Value) : Type 0 where
   before : List Value
   last : Value
   are : vs ≡ before ++ last ∷ []
-  taken : AreTaken ts before
-  typed : IsOf t last
+  taken : AreTaken Holding ts before
+  typed : Holding t last
 
-taken_last : (ts : List StaticType) (t : StaticType) (vs : List Value) → AreTaken (ts ++ t ∷ []) vs → TakenLast ts t vs
-taken_last [] t (v ∷ []) a = record { before = []; last = v; are = refl; taken = tt; typed = a.0 }
-taken_last [] t (v ∷ (u ∷ vs)) a = absurd a.1
-taken_last [] t [] a = absurd a
-taken_last (s ∷ ts) t [] a = absurd a
-taken_last (s ∷ ts) t (v ∷ vs) a =
-    let m = taken_last ts t vs a.1 in
+taken_last : (Holding : StaticType → Value → Type 0) (ts : List StaticType) (t : StaticType) (vs : List Value) → AreTaken Holding (ts ++ t ∷ []) vs → TakenLast Holding ts t vs
+taken_last Holding [] t (v ∷ []) a = record { before = []; last = v; are = refl; taken = tt; typed = a.0 }
+taken_last Holding [] t (v ∷ (u ∷ vs)) a = absurd a.1
+taken_last Holding [] t [] a = absurd a
+taken_last Holding (s ∷ ts) t [] a = absurd a
+taken_last Holding (s ∷ ts) t (v ∷ vs) a =
+    let m = taken_last Holding ts t vs a.1 in
     record { before = v ∷ m.before; last = m.last; are = ap (λ us. v ∷ us) m.are; taken = (a.0, m.taken); typed = m.typed }
 
-pub taken_length : (ts : List StaticType) (vs : List Value) → AreTaken ts vs → length vs ≡ length ts
-taken_length [] [] a = refl
-taken_length (t ∷ ts) (v ∷ vs) a = ap (λ n. suc n) (taken_length ts vs a.1)
-taken_length [] (v ∷ vs) a = absurd a
-taken_length (t ∷ ts) [] a = absurd a
+pub taken_length : (Holding : StaticType → Value → Type 0) (ts : List StaticType) (vs : List Value) → AreTaken Holding ts vs → length vs ≡ length ts
+taken_length Holding [] [] a = refl
+taken_length Holding (t ∷ ts) (v ∷ vs) a = ap (λ n. suc n) (taken_length Holding ts vs a.1)
+taken_length Holding [] (v ∷ vs) a = absurd a
+taken_length Holding (t ∷ ts) [] a = absurd a
 
 abbrev pub types_in : List Bound → List StaticType
 types_in bs = map (λ (b : Bound). b.static_type) (reverse bs)
@@ -113,17 +138,17 @@ types_length [] = refl
 types_length (b ∷ bs) = ap length (types_cons b bs)
     ∙ length-append (types_in bs) (b.static_type ∷ []) ∙ omega (arith, types_length bs)
 
-names_typed : (bs : List Bound) (vs : List Value) → AreFrom 0 bs → AreTaken (types_in bs) vs → AreOf bs vs
-names_typed [] vs from a = tt
-names_typed (b ∷ bs) vs from a =
-    let m = taken_last (types_in bs) b.static_type vs (subst (λ ts. AreTaken ts vs) (types_cons b bs) a) in
-    let long : length m.before ≡ length bs = taken_length (types_in bs) m.before m.taken ∙ types_length bs in
+names_typed : (Holding : StaticType → Value → Type 0) (bs : List Bound) (vs : List Value) → AreFrom 0 bs → AreTaken Holding (types_in bs) vs → AreOf Holding bs vs
+names_typed Holding [] vs from a = tt
+names_typed Holding (b ∷ bs) vs from a =
+    let m = taken_last Holding (types_in bs) b.static_type vs (subst (λ ts. AreTaken Holding ts vs) (types_cons b bs) a) in
+    let long : length m.before ≡ length bs = taken_length Holding (types_in bs) m.before m.taken ∙ types_length bs in
     let place : b.place ≡ length m.before = omega (arith, from.0, long) in
-    subst (AreOf (b ∷ bs)) (sym m.are) (
+    subst (AreOf Holding (b ∷ bs)) (sym m.are) (
       omega (arith, from.0),
-      subst (IsOf b.static_type) (sym (ap (λ p. get_or (m.before ++ m.last ∷ []) p nothing) place
+      subst (Holding b.static_type) (sym (ap (λ p. get_or (m.before ++ m.last ∷ []) p nothing) place
           ∙ get_or-append_seam m.before m.last [] nothing)) m.typed,
-      typed_more bs m.before (m.last ∷ []) (omega (arith, long)) (names_typed bs m.before from.1 m.taken),
+      typed_more Holding bs m.before (m.last ∷ []) (omega (arith, long)) (names_typed Holding bs m.before from.1 m.taken),
     )
 
 -- each line's slots are there
@@ -132,6 +157,10 @@ greatest_left a b = ⊎_elim
     (λ e. subst (λ c. (a ≤ cond c b a) × (b ≤ cond c b a)) (sym (lt-ltb a b e)) (omega (arith, e), omega arith))
     (λ e. subst (λ c. (a ≤ cond c b a) × (b ≤ cond c b a)) (sym (le-ltb a b e)) (omega arith, omega (arith, e)))
     (cases_lt a b)
+
+pub least_slots : (least : ℕ) (ls : List Line) → least ≤ slots_of_lines least ls
+least_slots least [] = omega arith
+least_slots least (l ∷ ls) = omega (arith, least_slots least ls, (greatest_left (slots_used l.instr) (slots_of_lines least ls)).1)
 
 slots_there : (least : ℕ) (ls : List Line) (k : ℕ) (l : Line) → slice_get ls k ≡ Some l →
     slots_used l.instr ≤ slots_of_lines least ls
@@ -156,39 +185,82 @@ fits_slots x tree t e pc l f = by (nat_lt pc (2 ^ 32)) (subst (λ b. fetch b pc 
 abbrev pub before_all : ℕ → Aside
 before_all turns = record { upto = 0; slots = []; turns = turns }
 
-module _ (tree : Tree) (turns : ℕ) (calls : Calls) (t : TaskTree) (place : ℕ) (vs : List Value) where
-  abbrev pub first : Instance
-  first = begun (frames.opening turns 1 place (task_code tree t) (map machine_value vs)) [] no_contents
+-- ---- slots where a task begins
 
-  pub opens : (x : Setting) → AreTaken (param_types tree t) vs → length vs ≤ (task_code tree t).slots →
-      Agrees x (length t.params) (task_code tree t).slots (before_all turns) (body_of tree calls t) (opening tree turns t vs []) first
-  opens x takes room =
+ready_append : (xs ys : List MachineValue) → AreReady xs → AreReady ys → AreReady (xs ++ ys)
+ready_append [] ys a b k = b k
+ready_append (x ∷ xs) ys a b zero = a 0
+ready_append (x ∷ xs) ys a b (suc k) = ready_append xs ys (λ n. a (suc n)) b k
+
+ready_values : (c : Contents) (vs : List Value) → AreReady (map (machine_value c) vs)
+ready_values c [] zero = refl
+ready_values c [] (suc k) = refl
+ready_values c (v ∷ vs) zero = ready_value c v
+ready_values c (v ∷ vs) (suc k) = ready_values c vs k
+
+ready_blanks : (n : ℕ) → AreReady (replicate n blank)
+ready_blanks zero zero = refl
+ready_blanks zero (suc k) = refl
+ready_blanks (suc n) zero = refl
+ready_blanks (suc n) (suc k) = ready_blanks n k
+
+-- a task that begins at a depth, with these roots
+module _ (tree : Tree) (turns more depth : ℕ) (t : TaskTree) (place : ℕ) (vs : List Value) (store : Store) (c : Contents) where
+  abbrev pub begins : Instance
+  begins = begun (frames.opening turns depth place (task_code tree t) (map (machine_value c) vs)) [] c
+
+  pub opens : (forms : Forms) (calls : Calls) →
+      (forms.calls ≡ true → Answering (task_setting forms tree turns more depth (numbers c) t) tree calls) → AreTaken IsOf (param_types tree t) vs →
+      AreTaken (IsInside (task_setting forms tree turns more depth (numbers c) t) store) (param_types tree t) vs →
+      length vs ≤ (task_code tree t).slots → Holds (code_of tree) store (memory_of begins) →
+      Agrees (task_setting forms tree turns more depth (numbers c) t) (length t.params) (task_code tree t).slots
+      (before_all turns) (body_of tree calls t) (opening tree turns t vs store) begins
+  opens forms calls answers takes inside room holds =
+      let x = task_setting forms tree turns more depth (numbers c) t in
       let code = task_code tree t in
       let sc = scope_of tree t in
-      let e = entered_taken sc vs (param_types tree t) vs takes in
+      let e = entered_taken c sc vs (param_types tree t) vs takes in
       let us = entered sc vs (param_types tree t) vs in
       let w = where_of (length t.params) (body_of tree calls t) in
-      let ms = map machine_value vs in
-      let long : length us ≡ length t.params = taken_length (param_types tree t) us e.0 ∙ types_length sc.names
+      let ms = map (machine_value c) vs in
+      let blanks = replicate (code.slots - length ms) blank in
+      let long : length us ≡ length t.params = taken_length IsOf (param_types tree t) us e.0 ∙ types_length sc.names
       ∙ params_length tree t.params 0 t.params in
-      let same : length ms ≡ length us = ap length (sym e.1) ∙ length-map us machine_value in
+      let same : length ms ≡ length us = ap length (sym e.1) ∙ length-map us (machine_value c) in
       record {
         names = λ k l.
             let low : k < length t.params = omega (arith, l, long) in
             let at : slot w k ≡ k = omega (arith, low) in
-            ap (λ n. get_or (ms ++ replicate (code.slots - length ms) blank) n blank) at
-            ∙ get_or-append ms (replicate (code.slots - length ms) blank) blank k (omega (arith, l, same))
-            ∙ ap (λ ys. get_or ys k blank) (sym e.1) ∙ get_or-map machine_value us k nothing;
+            ap (λ n. get_or (ms ++ blanks) n blank) at
+            ∙ get_or-append ms blanks blank k (omega (arith, l, same))
+            ∙ ap (λ ys. get_or ys k blank) (sym e.1) ∙ get_or-map (machine_value c) us k nothing;
         hidden = λ k a b. absurd (omega (arith, b));
-        typed = names_typed sc.names us (params_from tree t.params 0 t.params) e.0;
-        count = taken_length (param_types tree t) us e.0 ∙ types_length sc.names;
+        typed = names_typed IsOf sc.names us (params_from tree t.params 0 t.params) e.0;
+        inside_store = names_typed (IsInside x store) sc.names us (params_from tree t.params 0 t.params)
+            (entered_inside x store sc vs (param_types tree t) vs takes inside);
+        count = taken_length IsOf (param_types tree t) us e.0 ∙ types_length sc.names;
         inside = omega arith;
-        slots_are = length-append ms (replicate (code.slots - length ms) blank)
+        slots_are = length-append ms blanks
             ∙ ap (λ n. length ms + n) (length-replicate (code.slots - length ms) blank)
-            ∙ omega (arith, subst (λ n. n ≤ code.slots) (sym (length-map vs machine_value)) room);
+            ∙ omega (arith, subst (λ n. n ≤ code.slots) (sym (length-map vs (machine_value c))) room);
         turns = refl;
         bound = omega arith;
         text = refl;
-        own = refl;
-        store = refl;
+        ready = ready_append ms blanks (ready_values c vs) (ready_blanks (code.slots - length ms));
+        calls = record { few = omega arith; children = refl; depth = refl };
+        result_is = refl;
+        answers = answers;
+        spaces = refl;
+        memory = holds;
+        framed = record {
+          own_are = sym (append-nil (numbers c));
+          none = λ e. refl;
+          allows = λ u own l. absurd (omega (
+            arith,
+            leb-true (length (numbers c)) u.root own,
+            root_below store u.root u.field u.point l,
+            length-map c.roots (λ (r : Root). r.id.0),
+            holds.stands.count,
+          ));
+        };
       }

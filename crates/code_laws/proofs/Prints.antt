@@ -12,44 +12,35 @@ use Rattle.regent_tree.specs.Printing as printing
 use Rattle.regent_tree.specs.Values.{Value, number_of}
 use Rattle.task_code.specs.declared.instr.PrintPart.{PrintPart}
 use Rattle.task_code.specs.declared.instr.PrintPart.TheVariants as part
+use Rattle.machine_terms.specs.declared.order.Contents.{Contents}
 use Rattle.machine_terms.specs.declared.value.Value.{Value as MachineValue}
 use Rattle.machine_terms.specs.declared.value.Value.TheVariants as machine
-use Rattle.machine_terms.specs.Calls.{before_text, count_numbers, few, take_values, taken, text_of, is_pending}
+use Rattle.machine_terms.specs.Calls.{before_text, count_numbers, few, take_values, taken, text_of}
 use Rattle.code_rules.specs.Prints.{parts_after, parts_of, text_part}
+use Rattle.code_laws.proofs.States.{ready_value}
 use Rattle.code_laws.specs.Standing.{machine_value}
-use Rattle.regent_tree.specs.Values.{a_number, a_partition, a_pointer, a_region, a_space, a_truth, an_index}
-
--- no value is a child that is pending
-ready_value : (v : Value) → is_pending (machine_value v) ≡ false
-ready_value (a_number w z) = refl
-ready_value (a_truth b) = refl
-ready_value (an_index z) = refl
-ready_value (a_pointer t rs) = refl
-ready_value (a_space n) = refl
-ready_value (a_region r) = refl
-ready_value (a_partition p) = refl
 
 -- ---- values in a row on the stack, the last on top
 
-abbrev pub pushed_all : List Value → List MachineValue → List MachineValue
-pushed_all [] st = st
-pushed_all (v ∷ vs) st = pushed_all vs (machine_value v ∷ st)
+abbrev pub pushed_all : Contents → List Value → List MachineValue → List MachineValue
+pushed_all c [] st = st
+pushed_all c (v ∷ vs) st = pushed_all c vs (machine_value c v ∷ st)
 
-taken_all : (vs : List Value) (k : ℕ) (st acc : List MachineValue) (n : ℕ) → n ≡ length vs + k →
-    take_values n (pushed_all vs st) acc ≡ take_values k st (map machine_value vs ++ acc)
-taken_all [] k st acc n e =
+taken_all : (c : Contents) (vs : List Value) (k : ℕ) (st acc : List MachineValue) (n : ℕ) → n ≡ length vs + k →
+    take_values n (pushed_all c vs st) acc ≡ take_values k st (map (machine_value c) vs ++ acc)
+taken_all c [] k st acc n e =
     let d : n ≡ k = omega (arith, e) in ap (λ n. take_values n st acc) d
-taken_all (v ∷ vs) k st acc n e =
-    taken_all vs (suc k) (machine_value v ∷ st) acc n (omega (arith, e))
+taken_all c (v ∷ vs) k st acc n e =
+    taken_all c vs (suc k) (machine_value c v ∷ st) acc n (omega (arith, e))
     ∙ ap (λ b. elim b [
       | true ↦ few
-      | false ↦ take_values k st (machine_value v ∷ (map machine_value vs ++ acc))
-    ]) (ready_value v)
+      | false ↦ take_values k st (machine_value c v ∷ (map (machine_value c) vs ++ acc))
+    ]) (ready_value c v)
 
-pub takes_all : (vs : List Value) (st : List MachineValue) →
-    take_values (length vs) (pushed_all vs st) [] ≡ taken (map machine_value vs) st
-takes_all vs st = taken_all vs 0 st [] (length vs) (omega arith)
-    ∙ ap (λ us. taken us st) (append-nil (map machine_value vs))
+pub takes_all : (c : Contents) (vs : List Value) (st : List MachineValue) →
+    take_values (length vs) (pushed_all c vs st) [] ≡ taken (map (machine_value c) vs) st
+takes_all c vs st = taken_all c vs 0 st [] (length vs) (omega arith)
+    ∙ ap (λ us. taken us st) (append-nil (map (machine_value c) vs))
 
 -- ---- the parts of a text
 
@@ -189,11 +180,11 @@ mutual
   writes_two so_far (c ∷ cs) zs e = d_written so_far c cs zs (λ ys d. writes_format [] cs ys d) e
 
 -- a format with as many numbers writes its text
-pub format_written : (format : List ℕ) (vs : List Value) → map machine_value vs ≡ map machine.Number (map number_of vs) →
+pub format_written : (c : Contents) (format : List ℕ) (vs : List Value) → map (machine_value c) vs ≡ map machine.Number (map number_of vs) →
     numbers_in format ≡ Some (length vs) →
     (count_numbers (parts_of [] format) ≡ length vs)
-    × (text_of (parts_of [] format) (map machine_value vs) ≡ Some (printed format (map number_of vs)))
-format_written format vs same e =
+    × (text_of (parts_of [] format) (map (machine_value c) vs) ≡ Some (printed format (map number_of vs)))
+format_written c format vs same e =
     let many = length-map vs number_of in
     let w = writes_format [] format (map number_of vs) (e ∙ ap Some (sym many)) in
     (w.count ∙ many, ap (text_of (parts_of [] format)) same ∙ w.writes)

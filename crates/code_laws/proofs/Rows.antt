@@ -1,17 +1,17 @@
 -- What statements do in a row: jumps, turns, tests, blocks, and the ends of a task.
 use Rattle.std.proofs.Common.{◌≡◌, ℕ, zero, suc, ◌<◌, ◌≤◌, ⊎_elim, List, [], ◌∷◌, Bool, true, false, Some, refl, sym, ap, ◌∙◌, subst, arith}
-use Rattle.std.specs.Prelude.{get_or, length, slice_set, nat_lt, cond}
+use Rattle.std.specs.Prelude.{get_or, length, map, slice_set, nat_lt, cond}
 use Rattle.std.proofs.lemmas.Bool.{lt-ltb, le-ltb, cases_lt}
 use Rattle.regent_tree.specs.declared.outcome.FaultKind.TheVariants.{Turns, AssertFailed}
 use Rattle.regent_tree.specs.declared.statement.How.TheVariants as how
 use Rattle.regent_tree.specs.declared.typing.StaticType.{StaticType}
-use Rattle.regent_tree.specs.declared.typing.StaticType.TheVariants.{Integer as integer_type, Truth as truth_type}
+use Rattle.regent_tree.specs.declared.typing.StaticType.TheVariants.{Integer as integer_type, Index as index_type, Ispace as ispace_type, Truth as truth_type}
 use Rattle.regent_tree.specs.Lookup.{is_bound}
 use Rattle.regent_tree.specs.Scopes.{bound_to}
-use Rattle.regent_tree.specs.Syntax.{Name, Expression, access_expr, no_step, Block}
+use Rattle.regent_tree.specs.Syntax.{Name, Expression, access_expr, no_step, Block, Tree}
 use Rattle.regent_tree.specs.Typing.{owned, scope_after_block}
 use Rattle.regent_tree.specs.Values.{Value, a_number, a_truth, truth_of, kept_truth}
-use Rattle.regent_tree.specs.Running.{State, Here, Run, Result, gives, fails, given, and_then, if_true, fault, pay_from}
+use Rattle.regent_tree.specs.Running.{Calls, State, Here, Run, Result, gives, fails, given, and_then, if_true, fault, pay_from}
 use Rattle.regent_tree.specs.Execution.{Going, goes_on, returned, going_on, leaving, scoped, with_regions_of, write_name, exec_block}
 use Rattle.task_code.specs.declared.code.Line.{Line}
 use Rattle.task_code.specs.declared.instr.Instr.TheVariants as instr
@@ -21,47 +21,62 @@ use Rattle.machine_terms.specs.declared.order.Ended.TheVariants.{Broke}
 use Rattle.machine_terms.specs.declared.order.Instance.{Instance}
 use Rattle.machine_terms.specs.declared.order.Resumed.TheVariants.{IsOver}
 use Rattle.code_rules.specs.Pieces.{empty, op, past}
+use Rattle.code_rules.specs.Programs.{space_code}
+use Rattle.regent_tree.specs.StaticTypes.{spaces_of}
 use Rattle.code_rules.specs.Slots.{slot_named}
 use Rattle.code_rules.specs.Expressions.{expr_code}
 use Rattle.code_rules.specs.Initializers.{beside_code, plain_code}
 use Rattle.code_rules.specs.Used.{greatest, above_all}
 use Rattle.code_laws.specs.Steps.{Setting, machine_of, placed, on_step, Leads, Ends}
-use Rattle.code_laws.specs.Standing.{Stands, machine_value, IsOf, AreOf, of_integer, of_truth, nothing, Aside, where_of, Agrees, SlotsFit, Does}
-use Rattle.code_laws.specs.Scalars.{CountsDown, IsScalar, scalar_integer, scalar_truth}
+use Rattle.code_laws.specs.Standing.{Answering, program_of, Stands, machine_value, IsInside, IsOf, AreOf, of_integer, of_truth, nothing, Aside, where_of, Agrees, SlotsFit, Does}
+use Rattle.code_laws.specs.Simple.{IsScalar, IsSimple, scalar_integer, scalar_truth, simple_index, simple_integer, simple_space, simple_truth}
+use Rattle.code_laws.specs.Typed.{CountsDown}
 use Rattle.code_laws.proofs.Runs.{Said, leads_twice, leads_end, leads_by, ends_by}
-use Rattle.code_laws.proofs.Values.{jump_later}
+use Rattle.code_laws.proofs.Values.{jump_later, scalar_simple, simple_inside}
 use Rattle.code_laws.proofs.Good.{valued}
 use Rattle.code_laws.proofs.Names.{Grown, block_grown}
 use Rattle.code_laws.proofs.States.{stored, stores, changed, cut}
 
 -- ---- plain start values
 
-pub beside_empty : (params : ℕ) (h : Here) (t : StaticType) (e : Expression) → IsScalar t →
+pub beside_empty : (params : ℕ) (h : Here) (t : StaticType) (e : Expression) → IsSimple t →
     beside_code (where_of params h) t e ≡ empty
-beside_empty params h _ (access_expr n no_step) (scalar_integer w) = refl
-beside_empty params h _ (access_expr n no_step) scalar_truth = refl
+beside_empty params h _ (access_expr n no_step) (simple_integer w) = refl
+beside_empty params h _ (access_expr n no_step) simple_truth = refl
+beside_empty params h _ (access_expr n no_step) (simple_space k) = refl
+beside_empty params h _ (access_expr n no_step) (simple_index k) = refl
 beside_empty params h _ e p = refl
 
-pub owned_plain : (n : ℕ) (t : StaticType) → IsScalar t → t ≡ owned n t
-owned_plain n _ (scalar_integer w) = refl
-owned_plain n _ scalar_truth = refl
+pub owned_plain : (n : ℕ) (t : StaticType) → IsSimple t → t ≡ owned n t
+owned_plain n _ (simple_integer w) = refl
+owned_plain n _ simple_truth = refl
+owned_plain n _ (simple_space k) = refl
+owned_plain n _ (simple_index k) = refl
 
 -- the code of a plain start value is that of the expression
-pub plain_past : (params : ℕ) (h : Here) (t : StaticType) (e : Expression) (pc n : ℕ) → IsScalar t →
+pub plain_past : (params : ℕ) (h : Here) (t : StaticType) (e : Expression) (pc n : ℕ) → IsSimple t →
     past (plain_code (where_of params h) (owned n t) e) pc
     ≡ past (expr_code (where_of params h) 0 e) pc
-plain_past params h _ e pc n (scalar_integer w) =
+plain_past params h _ e pc n (simple_integer w) =
     ap (λ p. past p (past (expr_code (where_of params h) 0 e) pc))
-    (beside_empty params h (integer_type w) e (scalar_integer w))
-plain_past params h _ e pc n scalar_truth =
+    (beside_empty params h (integer_type w) e (simple_integer w))
+plain_past params h _ e pc n simple_truth =
     ap (λ p. past p (past (expr_code (where_of params h) 0 e) pc))
-    (beside_empty params h truth_type e scalar_truth)
+    (beside_empty params h truth_type e simple_truth)
+plain_past params h _ e pc n (simple_space k) =
+    ap (λ p. past p (past (expr_code (where_of params h) 0 e) pc))
+    (beside_empty params h (ispace_type k) e (simple_space k))
+plain_past params h _ e pc n (simple_index k) =
+    ap (λ p. past p (past (expr_code (where_of params h) 0 e) pc))
+    (beside_empty params h (index_type k) e (simple_index k))
 
 pub plain_stands : (body : List Line) (params : ℕ) (h : Here) (t : StaticType) (e : Expression) (pc n : ℕ) →
-    IsScalar t → Stands body pc (plain_code (where_of params h) (owned n t) e) →
+    IsSimple t → Stands body pc (plain_code (where_of params h) (owned n t) e) →
     Stands body pc (expr_code (where_of params h) 0 e)
-plain_stands body params h _ e pc n (scalar_integer w) f = f.0
-plain_stands body params h _ e pc n scalar_truth f = f.0
+plain_stands body params h _ e pc n (simple_integer w) f = f.0
+plain_stands body params h _ e pc n simple_truth f = f.0
+plain_stands body params h _ e pc n (simple_space k) f = f.0
+plain_stands body params h _ e pc n (simple_index k) f = f.0
 
 -- a value that carries no regions
 pub plain_kept : (u : StaticType) (old v : Value) → IsScalar u → IsOf u v → with_regions_of old v ≡ v
@@ -84,20 +99,30 @@ three_least a b c n l =
 
 -- ---- the same state in another scope with the same names
 
+-- two places of a program with the same names
+abbrev pub IsAlike : Here → Here → Type 0
+IsAlike h h2 = (h.scope.names ≡ h2.scope.names) × (program_of h2 ≡ program_of h)
+
 pub same_scope : (x : Setting) (params slots : ℕ) (aside : Aside) (h h2 : Here) (s : State) (i : Instance) →
-    h.scope.names ≡ h2.scope.names → Agrees x params slots aside h s i → Agrees x params slots aside h2 s i
+    IsAlike h h2 → Agrees x params slots aside h s i → Agrees x params slots aside h2 s i
 same_scope x params slots aside h h2 s i e g = record {
   names = g.names;
   hidden = g.hidden;
-  typed = subst (λ bs. AreOf bs s.names) e g.typed;
-  count = g.count ∙ ap length e;
+  typed = subst (λ bs. AreOf IsOf bs s.names) e.0 g.typed;
+  inside_store = subst (λ bs. AreOf (IsInside x s.store) bs s.names) e.0 g.inside_store;
+  count = g.count ∙ ap length e.0;
   inside = g.inside;
   slots_are = g.slots_are;
   turns = g.turns;
   bound = g.bound;
   text = g.text;
-  own = g.own;
-  store = g.store;
+  ready = g.ready;
+  calls = g.calls;
+  result_is = sym (ap (λ (p : Tree × Calls × StaticType). p.2) (sym e.1)) ∙ g.result_is;
+  answers = λ c. subst (λ (p : Tree × Calls × StaticType). Answering x p.0 p.1) (sym e.1) (g.answers c);
+  spaces = g.spaces ∙ ap (λ (p : Tree × Calls × StaticType). map space_code (spaces_of p.0)) (sym e.1);
+  memory = g.memory;
+  framed = g.framed;
 }
 
 module _ (x : Setting) (params slots : ℕ) (fit : SlotsFit x slots) (counts : CountsDown) where
@@ -106,7 +131,7 @@ module _ (x : Setting) (params slots : ℕ) (fit : SlotsFit x slots) (counts : C
   pub does_before : (aside : Aside) (pc : ℕ) (h : Here) (i j : Instance) (r : Result Going) → Leads x i j →
       Does x params slots aside j pc h r → Does x params slots aside i pc h r
   does_before aside pc h i j (gives goes_on s) l d = (d.0, leads_twice x l d.1, d.2)
-  does_before aside pc h i j (gives (returned v) s) l d = (d.0, d.1, leads_end x l d.2, d.3, d.4, d.5, d.6)
+  does_before aside pc h i j (gives (returned v) s) l d = (d.0, d.1, leads_end x l d.2, d.3, d.4, d.5, d.6, d.7)
   does_before aside pc h i j (fails f s) l d = leads_end x l d
 
   pub does_said : (aside : Aside) (pc : ℕ) (h : Here) → Said x (λ i r. Does x params slots aside i pc h r)
@@ -137,7 +162,7 @@ module _ (x : Setting) (params slots : ℕ) (fit : SlotsFit x slots) (counts : C
 
   -- another scope with the same names
   pub does_as : (aside : Aside) (pc : ℕ) (h h2 : Here) (i : Instance) (r : Result Going) →
-      h.scope.names ≡ h2.scope.names → Does x params slots aside i pc h r →
+      IsAlike h h2 → Does x params slots aside i pc h r →
       Does x params slots aside i pc h2 r
   does_as aside pc h h2 i (gives goes_on s) e d =
       (d.0, d.1, same_scope x params slots aside h h2 s d.0 e d.2)
@@ -146,12 +171,12 @@ module _ (x : Setting) (params slots : ℕ) (fit : SlotsFit x slots) (counts : C
 
   -- a block leaves its names
   pub does_cut : (aside : Aside) (pc n : ℕ) (h h2 : Here) (i : Instance) (r : Result Going) →
-      Grown h.scope.names h2.scope.names → n ≡ length h.scope.names → aside.upto ≤ n →
+      Grown h.scope.names h2.scope.names → program_of h2 ≡ program_of h → n ≡ length h.scope.names → aside.upto ≤ n →
       Does x params slots aside i pc h2 r → Does x params slots aside i pc h (leaving n r)
-  does_cut aside pc n h h2 i (gives goes_on s) w e up d =
-      (d.0, d.1, cut x params slots fit aside h h2 n s d.0 w e up d.2)
-  does_cut aside pc n h h2 i (gives (returned v) s) w e up d = (d.0, d.1, d.2, d.3, d.4, d.5, d.6)
-  does_cut aside pc n h h2 i (fails f s) w e up d = d
+  does_cut aside pc n h h2 i (gives goes_on s) w tree e up d =
+      (d.0, d.1, cut x params slots fit aside h h2 n s d.0 w tree e up d.2)
+  does_cut aside pc n h h2 i (gives (returned v) s) w tree e up d = (d.0, d.1, d.2, d.3, d.4, d.5, d.6, d.7)
+  does_cut aside pc n h h2 i (fails f s) w tree e up d = d
 
   -- ---- jumps
 
@@ -196,14 +221,20 @@ module _ (x : Setting) (params slots : ℕ) (fit : SlotsFit x slots) (counts : C
     names = g.names;
     hidden = g.hidden;
     typed = g.typed;
+    inside_store = g.inside_store;
     count = g.count;
     inside = g.inside;
     slots_are = g.slots_are;
     turns = refl;
     bound = omega (arith, g.bound, l);
     text = g.text;
-    own = g.own;
-    store = g.store;
+    ready = g.ready;
+    calls = record { few = omega (arith, g.calls.few, g.turns, l); children = g.calls.children; depth = g.calls.depth };
+    result_is = g.result_is;
+    answers = g.answers;
+    spaces = g.spaces;
+    memory = g.memory;
+    framed = g.framed;
   }
 
   pub relimit : (aside : Aside) (k : ℕ) (h : Here) (s : State) (i : Instance) → s.turns ≤ k →
@@ -212,14 +243,20 @@ module _ (x : Setting) (params slots : ℕ) (fit : SlotsFit x slots) (counts : C
     names = g.names;
     hidden = g.hidden;
     typed = g.typed;
+    inside_store = g.inside_store;
     count = g.count;
     inside = g.inside;
     slots_are = g.slots_are;
     turns = g.turns;
     bound = l;
     text = g.text;
-    own = g.own;
-    store = g.store;
+    ready = g.ready;
+    calls = g.calls;
+    result_is = g.result_is;
+    answers = g.answers;
+    spaces = g.spaces;
+    memory = g.memory;
+    framed = g.framed;
   }
 
   -- a turn is paid, or there is none
@@ -262,9 +299,9 @@ module _ (x : Setting) (params slots : ℕ) (fit : SlotsFit x slots) (counts : C
       subst (λ u. Does x params slots aside (valued pc [] v i) (suc pc) h
       (gives goes_on (record s { names = slice_set s.names (bound_to h.scope.names n).place u })))
       (sym (plain_kept _ old v p ty)) (
-        stored k (machine_value v) i,
-        stores x params slots fit k pc h.line (machine_value v) [] i g.slots_are f,
-        changed x params slots fit aside h s i n v b room ty g,
+        stored k (machine_value i.contents v) i,
+        stores x params slots fit k pc h.line (machine_value i.contents v) [] i g.slots_are f,
+        changed x params slots fit aside h s i n v b room ty (simple_inside x s.store _ v (scalar_simple _ p)) g,
       )
 
   -- ---- asserts and returns
@@ -278,26 +315,28 @@ module _ (x : Setting) (params slots : ℕ) (fit : SlotsFit x slots) (counts : C
       (ap (λ t. IsOver (Broke (Some (record { kind = AssertFailed; line = h.line })) t)) g.text)
 
   pub returns : (aside : Aside) (h : Here) (u : StaticType) (v : Value) (s : State) (pc pc2 : ℕ) (i : Instance) →
-      IsScalar u → IsOf u v → Agrees x params slots aside h s i →
+      IsScalar u → u ≡ x.result → IsOf u v → Agrees x params slots aside h s i →
       Stands x.body pc (op instr.ReturnValue h.line) →
       Does x params slots aside (valued pc [] v i) pc2 h (gives (returned v) s)
-  returns aside h _ _ s pc pc2 i (scalar_integer w) (of_integer _ z _) g f = (
+  returns aside h _ _ s pc pc2 i (scalar_integer w) e (of_integer _ z p) g f = (
     Some z,
     valued pc [] (a_number w z) i,
     ends_by x _ _ instr.ReturnValue h.line f refl,
     refl,
     g.text,
-    g.own,
-    g.store,
+    g.memory,
+    g.framed,
+    λ c q. subst (λ t. IsOf t (a_number w z)) e (of_integer w z p),
   )
-  returns aside h _ _ s pc pc2 i scalar_truth (of_truth b) g f = (
+  returns aside h _ _ s pc pc2 i scalar_truth e (of_truth b) g f = (
     Some (kept_truth b),
     valued pc [] (a_truth b) i,
     ends_by x _ _ instr.ReturnValue h.line f refl,
     refl,
     g.text,
-    g.own,
-    g.store,
+    g.memory,
+    g.framed,
+    λ c q. subst (λ t. IsOf t (a_truth b)) e (of_truth b),
   )
 
   -- ---- blocks and loops
@@ -310,4 +349,4 @@ module _ (x : Setting) (params slots : ℕ) (fit : SlotsFit x slots) (counts : C
       Does x params slots aside i pc h (scoped (exec_block h body) s)
   scoped_by aside h body s pc i j g d =
       does_cut aside pc (length s.names) h (record h { scope = scope_after_block h.tree h.scope body }) i
-      (exec_block h body s) (block_grown h.tree h.scope body) g.count g.inside d
+      (exec_block h body s) (block_grown h.tree h.scope body) refl g.count g.inside d

@@ -34,12 +34,12 @@ use Rattle.check_rules.specs.scopes.Sound.{StandsIn}
 use Rattle.regent_tree.specs.StaticTypes.{Looking, entry_name, task_named, type_said}
 use Rattle.regent_tree.specs.Limits.{KeepsLimit, Part, parts_of_items, parts_of_program, parts_of_item, parts_of_type, parts_of_params, parts_of_block, WithinLimits}
 use Rattle.regent_tree.specs.Syntax.{ItemForm, ItemTree, Name, TaskTree, Tree, alias_item, import_item, space_item, start_item, task_item}
-use Rattle.code_laws.specs.Standing.{IsOf, of_integer}
-use Rattle.code_laws.specs.Scalars.{IsInteger, an_integer}
+use Rattle.code_laws.specs.Standing.{AreTaken, IsOf, of_integer}
+use Rattle.code_laws.specs.Simple.{IsInteger, an_integer}
 use Rattle.check_rules.specs.rules.Repeats.{Given}
 use Rattle.lane_kernels.specs.Numbers.{FitsWidth}
 use Rattle.regent_tree.proofs.Members.{Contains-from_Has, Has, Has-map}
-use Rattle.code_laws.specs.Programs.{AreTaken, IsScalarRun}
+use Rattle.code_laws.specs.Programs.{IsTypedRun, scalar_forms}
 use Rattle.scalar_form.specs.ScalarForm.{is_scalar_item, is_scalar_task, is_scalar_term, is_scalar_if_said, is_empty, is_scalar_block}
 use Rattle.code_laws.specs.ScalarPrograms.{AreInputs, IsScalarProgramRun, ScalarProgramsLeaveNoRoots, ScalarProgramsRunAsMeant}
 use Rattle.code_laws.proofs.Typing.{AllScalar, AreKept, kept_left, kept_right, no_way_back}
@@ -218,7 +218,7 @@ integers_scalar (b ∷ bs) a = (integer_scalar b.static_type a.0, integers_scala
 one_taken : (t : StaticType) (z : ℤ) → IsInteger t → FitsWidth (width_of_type t) z → IsOf t (a_number (width_of_type t) z)
 one_taken _ z (an_integer w) f = of_integer w z f
 
-inputs_taken : (ts : List StaticType) (zs : List ℤ) → AllIntegers ts → AreInputs (map width_of_type ts) zs → AreTaken ts (inputs_of ts zs)
+inputs_taken : (ts : List StaticType) (zs : List ℤ) → AllIntegers ts → AreInputs (map width_of_type ts) zs → AreTaken IsOf ts (inputs_of ts zs)
 inputs_taken [] [] a i = tt
 inputs_taken [] (z ∷ zs) a i = absurd i
 inputs_taken (t ∷ ts) [] a i = absurd i
@@ -261,7 +261,7 @@ short_body tree n within at =
     subst (λ u. length (task_code tree u).body < 2 ^ 32) (get_or_from_slice_get (tasks_of tree) k t t at)
     (bodies_are_short tree within k t (slice_get_within (tasks_of tree) k t at))
 
-pub scalar_run : (tree : Tree) (inputs : List ℤ) → IsScalarProgramRun tree inputs → IsScalarRun tree inputs
+pub scalar_run : (tree : Tree) (inputs : List ℤ) → IsScalarProgramRun tree inputs → IsTypedRun scalar_forms tree inputs
 scalar_run tree inputs p =
     let main = entry_name tree in
     let t = task_named tree main in

@@ -1,28 +1,25 @@
 -- The code of a statement does what the statement means.
-use Rattle.regent_tree.specs.Initializers.{initial_value, zero_of}
-use Rattle.std.proofs.lemmas.Int.{ints}
-use Rattle.lane_kernels.specs.declared.numbers.Width.TheVariants.{W32, W64}
-use Rattle.lane_kernels.specs.Numbers.{FitsWidth}
-use Rattle.regent_tree.specs.declared.types.TypeTerm.{TypeTerm}
+use Rattle.code_laws.proofs.SpaceLoops.{spaces_run}
+use Rattle.code_laws.proofs.States.{ready_value}
+use Rattle.code_laws.proofs.Variables.{GoodInside, binds, fill_runs, region_runs, zero_runs}
+use Rattle.code_laws.proofs.Elements.{folds_element, sets_element}
+use Rattle.regent_tree.specs.Initializers.{initial_value, make_root}
 use Rattle.code_laws.proofs.Folds.{folds}
 use Rattle.code_laws.proofs.Loops.{counting_runs, integer_kept, loop_typed, turning_runs, from_fits, to_fits}
-use Rattle.code_rules.specs.Instructions.{converted_code}
-use Rattle.code_laws.proofs.Rows.{asserts, does_as, does_before, does_said, plain_past, returns, same_scope, scoped_by, tests, then_going, then_leads, writes_name, plain_stands, owned_plain, relimit, jumps_later}
-use Rattle.std.proofs.Common.{◌≡◌, ℕ, suc, ◌<◌, ◌≤◌, pos, [], ◌∷◌, ◌++◌, false, Some, None, refl, sym, ap, ◌∙◌, subst, arith, length-append, Option}
+use Rattle.code_rules.specs.Instructions.{converted_code, place_of_task}
+use Rattle.code_laws.proofs.Rows.{IsAlike, asserts, does_as, does_before, does_said, plain_past, returns, same_scope, scoped_by, tests, then_going, then_leads, writes_name, plain_stands, owned_plain, relimit, jumps_later}
+use Rattle.std.proofs.Common.{◌≡◌, ℕ, suc, ◌<◌, ◌≤◌, [], ◌∷◌, ◌++◌, Some, None, refl, sym, ap, ◌∙◌, subst, arith, length-append}
 use Rattle.std.specs.Prelude.{length, slice_get}
 use Rattle.std.proofs.lemmas.Option.{slice_get-get_or}
 use Rattle.std.proofs.lemmas.List.{get_or-set_same, get_or-set_other, append_assoc}
-use Rattle.lane_kernels.specs.declared.numbers.Width.{Width}
 use Rattle.regent_tree.specs.declared.statement.How.TheVariants as how
-use Rattle.regent_tree.specs.declared.typing.StaticType.{StaticType}
-use Rattle.regent_tree.specs.declared.typing.StaticType.TheVariants.{Integer as integer_type, Truth as truth_type}
-use Rattle.regent_tree.specs.Scopes.{bound_to, with_name}
-use Rattle.regent_tree.specs.Syntax.{Name, no_step, field_step, at_step, plain_initializer, a_statement, Form, var_form, if_form, while_form, for_to_form, do_form, assert_form, assign_form, return_form, call_form, fill_form, Block, no_statement, then_statement, Arms, no_arm, an_arm, Otherwise, no_else, else_block, Initializer, both_initializer, by_field_initializer, either_initializer, equal_initializer, image_initializer, preimage_initializer, region_initializer, print_form, for_in_form}
-use Rattle.regent_tree.specs.Typing.{scope_after_block, arithmetic_type, width_of_type, reaches_of, var_type}
-use Rattle.regent_tree.specs.Values.{Value, a_number, a_truth, number_of}
-use Rattle.regent_tree.specs.Running.{State, Here, Run, gives}
+use Rattle.regent_tree.specs.Scopes.{bound_to}
+use Rattle.regent_tree.specs.Syntax.{no_step, field_step, at_step, plain_initializer, a_statement, Form, var_form, if_form, while_form, for_to_form, do_form, assert_form, assign_form, return_form, call_form, fill_form, Block, no_statement, then_statement, Arms, no_arm, an_arm, Otherwise, no_else, else_block, both_initializer, by_field_initializer, either_initializer, equal_initializer, image_initializer, preimage_initializer, region_initializer, print_form, for_in_form}
+use Rattle.regent_tree.specs.Typing.{taken_from, param_types, params_at, scope_after_block, arithmetic_type, width_of_type, reaches_of, var_type}
+use Rattle.regent_tree.specs.Values.{number_of, size_of}
+use Rattle.regent_tree.specs.Running.{State, Here, Run}
 use Rattle.regent_tree.specs.Accesses.{converted, regions_reached}
-use Rattle.regent_tree.specs.Evaluation.{value, values}
+use Rattle.regent_tree.specs.Evaluation.{called, value, values}
 use Rattle.regent_tree.specs.Execution.{Going, scoped, right_side, bind, looping, exec, exec_arms, exec_else, exec_block, on_line, after_statement, after_arm, after_arms}
 use Rattle.task_code.specs.declared.instr.Instr.TheVariants as instr
 use Rattle.regent_tree.specs.Numbers.{distance}
@@ -30,60 +27,33 @@ use Rattle.machine_terms.specs.declared.value.Value.TheVariants as machine
 use Rattle.machine_terms.specs.declared.order.Instance.{Instance}
 use Rattle.code_rules.specs.Pieces.{Piece, op, past}
 use Rattle.code_rules.specs.Slots.{typed, slot, counter, beside}
-use Rattle.code_rules.specs.Expressions.{expr_code, count}
-use Rattle.code_rules.specs.Initializers.{new_place, zero_kept}
+use Rattle.code_rules.specs.Expressions.{expr_code, exprs_code, count}
+use Rattle.code_rules.specs.Initializers.{new_place}
 use Rattle.code_rules.specs.Statements.{form_code, arms_code, else_code, block_code}
 use Rattle.code_rules.specs.Assignments.{right_code}
 use Rattle.code_laws.specs.Steps.{Setting, placed}
-use Rattle.code_laws.specs.Standing.{Stands, machine_value, IsOf, of_integer, of_truth, blank, Aside, where_of, Agrees, SlotsFit, Does}
-use Rattle.code_laws.specs.Scalars.{CountsDown, IsScalar, scalar_integer, scalar_truth, AreTypedArms, IsTypedBlock, IsTypedElse, IsTypedForm}
-use Rattle.code_laws.proofs.Runs.{leads_none, leads_twice, ends_by, then, comes_said}
-use Rattle.code_laws.proofs.Values.{past_later}
-use Rattle.code_laws.proofs.Good.{valued, Good, Gives, pushes}
-use Rattle.code_laws.proofs.Expressions.{converted_runs, value_runs, alike_right, truth_of_type}
+use Rattle.code_laws.specs.Standing.{Stands, machine_value, IsInside, IsOf, blank, Aside, where_of, Agrees, SlotsFit, Does}
+use Rattle.code_laws.specs.Simple.{IsScalar}
+use Rattle.code_laws.specs.Typed.{CountsDown, element_field, AreTypedArms, IsTypedBlock, IsTypedElse, IsTypedForm}
+use Rattle.code_laws.proofs.Runs.{leads_by, leads_none, leads_twice, ends_by, then, comes_said}
+use Rattle.code_laws.proofs.Values.{past_later, scalar_simple, simple_inside}
+use Rattle.code_laws.proofs.Good.{valued, Good}
+use Rattle.code_laws.proofs.Operations.{converted_runs, fetch_small, alike_right, truth_of_type}
+use Rattle.code_laws.proofs.Expressions.{AreGiven, args_run, value_runs}
+use Rattle.code_laws.proofs.Calling.{HasResult, calls_run, pending}
+use Rattle.code_laws.proofs.Prints.{pushed_all}
+use Rattle.machine_terms.specs.Contents.{no_contents}
+use Rattle.regent_tree.specs.StaticTypes.{task_named}
 use Rattle.code_laws.proofs.PrintRuns.{values_run, prints}
 use Rattle.code_laws.proofs.Names.{form_grown, block_grown, arms_names, else_names}
-use Rattle.code_laws.proofs.States.{stored, stores, bound_more, aside_stored}
-
--- 0 fits
-zero_fits : (w : Width) → FitsWidth w (pos 0)
-zero_fits W32 = omega (arith, ints)
-zero_fits W64 = omega (arith, ints)
+use Rattle.code_laws.proofs.States.{stored, stores, aside_stored}
 
 module _ (x : Setting) (params slots : ℕ) (fit : SlotsFit x slots) (counts : CountsDown) where
-  -- ---- variables
-
-  -- a new variable has the value that stands on the stack
-  binds : (aside : Aside) (h : Here) (n : Name) (t : Option TypeTerm) (start : Option Initializer) (v : Value) (s : State)
-      (pc : ℕ) (i : Instance) → params ≤ length h.scope.names → IsOf (var_type h.tree h.scope t start) v →
-      Agrees x params slots aside h s i → Stands x.body pc (op (instr.Store (slot (where_of params h) (new_place (where_of params h)))) h.line) →
-      Does x params slots aside (valued pc [] v i) (suc pc) (after_statement h (var_form n t start)) (bind v s)
-  binds aside h n t start v s pc i low ty g f =
-      let w = where_of params h in
-      let k = slot w (new_place w) in
-      let u = var_type h.tree h.scope t start in
-      let room : k < slots = omega (arith, fit pc _ f) in (
-        stored k (machine_value v) i,
-        stores x params slots fit k pc h.line (machine_value v) [] i g.slots_are f,
-        same_scope x params slots aside (record h { scope = with_name h.scope n u false }) _ _ _ refl
-            (bound_more x params slots fit aside h s i n u false v low room ty g),
-      )
-
-  -- 0 or false
-  zero_runs : (aside : Aside) (h : Here) (t : StaticType) (s : State) (pc : ℕ) (i : Instance) → IsScalar t →
-      Agrees x params slots aside h s i → Stands x.body pc (op (instr.Num (zero_kept t)) h.line) →
-      Gives x params slots fit aside h t (op (instr.Num (zero_kept t)) h.line) pc [] [] i (gives (zero_of h.scope s.names t) s)
-  zero_runs aside h _ s pc i (scalar_integer w) g f =
-      pushes x params slots fit aside h (integer_type w) (a_number w (pos 0)) s pc [] [] i (instr.Num (pos 0)) h.line f
-      (of_integer w (pos 0) (zero_fits w)) g refl
-  zero_runs aside h _ s pc i scalar_truth g f =
-      pushes x params slots fit aside h truth_type (a_truth false) s pc [] [] i (instr.Num (pos 0)) h.line f (of_truth false) g refl
-
   -- ---- statements
 
   mutual
     pub form_runs : (aside : Aside) (h : Here) (form : Form) (s : State) (pc : ℕ) (i : Instance) →
-        params ≤ length h.scope.names → IsTypedForm (where_of params h) form →
+        params ≤ length h.scope.names → IsTypedForm x.forms (where_of params h) form →
         Agrees x params slots aside h s i → Stands x.body pc (form_code (where_of params h) form) →
         Does x params slots aside (placed pc [] i) (past (form_code (where_of params h) form) pc)
         (after_statement h form) (exec h form s)
@@ -102,8 +72,9 @@ module _ (x : Setting) (params slots : ℕ) (fit : SlotsFit x slots) (counts : C
         _ _ _ (value h e s) _
         (value_runs x params slots fit aside h 0 low e s pc [] i fine.1 g
         (plain_stands x.body params h t e pc h.scope.next fine.0 f.0))
-        (λ v s1 j k1. binds aside h n None (Some (plain_initializer e)) v s1 (past code pc) j low
-        (subst (λ u. IsOf u v) (owned_plain h.scope.next t fine.0) k1.0) k1.1 f2))
+        (λ v s1 j k1. binds x params slots fit counts aside h n None (Some (plain_initializer e)) v s1 (past code pc) j low
+        (subst (λ u. IsOf u v) (owned_plain h.scope.next t fine.0) k1.0)
+        (subst (λ u. IsInside x s1.store u v) (owned_plain h.scope.next t fine.0) (simple_inside x s1.store t v fine.0)) k1.1 f2))
     form_runs aside h (var_form n (Some t) (Some (plain_initializer e))) s pc i low fine g f =
         let w = where_of params h in
         let from = typed w e in
@@ -118,14 +89,15 @@ module _ (x : Setting) (params slots : ℕ) (fit : SlotsFit x slots) (counts : C
         (value_runs x params slots fit aside h 0 low e s pc [] i fine.1 g f.0.0)
         (λ v s1 j k. converted_runs x params slots fit aside h from u (regions_reached h.scope s1.names (reaches_of u)) v s1 a [] j
         fine.0 k.0 k.1 f.0.1))
-        (λ v s1 j k. binds aside h n (Some t) (Some (plain_initializer e)) v s1 b j low k.0 k.1 f.1)
+        (λ v s1 j k. binds x params slots fit counts aside h n (Some t) (Some (plain_initializer e)) v s1 b j low k.0
+        (simple_inside x s1.store u v (scalar_simple u (alike_right x params slots fit aside from u fine.0))) k.1 f.1)
     form_runs aside h (var_form n (Some t) None) s pc i low fine g f =
         let form = var_form n (Some t) None in
         let u = var_type h.tree h.scope (Some t) None in
         then x (does_said x params slots fit counts aside (suc (suc pc)) (after_statement h form)) (valued (suc pc) [])
         (Good x params slots fit aside h u) _ (initial_value h (Some t) u None s) (λ v. bind v)
-        (zero_runs aside h u s pc i fine g f.0)
-        (λ v s1 j k. binds aside h n (Some t) None v s1 (suc pc) j low k.0 k.1 f.1)
+        (zero_runs x params slots fit counts aside h u s pc i fine g f.0)
+        (λ v s1 j k. binds x params slots fit counts aside h n (Some t) None v s1 (suc pc) j low k.0 (simple_inside x s1.store u v (scalar_simple u fine)) k.1 f.1)
     form_runs aside h (assign_form n no_step how.Set e) s pc i low fine g f =
         let w = where_of params h in
         let t = typed w e in
@@ -162,8 +134,9 @@ module _ (x : Setting) (params slots : ℕ) (fit : SlotsFit x slots) (counts : C
       ends_by x _ _ instr.Return h.line f refl,
       refl,
       g.text,
-      g.own,
-      g.store,
+      g.memory,
+      g.framed,
+      λ c q. absurd (fine c (subst IsScalar (sym g.result_is) q)),
     )
     form_runs aside h (return_form (Some e)) s pc i low fine g f =
         let t = typed (where_of params h) e in
@@ -173,27 +146,27 @@ module _ (x : Setting) (params slots : ℕ) (fit : SlotsFit x slots) (counts : C
         (λ v s1 j k. then x (does_said x params slots fit counts aside _ h) _ (Good x params slots fit aside h h.result) _ (converted h t h.result [] v s1) _
         (converted_runs x params slots fit aside h t h.result [] v s1 _ [] j fine.0 k.0 k.1 f.1.0)
         (λ u s2 j2 k2. returns x params slots fit counts aside h h.result u s2 _ done j2
-        (alike_right x params slots fit aside t h.result fine.0) k2.0 k2.1 f.1.1))
+        (alike_right x params slots fit aside t h.result fine.0) k2.1.result_is k2.0 k2.1 f.1.1))
     form_runs aside h (do_form body) s pc i low fine g f =
-        does_as x params slots fit counts aside _ h (after_statement h (do_form body)) _ _ refl
+        does_as x params slots fit counts aside _ h (after_statement h (do_form body)) _ _ (refl, refl)
         (scoped_by x params slots fit counts aside h body s _ _ i g (block_runs aside h body s pc i low fine g f))
     form_runs aside h (if_form arms other) s pc i low fine g f =
         let w = where_of params h in
         let e = arms_names h.tree h.scope arms in
         does_as x params slots fit counts aside _ h (after_statement h (if_form arms other)) _ _
-        (sym (else_names h.tree (after_arms h arms).scope other ∙ e))
+        (sym (else_names h.tree (after_arms h arms).scope other ∙ e), refl)
         (arms_run aside h h h arms (exec_else (after_arms h arms) other)
-        (else_code (where_of params (after_arms h arms)) other) s pc i low refl refl fine.0 g f
-        (λ s1 pc1 j g1 f1. does_as x params slots fit counts aside _ (after_arms h arms) h _ _ e
+        (else_code (where_of params (after_arms h arms)) other) s pc i low (refl, refl) (refl, refl) fine.0 g f
+        (λ s1 pc1 j g1 f1. does_as x params slots fit counts aside _ (after_arms h arms) h _ _ (e, refl)
         (else_runs aside (after_arms h arms) other s1 pc1 j
         (omega (arith, low, ap length e)) fine.1
-        (same_scope x params slots aside h (after_arms h arms) s1 j (sym e) g1) f1)))
+        (same_scope x params slots aside h (after_arms h arms) s1 j (sym e, refl) g1) f1)))
     form_runs aside h (while_form test body) s pc i low fine g f =
         let w = where_of params h in
         let b = past (block_code w body) (suc (suc pc)) in
         let later : pc < b = omega (arith, past_later (block_code w body) (suc (suc pc))) in
         does_before x params slots fit counts aside _ _ _ _ _ (jumps_later x params slots fit counts pc b h.line i later f.0)
-        (does_as x params slots fit counts aside _ h (after_statement h (while_form test body)) _ _ refl
+        (does_as x params slots fit counts aside _ h (after_statement h (while_form test body)) _ _ (refl, refl)
         (turning_runs x params slots fit counts s.turns aside h test (scoped (exec_block h body)) (block_code w body) s pc i
         low fine.0 fine.1 g.bound (relimit x params slots fit counts aside s.turns h s i (omega arith) g) f
         (λ n s1 j k. scoped_by x params slots fit counts _ h body s1 _ _ j k
@@ -211,42 +184,52 @@ module _ (x : Setting) (params slots : ℕ) (fit : SlotsFit x slots) (counts : C
         let up : aside.upto ≤ k = omega (arith, g.inside, g.count) in
         let h2 = record (looping h n a) { scope = scope_after_block h.tree (looping h n a).scope body } in
         let grown = block_grown h.tree (looping h n a).scope body in
-        does_as x params slots fit counts aside _ h (after_statement h (for_to_form demanded n from to body)) _ _ refl
+        does_as x params slots fit counts aside _ h (after_statement h (for_to_form demanded n from to body)) _ _ (refl, refl)
         (then x (does_said x params slots fit counts aside done h) _ _ _ (value h from s) _
         (value_runs x params slots fit aside h 0 low from s pc [] i fine.2 g f.0)
         (λ v s1 j k1. then x (does_said x params slots fit counts aside done h) _ _ _ (value h to s1) _
-        (value_runs x params slots fit aside h 0 low to s1 _ (machine_value v ∷ []) j fine.3 k1.1 f.1.0)
+        (value_runs x params slots fit aside h 0 low to s1 _ (machine_value j.contents v ∷ []) j fine.3 k1.1 f.1.0)
         (λ v2 s2 j2 k2.
-        let j3 = stored l (machine_value v2) j2 in
-        let j4 = stored c (machine_value v) j3 in
+        let j3 = stored l (machine_value j2.contents v2) j2 in
+        let j4 = stored c (machine_value j.contents v) j3 in
         let f2 = f.1.1.0 in
         let f3 = f.1.1.1.0 in
-        let g3 = aside_stored x params slots fit aside h s2 j2 k 2 (machine_value v2) low up (omega arith)
-        (omega arith) (omega arith) k2.1 in
-        let g4 = aside_stored x params slots fit aside h s2 j3 k 1 (machine_value v) low up (omega arith)
-        (omega arith) (omega arith) g3 in
+        let g3 = aside_stored x params slots fit aside h s2 j2 k 2 (machine_value j2.contents v2) low up (omega arith)
+        (omega arith) (omega arith) (ready_value j2.contents v2) k2.1 in
+        let g4 = aside_stored x params slots fit aside h s2 j3 k 1 (machine_value j.contents v) low up (omega arith)
+        (omega arith) (omega arith) (ready_value j.contents v) g3 in
         let cs : slice_get j4.frame.slots c ≡ Some (machine.Number (number_of v)) =
         slice_get-get_or j4.frame.slots c blank (omega (arith, g4.slots_are, fit _ _ f3))
-        ∙ ap Some (get_or-set_same j3.frame.slots c (machine_value v) blank (omega (arith, g3.slots_are, fit _ _ f3))
-        ∙ integer_kept x params slots fit counts t v fine.0 k1.0) in
+        ∙ ap Some (get_or-set_same j3.frame.slots c (machine_value j.contents v) blank (omega (arith, g3.slots_are, fit _ _ f3))
+        ∙ integer_kept x params slots fit counts j.contents t v fine.0 k1.0) in
         let ls : slice_get j4.frame.slots l ≡ Some (machine.Number (number_of v2)) =
         slice_get-get_or j4.frame.slots l blank (omega (arith, g4.slots_are, fit _ _ f2))
         ∙ ap Some (get_or-set_other j3.frame.slots c l _ blank (λ q. omega (arith, q))
-        ∙ get_or-set_same j2.frame.slots l (machine_value v2) blank (omega (arith, k2.1.slots_are, fit _ _ f2))
-        ∙ integer_kept x params slots fit counts u v2 fine.1 k2.0) in
+        ∙ get_or-set_same j2.frame.slots l (machine_value j2.contents v2) blank (omega (arith, k2.1.slots_are, fit _ _ f2))
+        ∙ integer_kept x params slots fit counts j2.contents u v2 fine.1 k2.0) in
         does_before x params slots fit counts aside done h _ _ _
-        (leads_twice x (stores x params slots fit l p h.line (machine_value v2) (machine_value v ∷ []) j2 k2.1.slots_are f2)
-        (stores x params slots fit c (suc p) h.line (machine_value v) [] j3 g3.slots_are f3))
+        (leads_twice x (stores x params slots fit l p h.line (machine_value j2.contents v2) (machine_value j.contents v ∷ []) j2 k2.1.slots_are f2)
+        (stores x params slots fit c (suc p) h.line (machine_value j.contents v) [] j3 g3.slots_are f3))
         (counting_runs x params slots fit counts (distance (number_of v) (number_of v2)) aside h h2 n a (width_of_type a)
         (exec_block (looping h n a) body) (block_code (where_of params (looping h n a)) body)
         (number_of v) (number_of v2) s2 (suc (suc p)) j4 (λ y q. loop_typed x params slots fit counts t u y fine.0 fine.1 q)
         (from_fits x params slots fit counts t u v fine.0 fine.1 k1.0) (to_fits x params slots fit counts t u v2 fine.0 fine.1 k2.0)
         low refl g4 cs ls
-        f.1.1.1.1 (record { more = grown.more ++ _ ∷ []; are = grown.are ∙ sym (append_assoc grown.more (_ ∷ []) h.scope.names) })
+        f.1.1.1.1 (record { more = grown.more ++ _ ∷ []; are = grown.are ∙ sym (append_assoc grown.more (_ ∷ []) h.scope.names) }) refl
         (λ aside2 s5 j5 g5. block_runs aside2 (looping h n a) body s5 (suc (suc (suc p))) j5
         (omega (arith, low)) fine.4 g5 f.1.1.1.1.1)))))
     form_runs aside h (var_form n None None) s pc i low fine g f = absurd fine
-    form_runs aside h (var_form n None (Some (region_initializer _ _))) s pc i low fine g f = absurd fine
+    form_runs aside h (var_form n None (Some (region_initializer e u))) s pc i low fine g f =
+        let w = where_of params h in
+        let start = Some (region_initializer e u) in
+        let t = var_type h.tree h.scope None start in
+        let a = past (expr_code w 0 e) pc in
+        then x (does_said x params slots fit counts aside (suc (suc a)) (after_statement h (var_form n None start))) (valued (suc a) [])
+        (GoodInside x params slots fit counts aside h t) _ (initial_value h None t start s) (λ v. bind v)
+        (then x (comes_said x _ _) (valued a []) (Good x params slots fit aside h (typed w e)) _ (value h e s)
+        (λ v. make_root h u (size_of v)) (value_runs x params slots fit aside h 0 low e s pc [] i fine.2 g f.0.0)
+        (λ v s1 j k. region_runs x params slots fit counts aside h (typed w e) v u s1 a j _ _ _ fine.0 fine.1 fine.3 k.0 k.1 f.0.1 (fetch_small x.body (suc a) _ f.1)))
+        (λ v s1 j k. binds x params slots fit counts aside h n None start v s1 (suc a) j low k.0 k.1 k.2 f.1)
     form_runs aside h (var_form n (Some t) (Some (region_initializer _ _))) s pc i low fine g f = absurd fine
     form_runs aside h (var_form n None (Some (equal_initializer _ _))) s pc i low fine g f = absurd fine
     form_runs aside h (var_form n (Some t) (Some (equal_initializer _ _))) s pc i low fine g f = absurd fine
@@ -260,17 +243,79 @@ module _ (x : Setting) (params slots : ℕ) (fit : SlotsFit x slots) (counts : C
     form_runs aside h (var_form n (Some t) (Some (both_initializer _ _))) s pc i low fine g f = absurd fine
     form_runs aside h (var_form n None (Some (either_initializer _ _))) s pc i low fine g f = absurd fine
     form_runs aside h (var_form n (Some t) (Some (either_initializer _ _))) s pc i low fine g f = absurd fine
-    form_runs aside h (for_in_form demanded n domain body) s pc i low fine g f = absurd fine
+    form_runs aside h (for_in_form demanded n domain body) s pc i low fine g f =
+        let w = where_of params h in
+        let t = typed w domain in
+        let a = past (expr_code w 0 domain) pc in
+        let done = past (form_code w (for_in_form demanded n domain body)) pc in
+        let h1 = looping h n (taken_from t) in
+        let h2 = record h1 { scope = scope_after_block h.tree h1.scope body } in
+        let grown = block_grown h.tree h1.scope body in
+        does_as x params slots fit counts aside _ h (after_statement h (for_in_form demanded n domain body)) _ _ (refl, refl)
+        (then x (does_said x params slots fit counts aside done h) _ _ _ (value h domain s) _
+        (value_runs x params slots fit aside h 0 low domain s pc [] i fine.1 g f.0)
+        (λ v s1 j k1. spaces_run x params slots fit counts aside h h2 n t v (exec_block h1 body) (block_code (where_of params h1) body)
+        s1 a j fine.0 k1.0 low k1.1 f.1.0 f.1.1.0 f.1.1.1.0 f.1.1.1.1
+        (record { more = grown.more ++ _ ∷ []; are = grown.are ∙ sym (append_assoc grown.more (_ ∷ []) h.scope.names) }) refl
+        (λ aside2 s5 j5 g5. block_runs aside2 h1 body s5 (suc (suc (suc (suc a)))) j5 (omega (arith, low)) fine.2 g5 f.1.1.1.1.1)))
     form_runs aside h (assign_form n (field_step _ _) how.Set e) s pc i low fine g f = absurd fine
     form_runs aside h (assign_form n (field_step _ _) (how.Reduce o) e) s pc i low fine g f = absurd fine
-    form_runs aside h (assign_form n (at_step _ _) how.Set e) s pc i low fine g f = absurd fine
-    form_runs aside h (assign_form n (at_step _ _) (how.Reduce o) e) s pc i low fine g f = absurd fine
-    form_runs aside h (fill_form r fields e) s pc i low fine g f = absurd fine
-    form_runs aside h (call_form task args) s pc i low fine g f = absurd fine
+    form_runs aside h (assign_form n (at_step y (field_step f2 no_step)) how.Set e) s pc i low fine g f =
+        let w = where_of params h in
+        let t = typed w e in
+        let u = element_field w n y f2 in
+        let form = assign_form n (at_step y (field_step f2 no_step)) how.Set e in
+        then x (does_said x params slots fit counts aside (past (form_code w form) pc) h)
+        (valued (past (right_code w n (at_step y (field_step f2 no_step)) how.Set e) pc) [])
+        (Good x params slots fit aside h u) _ (right_side h n (at_step y (field_step f2 no_step)) how.Set e s) _
+        (then x (comes_said x _ _) _ _ _ (value h e s) _
+        (value_runs x params slots fit aside h 0 low e s pc [] i fine.1 g f.0.0)
+        (λ v s1 j k. converted_runs x params slots fit aside h t u [] v s1 _ [] j fine.0 k.0 k.1 f.0.1))
+        (λ v s1 j k. sets_element x params slots fit aside h n y f2 u v s1 _ j low fine.2 fine.3 fine.4 fine.5 k.0 k.1 f.1)
+    form_runs aside h (assign_form n (at_step y (field_step f2 no_step)) (how.Reduce o) e) s pc i low fine g f =
+        let w = where_of params h in
+        let t = typed w e in
+        let u = element_field w n y f2 in
+        let form = assign_form n (at_step y (field_step f2 no_step)) (how.Reduce o) e in
+        then x (does_said x params slots fit counts aside (past (form_code w form) pc) h)
+        (valued (past (expr_code w 0 e) pc) []) (Good x params slots fit aside h t) _ (value h e s) _
+        (value_runs x params slots fit aside h 0 low e s pc [] i fine.2 g f.0)
+        (λ v s1 j k. folds_element x params slots fit aside o h n y f2 u t v s1 _ j low fine.3 fine.4 fine.5 fine.6
+        fine.1 fine.0 k.0 k.1 f.1)
+    form_runs aside h (assign_form n (at_step _ no_step) how.Set e) s pc i low fine g f = absurd fine
+    form_runs aside h (assign_form n (at_step _ (at_step _ _)) how.Set e) s pc i low fine g f = absurd fine
+    form_runs aside h (assign_form n (at_step _ (field_step _ (field_step _ _))) how.Set e) s pc i low fine g f = absurd fine
+    form_runs aside h (assign_form n (at_step _ (field_step _ (at_step _ _))) how.Set e) s pc i low fine g f = absurd fine
+    form_runs aside h (assign_form n (at_step _ no_step) (how.Reduce o) e) s pc i low fine g f = absurd fine
+    form_runs aside h (assign_form n (at_step _ (at_step _ _)) (how.Reduce o) e) s pc i low fine g f = absurd fine
+    form_runs aside h (assign_form n (at_step _ (field_step _ (field_step _ _))) (how.Reduce o) e) s pc i low fine g f = absurd fine
+    form_runs aside h (assign_form n (at_step _ (field_step _ (at_step _ _))) (how.Reduce o) e) s pc i low fine g f = absurd fine
+    form_runs aside h (fill_form r fields e) s pc i low fine g f =
+        let t = typed (where_of params h) e in
+        then x (does_said x params slots fit counts aside _ h) _ _ _ (value h e s) _
+        (value_runs x params slots fit aside h 0 low e s pc [] i fine.0 g f.0)
+        (λ v s1 j k. fill_runs x params slots fit counts aside h r fields t v s1 _ j low fine.1 fine.2 fine.3 k.0 k.1 f.1.0 f.1.1)
+    form_runs aside h (call_form task args) s pc i low fine g f =
+        let w = where_of params h in
+        let callee = task_named h.tree task in
+        let ts = params_at h.tree h.scope callee args in
+        let ps = param_types h.tree callee in
+        let a = past (exprs_code w 0 ts args) pc in
+        let done = past (form_code w (call_form task args)) pc in
+        then x (does_said x params slots fit counts aside done h) (λ vs j. placed a (pushed_all no_contents vs []) j)
+        (AreGiven x params slots fit aside h ps (count args)) _ (values h ts args s) _
+        (args_run x params slots fit aside h 0 low ts ps args s pc [] i fine.2 g f.0)
+        (λ vs s1 j k.
+        let called_at = subst (λ n. Stands x.body a (op (instr.Call (place_of_task h.tree task) n) h.line)) (sym k.1) f.1.0 in
+        then x (does_said x params slots fit counts aside done h) (pending x params slots fit aside j.frame.children (suc a) [])
+        (HasResult x params slots fit aside j.frame.children h task) _ (called h task vs s1) _
+        (calls_run x params slots fit aside h task vs s1 a [] j (k.2.answers fine.0)
+        (record { there = fine.1.0; needs = fine.1.1; taken = k.0 }) (fetch_small x.body (suc a) _ f.1.1) k.2 called_at)
+        (λ v s2 j2 k2. (j2, leads_by x _ _ instr.Drop h.line f.1.1 refl, k2.0)))
 
     arms_run : (aside : Aside) (own h h0 : Here) (arms : Arms) (other : Run Going) (oc : Piece) (s : State)
-        (pc : ℕ) (i : Instance) → params ≤ length own.scope.names → own.scope.names ≡ h.scope.names → h.scope.names ≡ h0.scope.names →
-        AreTypedArms (where_of params own) (where_of params h) arms → Agrees x params slots aside h s i →
+        (pc : ℕ) (i : Instance) → params ≤ length own.scope.names → IsAlike own h → IsAlike h h0 →
+        AreTypedArms x.forms (where_of params own) (where_of params h) arms → Agrees x params slots aside h s i →
         Stands x.body pc (arms_code (where_of params own) (where_of params h) arms oc) →
         ((s1 : State) (pc1 : ℕ) (j : Instance) → Agrees x params slots aside h0 s1 j →
         Stands x.body pc1 oc → Does x params slots aside (placed pc1 [] j) (past oc pc1) h0 (other s1)) →
@@ -288,20 +333,20 @@ module _ (x : Setting) (params slots : ℕ) (fit : SlotsFit x slots) (counts : C
         let near : p < suc b = omega (arith, past_later (block_code w body) (suc p)) in
         let said = does_said x params slots fit counts aside (past r (suc b)) h0 in
         then x said (valued p []) (Good x params slots fit aside own t) _ (value own test s) _
-        (value_runs x params slots fit aside own 0 low test s pc [] i fine.1 (same_scope x params slots aside h own s i (sym o) g) f.0)
+        (value_runs x params slots fit aside own 0 low test s pc [] i fine.1 (same_scope x params slots aside h own s i (sym o.0, sym o.1) g) f.0)
         (λ v s1 j k.
         let g1 = same_scope x params slots aside own h s1 j o k.1 in
         tests x params slots fit counts p (suc b) h.line j v s1 (scoped (exec_block h body)) _ _ said
         (truth_of_type x params slots fit aside t v fine.0 k.0) near f.1.0
         (then_leads x params slots fit counts aside b (past r (suc b)) h0 _ _
         (does_as x params slots fit counts aside b h h0 _ _ e (scoped_by x params slots fit counts aside h body s1 _ _ j g1
-        (block_runs aside h body s1 (suc p) j (omega (arith, low, ap length o)) fine.2 g1 f.1.1)))
+        (block_runs aside h body s1 (suc p) j (omega (arith, low, ap length o.0)) fine.2 g1 f.1.1)))
         (λ j2. jumps_later x params slots fit counts b (past r (suc b)) h.line j2 far f.1.2))
         (arms_run aside own (after_arm h body) h0 rest other oc s1 (suc b) j low o e fine.3
-        (same_scope x params slots aside h (after_arm h body) s1 j refl g1) f.1.3 more))
+        (same_scope x params slots aside h (after_arm h body) s1 j (refl, refl) g1) f.1.3 more))
 
     else_runs : (aside : Aside) (h : Here) (other : Otherwise) (s : State) (pc : ℕ) (i : Instance) →
-        params ≤ length h.scope.names → IsTypedElse (where_of params h) other →
+        params ≤ length h.scope.names → IsTypedElse x.forms (where_of params h) other →
         Agrees x params slots aside h s i → Stands x.body pc (else_code (where_of params h) other) →
         Does x params slots aside (placed pc [] i) (past (else_code (where_of params h) other) pc) h
         (exec_else h other s)
@@ -310,7 +355,7 @@ module _ (x : Setting) (params slots : ℕ) (fit : SlotsFit x slots) (counts : C
         scoped_by x params slots fit counts aside h body s _ _ i g (block_runs aside h body s pc i low fine g f)
 
     pub block_runs : (aside : Aside) (h : Here) (body : Block) (s : State) (pc : ℕ) (i : Instance) →
-        params ≤ length h.scope.names → IsTypedBlock (where_of params h) body →
+        params ≤ length h.scope.names → IsTypedBlock x.forms (where_of params h) body →
         Agrees x params slots aside h s i → Stands x.body pc (block_code (where_of params h) body) →
         Does x params slots aside (placed pc [] i) (past (block_code (where_of params h) body) pc)
         (record h { scope = scope_after_block h.tree h.scope body }) (exec_block h body s)
@@ -323,6 +368,6 @@ module _ (x : Setting) (params slots : ℕ) (fit : SlotsFit x slots) (counts : C
         let low2 : params ≤ length h2.scope.names =
         omega (arith, low, ap length grown.are, length-append grown.more h.scope.names) in
         then_going x params slots fit counts aside aside a _ h2 _ _ _ (exec_block h2 rest)
-        (does_as x params slots fit counts aside a (after_statement h1 form) h2 _ _ refl
-        (form_runs aside h1 form s pc i low fine.0 (same_scope x params slots aside h h1 s i refl g) f.0))
-        (λ s1 j g1. does_as x params slots fit counts aside _ _ _ _ _ refl (block_runs aside h2 rest s1 a j low2 fine.1 g1 f.1))
+        (does_as x params slots fit counts aside a (after_statement h1 form) h2 _ _ (refl, refl)
+        (form_runs aside h1 form s pc i low fine.0 (same_scope x params slots aside h h1 s i (refl, refl) g) f.0))
+        (λ s1 j g1. does_as x params slots fit counts aside _ _ _ _ _ (refl, refl) (block_runs aside h2 rest s1 a j low2 fine.1 g1 f.1))

@@ -1,23 +1,21 @@
 -- The run in order of a program over scalars is what the program means.
-use Rattle.std.proofs.Common.{◌≡◌, ℕ, ◌≤◌, ℤ, List, [], ◌∷◌, true, refl, sym, ap, ◌∙◌, arith}
+use Rattle.std.proofs.Common.{◌≡◌, ℕ, ◌≤◌, ℤ, List, [], ◌∷◌, ◌++◌, true, false, refl, sym, ap, ◌∙◌, arith}
 use Rattle.std.specs.Prelude.{cond, length, map, nat_le, ◌==◌, ◌&&◌}
 use Rattle.std.proofs.lemmas.Bool.{le-leb, eq-eqb}
 use Rattle.regent_tree.specs.Execution.{Going, goes_on, returned}
 use Rattle.regent_tree.specs.Meaning.{body_of, calls_at, inputs_of, meaning, opening, outcome}
-use Rattle.regent_tree.specs.Running.{Result, fails, gives}
+use Rattle.regent_tree.specs.Running.{Result, State, fails, gives}
 use Rattle.regent_tree.specs.Scopes.{scope_of}
 use Rattle.regent_tree.specs.StaticTypes.{entry_name, task_named}
 use Rattle.regent_tree.specs.Syntax.{TaskTree, Tree}
-use Rattle.regent_tree.specs.Typing.{param_types, scope_after_block}
+use Rattle.regent_tree.specs.Typing.{param_types, scope_after_block, width_of_type}
 use Rattle.regent_tree.specs.declared.outcome.Ending.TheVariants.{Finished}
 use Rattle.regent_tree.specs.declared.typing.StaticType.{StaticType}
-use Rattle.task_code.specs.declared.code.Line.{Line}
 use Rattle.task_code.specs.declared.instr.Instr.TheVariants as instr
 use Rattle.machine_terms.specs.declared.order.Ended.{Ended}
 use Rattle.machine_terms.specs.declared.value.Value.TheVariants as machine
-use Rattle.machine_terms.specs.Contents.{image_of}
 use Rattle.machine_terms.specs.Copies.{give_parts}
-use Rattle.machine_terms.specs.Jobs.{may_start, outcome as run_outcome, run_first, void_outcome}
+use Rattle.machine_terms.specs.Jobs.{images_of, may_start, outcome as run_outcome, run_first, void_outcome}
 use Rattle.machine_terms.specs.Opening as frames
 use Rattle.machine_terms.specs.Orders.{begun, runs}
 use Rattle.machine_terms.specs.Contents.{no_contents}
@@ -26,12 +24,21 @@ use Rattle.code_rules.specs.Instructions.{place_of_task}
 use Rattle.code_rules.specs.Pieces.{op, past}
 use Rattle.code_rules.specs.Programs.{body_piece, code_of, place_of, task_code}
 use Rattle.code_rules.specs.Statements.{block_code}
-use Rattle.code_rules.specs.Used.{slots_of_lines, slots_used}
-use Rattle.code_laws.specs.Programs.{IsScalarRun, LeavesNoRoots, RunsAsMeant, ScalarsRunAsMeant, job_of, scalar_setting}
-use Rattle.code_laws.specs.Standing.{Does, Stands, machine_value}
-use Rattle.code_laws.specs.Steps.{Ends, Setting, placed}
+use Rattle.memory_laws.proofs.Beginning.{first_holds}
+use Rattle.memory_laws.proofs.Closed.{ends_with_store}
+use Rattle.memory_laws.proofs.Given.{given_keeps_numbers, given_stands}
+use Rattle.memory_laws.specs.Memory.{Holds, memory_of}
+use Rattle.regent_tree.specs.Store.{Store}
+use Rattle.regent_tree.specs.declared.outcome.Ending.{Ending}
+use Rattle.regent_tree.specs.declared.outcome.RootImage.{RootImage}
+use Rattle.machine_terms.specs.declared.order.Instance.{Instance}
+use Rattle.code_laws.proofs.Tasks.{answering}
+use Rattle.code_laws.proofs.Values.{not_true, number_inside}
+use Rattle.code_laws.specs.Programs.{CallsRunAsMeant, call_forms, IsTypedRun, LeavesNoRoots, RegionsRunAsMeant, RunsAsMeant, ScalarsRunAsMeant, entry_setting, job_of, region_forms, scalar_forms}
+use Rattle.code_laws.specs.Standing.{Answering, AreTaken, Does, IsFramed, IsInside, IsOf, Stands, machine_value}
+use Rattle.code_laws.specs.Steps.{Ends, Forms, Setting, placed}
 use Rattle.code_laws.proofs.Counts.{counts_down}
-use Rattle.code_laws.proofs.Openings.{before_all, first, fits_slots, greatest_left, opens, params_length, taken_length, types_length}
+use Rattle.code_laws.proofs.Openings.{before_all, begins, fits_slots, least_slots, opens, params_length, taken_length, types_length}
 use Rattle.code_laws.proofs.Places.{stands_alone}
 use Rattle.code_laws.proofs.Runs.{ends_by, leads_end}
 use Rattle.code_laws.proofs.Segments.{segments_give}
@@ -39,68 +46,96 @@ use Rattle.code_laws.proofs.Statements.{block_runs}
 
 -- the inputs are numbers
 inputs_kept : (ts : List StaticType) (zs : List ℤ) → length zs ≡ length ts →
-    map machine_value (inputs_of ts zs) ≡ map machine.Number zs
+    map (machine_value no_contents) (inputs_of ts zs) ≡ map machine.Number zs
 inputs_kept [] [] e = refl
 inputs_kept [] (z ∷ zs) e = absurd (omega (arith, e))
 inputs_kept (t ∷ ts) [] e = absurd (omega (arith, e))
 inputs_kept (t ∷ ts) (z ∷ zs) e = ap (λ vs. machine.Number z ∷ vs) (inputs_kept ts zs (omega (arith, e)))
 
-pub least_slots : (least : ℕ) (ls : List Line) → least ≤ slots_of_lines least ls
-least_slots least [] = omega arith
-least_slots least (l ∷ ls) = omega (arith, least_slots least ls, (greatest_left (slots_used l.instr) (slots_of_lines least ls)).1)
+inputs_inside : (x : Setting) (store : Store) (ts : List StaticType) (zs : List ℤ) → AreTaken IsOf ts (inputs_of ts zs) →
+    AreTaken (IsInside x store) ts (inputs_of ts zs)
+inputs_inside x store [] [] a = tt
+inputs_inside x store [] (z ∷ zs) a = tt
+inputs_inside x store (t ∷ ts) [] a = absurd a
+inputs_inside x store (t ∷ ts) (z ∷ zs) a =
+    (number_inside x store t (width_of_type t) z a.0, inputs_inside x store ts zs a.1)
 
-module _ (tree : Tree) (turns : ℕ) (t : TaskTree) where
+-- at the end of the first task what its roots hold is the store
+roots_are : (x : Setting) (s : State) (j : Instance) → x.before ≡ [] → Holds x.code s.store (memory_of j) →
+    IsFramed x s.store j.frame.own (memory_of j) →
+    images_of j.frame.own (give_parts j.parts j.contents) ≡ Finished s.store
+roots_are x s j e h f =
+    ends_with_store x.code s.store (give_parts j.parts j.contents) j.frame.own (given_stands x.code s.store (memory_of j) h)
+    ((given_keeps_numbers j.parts j.contents).0 ∙ f.own_are ∙ ap (λ ns. ns ++ map (λ (id : RootId). id.0) j.frame.own) e)
+
+-- the roots of an end
+abbrev roots_in : Ending → List RootImage
+roots_in (Finished roots) = roots
+roots_in _ = []
+
+-- without own roots the store is empty
+no_roots : (x : Setting) (s : State) (j : Instance) → x.before ≡ [] → x.forms.makes ≡ false → Holds x.code s.store (memory_of j) →
+    IsFramed x s.store j.frame.own (memory_of j) → s.store ≡ []
+no_roots x s j e m h f = ap roots_in (sym (roots_are x s j e h f)
+    ∙ ap (λ own. images_of own (give_parts j.parts j.contents)) (f.none m))
+
+module _ (forms : Forms) (tree : Tree) (turns : ℕ) (t : TaskTree) where
   abbrev x : Setting
-  x = scalar_setting tree turns t
+  x = entry_setting forms tree turns t
 
   -- what the body comes to is told as the meaning tells it
   abbrev IsTold : Result Going → Ended → Type 0
-  IsTold r e = run_outcome e ≡ outcome r
+  IsTold r e = (run_outcome e ≡ outcome r) × (forms.makes ≡ false → LeavesNoRoots (outcome r).ending)
 
   by_end : (i : _) (r : Result Going) → Does x (length t.params) (task_code tree t).slots (before_all turns) i
       (past (block_code (place_of tree t) t.body) 0)
       (record (body_of tree (calls_at tree turns 63) t) { scope = scope_after_block tree (scope_of tree t) t.body }) r →
       Stands (task_code tree t).body (past (block_code (place_of tree t) t.body) 0) (op instr.Return 0) →
-      (e : Ended) × Ends x i e × IsTold r e × LeavesNoRoots (outcome r).ending
+      (e : Ended) × Ends x i e × IsTold r e
   by_end i (gives goes_on s) d f =
       let k = placed (past (block_code (place_of tree t) t.body) 0) [] d.0 in (
         _,
         leads_end x d.1 (ends_by x k _ instr.Return 0 f refl),
-        ap (λ own. record { text = d.0.text; ending = Finished (map (λ (r : RootId). image_of (give_parts d.0.parts d.0.contents) r.0) own) }) d.2.own
-            ∙ ap (λ text. record { text = text; ending = Finished [] }) d.2.text
-            ∙ sym (ap (λ store. record { text = s.text; ending = Finished store }) d.2.store),
-        d.2.store,
+        (
+          ap (λ text. record { text = text; ending = images_of d.0.frame.own (give_parts d.0.parts d.0.contents) }) d.2.text
+              ∙ ap (λ e. record { text = s.text; ending = e }) (roots_are x s d.0 refl d.2.memory d.2.framed),
+          λ m. no_roots x s d.0 refl m d.2.memory d.2.framed,
+        ),
       )
   by_end i (gives (returned v) s) d f = (
     _,
     d.2,
-    ap (λ own. record { text = d.1.text; ending = Finished (map (λ (r : RootId). image_of (give_parts d.1.parts d.1.contents) r.0) own) }) d.5
-        ∙ ap (λ text. record { text = text; ending = Finished [] }) d.4
-        ∙ sym (ap (λ store. record { text = s.text; ending = Finished store }) d.6),
-    d.6,
+    (
+      ap (λ text. record { text = text; ending = images_of d.1.frame.own (give_parts d.1.parts d.1.contents) }) d.4
+          ∙ ap (λ e. record { text = s.text; ending = e }) (roots_are x s d.1 refl d.5 d.6),
+      λ m. no_roots x s d.1 refl m d.5 d.6,
+    ),
   )
-  by_end i (fails k s) d f = (_, d, refl, tt)
+  by_end i (fails k s) d f = (_, d, (refl, λ m. tt))
 
-scalars_end : (tree : Tree) (inputs : List ℤ) (turns : ℕ) → IsScalarRun tree inputs →
-    RunsAsMeant tree inputs turns × LeavesNoRoots (meaning tree inputs turns).ending
-scalars_end tree inputs turns p =
+pub typed_run_ends : (forms : Forms) (tree : Tree) (inputs : List ℤ) (turns : ℕ) →
+    (forms.calls ≡ true → Answering (entry_setting forms tree turns (task_named tree (entry_name tree))) tree (calls_at tree turns 63)) →
+    IsTypedRun forms tree inputs →
+    RunsAsMeant tree inputs turns × (forms.makes ≡ false → LeavesNoRoots (meaning tree inputs turns).ending)
+typed_run_ends forms tree inputs turns answers p =
     let t = task_named tree (entry_name tree) in
     let code = task_code tree t in
     let place = place_of_task tree (entry_name tree) in
     let job = job_of tree inputs turns in
     let ts = param_types tree t in
     let vs = inputs_of ts inputs in
-    let x = scalar_setting tree turns t in
+    let x = entry_setting forms tree turns t in
     let h = body_of tree (calls_at tree turns 63) t in
-    let i = first tree turns (calls_at tree turns 63) t place vs in
+    let i = begins tree turns 63 1 t place vs [] no_contents in
     let params : length ts ≡ length t.params = types_length (scope_of tree t).names ∙ params_length tree t.params 0 t.params in
-    let same : map machine_value vs ≡ map machine.Number inputs = inputs_kept ts inputs (p.count ∙ sym params) in
+    let same : map (machine_value no_contents) vs ≡ map machine.Number inputs = inputs_kept ts inputs (p.count ∙ sym params) in
     let room : length t.params ≤ code.slots = least_slots (length t.params) code.body in
-    let few : length vs ≤ code.slots = omega (arith, taken_length ts vs p.taken, params, room) in
-    let g = opens tree turns (calls_at tree turns 63) t place vs x p.taken few in
+    let few : length vs ≤ code.slots = omega (arith, taken_length IsOf ts vs p.taken, params, room) in
+    let g = opens tree turns 63 1 t place vs [] no_contents forms (calls_at tree turns 63) answers p.taken (inputs_inside x [] ts inputs p.taken) few
+    (first_holds (code_of tree) i.frame) in
     let low : length t.params ≤ length h.scope.names = omega (arith, params_length tree t.params 0 t.params) in
     let stands = stands_alone (body_piece tree t) p.small in
-    let done = by_end tree turns t i _ (block_runs x (length t.params) code.slots (fits_slots x tree t refl) counts_down
+    let done = by_end forms tree turns t i _ (block_runs x (length t.params) code.slots (fits_slots x tree t refl) counts_down
     (before_all turns) h t.body (opening tree turns t vs []) 0 i low p.typed g stands.0) stands.1 in
     let many : (length i.frame.slots == code.slots) ≡ true = eq-eqb (length i.frame.slots) code.slots g.slots_are in
     let ran : runs (code_of tree) turns 64 i ≡ done.0 =
@@ -113,13 +148,21 @@ scalars_end tree inputs turns p =
           ∙ ap (λ b. cond b (run_outcome (runs (code_of tree) turns 64 (begun (frames.opening turns 1 place code (map machine.Number inputs)) [] no_contents))) void_outcome) begins
           ∙ ap (λ ms. run_outcome (runs (code_of tree) turns 64 (begun (frames.opening turns 1 place code ms) [] no_contents))) (sym same)
           ∙ ap run_outcome ran
-          ∙ done.2,
-      done.3,
+          ∙ done.2.0,
+      done.2.1,
     )
 
 pub scalars_run_as_meant : ScalarsRunAsMeant
-scalars_run_as_meant tree inputs turns p = (scalars_end tree inputs turns p).0
+scalars_run_as_meant tree inputs turns p = (typed_run_ends scalar_forms tree inputs turns (λ e. absurd (not_true e)) p).0
 
-pub scalars_leave_no_roots : (tree : Tree) (inputs : List ℤ) (turns : ℕ) → IsScalarRun tree inputs →
+pub regions_run_as_meant : RegionsRunAsMeant
+regions_run_as_meant tree inputs turns p = (typed_run_ends region_forms tree inputs turns (λ e. absurd (not_true e)) p).0
+
+-- by what calls are answered
+pub calls_run_as_meant : CallsRunAsMeant
+calls_run_as_meant tree inputs turns few are p =
+    (typed_run_ends call_forms tree inputs turns (λ e. answering tree turns few are 63 1 [] (task_named tree (entry_name tree)) refl) p).0
+
+pub scalars_leave_no_roots : (tree : Tree) (inputs : List ℤ) (turns : ℕ) → IsTypedRun scalar_forms tree inputs →
     LeavesNoRoots (meaning tree inputs turns).ending
-scalars_leave_no_roots tree inputs turns p = (scalars_end tree inputs turns p).1
+scalars_leave_no_roots tree inputs turns p = (typed_run_ends scalar_forms tree inputs turns (λ e. absurd (not_true e)) p).1 refl

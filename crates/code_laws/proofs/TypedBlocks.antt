@@ -1,4 +1,6 @@
 -- Bodies over scalars of which no breach is told are typed.
+use Rattle.code_laws.specs.Programs.{scalar_forms}
+use Rattle.code_laws.proofs.Values.{not_true, scalar_simple}
 use Rattle.regent_tree.specs.declared.statement.How.TheVariants as how
 use Rattle.check_rules.specs.declared.rule.Rule.TheVariants as rule
 use Rattle.check_laws.proofs.Parts.{unless_false}
@@ -33,7 +35,8 @@ use Rattle.check_rules.specs.rules.Standing.{Spot, integer_spot, stands, truth_s
 use Rattle.regent_tree.specs.Scopes.{Scope, past, with_name, bound_to}
 use Rattle.check_rules.specs.scopes.Sound.{IsSound}
 use Rattle.regent_tree.specs.Syntax.{Arms, Block, Expression, Expressions, Form, Initializer, Name, Otherwise, TaskTree, Tree, both_initializer, by_field_initializer, either_initializer, equal_initializer, image_initializer, plain_initializer, preimage_initializer, region_initializer, a_statement, an_arm, assert_form, assign_form, at_step, call_form, do_form, else_block, field_step, fill_form, for_in_form, for_to_form, if_form, no_arm, no_else, no_statement, no_step, print_form, return_form, then_statement, var_form, while_form}
-use Rattle.code_laws.specs.Scalars.{AreTypedArms, IsInteger, IsScalar, IsTruth, IsTyped, IsTypedBlock, IsTypedElse, IsTypedForm}
+use Rattle.code_laws.specs.Simple.{IsInteger, IsScalar, IsTruth}
+use Rattle.code_laws.specs.Typed.{AreTypedArms, IsTyped, IsTypedBlock, IsTypedElse, IsTypedForm}
 use Rattle.code_laws.proofs.Typing.{AllScalar, AreKept, Well, as_integer, as_truth, kept_behind, kept_left, kept_right, no_way, no_way_back, numbers_well, well, fitting, named_scalar}
 use Rattle.std.proofs.Common.{◌≡◌, List, [], ◌∷◌, ◌++◌, None, Option, Some, false, true, ap, sym, subst, ℕ, ◌∙◌, not}
 use Rattle.std.specs.Prelude.{length, cond}
@@ -60,12 +63,12 @@ module _ (tree : Tree) (task : TaskTree) (sound : IsSound tree) (params : ℕ) (
 
   var_typed : (s : Scope) (line : ℕ) (n : Name) (t : Option TypeTerm) (i : Option Initializer) → is_scalar_form (var_form n t i) ≡ true →
       AreKept (parts_of_form (var_form n t i)) → IsSoundScope s → AllScalar s.names → first_of_form tree task s (var_form n t i) ≡ None →
-      IsTypedForm (at s line) (var_form n t i) × IsScalar (var_type tree s t i)
+      IsTypedForm scalar_forms (at s line) (var_form n t i) × IsScalar (var_type tree s t i)
   var_typed s line n None None sc k scope names e = absurd (no_way (told_of_form tree task s sound scope (var_form n None None) e).1)
   var_typed s line n None (Some (plain_initializer y)) sc k scope names e =
       let told = initial_told tree task s names y (told_of_form tree task s sound scope (var_form n None (Some (plain_initializer y))) e).2 in
       let a = headed s line y sc k scope names told in
-      ((a.scalar, a.is), owned_scalar s.next (type_of tree s y) a.scalar)
+      ((scalar_simple _ a.scalar, a.is), owned_scalar s.next (type_of tree s y) a.scalar)
   var_typed s line n (Some t) None sc k scope names e =
       let q = said_scalar tree s s.next t (and_parts (is_scalar_term t) true sc).0 in (q, q)
   var_typed s line n (Some t) (Some (plain_initializer y)) sc k scope names e =
@@ -98,7 +101,7 @@ module _ (tree : Tree) (task : TaskTree) (sound : IsSound tree) (params : ℕ) (
 
   set_typed : (s : Scope) (line : ℕ) (n : Name) (y : Expression) → is_scalar_expression y ≡ true → AreKept (parts_of_expression y) →
       IsSoundScope s → AllScalar s.names → first_of_form tree task s (assign_form n no_step how.Set y) ≡ None →
-      IsTypedForm (at s line) (assign_form n no_step how.Set y)
+      IsTypedForm scalar_forms (at s line) (assign_form n no_step how.Set y)
   set_typed s line n y sc k scope names e =
       let form = assign_form n no_step how.Set y in
       let parts = told_of_form tree task s sound scope form e in
@@ -114,7 +117,7 @@ module _ (tree : Tree) (task : TaskTree) (sound : IsSound tree) (params : ℕ) (
 
   reduce_typed : (s : Scope) (line : ℕ) (n : Name) (o : Op) (y : Expression) → is_scalar_expression y ≡ true → AreKept (parts_of_expression y) →
       IsSoundScope s → AllScalar s.names → first_of_form tree task s (assign_form n no_step (how.Reduce o) y) ≡ None →
-      IsTypedForm (at s line) (assign_form n no_step (how.Reduce o) y)
+      IsTypedForm scalar_forms (at s line) (assign_form n no_step (how.Reduce o) y)
   reduce_typed s line n o y sc k scope names e =
       let form = assign_form n no_step (how.Reduce o) y in
       let parts = told_of_form tree task s sound scope form e in
@@ -133,7 +136,7 @@ module _ (tree : Tree) (task : TaskTree) (sound : IsSound tree) (params : ℕ) (
 
   print_typed : (s : Scope) (line : ℕ) (alias : Option Name) (format : List ℕ) (args : Expressions) → are_scalar_expressions args ≡ true →
       AreKept (parts_of_expressions args) → IsSoundScope s → AllScalar s.names →
-      first_of_form tree task s (print_form alias format args) ≡ None → IsTypedForm (at s line) (print_form alias format args)
+      first_of_form tree task s (print_form alias format args) ≡ None → IsTypedForm scalar_forms (at s line) (print_form alias format args)
   print_typed s line alias format args sc k scope names e =
       let form = print_form alias format args in
       let told = listed_told tree task s args (told_of_form tree task s sound scope form e).2 in
@@ -145,8 +148,8 @@ module _ (tree : Tree) (task : TaskTree) (sound : IsSound tree) (params : ℕ) (
       )
 
   return_typed : (s : Scope) (line : ℕ) (y : Option Expression) → is_scalar_value y ≡ true → AreKept (parts_of_value y) → IsSoundScope s →
-      AllScalar s.names → first_of_form tree task s (return_form y) ≡ None → IsTypedForm (at s line) (return_form y)
-  return_typed s line None sc k scope names e = tt
+      AllScalar s.names → first_of_form tree task s (return_form y) ≡ None → IsTypedForm scalar_forms (at s line) (return_form y)
+  return_typed s line None sc k scope names e = λ c. absurd (not_true c)
   return_typed s line (Some y) sc k scope names e =
       let form = return_form (Some y) in
       let parts = told_of_form tree task s sound scope form e in
@@ -158,14 +161,14 @@ module _ (tree : Tree) (task : TaskTree) (sound : IsSound tree) (params : ℕ) (
 
   test_typed : (s : Scope) (line : ℕ) (y : Expression) → is_scalar_expression y ≡ true → AreKept (parts_of_expression y) → IsSoundScope s →
       AllScalar s.names → first_in_expression tree task s y ≡ None → may_stand s.known (stands (known_type tree s y) truth_spot) ≡ true →
-      IsTruth (type_of tree s y) × IsTyped (at s line) y
+      IsTruth (type_of tree s y) × IsTyped scalar_forms (at s line) y
   test_typed s line y sc k scope names told may =
       let a = headed s line y sc k scope names told in
       (as_truth (type_of tree s y) a.scalar (stands_as s y truth_spot scope told may), a.is)
 
   bound_typed : (s : Scope) (line : ℕ) (y : Expression) → is_scalar_expression y ≡ true → AreKept (parts_of_expression y) → IsSoundScope s →
       AllScalar s.names → first_in_expression tree task s y ≡ None → may_stand s.known (stands (known_type tree s y) integer_spot) ≡ true →
-      IsInteger (type_of tree s y) × IsTyped (at s line) y
+      IsInteger (type_of tree s y) × IsTyped scalar_forms (at s line) y
   bound_typed s line y sc k scope names told may =
       let a = headed s line y sc k scope names told in
       (as_integer (type_of tree s y) a.scalar (stands_as s y integer_spot scope told may), a.is)
@@ -175,7 +178,7 @@ module _ (tree : Tree) (task : TaskTree) (sound : IsSound tree) (params : ℕ) (
   mutual
     pub form_typed : (s : Scope) (line : ℕ) (form : Form) → is_scalar_form form ≡ true → AreKept (parts_of_form form) → IsSoundScope s →
         AllScalar s.names → first_of_form tree task s form ≡ None → first_within tree task s form ≡ None →
-        IsTypedForm (at s line) form × AllScalar (scope_after tree s form).names
+        IsTypedForm scalar_forms (at s line) form × AllScalar (scope_after tree s form).names
     form_typed s line (var_form n t i) sc k scope names e w =
         let v = var_typed s line n t i sc k scope names e in (v.0, (v.1, names))
     form_typed s line (assign_form n no_step how.Set y) sc k scope names e w = (set_typed s line n y sc k scope names e, names)
@@ -230,7 +233,7 @@ module _ (tree : Tree) (task : TaskTree) (sound : IsSound tree) (params : ℕ) (
         AllScalar own.names → IsSoundScope s → AllScalar s.names → first_in_arms tree task s arms ≡ None →
         first_in (first_in_expression tree task own) (tests_of arms) ≡ None →
         list_any (is_ill_typed_at_place own.known) (all_stand tree own truth_spot (tests_of arms)) ≡ false →
-        AreTypedArms (at own line) (at s line) arms × AllScalar (scope_after_arms tree s arms).names
+        AreTypedArms scalar_forms (at own line) (at s line) arms × AllScalar (scope_after_arms tree s arms).names
     arms_typed own s line no_arm sc k oscope onames scope names e heads standing = (tt, names)
     arms_typed own s line (an_arm test body rest) sc k oscope onames scope names e heads standing =
         let one = and_parts (is_scalar_expression test) _ sc in
@@ -246,12 +249,12 @@ module _ (tree : Tree) (task : TaskTree) (sound : IsSound tree) (params : ℕ) (
         ((t.0, t.1, b, r.0), r.1)
 
     else_typed : (s : Scope) (line : ℕ) (other : Otherwise) → is_scalar_else other ≡ true → AreKept (parts_of_otherwise other) → IsSoundScope s →
-        AllScalar s.names → first_in_else tree task s other ≡ None → IsTypedElse (at s line) other
+        AllScalar s.names → first_in_else tree task s other ≡ None → IsTypedElse scalar_forms (at s line) other
     else_typed s line no_else sc k scope names e = tt
     else_typed s line (else_block body) sc k scope names e = block_typed s line body sc k scope names e
 
     pub block_typed : (s : Scope) (line : ℕ) (body : Block) → is_scalar_block body ≡ true → AreKept (parts_of_block body) → IsSoundScope s →
-        AllScalar s.names → first_in_block tree task s body ≡ None → IsTypedBlock (at s line) body
+        AllScalar s.names → first_in_block tree task s body ≡ None → IsTypedBlock scalar_forms (at s line) body
     block_typed s line no_statement sc k scope names e = tt
     block_typed s line (then_statement (a_statement at_line form) rest) sc k scope names e =
         let both = and_parts (is_scalar_form form) (is_scalar_block rest) sc in

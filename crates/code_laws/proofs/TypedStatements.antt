@@ -42,7 +42,7 @@ use Rattle.check_rules.specs.types.KnownTypes.{known_types}
 use Rattle.check_rules.specs.types.Sorts.{may_be, is_partition}
 use Rattle.check_rules.specs.declared.rule.Rule.TheVariants as rule
 use Rattle.check_rules.proofs.Untold.{rule_none}
-use Rattle.code_laws.specs.Scalars.{AreAlike, IsInteger, IsScalar, an_integer, scalar_integer, scalar_truth}
+use Rattle.code_laws.specs.Simple.{AreAlike, IsInteger, IsScalar, an_integer, scalar_integer, scalar_truth}
 use Rattle.scalar_form.specs.ScalarForm.{is_scalar_if_said, is_scalar_term}
 use Rattle.code_laws.proofs.Typing.{AllScalar, fitting, named_scalar, no_way, no_way_back}
 

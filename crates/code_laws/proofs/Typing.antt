@@ -1,4 +1,6 @@
 -- Expressions over scalars of which no breach is told are typed.
+use Rattle.code_laws.specs.Programs.{scalar_forms}
+use Rattle.code_laws.proofs.Values.{scalar_simple}
 use Rattle.std.proofs.Common.{◌≡◌, Bool, List, [], ◌∷◌, ◌++◌, None, false, true, refl, ap, sym, subst, ℕ, ◌∙◌, inl, inr, cond, not, ℤ, pos, ◌≤◌, arith}
 use Rattle.check_laws.proofs.Blocks.{head_known}
 use Rattle.check_laws.specs.SoundScopes.{IsSoundScope}
@@ -43,7 +45,8 @@ use Rattle.check_rules.specs.types.TypedForms.{computing}
 use Rattle.check_rules.specs.declared.rule.Rule.TheVariants as rule
 use Rattle.check_rules.proofs.Untold.{rule_none, standing_none}
 use Rattle.code_rules.specs.Slots.{Where, typed}
-use Rattle.code_laws.specs.Scalars.{AreAlike, AreNumbers, AreTypedLinks, IsInteger, IsIntegerTerm, IsScalar, IsTruth, IsTyped, SignsFit, a_truth_type, an_integer, minus_before, not_before, of_a_truth, of_an_integer, scalar_integer, scalar_truth, term_32, term_64, two_integers, two_truths}
+use Rattle.code_laws.specs.Simple.{AreComparable, compare_numbers, compare_truths, IsNumber, number_integer, AreAlike, IsInteger, IsIntegerTerm, IsScalar, IsTruth, SignsFit, a_truth_type, an_integer, minus_before, not_before, of_a_truth, of_an_integer, scalar_integer, scalar_truth, term_32, term_64, two_integers, two_truths}
+use Rattle.code_laws.specs.Typed.{AreNumbers, AreTypedLinks, IsTyped}
 use Rattle.scalar_form.specs.ScalarForm.{are_scalar_expressions, are_scalar_links, is_scalar_expression, is_scalar_number}
 
 -- ---- types
@@ -55,6 +58,13 @@ pub no_way_back : false ≡ true → ⊥
 no_way_back e = absurd cc
 
 -- what may be an integer, a truth or a number among scalars
+integer_number : (t : StaticType) → IsInteger t → IsNumber t
+integer_number _ (an_integer w) = number_integer w
+
+alike_comparable : (t u : StaticType) → AreAlike t u → AreComparable t u
+alike_comparable _ _ (two_integers v w) = compare_numbers _ _ (number_integer v) (number_integer w)
+alike_comparable _ _ two_truths = compare_truths
+
 pub as_integer : (t : StaticType) → IsScalar t → may_be is_integer t ≡ true → IsInteger t
 as_integer _ (scalar_integer w) e = an_integer w
 as_integer _ scalar_truth e = absurd (no_way_back e)
@@ -219,11 +229,11 @@ operated_scalar o _ _ (an_integer v) (an_integer w) = scalar_integer (wider v w)
 
 module _ (task : TaskTree) (w : Where) (sound : IsSound w.tree) (scope : IsSoundScope w.scope) (names : AllScalar w.scope.names) where
   pub record Well (e : Expression) : Type 0 where
-    pub is : IsTyped w e
+    pub is : IsTyped scalar_forms w e
     pub scalar : IsScalar (typed w e)
 
   pub record AreWell (t : StaticType) (ls : Links) : Type 0 where
-    pub are : AreTypedLinks w t ls
+    pub are : AreTypedLinks scalar_forms w t ls
     pub scalar : IsScalar (linked_type w.tree w.scope t ls)
 
   -- the checker's type is the meaning's
@@ -244,11 +254,11 @@ module _ (task : TaskTree) (w : Where) (sound : IsSound w.tree) (scope : IsSound
       record { are = (both.0, both.1, a.is, r.are); scalar = r.scalar }
   by_operator (Compare c) t e rest scalar a does more =
       let r = more scalar_truth in
-      record { are = (compared c t (typed w e) scalar a.scalar does, a.is, r.are); scalar = r.scalar }
+      record { are = (alike_comparable t (typed w e) (compared c t (typed w e) scalar a.scalar does), a.is, r.are); scalar = r.scalar }
   by_operator (Compute o) t e rest scalar a does more =
       let both = computed t (typed w e) scalar a.scalar does in
       let r = more (operated_scalar o t (typed w e) both.0 both.1) in
-      record { are = (both.0, both.1, a.is, r.are); scalar = r.scalar }
+      record { are = (integer_number t both.0, integer_number (typed w e) both.1, a.is, r.are); scalar = r.scalar }
 
   mutual
     pub well : (e : Expression) → is_scalar_expression e ≡ true → AreKept (parts_of_expression e) →
@@ -273,7 +283,7 @@ module _ (task : TaskTree) (w : Where) (sound : IsSound w.tree) (scope : IsSound
         let told = option_or_parts (rule_if (not (is_bound w.scope.names n)) rule.Name) _ e in
         let bound = not-false (is_bound w.scope.names n) (rule_none (not (is_bound w.scope.names n)) rule.Name told.0) in
         let scalar = named_scalar w.scope.names n names bound in
-        record { is = (bound, scalar); scalar = scalar }
+        record { is = (bound, scalar_simple _ scalar); scalar = scalar }
     well (access_expr n (field_step _ _)) sc k e = absurd (no_way_back sc)
     well (access_expr n (at_step _ _)) sc k e = absurd (no_way_back sc)
     well (convert_expr t e) sc k none =
@@ -283,7 +293,7 @@ module _ (task : TaskTree) (w : Where) (sound : IsSound w.tree) (scope : IsSound
         let may = stands_well [] (typed w e) number_spot
         (subst (λ u. first_of_standing [] (stands u number_spot) ≡ None) (known_typed e told.0) told.1) in
         let term = integer_term t s.0 in
-        record { is = (a.is, as_number_type (typed w e) a.scalar may, term); scalar = number_scalar t term }
+        record { is = (a.is, integer_number (typed w e) (as_number_type (typed w e) a.scalar may), term); scalar = number_scalar t term }
     well (call_expr _ _) sc k e = absurd (no_way_back sc)
     well (is_null_expr _) sc k e = absurd (no_way_back sc)
     well (null_expr _) sc k e = absurd (no_way_back sc)
@@ -309,7 +319,7 @@ module _ (task : TaskTree) (w : Where) (sound : IsSound w.tree) (scope : IsSound
   -- numbers that are printed
   pub numbers_well : (es : Expressions) → are_scalar_expressions es ≡ true → AreKept (parts_of_expressions es) →
       first_in_args w.tree task w.scope es ≡ None →
-      list_any (λ t. not (may_be is_integer t)) (known_types w.tree w.scope es) ≡ false → AreNumbers w es
+      list_any (λ t. not (may_be is_integer t)) (known_types w.tree w.scope es) ≡ false → AreNumbers scalar_forms w es
   numbers_well no_expr sc k e whole = tt
   numbers_well (an_expr e es) sc k none whole =
       let s = and_parts (is_scalar_expression e) (are_scalar_expressions es) sc in

@@ -1,4 +1,6 @@
 -- What single instructions do with values.
+use Rattle.code_laws.specs.Simple.{IsScalar, IsSimple, scalar_integer, scalar_truth, simple_index, simple_integer, simple_space, simple_truth}
+use Rattle.regent_tree.specs.Store.{Store}
 use Rattle.std.proofs.Common.{◌≡◌, ℕ, suc, ◌<◌, ◌≤◌, ℤ, pos, List, [], ◌∷◌, Bool, true, false, Some, refl, ap, subst, arith}
 use Rattle.std.specs.Ordering.{int_eq}
 use Rattle.std.specs.Prelude.{get_or, length, bytes_eq, cond, ◌||◌, int_div, int_rem, ◌+ℤ◌, ◌-ℤ◌, ◌*ℤ◌}
@@ -12,6 +14,7 @@ use Rattle.regent_tree.specs.declared.expression.Arithmetic.TheVariants as arith
 use Rattle.regent_tree.specs.declared.expression.Comparison.{Comparison}
 use Rattle.regent_tree.specs.declared.expression.Comparison.TheVariants as comparison
 use Rattle.regent_tree.specs.declared.typing.Bound.{Bound}
+use Rattle.regent_tree.specs.declared.typing.StaticType.{StaticType}
 use Rattle.regent_tree.specs.Lookup.{is_bound}
 use Rattle.regent_tree.specs.Numbers.{computed, unless_zero}
 use Rattle.regent_tree.specs.Scopes.{bound_to}
@@ -19,6 +22,7 @@ use Rattle.regent_tree.specs.Syntax.{Name}
 use Rattle.regent_tree.specs.Values.{Value, a_number, a_truth, an_index, a_pointer, a_space, a_region, a_partition}
 use Rattle.task_code.specs.declared.code.Code.{Code}
 use Rattle.task_code.specs.declared.code.Line.{Line}
+use Rattle.machine_terms.specs.declared.order.Contents.{Contents}
 use Rattle.machine_terms.specs.declared.value.Value.{Value as MachineValue}
 use Rattle.machine_terms.specs.Machine.{Machine, goes, at, next, when, broken}
 use Rattle.machine_terms.specs.Numbers.{load, arithmetic as computes, comparison as compares}
@@ -26,7 +30,8 @@ use Rattle.machine_terms.specs.Jumps.{jump, goes_back, fetch}
 use Rattle.machine_terms.specs.Segments.{act}
 use Rattle.code_rules.specs.Pieces.{Piece, empty, op, ◌⨟◌, over, branch, loop, rounds, past}
 use Rattle.code_rules.specs.Instructions.{computing, comparing}
-use Rattle.code_laws.specs.Standing.{machine_value, IsOf, AreOf, nothing}
+use Rattle.code_laws.specs.Steps.{Setting}
+use Rattle.code_laws.specs.Standing.{machine_value, AreOf, IsInside, IsOf, of_integer, nothing}
 
 -- ---- places
 
@@ -51,15 +56,15 @@ jump_later body to st m h = ap
 
 -- ---- loads
 
-pub load_value : (v : Value) (m : Machine) →
-    load m (Some (machine_value v)) ≡ next (machine_value v ∷ m.frame.stack) m
-load_value (a_number w z) m = refl
-load_value (a_truth b) m = refl
-load_value (an_index z) m = refl
-load_value (a_pointer t rs) m = refl
-load_value (a_space n) m = refl
-load_value (a_region r) m = refl
-load_value (a_partition p) m = refl
+pub load_value : (c : Contents) (v : Value) (m : Machine) →
+    load m (Some (machine_value c v)) ≡ next (machine_value c v ∷ m.frame.stack) m
+load_value c (a_number w z) m = refl
+load_value c (a_truth b) m = refl
+load_value c (an_index z) m = refl
+load_value c (a_pointer t rs) m = refl
+load_value c (a_space n) m = refl
+load_value c (a_region r) m = refl
+load_value c (a_partition p) m = refl
 
 abbrev IsNo : Bool → Type 0
 IsNo false = Unit {0}
@@ -68,21 +73,38 @@ IsNo true = ⊥
 pub not_true : false ≡ true → ⊥
 not_true e = subst IsNo e tt
 
--- a name in scope has a value of its type, at a place among these
-pub record Named (bs : List Bound) (names : List Value) (b : Bound) : Type 0 where
-  pub typed : IsOf b.static_type (get_or names b.place nothing)
+-- a name in scope has a value of which this holds by its type, at a place among these
+pub record Named (Holding : StaticType → Value → Type 0) (bs : List Bound) (names : List Value) (b : Bound) : Type 0 where
+  pub holding : Holding b.static_type (get_or names b.place nothing)
   pub below : b.place < length bs
 
-pub named : (bs : List Bound) (names : List Value) (n : Name) → AreOf bs names →
-    is_bound bs n ≡ true → Named bs names (bound_to bs n)
-named [] names n a h = absurd (not_true h)
-named (b ∷ bs) names n a h = chosen (bytes_eq b.name n) (named bs names n a.2) h
+pub named : (Holding : StaticType → Value → Type 0) (bs : List Bound) (names : List Value) (n : Name) →
+    AreOf Holding bs names → is_bound bs n ≡ true → Named Holding bs names (bound_to bs n)
+named Holding [] names n a h = absurd (not_true h)
+named Holding (b ∷ bs) names n a h = chosen (bytes_eq b.name n) (named Holding bs names n a.2) h
   where
-    chosen : (c : Bool) → (is_bound bs n ≡ true → Named bs names (bound_to bs n)) →
-        (c || is_bound bs n) ≡ true → Named (b ∷ bs) names (cond c b (bound_to bs n))
-    chosen true more e = record { typed = a.1; below = omega (arith, a.0) }
+    chosen : (c : Bool) → (is_bound bs n ≡ true → Named Holding bs names (bound_to bs n)) →
+        (c || is_bound bs n) ≡ true → Named Holding (b ∷ bs) names (cond c b (bound_to bs n))
+    chosen true more e = record { holding = a.1; below = omega (arith, a.0) }
     chosen false more e =
-        let m = more e in record { typed = m.typed; below = omega (arith, m.below) }
+        let m = more e in record { holding = m.holding; below = omega (arith, m.below) }
+
+-- a number or a truth is simple
+pub scalar_simple : (t : StaticType) → IsScalar t → IsSimple t
+scalar_simple _ (scalar_integer w) = simple_integer w
+scalar_simple _ scalar_truth = simple_truth
+
+-- and nothing simple is a region
+pub simple_inside : (x : Setting) (store : Store) (t : StaticType) (v : Value) → IsSimple t → IsInside x store t v
+simple_inside x store _ v (simple_integer w) = tt
+simple_inside x store _ v simple_truth = tt
+simple_inside x store _ v (simple_space k) = tt
+simple_inside x store _ v (simple_index k) = tt
+
+-- a number is no region
+pub number_inside : (x : Setting) (store : Store) (t : StaticType) (w : Width) (z : ℤ) → IsOf t (a_number w z) →
+    IsInside x store t (a_number w z)
+number_inside x store _ _ _ (of_integer w z p) = tt
 
 -- ---- operators
 

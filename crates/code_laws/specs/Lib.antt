@@ -1,6 +1,9 @@
 pub mod Steps
+pub mod Simple
 pub mod Standing
-pub mod Scalars
+pub mod Typed
 pub mod Programs
 pub mod ScalarPrograms
 pub mod Example
+pub mod RegionExample
+pub mod CallExample

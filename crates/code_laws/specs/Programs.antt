@@ -1,51 +1,64 @@
 -- Programs whose entry task treats scalars alone, and what is to be shown of them.
-use Rattle.std.specs.Prelude.{◌≡◌, ℕ, ◌^◌, ◌≤◌, ℤ, List, [], ◌∷◌, length, Some, slice_get}
+use Rattle.std.specs.Prelude.{◌≡◌, false, true, ℕ, ◌^◌, ◌<◌, ◌≤◌, ℤ, List, [], length, Some, slice_get}
 use Rattle.regent_tree.specs.Meaning.{inputs_of, meaning}
 use Rattle.regent_tree.specs.StaticTypes.{entry_name, task_named}
 use Rattle.regent_tree.specs.Syntax.{TaskTree, Tree}
 use Rattle.regent_tree.specs.Typing.{param_types, result_type}
-use Rattle.regent_tree.specs.Values.{Value}
 use Rattle.regent_tree.specs.declared.outcome.Ending.{Ending}
 use Rattle.regent_tree.specs.declared.outcome.Ending.TheVariants.{Finished, Faulted, Broken}
 use Rattle.regent_tree.specs.declared.typing.StaticType.{StaticType}
 use Rattle.task_code.specs.declared.job.Job.{Job}
 use Rattle.machine_terms.specs.Jobs.{order_run}
 use Rattle.machine_terms.specs.Orders.{runs}
-use Rattle.code_rules.specs.Instructions.{place_of_task}
+use Rattle.code_rules.specs.Instructions.{place_of_task, tasks_of}
 use Rattle.code_rules.specs.Pieces.{lines}
 use Rattle.code_rules.specs.Programs.{body_piece, code_of, place_of, task_code}
-use Rattle.code_laws.specs.Scalars.{IsTypedBlock}
-use Rattle.code_laws.specs.Standing.{IsOf}
-use Rattle.code_laws.specs.Steps.{Setting}
+use Rattle.code_laws.specs.Simple.{IsScalar}
+use Rattle.regent_tree.specs.declared.typing.StaticType.TheVariants.{Nothing as no_type}
+use Rattle.code_laws.specs.Typed.{IsTypedBlock}
+use Rattle.code_laws.specs.Standing.{AreTaken, IsOf}
+use Rattle.code_laws.specs.Steps.{Forms, Setting}
 
 -- a program's code with the numbers and turns of a run
 abbrev pub job_of : Tree → List ℤ → ℕ → Job
 job_of tree inputs turns = record { code = code_of tree; inputs = inputs; turns = turns }
 
--- values of these types
-abbrev pub AreTaken : List StaticType → List Value → Type 0
-AreTaken [] [] = Unit {0}
-AreTaken (t ∷ ts) (v ∷ vs) = IsOf t v × AreTaken ts vs
-AreTaken _ _ = ⊥
+-- numbers and truths alone; roots too; and calls too
+abbrev pub scalar_forms : Forms
+scalar_forms = record { makes = false; calls = false }
 
--- the entry task's run
-abbrev pub scalar_setting : Tree → ℕ → TaskTree → Setting
-scalar_setting tree turns t = record {
+abbrev pub region_forms : Forms
+region_forms = record { makes = true; calls = false }
+
+abbrev pub call_forms : Forms
+call_forms = record { makes = true; calls = true }
+
+-- a task at a depth, where so many more calls may nest, and these roots are there
+abbrev pub task_setting : Forms → Tree → ℕ → ℕ → ℕ → List ℕ → TaskTree → Setting
+task_setting forms tree turns more depth before t = record {
   code = code_of tree;
   turns = turns;
-  child = runs (code_of tree) turns 63;
+  child = runs (code_of tree) turns more;
   body = (task_code tree t).body;
   result = result_type tree t.result;
+  depth = depth;
+  before = before;
+  forms = forms;
 }
 
--- The entry task is one of the program, needs nothing, is typed and not too long, and takes the inputs.
-pub record IsScalarRun (tree : Tree) (inputs : List ℤ) : Type 0 where
+-- the entry task
+abbrev pub entry_setting : Forms → Tree → ℕ → TaskTree → Setting
+entry_setting forms tree turns t = task_setting forms tree turns 63 1 [] t
+
+-- The entry task is one of the program, needs nothing, is typed and not too long, and takes the inputs. Its
+-- body has these forms.
+pub record IsTypedRun (forms : Forms) (tree : Tree) (inputs : List ℤ) : Type 0 where
   pub start : slice_get (code_of tree).tasks (place_of_task tree (entry_name tree))
       ≡ Some (task_code tree (task_named tree (entry_name tree)))
   pub needs : (task_code tree (task_named tree (entry_name tree))).needs ≡ []
-  pub typed : IsTypedBlock (place_of tree (task_named tree (entry_name tree))) (task_named tree (entry_name tree)).body
+  pub typed : IsTypedBlock forms (place_of tree (task_named tree (entry_name tree))) (task_named tree (entry_name tree)).body
   pub small : length (lines (body_piece tree (task_named tree (entry_name tree))) 0) ≤ 2 ^ 32
-  pub taken : AreTaken (param_types tree (task_named tree (entry_name tree)))
+  pub taken : AreTaken IsOf (param_types tree (task_named tree (entry_name tree)))
       (inputs_of (param_types tree (task_named tree (entry_name tree))) inputs)
   pub count : length inputs ≡ length (task_named tree (entry_name tree)).params
 
@@ -54,7 +67,31 @@ abbrev pub RunsAsMeant : Tree → List ℤ → ℕ → Type 0
 RunsAsMeant tree inputs turns = order_run (job_of tree inputs turns) ≡ meaning tree inputs turns
 
 abbrev pub ScalarsRunAsMeant : Type 0
-ScalarsRunAsMeant = (tree : Tree) (inputs : List ℤ) (turns : ℕ) → IsScalarRun tree inputs → RunsAsMeant tree inputs turns
+ScalarsRunAsMeant = (tree : Tree) (inputs : List ℤ) (turns : ℕ) → IsTypedRun scalar_forms tree inputs → RunsAsMeant tree inputs turns
+
+-- Also where it makes roots, whose fields are read, written, reduced and filled at the points of regions that
+-- have names.
+abbrev pub RegionsRunAsMeant : Type 0
+RegionsRunAsMeant = (tree : Tree) (inputs : List ℤ) (turns : ℕ) → IsTypedRun region_forms tree inputs → RunsAsMeant tree inputs turns
+
+-- a result of numbers or truths, or none
+pub data IsGiven : StaticType → Type 0 where
+  gives_scalar : (t : StaticType) → IsScalar t → IsGiven t
+  gives_nothing : IsGiven no_type
+
+-- Each task of the program gives such a result, is typed and not too long.
+pub record IsTypedTask (tree : Tree) (t : TaskTree) : Type 0 where
+  pub given : IsGiven (result_type tree t.result)
+  pub typed : IsTypedBlock call_forms (place_of tree t) t.body
+  pub small : length (lines (body_piece tree t) 0) ≤ 2 ^ 32
+
+abbrev pub AreTypedTasks : Tree → Type 0
+AreTypedTasks tree = (k : ℕ) (t : TaskTree) → slice_get (tasks_of tree) k ≡ Some t → IsTypedTask tree t
+
+-- Also where tasks call others that take and give numbers and truths: each may make roots of its own.
+abbrev pub CallsRunAsMeant : Type 0
+CallsRunAsMeant = (tree : Tree) (inputs : List ℤ) (turns : ℕ) → turns < 2 ^ 64 → AreTypedTasks tree →
+    IsTypedRun call_forms tree inputs → RunsAsMeant tree inputs turns
 
 -- a run ends without roots, or with a fault
 abbrev pub LeavesNoRoots : Ending → Type 0

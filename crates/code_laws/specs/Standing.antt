@@ -1,30 +1,52 @@
 -- Where code stands, and how an instance agrees with a state of the meaning.
-use Rattle.std.specs.Prelude.{◌≡◌, ℕ, suc, ◌<◌, ◌≤◌, ℤ, pos, false, List, [], ◌∷◌, map, length, Option, Some, get_or, Bool}
+use Rattle.std.specs.Prelude.{◌≡◌, ℕ, suc, ◌+◌, ◌^◌, ◌<◌, ◌≤◌, ℤ, pos, false, true, List, [], ◌∷◌, map, length, Option, Some, get_or, nat_le, slice_get, take, Bool}
+use Rattle.plain_values.specs.Points.{has}
 use Rattle.lane_kernels.specs.Numbers.{FitsWidth}
+use Rattle.lane_kernels.specs.declared.numbers.Width.TheVariants.{W64}
 use Rattle.lane_kernels.specs.declared.numbers.Width.{Width}
 use Rattle.task_code.specs.declared.code.Line.{Line}
 use Rattle.task_code.specs.declared.instr.Instr.TheVariants as instr
+use Rattle.region_tree.specs.declared.tree.RootId.{RootId}
 use Rattle.regent_tree.specs.declared.typing.Bound.{Bound}
 use Rattle.regent_tree.specs.declared.typing.StaticType.{StaticType}
 use Rattle.regent_tree.specs.declared.typing.StaticType.TheVariants.{Integer as integer_type, Truth as truth_type, Index as index_type, Pointer as pointer_type, Ispace as ispace_type, Region as region_type, Partition as partition_type}
 use Rattle.regent_tree.specs.declared.types.Kind.{Kind}
 use Rattle.regent_tree.specs.declared.facts.Term.{Term}
-use Rattle.regent_tree.specs.StaticTypes.{Reach}
+use Rattle.regent_tree.specs.StaticTypes.{Reach, spaces_of, task_named}
+use Rattle.regent_tree.specs.Store.{Store, Touch, column, no_root}
 use Rattle.regent_tree.specs.Values.{Target, Region, Partition, Value, a_number, a_truth, an_index, a_pointer, a_space, a_region, a_partition, kept_number}
-use Rattle.regent_tree.specs.Running.{State, Here, Result, gives, fails}
+use Rattle.regent_tree.specs.Running.{State, Here, Called, Calls, Result, broke, came_back, gives, fails}
 use Rattle.regent_tree.specs.Execution.{Going, goes_on, returned}
 use Rattle.machine_terms.specs.declared.order.Ended.{Ended}
 use Rattle.machine_terms.specs.declared.order.Ended.TheVariants.{Broke, CameBack}
 use Rattle.machine_terms.specs.declared.order.Instance.{Instance}
 use Rattle.machine_terms.specs.declared.value.Value.{Value as MachineValue}
 use Rattle.machine_terms.specs.declared.value.Value.TheVariants as machine
+use Rattle.machine_terms.specs.declared.order.Contents.{Contents}
+use Rattle.machine_terms.specs.Contents.{kinds_of}
+use Rattle.machine_terms.specs.Calls.{is_pending}
+use Rattle.machine_terms.specs.declared.frame.Frame.{Frame}
 use Rattle.machine_terms.specs.Copies.{give_parts}
 use Rattle.machine_terms.specs.Jumps.{fetch}
 use Rattle.machine_terms.specs.Makes.{region_with}
-use Rattle.machine_terms.specs.Orders.{result_of}
+use Rattle.machine_terms.specs.Orders.{begun, result_of}
+use Rattle.code_laws.specs.Simple.{IsScalar}
+use Rattle.code_rules.specs.Instructions.{place_of_task, tasks_of}
+use Rattle.machine_terms.specs.Opening.{opening}
+use Rattle.regent_tree.specs.Laws.{SameRoots}
+use Rattle.regent_tree.specs.Syntax.{Name, Tree}
+use Rattle.regent_tree.specs.Typing.{param_types, result_type}
+use Rattle.regent_tree.specs.declared.outcome.Fault.{Fault}
+use Rattle.regent_tree.specs.declared.outcome.FaultKind.TheVariants.{Depth}
+use Rattle.task_code.specs.declared.code.Code.{Code}
 use Rattle.code_rules.specs.Pieces.{Piece, empty, op, ◌⨟◌, over, branch, loop, rounds, past, line_of}
+use Rattle.code_rules.specs.Programs.{code_of, space_code, task_code}
 use Rattle.code_rules.specs.Slots.{Where, slot, counter, beside}
 use Rattle.code_rules.specs.Used.{slots_used}
+use Rattle.memory_laws.specs.Closing.{AreOwn}
+use Rattle.memory_laws.specs.Covering.{AreCovered}
+use Rattle.memory_laws.specs.Memory.{Holds, Memory, StandFor, memory_of}
+use Rattle.memory_laws.specs.Places.{number_at, numbers}
 use Rattle.code_laws.specs.Steps.{Setting, placed, Leads, Ends}
 
 -- a piece stands in a body at a place
@@ -54,28 +76,35 @@ Stands body pc (rounds k line a) =
     × Stands body (suc pc) a
     × (fetch body (past a (suc pc)) ≡ Some (line_of (instr.Jump pc) line))
 
--- what the machine has for a value; in a run in order regions have no node
-abbrev pub machine_value : Value → MachineValue
-machine_value (a_space n) = machine.Space n
-machine_value (a_region r) = machine.Region (region_with r.root r.points)
-machine_value (a_partition p) = machine.Partition (record {
-  root = record { 0 = p.root };
+-- What the machine has for a value. A root is named by its number, and by its place in the meaning; in a
+-- run in order regions have no node.
+abbrev pub machine_value : Contents → Value → MachineValue
+machine_value contents (a_space n) = machine.Space n
+machine_value contents (a_region r) = machine.Region (region_with (number_at contents r.root) r.points)
+machine_value contents (a_partition p) = machine.Partition (record {
+  root = record { 0 = number_at contents p.root };
   disjoint = p.disjoint;
-  children = map (region_with p.root) p.sets;
+  children = map (region_with (number_at contents p.root)) p.sets;
 })
-machine_value v = machine.Number (kept_number v)
+machine_value contents v = machine.Number (kept_number v)
 
--- a value is of a static type; a number fits its width
+-- a value is of a static type; numbers and indices fit, and no index space is too large
 pub data IsOf : StaticType → Value → Type 0 where
   of_integer : (w : Width) (z : ℤ) → FitsWidth w z → IsOf (integer_type w) (a_number w z)
   of_truth : (b : Bool) → IsOf truth_type (a_truth b)
-  of_index : (k : Kind) (z : ℤ) → IsOf (index_type k) (an_index z)
+  of_index : (k : Kind) (z : ℤ) → FitsWidth W64 z → IsOf (index_type k) (an_index z)
   of_pointer : (k : Kind) (sp : ℕ) (args rs : List Reach) (t : Target) (regions : List Region) →
       IsOf (pointer_type k sp args rs) (a_pointer t regions)
-  of_space : (k : Kind) (n : ℕ) → IsOf (ispace_type k) (a_space n)
+  of_space : (k : Kind) (n : ℕ) → n ≤ 4194304 → IsOf (ispace_type k) (a_space n)
   of_region : (k : Kind) (sp : ℕ) (args : List Reach) (r : Term) (q : Region) →
       IsOf (region_type k sp args r) (a_region q)
   of_partition : (d : Bool) (r p : ℕ) (q : Partition) → IsOf (partition_type d r p) (a_partition q)
+
+-- values of each of which something holds by these types
+abbrev pub AreTaken : (StaticType → Value → Type 0) → List StaticType → List Value → Type 0
+AreTaken Holding [] [] = Unit {0}
+AreTaken Holding (t ∷ ts) (v ∷ vs) = Holding t v × AreTaken Holding ts vs
+AreTaken Holding _ _ = ⊥
 
 -- a value, and a machine's, where there is none
 abbrev pub nothing : Value
@@ -84,11 +113,28 @@ nothing = a_truth false
 abbrev pub blank : MachineValue
 blank = machine.Number (pos 0)
 
--- each name in scope has the place behind those that were bound before it, and a value of its type
-abbrev pub AreOf : List Bound → List Value → Type 0
-AreOf [] names = Unit {0}
-AreOf (b ∷ bs) names = (b.place ≡ length bs) × IsOf b.static_type (get_or names b.place nothing)
-    × AreOf bs names
+-- each name in scope has the place behind those that were bound before it, and a value of which
+-- something holds by its type
+abbrev pub AreOf : (StaticType → Value → Type 0) → List Bound → List Value → Type 0
+AreOf Holding [] names = Unit {0}
+AreOf Holding (b ∷ bs) names = (b.place ≡ length bs) × Holding b.static_type (get_or names b.place nothing)
+    × AreOf Holding bs names
+
+-- A region lies in a root of the store that the instance made itself: that is of a field space, and each of
+-- its fields has a number at each of the region's points.
+pub record LiesIn (x : Setting) (store : Store) (space : ℕ) (q : Region) : Type 0 where
+  pub own : length x.before ≤ q.root
+  pub there : q.root < length store
+  pub of_space : (get_or store q.root no_root).space ≡ space
+  pub points : (field n : ℕ) → field < length (kinds_of x.code space) → has q.points n ≡ true →
+      n < length (column store q.root field)
+  pub small : (n : ℕ) → has q.points n ≡ true → n < 2 ^ 32
+
+-- a value stays within the store: regions lie in it, and partitions are of its roots
+abbrev pub IsInside : Setting → Store → StaticType → Value → Type 0
+IsInside x store (region_type k space args r) (a_region q) = LiesIn x store space q
+IsInside x store (partition_type d r p) (a_partition q) = q.root < length store
+IsInside x store t v = Unit {0}
 
 abbrev pub where_of : ℕ → Here → Where
 where_of params h = record {
@@ -99,6 +145,10 @@ where_of params h = record {
   line = h.line;
 }
 
+-- the program, what calls in it give, and the result's type
+abbrev pub program_of : Here → Tree × Calls × StaticType
+program_of h = (h.tree, h.calls, h.result)
+
 -- the slots when the round of the innermost loop began, how many names were in scope there, and a
 -- bound of the turns that were left
 pub record Aside : Type 0 where
@@ -106,27 +156,96 @@ pub record Aside : Type 0 where
   pub slots : List MachineValue
   pub turns : ℕ
 
--- An instance agrees with a state: the names stand in their slots, the turns and the text are alike.
--- The slots beside those of names that were in scope when the innermost loop's round began are as
--- they were then.
+-- a touch of a root that the instance made itself: these come behind those that were there before it
+abbrev pub is_own : Setting → Touch → Bool
+is_own x t = nat_le (length x.before) t.root
+
+-- What stays while an instance runs: its own roots come behind those that were there before it, and its
+-- needs allow each touch of a point of these.
+pub record IsFramed (x : Setting) (store : Store) (own : List RootId) (m : Memory) : Type 0 where
+  pub own_are : AreOwn x.before own m.contents
+  pub none : x.forms.makes ≡ false → own ≡ []
+  pub allows : AreCovered (is_own x) store m
+
+-- ---- calls
+
+-- a task of the program that needs nothing, and numbers and truths that it takes
+pub record Takes (tree : Tree) (task : Name) (vs : List Value) : Type 0 where
+  pub there : slice_get (tasks_of tree) (place_of_task tree task) ≡ Some (task_named tree task)
+  pub needs : (task_code tree (task_named tree task)).needs ≡ []
+  pub taken : AreTaken (λ t v. IsScalar t × IsOf t v) (param_types tree (task_named tree task)) vs
+
+-- the value that a task gives is of its result's type, where that is a number's or a truth's
+abbrev pub Returns : Tree → Name → Value → Type 0
+Returns tree task v = IsScalar (result_type tree (task_named tree task).result) →
+    IsOf (result_type tree (task_named tree task).result) v
+
+-- Both come back, with a value and what stands for the store with the call's own roots behind; or both end
+-- with a fault.
+pub data Matches (code : Code) (Returned : Value → Type 0) (store : Store) (before : List ℕ) : Called → Ended → Type 0 where
+  both_back : (v : Value) (after : Store) (text : List ℕ) (result : Option ℤ) (own : List RootId) (c : Contents) →
+      Returned v → result_of result ≡ kept_number v → SameRoots store (take (length store) after) →
+      StandFor code c [] after → AreOwn before own c →
+      Matches code Returned store before (came_back v (take (length store) after) text) (CameBack result own c text)
+  both_broke : (f : Fault) (text : List ℕ) → Matches code Returned store before (broke f text) (Broke (Some f) text)
+
+-- a task that begins as a call of it
+abbrev pub called_with : Tree → ℕ → ℕ → Name → List Value → Contents → Instance
+called_with tree turns depth task vs c = begun
+    (opening turns depth (place_of_task tree task) (task_code tree (task_named tree task)) (map (machine_value c) vs)) [] c
+
+-- What calls give, children give; at depth 64 there is none, and the call is a fault.
+pub record Answering (x : Setting) (tree : Tree) (calls : Calls) : Type 0 where
+  pub code_is : x.code ≡ code_of tree
+  pub few : x.turns < 2 ^ 64
+  pub at_end : 64 ≤ x.depth → (line : ℕ) (task : Name) (vs : List Value) (store : Store) →
+      calls line task vs store ≡ broke (record { kind = Depth; line = line }) []
+  pub below : x.depth < 64 → (line : ℕ) (task : Name) (vs : List Value) (store : Store) (c : Contents) →
+      Takes tree task vs → Holds x.code store (memory_of (called_with tree x.turns (suc x.depth) task vs c)) →
+      Matches x.code (Returns tree task) store (numbers c) (calls line task vs store)
+      (x.child (called_with tree x.turns (suc x.depth) task vs c))
+
+-- a frame without its slots, stack and place
+abbrev pub unplaced : Frame → Frame
+unplaced f = record f { pc = 0; slots = []; stack = [] }
+
+-- no child is pending in a slot
+abbrev pub AreReady : List MachineValue → Type 0
+AreReady slots = (k : ℕ) → is_pending (get_or slots k blank) ≡ false
+
+-- An instance may call as often as it has turns; it has a value of each child that it called, and its depth.
+pub record MayCall (x : Setting) (f : Frame) (results : List ℤ) : Type 0 where
+  pub few : f.children + f.turns ≤ x.turns
+  pub children : f.children ≡ length results
+  pub depth : f.depth ≡ x.depth
+
+-- An instance agrees with a state: the names stand in their slots, the turns and the text are alike,
+-- and what it has of the roots stands for the store. The slots beside those of names that were in scope
+-- when the innermost loop's round began are as they were then.
 pub record Agrees (x : Setting) (params slots : ℕ) (o : Aside) (h : Here) (s : State) (i : Instance) : Type 0 where
   pub names : (p : ℕ) → p < length s.names →
       get_or i.frame.slots (slot (where_of params h) p) blank
-      ≡ machine_value (get_or s.names p nothing)
+      ≡ machine_value i.contents (get_or s.names p nothing)
   pub hidden : (p : ℕ) → params ≤ p → p < o.upto →
       (get_or i.frame.slots (counter (where_of params h) p) blank
       ≡ get_or o.slots (counter (where_of params h) p) blank)
       × (get_or i.frame.slots (beside (where_of params h) p) blank
       ≡ get_or o.slots (beside (where_of params h) p) blank)
-  pub typed : AreOf h.scope.names s.names
+  pub typed : AreOf IsOf h.scope.names s.names
+  pub inside_store : AreOf (IsInside x s.store) h.scope.names s.names
   pub count : length s.names ≡ length h.scope.names
   pub inside : o.upto ≤ length s.names
   pub slots_are : length i.frame.slots ≡ slots
   pub turns : i.frame.turns ≡ s.turns
   pub bound : s.turns ≤ o.turns
   pub text : i.text ≡ s.text
-  pub own : i.frame.own ≡ []
-  pub store : s.store ≡ []
+  pub ready : AreReady i.frame.slots
+  pub calls : MayCall x (unplaced i.frame) i.results
+  pub result_is : h.result ≡ x.result
+  pub answers : x.forms.calls ≡ true → Answering x h.tree h.calls
+  pub spaces : x.code.spaces ≡ map space_code (spaces_of h.tree)
+  pub memory : Holds x.code s.store (memory_of i)
+  pub framed : IsFramed x s.store i.frame.own (memory_of i)
 
 -- each instruction names slots that are there
 abbrev pub SlotsFit : Setting → ℕ → Type 0
@@ -150,5 +269,7 @@ Does x params slots o i pc h (gives goes_on s) =
     (j : Instance) × Leads x i (placed pc [] j) × Agrees x params slots o h s j
 Does x params slots o i pc h (gives (returned v) s) =
     (result : Option ℤ) × (j : Instance) × Ends x i (back result j)
-    × (result_of result ≡ kept_number v) × (j.text ≡ s.text) × (j.frame.own ≡ []) × (s.store ≡ [])
+    × (result_of result ≡ kept_number v) × (j.text ≡ s.text) × Holds x.code s.store (memory_of j)
+    × IsFramed x s.store j.frame.own (memory_of j)
+    × (x.forms.calls ≡ true → IsScalar x.result → IsOf x.result v)
 Does x params slots o i pc h (fails f s) = Ends x i (Broke (Some f) s.text)

@@ -3,8 +3,10 @@
 //! The laws are stated under specs/. Each function has an empty body; its contract is a law.
 #![tactic(auto)]
 
+ghost use Rattle.code_laws.specs.CallExample.{CallExampleHolds};
 ghost use Rattle.code_laws.specs.Example.{ExampleHolds};
-ghost use Rattle.code_laws.specs.Programs.{ScalarsRunAsMeant};
+ghost use Rattle.code_laws.specs.RegionExample.{RegionExampleHolds};
+ghost use Rattle.code_laws.specs.Programs.{CallsRunAsMeant, RegionsRunAsMeant, ScalarsRunAsMeant};
 ghost use Rattle.code_laws.specs.ScalarPrograms.{ScalarProgramsLeaveNoRoots, ScalarProgramsRunAsMeant};
 
 /// Where the entry task's body is typed and treats scalars alone, the run in order of its code is what the
@@ -12,6 +14,20 @@ ghost use Rattle.code_laws.specs.ScalarPrograms.{ScalarProgramsLeaveNoRoots, Sca
 #[tactic(auto, using(crate::proofs::Top::scalars_run_as_meant))]
 pub fn scalars_run_as_meant()
     ensures { ScalarsRunAsMeant }
+{}
+
+/// So it is where the task also makes roots, and reads, writes, reduces and fills fields at points of regions:
+/// an access outside its region faults as the program means it, and the roots' numbers are told at the end.
+#[tactic(auto, using(crate::proofs::Top::regions_run_as_meant))]
+pub fn regions_run_as_meant()
+    ensures { RegionsRunAsMeant }
+{}
+
+/// So it is where tasks call others that take and give numbers and truths, each with roots of its own: a call
+/// costs a turn, one too deep is a fault, and what a child means it comes to.
+#[tactic(auto, using(crate::proofs::Top::calls_run_as_meant))]
+pub fn calls_run_as_meant()
+    ensures { CallsRunAsMeant }
 {}
 
 /// So it is for each accepted program over scalars.
@@ -23,6 +39,20 @@ pub fn scalar_programs_run_as_meant()
 /// Such a program leaves no roots, and what it means is never broken.
 pub fn scalar_programs_leave_no_roots()
     ensures { ScalarProgramsLeaveNoRoots }
+{}
+
+/// A program that makes a root and has accesses of every kind: each premise of the law on regions holds of it,
+/// and with two inputs it means an end and a fault.
+#[tactic(auto, using(crate::proofs::RegionExample::region_example_holds))]
+pub fn region_example_holds()
+    ensures { RegionExampleHolds }
+{}
+
+/// A program with calls of which each premise of the law on calls holds; it means an end, and with too few turns
+/// a fault.
+#[tactic(auto, using(crate::proofs::CallExample::call_example_holds))]
+pub fn call_example_holds()
+    ensures { CallExampleHolds }
 {}
 
 /// A program and a number of which each premise of the law holds.

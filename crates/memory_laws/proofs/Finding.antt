@@ -97,9 +97,9 @@ fetched_there code i root f none =
     both false b a _ = absurd (eqb-false root root a refl)
 
 -- a root with a covered touch is there
-there : (code : Code) (store : Store) (m : Memory) (place f n : ℕ) (a : Mode) → Holds code store m →
+pub root_is_there : (code : Code) (store : Store) (m : Memory) (place f n : ℕ) (a : Mode) → Holds code store m →
     Covers a (mode_at m.needs (number_at m.contents place) f n) → place < length store
-there code store m place f n a h covers =
+root_is_there code store m place f n a h covers =
     let md = covering a (mode_at m.needs (number_at m.contents place) f n) covers in
     root_below store place f n
     (subst (λ k. n < k) (sym (length_stored code store m.contents m.parts h.stands place f))
@@ -109,7 +109,7 @@ pub fetched_is_found : FetchedIsFound
 fetched_is_found code store i t h covered none =
     let root = number_at i.contents t.root in
     in_part code store (memory_of (fetch_part code root t.field i)) t.access root t.field t.point
-    (fetched_holds code store i t.root t.field h (there code store (memory_of i) t.root t.field t.point t.access h covered) none)
+    (fetched_holds code store i t.root t.field h (root_is_there code store (memory_of i) t.root t.field t.point t.access h covered) none)
     covered (part_from code i.contents i.needs root t.field) (fetched_there code i root t.field none)
 
 -- ---- what may be set

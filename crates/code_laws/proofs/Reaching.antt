@@ -1,0 +1,142 @@
+-- A field at a point of a region that a name has: its kind is the one that is declared, and a touch of it is
+-- allowed.
+use Rattle.std.proofs.Common.{◌≡◌, ℕ, ◌^◌, ◌<◌, List, [], ◌∷◌, true, refl, sym, ap, ◌∙◌, subst}
+use Rattle.std.specs.Prelude.{get_or, length, map}
+use Rattle.std.proofs.lemmas.List.{length-map}
+use Rattle.std.proofs.lemmas.Simd.{map-map}
+use Rattle.std.proofs.Math.ListN.{get_or-map}
+use Rattle.std.proofs.lemmas.Bool.{le-leb}
+use Rattle.plain_values.specs.Points.{has}
+use Rattle.lane_kernels.specs.declared.numbers.FieldKind.TheVariants.{Truth}
+use Rattle.lane_kernels.specs.declared.numbers.Mode.{Mode}
+use Rattle.region_tree.specs.declared.piece.Part.{Part}
+use Rattle.regent_tree.specs.Laws.{SameRoots, Shape, shape_of}
+use Rattle.regent_tree.specs.Running.{Here, State}
+use Rattle.regent_tree.specs.StaticTypes.{field_kind, field_kinds, kind_said, space_at, spaces_of}
+use Rattle.regent_tree.specs.Store.{Store, Touch, column, no_root}
+use Rattle.regent_tree.specs.Syntax.{Tree}
+use Rattle.regent_tree.specs.Values.{Region, Value}
+use Rattle.regent_tree.specs.declared.types.Param.{Param}
+use Rattle.regent_tree.specs.declared.types.TypeTerm.TheVariants as typed
+use Rattle.regent_tree.specs.declared.typing.Bound.{Bound}
+use Rattle.regent_tree.specs.declared.typing.StaticType.{StaticType}
+use Rattle.task_code.specs.declared.code.Code.{Code}
+use Rattle.task_code.specs.declared.code.FieldCode.{FieldCode}
+use Rattle.task_code.specs.declared.code.SpaceCode.{SpaceCode}
+use Rattle.machine_terms.specs.declared.order.Instance.{Instance}
+use Rattle.machine_terms.specs.Contents.{kind_of, kinds_of, no_space}
+use Rattle.code_rules.specs.Programs.{space_code}
+use Rattle.memory_laws.specs.Memory.{Holds, memory_of}
+use Rattle.memory_laws.specs.Places.{number_at}
+use Rattle.memory_laws.specs.Touches.{IsCovered}
+use Rattle.memory_laws.proofs.Covering.{covered_stays}
+use Rattle.memory_laws.proofs.Shapes.{length_of, shapes_at}
+use Rattle.code_laws.specs.Standing.{Agrees, is_own, AreOf, Aside, IsInside, IsOf, LiesIn, nothing, of_index, of_integer, of_partition, of_pointer, of_region, of_space, of_truth}
+use Rattle.code_laws.specs.Steps.{Setting}
+use Rattle.code_laws.proofs.Touching.{parted}
+
+-- ---- kinds of fields
+
+-- the kinds of a field space's fields are those that its types say
+pub kinds_are : (code : Code) (tree : Tree) (sp : ℕ) → code.spaces ≡ map space_code (spaces_of tree) →
+    kinds_of code sp ≡ field_kinds tree sp
+kinds_are code tree sp e =
+    ap (λ ss. map (λ (f : FieldCode). f.kind) (get_or ss sp no_space).fields) e
+    ∙ ap (λ (s : SpaceCode). map (λ (f : FieldCode). f.kind) s.fields) (get_or-map space_code (spaces_of tree) sp _)
+    ∙ map-map (λ (f : FieldCode). f.kind) _ (space_at tree sp).fields
+
+kind_in : (tree : Tree) (sp place : ℕ) → get_or (field_kinds tree sp) place Truth ≡ field_kind tree sp place
+kind_in tree sp place =
+    let ps = (space_at tree sp).fields in
+    ap (λ ks. get_or ks place Truth) (sym (map-map kind_said (λ (p : Param). p.term) ps))
+    ∙ get_or-map kind_said (map (λ (p : Param). p.term) ps) place typed.Truth
+
+-- ---- what stays where no root is made
+
+-- a region lies in its root still
+pub lies_stays : (x : Setting) (store after : Store) (sp : ℕ) (q : Region) → SameRoots store after →
+    LiesIn x store sp q → LiesIn x after sp q
+lies_stays x store after sp q same l = record {
+  own = l.own;
+  there = subst (λ n. q.root < n) (sym (length-map store shape_of) ∙ ap length (sym same) ∙ length-map after shape_of) l.there;
+  of_space = ap (λ (s : Shape). s.space) (shapes_at store after q.root same) ∙ l.of_space;
+  points = λ f n low h. subst (λ k. n < k)
+      (sym (length_of (get_or after q.root no_root) (get_or store q.root no_root) f (shapes_at store after q.root same)))
+      (l.points f n low h);
+  small = l.small;
+}
+
+pub inside_stays : (x : Setting) (store after : Store) (t : StaticType) (v : Value) → SameRoots store after → IsOf t v →
+    IsInside x store t v → IsInside x after t v
+inside_stays x store after _ _ same (of_integer w z p) l = tt
+inside_stays x store after _ _ same (of_truth b) l = tt
+inside_stays x store after _ _ same (of_index k z p) l = tt
+inside_stays x store after _ _ same (of_pointer k sp args rs t regions) l = tt
+inside_stays x store after _ _ same (of_space k n p) l = tt
+inside_stays x store after _ _ same (of_region k sp args r q) l = lies_stays x store after sp q same l
+inside_stays x store after _ _ same (of_partition d r p q) l =
+    subst (λ n. q.root < n) (sym (length-map store shape_of) ∙ ap length (sym same) ∙ length-map after shape_of) l
+
+pub all_inside : (x : Setting) (store after : Store) (bs : List Bound) (names : List Value) → SameRoots store after →
+    AreOf IsOf bs names → AreOf (IsInside x store) bs names → AreOf (IsInside x after) bs names
+all_inside x store after [] names same a l = tt
+all_inside x store after (b ∷ bs) names same a l = (
+  a.0,
+  inside_stays x store after b.static_type (get_or names b.place nothing) same a.1 l.1,
+  all_inside x store after bs names same a.2 l.2,
+)
+
+-- other numbers in the same roots, and other parts
+pub rewritten : (x : Setting) (params slots : ℕ) (aside : Aside) (h : Here) (s : State) (i : Instance) (ps : List Part)
+    (ts : List Touch) (store : Store) → SameRoots s.store store → Agrees x params slots aside h s i →
+    Holds x.code store (memory_of (parted ps i)) →
+    Agrees x params slots aside h (record s { store = store; touches = ts }) (parted ps i)
+rewritten x params slots aside h s i ps ts store same g holds = record {
+  names = g.names;
+  hidden = g.hidden;
+  typed = g.typed;
+  inside_store = all_inside x s.store store h.scope.names s.names same g.typed g.inside_store;
+  count = g.count;
+  inside = g.inside;
+  slots_are = g.slots_are;
+  turns = g.turns;
+  bound = g.bound;
+  text = g.text;
+  ready = g.ready;
+  calls = g.calls;
+  result_is = g.result_is;
+  answers = g.answers;
+  spaces = g.spaces;
+  memory = holds;
+  framed = record {
+    own_are = g.framed.own_are;
+    none = g.framed.none;
+    allows = covered_stays x.code s.store store (memory_of i) (memory_of (parted ps i)) (is_own x) g.memory refl refl same g.framed.allows;
+  };
+}
+
+-- ---- a point that is reached
+
+-- a field at a point of a region
+pub record Reached (x : Setting) (tree : Tree) (i : Instance) (store : Store) (q : Region) (sp place n : ℕ) (a : Mode) : Type 0 where
+  pub small : n < 2 ^ 32
+  pub there : n < length (column store q.root place)
+  pub covers : IsCovered i.contents i.needs (record { root = q.root; field = place; point = n; access = a })
+  pub kind_is : kind_of x.code i.contents (number_at i.contents q.root) place ≡ field_kind tree sp place
+
+pub reached : (x : Setting) (params slots : ℕ) (aside : Aside) (h : Here) (s : State) (i : Instance) (q : Region)
+    (sp place n : ℕ) (a : Mode) → Agrees x params slots aside h s i → LiesIn x s.store sp q →
+    place < length (space_at h.tree sp).fields → has q.points n ≡ true →
+    Reached x h.tree i s.store q sp place n a
+reached x params slots aside h s i q sp place n a g l field e =
+    let kinds = kinds_are x.code h.tree sp g.spaces in
+    let low : place < length (kinds_of x.code sp) =
+    subst (λ k. place < k) (sym (length-map (space_at h.tree sp).fields (λ (p : Param). kind_said p.term)) ∙ sym (ap length kinds)) field in
+    let is = l.points place n low e in record {
+      small = l.small n e;
+      there = is;
+      covers = g.framed.allows (record { root = q.root; field = place; point = n; access = a }) (le-leb (length x.before) q.root l.own) is;
+      kind_is = ap (λ (s : Shape). get_or (kinds_of x.code s.space) place Truth) (g.memory.stands.shape q.root)
+          ∙ ap (λ k. get_or (kinds_of x.code k) place Truth) l.of_space
+          ∙ ap (λ ks. get_or ks place Truth) kinds ∙ kind_in h.tree sp place;
+    }

@@ -1,0 +1,166 @@
+-- Well-typed expressions and statements of numbers and truths, also those of fields at points of regions that
+-- have names, of indices, and of loops over index spaces: no partition, and no pointer that is kept. Roots are
+-- made, and tasks called, where the forms allow it.
+use Rattle.std.specs.Prelude.{◌≡◌, ℕ, suc, ◌<◌, ◌≤◌, ℤ, pos, ◌+ℤ◌, int_lt, length, slice_get, List, [], ◌∷◌, true, false, Some, None}
+use Rattle.lane_kernels.specs.Numbers.{FitsWidth}
+use Rattle.regent_tree.specs.declared.expression.Operator.TheVariants.{Or, And, Compare, Compute}
+use Rattle.regent_tree.specs.declared.statement.How.TheVariants as how
+use Rattle.regent_tree.specs.declared.typing.StaticType.{StaticType}
+use Rattle.regent_tree.specs.declared.typing.StaticType.TheVariants.{Truth as truth_type}
+use Rattle.regent_tree.specs.Accesses.{args_in, space_in}
+use Rattle.regent_tree.specs.StaticTypes.{field_kind, field_place, field_type, place_of_space, space_at, spaces_of, task_named}
+use Rattle.regent_tree.specs.Lookup.{is_bound}
+use Rattle.regent_tree.specs.Numbers.{distance}
+use Rattle.regent_tree.specs.Syntax.{a_statement, Form, var_form, if_form, while_form, for_in_form, for_to_form, do_form, assert_form, print_form, assign_form, return_form, Block, no_statement, then_statement, Arms, no_arm, an_arm, Otherwise, no_else, else_block, plain_initializer, region_initializer, Name, Tree, fill_form, call_form, call_expr, Expression, number_expr, truth_expr, chain_expr, prefix_expr, access_expr, convert_expr, Expressions, no_expr, an_expr, Links, no_link, a_link, no_step, field_step, at_step, space_expr}
+use Rattle.regent_tree.specs.Typing.{arithmetic_type, operated, param_types, params_at, result_type, taken_from, type_of_element, type_of_field, var_type}
+use Rattle.code_laws.specs.Simple.{AreComparable, IsInteger, IsTruth, IsScalar, IsSimple, IsNumber, IsSpace, IsRegion, AreAlike, SignsFit, FieldFits, IsIntegerTerm}
+use Rattle.code_rules.specs.Instructions.{place_of_task, tasks_of}
+use Rattle.code_rules.specs.Programs.{task_code}
+use Rattle.code_laws.specs.Steps.{Forms}
+use Rattle.code_rules.specs.Slots.{Where, typed, bound, slot_named, slots_of}
+use Rattle.code_rules.specs.Expressions.{count}
+use Rattle.code_rules.specs.Statements.{on_line, after_form, after_arm, after_arms, looping}
+use Rattle.check_rules.specs.rules.Formats.{numbers_in}
+
+-- A name in scope has a region, and the field is one of its field space, which keeps values of a type.
+pub record IsField (w : Where) (n f : Name) (t : StaticType) : Type 0 where
+  pub named : is_bound w.scope.names n ≡ true
+  pub region : IsRegion (bound w n).static_type
+  pub field : field_place w.tree (space_in (bound w n).static_type) f
+      < length (space_at w.tree (space_in (bound w n).static_type)).fields
+  pub keeps : FieldFits (field_kind w.tree (space_in (bound w n).static_type)
+      (field_place w.tree (space_in (bound w n).static_type) f)) t
+
+-- a pointer to an element of a region that has a name goes through the name's slot
+abbrev pub GoesThrough : Where → Name → Expression → Type 0
+GoesThrough w n e =
+    slots_of w (slot_named w n) (type_of_element w.scope (bound w n).static_type e) ≡ slot_named w n ∷ []
+
+-- the type of a field of an element
+abbrev pub element_field : Where → Name → Expression → Name → StaticType
+element_field w n e f = type_of_field w.tree (type_of_element w.scope (bound w n).static_type e) f
+
+-- ---- expressions
+
+-- a task of the program that needs nothing
+abbrev pub IsCalled : Tree → Name → Type 0
+IsCalled tree task =
+    (slice_get (tasks_of tree) (place_of_task tree task) ≡ Some (task_named tree task))
+    × ((task_code tree (task_named tree task)).needs ≡ [])
+
+abbrev mutual
+  pub IsTyped : Forms → Where → Expression → Type 0
+  IsTyped forms w (number_expr z v) = FitsWidth v z
+  IsTyped forms w (truth_expr b) = Unit {0}
+  IsTyped forms w (chain_expr first rest) = IsTyped forms w first × AreTypedLinks forms w (typed w first) rest
+  IsTyped forms w (prefix_expr signs e) = IsTyped forms w e × SignsFit (typed w e) signs
+  IsTyped forms w (access_expr n no_step) =
+      (is_bound w.scope.names n ≡ true) × IsSimple (bound w n).static_type
+  IsTyped forms w (access_expr n (at_step e (field_step f no_step))) = IsTyped forms w e × IsNumber (typed w e)
+      × GoesThrough w n e × IsField w n f (element_field w n e f)
+  IsTyped forms w (call_expr task args) = (forms.calls ≡ true)
+      × IsScalar (result_type w.tree (task_named w.tree task).result) × IsCalled w.tree task
+      × ArePassed forms w (params_at w.tree w.scope (task_named w.tree task) args)
+      (param_types w.tree (task_named w.tree task)) args
+  IsTyped forms w (space_expr k e) = IsTyped forms w e × IsInteger (typed w e)
+  IsTyped forms w (convert_expr t e) = IsTyped forms w e × IsNumber (typed w e) × IsIntegerTerm t
+  IsTyped forms w _ = ⊥
+
+  pub AreTypedLinks : Forms → Where → StaticType → Links → Type 0
+  AreTypedLinks forms w t no_link = Unit {0}
+  AreTypedLinks forms w t (a_link Or e rest) =
+      IsTruth t × IsTruth (typed w e) × IsTyped forms w e × AreTypedLinks forms w truth_type rest
+  AreTypedLinks forms w t (a_link And e rest) =
+      IsTruth t × IsTruth (typed w e) × IsTyped forms w e × AreTypedLinks forms w truth_type rest
+  AreTypedLinks forms w t (a_link (Compare c) e rest) = AreComparable t (typed w e) × IsTyped forms w e
+      × AreTypedLinks forms w (operated (Compare c) t (typed w e)) rest
+  AreTypedLinks forms w t (a_link (Compute o) e rest) = IsNumber t × IsNumber (typed w e) × IsTyped forms w e
+      × AreTypedLinks forms w (operated (Compute o) t (typed w e)) rest
+
+  -- numbers and truths that are given to parameters of these types
+  pub ArePassed : Forms → Where → List StaticType → List StaticType → Expressions → Type 0
+  ArePassed forms w [] [] no_expr = Unit {0}
+  ArePassed forms w (t ∷ ts) (p ∷ ps) (an_expr e es) =
+      AreAlike (typed w e) t × (t ≡ p) × IsTyped forms w e × ArePassed forms w ts ps es
+  ArePassed forms w _ _ _ = ⊥
+
+-- numbers that are printed
+abbrev pub AreNumbers : Forms → Where → Expressions → Type 0
+AreNumbers forms w no_expr = Unit {0}
+AreNumbers forms w (an_expr e es) = IsInteger (typed w e) × IsTyped forms w e × AreNumbers forms w es
+
+-- ---- statements
+
+-- fields of a region that are filled with a value of a type
+abbrev pub AreFilled : Where → Name → StaticType → List Name → Type 0
+AreFilled w r from [] = Unit {0}
+AreFilled w r from (f ∷ fs) =
+    let out = field_type w.tree (space_in (bound w r).static_type) (args_in (bound w r).static_type) f in
+    AreAlike from out × IsField w r f out × AreFilled w r from fs
+
+-- a field space that is there and has no more fields than a root may have
+pub record IsMakable (tree : Tree) (space : ℕ) : Type 0 where
+  pub there : space < length (spaces_of tree)
+  pub few : length (space_at tree space).fields ≤ 256
+
+abbrev mutual
+  pub IsTypedForm : Forms → Where → Form → Type 0
+  IsTypedForm forms w (var_form n None (Some (plain_initializer e))) = IsSimple (typed w e) × IsTyped forms w e
+  IsTypedForm forms w (var_form n None (Some (region_initializer e u))) = (forms.makes ≡ true) × IsSpace (typed w e)
+      × IsTyped forms w e × IsMakable w.tree (place_of_space w.tree u.name)
+  IsTypedForm forms w (var_form n (Some t) (Some (plain_initializer e))) =
+      AreAlike (typed w e) (var_type w.tree w.scope (Some t) (Some (plain_initializer e))) × IsTyped forms w e
+  IsTypedForm forms w (var_form n (Some t) None) = IsScalar (var_type w.tree w.scope (Some t) None)
+  IsTypedForm forms w (if_form arms other) = AreTypedArms forms w w arms × IsTypedElse forms (after_arms w arms) other
+  IsTypedForm forms w (while_form test body) =
+      IsTruth (typed w test) × IsTyped forms w test × IsTypedBlock forms w body
+  IsTypedForm forms w (do_form body) = IsTypedBlock forms w body
+  IsTypedForm forms w (assert_form e) = IsTruth (typed w e) × IsTyped forms w e
+  IsTypedForm forms w (print_form alias format args) =
+      AreNumbers forms w args × (numbers_in format ≡ Some (count args))
+  IsTypedForm forms w (return_form None) = forms.calls ≡ true → IsScalar w.result → ⊥
+  IsTypedForm forms w (return_form (Some e)) = AreAlike (typed w e) w.result × IsTyped forms w e
+  IsTypedForm forms w (for_to_form demanded n from to body) =
+      IsInteger (typed w from) × IsInteger (typed w to) × IsTyped forms w from × IsTyped forms w to
+      × IsTypedBlock forms (looping w n (arithmetic_type (typed w from) (typed w to))) body
+  IsTypedForm forms w (for_in_form demanded n domain body) = IsSpace (typed w domain) × IsTyped forms w domain
+      × IsTypedBlock forms (looping w n (taken_from (typed w domain))) body
+  IsTypedForm forms w (assign_form n no_step how.Set e) =
+      AreAlike (typed w e) (bound w n).static_type × IsTyped forms w e × (is_bound w.scope.names n ≡ true)
+  IsTypedForm forms w (assign_form n no_step (how.Reduce o) e) = IsInteger (typed w e)
+      × IsInteger (bound w n).static_type × IsTyped forms w e × (is_bound w.scope.names n ≡ true)
+  IsTypedForm forms w (assign_form n (at_step e (field_step f no_step)) how.Set y) =
+      AreAlike (typed w y) (element_field w n e f) × IsTyped forms w y × IsTyped forms w e × IsNumber (typed w e)
+      × GoesThrough w n e × IsField w n f (element_field w n e f)
+  IsTypedForm forms w (assign_form n (at_step e (field_step f no_step)) (how.Reduce o) y) =
+      IsInteger (typed w y) × IsInteger (element_field w n e f) × IsTyped forms w y × IsTyped forms w e
+      × IsNumber (typed w e) × GoesThrough w n e × IsField w n f (element_field w n e f)
+  IsTypedForm forms w (call_form task args) = (forms.calls ≡ true) × IsCalled w.tree task
+      × ArePassed forms w (params_at w.tree w.scope (task_named w.tree task) args)
+      (param_types w.tree (task_named w.tree task)) args
+  IsTypedForm forms w (fill_form r fields e) = IsTyped forms w e × (is_bound w.scope.names r ≡ true)
+      × IsRegion (bound w r).static_type × AreFilled w r (typed w e) fields
+  IsTypedForm forms w _ = ⊥
+
+  -- tests stand in the scope of the `if` itself
+  pub AreTypedArms : Forms → Where → Where → Arms → Type 0
+  AreTypedArms forms own w no_arm = Unit {0}
+  AreTypedArms forms own w (an_arm test body rest) = IsTruth (typed own test) × IsTyped forms own test
+      × IsTypedBlock forms w body × AreTypedArms forms own (after_arm w body) rest
+
+  pub IsTypedElse : Forms → Where → Otherwise → Type 0
+  IsTypedElse forms w no_else = Unit {0}
+  IsTypedElse forms w (else_block body) = IsTypedBlock forms w body
+
+  pub IsTypedBlock : Forms → Where → Block → Type 0
+  IsTypedBlock forms w no_statement = Unit {0}
+  IsTypedBlock forms w (then_statement (a_statement line form) rest) =
+      IsTypedForm forms (on_line w line) form × IsTypedBlock forms (after_form w form) rest
+
+-- ---- counting
+
+-- how many numbers there are from one to below another
+pub record CountsDown : Type 0 where
+  pub none : (a b : ℤ) → distance a b ≡ 0 → int_lt a b ≡ false
+  pub some : (k : ℕ) (a b : ℤ) → distance a b ≡ suc k →
+      (int_lt a b ≡ true) × (distance (a +ℤ pos 1) b ≡ k)
