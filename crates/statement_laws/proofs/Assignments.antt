@@ -108,7 +108,7 @@ reduced_is m unknown_type o old v e is = absurd cc
 -- ---- places of names
 
 -- bindings of one place are one binding
-same_place : (names : List Bound) → ArePlaced names → (i j : ℕ) → (bound_as names i).place ≡ (bound_as names j).place →
+pub same_place : (names : List Bound) → ArePlaced names → (i j : ℕ) → (bound_as names i).place ≡ (bound_as names j).place →
     (bound_as names i ≡ bound_as names j) ⊎ ((bound_as names i ≡ unbound) ⊎ (bound_as names j ≡ unbound))
 same_place [] placed i j e = inl refl
 same_place (b ∷ bs) placed i j e = here (b.number == i) (b.number == j) e (same_place bs placed.1 i j)

@@ -1,0 +1,186 @@
+-- Statements that change no name and no root: assertions, prints, calls, and what is returned.
+use Rattle.std.proofs.Common.{List, [], ◌∷◌, None, Option, Some, false, true, refl, sym, subst, ◌≡◌, map}
+use Rattle.std.proofs.lemmas.Bool.{not-false, or_parts}
+use Rattle.std.proofs.lemmas.List.Elements.{All-nil}
+use Rattle.std.specs.List.{All}
+use Rattle.std.specs.Option.{option_or}
+use Rattle.std.specs.Prelude.{is_none, is_some, ℕ, ◌++◌}
+use Rattle.plain_values.proofs.Plain.{option_or_parts}
+use Rattle.regent_tree.specs.Accesses.{converted, space_in}
+use Rattle.regent_tree.specs.Evaluation.{called, typed, value, values}
+use Rattle.regent_tree.specs.Execution.{changing, goes_on, returned}
+use Rattle.regent_tree.specs.Laws.{Shape}
+use Rattle.regent_tree.specs.Limits.{KeepsLimit, parts_of_expression, parts_of_expressions}
+use Rattle.regent_tree.specs.Printing.{printed}
+use Rattle.regent_tree.specs.Running.{Here, State, fault, given, if_true, ◌>>=◌}
+use Rattle.regent_tree.specs.Scopes.{Scope}
+use Rattle.regent_tree.specs.StaticTypes.{task_named}
+use Rattle.regent_tree.specs.Syntax.{Expression, Expressions, Form, Name, TaskTree, Tree, an_expr, assert_form, call_form, no_expr, print_form, return_form}
+use Rattle.regent_tree.specs.Typing.{params_at, result_type}
+use Rattle.regent_tree.specs.Values.{Value, a_truth, number_of, truth_of}
+use Rattle.regent_tree.specs.declared.outcome.FaultKind.TheVariants.{AssertFailed}
+use Rattle.regent_tree.specs.declared.types.NumberTerm.TheVariants as number
+use Rattle.regent_tree.specs.declared.types.TypeTerm.{TypeTerm}
+use Rattle.regent_tree.specs.declared.types.TypeTerm.TheVariants as typed_as
+use Rattle.regent_tree.specs.declared.typing.StaticType.TheVariants.{Unknown as unknown_type}
+use Rattle.check_rules.specs.Breaches.{has_no_type, wrong_initializer_at}
+use Rattle.check_rules.specs.rules.Formats.{misprints_form}
+use Rattle.check_rules.specs.rules.Names.{unbound_name_in_form}
+use Rattle.check_rules.specs.rules.Privileges.{lacks, reductions_by, writes_by}
+use Rattle.check_rules.specs.rules.Targets.{mistargets_form}
+use Rattle.check_rules.specs.scopes.Visits.{call_of_form, declared_at, heads_of, initializer_at}
+use Rattle.check_rules.proofs.Untold.{rule_none}
+use Rattle.check_rules.specs.first.FirstInExpressions.{first_in_args, first_in_expression, first_in_type, first_of_call, first_of_standing}
+use Rattle.check_rules.specs.first.FirstInStatements.{first_in_targets, first_of_form, first_of_initializer}
+use Rattle.check_rules.specs.first.Rules.{first_in, rule_if}
+use Rattle.check_rules.specs.rules.Results.{misreturns}
+use Rattle.check_rules.specs.rules.Standing.{stands, typed_spot}
+use Rattle.check_rules.specs.rules.Statements.{known_result, standing_in_form}
+use Rattle.check_rules.specs.rules.Types.{is_ill_typed_at_place}
+use Rattle.check_rules.specs.types.Parts.{listed}
+use Rattle.check_rules.specs.types.Declarations.{is_no_result_type}
+use Rattle.check_rules.specs.types.Fitting.{fits, fits_known}
+use Rattle.check_rules.specs.types.KnownTypes.{known_type, known_types}
+use Rattle.check_rules.specs.types.TypedForms.{calling}
+use Rattle.check_rules.specs.declared.rule.Rule.TheVariants as rule
+use Rattle.check_laws.proofs.Parts.{contrary}
+use Rattle.check_laws.proofs.Variables.{parts_of_form}
+use Rattle.expression_laws.specs.Writing.{AreWritten, IsWritten}
+use Rattle.statement_laws.proofs.Leaves.{form_parts}
+use Rattle.state_laws.specs.Going.{IsPlaceOfRun}
+use Rattle.state_laws.specs.Laws.{FormFits}
+use Rattle.state_laws.proofs.Going.{either_fits, state_here, store_here, then_fits}
+use Rattle.value_laws.specs.Fitting.{Fits, IsGoal, fits_index, fits_integer, fits_nothing, fits_truth}
+use Rattle.value_laws.specs.Keeping.{KeepsFit, StateFits}
+use Rattle.value_laws.proofs.Conversions.{converted_fits}
+use Rattle.value_laws.proofs.Ends.{after}
+use Rattle.value_laws.proofs.Limits.{all_left, all_right}
+use Rattle.value_laws.proofs.Types.{known, known_meant}
+use Rattle.value_laws.proofs.Values.{call_is, called_fits, value_is}
+
+-- arguments of which nothing is told, in a list or not
+args_told : (tree : Tree) (task : TaskTree) (s : Scope) (es : Expressions) → first_in (first_in_expression tree task s) (listed es) ≡ None → first_in_args tree task s es ≡ None
+args_told tree task s no_expr e = refl
+args_told tree task s (an_expr y es) e =
+    let parts = option_or_parts (first_in_expression tree task s y) _ e in
+    λ j. option_or (parts.0 j) (args_told tree task s es parts.1 j)
+
+-- what fits a result type needs no roots and no names
+pub result_anywhere : (tree : Tree) (r : Option TypeTerm) (roots : List Shape) (names : _) (v : Value) → is_no_result_type r ≡ false →
+    Fits roots names (result_type tree r) v → Fits [] [] (result_type tree r) v
+result_anywhere tree None roots names v e is = fits_nothing
+result_anywhere tree (Some (typed_as.Number number.Int32)) roots names v e (fits_integer f) = fits_integer f
+result_anywhere tree (Some (typed_as.Number number.Int64)) roots names v e (fits_integer f) = fits_integer f
+result_anywhere tree (Some (typed_as.Number (number.Index k))) roots names v e (fits_index f) = fits_index f
+result_anywhere tree (Some typed_as.Truth) roots names v e fits_truth = fits_truth
+result_anywhere tree (Some (typed_as.Pointer p)) roots names v e is = absurd (contrary e)
+result_anywhere tree (Some (typed_as.Ispace k)) roots names v e is = absurd (contrary e)
+result_anywhere tree (Some (typed_as.Region k u)) roots names v e is = absurd (contrary e)
+result_anywhere tree (Some (typed_as.Partition d r c)) roots names v e is = absurd (contrary e)
+
+-- a value that fits a known result type fits the type
+result_fits : (tree : Tree) (r : Option TypeTerm) (from : _) (known : _) → is_no_result_type r ≡ false → (r ≡ None → ⊥) → fits known from (known_result tree r) ≡ true →
+    fits_known known from (result_type tree r) ≡ true
+result_fits tree None from known e some f = absurd (some refl)
+result_fits tree (Some (typed_as.Number number.Int32)) from known e some f = f
+result_fits tree (Some (typed_as.Number number.Int64)) from known e some f = f
+result_fits tree (Some (typed_as.Number (number.Index k))) from known e some f = f
+result_fits tree (Some typed_as.Truth) from known e some f = f
+result_fits tree (Some (typed_as.Pointer p)) from known e some f = absurd (contrary e)
+result_fits tree (Some (typed_as.Ispace k)) from known e some f = absurd (contrary e)
+result_fits tree (Some (typed_as.Region k u)) from known e some f = absurd (contrary e)
+result_fits tree (Some (typed_as.Partition d r c)) from known e some f = absurd (contrary e)
+
+return_told : (tree : Tree) (task : TaskTree) (s : Scope) (form : Form) → first_of_form tree task s form ≡ None → misreturns task form ≡ false
+return_told tree task s form e =
+    let a = option_or_parts (first_in (first_in_type tree s.names) (declared_at form)) _ e in
+    let b = option_or_parts (rule_if (has_no_type form) rule.Type) _ a.1 in
+    let c = option_or_parts (first_in (first_in_expression tree task s) (heads_of s.names form)) _ b.1 in
+    let d = option_or_parts (first_in_targets tree task s form) _ c.1 in
+    let f = option_or_parts (rule_if (unbound_name_in_form tree s.names form) rule.Name) _ d.1 in
+    let g = option_or_parts (first_in (first_of_initializer tree task s) (initializer_at form)) _ f.1 in
+    let h = option_or_parts (first_in (first_of_call tree task s) (call_of_form tree s form)) _ g.1 in
+    let i = option_or_parts (first_in (first_of_standing s.known) (standing_in_form tree task s form)) _ h.1 in
+    let k = option_or_parts (rule_if (wrong_initializer_at tree s form) rule.Place) _ i.1 in
+    let l = option_or_parts (rule_if (mistargets_form tree task s form) rule.Target) _ k.1 in
+    let p = option_or_parts (rule_if (misprints_form tree s form) rule.Format) _ l.1 in
+    let w = option_or_parts (rule_if (lacks tree task s (writes_by tree s form)) rule.Write) _ p.1 in
+    let r = option_or_parts (rule_if (lacks tree task s (reductions_by tree s form)) rule.Reduce) _ w.1 in
+    rule_none (misreturns task form) rule.Return (option_or_parts (rule_if (misreturns task form) rule.Return) _ r.1).0
+
+module _ (task : TaskTree) where
+  -- ---- expressions in statements
+
+  pub evaluates : (roots : List Shape) (h : Here) (r : IsPlaceOfRun task roots h) (y : Expression) → IsWritten y → All KeepsLimit (parts_of_expression y) →
+      first_in_expression h.tree task h.scope y ≡ None → (u : State) → StateFits h.tree roots h.scope.names u →
+      KeepsFit h.tree roots h.scope.names (Fits roots h.scope.names (typed h y)) (value h y u)
+  evaluates roots h r y wr limits told u st = value_is task roots h r.place y wr limits told u st
+
+  pub assert_fits : (y : Expression) → FormFits task (assert_form y)
+  assert_fits y roots h r e w wr limits u st =
+      let parts = form_parts h.tree task h.scope (assert_form y) e in
+      then_fits h.tree roots r.place.rooted h.scope.names h.scope.names h.result (value h y u) (λ v. if_true (truth_of v) (given goes_on) (fault h AssertFailed))
+      (evaluates roots h r y wr limits (option_or_parts (first_in_expression h.tree task h.scope y) _ parts.heads).0 u st) (λ v w st is.
+      either_fits h.tree roots r.place.rooted h.scope.names h.result (truth_of v) (given goes_on) (fault h AssertFailed) w
+      (state_here h.tree roots r.place.rooted h.scope.names w st) (store_here h.tree roots r.place.rooted w.store st.store))
+
+  -- values that aren't converted
+  values_any : (roots : List Shape) (h : Here) (r : IsPlaceOfRun task roots h) (es : Expressions) → AreWritten es → All KeepsLimit (parts_of_expressions es) →
+      first_in_args h.tree task h.scope es ≡ None → (u : State) → StateFits h.tree roots h.scope.names u →
+      KeepsFit h.tree roots h.scope.names (λ vs. Unit {0}) (values h [] es u)
+  values_any roots h r no_expr wr limits told u st = (st, tt)
+  values_any roots h r (an_expr y es) wr limits told u st =
+      let parts = option_or_parts (first_in_expression h.tree task h.scope y) _ told in
+      after (λ vs. Unit {0}) (value h y u) (λ v. converted h (typed h y) unknown_type [] v >>= λ a. values h [] es >>= λ vs. given (a ∷ vs))
+      (evaluates roots h r y wr.0 (all_left KeepsLimit (parts_of_expression y) (parts_of_expressions es) limits) parts.0 u st) (λ v w st is.
+      after (λ vs. Unit {0}) (values h [] es w) (λ vs. given (v ∷ vs))
+      (values_any roots h r es wr.1 (all_right KeepsLimit (parts_of_expression y) (parts_of_expressions es) limits) parts.1 w st) (λ vs w st is. (st, tt)))
+
+  pub print_fits : (alias : Option Name) (format : List ℕ) (es : Expressions) → FormFits task (print_form alias format es)
+  print_fits alias format es roots h r e w wr limits u st =
+      let parts = form_parts h.tree task h.scope (print_form alias format es) e in
+      then_fits h.tree roots r.place.rooted h.scope.names h.scope.names h.result (values h [] es u) (λ vs. changing (λ s. record s { text = s.text ++ printed format (map number_of vs) }))
+      (values_any roots h r es wr limits (args_told h.tree task h.scope es parts.heads) u st) (λ vs w st is.
+      state_here h.tree roots r.place.rooted h.scope.names (record w { text = w.text ++ printed format (map number_of vs) })
+      (record { names = st.names; counted = st.counted; store = st.store }))
+
+  pub call_fits : (f : Name) (es : Expressions) → FormFits task (call_form f es)
+  call_fits f es roots h r e w wr limits u st =
+      let parts = form_parts h.tree task h.scope (call_form f es) e in
+      let types = params_at h.tree h.scope (task_named h.tree f) es in
+      then_fits h.tree roots r.place.rooted h.scope.names h.scope.names h.result (values h types es u) (λ vs. called h f vs >>= λ v. given goes_on)
+      (call_is task roots h r.place f es wr limits (args_told h.tree task h.scope es parts.heads)
+      (option_or_parts (first_of_call h.tree task h.scope (calling f (known_types h.tree h.scope es))) _ parts.calls).0 u st) (λ vs w st are.
+      then_fits h.tree roots r.place.rooted h.scope.names h.scope.names h.result (called h f vs w) (λ v. given goes_on)
+      (called_fits task roots h r.place f vs w st are) (λ v w st is. state_here h.tree roots r.place.rooted h.scope.names w st))
+
+  pub return_fits : (y : Option Expression) → FormFits task (return_form y)
+  return_fits None roots h r e w wr limits u st = (
+    store_here h.tree roots r.place.rooted u.store st.store,
+    subst (λ t. Fits [] [] t (a_truth false)) (sym r.result) (none task.result (return_told h.tree task h.scope (return_form None) e)),
+  )
+    where
+      none : (q : Option TypeTerm) → is_some q ≡ false → Fits [] [] (result_type h.tree q) (a_truth false)
+      none None e = fits_nothing
+      none (Some t) e = absurd (contrary e)
+  return_fits (Some y) roots h r e w wr limits u st =
+      let parts = form_parts h.tree task h.scope (return_form (Some y)) e in
+      let told = (option_or_parts (first_in_expression h.tree task h.scope y) _ parts.heads).0 in
+      let k = known task roots h r.place y told in
+      let stood = (or_parts (is_ill_typed_at_place h.scope.known (stands (known_type h.tree h.scope y) (typed_spot (known_result h.tree task.result)))) false
+      (parts_of_form h.tree task h.scope r.place.sound r.place.scope (return_form (Some y)) e).4).0 in
+      let fit = result_fits h.tree task.result (known_type h.tree h.scope y) h.scope.known r.sound_result (some_there task.result (return_told h.tree task h.scope (return_form (Some y)) e)) (not-false _ stood) in
+      then_fits h.tree roots r.place.rooted h.scope.names h.scope.names h.result (value h y u) (λ v. converted h (typed h y) h.result [] v >>= λ a. given (returned a))
+      (evaluates roots h r y wr limits told u st) (λ v w st is.
+      then_fits h.tree roots r.place.rooted h.scope.names h.scope.names h.result (converted h (typed h y) h.result [] v w) (λ a. given (returned a))
+      (converted_fits h.tree roots h.scope.names h (typed h y) h.result [] v w (known_meant task roots h r.place y told).known
+      (subst (λ t. fits_known h.scope.known t h.result ≡ true) k.1 (subst (λ t. fits_known h.scope.known (known_type h.tree h.scope y) t ≡ true) (sym r.result) fit))
+      (All-nil (IsGoal roots (space_in h.result))) is st) (λ a w st is. (
+        store_here h.tree roots r.place.rooted w.store st.store,
+        subst (λ t. Fits [] [] t a) (sym r.result)
+            (result_anywhere h.tree task.result roots h.scope.names a r.sound_result (subst (λ t. Fits roots h.scope.names t a) r.result is)),
+      )))
+    where
+      some_there : (q : Option TypeTerm) → is_none q ≡ false → q ≡ None → ⊥
+      some_there None e same = absurd (contrary e)
+      some_there (Some t) e same = absurd cc

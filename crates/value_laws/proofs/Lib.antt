@@ -1,0 +1,14 @@
+pub mod Numbers
+pub mod Ends
+pub mod Regions
+pub mod Spaced
+pub mod Operators
+pub mod Conversions
+pub mod Kept
+pub mod Accesses
+pub mod Limits
+pub mod Types
+pub mod Parameters
+pub mod Calls
+pub mod Values
+pub mod Laws
