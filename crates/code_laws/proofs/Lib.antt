@@ -32,6 +32,9 @@ pub mod Typing
 pub mod TypedStatements
 pub mod TypedBlocks
 pub mod ScalarRuns
+pub mod LocalTypes
+pub mod LocalNames
+pub mod LocalExpressions
 pub mod Example
 pub mod RegionExample
 pub mod CallExample

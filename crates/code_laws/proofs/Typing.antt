@@ -143,7 +143,7 @@ kept_right ps qs k p h = k p (Has-append_right ps qs p h)
 pub kept_behind : (p : Part) (ps : List Part) → AreKept (p ∷ ps) → AreKept ps
 kept_behind p ps k q h = k q (inr h)
 
-literal_fits : (z : ℤ) (w : Width) → KeepsLimit (literal z w) → FitsWidth w z
+pub literal_fits : (z : ℤ) (w : Width) → KeepsLimit (literal z w) → FitsWidth w z
 literal_fits z W32 k = subst (FitsWidth W32) (sym k.1) (small k.0 k.2)
   where
     small : (n : ℕ) → n ≤ greatest_literal W32 → FitsWidth W32 (pos n)
@@ -183,7 +183,7 @@ one_sign _ Not signs scalar_truth fit e = not_before signs fit
 one_sign _ Minus signs (scalar_integer w) fit e = minus_before w signs fit
 one_sign _ Minus signs scalar_truth fit e = absurd (no_way_back (stands_well [] truth_type number_spot e))
 
-signs_fit : (t : StaticType) (signs : List Sign) → IsScalar t → first_of_signs signs t ≡ None → SignsFit t signs
+pub signs_fit : (t : StaticType) (signs : List Sign) → IsScalar t → first_of_signs signs t ≡ None → SignsFit t signs
 signs_fit t [] scalar e = no_signs t scalar
 signs_fit t (sign ∷ signs) scalar e =
     let told = option_or_parts (first_of_signs signs t) _ e in
@@ -191,7 +191,7 @@ signs_fit t (sign ∷ signs) scalar e =
     one_sign t sign signs scalar fit
     (subst (λ u. first_of_standing [] (stands u (spot_of_sign sign)) ≡ None) (signs_same t signs fit) told.1)
 
-signed_scalar : (t : StaticType) (signs : List Sign) → SignsFit t signs → IsScalar (signed_type signs t)
+pub signed_scalar : (t : StaticType) (signs : List Sign) → SignsFit t signs → IsScalar (signed_type signs t)
 signed_scalar _ _ of_a_truth = scalar_truth
 signed_scalar _ _ (of_an_integer w) = scalar_integer w
 signed_scalar _ _ (not_before ss fit) = scalar_truth
@@ -199,16 +199,16 @@ signed_scalar _ _ (minus_before w ss fit) = scalar_integer w
 
 -- ---- conversions and operators
 
-integer_term : (t : NumberTerm) → is_scalar_number t ≡ true → IsIntegerTerm t
+pub integer_term : (t : NumberTerm) → is_scalar_number t ≡ true → IsIntegerTerm t
 integer_term number.Int32 e = term_32
 integer_term number.Int64 e = term_64
 integer_term (number.Index k) e = absurd (no_way_back e)
 
-number_scalar : (t : NumberTerm) → IsIntegerTerm t → IsScalar (number_type t)
+pub number_scalar : (t : NumberTerm) → IsIntegerTerm t → IsScalar (number_type t)
 number_scalar _ term_32 = scalar_integer W32
 number_scalar _ term_64 = scalar_integer W64
 
-operates : (o : Operator) (t u : StaticType) → first_of_operator (computing o t u) ≡ None →
+pub operates : (o : Operator) (t u : StaticType) → first_of_operator (computing o t u) ≡ None →
     operates_on o t u ≡ true
 operates o t u e =
     let told = option_or_parts _ _ e in

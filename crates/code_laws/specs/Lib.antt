@@ -4,6 +4,8 @@ pub mod Standing
 pub mod Typed
 pub mod Programs
 pub mod ScalarPrograms
+pub mod LocalForm
+pub mod LocalPrograms
 pub mod Example
 pub mod RegionExample
 pub mod CallExample
