@@ -29,12 +29,14 @@ pub mod Segments
 pub mod Tasks
 pub mod Top
 pub mod Typing
+pub mod LocalTypes
 pub mod TypedStatements
 pub mod TypedBlocks
 pub mod ScalarRuns
-pub mod LocalTypes
 pub mod LocalNames
 pub mod LocalExpressions
+pub mod LocalStatements
+pub mod LocalBlocks
 pub mod Example
 pub mod RegionExample
 pub mod CallExample

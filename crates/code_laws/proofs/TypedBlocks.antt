@@ -22,7 +22,7 @@ use Rattle.check_rules.specs.first.FirstInExpressions.{first_in_expression}
 use Rattle.check_rules.specs.first.FirstInStatements.{first_in_arms, first_in_block, first_in_else, first_of_form, first_within}
 use Rattle.check_rules.specs.first.Rules.{first_in, rule_if}
 use Rattle.check_rules.specs.scopes.Variables.{declared_type, is_flawed_initializer, known_initializer}
-use Rattle.code_laws.proofs.TypedStatements.{count_types, counted, declared_fits, initial_told, listed_told, owned_is, owned_scalar, said_scalar, sum_scalar, told_later, first_stands, result_fits}
+use Rattle.code_laws.proofs.TypedStatements.{count_types, counted, declared_fits, initial_told, listed_told, no_partition, owned_is, owned_scalar, said_scalar, sum_scalar, told_later, first_stands, result_fits}
 use Rattle.check_laws.proofs.Blocks.{count_scope, head_known}
 use Rattle.check_laws.proofs.Variables.{begun_sound, target_of_form, parts_of_form as told_of_form}
 use Rattle.code_laws.proofs.Names.{arms_names, else_names}
@@ -66,7 +66,7 @@ module _ (tree : Tree) (task : TaskTree) (sound : IsSound tree) (params : ℕ) (
       IsTypedForm scalar_forms (at s line) (var_form n t i) × IsScalar (var_type tree s t i)
   var_typed s line n None None sc k scope names e = absurd (no_way (told_of_form tree task s sound scope (var_form n None None) e).1)
   var_typed s line n None (Some (plain_initializer y)) sc k scope names e =
-      let told = initial_told tree task s names y (told_of_form tree task s sound scope (var_form n None (Some (plain_initializer y))) e).2 in
+      let told = initial_told tree task s (no_partition s.names names) y (told_of_form tree task s sound scope (var_form n None (Some (plain_initializer y))) e).2 in
       let a = headed s line y sc k scope names told in
       ((scalar_simple _ a.scalar, a.is), owned_scalar s.next (type_of tree s y) a.scalar)
   var_typed s line n (Some t) None sc k scope names e =
@@ -75,14 +75,14 @@ module _ (tree : Tree) (task : TaskTree) (sound : IsSound tree) (params : ℕ) (
       let form = var_form n (Some t) (Some (plain_initializer y)) in
       let both = and_parts (is_scalar_term t) (is_scalar_expression y) sc in
       let parts = told_of_form tree task s sound scope form e in
-      let told = initial_told tree task s names y parts.2 in
+      let told = initial_told tree task s (no_partition s.names names) y parts.2 in
       let a = headed s line y both.1 (kept_right (parts_of_type (Some t)) (parts_of_expression y) k) scope names told in
       let from = type_of tree s y in
       let begun : known_initializer tree s (plain_initializer y) ≡ from =
       unless_false (is_flawed_initializer tree s (plain_initializer y)) (owned s.next from)
       (begun_sound tree task s sound scope n (Some t) (plain_initializer y) e).0 ∙ owned_is s.next from a.scalar in
       let fit = (first_stands s.known (stands (known_initializer tree s (plain_initializer y)) (typed_spot (declared_type tree s t))) [] parts.4).0 in
-      let alike = declared_fits tree s t from both.0 a.scalar (ap (λ u. fits s.known u (declared_type tree s t)) (sym begun) ∙ fit) in
+      let alike = declared_fits tree s t from both.0 (scalar_simple from a.scalar) (ap (λ u. fits s.known u (declared_type tree s t)) (sym begun) ∙ fit) in
       ((alike, a.is), said_scalar tree s s.next t both.0)
   var_typed s line n None (Some (region_initializer _ _)) sc k scope names e = absurd (no_way_back sc)
   var_typed s line n None (Some (equal_initializer _ _)) sc k scope names e = absurd (no_way_back sc)
@@ -157,7 +157,7 @@ module _ (tree : Tree) (task : TaskTree) (sound : IsSound tree) (params : ℕ) (
       let a = headed s line y sc k scope names told in
       let fit = stands_as s y (typed_spot (known_result tree task.result)) scope told
       (first_stands s.known (stands (known_type tree s y) (typed_spot (known_result tree task.result))) [] parts.4).0 in
-      (result_fits tree s.known task.result (type_of tree s y) result (told_later tree task s form e).2 a.scalar fit, a.is)
+      (result_fits tree s.known task.result (type_of tree s y) result (told_later tree task s form e).2 (scalar_simple _ a.scalar) fit, a.is)
 
   test_typed : (s : Scope) (line : ℕ) (y : Expression) → is_scalar_expression y ≡ true → AreKept (parts_of_expression y) → IsSoundScope s →
       AllScalar s.names → first_in_expression tree task s y ≡ None → may_stand s.known (stands (known_type tree s y) truth_spot) ≡ true →

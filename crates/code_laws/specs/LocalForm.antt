@@ -67,8 +67,8 @@ abbrev mutual
 -- ---- statements
 
 -- A variable of a written type is a number or truth. One without it begins with region(..), and its name is a
--- region's; or with an expression, and where that may give an index or index space, so may the name. Such a name
--- isn't assigned.
+-- region's; or with an expression, and where that may give an index or index space, so may the name. None of these
+-- is assigned.
 abbrev mutual
   pub is_local_form : Marked → Form → Bool
   is_local_form m (var_form n (Some t) None) = is_scalar_term t
@@ -87,7 +87,8 @@ abbrev mutual
   is_local_form m (assert_form e) = is_local_expression m e
   is_local_form m (print_form alias format args) = are_local_expressions m args
   is_local_form m (call_form task args) = are_local_expressions m args
-  is_local_form m (assign_form n no_step how.Set e) = not (is_among m.indices n) && is_local_expression m e
+  is_local_form m (assign_form n no_step how.Set e) =
+      not (is_among m.regions n) && (not (is_among m.indices n) && is_local_expression m e)
   is_local_form m (assign_form n no_step (how.Reduce o) e) = is_local_expression m e
   is_local_form m (assign_form n (at_step e (field_step f no_step)) h y) =
       is_local_expression m e && is_local_expression m y
