@@ -37,6 +37,8 @@ pub mod LocalNames
 pub mod LocalExpressions
 pub mod LocalStatements
 pub mod LocalBlocks
+pub mod LocalTrees
+pub mod LocalRuns
 pub mod Example
 pub mod RegionExample
 pub mod CallExample

@@ -52,15 +52,15 @@ use Rattle.plain_values.proofs.Plain.{option_or_parts}
 -- ---- the entry task
 
 -- the items of a list are such
-all_of : (p : ItemTree → Bool) (items : Tree) → list_all p items ≡ true → (i : ItemTree) → Has items i → p i ≡ true
+pub all_of : (p : ItemTree → Bool) (items : Tree) → list_all p items ≡ true → (i : ItemTree) → Has items i → p i ≡ true
 all_of p [] e i h = absurd h
 all_of p (j ∷ items) e i (inl same) = subst (λ k. p k ≡ true) same (and_parts (p j) (list_all p items) e).0
 all_of p (j ∷ items) e i (inr h) = all_of p items (and_parts (p j) (list_all p items) e).1 i h
 
 -- a task that is there
-record IsFound (tree : Tree) (n : Name) : Type 0 where
-  stands : (item : ItemTree) × Has tree item × (item.form ≡ task_item (task_named tree n))
-  at : slice_get (tasks_of tree) (place_of_task tree n) ≡ Some (task_named tree n)
+pub record IsFound (tree : Tree) (n : Name) : Type 0 where
+  pub stands : (item : ItemTree) × Has tree item × (item.form ≡ task_item (task_named tree n))
+  pub at : slice_get (tasks_of tree) (place_of_task tree n) ≡ Some (task_named tree n)
 
 module _ (n : Name) where
   later : (i : ItemTree) (items : Tree) → task_named (i ∷ items) n ≡ task_named items n → tasks_of (i ∷ items) ≡ tasks_of items →
@@ -96,7 +96,7 @@ module _ (n : Name) where
   by_form line (start_item m) items e more = later (record { line = line; form = start_item m }) items refl refl refl (more e)
   by_form line (task_item t) items e more = chosen line t items (bytes_eq t.name n) refl e more
 
-  found : (tree : Tree) → has_task tree n ≡ true → IsFound tree n
+  pub found : (tree : Tree) → has_task tree n ≡ true → IsFound tree n
   found [] e = absurd (no_way_back e)
   found (i ∷ items) e = by_form i.line i.form items e (found items)
 
@@ -153,15 +153,15 @@ integers_said (p ∷ ps) e = chosen (is_integer_term p.term) e (integers_said ps
     chosen true e more = more e
     chosen false e more = absurd cc
 
-record BeginsWell (tree : Tree) : Type 0 where
-  there : has_task tree (entry_name tree) ≡ true
-  integers : list_all (λ (p : Param). is_integer_term p.term) (task_named tree (entry_name tree)).params ≡ true
+pub record BeginsWell (tree : Tree) : Type 0 where
+  pub there : has_task tree (entry_name tree) ≡ true
+  pub integers : list_all (λ (p : Param). is_integer_term p.term) (task_named tree (entry_name tree)).params ≡ true
 
 no_line : (r : Rule) (lines : List ℕ) → first_line r lines ≡ None → lines ≡ []
 no_line r [] e = refl
 no_line r (l ∷ ls) e = absurd cc
 
-begins : (tree : Tree) → breaches tree ≡ [] → BeginsWell tree
+pub begins : (tree : Tree) → breaches tree ≡ [] → BeginsWell tree
 begins tree none =
     let a = option_or_parts (first_repeated tree) _ ((none_without_first tree).1 none) in
     let b = option_or_parts (first_line rule.Start (wrong_entry_lines tree)) _ a.1 in
@@ -173,11 +173,11 @@ begins tree none =
 
 -- ---- types of parameters
 
-abbrev AllIntegers : List StaticType → Type 0
+abbrev pub AllIntegers : List StaticType → Type 0
 AllIntegers [] = Unit {0}
 AllIntegers (t ∷ ts) = IsInteger t × AllIntegers ts
 
-abbrev AreIntegers : List Bound → Type 0
+abbrev pub AreIntegers : List Bound → Type 0
 AreIntegers [] = Unit {0}
 AreIntegers (b ∷ bs) = IsInteger b.static_type × AreIntegers bs
 
@@ -199,7 +199,7 @@ integer_said tree look own (term.Ispace k) e = absurd (no_way_back e)
 integer_said tree look own (term.Region k u) e = absurd (no_way_back e)
 integer_said tree look own (term.Partition d r c) e = absurd (no_way_back e)
 
-params_integers : (tree : Tree) (all : List Param) (i : ℕ) (ps : List Param) → list_all (λ (p : Param). is_integer_term p.term) ps ≡ true →
+pub params_integers : (tree : Tree) (all : List Param) (i : ℕ) (ps : List Param) → list_all (λ (p : Param). is_integer_term p.term) ps ≡ true →
     AreIntegers (bound_params tree all i ps)
 params_integers tree all i [] e = tt
 params_integers tree all i (p ∷ ps) e =
@@ -207,7 +207,7 @@ params_integers tree all i (p ∷ ps) e =
     integers_behind (bound_params tree all (suc i) ps) _ (params_integers tree all (suc i) ps both.1)
     (integer_said tree _ _ p.term both.0)
 
-types_integers : (bs : List Bound) → AreIntegers bs → AllIntegers (types_in bs)
+pub types_integers : (bs : List Bound) → AreIntegers bs → AllIntegers (types_in bs)
 types_integers [] a = tt
 types_integers (b ∷ bs) a = subst AllIntegers (sym (types_cons b bs)) (types_behind (types_in bs) b.static_type (types_integers bs a.1) a.0)
 
@@ -218,13 +218,13 @@ integers_scalar (b ∷ bs) a = (integer_scalar b.static_type a.0, integers_scala
 one_taken : (t : StaticType) (z : ℤ) → IsInteger t → FitsWidth (width_of_type t) z → IsOf t (a_number (width_of_type t) z)
 one_taken _ z (an_integer w) f = of_integer w z f
 
-inputs_taken : (ts : List StaticType) (zs : List ℤ) → AllIntegers ts → AreInputs (map width_of_type ts) zs → AreTaken IsOf ts (inputs_of ts zs)
+pub inputs_taken : (ts : List StaticType) (zs : List ℤ) → AllIntegers ts → AreInputs (map width_of_type ts) zs → AreTaken IsOf ts (inputs_of ts zs)
 inputs_taken [] [] a i = tt
 inputs_taken [] (z ∷ zs) a i = absurd i
 inputs_taken (t ∷ ts) [] a i = absurd i
 inputs_taken (t ∷ ts) (z ∷ zs) a i = (one_taken t z a.0 i.0, inputs_taken ts zs a.1 i.1)
 
-inputs_count : (ws : List Width) (zs : List ℤ) → AreInputs ws zs → length zs ≡ length ws
+pub inputs_count : (ws : List Width) (zs : List ℤ) → AreInputs ws zs → length zs ≡ length ws
 inputs_count [] [] i = refl
 inputs_count [] (z ∷ zs) i = absurd i
 inputs_count (w ∷ ws) [] i = absurd i
@@ -232,12 +232,12 @@ inputs_count (w ∷ ws) (z ∷ zs) i = ap suc (inputs_count ws zs i.1)
 
 -- ---- limits
 
-kept_all : (ps : List Part) → All KeepsLimit ps → AreKept ps
+pub kept_all : (ps : List Part) → All KeepsLimit ps → AreKept ps
 kept_all [] a p h = absurd h
 kept_all (q ∷ ps) a p (inl same) = subst KeepsLimit same (a 0 q (omega (arith)))
 kept_all (q ∷ ps) a p (inr h) = kept_all ps (λ k d l. a (suc k) d (omega (arith, l))) p h
 
-kept_item : (items : Tree) → AreKept (parts_of_items items) → (i : ItemTree) → Has items i → AreKept (parts_of_item i.form)
+pub kept_item : (items : Tree) → AreKept (parts_of_items items) → (i : ItemTree) → Has items i → AreKept (parts_of_item i.form)
 kept_item [] k i h = absurd h
 kept_item (j ∷ items) k i (inl same) =
     subst (λ (x : ItemTree). AreKept (parts_of_item x.form)) same (kept_left (parts_of_item j.form) (parts_of_items items) k)
@@ -245,7 +245,7 @@ kept_item (j ∷ items) k i (inr h) = kept_item items (kept_right (parts_of_item
 
 -- ---- the law
 
-no_clauses : (tree : Tree) (t : TaskTree) → is_empty t.clauses ≡ true → (task_code tree t).needs ≡ []
+pub no_clauses : (tree : Tree) (t : TaskTree) → is_empty t.clauses ≡ true → (task_code tree t).needs ≡ []
 no_clauses tree t e = by_clauses t.clauses e
   where
     by_clauses : (cs : List Clause) → is_empty cs ≡ true → needs_of_clauses tree t cs ≡ []
@@ -253,11 +253,9 @@ no_clauses tree t e = by_clauses t.clauses e
     by_clauses (c ∷ cs) e = absurd (no_way_back e)
 
 -- the body of a task that is there is short
-short_body : (tree : Tree) (n : Name) → WithinLimits tree → slice_get (tasks_of tree) (place_of_task tree n) ≡ Some (task_named tree n) →
-    length (task_code tree (task_named tree n)).body < 2 ^ 32
-short_body tree n within at =
-    let t = task_named tree n in
-    let k = place_of_task tree n in
+pub short_body : (tree : Tree) (k : ℕ) (t : TaskTree) → WithinLimits tree → slice_get (tasks_of tree) k ≡ Some t →
+    length (task_code tree t).body < 2 ^ 32
+short_body tree k t within at =
     subst (λ u. length (task_code tree u).body < 2 ^ 32) (get_or_from_slice_get (tasks_of tree) k t t at)
     (bodies_are_short tree within k t (slice_get_within (tasks_of tree) k t at))
 
@@ -289,7 +287,7 @@ scalar_run tree inputs p =
       needs = no_clauses tree t three.0;
       typed = block_typed tree t told.sound (length t.params) two.0 (scope_of tree t) 0 t.body three.1 body told.scope
           (integers_scalar (scope_of tree t).names bound) told.told;
-      small = omega (arith, short_body tree main p.within f.at);
+      small = omega (arith, short_body tree (place_of_task tree main) t p.within f.at);
       taken = inputs_taken ts inputs (types_integers (scope_of tree t).names bound) p.numbers;
       count = inputs_count (input_widths tree) inputs p.numbers ∙ length-map ts width_of_type ∙ long;
     }

@@ -7,6 +7,7 @@ ghost use Rattle.code_laws.specs.CallExample.{CallExampleHolds};
 ghost use Rattle.code_laws.specs.Example.{ExampleHolds};
 ghost use Rattle.code_laws.specs.RegionExample.{RegionExampleHolds};
 ghost use Rattle.code_laws.specs.Programs.{CallsRunAsMeant, RegionsRunAsMeant, ScalarsRunAsMeant};
+ghost use Rattle.code_laws.specs.LocalPrograms.{LocalProgramsRunAsMeant};
 ghost use Rattle.code_laws.specs.ScalarPrograms.{ScalarProgramsLeaveNoRoots, ScalarProgramsRunAsMeant};
 
 /// Where the entry task's body is typed and treats scalars alone, the run in order of its code is what the
@@ -39,6 +40,13 @@ pub fn scalar_programs_run_as_meant()
 /// Such a program leaves no roots, and what it means is never broken.
 pub fn scalar_programs_leave_no_roots()
     ensures { ScalarProgramsLeaveNoRoots }
+{}
+
+/// So it is for each accepted program whose tasks keep their regions to themselves: each takes and gives numbers
+/// and truths, or nothing, and declares no privilege.
+#[tactic(auto, using(crate::proofs::LocalRuns::local_programs_run_as_meant))]
+pub fn local_programs_run_as_meant()
+    ensures { LocalProgramsRunAsMeant }
 {}
 
 /// A program that makes a root and has accesses of every kind: each premise of the law on regions holds of it,
