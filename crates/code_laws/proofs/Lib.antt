@@ -6,6 +6,7 @@ pub mod Places
 pub mod Counts
 pub mod Good
 pub mod Touching
+pub mod Shapes
 pub mod Reaching
 pub mod Accesses
 pub mod Writes

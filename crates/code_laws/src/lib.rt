@@ -7,7 +7,7 @@ ghost use Rattle.code_laws.specs.CallExample.{CallExampleHolds};
 ghost use Rattle.code_laws.specs.Example.{ExampleHolds};
 ghost use Rattle.code_laws.specs.RegionExample.{RegionExampleHolds};
 ghost use Rattle.code_laws.specs.Programs.{CallsRunAsMeant, RegionsRunAsMeant, ScalarsRunAsMeant};
-ghost use Rattle.code_laws.specs.LocalPrograms.{LocalProgramsRunAsMeant};
+ghost use Rattle.code_laws.specs.LocalPrograms.{LocalProgramsEndWell, LocalProgramsRunAsMeant};
 ghost use Rattle.code_laws.specs.ScalarPrograms.{ScalarProgramsLeaveNoRoots, ScalarProgramsRunAsMeant};
 
 /// Where the entry task's body is typed and treats scalars alone, the run in order of its code is what the
@@ -47,6 +47,13 @@ pub fn scalar_programs_leave_no_roots()
 #[tactic(auto, using(crate::proofs::LocalRuns::local_programs_run_as_meant))]
 pub fn local_programs_run_as_meant()
     ensures { LocalProgramsRunAsMeant }
+{}
+
+/// Such a run is never broken, and the roots that it leaves are of the code's field spaces, so that they can be
+/// dumped.
+#[tactic(auto, using(crate::proofs::LocalRuns::local_programs_end_well))]
+pub fn local_programs_end_well()
+    ensures { LocalProgramsEndWell }
 {}
 
 /// A program that makes a root and has accesses of every kind: each premise of the law on regions holds of it,
