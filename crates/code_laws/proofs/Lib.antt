@@ -40,6 +40,7 @@ pub mod LocalStatements
 pub mod LocalBlocks
 pub mod LocalTrees
 pub mod LocalRuns
+pub mod LocalExample
 pub mod Example
 pub mod RegionExample
 pub mod CallExample

@@ -6,6 +6,7 @@ pub mod Programs
 pub mod ScalarPrograms
 pub mod LocalForm
 pub mod LocalPrograms
+pub mod LocalExample
 pub mod Example
 pub mod RegionExample
 pub mod CallExample

@@ -5,6 +5,7 @@
 
 ghost use Rattle.code_laws.specs.CallExample.{CallExampleHolds};
 ghost use Rattle.code_laws.specs.Example.{ExampleHolds};
+ghost use Rattle.code_laws.specs.LocalExample.{LocalExampleHolds};
 ghost use Rattle.code_laws.specs.RegionExample.{RegionExampleHolds};
 ghost use Rattle.code_laws.specs.Programs.{CallsRunAsMeant, RegionsRunAsMeant, ScalarsRunAsMeant};
 ghost use Rattle.code_laws.specs.LocalPrograms.{LocalProgramsEndWell, LocalProgramsRunAsMeant};
@@ -68,6 +69,13 @@ pub fn region_example_holds()
 #[tactic(auto, using(crate::proofs::CallExample::call_example_holds))]
 pub fn call_example_holds()
     ensures { CallExampleHolds }
+{}
+
+/// A histogram, with calls and regions, of which each premise of the law on such programs holds; with two inputs it
+/// means an end and a fault.
+#[tactic(auto, using(crate::proofs::LocalExample::local_example_holds))]
+pub fn local_example_holds()
+    ensures { LocalExampleHolds }
 {}
 
 /// A program and a number of which each premise of the law holds.
