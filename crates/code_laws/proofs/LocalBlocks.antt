@@ -1,12 +1,11 @@
 -- Bodies of a text with marked names, of which no breach is told, are typed.
-use Rattle.std.proofs.Common.{◌≡◌, List, [], ◌∷◌, ◌++◌, None, Option, Some, false, true, sym, subst, ℕ, ◌∙◌, not}
-use Rattle.std.specs.Prelude.{◌&&◌}
+use Rattle.std.proofs.Common.{◌≡◌, [], ◌∷◌, ◌++◌, None, Option, Some, false, true, sym, subst, ℕ, ◌∙◌}
 use Rattle.std.specs.List.{list_any}
 use Rattle.std.proofs.lemmas.Bool.{and_parts}
 use Rattle.plain_values.proofs.Plain.{option_or_parts}
 use Rattle.regent_tree.specs.Limits.{node, nodes, parts_of_arms, parts_of_block, parts_of_expression, parts_of_form, parts_of_otherwise}
 use Rattle.regent_tree.specs.Scopes.{Scope, past, with_name}
-use Rattle.regent_tree.specs.Syntax.{Arms, Block, Expression, Expressions, Form, Initializer, Name, Otherwise, Steps, TaskTree, Tree, a_statement, an_arm, assert_form, assign_form, at_step, both_initializer, by_field_initializer, call_form, do_form, either_initializer, else_block, equal_initializer, field_step, fill_form, for_in_form, for_to_form, if_form, image_initializer, no_arm, no_else, no_statement, no_step, plain_initializer, preimage_initializer, print_form, region_initializer, return_form, then_statement, var_form, while_form}
+use Rattle.regent_tree.specs.Syntax.{Arms, Block, Expression, Form, Initializer, Name, Otherwise, Steps, TaskTree, Tree, a_statement, an_arm, assert_form, assign_form, at_step, both_initializer, by_field_initializer, call_form, do_form, either_initializer, else_block, equal_initializer, field_step, fill_form, for_in_form, for_to_form, if_form, image_initializer, no_arm, no_else, no_statement, no_step, plain_initializer, preimage_initializer, print_form, region_initializer, return_form, then_statement, var_form, while_form}
 use Rattle.regent_tree.specs.Typing.{arithmetic_type, scope_after, scope_after_arms, scope_after_block, taken_from, type_of}
 use Rattle.regent_tree.specs.declared.statement.How.TheVariants as how
 use Rattle.regent_tree.specs.declared.types.TypeTerm.{TypeTerm}
@@ -30,12 +29,12 @@ use Rattle.code_laws.specs.LocalForm.{Marked, are_local_arms, is_among, is_local
 use Rattle.code_laws.specs.Programs.{call_forms}
 use Rattle.code_laws.specs.Simple.{IsSimple, IsSpace, a_space_type, simple_index}
 use Rattle.code_laws.specs.Typed.{AreTypedArms, IsTypedBlock, IsTypedElse, IsTypedForm}
-use Rattle.code_laws.proofs.LocalNames.{AllKept, IsKept, IsLocalTree, kept_index, kept_scalar}
+use Rattle.code_laws.proofs.LocalNames.{AllKept, IsLocalTree, kept_index, kept_scalar}
 use Rattle.code_laws.proofs.LocalStatements.{at, bound_local, call_local, domain_local, fill_local, plain_local, print_local, reduce_field_local, reduce_local, region_local, return_local, said_local, set_field_local, set_local, test_local}
 use Rattle.code_laws.proofs.LocalTypes.{term_scalar}
 use Rattle.code_laws.proofs.Names.{arms_names, else_names}
 use Rattle.code_laws.proofs.TypedStatements.{first_stands, sum_scalar}
-use Rattle.code_laws.proofs.Typing.{AreKept, kept_behind, kept_left, kept_right, no_way, no_way_back}
+use Rattle.code_laws.proofs.Typing.{AreKept, kept_behind, kept_left, kept_right, no_way_back}
 use Rattle.regent_tree.specs.Scopes.{in_scope}
 use Rattle.scalar_form.specs.ScalarForm.{is_scalar_if_said}
 

@@ -1,5 +1,5 @@
 -- The premises of the law hold of a program whose tasks keep their regions to themselves.
-use Rattle.std.proofs.Common.{◌≡◌, ◌≤◌, ◌<◌, Bool, ℕ, ℤ, List, [], ◌∷◌, true, false, refl, pos, negsuc, suc, arith}
+use Rattle.std.proofs.Common.{◌≡◌, Bool, List, true, false, refl, pos, negsuc, arith}
 use Rattle.std.proofs.lemmas.Bool.{leb-true}
 use Rattle.std.proofs.lemmas.Int.{ints}
 use Rattle.std.proofs.lemmas.List.Sums.{AllPass-from_list_all}
@@ -9,7 +9,6 @@ use Rattle.std.specs.List.{list_all}
 use Rattle.std.specs.Prelude.{All, nat_le}
 use Rattle.regent_tree.specs.Limits.{KeepsLimit, Part, WithinLimits, counted, greatest_literal, literal, most, node, parts_of_program}
 use Rattle.code_laws.specs.LocalExample.{LocalExampleHolds, local_program}
-use Rattle.code_laws.specs.LocalPrograms.{IsLocalProgramRun}
 
 -- whether a part keeps its limit, by computing
 abbrev keeps : Part → Bool

@@ -1,10 +1,10 @@
 -- Expressions of a text with marked names, of which no breach is told, are typed.
 use Rattle.std.proofs.Common.{◌≡◌, Bool, List, [], ◌∷◌, ◌++◌, None, Option, Some, false, true, refl, ap, sym, subst, ◌∙◌, inl, inr, not, arith}
-use Rattle.std.specs.Prelude.{is_none, length, map, ◌&&◌, ◌==◌, ◌||◌}
+use Rattle.std.specs.Prelude.{is_none, length, map, ◌&&◌, ◌==◌}
 use Rattle.std.specs.List.{list_any}
 use Rattle.std.proofs.lemmas.Bool.{and_parts, eqb-true, not-false, or_parts}
 use Rattle.plain_values.proofs.Plain.{option_or_parts}
-use Rattle.regent_tree.specs.Limits.{literal, node, nodes, parts_of_expression, parts_of_expressions, parts_of_links, parts_of_steps}
+use Rattle.regent_tree.specs.Limits.{literal, node, nodes, parts_of_expression, parts_of_expressions, parts_of_links}
 use Rattle.regent_tree.specs.Lookup.{has_task, is_bound}
 use Rattle.regent_tree.specs.Scopes.{scope_of}
 use Rattle.regent_tree.specs.StaticTypes.{task_named}
@@ -31,10 +31,10 @@ use Rattle.check_rules.specs.types.TypedForms.{calling, computing, element_of, f
 use Rattle.check_rules.specs.declared.rule.Rule.TheVariants as rule
 use Rattle.check_rules.proofs.Untold.{rule_none}
 use Rattle.code_rules.specs.Slots.{Where, bound, typed}
-use Rattle.code_laws.specs.LocalForm.{Marked, are_local_expressions, are_local_links, gives_scalar, is_among, is_local_expression, links_give}
+use Rattle.code_laws.specs.LocalForm.{Marked, are_local_expressions, are_local_links, gives_scalar, is_local_expression, links_give}
 use Rattle.code_laws.specs.Programs.{call_forms}
-use Rattle.code_laws.specs.Simple.{AreAlike, IsNumber, IsScalar, IsSimple, IsTruth, scalar_integer, scalar_truth, simple_integer, simple_space, simple_truth}
-use Rattle.code_laws.specs.Typed.{AreNumbers, ArePassed, AreTypedLinks, IsCalled, IsTyped, element_field}
+use Rattle.code_laws.specs.Simple.{AreAlike, IsNumber, IsScalar, IsSimple, scalar_integer, scalar_truth, simple_integer, simple_space, simple_truth}
+use Rattle.code_laws.specs.Typed.{AreNumbers, ArePassed, AreTypedLinks, IsTyped}
 use Rattle.code_laws.proofs.LocalNames.{AllKept, AreScalars, IsLocalTree, IsPlace, element_known, kept_simple, named_kept, named_place, place_is, simple_kept, taking_told}
 use Rattle.code_laws.proofs.LocalTypes.{number_is, operated_number, operated_simple, param_fitting, simple_after, simple_as_integer, simple_as_number, simple_compared, simple_computed, simple_truths, term_scalar}
 use Rattle.code_laws.proofs.Openings.{params_length, types_length}

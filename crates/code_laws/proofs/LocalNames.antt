@@ -1,14 +1,14 @@
 -- What names stand for in a text whose names of regions and indices are marked, and the fields of such regions.
-use Rattle.std.proofs.Common.{◌≡◌, Bool, List, [], ◌∷◌, None, Some, false, true, refl, ap, sym, subst, ℕ, suc, ◌+◌, ◌<◌, ◌≤◌, ◌∙◌, cond, not, arith}
+use Rattle.std.proofs.Common.{◌≡◌, Bool, List, [], ◌∷◌, None, false, true, refl, ap, sym, subst, ℕ, suc, ◌+◌, ◌<◌, ◌≤◌, ◌∙◌, cond, not, arith}
 use Rattle.std.specs.Prelude.{bytes_eq, length, ◌||◌}
 use Rattle.std.specs.List.{list_any, position_or_len}
-use Rattle.std.proofs.lemmas.Bool.{not-false, or_parts}
+use Rattle.std.proofs.lemmas.Bool.{not-false}
 use Rattle.std.proofs.lemmas.Slice.Eq.{bytes_eq-Decides}
 use Rattle.plain_values.proofs.Plain.{option_or_parts}
-use Rattle.regent_tree.specs.Accesses.{space_in}
+use Rattle.regent_tree.specs.Accesses.{args_in, space_in}
 use Rattle.regent_tree.specs.Lookup.{has_field, has_task, is_bound}
-use Rattle.regent_tree.specs.Scopes.{bound_as, bound_to}
-use Rattle.regent_tree.specs.StaticTypes.{Reach, among_args, field_kind, field_place, field_term, space_at, task_named}
+use Rattle.regent_tree.specs.Scopes.{bound_to}
+use Rattle.regent_tree.specs.StaticTypes.{Reach, among_args, field_kind, field_place, field_term, field_type, space_at, task_named}
 use Rattle.regent_tree.specs.Syntax.{Expression, Name, Tree}
 use Rattle.regent_tree.specs.Typing.{param_types, type_of_element, type_of_field}
 use Rattle.regent_tree.specs.declared.facts.Term.TheVariants as place
@@ -23,9 +23,11 @@ use Rattle.check_rules.specs.rules.Names.{is_unknown_field}
 use Rattle.check_rules.specs.rules.Standing.{standing_in_step}
 use Rattle.check_rules.specs.rules.Types.{is_ill_typed_step}
 use Rattle.check_rules.specs.scopes.Sound.{IsSound}
+use Rattle.check_rules.specs.types.Declarations.{is_flawed_field, known_field}
+use Rattle.check_rules.specs.types.Lookup.{region_has}
 use Rattle.check_rules.specs.types.KnownTypes.{known_type_after_step}
 use Rattle.check_rules.specs.types.Params.{type_unless}
-use Rattle.check_rules.specs.types.Sorts.{is_number, is_partition, is_region, may_be}
+use Rattle.check_rules.specs.types.Sorts.{is_integer, is_number, is_partition, is_region, may_be}
 use Rattle.check_rules.specs.types.TypedForms.{Taking, element_of, field_of}
 use Rattle.check_rules.specs.declared.rule.Rule.TheVariants as rule
 use Rattle.check_rules.proofs.Untold.{rule_none}
@@ -34,9 +36,9 @@ use Rattle.check_laws.specs.SoundScopes.{IsSoundScope}
 use Rattle.code_rules.specs.Slots.{Where, bound, slot, slot_bound, slot_named, slots_of}
 use Rattle.scalar_form.specs.ScalarForm.{is_scalar_if_said, is_scalar_term}
 use Rattle.code_laws.specs.LocalForm.{Marked, is_among}
-use Rattle.code_laws.specs.Simple.{FieldFits, IsNumber, IsRegion, IsScalar, IsSimple, a_region_type, scalar_integer, scalar_truth, simple_index, simple_integer, simple_space, simple_truth}
+use Rattle.code_laws.specs.Simple.{FieldFits, IsInteger, IsRegion, IsScalar, IsSimple, a_region_type, simple_index, simple_integer, simple_space, simple_truth}
 use Rattle.code_laws.specs.Typed.{GoesThrough, IsCalled, IsField, element_field}
-use Rattle.code_laws.proofs.LocalTypes.{simple_no_partition, term_fits, term_scalar}
+use Rattle.code_laws.proofs.LocalTypes.{simple_as_integer, simple_is_no_region, simple_no_partition, term_fits, term_scalar}
 use Rattle.code_laws.proofs.Typing.{no_way, no_way_back}
 use Rattle.code_laws.proofs.Values.{scalar_simple}
 
@@ -181,3 +183,39 @@ module _ (w : Where) (sound : IsSound w.tree) (local : IsLocalTree w.tree) (m : 
     p.through (slot_named w n) ∙ ap (λ (c : Bound). slot w c.place ∷ []) (found_by_number w.scope.next w.scope.names n scope.numbers b).0,
     record { named = b; region = p.region; field = p.field; keeps = p.keeps },
   )
+
+-- ---- regions and their fields
+
+-- an integer that is reduced
+pub kept_integer : (m : Marked) (n : Name) (i : ℕ) (t : StaticType) → IsKept m n i t → may_be is_integer t ≡ true → IsInteger t
+kept_integer m n i t (kept_scalar _ a) e = simple_as_integer t (scalar_simple t a) e
+kept_integer m n i t (kept_index _ a h) e = simple_as_integer t a e
+kept_integer m n i _ (kept_region k sp args h) e = absurd (no_way_back e)
+
+-- a field of a region of a type
+pub record IsFieldOf (tree : Tree) (t : StaticType) (f : Name) : Type 0 where
+  pub region : IsRegion t
+  pub field : field_place tree (space_in t) f < length (space_at tree (space_in t)).fields
+  pub keeps : FieldFits (field_kind tree (space_in t) (field_place tree (space_in t) f)) (field_type tree (space_in t) (args_in t) f)
+  pub scalar : IsScalar (field_type tree (space_in t) (args_in t) f)
+  pub known : known_field tree t f ≡ field_type tree (space_in t) (args_in t) f
+
+module _ (tree : Tree) (sound : IsSound tree) (local : IsLocalTree tree) (m : Marked) (n : Name) (i : ℕ) where
+  pub region_is : (t : StaticType) → IsKept m n i t → may_be is_region t ≡ true → IsRegion t
+  region_is t (kept_scalar _ a) e = absurd (no_way (sym e ∙ simple_is_no_region t (scalar_simple t a)))
+  region_is t (kept_index _ a h) e = absurd (no_way (sym e ∙ simple_is_no_region t a))
+  region_is _ (kept_region k sp args h) e = a_region_type k sp args (place.Name i)
+
+  pub field_is : (t : StaticType) (f : Name) → IsKept m n i t → may_be is_region t ≡ true → region_has tree t f ≡ true → IsFieldOf tree t f
+  field_is t f (kept_scalar _ a) e has = absurd (no_way (sym e ∙ simple_is_no_region t (scalar_simple t a)))
+  field_is t f (kept_index _ a h) e has = absurd (no_way (sym e ∙ simple_is_no_region t a))
+  field_is _ f (kept_region k sp args h) e has =
+      let term = field_term tree sp (field_place tree sp f) in
+      let says = local.fields sp (field_place tree sp f) in record {
+        region = a_region_type k sp args (place.Name i);
+        field = first_below (λ (p : Param). bytes_eq p.name f) (space_at tree sp).fields has;
+        keeps = term_fits term says tree (among_args (space_at tree sp).params args) 0;
+        scalar = term_scalar term says tree (among_args (space_at tree sp).params args) 0;
+        known = ap (λ b. type_unless (not b || is_flawed_field tree sp f) (field_type tree sp args f)) has
+            ∙ ap (λ b. type_unless b (field_type tree sp args f)) (sound.fields sp f has);
+      }

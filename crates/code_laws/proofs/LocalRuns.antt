@@ -1,16 +1,16 @@
 -- An accepted program whose tasks keep their regions to themselves runs as it means.
-use Rattle.std.proofs.Common.{◌≡◌, ◌∙◌, List, ℕ, ◌≤◌, ◌^◌, None, Option, Some, true, ap, subst, inr, ℤ, map, length, arith}
-use Rattle.std.specs.Prelude.{option_map, slice_get, ◌++◌}
+use Rattle.std.proofs.Common.{◌≡◌, ◌∙◌, List, None, Option, Some, true, ap, subst, inr, ℤ, map, length, arith}
+use Rattle.std.specs.Prelude.{option_map, ◌++◌}
 use Rattle.std.proofs.lemmas.List.{length-map}
 use Rattle.std.proofs.lemmas.Option.{slice_get-map}
 use Rattle.regent_tree.proofs.Members.{Contains-from_Has, Has, Has-map}
-use Rattle.regent_tree.specs.Limits.{WithinLimits, parts_of_block, parts_of_item, parts_of_params, parts_of_program, parts_of_type}
+use Rattle.regent_tree.specs.Limits.{parts_of_block, parts_of_item, parts_of_params, parts_of_program, parts_of_type}
 use Rattle.regent_tree.specs.Execution.{Going}
 use Rattle.regent_tree.specs.Meaning.{outcome}
 use Rattle.regent_tree.specs.Running.{Result, fails, gives}
 use Rattle.regent_tree.specs.Scopes.{scope_of}
 use Rattle.regent_tree.specs.StaticTypes.{entry_name, task_named}
-use Rattle.regent_tree.specs.Syntax.{ItemTree, TaskTree, Tree, task_item}
+use Rattle.regent_tree.specs.Syntax.{ItemTree, Tree, task_item}
 use Rattle.regent_tree.specs.Typing.{param_types, result_type, width_of_type}
 use Rattle.regent_tree.specs.declared.types.TypeTerm.{TypeTerm}
 use Rattle.check_laws.proofs.Bodies.{body_told}

@@ -1,17 +1,17 @@
 -- Statements without blocks, of a text with marked names, of which no breach is told, are typed.
 use Rattle.std.proofs.Common.{◌≡◌, Bool, List, [], ◌∷◌, None, Option, Some, false, true, ap, sym, subst, ℕ, ◌∙◌, ◌<◌, not, refl, inl, inr, ◌⊎◌, ⊎_elim}
-use Rattle.std.specs.Prelude.{bytes_eq, cond, is_some, length, map, ◌&&◌, ◌||◌}
+use Rattle.std.specs.Prelude.{bytes_eq, cond, is_some, length, map, ◌||◌}
 use Rattle.std.specs.List.{list_any}
 use Rattle.std.proofs.lemmas.Bool.{and_parts, not-false, or_parts}
 use Rattle.plain_values.proofs.Plain.{option_or_parts}
 use Rattle.lane_kernels.specs.declared.numbers.Op.{Op}
 use Rattle.regent_tree.specs.Accesses.{args_in, space_in}
-use Rattle.regent_tree.specs.Limits.{node, nodes, parts_of_expression, parts_of_expressions, parts_of_form, parts_of_steps, parts_of_type, parts_of_value}
-use Rattle.regent_tree.specs.Lookup.{has_field, has_space, is_bound, type_named}
+use Rattle.regent_tree.specs.Limits.{parts_of_expression, parts_of_expressions, parts_of_form, parts_of_type, parts_of_value}
+use Rattle.regent_tree.specs.Lookup.{has_space, is_bound, type_named}
 use Rattle.regent_tree.specs.Scopes.{Scope, bound_to, in_scope}
 use Rattle.regent_tree.specs.StaticTypes.{among_args, field_kind, field_place, field_term, field_type, looked_up, place_of_space, space_at, spaces_of}
-use Rattle.regent_tree.specs.Syntax.{Expression, Expressions, Form, Initializer, Name, Steps, TaskTree, Tree, access_expr, assign_form, at_step, call_form, field_step, fill_form, no_step, plain_initializer, print_form, region_initializer, return_form, var_form}
-use Rattle.regent_tree.specs.Typing.{kind_of_ispace, owned, result_type, type_of, type_of_element, type_of_field, var_type}
+use Rattle.regent_tree.specs.Syntax.{Expression, Expressions, Initializer, Name, TaskTree, Tree, access_expr, assign_form, at_step, call_form, field_step, fill_form, no_step, plain_initializer, print_form, region_initializer, return_form, var_form}
+use Rattle.regent_tree.specs.Typing.{kind_of_ispace, owned, result_type, type_of, type_of_field, var_type}
 use Rattle.regent_tree.specs.declared.facts.Term.TheVariants as place
 use Rattle.regent_tree.specs.declared.program.FieldSpace.{FieldSpace}
 use Rattle.regent_tree.specs.declared.statement.How.TheVariants as how
@@ -21,13 +21,13 @@ use Rattle.regent_tree.specs.declared.types.SpaceUse.{SpaceUse}
 use Rattle.regent_tree.specs.declared.types.TypeTerm.{TypeTerm}
 use Rattle.regent_tree.specs.declared.types.TypeTerm.TheVariants as term
 use Rattle.regent_tree.specs.declared.typing.StaticType.{StaticType}
-use Rattle.regent_tree.specs.declared.typing.StaticType.TheVariants.{Nothing as no_type, Region as region_type, Unknown as unknown_type}
+use Rattle.regent_tree.specs.declared.typing.StaticType.TheVariants.{Nothing as no_type, Unknown as unknown_type}
 use Rattle.check_laws.proofs.Blocks.{head_known}
 use Rattle.check_laws.proofs.Parts.{unless_false}
 use Rattle.check_laws.proofs.Variables.{begun_sound, target_of_form, parts_of_form as told_of_form}
 use Rattle.check_laws.specs.SoundScopes.{IsSoundScope}
 use Rattle.check_rules.specs.declared.rule.Rule.TheVariants as rule
-use Rattle.check_rules.proofs.Untold.{rule_none, standing_none}
+use Rattle.check_rules.proofs.Untold.{rule_none}
 use Rattle.check_rules.specs.first.FirstInExpressions.{first_in_expression, first_in_target, first_in_type, first_of_call, first_of_step, first_of_taking}
 use Rattle.check_rules.specs.first.FirstInStatements.{first_of_form, first_of_initializer}
 use Rattle.check_rules.specs.first.Rules.{first_in, rule_if}
@@ -44,35 +44,22 @@ use Rattle.check_rules.specs.types.Fitting.{fits}
 use Rattle.check_rules.specs.types.KnownTypes.{known_type, known_type_after_step, known_types}
 use Rattle.check_rules.specs.types.Lookup.{names_a, region_has}
 use Rattle.check_rules.specs.types.Params.{type_unless}
-use Rattle.check_rules.specs.types.Parts.{listed}
-use Rattle.check_rules.specs.types.Sorts.{is_integer, is_number, is_region, is_truth, may_be}
+use Rattle.check_rules.specs.types.Sorts.{is_integer, is_region, is_truth, may_be}
 use Rattle.check_rules.specs.types.TypedForms.{calling, element_of, field_of}
-use Rattle.code_rules.specs.Slots.{Where, bound}
+use Rattle.code_rules.specs.Slots.{Where}
 use Rattle.code_laws.specs.LocalForm.{Marked, are_local_expressions, gives_scalar, is_among, is_local_expression, is_local_form}
 use Rattle.code_laws.specs.Programs.{call_forms}
-use Rattle.code_laws.specs.Simple.{AreAlike, FieldFits, IsInteger, IsNumber, IsRegion, IsScalar, IsSimple, IsSpace, IsTruth, a_region_type, scalar_integer, scalar_truth, simple_index, simple_integer, simple_space, simple_truth}
+use Rattle.code_laws.specs.Simple.{FieldFits, IsInteger, IsNumber, IsRegion, IsScalar, IsSimple, IsSpace, IsTruth, a_region_type, scalar_integer, scalar_truth, simple_index, simple_integer, simple_space, simple_truth}
 use Rattle.code_laws.specs.Typed.{AreFilled, GoesThrough, IsField, IsTyped, IsTypedForm, element_field}
 use Rattle.code_laws.proofs.LocalExpressions.{IsWell, at_point, local_numbers, local_passed, local_well}
-use Rattle.code_laws.proofs.LocalNames.{AllKept, IsKept, IsLocalTree, first_below, kept_index, kept_region, kept_scalar, kept_simple, named_kept, named_place, no_kept_partition, simple_kept}
-use Rattle.code_laws.proofs.LocalTypes.{owned_simple, simple_as_domain, simple_as_integer, simple_as_space, simple_as_truth, simple_fitting, term_fits, term_scalar}
+use Rattle.code_laws.proofs.LocalNames.{AllKept, field_is, kept_integer, region_is, IsKept, IsLocalTree, first_below, kept_index, kept_region, kept_scalar, kept_simple, named_kept, named_place, no_kept_partition, simple_kept}
+use Rattle.code_laws.proofs.LocalTypes.{either, owned_simple, simple_as_domain, simple_as_integer, simple_as_space, simple_as_truth, simple_fitting, term_fits, term_scalar}
 use Rattle.code_laws.proofs.TypedStatements.{HasNoPartition, count_types, counted, declared_fits, first_stands, initial_told, listed_told, result_fits, told_later, told_names}
-use Rattle.code_laws.proofs.Typing.{AreKept, kept_behind, kept_left, kept_right, no_way, no_way_back}
+use Rattle.code_laws.proofs.Typing.{AreKept, kept_right, no_way, no_way_back}
 use Rattle.code_laws.proofs.Values.{scalar_simple}
 use Rattle.scalar_form.specs.ScalarForm.{is_scalar_if_said, is_scalar_term}
 
--- ---- what names stand for
-
--- an integer that is reduced
-kept_integer : (m : Marked) (n : Name) (i : ℕ) (t : StaticType) → IsKept m n i t → may_be is_integer t ≡ true → IsInteger t
-kept_integer m n i t (kept_scalar _ a) e = simple_as_integer t (scalar_simple t a) e
-kept_integer m n i t (kept_index _ a h) e = simple_as_integer t a e
-kept_integer m n i _ (kept_region k sp args h) e = absurd (no_way_back e)
-
-simple_is_no_region : (t : StaticType) → IsSimple t → may_be is_region t ≡ false
-simple_is_no_region _ (simple_integer w) = refl
-simple_is_no_region _ simple_truth = refl
-simple_is_no_region _ (simple_space k) = refl
-simple_is_no_region _ (simple_index k) = refl
+-- ---- results
 
 -- a task without a result gives no number or truth
 scalar_there : (t : StaticType) → IsScalar t → (is_integer t || is_truth t) ≡ true
@@ -82,39 +69,6 @@ scalar_there _ scalar_truth = refl
 none_given : (tree : Tree) (r : Option TypeTerm) → is_some r ≡ false → IsScalar (result_type tree r) → ⊥
 none_given tree None e s = no_way_back (scalar_there no_type s)
 none_given tree (Some t) e s = no_way e
-
--- of two truths one is
-either : (x y : Bool) → (x || y) ≡ true → (x ≡ true) ⊎ (y ≡ true)
-either true y e = inl refl
-either false y e = inr e
-
--- a field of a region of a type
-record IsFieldOf (tree : Tree) (t : StaticType) (f : Name) : Type 0 where
-  region : IsRegion t
-  field : field_place tree (space_in t) f < length (space_at tree (space_in t)).fields
-  keeps : FieldFits (field_kind tree (space_in t) (field_place tree (space_in t) f)) (field_type tree (space_in t) (args_in t) f)
-  scalar : IsScalar (field_type tree (space_in t) (args_in t) f)
-  known : known_field tree t f ≡ field_type tree (space_in t) (args_in t) f
-
-module _ (tree : Tree) (sound : IsSound tree) (local : IsLocalTree tree) (m : Marked) (n : Name) (i : ℕ) where
-  region_is : (t : StaticType) → IsKept m n i t → may_be is_region t ≡ true → IsRegion t
-  region_is t (kept_scalar _ a) e = absurd (no_way (sym e ∙ simple_is_no_region t (scalar_simple t a)))
-  region_is t (kept_index _ a h) e = absurd (no_way (sym e ∙ simple_is_no_region t a))
-  region_is _ (kept_region k sp args h) e = a_region_type k sp args (place.Name i)
-
-  field_is : (t : StaticType) (f : Name) → IsKept m n i t → may_be is_region t ≡ true → region_has tree t f ≡ true → IsFieldOf tree t f
-  field_is t f (kept_scalar _ a) e has = absurd (no_way (sym e ∙ simple_is_no_region t (scalar_simple t a)))
-  field_is t f (kept_index _ a h) e has = absurd (no_way (sym e ∙ simple_is_no_region t a))
-  field_is _ f (kept_region k sp args h) e has =
-      let term = field_term tree sp (field_place tree sp f) in
-      let says = local.fields sp (field_place tree sp f) in record {
-        region = a_region_type k sp args (place.Name i);
-        field = first_below (λ (p : Param). bytes_eq p.name f) (space_at tree sp).fields has;
-        keeps = term_fits term says tree (among_args (space_at tree sp).params args) 0;
-        scalar = term_scalar term says tree (among_args (space_at tree sp).params args) 0;
-        known = ap (λ b. type_unless (not b || is_flawed_field tree sp f) (field_type tree sp args f)) has
-            ∙ ap (λ b. type_unless b (field_type tree sp args f)) (sound.fields sp f has);
-      }
 
 module _ (tree : Tree) (task : TaskTree) (sound : IsSound tree) (local : IsLocalTree tree) (m : Marked) (params : ℕ)
     (result : is_scalar_if_said task.result ≡ true) where

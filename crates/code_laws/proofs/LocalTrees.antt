@@ -1,15 +1,13 @@
 -- What an accepted program has whose tasks keep their regions to themselves: its field spaces and its tasks.
-use Rattle.std.proofs.Common.{◌≡◌, List, [], ◌∷◌, ◌++◌, None, Some, true, refl, ap, sym, subst, ◌∙◌, ℕ, zero, suc, ◌≤◌, inl, inr, arith}
+use Rattle.std.proofs.Common.{◌≡◌, List, [], ◌∷◌, ◌++◌, Some, true, refl, ap, sym, subst, ◌∙◌, ℕ, zero, suc, ◌≤◌, inl, inr, arith}
 use Rattle.std.specs.Prelude.{get_or, length, map, slice_get}
-use Rattle.std.specs.List.{list_all}
 use Rattle.std.proofs.lemmas.Bool.{and_parts}
 use Rattle.std.proofs.lemmas.Option.{none-some, same_Some}
 use Rattle.regent_tree.proofs.Members.{Has}
 use Rattle.regent_tree.specs.Limits.{WithinLimits, counted, parts_of_item, parts_of_program}
-use Rattle.regent_tree.specs.Lookup.{has_task}
 use Rattle.regent_tree.specs.Scopes.{bound_params, scope_of}
-use Rattle.regent_tree.specs.StaticTypes.{Looking, field_term, spaces_of, task_named}
-use Rattle.regent_tree.specs.Syntax.{ItemForm, ItemTree, Name, TaskTree, Tree, alias_item, import_item, space_item, start_item, task_item}
+use Rattle.regent_tree.specs.StaticTypes.{spaces_of, task_named}
+use Rattle.regent_tree.specs.Syntax.{ItemForm, ItemTree, TaskTree, Tree, alias_item, import_item, space_item, start_item, task_item}
 use Rattle.regent_tree.specs.declared.limits.Counted.TheVariants.{Fields}
 use Rattle.regent_tree.specs.declared.program.FieldSpace.{FieldSpace}
 use Rattle.regent_tree.specs.declared.types.Param.{Param}

@@ -2,7 +2,6 @@
 use Rattle.std.proofs.Common.{◌≡◌, Bool, List, false, true, refl, ap, ℕ, ◌∙◌, cond, not, inl, inr, ◌⊎◌, ⊎_elim}
 use Rattle.std.specs.Prelude.{◌||◌, ◌&&◌}
 use Rattle.std.proofs.lemmas.Bool.{and_parts}
-use Rattle.regent_tree.specs.Numbers.{wider}
 use Rattle.regent_tree.specs.StaticTypes.{Looking, kind_said, type_said}
 use Rattle.regent_tree.specs.Syntax.{Tree}
 use Rattle.regent_tree.specs.Typing.{are_pointers, counting_as, operated, owned}
@@ -81,6 +80,12 @@ simple_no_partition _ simple_truth = refl
 simple_no_partition _ (simple_space k) = refl
 simple_no_partition _ (simple_index k) = refl
 
+pub simple_is_no_region : (t : StaticType) → IsSimple t → may_be is_region t ≡ false
+simple_is_no_region _ (simple_integer w) = refl
+simple_is_no_region _ simple_truth = refl
+simple_is_no_region _ (simple_space k) = refl
+simple_is_no_region _ (simple_index k) = refl
+
 -- ---- what fits a number or truth
 
 pub simple_fitting : (known : List Known) (t wanted : StaticType) → IsSimple t → IsScalar wanted → fits known t wanted ≡ true → AreAlike t wanted
@@ -138,7 +143,7 @@ compare_both : (t u : StaticType) → IsTruth t → IsTruth u → AreComparable 
 compare_both _ _ a_truth_type a_truth_type = compare_truths
 
 -- of two truths one is
-either : (x y : Bool) → (x || y) ≡ true → (x ≡ true) ⊎ (y ≡ true)
+pub either : (x y : Bool) → (x || y) ≡ true → (x ≡ true) ⊎ (y ≡ true)
 either true y e = inl refl
 either false y e = inr e
 

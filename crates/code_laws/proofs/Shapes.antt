@@ -1,5 +1,5 @@
 -- Roots that are of field spaces: new ones are, and they stay so.
-use Rattle.std.proofs.Common.{◌≡◌, ◌∙◌, ℤ, Bool, List, [], ◌∷◌, ◌++◌, true, refl, ap, sym, subst, ℕ, suc, ◌<◌, ◌≤◌, arith, ⊎_elim, map}
+use Rattle.std.proofs.Common.{◌≡◌, ◌∙◌, Bool, List, [], ◌∷◌, ◌++◌, true, refl, ap, sym, subst, ℕ, suc, ◌<◌, ◌≤◌, arith, ⊎_elim, map}
 use Rattle.std.specs.Prelude.{get_or, length, nat_lt, replicate, ◌&&◌, ◌==◌}
 use Rattle.std.specs.List.{list_all}
 use Rattle.std.proofs.lemmas.Bool.{cases_lt, eq-eqb, lt-ltb}

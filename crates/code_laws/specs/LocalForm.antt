@@ -1,12 +1,10 @@
 -- Programs whose tasks keep their regions to themselves: each takes and gives numbers and truths, or nothing,
 -- declares no privilege, and names the regions that it makes. Which names stand for regions, and which may stand
 -- for an index or an index space, is read from the text of a task.
-use Rattle.std.specs.Prelude.{Bool, true, false, List, [], ◌∷◌, Option, Some, None, bytes_eq, not, cond, ◌&&◌, ◌||◌}
+use Rattle.std.specs.Prelude.{Bool, true, false, List, [], ◌∷◌, Some, None, bytes_eq, not, cond, ◌&&◌, ◌||◌}
 use Rattle.std.specs.List.{list_all, list_any}
 use Rattle.regent_tree.specs.Syntax.{Arms, Block, Expression, Expressions, Form, ItemForm, ItemTree, Links, Name, Otherwise, TaskTree, Tree, a_link, a_statement, access_expr, alias_item, an_arm, an_expr, assert_form, assign_form, at_step, call_expr, call_form, chain_expr, convert_expr, do_form, else_block, field_step, fill_form, for_in_form, for_to_form, if_form, import_item, no_arm, no_else, no_expr, no_link, no_statement, no_step, number_expr, plain_initializer, prefix_expr, print_form, region_initializer, return_form, space_expr, space_item, start_item, task_item, then_statement, truth_expr, var_form, while_form}
-use Rattle.regent_tree.specs.declared.expression.Operator.{Operator}
-use Rattle.regent_tree.specs.declared.expression.Operator.TheVariants.{And, Compare, Compute, Or}
-use Rattle.regent_tree.specs.declared.program.FieldSpace.{FieldSpace}
+use Rattle.regent_tree.specs.declared.expression.Operator.TheVariants.{Compute}
 use Rattle.regent_tree.specs.declared.statement.How.TheVariants as how
 use Rattle.regent_tree.specs.declared.types.Param.{Param}
 use Rattle.scalar_form.specs.ScalarForm.{is_empty, is_scalar_if_said, is_scalar_number, is_scalar_term}
