@@ -34,7 +34,7 @@ use Rattle.code_laws.proofs.LocalStatements.{at, bound_local, call_local, domain
 use Rattle.code_laws.proofs.LocalTypes.{term_scalar}
 use Rattle.code_laws.proofs.Names.{arms_names, else_names}
 use Rattle.code_laws.proofs.TypedStatements.{first_stands, sum_scalar}
-use Rattle.code_laws.proofs.Typing.{AreKept, kept_behind, kept_left, kept_right, no_way_back}
+use Rattle.code_laws.proofs.Typing.{AreKept, kept_behind, kept_left, kept_right, no_way, no_way_back}
 use Rattle.regent_tree.specs.Scopes.{in_scope}
 use Rattle.scalar_form.specs.ScalarForm.{is_scalar_if_said}
 
@@ -62,7 +62,7 @@ module _ (tree : Tree) (task : TaskTree) (sound : IsSound tree) (local : IsLocal
       let v = said_local tree task sound local m params result s line n t y lo k scope names e in (v.0, (v.1, names))
   var_local s line n (Some t) None lo k scope names e =
       let q = term_scalar t lo tree (in_scope s) s.next in (q, (kept_scalar _ q, names))
-  var_local s line n None None lo k scope names e = absurd (no_way_back lo)
+  var_local s line n None None lo k scope names e = absurd (no_way (told_of_form tree task s sound scope (var_form n None None) e).1)
   var_local s line n None (Some (equal_initializer _ _)) lo k scope names e = absurd (no_way_back lo)
   var_local s line n None (Some (by_field_initializer _ _ _)) lo k scope names e = absurd (no_way_back lo)
   var_local s line n None (Some (image_initializer _ _ _ _)) lo k scope names e = absurd (no_way_back lo)

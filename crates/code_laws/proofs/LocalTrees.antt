@@ -20,7 +20,7 @@ use Rattle.code_laws.specs.Simple.{IsScalar}
 use Rattle.code_laws.proofs.LocalNames.{AllKept, AreScalars, IsLocalTree, kept_scalar}
 use Rattle.code_laws.proofs.LocalTypes.{term_scalar}
 use Rattle.code_laws.proofs.Openings.{types_cons, types_in}
-use Rattle.code_laws.proofs.ScalarRuns.{all_of, found, kept_all, kept_item, no_clauses}
+use Rattle.code_laws.proofs.Entries.{all_of, found, kept_all, kept_item, no_clauses}
 use Rattle.code_laws.proofs.Typing.{AllScalar, AreKept}
 use Rattle.scalar_form.specs.ScalarForm.{is_empty, is_scalar_if_said, is_scalar_term}
 

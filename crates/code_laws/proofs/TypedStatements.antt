@@ -1,4 +1,4 @@
--- Statements over scalars of which no breach is told are typed.
+-- Statements of which no breach is told: their parts, and what fits where it stands.
 use Rattle.std.proofs.Common.{◌≡◌, Bool, List, [], ◌∷◌, None, Option, Some, false, true, refl, ap, sym, ℕ, suc, ◌∙◌, not}
 use Rattle.std.specs.Option.{option_or}
 use Rattle.lane_kernels.specs.declared.numbers.Width.TheVariants.{W32, W64}
@@ -46,37 +46,16 @@ use Rattle.check_rules.proofs.Untold.{rule_none}
 use Rattle.code_laws.specs.Simple.{AreAlike, IsInteger, IsScalar, IsSimple, an_integer, scalar_integer, scalar_truth}
 use Rattle.scalar_form.specs.ScalarForm.{is_scalar_if_said, is_scalar_term}
 use Rattle.code_laws.proofs.LocalTypes.{simple_fitting, simple_no_partition}
-use Rattle.code_laws.proofs.Typing.{AllScalar, named_scalar, no_way, no_way_back}
+use Rattle.code_laws.proofs.Typing.{no_way, no_way_back}
 use Rattle.code_laws.proofs.Values.{scalar_simple}
-
--- a written scalar type
-pub said_scalar : (tree : Tree) (s : Scope) (next : ℕ) (t : TypeTerm) → is_scalar_term t ≡ true → IsScalar (type_said tree (in_scope s) next t)
-said_scalar tree s next (term.Number number.Int32) e = scalar_integer _
-said_scalar tree s next (term.Number number.Int64) e = scalar_integer _
-said_scalar tree s next (term.Number (number.Index k)) e = absurd cc
-said_scalar tree s next term.Truth e = scalar_truth
-said_scalar tree s next (term.Pointer p) e = absurd cc
-said_scalar tree s next (term.Ispace k) e = absurd cc
-said_scalar tree s next (term.Region k u) e = absurd cc
-said_scalar tree s next (term.Partition d r c) e = absurd cc
-
-pub owned_scalar : (n : ℕ) (t : StaticType) → IsScalar t → IsScalar (owned n t)
-owned_scalar n _ (scalar_integer w) = scalar_integer w
-owned_scalar n _ scalar_truth = scalar_truth
 
 pub sum_scalar : (t u : StaticType) → IsInteger t → IsInteger u → IsScalar (arithmetic_type t u)
 sum_scalar _ _ (an_integer v) (an_integer w) = scalar_integer _
-
-pub integer_scalar : (t : StaticType) → IsInteger t → IsScalar t
-integer_scalar _ (an_integer w) = scalar_integer w
 
 -- ---- what nothing is told of
 
 abbrev pub HasNoPartition : List Bound → Type 0
 HasNoPartition bs = (n : Name) → is_bound bs n ≡ true → may_be is_partition (type_named bs n) ≡ false
-
-pub no_partition : (bs : List Bound) → AllScalar bs → HasNoPartition bs
-no_partition bs names n h = simple_no_partition (type_named bs n) (scalar_simple (type_named bs n) (named_scalar bs n names h))
 
 module _ (tree : Tree) (task : TaskTree) (s : Scope) where
   abbrev told : Expression → Option Rule
@@ -167,10 +146,6 @@ declared_fits tree s (term.Pointer p) from sc scalar e = absurd (no_way_back sc)
 declared_fits tree s (term.Ispace k) from sc scalar e = absurd (no_way_back sc)
 declared_fits tree s (term.Region k u) from sc scalar e = absurd (no_way_back sc)
 declared_fits tree s (term.Partition d r c) from sc scalar e = absurd (no_way_back sc)
-
-pub owned_is : (n : ℕ) (t : StaticType) → IsScalar t → owned n t ≡ t
-owned_is n _ (scalar_integer w) = refl
-owned_is n _ scalar_truth = refl
 
 -- a declared result and what fits it
 pub result_fits : (tree : Tree) (known : List Known) (r : Option TypeTerm) (from : StaticType) → is_scalar_if_said r ≡ true → is_none r ≡ false →

@@ -69,7 +69,7 @@ abbrev mutual
 -- is assigned.
 abbrev mutual
   pub is_local_form : Marked → Form → Bool
-  is_local_form m (var_form n (Some t) None) = is_scalar_term t
+  is_local_form m (var_form n t None) = is_scalar_if_said t
   is_local_form m (var_form n (Some t) (Some (plain_initializer e))) = is_scalar_term t && is_local_expression m e
   is_local_form m (var_form n None (Some (plain_initializer e))) =
       (gives_scalar m e || is_among m.indices n) && is_local_expression m e
