@@ -4,8 +4,7 @@ use Rattle.regent_tree.specs.declared.types.NumberTerm.TheVariants as number
 use Rattle.code_rules.proofs.Bodies.{bodies_are_short}
 use Rattle.regent_tree.specs.declared.types.TypeTerm.TheVariants as term
 use Rattle.check_rules.specs.declared.rule.Rule.TheVariants as rule
-use Rattle.std.proofs.lemmas.List.{length-map}
-use Rattle.std.proofs.lemmas.Option.{slice_get-map, get_or_from_slice_get, slice_get_within}
+use Rattle.std.proofs.lemmas.Option.{get_or_from_slice_get, slice_get_within}
 use Rattle.lane_kernels.specs.declared.numbers.Width.{Width}
 use Rattle.check_rules.specs.declared.rule.Rule.{Rule}
 use Rattle.regent_tree.specs.declared.program.Clause.{Clause}
@@ -14,36 +13,31 @@ use Rattle.regent_tree.specs.declared.typing.StaticType.{StaticType}
 use Rattle.regent_tree.specs.declared.types.TypeTerm.{TypeTerm}
 use Rattle.regent_tree.specs.declared.types.Param.{Param}
 use Rattle.code_rules.specs.Programs.{task_code}
-use Rattle.code_laws.proofs.Top.{scalars_leave_no_roots, scalars_run_as_meant}
 use Rattle.code_rules.specs.Instructions.{place_of_task, tasks_of}
-use Rattle.code_laws.proofs.Openings.{params_length, types_cons, types_in, types_length}
-use Rattle.regent_tree.specs.Typing.{param_types, width_of_type}
+use Rattle.code_laws.proofs.Openings.{types_cons, types_in}
+use Rattle.regent_tree.specs.Typing.{width_of_type}
 use Rattle.check_rules.proofs.FirstInItems.{none_without_first}
 use Rattle.code_rules.specs.Needs.{needs_of_clauses}
 use Rattle.regent_tree.specs.Lookup.{is_task, has_task}
 use Rattle.regent_tree.specs.Meaning.{inputs_of}
-use Rattle.check_rules.specs.Acceptance.{input_widths}
 use Rattle.check_rules.specs.first.FirstInItems.{first_repeated, first_line}
 use Rattle.check_rules.specs.rules.Entries.{entry_given, missing_lines, wrong_entry_lines, is_integer_term, later_lines, lines_of_inputs}
 use Rattle.check_rules.specs.Breaches.{breaches}
-use Rattle.regent_tree.specs.Scopes.{bound_params, scope_of}
-use Rattle.check_laws.proofs.Bodies.{body_told}
+use Rattle.regent_tree.specs.Scopes.{bound_params}
 use Rattle.regent_tree.specs.Values.{a_number}
-use Rattle.check_rules.specs.scopes.Sound.{StandsIn}
 use Rattle.regent_tree.specs.StaticTypes.{Looking, entry_name, task_named, type_said}
-use Rattle.regent_tree.specs.Limits.{KeepsLimit, Part, parts_of_items, parts_of_program, parts_of_item, parts_of_type, parts_of_params, parts_of_block, WithinLimits}
+use Rattle.regent_tree.specs.Limits.{KeepsLimit, Part, parts_of_items, parts_of_item, WithinLimits}
 use Rattle.regent_tree.specs.Syntax.{ItemForm, ItemTree, Name, TaskTree, Tree, alias_item, import_item, space_item, start_item, task_item}
 use Rattle.code_laws.specs.Standing.{AreTaken, IsOf, of_integer}
 use Rattle.code_laws.specs.Simple.{IsInteger, an_integer}
 use Rattle.check_rules.specs.rules.Repeats.{Given}
 use Rattle.lane_kernels.specs.Numbers.{FitsWidth}
-use Rattle.regent_tree.proofs.Members.{Contains-from_Has, Has, Has-map}
-use Rattle.code_laws.specs.Programs.{IsTypedRun, scalar_forms}
-use Rattle.scalar_form.specs.ScalarForm.{is_scalar_item, is_scalar_task, is_scalar_term, is_scalar_if_said, is_empty, is_scalar_block}
-use Rattle.code_laws.specs.ScalarPrograms.{AreInputs, IsScalarProgramRun, ScalarProgramsLeaveNoRoots, ScalarProgramsRunAsMeant}
-use Rattle.code_laws.proofs.Typing.{AllScalar, AreKept, kept_left, kept_right, no_way_back}
+use Rattle.regent_tree.proofs.Members.{Has}
+use Rattle.scalar_form.specs.ScalarForm.{is_empty}
+use Rattle.code_laws.specs.ScalarPrograms.{AreInputs}
+use Rattle.code_laws.proofs.Typing.{AreKept, kept_left, kept_right, no_way_back}
 use Rattle.std.proofs.Common.{◌≡◌, Bool, List, [], ◌∷◌, ◌++◌, None, Some, false, true, refl, ap, sym, subst, ℕ, suc, ◌+◌, ◌∙◌, inl, inr, not, ℤ, map, cond, arith, ◌<◌, ◌^◌}
-use Rattle.std.specs.Prelude.{bytes_eq, length, slice_get, ◌||◌, ◌&&◌, All, option_map, filter, flat_map}
+use Rattle.std.specs.Prelude.{bytes_eq, length, slice_get, ◌||◌, ◌&&◌, All, filter, flat_map}
 use Rattle.std.specs.List.{list_all}
 use Rattle.std.proofs.lemmas.Bool.{and_parts}
 use Rattle.plain_values.proofs.Plain.{option_or_parts}

@@ -1,5 +1,5 @@
 -- Statements without blocks, of a text with marked names, of which no breach is told, are typed.
-use Rattle.std.proofs.Common.{◌≡◌, Bool, List, [], ◌∷◌, None, Option, Some, false, true, ap, sym, subst, ℕ, ◌∙◌, ◌<◌, not, refl, inl, inr, ◌⊎◌, ⊎_elim}
+use Rattle.std.proofs.Common.{◌≡◌, List, [], ◌∷◌, None, Option, Some, false, true, ap, sym, subst, ℕ, ◌∙◌, not, refl, ⊎_elim}
 use Rattle.std.specs.Prelude.{bytes_eq, cond, is_some, length, map, ◌||◌}
 use Rattle.std.specs.List.{list_any}
 use Rattle.std.proofs.lemmas.Bool.{and_parts, not-false, or_parts}
@@ -9,14 +9,12 @@ use Rattle.regent_tree.specs.Accesses.{args_in, space_in}
 use Rattle.regent_tree.specs.Limits.{parts_of_expression, parts_of_expressions, parts_of_form, parts_of_type, parts_of_value}
 use Rattle.regent_tree.specs.Lookup.{has_space, is_bound, type_named}
 use Rattle.regent_tree.specs.Scopes.{Scope, bound_to, in_scope}
-use Rattle.regent_tree.specs.StaticTypes.{among_args, field_kind, field_place, field_term, field_type, looked_up, place_of_space, space_at, spaces_of}
+use Rattle.regent_tree.specs.StaticTypes.{field_type, looked_up, place_of_space, spaces_of}
 use Rattle.regent_tree.specs.Syntax.{Expression, Expressions, Initializer, Name, TaskTree, Tree, access_expr, assign_form, at_step, call_form, field_step, fill_form, no_step, plain_initializer, print_form, region_initializer, return_form, var_form}
 use Rattle.regent_tree.specs.Typing.{kind_of_ispace, owned, result_type, type_of, type_of_field, var_type}
-use Rattle.regent_tree.specs.declared.facts.Term.TheVariants as place
 use Rattle.regent_tree.specs.declared.program.FieldSpace.{FieldSpace}
 use Rattle.regent_tree.specs.declared.statement.How.TheVariants as how
 use Rattle.regent_tree.specs.declared.types.Kind.TheVariants.{Int1d}
-use Rattle.regent_tree.specs.declared.types.Param.{Param}
 use Rattle.regent_tree.specs.declared.types.SpaceUse.{SpaceUse}
 use Rattle.regent_tree.specs.declared.types.TypeTerm.{TypeTerm}
 use Rattle.regent_tree.specs.declared.types.TypeTerm.TheVariants as term
@@ -39,21 +37,20 @@ use Rattle.check_rules.specs.rules.Targets.{is_no_target, mistargets}
 use Rattle.check_rules.specs.rules.Types.{is_ill_typed_at_place, may_stand}
 use Rattle.check_rules.specs.scopes.Sound.{IsSound}
 use Rattle.check_rules.specs.scopes.Variables.{declared_type, is_flawed_initializer, known_initializer}
-use Rattle.check_rules.specs.types.Declarations.{is_flawed_field, known_field}
+use Rattle.check_rules.specs.types.Declarations.{known_field}
 use Rattle.check_rules.specs.types.Fitting.{fits}
 use Rattle.check_rules.specs.types.KnownTypes.{known_type, known_type_after_step, known_types}
 use Rattle.check_rules.specs.types.Lookup.{names_a, region_has}
-use Rattle.check_rules.specs.types.Params.{type_unless}
 use Rattle.check_rules.specs.types.Sorts.{is_integer, is_region, is_truth, may_be}
 use Rattle.check_rules.specs.types.TypedForms.{calling, element_of, field_of}
 use Rattle.code_rules.specs.Slots.{Where}
 use Rattle.code_laws.specs.LocalForm.{Marked, are_local_expressions, gives_scalar, is_among, is_local_expression, is_local_form}
 use Rattle.code_laws.specs.Programs.{call_forms}
-use Rattle.code_laws.specs.Simple.{FieldFits, IsInteger, IsNumber, IsRegion, IsScalar, IsSimple, IsSpace, IsTruth, a_region_type, scalar_integer, scalar_truth, simple_index, simple_integer, simple_space, simple_truth}
+use Rattle.code_laws.specs.Simple.{IsInteger, IsNumber, IsScalar, IsSimple, IsSpace, IsTruth, scalar_integer, scalar_truth}
 use Rattle.code_laws.specs.Typed.{AreFilled, GoesThrough, IsField, IsTyped, IsTypedForm, element_field}
 use Rattle.code_laws.proofs.LocalExpressions.{IsWell, at_point, local_numbers, local_passed, local_well}
 use Rattle.code_laws.proofs.LocalNames.{AllKept, field_is, kept_integer, region_is, IsKept, IsLocalTree, first_below, kept_index, kept_region, kept_scalar, kept_simple, named_kept, named_place, no_kept_partition, simple_kept}
-use Rattle.code_laws.proofs.LocalTypes.{either, owned_simple, simple_as_domain, simple_as_integer, simple_as_space, simple_as_truth, simple_fitting, term_fits, term_scalar}
+use Rattle.code_laws.proofs.LocalTypes.{either, owned_simple, simple_as_domain, simple_as_integer, simple_as_space, simple_as_truth, simple_fitting, term_scalar}
 use Rattle.code_laws.proofs.TypedStatements.{HasNoPartition, count_types, counted, declared_fits, first_stands, initial_told, listed_told, result_fits, told_later, told_names}
 use Rattle.code_laws.proofs.Typing.{AreKept, kept_right, no_way, no_way_back}
 use Rattle.code_laws.proofs.Values.{scalar_simple}

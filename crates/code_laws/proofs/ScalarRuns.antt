@@ -1,6 +1,6 @@
 -- An accepted program over scalars runs as it means, for all turns.
-use Rattle.std.proofs.Common.{◌≡◌, List, Some, true, subst, ℤ}
-use Rattle.std.specs.Prelude.{slice_get, ◌&&◌, ◌==◌}
+use Rattle.std.proofs.Common.{◌≡◌, List, true, subst, ℤ}
+use Rattle.std.specs.Prelude.{◌==◌}
 use Rattle.std.specs.List.{list_all}
 use Rattle.std.proofs.lemmas.Bool.{and_parts}
 use Rattle.regent_tree.specs.Limits.{tasks_in}

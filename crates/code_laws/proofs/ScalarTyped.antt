@@ -2,11 +2,9 @@
 use Rattle.std.proofs.Common.{◌≡◌, None, Option, Some, true, false}
 use Rattle.std.specs.Prelude.{◌&&◌}
 use Rattle.std.proofs.lemmas.Bool.{and_parts}
-use Rattle.regent_tree.specs.Scopes.{past, with_name}
-use Rattle.regent_tree.specs.Syntax.{Arms, Block, Expression, Expressions, Form, Initializer, Links, Name, Otherwise, Steps, a_link, a_statement, access_expr, an_arm, an_expr, assert_form, assign_form, at_step, both_initializer, by_field_initializer, call_expr, call_form, cast_expr, chain_expr, convert_expr, do_form, either_initializer, else_block, equal_initializer, field_step, fill_form, for_in_form, for_to_form, if_form, image_initializer, is_null_expr, no_arm, no_else, no_expr, no_link, no_statement, no_step, null_expr, number_expr, plain_initializer, prefix_expr, preimage_initializer, print_form, region_initializer, return_form, space_expr, then_statement, truth_expr, var_form, while_form}
+use Rattle.regent_tree.specs.Syntax.{Arms, Block, Expression, Expressions, Form, Initializer, Links, Name, Otherwise, a_link, a_statement, access_expr, an_arm, an_expr, assert_form, assign_form, at_step, both_initializer, by_field_initializer, call_expr, call_form, cast_expr, chain_expr, convert_expr, do_form, either_initializer, else_block, equal_initializer, field_step, fill_form, for_in_form, for_to_form, if_form, image_initializer, is_null_expr, no_arm, no_else, no_expr, no_link, no_statement, no_step, null_expr, number_expr, plain_initializer, prefix_expr, preimage_initializer, print_form, region_initializer, return_form, space_expr, then_statement, truth_expr, var_form, while_form}
 use Rattle.regent_tree.specs.Typing.{arithmetic_type, operated}
 use Rattle.regent_tree.specs.declared.expression.Operator.TheVariants.{And, Compare, Compute, Or}
-use Rattle.regent_tree.specs.declared.statement.How.{How}
 use Rattle.regent_tree.specs.declared.statement.How.TheVariants as how
 use Rattle.regent_tree.specs.declared.types.TypeTerm.{TypeTerm}
 use Rattle.regent_tree.specs.declared.typing.StaticType.{StaticType}
@@ -84,9 +82,13 @@ mutual
       (a.0, scalar_typed w test s.0 a.1, scalar_block w body s.1 a.2)
   scalar_statement w (for_to_form demanded n from to body) sc a =
       let s = and_parts (is_scalar_expression from) (is_scalar_expression to && is_scalar_block body) sc in
-      let r = and_parts (is_scalar_expression to) (is_scalar_block body) s.1 in
-      (a.0, a.1, scalar_typed w from s.0 a.2, scalar_typed w to r.0 a.3,
-      scalar_block (looping w n (arithmetic_type (typed w from) (typed w to))) body r.1 a.4)
+      let r = and_parts (is_scalar_expression to) (is_scalar_block body) s.1 in (
+        a.0,
+        a.1,
+        scalar_typed w from s.0 a.2,
+        scalar_typed w to r.0 a.3,
+        scalar_block (looping w n (arithmetic_type (typed w from) (typed w to))) body r.1 a.4,
+      )
   scalar_statement w (do_form body) sc a = scalar_block w body sc a
   scalar_statement w (assert_form e) sc a = (a.0, scalar_typed w e sc a.1)
   scalar_statement w (print_form alias format args) sc a = (scalar_numbers w args sc a.0, a.1)

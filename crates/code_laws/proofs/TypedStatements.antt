@@ -25,7 +25,7 @@ use Rattle.regent_tree.specs.Lookup.{is_bound, type_named}
 use Rattle.regent_tree.specs.Scopes.{Scope, in_scope}
 use Rattle.regent_tree.specs.StaticTypes.{type_said}
 use Rattle.regent_tree.specs.Syntax.{Expression, Expressions, Form, Name, TaskTree, Tree, access_expr, an_expr, no_expr, no_step, chain_expr, a_link, no_link}
-use Rattle.regent_tree.specs.Typing.{arithmetic_type, owned, result_type}
+use Rattle.regent_tree.specs.Typing.{arithmetic_type, result_type}
 use Rattle.regent_tree.specs.declared.facts.Known.{Known}
 use Rattle.regent_tree.specs.declared.types.NumberTerm.TheVariants as number
 use Rattle.regent_tree.specs.declared.types.TypeTerm.{TypeTerm}
@@ -45,9 +45,8 @@ use Rattle.check_rules.specs.declared.rule.Rule.TheVariants as rule
 use Rattle.check_rules.proofs.Untold.{rule_none}
 use Rattle.code_laws.specs.Simple.{AreAlike, IsInteger, IsScalar, IsSimple, an_integer, scalar_integer, scalar_truth}
 use Rattle.scalar_form.specs.ScalarForm.{is_scalar_if_said, is_scalar_term}
-use Rattle.code_laws.proofs.LocalTypes.{simple_fitting, simple_no_partition}
+use Rattle.code_laws.proofs.LocalTypes.{simple_fitting}
 use Rattle.code_laws.proofs.Typing.{no_way, no_way_back}
-use Rattle.code_laws.proofs.Values.{scalar_simple}
 
 pub sum_scalar : (t u : StaticType) → IsInteger t → IsInteger u → IsScalar (arithmetic_type t u)
 sum_scalar _ _ (an_integer v) (an_integer w) = scalar_integer _

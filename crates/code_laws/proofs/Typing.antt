@@ -1,53 +1,33 @@
 -- What is told of no breach of literals, prefixes and operators, and the limits of parts.
-use Rattle.code_laws.specs.Programs.{scalar_forms}
-use Rattle.code_laws.proofs.Values.{scalar_simple}
-use Rattle.std.proofs.Common.{◌≡◌, Bool, List, [], ◌∷◌, ◌++◌, None, false, true, refl, ap, sym, subst, ℕ, ◌∙◌, inl, inr, cond, not, ℤ, pos, ◌≤◌, arith}
-use Rattle.check_laws.proofs.Blocks.{head_known}
-use Rattle.check_laws.specs.SoundScopes.{IsSoundScope}
-use Rattle.std.specs.List.{list_any}
-use Rattle.regent_tree.specs.Numbers.{wider}
+use Rattle.std.proofs.Common.{◌≡◌, List, [], ◌∷◌, ◌++◌, None, false, true, refl, ap, sym, subst, ℕ, inr, ℤ, pos, ◌≤◌, arith}
 use Rattle.regent_tree.specs.StaticTypes.{number_type}
-use Rattle.regent_tree.specs.declared.expression.Arithmetic.{Arithmetic}
 use Rattle.regent_tree.specs.declared.expression.Operator.{Operator}
 use Rattle.regent_tree.specs.declared.facts.Known.{Known}
-use Rattle.std.specs.Prelude.{bytes_eq, ◌||◌, ◌&&◌}
-use Rattle.std.proofs.lemmas.Bool.{and_parts, not-false, or_parts}
+use Rattle.std.proofs.lemmas.Bool.{not-false}
 use Rattle.std.proofs.lemmas.Int.{ints}
 use Rattle.lane_kernels.specs.Numbers.{FitsWidth}
 use Rattle.lane_kernels.specs.declared.numbers.Width.{Width}
 use Rattle.lane_kernels.specs.declared.numbers.Width.TheVariants.{W32, W64}
 use Rattle.plain_values.proofs.Plain.{option_or_parts}
-use Rattle.regent_tree.specs.Limits.{KeepsLimit, Part, literal, nodes, parts_of_expression, parts_of_expressions, parts_of_links, greatest_literal, node}
-use Rattle.regent_tree.specs.Lookup.{is_bound}
-use Rattle.regent_tree.specs.Scopes.{bound_to}
-use Rattle.regent_tree.specs.Syntax.{Expression, Expressions, Links, Name, TaskTree, a_link, access_expr, an_expr, at_step, call_expr, cast_expr, chain_expr, convert_expr, field_step, is_null_expr, no_expr, no_link, no_step, null_expr, number_expr, prefix_expr, space_expr, truth_expr}
-use Rattle.regent_tree.specs.Typing.{counting_as, linked_type, operated, signed_type}
-use Rattle.regent_tree.specs.declared.expression.Comparison.{Comparison}
-use Rattle.regent_tree.specs.declared.expression.Comparison.TheVariants as comparison
-use Rattle.regent_tree.specs.declared.expression.Operator.TheVariants.{And, Compare, Compute, Or}
+use Rattle.regent_tree.specs.Limits.{KeepsLimit, Part, literal, greatest_literal}
+use Rattle.regent_tree.specs.Typing.{signed_type}
 use Rattle.regent_tree.specs.declared.expression.Sign.{Sign}
 use Rattle.regent_tree.specs.declared.expression.Sign.TheVariants.{Minus, Not}
 use Rattle.regent_tree.specs.declared.types.NumberTerm.{NumberTerm}
 use Rattle.regent_tree.specs.declared.types.NumberTerm.TheVariants as number
 use Rattle.regent_tree.specs.declared.typing.Bound.{Bound}
 use Rattle.regent_tree.specs.declared.typing.StaticType.{StaticType}
-use Rattle.regent_tree.specs.declared.typing.StaticType.TheVariants.{Integer as integer_type, Truth as truth_type, Unknown as unknown_type}
+use Rattle.regent_tree.specs.declared.typing.StaticType.TheVariants.{Integer as integer_type, Truth as truth_type}
 use Rattle.regent_tree.proofs.Members.{Has, Has-append_left, Has-append_right}
-use Rattle.check_rules.specs.first.FirstInExpressions.{first_in_args, first_in_expression, first_in_links, first_of_operator, first_of_signs, first_of_standing}
-use Rattle.check_rules.specs.first.Rules.{rule_if}
+use Rattle.check_rules.specs.first.FirstInExpressions.{first_of_operator, first_of_signs, first_of_standing}
 use Rattle.check_rules.specs.rules.Standing.{Spot, number_spot, spot_of_sign, stands, truth_spot}
-use Rattle.check_rules.specs.rules.Types.{compares_with, computes_with, is_ill_typed_operation, may_stand, operates_on}
-use Rattle.check_rules.specs.scopes.Sound.{IsSound}
-use Rattle.check_rules.specs.types.Fitting.{fits}
-use Rattle.check_rules.specs.types.KnownTypes.{known_type, known_type_after_operator, known_type_after_sign, known_type_after_signs, known_types}
-use Rattle.check_rules.specs.types.Sorts.{is_integer, is_number, is_truth, may_be, is_unknown_type}
+use Rattle.check_rules.specs.rules.Types.{is_ill_typed_operation, may_stand, operates_on}
+use Rattle.check_rules.specs.types.KnownTypes.{known_type_after_sign, known_type_after_signs}
 use Rattle.check_rules.specs.types.TypedForms.{computing}
 use Rattle.check_rules.specs.declared.rule.Rule.TheVariants as rule
 use Rattle.check_rules.proofs.Untold.{rule_none, standing_none}
-use Rattle.code_rules.specs.Slots.{Where, typed}
-use Rattle.code_laws.specs.Simple.{AreComparable, compare_numbers, compare_truths, IsNumber, number_integer, AreAlike, IsInteger, IsIntegerTerm, IsScalar, IsTruth, SignsFit, a_truth_type, an_integer, minus_before, not_before, of_a_truth, of_an_integer, scalar_integer, scalar_truth, term_32, term_64, two_integers, two_truths}
-use Rattle.code_laws.specs.Typed.{AreNumbers, AreTypedLinks, IsTyped}
-use Rattle.scalar_form.specs.ScalarForm.{are_scalar_expressions, are_scalar_links, is_scalar_expression, is_scalar_number}
+use Rattle.code_laws.specs.Simple.{IsIntegerTerm, IsScalar, SignsFit, minus_before, not_before, of_a_truth, of_an_integer, scalar_integer, scalar_truth, term_32, term_64}
+use Rattle.scalar_form.specs.ScalarForm.{is_scalar_number}
 
 -- ---- types
 
