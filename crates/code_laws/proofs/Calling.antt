@@ -48,6 +48,7 @@ use Rattle.memory_laws.proofs.Covering.{covered_stays}
 use Rattle.memory_laws.proofs.Given.{given_holds, given_keeps_numbers}
 use Rattle.memory_laws.proofs.Returning.{returned_holds}
 use Rattle.code_laws.specs.Simple.{IsScalar, scalar_integer, scalar_truth}
+use Rattle.code_laws.proofs.Shapes.{shaped_stays}
 use Rattle.code_laws.specs.Standing.{Agrees, Answering, AreTaken, Aside, Comes, IsOf, Matches, Returns, SlotsFit, Stands, Takes, both_back, both_broke, called_with, is_own, machine_value, of_integer, of_truth}
 use Rattle.code_laws.specs.Steps.{Setting, machine_of, placed, on_step, Leads, Ends}
 use Rattle.code_laws.proofs.Making.{same_names}
@@ -181,6 +182,7 @@ module _ (x : Setting) (params slots : ℕ) (fit : SlotsFit x slots) (aside : As
         framed = record {
           own_are = numbers_stay ∙ g.framed.own_are;
           none = g.framed.none;
+          shaped = shaped_stays x.code.spaces (length x.before) s.store (take (length s.store) after) same g.framed.shaped;
           allows = covered_stays x.code s.store (take (length s.store) after) (memory_of i)
               (record (memory_of i) { contents = closed own c; parts = [] }) (is_own x) g.memory numbers_stay refl same g.framed.allows;
         };

@@ -39,6 +39,9 @@ use Rattle.code_laws.specs.Standing.{Agrees, AreOf, Aside, IsInside, is_own, IsO
 use Rattle.code_laws.specs.Steps.{Setting, machine_of, placed, on_step, Leads}
 use Rattle.code_laws.specs.Typed.{IsMakable}
 use Rattle.code_laws.proofs.Reaching.{kinds_are}
+use Rattle.regent_tree.specs.StaticTypes.{spaces_of}
+use Rattle.code_rules.specs.Programs.{space_code}
+use Rattle.code_laws.proofs.Shapes.{new_shaped, shaped_more}
 use Rattle.code_laws.proofs.Runs.{leads_by}
 
 -- ---- what was there stays
@@ -125,9 +128,13 @@ module _ (x : Setting) (params slots : ℕ) (aside : Aside) where
   abbrev pub new_region : State → ℕ → Value
   new_region s size = a_region (record { root = length s.store; points = points size })
 
-  pub made_agrees : (h : Here) (s : State) (i : Instance) (sp size : ℕ) → x.forms.makes ≡ true → Agrees x params slots aside h s i →
+  -- a field space of the program is one of the code's
+  space_there : (h : Here) (s : State) (i : Instance) (sp : ℕ) → IsMakable h.tree sp → Agrees x params slots aside h s i → sp < length x.code.spaces
+  space_there h s i sp can g = subst (λ n. sp < n) (sym (ap length g.spaces ∙ length-map (spaces_of h.tree) space_code)) can.there
+
+  pub made_agrees : (h : Here) (s : State) (i : Instance) (sp size : ℕ) → x.forms.makes ≡ true → IsMakable h.tree sp → Agrees x params slots aside h s i →
       Agrees x params slots aside h (with_new h sp size s) (make_root x.code size sp i)
-  made_agrees h s i sp size makes g =
+  made_agrees h s i sp size makes can g =
       let kinds = kinds_are x.code h.tree sp g.spaces in
       let j = make_root x.code size sp i in
       let image = new_root sp size (kinds_of x.code sp) in
@@ -153,6 +160,7 @@ module _ (x : Setting) (params slots : ℕ) (aside : Aside) where
         framed = record {
           own_are = made_is_own x.code i size sp x.before g.framed.own_are;
           none = λ e. absurd (no_way (sym makes ∙ e));
+          shaped = shaped_more x.code.spaces (length x.before) s.store image (new_shaped x.code sp size (space_there h s i sp can g)) g.framed.shaped;
           allows = made_covers x.code s.store i size sp (is_own x) g.memory g.framed.allows;
         };
       })
@@ -168,7 +176,7 @@ module _ (x : Setting) (params slots : ℕ) (aside : Aside) where
       let st = machine.Space size ∷ [] in
       let i1 = placed pc st i in
       let m = machine_of i1 in
-      let low : sp < length x.code.spaces = subst (λ n. sp < n) (sym (ap length g.spaces ∙ length-map _ _)) can.there in
+      let low = space_there h s i sp can g in
       let there = slice_get-get_or x.code.spaces sp no_space low in
       let few : length (get_or x.code.spaces sp no_space).fields ≤ 256 =
       subst (λ n. n ≤ 256) (sym (sym (length-map (get_or x.code.spaces sp no_space).fields (λ (f : FieldCode). f.kind))

@@ -255,6 +255,7 @@ module _ (tree : Tree) (turns more depth : ℕ) (t : TaskTree) (place : ℕ) (vs
         framed = record {
           own_are = sym (append-nil (numbers c));
           none = λ e. refl;
+          shaped = λ k own low. absurd (omega (arith, own, low, length-map c.roots (λ (r : Root). r.id.0), holds.stands.count));
           allows = λ u own l. absurd (omega (
             arith,
             leb-true (length (numbers c)) u.root own,

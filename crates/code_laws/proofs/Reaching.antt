@@ -31,6 +31,7 @@ use Rattle.memory_laws.specs.Places.{number_at}
 use Rattle.memory_laws.specs.Touches.{IsCovered}
 use Rattle.memory_laws.proofs.Covering.{covered_stays}
 use Rattle.memory_laws.proofs.Shapes.{length_of, shapes_at}
+use Rattle.code_laws.proofs.Shapes.{shaped_stays}
 use Rattle.code_laws.specs.Standing.{Agrees, is_own, AreOf, Aside, IsInside, IsOf, LiesIn, nothing, of_index, of_integer, of_partition, of_pointer, of_region, of_space, of_truth}
 use Rattle.code_laws.specs.Steps.{Setting}
 use Rattle.code_laws.proofs.Touching.{parted}
@@ -111,6 +112,7 @@ rewritten x params slots aside h s i ps ts store same g holds = record {
   framed = record {
     own_are = g.framed.own_are;
     none = g.framed.none;
+    shaped = shaped_stays x.code.spaces (length x.before) s.store store same g.framed.shaped;
     allows = covered_stays x.code s.store store (memory_of i) (memory_of (parted ps i)) (is_own x) g.memory refl refl same g.framed.allows;
   };
 }

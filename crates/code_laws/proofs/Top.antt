@@ -1,5 +1,5 @@
 -- The run in order of a program over scalars is what the program means.
-use Rattle.std.proofs.Common.{◌≡◌, ℕ, ◌≤◌, ℤ, List, [], ◌∷◌, ◌++◌, true, false, refl, sym, ap, ◌∙◌, arith}
+use Rattle.std.proofs.Common.{◌≡◌, ℕ, ◌≤◌, ◌<◌, ◌^◌, ℤ, List, [], ◌∷◌, ◌++◌, true, false, refl, sym, ap, ◌∙◌, arith}
 use Rattle.std.specs.Prelude.{cond, length, map, nat_le, ◌==◌, ◌&&◌}
 use Rattle.std.proofs.lemmas.Bool.{le-leb, eq-eqb}
 use Rattle.regent_tree.specs.Execution.{Going, goes_on, returned}
@@ -34,11 +34,13 @@ use Rattle.regent_tree.specs.declared.outcome.RootImage.{RootImage}
 use Rattle.machine_terms.specs.declared.order.Instance.{Instance}
 use Rattle.code_laws.proofs.Tasks.{answering}
 use Rattle.code_laws.proofs.Values.{not_true, number_inside}
-use Rattle.code_laws.specs.Programs.{CallsRunAsMeant, call_forms, IsTypedRun, LeavesNoRoots, RegionsRunAsMeant, RunsAsMeant, ScalarsRunAsMeant, entry_setting, job_of, region_forms, scalar_forms}
+use Rattle.code_laws.specs.Programs.{AreTypedTasks, CallsRunAsMeant, call_forms, IsTypedRun, LeavesNoRoots, RegionsRunAsMeant, RunsAsMeant, ScalarsRunAsMeant, entry_setting, job_of, region_forms, scalar_forms}
 use Rattle.code_laws.specs.Standing.{Answering, AreTaken, Does, IsFramed, IsInside, IsOf, Stands, machine_value}
 use Rattle.code_laws.specs.Steps.{Ends, Forms, Setting, placed}
 use Rattle.code_laws.proofs.Counts.{counts_down}
 use Rattle.code_laws.proofs.Openings.{before_all, begins, fits_slots, least_slots, opens, params_length, taken_length, types_length}
+use Rattle.code_laws.proofs.Shapes.{all_shaped}
+use Rattle.run_report.specs.Dumps.{fits_spaces}
 use Rattle.code_laws.proofs.Places.{stands_alone}
 use Rattle.code_laws.proofs.Runs.{ends_by, leads_end}
 use Rattle.code_laws.proofs.Segments.{segments_give}
@@ -85,7 +87,7 @@ module _ (forms : Forms) (tree : Tree) (turns : ℕ) (t : TaskTree) where
 
   -- what the body comes to is told as the meaning tells it
   abbrev IsTold : Result Going → Ended → Type 0
-  IsTold r e = (run_outcome e ≡ outcome r) × (forms.makes ≡ false → LeavesNoRoots (outcome r).ending)
+  IsTold r e = (run_outcome e ≡ outcome r) × (forms.makes ≡ false → LeavesNoRoots (outcome r).ending) × (fits_spaces (code_of tree) (outcome r) ≡ true)
 
   by_end : (i : _) (r : Result Going) → Does x (length t.params) (task_code tree t).slots (before_all turns) i
       (past (block_code (place_of tree t) t.body) 0)
@@ -100,6 +102,7 @@ module _ (forms : Forms) (tree : Tree) (turns : ℕ) (t : TaskTree) where
           ap (λ text. record { text = text; ending = images_of d.0.frame.own (give_parts d.0.parts d.0.contents) }) d.2.text
               ∙ ap (λ e. record { text = s.text; ending = e }) (roots_are x s d.0 refl d.2.memory d.2.framed),
           λ m. no_roots x s d.0 refl m d.2.memory d.2.framed,
+          all_shaped (code_of tree).spaces s.store d.2.framed.shaped,
         ),
       )
   by_end i (gives (returned v) s) d f = (
@@ -109,14 +112,16 @@ module _ (forms : Forms) (tree : Tree) (turns : ℕ) (t : TaskTree) where
       ap (λ text. record { text = text; ending = images_of d.1.frame.own (give_parts d.1.parts d.1.contents) }) d.4
           ∙ ap (λ e. record { text = s.text; ending = e }) (roots_are x s d.1 refl d.5 d.6),
       λ m. no_roots x s d.1 refl m d.5 d.6,
+      all_shaped (code_of tree).spaces s.store d.6.shaped,
     ),
   )
-  by_end i (fails k s) d f = (_, d, (refl, λ m. tt))
+  by_end i (fails k s) d f = (_, d, (refl, λ m. tt, refl))
 
 pub typed_run_ends : (forms : Forms) (tree : Tree) (inputs : List ℤ) (turns : ℕ) →
     (forms.calls ≡ true → Answering (entry_setting forms tree turns (task_named tree (entry_name tree))) tree (calls_at tree turns 63)) →
     IsTypedRun forms tree inputs →
     RunsAsMeant tree inputs turns × (forms.makes ≡ false → LeavesNoRoots (meaning tree inputs turns).ending)
+    × (fits_spaces (code_of tree) (meaning tree inputs turns) ≡ true)
 typed_run_ends forms tree inputs turns answers p =
     let t = task_named tree (entry_name tree) in
     let code = task_code tree t in
@@ -150,6 +155,7 @@ typed_run_ends forms tree inputs turns answers p =
           ∙ ap run_outcome ran
           ∙ done.2.0,
       done.2.1,
+      done.2.2,
     )
 
 pub scalars_run_as_meant : ScalarsRunAsMeant
@@ -159,9 +165,18 @@ pub regions_run_as_meant : RegionsRunAsMeant
 regions_run_as_meant tree inputs turns p = (typed_run_ends region_forms tree inputs turns (λ e. absurd (not_true e)) p).0
 
 -- by what calls are answered
+calls_end : (tree : Tree) (inputs : List ℤ) (turns : ℕ) → turns < 2 ^ 64 → AreTypedTasks tree → IsTypedRun call_forms tree inputs →
+    RunsAsMeant tree inputs turns × (call_forms.makes ≡ false → LeavesNoRoots (meaning tree inputs turns).ending)
+    × (fits_spaces (code_of tree) (meaning tree inputs turns) ≡ true)
+calls_end tree inputs turns few are p =
+    typed_run_ends call_forms tree inputs turns (λ e. answering tree turns few are 63 1 [] (task_named tree (entry_name tree)) refl) p
+
 pub calls_run_as_meant : CallsRunAsMeant
-calls_run_as_meant tree inputs turns few are p =
-    (typed_run_ends call_forms tree inputs turns (λ e. answering tree turns few are 63 1 [] (task_named tree (entry_name tree)) refl) p).0
+calls_run_as_meant tree inputs turns few are p = (calls_end tree inputs turns few are p).0
+
+pub calls_fit_spaces : (tree : Tree) (inputs : List ℤ) (turns : ℕ) → turns < 2 ^ 64 → AreTypedTasks tree → IsTypedRun call_forms tree inputs →
+    fits_spaces (code_of tree) (meaning tree inputs turns) ≡ true
+calls_fit_spaces tree inputs turns few are p = (calls_end tree inputs turns few are p).2
 
 pub scalars_leave_no_roots : (tree : Tree) (inputs : List ℤ) (turns : ℕ) → IsTypedRun scalar_forms tree inputs →
     LeavesNoRoots (meaning tree inputs turns).ending

@@ -1,4 +1,4 @@
--- Statements over scalars of which no breach is told are typed.
+-- Statements of which no breach is told: their parts, and what fits where it stands.
 use Rattle.std.proofs.Common.{◌≡◌, Bool, List, [], ◌∷◌, None, Option, Some, false, true, refl, ap, sym, ℕ, suc, ◌∙◌, not}
 use Rattle.std.specs.Option.{option_or}
 use Rattle.lane_kernels.specs.declared.numbers.Width.TheVariants.{W32, W64}
@@ -24,12 +24,13 @@ use Rattle.plain_values.proofs.Plain.{option_or_parts}
 use Rattle.regent_tree.specs.Lookup.{is_bound, type_named}
 use Rattle.regent_tree.specs.Scopes.{Scope, in_scope}
 use Rattle.regent_tree.specs.StaticTypes.{type_said}
-use Rattle.regent_tree.specs.Syntax.{Expression, Expressions, Form, TaskTree, Tree, access_expr, an_expr, no_expr, no_step, chain_expr, a_link, no_link}
-use Rattle.regent_tree.specs.Typing.{arithmetic_type, owned, result_type}
+use Rattle.regent_tree.specs.Syntax.{Expression, Expressions, Form, Name, TaskTree, Tree, access_expr, an_expr, no_expr, no_step, chain_expr, a_link, no_link}
+use Rattle.regent_tree.specs.Typing.{arithmetic_type, result_type}
 use Rattle.regent_tree.specs.declared.facts.Known.{Known}
 use Rattle.regent_tree.specs.declared.types.NumberTerm.TheVariants as number
 use Rattle.regent_tree.specs.declared.types.TypeTerm.{TypeTerm}
 use Rattle.regent_tree.specs.declared.types.TypeTerm.TheVariants as term
+use Rattle.regent_tree.specs.declared.typing.Bound.{Bound}
 use Rattle.regent_tree.specs.declared.typing.StaticType.{StaticType}
 use Rattle.regent_tree.specs.declared.typing.StaticType.TheVariants.{Integer as integer_type, Truth as truth_type}
 use Rattle.check_rules.specs.first.FirstInExpressions.{first_in_args, first_in_expression, first_in_type, first_of_call, first_of_standing}
@@ -42,50 +43,32 @@ use Rattle.check_rules.specs.types.KnownTypes.{known_types}
 use Rattle.check_rules.specs.types.Sorts.{may_be, is_partition}
 use Rattle.check_rules.specs.declared.rule.Rule.TheVariants as rule
 use Rattle.check_rules.proofs.Untold.{rule_none}
-use Rattle.code_laws.specs.Simple.{AreAlike, IsInteger, IsScalar, an_integer, scalar_integer, scalar_truth}
+use Rattle.code_laws.specs.Simple.{AreAlike, IsInteger, IsScalar, IsSimple, an_integer, scalar_integer, scalar_truth}
 use Rattle.scalar_form.specs.ScalarForm.{is_scalar_if_said, is_scalar_term}
-use Rattle.code_laws.proofs.Typing.{AllScalar, fitting, named_scalar, no_way, no_way_back}
-
--- a written scalar type
-pub said_scalar : (tree : Tree) (s : Scope) (next : ℕ) (t : TypeTerm) → is_scalar_term t ≡ true → IsScalar (type_said tree (in_scope s) next t)
-said_scalar tree s next (term.Number number.Int32) e = scalar_integer _
-said_scalar tree s next (term.Number number.Int64) e = scalar_integer _
-said_scalar tree s next (term.Number (number.Index k)) e = absurd cc
-said_scalar tree s next term.Truth e = scalar_truth
-said_scalar tree s next (term.Pointer p) e = absurd cc
-said_scalar tree s next (term.Ispace k) e = absurd cc
-said_scalar tree s next (term.Region k u) e = absurd cc
-said_scalar tree s next (term.Partition d r c) e = absurd cc
-
-pub owned_scalar : (n : ℕ) (t : StaticType) → IsScalar t → IsScalar (owned n t)
-owned_scalar n _ (scalar_integer w) = scalar_integer w
-owned_scalar n _ scalar_truth = scalar_truth
+use Rattle.code_laws.proofs.LocalTypes.{simple_fitting}
+use Rattle.code_laws.proofs.Typing.{no_way, no_way_back}
 
 pub sum_scalar : (t u : StaticType) → IsInteger t → IsInteger u → IsScalar (arithmetic_type t u)
 sum_scalar _ _ (an_integer v) (an_integer w) = scalar_integer _
 
-pub integer_scalar : (t : StaticType) → IsInteger t → IsScalar t
-integer_scalar _ (an_integer w) = scalar_integer w
-
 -- ---- what nothing is told of
 
-no_partition : (t : StaticType) → IsScalar t → may_be is_partition t ≡ false
-no_partition _ (scalar_integer w) = refl
-no_partition _ scalar_truth = refl
+abbrev pub HasNoPartition : List Bound → Type 0
+HasNoPartition bs = (n : Name) → is_bound bs n ≡ true → may_be is_partition (type_named bs n) ≡ false
 
 module _ (tree : Tree) (task : TaskTree) (s : Scope) where
   abbrev told : Expression → Option Rule
   told e = first_in_expression tree task s e
 
-  -- an initializer is told whole, since no name is a partition
-  no_difference : AllScalar s.names → (e : Expression) → is_difference s.names e ≡ true → first_in told (members_of e) ≡ None → ⊥
+  -- an initializer is told whole, where no name is a partition
+  no_difference : HasNoPartition s.names → (e : Expression) → is_difference s.names e ≡ true → first_in told (members_of e) ≡ None → ⊥
   no_difference names (chain_expr (access_expr p no_step) (a_link (Compute Subtract) (access_expr q no_step) no_link)) d e =
       let bound = rule_none (not (is_bound s.names p)) rule.Name (option_or_parts _ _ (option_or_parts (told (access_expr p no_step)) _ e).0).0 in
-      let scalar = named_scalar s.names p names (not-false (is_bound s.names p) bound) in
-      no_way (sym (and_parts (may_be is_partition (type_named s.names p)) (may_be is_partition (type_named s.names q)) d).0 ∙ no_partition (type_named s.names p) scalar)
+      no_way (sym (and_parts (may_be is_partition (type_named s.names p)) (may_be is_partition (type_named s.names q)) d).0
+      ∙ names p (not-false (is_bound s.names p) bound))
   no_difference names _ d e = absurd cc
 
-  pub initial_told : AllScalar s.names → (e : Expression) →
+  pub initial_told : HasNoPartition s.names → (e : Expression) →
       first_in told (cond (is_difference s.names e) (members_of e) (e ∷ [])) ≡ None → told e ≡ None
   initial_told names e heads = chosen (is_difference s.names e) refl heads
     where
@@ -123,6 +106,19 @@ module _ (tree : Tree) (task : TaskTree) (s : Scope) where
         rule_none (misreturns task form) rule.Return p.0,
       )
 
+  -- the names of a statement, and the call that it is
+  pub told_names : (form : Form) → first_of_form tree task s form ≡ None →
+      (unbound_name_in_form tree s.names form ≡ false) × (first_in (first_of_call tree task s) (call_of_form tree s form) ≡ None)
+  told_names form e =
+      let a = option_or_parts (first_in (first_in_type tree s.names) (declared_at form)) _ e in
+      let b = option_or_parts (rule_if (has_no_type form) rule.Type) _ a.1 in
+      let c = option_or_parts (first_in told (heads_of s.names form)) _ b.1 in
+      let d = option_or_parts (first_in_targets tree task s form) _ c.1 in
+      let f = option_or_parts (rule_if (unbound_name_in_form tree s.names form) rule.Name) _ d.1 in
+      let g = option_or_parts (first_in (first_of_initializer tree task s) (initializer_at form)) _ f.1 in
+      let h = option_or_parts (first_in (first_of_call tree task s) (call_of_form tree s form)) _ g.1 in
+      (rule_none (unbound_name_in_form tree s.names form) rule.Name f.0, h.0)
+
 -- the first of what stands somewhere stands well
 pub first_stands : (known : List Known) (a : Standing) (more : List Standing) → list_any (is_ill_typed_at_place known) (a ∷ more) ≡ false →
     (may_stand known a ≡ true) × (list_any (is_ill_typed_at_place known) more ≡ false)
@@ -139,29 +135,25 @@ counted n None e = absurd (no_way_back e)
 counted n (Some m) e = ap Some (sym (eqb-true n m e))
 
 -- a declared type and what fits it
-pub declared_fits : (tree : Tree) (s : Scope) (t : TypeTerm) (from : StaticType) → is_scalar_term t ≡ true → IsScalar from →
+pub declared_fits : (tree : Tree) (s : Scope) (t : TypeTerm) (from : StaticType) → is_scalar_term t ≡ true → IsSimple from →
     fits s.known from (declared_type tree s t) ≡ true → AreAlike from (type_said tree (in_scope s) s.next t)
-declared_fits tree s (term.Number number.Int32) from sc scalar e = fitting s.known from (integer_type W32) scalar (scalar_integer W32) e
-declared_fits tree s (term.Number number.Int64) from sc scalar e = fitting s.known from (integer_type W64) scalar (scalar_integer W64) e
+declared_fits tree s (term.Number number.Int32) from sc scalar e = simple_fitting s.known from (integer_type W32) scalar (scalar_integer W32) e
+declared_fits tree s (term.Number number.Int64) from sc scalar e = simple_fitting s.known from (integer_type W64) scalar (scalar_integer W64) e
 declared_fits tree s (term.Number (number.Index k)) from sc scalar e = absurd (no_way_back sc)
-declared_fits tree s term.Truth from sc scalar e = fitting s.known from truth_type scalar scalar_truth e
+declared_fits tree s term.Truth from sc scalar e = simple_fitting s.known from truth_type scalar scalar_truth e
 declared_fits tree s (term.Pointer p) from sc scalar e = absurd (no_way_back sc)
 declared_fits tree s (term.Ispace k) from sc scalar e = absurd (no_way_back sc)
 declared_fits tree s (term.Region k u) from sc scalar e = absurd (no_way_back sc)
 declared_fits tree s (term.Partition d r c) from sc scalar e = absurd (no_way_back sc)
 
-pub owned_is : (n : ℕ) (t : StaticType) → IsScalar t → owned n t ≡ t
-owned_is n _ (scalar_integer w) = refl
-owned_is n _ scalar_truth = refl
-
 -- a declared result and what fits it
 pub result_fits : (tree : Tree) (known : List Known) (r : Option TypeTerm) (from : StaticType) → is_scalar_if_said r ≡ true → is_none r ≡ false →
-    IsScalar from → fits known from (known_result tree r) ≡ true → AreAlike from (result_type tree r)
+    IsSimple from → fits known from (known_result tree r) ≡ true → AreAlike from (result_type tree r)
 result_fits tree known None from sc some scalar e = absurd (no_way some)
-result_fits tree known (Some (term.Number number.Int32)) from sc some scalar e = fitting known from (integer_type W32) scalar (scalar_integer W32) e
-result_fits tree known (Some (term.Number number.Int64)) from sc some scalar e = fitting known from (integer_type W64) scalar (scalar_integer W64) e
+result_fits tree known (Some (term.Number number.Int32)) from sc some scalar e = simple_fitting known from (integer_type W32) scalar (scalar_integer W32) e
+result_fits tree known (Some (term.Number number.Int64)) from sc some scalar e = simple_fitting known from (integer_type W64) scalar (scalar_integer W64) e
 result_fits tree known (Some (term.Number (number.Index k))) from sc some scalar e = absurd (no_way_back sc)
-result_fits tree known (Some term.Truth) from sc some scalar e = fitting known from truth_type scalar scalar_truth e
+result_fits tree known (Some term.Truth) from sc some scalar e = simple_fitting known from truth_type scalar scalar_truth e
 result_fits tree known (Some (term.Pointer p)) from sc some scalar e = absurd (no_way_back sc)
 result_fits tree known (Some (term.Ispace k)) from sc some scalar e = absurd (no_way_back sc)
 result_fits tree known (Some (term.Region k u)) from sc some scalar e = absurd (no_way_back sc)

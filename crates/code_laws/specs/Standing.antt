@@ -47,6 +47,7 @@ use Rattle.memory_laws.specs.Closing.{AreOwn}
 use Rattle.memory_laws.specs.Covering.{AreCovered}
 use Rattle.memory_laws.specs.Memory.{Holds, Memory, StandFor, memory_of}
 use Rattle.memory_laws.specs.Places.{number_at, numbers}
+use Rattle.run_report.specs.Dumps.{is_of_space}
 use Rattle.code_laws.specs.Steps.{Setting, placed, Leads, Ends}
 
 -- a piece stands in a body at a place
@@ -160,11 +161,13 @@ pub record Aside : Type 0 where
 abbrev pub is_own : Setting → Touch → Bool
 is_own x t = nat_le (length x.before) t.root
 
--- What stays while an instance runs: its own roots come behind those that were there before it, and its
--- needs allow each touch of a point of these.
+-- What stays while an instance runs: its own roots come behind those that were there before it, each is of one
+-- of the field spaces, and its needs allow each touch of a point of these.
 pub record IsFramed (x : Setting) (store : Store) (own : List RootId) (m : Memory) : Type 0 where
   pub own_are : AreOwn x.before own m.contents
   pub none : x.forms.makes ≡ false → own ≡ []
+  pub shaped : (place : ℕ) → length x.before ≤ place → place < length store →
+      is_of_space x.code.spaces (get_or store place no_root) ≡ true
   pub allows : AreCovered (is_own x) store m
 
 -- ---- calls

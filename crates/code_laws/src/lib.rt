@@ -5,8 +5,10 @@
 
 ghost use Rattle.code_laws.specs.CallExample.{CallExampleHolds};
 ghost use Rattle.code_laws.specs.Example.{ExampleHolds};
+ghost use Rattle.code_laws.specs.LocalExample.{LocalExampleHolds};
 ghost use Rattle.code_laws.specs.RegionExample.{RegionExampleHolds};
 ghost use Rattle.code_laws.specs.Programs.{CallsRunAsMeant, RegionsRunAsMeant, ScalarsRunAsMeant};
+ghost use Rattle.code_laws.specs.LocalPrograms.{LocalProgramsEndWell, LocalProgramsRunAsMeant};
 ghost use Rattle.code_laws.specs.ScalarPrograms.{ScalarProgramsLeaveNoRoots, ScalarProgramsRunAsMeant};
 
 /// Where the entry task's body is typed and treats scalars alone, the run in order of its code is what the
@@ -41,6 +43,20 @@ pub fn scalar_programs_leave_no_roots()
     ensures { ScalarProgramsLeaveNoRoots }
 {}
 
+/// So it is for each accepted program whose tasks keep their regions to themselves: each takes and gives numbers
+/// and truths, or nothing, and declares no privilege.
+#[tactic(auto, using(crate::proofs::LocalRuns::local_programs_run_as_meant))]
+pub fn local_programs_run_as_meant()
+    ensures { LocalProgramsRunAsMeant }
+{}
+
+/// Such a run is never broken, and the roots that it leaves are of the code's field spaces, so that they can be
+/// dumped.
+#[tactic(auto, using(crate::proofs::LocalRuns::local_programs_end_well))]
+pub fn local_programs_end_well()
+    ensures { LocalProgramsEndWell }
+{}
+
 /// A program that makes a root and has accesses of every kind: each premise of the law on regions holds of it,
 /// and with two inputs it means an end and a fault.
 #[tactic(auto, using(crate::proofs::RegionExample::region_example_holds))]
@@ -53,6 +69,13 @@ pub fn region_example_holds()
 #[tactic(auto, using(crate::proofs::CallExample::call_example_holds))]
 pub fn call_example_holds()
     ensures { CallExampleHolds }
+{}
+
+/// A histogram, with calls and regions, of which each premise of the law on such programs holds; with two inputs it
+/// means an end and a fault.
+#[tactic(auto, using(crate::proofs::LocalExample::local_example_holds))]
+pub fn local_example_holds()
+    ensures { LocalExampleHolds }
 {}
 
 /// A program and a number of which each premise of the law holds.

@@ -1,0 +1,291 @@
+-- Expressions of a text with marked names, of which no breach is told, are typed.
+use Rattle.std.proofs.Common.{◌≡◌, Bool, List, [], ◌∷◌, ◌++◌, None, Option, Some, false, true, refl, ap, sym, subst, ◌∙◌, inl, inr, not, arith}
+use Rattle.std.specs.Prelude.{is_none, length, map, ◌&&◌, ◌==◌}
+use Rattle.std.specs.List.{list_any}
+use Rattle.std.proofs.lemmas.Bool.{and_parts, eqb-true, not-false, or_parts}
+use Rattle.plain_values.proofs.Plain.{option_or_parts}
+use Rattle.regent_tree.specs.Limits.{literal, node, nodes, parts_of_expression, parts_of_expressions, parts_of_links}
+use Rattle.regent_tree.specs.Lookup.{has_task, is_bound}
+use Rattle.regent_tree.specs.Scopes.{scope_of}
+use Rattle.regent_tree.specs.StaticTypes.{task_named}
+use Rattle.regent_tree.specs.Syntax.{Expression, Expressions, Links, Name, TaskTree, a_link, access_expr, an_expr, at_step, call_expr, Tree, cast_expr, chain_expr, convert_expr, field_step, is_null_expr, no_expr, no_link, no_step, null_expr, number_expr, prefix_expr, space_expr, truth_expr}
+use Rattle.regent_tree.specs.Typing.{linked_type, operated, param_types, params_at, put_in, result_type, type_of_element, types_of}
+use Rattle.regent_tree.specs.declared.expression.Operator.{Operator}
+use Rattle.regent_tree.specs.declared.expression.Operator.TheVariants.{And, Compare, Compute, Or}
+use Rattle.regent_tree.specs.declared.types.TypeTerm.{TypeTerm}
+use Rattle.regent_tree.specs.declared.typing.StaticType.{StaticType}
+use Rattle.check_laws.proofs.Blocks.{head_known}
+use Rattle.check_laws.specs.SoundScopes.{IsSoundScope}
+use Rattle.check_rules.specs.first.FirstInExpressions.{first_in_args, first_in_expression, first_in_links, first_of_call, first_of_operator, first_of_signs, first_of_standing, first_of_step, first_of_taking}
+use Rattle.check_rules.specs.first.Rules.{first_in, rule_if}
+use Rattle.check_rules.specs.rules.Counts.{miscounts_call}
+use Rattle.check_rules.specs.rules.Names.{is_unknown_task}
+use Rattle.check_rules.specs.rules.Standing.{integer_spot, number_spot, param_spot, stand_at, standing_in_call, stands}
+use Rattle.check_rules.specs.rules.Types.{has_no_result, may_stand, operates_on}
+use Rattle.check_rules.specs.scopes.Sound.{IsSound}
+use Rattle.check_rules.specs.types.Declarations.{params_of}
+use Rattle.check_rules.specs.types.KnownTypes.{known_type, known_type_after_operator, known_type_after_step, known_types}
+use Rattle.check_rules.specs.types.Params.{types_in_order}
+use Rattle.check_rules.specs.types.Sorts.{is_integer, is_number, may_be}
+use Rattle.check_rules.specs.types.TypedForms.{calling, computing, element_of, field_of}
+use Rattle.check_rules.specs.declared.rule.Rule.TheVariants as rule
+use Rattle.check_rules.proofs.Untold.{rule_none}
+use Rattle.code_rules.specs.Slots.{Where, bound, typed}
+use Rattle.code_laws.specs.LocalForm.{Marked, are_local_expressions, are_local_links, gives_scalar, is_local_expression, links_give}
+use Rattle.code_laws.specs.Programs.{call_forms}
+use Rattle.code_laws.specs.Simple.{AreAlike, IsNumber, IsScalar, IsSimple, scalar_integer, scalar_truth, simple_integer, simple_space, simple_truth}
+use Rattle.code_laws.specs.Typed.{AreNumbers, ArePassed, AreTypedLinks, IsTyped}
+use Rattle.code_laws.proofs.LocalNames.{AllKept, AreScalars, IsLocalTree, IsPlace, element_known, kept_simple, named_kept, named_place, place_is, simple_kept, taking_told}
+use Rattle.code_laws.proofs.LocalTypes.{number_is, operated_number, operated_simple, param_fitting, simple_after, simple_as_integer, simple_as_number, simple_compared, simple_computed, simple_truths, term_scalar}
+use Rattle.code_laws.proofs.Openings.{params_length, types_length}
+use Rattle.code_laws.proofs.Typing.{AreKept, integer_term, kept_behind, kept_left, kept_right, literal_fits, no_way, no_way_back, number_scalar, operates, signed_scalar, signs_fit, stands_well}
+use Rattle.code_laws.proofs.Values.{scalar_simple}
+use Rattle.scalar_form.specs.ScalarForm.{is_scalar_if_said, is_scalar_number}
+
+-- a result that is there
+pub given_result : (tree : Tree) (r : Option TypeTerm) → is_scalar_if_said r ≡ true → is_none r ≡ false → IsScalar (result_type tree r)
+given_result tree None s e = absurd (no_way e)
+given_result tree (Some t) s e = term_scalar t s tree (λ n. None) 0
+
+-- of two that aren't both so, the second where the first is
+and_then : (a b : Bool) → a ≡ true → (a && b) ≡ false → b ≡ false
+and_then a b h e = sym (ap (λ x. x && b) h) ∙ e
+
+-- a number or truth parameter is the same with all arguments
+put_scalar : (types : List StaticType) (p : StaticType) → IsScalar p → put_in types p ≡ p
+put_scalar types _ (scalar_integer w) = refl
+put_scalar types _ scalar_truth = refl
+
+module _ (task : TaskTree) (w : Where) (sound : IsSound w.tree) (local : IsLocalTree w.tree) (m : Marked) (scope : IsSoundScope w.scope)
+    (names : AllKept m w.scope.names) where
+  pub record IsWell (e : Expression) : Type 0 where
+    pub is : IsTyped call_forms w e
+    pub simple : IsSimple (typed w e)
+    pub scalar : gives_scalar m e ≡ true → IsScalar (typed w e)
+
+  -- behind what gives a number or truth, or may not
+  pub record AreWellLinks (left : Bool) (t : StaticType) (ls : Links) : Type 0 where
+    pub are : AreTypedLinks call_forms w t ls
+    pub simple : IsSimple (linked_type w.tree w.scope t ls)
+    pub scalar : links_give m left ls ≡ true → IsScalar (linked_type w.tree w.scope t ls)
+
+  -- the checker's type is the meaning's
+  pub local_known : (e : Expression) → first_in_expression w.tree task w.scope e ≡ None → known_type w.tree w.scope e ≡ typed w e
+  local_known e none = (head_known w.tree task sound w.scope scope e none).1
+
+  -- an index at which a field is taken, and what is taken there
+  pub record IsAt (n : Name) (e : Expression) (f : Name) : Type 0 where
+    pub number : IsNumber (typed w e)
+    pub place : IsPlace w (bound w n).number (bound w n).static_type e f
+    pub element : known_type_after_step w.tree (element_of (bound w n).static_type (known_type w.tree w.scope e)) (type_of_element w.scope (bound w n).static_type e)
+        ≡ type_of_element w.scope (bound w n).static_type e
+
+  pub at_point : (n : Name) (e : Expression) (f : Name) → is_bound w.scope.names n ≡ true → first_in_expression w.tree task w.scope e ≡ None → IsWell e →
+      first_of_taking w.tree (element_of (bound w n).static_type (known_type w.tree w.scope e)) ≡ None →
+      first_of_taking w.tree (field_of (known_type_after_step w.tree (element_of (bound w n).static_type (known_type w.tree w.scope e)) (type_of_element w.scope (bound w n).static_type e)) f) ≡ None →
+      IsAt n e f
+  at_point n e f b told a first field =
+      let t = (bound w n).static_type in
+      let i = (bound w n).number in
+      let at = known_type w.tree w.scope e in
+      let kept = named_kept m w.scope.names n names b in
+      let stood = (option_or_parts (first_of_standing [] (stands at number_spot)) _ (taking_told w.tree (element_of t at) first).2).0 in
+      let number = simple_as_number (typed w e) a.simple
+      (subst (λ u. may_be is_number u ≡ true) (local_known e told) (stands_well [] at number_spot stood)) in
+      let element = element_known w sound local m n i t at e kept (ap is_number (local_known e told) ∙ number_is (typed w e) number) first in record {
+        number = number;
+        place = place_is w sound local m n i t at e f kept first (subst (λ u. first_of_taking w.tree (field_of u f) ≡ None) element field);
+        element = element;
+      }
+
+  -- what is told of no call: its task is there, has as many parameters, and what is given stands well
+  pub record IsCallTold (n : Name) (args : Expressions) : Type 0 where
+    pub there : has_task w.tree n ≡ true
+    pub standing : first_in (first_of_standing w.scope.known)
+        (stand_at (known_types w.tree w.scope args) (param_types w.tree (task_named w.tree n)) (known_types w.tree w.scope args)) ≡ None
+    pub many : length (known_types w.tree w.scope args) ≡ length (param_types w.tree (task_named w.tree n))
+
+  call_told : (n : Name) (args : Expressions) → first_of_call w.tree task w.scope (calling n (known_types w.tree w.scope args)) ≡ None → IsCallTold n args
+  call_told n args e =
+      let c = calling n (known_types w.tree w.scope args) in
+      let t = task_named w.tree n in
+      let ps = param_types w.tree t in
+      let one = option_or_parts (rule_if (is_unknown_task w.tree c) rule.Name) _ e in
+      let there = not-false (has_task w.tree n) (rule_none (is_unknown_task w.tree c) rule.Name one.0) in
+      let two = option_or_parts (rule_if (miscounts_call w.tree c) rule.Count) _ one.1 in
+      let many = and_then (has_task w.tree n) (not (length c.args == length t.params)) there (rule_none (miscounts_call w.tree c) rule.Count two.0) in
+      let three = option_or_parts (first_in (first_of_standing w.scope.known) (standing_in_call w.tree c)) _ two.1 in
+      let long : length ps ≡ length t.params = types_length (scope_of w.tree t).names ∙ params_length w.tree t.params 0 t.params in
+      let order : params_of w.tree n ≡ ps = ap types_in_order (sound.params n) in record {
+        there = there;
+        standing = subst (λ ts. first_in (first_of_standing w.scope.known) (stand_at c.args ts c.args) ≡ None) order three.0;
+        many = eqb-true (length c.args) (length t.params) (not-false (length c.args == length t.params) many) ∙ sym long;
+      }
+
+  -- what a call is given, and that its task is there
+  pub record IsPassed (n : Name) (args : Expressions) : Type 0 where
+    pub there : has_task w.tree n ≡ true
+    pub passed : ArePassed call_forms w (params_at w.tree w.scope (task_named w.tree n) args) (param_types w.tree (task_named w.tree n)) args
+
+  -- behind an operator
+  by_operator : (left : Bool) (o : Operator) (t : StaticType) (e : Expression) (rest : Links) → IsSimple t → (left ≡ true → IsScalar t) → IsWell e →
+      operates_on o t (typed w e) ≡ true →
+      ((next : Bool) → IsSimple (operated o t (typed w e)) → (next ≡ true → IsScalar (operated o t (typed w e))) → AreWellLinks next (operated o t (typed w e)) rest) →
+      AreWellLinks left t (a_link o e rest)
+  by_operator left Or t e rest simple scalar a does more =
+      let both = simple_truths t (typed w e) simple a.simple does in
+      let r = more true simple_truth (λ q. scalar_truth) in
+      record { are = (both.0, both.1, a.is, r.are); simple = r.simple; scalar = r.scalar }
+  by_operator left And t e rest simple scalar a does more =
+      let both = simple_truths t (typed w e) simple a.simple does in
+      let r = more true simple_truth (λ q. scalar_truth) in
+      record { are = (both.0, both.1, a.is, r.are); simple = r.simple; scalar = r.scalar }
+  by_operator left (Compare c) t e rest simple scalar a does more =
+      let r = more true simple_truth (λ q. scalar_truth) in
+      record { are = (simple_compared c t (typed w e) simple a.simple does, a.is, r.are); simple = r.simple; scalar = r.scalar }
+  by_operator left (Compute o) t e rest simple scalar a does more =
+      let both = simple_computed t (typed w e) simple a.simple does in
+      let r = more (left && gives_scalar m e) (operated_simple o t (typed w e) both.0 both.1)
+      (λ q. let p = and_parts left (gives_scalar m e) q in operated_number o t (typed w e) both.0 both.1 (scalar p.0) (a.scalar p.1)) in
+      record { are = (both.0, both.1, a.is, r.are); simple = r.simple; scalar = r.scalar }
+
+  mutual
+    pub local_well : (e : Expression) → is_local_expression m e ≡ true → AreKept (parts_of_expression e) →
+        first_in_expression w.tree task w.scope e ≡ None → IsWell e
+    local_well (number_expr z v) lo k e =
+        record { is = literal_fits z v (k (literal z v) (inr (inl refl))); simple = simple_integer v; scalar = λ q. scalar_integer v }
+    local_well (truth_expr b) lo k e = record { is = tt; simple = simple_truth; scalar = λ q. scalar_truth }
+    local_well (chain_expr first rest) lo k e =
+        let s = and_parts (is_local_expression m first) (are_local_links m rest) lo in
+        let told = option_or_parts (first_in_expression w.tree task w.scope first) _ e in
+        let parts = kept_behind node (parts_of_expression first ++ parts_of_links rest) k in
+        let a = local_well first s.0 (kept_left (parts_of_expression first) (parts_of_links rest) parts) told.0 in
+        let l = local_links (gives_scalar m first) (typed w first) rest s.1 (kept_right (parts_of_expression first) (parts_of_links rest) parts) a.simple a.scalar
+        (subst (λ t. first_in_links w.tree task w.scope t rest ≡ None) (local_known first told.0) told.1) in
+        record { is = (a.is, l.are); simple = l.simple; scalar = l.scalar }
+    local_well (prefix_expr signs e) lo k none =
+        let s = and_parts (gives_scalar m e) (is_local_expression m e) lo in
+        let told = option_or_parts (first_in_expression w.tree task w.scope e) _ none in
+        let parts = kept_right (nodes signs) (parts_of_expression e) (kept_behind node (nodes signs ++ parts_of_expression e) k) in
+        let a = local_well e s.1 parts told.0 in
+        let fit = signs_fit (typed w e) signs (a.scalar s.0) (subst (λ t. first_of_signs signs t ≡ None) (local_known e told.0) told.1) in
+        let scalar = signed_scalar (typed w e) signs fit in
+        record { is = (a.is, fit); simple = scalar_simple _ scalar; scalar = λ q. scalar }
+    local_well (access_expr n no_step) lo k e =
+        let told = option_or_parts (rule_if (not (is_bound w.scope.names n)) rule.Name) _ e in
+        let there = not-false (is_bound w.scope.names n) (rule_none (not (is_bound w.scope.names n)) rule.Name told.0) in
+        let kept = named_kept m w.scope.names n names there in
+        let simple = kept_simple m n (bound w n).number (bound w n).static_type kept lo in
+        record { is = (there, simple); simple = simple; scalar = λ q. simple_kept m n (bound w n).number (bound w n).static_type kept q simple }
+    local_well (access_expr n (at_step e (field_step f no_step))) lo k none =
+        let t = (bound w n).static_type in
+        let told = option_or_parts (rule_if (not (is_bound w.scope.names n)) rule.Name) _ none in
+        let there = not-false (is_bound w.scope.names n) (rule_none (not (is_bound w.scope.names n)) rule.Name told.0) in
+        let index = option_or_parts (first_in_expression w.tree task w.scope e) _ told.1 in
+        let taking = element_of t (known_type w.tree w.scope e) in
+        let step = option_or_parts (first_of_step w.tree task w.scope taking) _ index.1 in
+        let field = (option_or_parts (first_of_step w.tree task w.scope (field_of (known_type_after_step w.tree taking (type_of_element w.scope t e)) f)) _ step.1).0 in
+        let parts = kept_behind node (parts_of_expression e ++ (node ∷ [])) (kept_behind node (node ∷ (parts_of_expression e ++ (node ∷ []))) k) in
+        let a = local_well e lo (kept_left (parts_of_expression e) (node ∷ []) parts) index.0 in
+        let p = at_point n e f there index.0 a (option_or_parts (first_of_taking w.tree taking) _ step.0).0 (option_or_parts _ _ field).0 in
+        let is = named_place w sound local m n e f scope there p.place in
+        record { is = (a.is, p.number, is.0, is.1); simple = scalar_simple _ p.place.scalar; scalar = λ q. p.place.scalar }
+    local_well (convert_expr t e) lo k none =
+        let s = and_parts (is_scalar_number t) (is_local_expression m e) lo in
+        let told = option_or_parts (first_in_expression w.tree task w.scope e) _ none in
+        let a = local_well e s.1 (kept_behind node (parts_of_expression e) k) told.0 in
+        let may = stands_well [] (typed w e) number_spot
+        (subst (λ u. first_of_standing [] (stands u number_spot) ≡ None) (local_known e told.0) told.1) in
+        let term = integer_term t s.0 in
+        let scalar = number_scalar t term in
+        record { is = (a.is, simple_as_number (typed w e) a.simple may, term); simple = scalar_simple _ scalar; scalar = λ q. scalar }
+    local_well (call_expr n args) lo k none =
+        let told = option_or_parts (first_in_args w.tree task w.scope args) _ none in
+        let c = calling n (known_types w.tree w.scope args) in
+        let called = option_or_parts (first_of_call w.tree task w.scope c) _ told.1 in
+        let t = call_told n args called.0 in
+        let passed = local_given (known_types w.tree w.scope args) (types_of w.tree w.scope args) (param_types w.tree (task_named w.tree n)) args lo
+        (kept_behind node (parts_of_expressions args) k) (local.tasks n t.there).params told.0 t.standing t.many in
+        let given = rule_none (has_no_result w.tree c) rule.Type called.1 in
+        let some = and_then (has_task w.tree n) (is_none (task_named w.tree n).result) t.there given in
+        let scalar = given_result w.tree (task_named w.tree n).result (local.tasks n t.there).result some in
+        record { is = (refl, scalar, (local.tasks n t.there).called, passed); simple = scalar_simple _ scalar; scalar = λ q. scalar }
+    local_well (space_expr kind e) lo k none =
+        let told = option_or_parts (first_in_expression w.tree task w.scope e) _ none in
+        let a = local_well e lo (kept_behind node (parts_of_expression e) k) told.0 in
+        let may = stands_well [] (typed w e) integer_spot
+        (subst (λ u. first_of_standing [] (stands u integer_spot) ≡ None) (local_known e told.0) told.1) in
+        record { is = (a.is, simple_as_integer (typed w e) a.simple may); simple = simple_space kind; scalar = λ q. absurd (no_way_back q) }
+    local_well (access_expr n (field_step _ _)) lo k e = absurd (no_way_back lo)
+    local_well (access_expr n (at_step _ no_step)) lo k e = absurd (no_way_back lo)
+    local_well (access_expr n (at_step _ (at_step _ _))) lo k e = absurd (no_way_back lo)
+    local_well (access_expr n (at_step _ (field_step _ (field_step _ _)))) lo k e = absurd (no_way_back lo)
+    local_well (access_expr n (at_step _ (field_step _ (at_step _ _)))) lo k e = absurd (no_way_back lo)
+    local_well (is_null_expr _) lo k e = absurd (no_way_back lo)
+    local_well (null_expr _) lo k e = absurd (no_way_back lo)
+    local_well (cast_expr _ _) lo k e = absurd (no_way_back lo)
+
+    local_links : (left : Bool) (t : StaticType) (ls : Links) → are_local_links m ls ≡ true → AreKept (parts_of_links ls) → IsSimple t →
+        (left ≡ true → IsScalar t) → first_in_links w.tree task w.scope t ls ≡ None → AreWellLinks left t ls
+    local_links left t no_link lo k simple scalar e = record { are = tt; simple = simple; scalar = scalar }
+    local_links left t (a_link o e rest) lo k simple scalar none =
+        let s = and_parts (is_local_expression m e) (are_local_links m rest) lo in
+        let told = option_or_parts (first_in_expression w.tree task w.scope e) _ none in
+        let a = local_well e s.0 (kept_left (parts_of_expression e) (parts_of_links rest) k) told.0 in
+        let u = typed w e in
+        let more = option_or_parts (first_of_operator (computing o t (known_type w.tree w.scope e))) _ told.1 in
+        let known = local_known e told.0 in
+        let does = operates o t u (subst (λ v. first_of_operator (computing o t v) ≡ None) known more.0) in
+        let next = subst (λ v. first_in_links w.tree task w.scope v rest ≡ None)
+        (ap (λ v. known_type_after_operator (computing o t v)) known ∙ simple_after o t u simple a.simple does) more.1 in
+        by_operator left o t e rest simple scalar a does
+        (λ gives operand number. local_links gives (operated o t u) rest s.1 (kept_right (parts_of_expression e) (parts_of_links rest) k) operand number next)
+
+    local_given : (all types : List StaticType) (ps : List StaticType) (es : Expressions) → are_local_expressions m es ≡ true → AreKept (parts_of_expressions es) →
+        AreScalars ps → first_in_args w.tree task w.scope es ≡ None →
+        first_in (first_of_standing w.scope.known) (stand_at all ps (known_types w.tree w.scope es)) ≡ None →
+        length (known_types w.tree w.scope es) ≡ length ps → ArePassed call_forms w (map (put_in types) ps) ps es
+    local_given all types [] no_expr lo k scalars told standing many = tt
+    local_given all types (p ∷ ps) no_expr lo k scalars told standing many = absurd (omega (arith, many))
+    local_given all types [] (an_expr e es) lo k scalars told standing many = absurd (omega (arith, many))
+    local_given all types (p ∷ ps) (an_expr e es) lo k scalars told standing many =
+        let s = and_parts (is_local_expression m e) (are_local_expressions m es) lo in
+        let parts = option_or_parts (first_in_expression w.tree task w.scope e) _ told in
+        let a = local_well e s.0 (kept_left (parts_of_expression e) (parts_of_expressions es) k) parts.0 in
+        let known = known_type w.tree w.scope e in
+        let stood = option_or_parts (first_of_standing w.scope.known (stands known (param_spot (put_in all p)))) _ standing in
+        let may = subst (λ q. may_stand w.scope.known (stands known (param_spot q)) ≡ true) (put_scalar all p scalars.0)
+        (stands_well w.scope.known known (param_spot (put_in all p)) stood.0) in
+        let alike = param_fitting w.scope.known (typed w e) p a.simple scalars.0
+        (subst (λ u. may_stand w.scope.known (stands u (param_spot p)) ≡ true) (local_known e parts.0) may) in
+        let same = put_scalar types p scalars.0 in (
+          subst (AreAlike (typed w e)) (sym same) alike,
+          same,
+          a.is,
+          local_given all types ps es s.1 (kept_right (parts_of_expression e) (parts_of_expressions es) k) scalars.1 parts.1 stood.1 (omega (arith, many)),
+        )
+
+  pub local_passed : (n : Name) (args : Expressions) → are_local_expressions m args ≡ true → AreKept (parts_of_expressions args) →
+      first_in_args w.tree task w.scope args ≡ None → first_of_call w.tree task w.scope (calling n (known_types w.tree w.scope args)) ≡ None → IsPassed n args
+  local_passed n args lo k told e =
+      let t = call_told n args e in record {
+        there = t.there;
+        passed = local_given (known_types w.tree w.scope args) (types_of w.tree w.scope args) (param_types w.tree (task_named w.tree n)) args lo k
+            (local.tasks n t.there).params told t.standing t.many;
+      }
+
+  -- numbers that are printed
+  pub local_numbers : (es : Expressions) → are_local_expressions m es ≡ true → AreKept (parts_of_expressions es) →
+      first_in_args w.tree task w.scope es ≡ None →
+      list_any (λ t. not (may_be is_integer t)) (known_types w.tree w.scope es) ≡ false → AreNumbers call_forms w es
+  local_numbers no_expr lo k e whole = tt
+  local_numbers (an_expr e es) lo k none whole =
+      let s = and_parts (is_local_expression m e) (are_local_expressions m es) lo in
+      let told = option_or_parts (first_in_expression w.tree task w.scope e) _ none in
+      let a = local_well e s.0 (kept_left (parts_of_expression e) (parts_of_expressions es) k) told.0 in
+      let both = or_parts (not (may_be is_integer (known_type w.tree w.scope e))) _ whole in
+      let may = subst (λ t. may_be is_integer t ≡ true) (local_known e told.0) (not-false _ both.0) in (
+        simple_as_integer (typed w e) a.simple may,
+        a.is,
+        local_numbers es s.1 (kept_right (parts_of_expression e) (parts_of_expressions es) k) told.1 both.1,
+      )

@@ -1,0 +1,221 @@
+-- What names stand for in a text whose names of regions and indices are marked, and the fields of such regions.
+use Rattle.std.proofs.Common.{◌≡◌, Bool, List, [], ◌∷◌, None, false, true, refl, ap, sym, subst, ℕ, suc, ◌+◌, ◌<◌, ◌≤◌, ◌∙◌, cond, not, arith}
+use Rattle.std.specs.Prelude.{bytes_eq, length, ◌||◌}
+use Rattle.std.specs.List.{list_any, position_or_len}
+use Rattle.std.proofs.lemmas.Bool.{not-false}
+use Rattle.std.proofs.lemmas.Slice.Eq.{bytes_eq-Decides}
+use Rattle.plain_values.proofs.Plain.{option_or_parts}
+use Rattle.regent_tree.specs.Accesses.{args_in, space_in}
+use Rattle.regent_tree.specs.Lookup.{has_field, has_task, is_bound}
+use Rattle.regent_tree.specs.Scopes.{bound_to}
+use Rattle.regent_tree.specs.StaticTypes.{Reach, among_args, field_kind, field_place, field_term, field_type, space_at, task_named}
+use Rattle.regent_tree.specs.Syntax.{Expression, Name, Tree}
+use Rattle.regent_tree.specs.Typing.{param_types, type_of_element, type_of_field}
+use Rattle.regent_tree.specs.declared.facts.Term.TheVariants as place
+use Rattle.regent_tree.specs.declared.types.Kind.{Kind}
+use Rattle.regent_tree.specs.declared.types.Param.{Param}
+use Rattle.regent_tree.specs.declared.typing.Bound.{Bound}
+use Rattle.regent_tree.specs.declared.typing.StaticType.{StaticType}
+use Rattle.regent_tree.specs.declared.typing.StaticType.TheVariants.{Region as region_type}
+use Rattle.check_rules.specs.first.FirstInExpressions.{first_of_standing, first_of_taking}
+use Rattle.check_rules.specs.first.Rules.{first_in}
+use Rattle.check_rules.specs.rules.Names.{is_unknown_field}
+use Rattle.check_rules.specs.rules.Standing.{standing_in_step}
+use Rattle.check_rules.specs.rules.Types.{is_ill_typed_step}
+use Rattle.check_rules.specs.scopes.Sound.{IsSound}
+use Rattle.check_rules.specs.types.Declarations.{is_flawed_field, known_field}
+use Rattle.check_rules.specs.types.Lookup.{region_has}
+use Rattle.check_rules.specs.types.KnownTypes.{known_type_after_step}
+use Rattle.check_rules.specs.types.Params.{type_unless}
+use Rattle.check_rules.specs.types.Sorts.{is_integer, is_number, is_partition, is_region, may_be}
+use Rattle.check_rules.specs.types.TypedForms.{Taking, element_of, field_of}
+use Rattle.check_rules.specs.declared.rule.Rule.TheVariants as rule
+use Rattle.check_rules.proofs.Untold.{rule_none}
+use Rattle.check_laws.proofs.Scopes.{found_by_number}
+use Rattle.check_laws.specs.SoundScopes.{IsSoundScope}
+use Rattle.code_rules.specs.Slots.{Where, bound, slot, slot_bound, slot_named, slots_of}
+use Rattle.scalar_form.specs.ScalarForm.{is_scalar_if_said, is_scalar_term}
+use Rattle.code_laws.specs.LocalForm.{Marked, is_among}
+use Rattle.code_laws.specs.Simple.{FieldFits, IsInteger, IsRegion, IsScalar, IsSimple, a_region_type, simple_index, simple_integer, simple_space, simple_truth}
+use Rattle.code_laws.specs.Typed.{GoesThrough, IsCalled, IsField, element_field}
+use Rattle.code_laws.proofs.LocalTypes.{simple_as_integer, simple_is_no_region, simple_no_partition, term_fits, term_scalar}
+use Rattle.code_laws.proofs.Typing.{no_way, no_way_back}
+use Rattle.code_laws.proofs.Values.{scalar_simple}
+
+-- ---- what a program has
+
+abbrev pub AreScalars : List StaticType → Type 0
+AreScalars [] = Unit {0}
+AreScalars (t ∷ ts) = IsScalar t × AreScalars ts
+
+-- a task that is called takes and gives numbers and truths
+pub record IsLocalTask (tree : Tree) (n : Name) : Type 0 where
+  pub called : IsCalled tree n
+  pub params : AreScalars (param_types tree (task_named tree n))
+  pub result : is_scalar_if_said (task_named tree n).result ≡ true
+
+-- fields are numbers and truths, and few; and tasks are such
+pub record IsLocalTree (tree : Tree) : Type 0 where
+  pub fields : (sp i : ℕ) → is_scalar_term (field_term tree sp i) ≡ true
+  pub few : (sp : ℕ) → length (space_at tree sp).fields ≤ 256
+  pub tasks : (n : Name) → has_task tree n ≡ true → IsLocalTask tree n
+
+-- ---- names
+
+simple_no_region : (t : StaticType) → IsSimple t → may_be (λ u. is_region u || is_partition u) t ≡ false
+simple_no_region _ (simple_integer w) = refl
+simple_no_region _ simple_truth = refl
+simple_no_region _ (simple_space k) = refl
+simple_no_region _ (simple_index k) = refl
+
+-- A name is bound with a number to a number or truth; or to an index or index space, and is marked so; or to the
+-- region of that number, and is marked so.
+pub data IsKept (m : Marked) (n : Name) (i : ℕ) : StaticType → Type 0 where
+  kept_scalar : (t : StaticType) → IsScalar t → IsKept m n i t
+  kept_index : (t : StaticType) → IsSimple t → is_among m.indices n ≡ true → IsKept m n i t
+  kept_region : (k : Kind) (sp : ℕ) (args : List Reach) → is_among m.regions n ≡ true →
+      IsKept m n i (region_type k sp args (place.Name i))
+
+abbrev pub AllKept : Marked → List Bound → Type 0
+AllKept m [] = Unit {0}
+AllKept m (b ∷ bs) = IsKept m b.name b.number b.static_type × AllKept m bs
+
+module _ (m : Marked) where
+  pub named_kept : (bs : List Bound) (n : Name) → AllKept m bs → is_bound bs n ≡ true →
+      IsKept m n (bound_to bs n).number (bound_to bs n).static_type
+  named_kept [] n a h = absurd (no_way_back h)
+  named_kept (b ∷ bs) n a h = chosen (bytes_eq b.name n) refl (named_kept bs n a.1) h
+    where
+      chosen : (c : Bool) → bytes_eq b.name n ≡ c → (is_bound bs n ≡ true → IsKept m n (bound_to bs n).number (bound_to bs n).static_type) →
+          (c || is_bound bs n) ≡ true → IsKept m n (cond c b (bound_to bs n)).number (cond c b (bound_to bs n)).static_type
+      chosen true q more e = subst (λ x. IsKept m x b.number b.static_type) ((bytes_eq-Decides b.name n).0 q) a.0
+      chosen false q more e = more e
+
+  module _ (n : Name) (i : ℕ) where
+    pub kept_simple : (t : StaticType) → IsKept m n i t → not (is_among m.regions n) ≡ true → IsSimple t
+    kept_simple t (kept_scalar _ a) e = scalar_simple t a
+    kept_simple t (kept_index _ a h) e = a
+    kept_simple _ (kept_region k sp args h) e = absurd (no_way_back (ap not (sym h) ∙ e))
+
+    pub simple_kept : (t : StaticType) → IsKept m n i t → not (is_among m.indices n) ≡ true → IsSimple t → IsScalar t
+    simple_kept t (kept_scalar _ a) e s = a
+    simple_kept t (kept_index _ a h) e s = absurd (no_way_back (ap not (sym h) ∙ e))
+    simple_kept _ (kept_region k sp args h) e s = absurd (no_way (simple_no_region (region_type k sp args (place.Name i)) s))
+
+    pub no_kept_partition : (t : StaticType) → IsKept m n i t → may_be is_partition t ≡ false
+    no_kept_partition t (kept_scalar _ a) = simple_no_partition t (scalar_simple t a)
+    no_kept_partition t (kept_index _ a h) = simple_no_partition t a
+    no_kept_partition _ (kept_region k sp args h) = refl
+
+-- ---- fields at points
+
+-- the first that passes is one of them
+pub first_below : {A : Type 0} (p : A → Bool) (xs : List A) → list_any p xs ≡ true → position_or_len p xs < length xs
+first_below p [] e = absurd (no_way_back e)
+first_below p (x ∷ xs) e = chosen (p x) e (first_below p xs)
+  where
+    chosen : (b : Bool) → (b || list_any p xs) ≡ true → (list_any p xs ≡ true → position_or_len p xs < length xs) →
+        cond (not b) (1 + position_or_len p xs) 0 < suc (length xs)
+    chosen true e more = omega (arith)
+    chosen false e more = omega (arith, more e)
+
+-- a field at a point of something of a type that is bound with a number
+pub record IsPlace (w : Where) (i : ℕ) (t : StaticType) (e : Expression) (f : Name) : Type 0 where
+  pub region : IsRegion t
+  pub through : (own : ℕ) → slots_of w own (type_of_element w.scope t e) ≡ slot_bound w i ∷ []
+  pub field : field_place w.tree (space_in t) f < length (space_at w.tree (space_in t)).fields
+  pub keeps : FieldFits (field_kind w.tree (space_in t) (field_place w.tree (space_in t) f)) (type_of_field w.tree (type_of_element w.scope t e) f)
+  pub scalar : IsScalar (type_of_field w.tree (type_of_element w.scope t e) f)
+  pub known : known_type_after_step w.tree (field_of (type_of_element w.scope t e) f) (type_of_field w.tree (type_of_element w.scope t e) f)
+      ≡ type_of_field w.tree (type_of_element w.scope t e) f
+
+-- what is not told of a step
+pub taking_told : (tree : Tree) (taking : Taking) → first_of_taking tree taking ≡ None →
+    (is_unknown_field tree taking ≡ false) × (is_ill_typed_step taking ≡ false)
+    × (first_in (first_of_standing []) (standing_in_step taking) ≡ None)
+taking_told tree taking e =
+    let a = option_or_parts _ _ e in
+    let b = option_or_parts _ _ a.1 in
+    let c = option_or_parts _ _ b.1 in
+    (rule_none (is_unknown_field tree taking) rule.Name a.0, rule_none (is_ill_typed_step taking) rule.Type b.0, c.0)
+
+module _ (w : Where) (sound : IsSound w.tree) (local : IsLocalTree w.tree) (m : Marked) where
+  -- an element is taken of a region
+  taken : (n : Name) (i : ℕ) (t at : StaticType) → IsKept m n i t → first_of_taking w.tree (element_of t at) ≡ None →
+      may_be (λ u. is_region u || is_partition u) t ≡ true
+  taken n i t at a e = not-false _ (taking_told w.tree (element_of t at) e).1
+
+  pub element_known : (n : Name) (i : ℕ) (t at : StaticType) (e : Expression) → IsKept m n i t → is_number at ≡ true →
+      first_of_taking w.tree (element_of t at) ≡ None →
+      known_type_after_step w.tree (element_of t at) (type_of_element w.scope t e) ≡ type_of_element w.scope t e
+  element_known n i t at e (kept_scalar _ a) num told =
+      absurd (no_way (sym (taken n i t at (kept_scalar t a) told) ∙ simple_no_region t (scalar_simple t a)))
+  element_known n i t at e (kept_index _ a h) num told =
+      absurd (no_way (sym (taken n i t at (kept_index t a h) told) ∙ simple_no_region t a))
+  element_known n i _ at e (kept_region k sp args h) num told =
+      ap (λ b. type_unless (not b || false || false || false) (type_of_element w.scope (region_type k sp args (place.Name i)) e)) num
+
+  pub place_is : (n : Name) (i : ℕ) (t at : StaticType) (e : Expression) (f : Name) → IsKept m n i t →
+      first_of_taking w.tree (element_of t at) ≡ None → first_of_taking w.tree (field_of (type_of_element w.scope t e) f) ≡ None →
+      IsPlace w i t e f
+  place_is n i t at e f (kept_scalar _ a) told field =
+      absurd (no_way (sym (taken n i t at (kept_scalar t a) told) ∙ simple_no_region t (scalar_simple t a)))
+  place_is n i t at e f (kept_index _ a h) told field =
+      absurd (no_way (sym (taken n i t at (kept_index t a h) told) ∙ simple_no_region t a))
+  place_is n i _ at e f (kept_region k sp args h) told field =
+      let t = region_type k sp args (place.Name i) in
+      let there = not-false (has_field w.tree sp f) (taking_told w.tree (field_of (type_of_element w.scope t e) f) field).0 in
+      let term = field_term w.tree sp (field_place w.tree sp f) in
+      let says = local.fields sp (field_place w.tree sp f) in record {
+        region = a_region_type k sp args (place.Name i);
+        through = λ own. refl;
+        field = first_below (λ (p : Param). bytes_eq p.name f) (space_at w.tree sp).fields there;
+        keeps = term_fits term says w.tree (among_args (space_at w.tree sp).params args) 0;
+        scalar = term_scalar term says w.tree (among_args (space_at w.tree sp).params args) 0;
+        known = ap (λ b. type_unless (b || not (has_field w.tree sp f) || false || false) (type_of_field w.tree (type_of_element w.scope t e) f)) (sound.fields sp f there)
+            ∙ ap (λ b. type_unless (not b || false || false) (type_of_field w.tree (type_of_element w.scope t e) f)) there;
+      }
+
+  -- so it is where a name has the region
+  pub named_place : (n : Name) (e : Expression) (f : Name) → IsSoundScope w.scope → is_bound w.scope.names n ≡ true →
+      IsPlace w (bound w n).number (bound w n).static_type e f → GoesThrough w n e × IsField w n f (element_field w n e f)
+  named_place n e f scope b p = (
+    p.through (slot_named w n) ∙ ap (λ (c : Bound). slot w c.place ∷ []) (found_by_number w.scope.next w.scope.names n scope.numbers b).0,
+    record { named = b; region = p.region; field = p.field; keeps = p.keeps },
+  )
+
+-- ---- regions and their fields
+
+-- an integer that is reduced
+pub kept_integer : (m : Marked) (n : Name) (i : ℕ) (t : StaticType) → IsKept m n i t → may_be is_integer t ≡ true → IsInteger t
+kept_integer m n i t (kept_scalar _ a) e = simple_as_integer t (scalar_simple t a) e
+kept_integer m n i t (kept_index _ a h) e = simple_as_integer t a e
+kept_integer m n i _ (kept_region k sp args h) e = absurd (no_way_back e)
+
+-- a field of a region of a type
+pub record IsFieldOf (tree : Tree) (t : StaticType) (f : Name) : Type 0 where
+  pub region : IsRegion t
+  pub field : field_place tree (space_in t) f < length (space_at tree (space_in t)).fields
+  pub keeps : FieldFits (field_kind tree (space_in t) (field_place tree (space_in t) f)) (field_type tree (space_in t) (args_in t) f)
+  pub scalar : IsScalar (field_type tree (space_in t) (args_in t) f)
+  pub known : known_field tree t f ≡ field_type tree (space_in t) (args_in t) f
+
+module _ (tree : Tree) (sound : IsSound tree) (local : IsLocalTree tree) (m : Marked) (n : Name) (i : ℕ) where
+  pub region_is : (t : StaticType) → IsKept m n i t → may_be is_region t ≡ true → IsRegion t
+  region_is t (kept_scalar _ a) e = absurd (no_way (sym e ∙ simple_is_no_region t (scalar_simple t a)))
+  region_is t (kept_index _ a h) e = absurd (no_way (sym e ∙ simple_is_no_region t a))
+  region_is _ (kept_region k sp args h) e = a_region_type k sp args (place.Name i)
+
+  pub field_is : (t : StaticType) (f : Name) → IsKept m n i t → may_be is_region t ≡ true → region_has tree t f ≡ true → IsFieldOf tree t f
+  field_is t f (kept_scalar _ a) e has = absurd (no_way (sym e ∙ simple_is_no_region t (scalar_simple t a)))
+  field_is t f (kept_index _ a h) e has = absurd (no_way (sym e ∙ simple_is_no_region t a))
+  field_is _ f (kept_region k sp args h) e has =
+      let term = field_term tree sp (field_place tree sp f) in
+      let says = local.fields sp (field_place tree sp f) in record {
+        region = a_region_type k sp args (place.Name i);
+        field = first_below (λ (p : Param). bytes_eq p.name f) (space_at tree sp).fields has;
+        keeps = term_fits term says tree (among_args (space_at tree sp).params args) 0;
+        scalar = term_scalar term says tree (among_args (space_at tree sp).params args) 0;
+        known = ap (λ b. type_unless (not b || is_flawed_field tree sp f) (field_type tree sp args f)) has
+            ∙ ap (λ b. type_unless b (field_type tree sp args f)) (sound.fields sp f has);
+      }

@@ -1,0 +1,355 @@
+-- Statements without blocks, of a text with marked names, of which no breach is told, are typed.
+use Rattle.std.proofs.Common.{◌≡◌, List, [], ◌∷◌, None, Option, Some, false, true, ap, sym, subst, ℕ, ◌∙◌, not, refl, ⊎_elim}
+use Rattle.std.specs.Prelude.{bytes_eq, cond, is_some, length, map, ◌||◌}
+use Rattle.std.specs.List.{list_any}
+use Rattle.std.proofs.lemmas.Bool.{and_parts, not-false, or_parts}
+use Rattle.plain_values.proofs.Plain.{option_or_parts}
+use Rattle.lane_kernels.specs.declared.numbers.Op.{Op}
+use Rattle.regent_tree.specs.Accesses.{args_in, space_in}
+use Rattle.regent_tree.specs.Limits.{parts_of_expression, parts_of_expressions, parts_of_form, parts_of_type, parts_of_value}
+use Rattle.regent_tree.specs.Lookup.{has_space, is_bound, type_named}
+use Rattle.regent_tree.specs.Scopes.{Scope, bound_to, in_scope}
+use Rattle.regent_tree.specs.StaticTypes.{field_type, looked_up, place_of_space, spaces_of}
+use Rattle.regent_tree.specs.Syntax.{Expression, Expressions, Initializer, Name, TaskTree, Tree, access_expr, assign_form, at_step, call_form, field_step, fill_form, no_step, plain_initializer, print_form, region_initializer, return_form, var_form}
+use Rattle.regent_tree.specs.Typing.{kind_of_ispace, owned, result_type, type_of, type_of_field, var_type}
+use Rattle.regent_tree.specs.declared.program.FieldSpace.{FieldSpace}
+use Rattle.regent_tree.specs.declared.statement.How.TheVariants as how
+use Rattle.regent_tree.specs.declared.types.Kind.TheVariants.{Int1d}
+use Rattle.regent_tree.specs.declared.types.SpaceUse.{SpaceUse}
+use Rattle.regent_tree.specs.declared.types.TypeTerm.{TypeTerm}
+use Rattle.regent_tree.specs.declared.types.TypeTerm.TheVariants as term
+use Rattle.regent_tree.specs.declared.typing.StaticType.{StaticType}
+use Rattle.regent_tree.specs.declared.typing.StaticType.TheVariants.{Nothing as no_type, Unknown as unknown_type}
+use Rattle.check_laws.proofs.Blocks.{head_known}
+use Rattle.check_laws.proofs.Parts.{unless_false}
+use Rattle.check_laws.proofs.Variables.{begun_sound, target_of_form, parts_of_form as told_of_form}
+use Rattle.check_laws.specs.SoundScopes.{IsSoundScope}
+use Rattle.check_rules.specs.declared.rule.Rule.TheVariants as rule
+use Rattle.check_rules.proofs.Untold.{rule_none}
+use Rattle.check_rules.specs.first.FirstInExpressions.{first_in_expression, first_in_target, first_in_type, first_of_call, first_of_step, first_of_taking}
+use Rattle.check_rules.specs.first.FirstInStatements.{first_of_form, first_of_initializer}
+use Rattle.check_rules.specs.first.Rules.{first_in, rule_if}
+use Rattle.check_rules.specs.rules.Formats.{is_count, numbers_in}
+use Rattle.check_rules.specs.rules.Names.{is_unknown_region_field, unbound_name_in_type}
+use Rattle.check_rules.specs.rules.Standing.{Spot, domain_spot, integer_spot, space_spot, stands, truth_spot, typed_spot}
+use Rattle.check_rules.specs.rules.Statements.{known_result, spot_of_target}
+use Rattle.check_rules.specs.rules.Targets.{is_no_target, mistargets}
+use Rattle.check_rules.specs.rules.Types.{is_ill_typed_at_place, may_stand}
+use Rattle.check_rules.specs.scopes.Sound.{IsSound}
+use Rattle.check_rules.specs.scopes.Variables.{declared_type, is_flawed_initializer, known_initializer}
+use Rattle.check_rules.specs.types.Declarations.{known_field}
+use Rattle.check_rules.specs.types.Fitting.{fits}
+use Rattle.check_rules.specs.types.KnownTypes.{known_type, known_type_after_step, known_types}
+use Rattle.check_rules.specs.types.Lookup.{names_a, region_has}
+use Rattle.check_rules.specs.types.Sorts.{is_integer, is_region, is_truth, may_be}
+use Rattle.check_rules.specs.types.TypedForms.{calling, element_of, field_of}
+use Rattle.code_rules.specs.Slots.{Where}
+use Rattle.code_laws.specs.LocalForm.{Marked, are_local_expressions, gives_scalar, is_among, is_local_expression, is_local_form}
+use Rattle.code_laws.specs.Programs.{call_forms}
+use Rattle.code_laws.specs.Simple.{IsInteger, IsNumber, IsScalar, IsSimple, IsSpace, IsTruth, scalar_integer, scalar_truth}
+use Rattle.code_laws.specs.Typed.{AreFilled, GoesThrough, IsField, IsTyped, IsTypedForm, element_field}
+use Rattle.code_laws.proofs.LocalExpressions.{IsWell, at_point, local_numbers, local_passed, local_well}
+use Rattle.code_laws.proofs.LocalNames.{AllKept, field_is, kept_integer, region_is, IsKept, IsLocalTree, first_below, kept_index, kept_region, kept_scalar, kept_simple, named_kept, named_place, no_kept_partition, simple_kept}
+use Rattle.code_laws.proofs.LocalTypes.{either, owned_simple, simple_as_domain, simple_as_integer, simple_as_space, simple_as_truth, simple_fitting, term_scalar}
+use Rattle.code_laws.proofs.TypedStatements.{HasNoPartition, count_types, counted, declared_fits, first_stands, initial_told, listed_told, result_fits, told_later, told_names}
+use Rattle.code_laws.proofs.Typing.{AreKept, kept_right, no_way, no_way_back}
+use Rattle.code_laws.proofs.Values.{scalar_simple}
+use Rattle.scalar_form.specs.ScalarForm.{is_scalar_if_said, is_scalar_term}
+
+-- ---- results
+
+-- a task without a result gives no number or truth
+scalar_there : (t : StaticType) → IsScalar t → (is_integer t || is_truth t) ≡ true
+scalar_there _ (scalar_integer w) = refl
+scalar_there _ scalar_truth = refl
+
+none_given : (tree : Tree) (r : Option TypeTerm) → is_some r ≡ false → IsScalar (result_type tree r) → ⊥
+none_given tree None e s = no_way_back (scalar_there no_type s)
+none_given tree (Some t) e s = no_way e
+
+module _ (tree : Tree) (task : TaskTree) (sound : IsSound tree) (local : IsLocalTree tree) (m : Marked) (params : ℕ)
+    (result : is_scalar_if_said task.result ≡ true) where
+  -- a place of the body, on a line
+  abbrev pub at : Scope → ℕ → Where
+  at s line = record { tree = tree; scope = s; result = result_type tree task.result; params = params; line = line }
+
+  -- the head of a statement, told in a scope
+  headed : (s : Scope) (line : ℕ) (e : Expression) → is_local_expression m e ≡ true → AreKept (parts_of_expression e) →
+      (scope : IsSoundScope s) (names : AllKept m s.names) → first_in_expression tree task s e ≡ None →
+      IsWell task (at s line) sound local m scope names e
+  headed s line e lo k scope names told = local_well task (at s line) sound local m scope names e lo k told
+
+  -- what stands somewhere, by the meaning's type
+  stands_as : (s : Scope) (e : Expression) (p : Spot) → IsSoundScope s → first_in_expression tree task s e ≡ None →
+      may_stand s.known (stands (known_type tree s e) p) ≡ true → may_stand s.known (stands (type_of tree s e) p) ≡ true
+  stands_as s e p scope told may = subst (λ t. may_stand s.known (stands t p) ≡ true) (head_known tree task sound s scope e told).1 may
+
+  no_partitions : (s : Scope) → AllKept m s.names → HasNoPartition s.names
+  no_partitions s names n h = no_kept_partition m n (bound_to s.names n).number (type_named s.names n) (named_kept m s.names n names h)
+
+  -- ---- variables
+
+  -- a variable, and what its name stands for
+  abbrev pub VarTyped : Scope → ℕ → Name → Option TypeTerm → Option Initializer → Type 0
+  VarTyped s line n t i = IsTypedForm call_forms (at s line) (var_form n t i) × IsKept m n s.next (var_type tree s t i)
+
+  pub plain_local : (s : Scope) (line : ℕ) (n : Name) (y : Expression) → is_local_form m (var_form n None (Some (plain_initializer y))) ≡ true →
+      AreKept (parts_of_expression y) → IsSoundScope s → AllKept m s.names →
+      first_of_form tree task s (var_form n None (Some (plain_initializer y))) ≡ None → VarTyped s line n None (Some (plain_initializer y))
+  plain_local s line n y lo k scope names e =
+      let both = and_parts (gives_scalar m y || is_among m.indices n) (is_local_expression m y) lo in
+      let told = initial_told tree task s (no_partitions s names) y (told_of_form tree task s sound scope (var_form n None (Some (plain_initializer y))) e).2 in
+      let a = headed s line y both.1 k scope names told in
+      let kept : IsKept m n s.next (type_of tree s y) = ⊎_elim
+      (λ h. kept_scalar (type_of tree s y) (a.scalar h)) (λ h. kept_index (type_of tree s y) a.simple h) (either (gives_scalar m y) (is_among m.indices n) both.0) in
+      ((a.simple, a.is), subst (IsKept m n s.next) (sym (owned_simple s.next (type_of tree s y) a.simple)) kept)
+
+  pub said_local : (s : Scope) (line : ℕ) (n : Name) (t : TypeTerm) (y : Expression) → is_local_form m (var_form n (Some t) (Some (plain_initializer y))) ≡ true →
+      AreKept (parts_of_form (var_form n (Some t) (Some (plain_initializer y)))) → IsSoundScope s → AllKept m s.names →
+      first_of_form tree task s (var_form n (Some t) (Some (plain_initializer y))) ≡ None → VarTyped s line n (Some t) (Some (plain_initializer y))
+  said_local s line n t y lo k scope names e =
+      let both = and_parts (is_scalar_term t) (is_local_expression m y) lo in
+      let parts = told_of_form tree task s sound scope (var_form n (Some t) (Some (plain_initializer y))) e in
+      let told = initial_told tree task s (no_partitions s names) y parts.2 in
+      let a = headed s line y both.1 (kept_right (parts_of_type (Some t)) (parts_of_expression y) k) scope names told in
+      let from = type_of tree s y in
+      let begun : known_initializer tree s (plain_initializer y) ≡ from =
+      unless_false (is_flawed_initializer tree s (plain_initializer y)) (owned s.next from)
+      (begun_sound tree task s sound scope n (Some t) (plain_initializer y) e).0 ∙ owned_simple s.next from a.simple in
+      let fit = (first_stands s.known (stands (known_initializer tree s (plain_initializer y)) (typed_spot (declared_type tree s t))) [] parts.4).0 in
+      let alike = declared_fits tree s t from both.0 a.simple (ap (λ u. fits s.known u (declared_type tree s t)) (sym begun) ∙ fit) in
+      ((alike, a.is), kept_scalar _ (term_scalar t both.0 tree (in_scope s) s.next))
+
+  pub region_local : (s : Scope) (line : ℕ) (n : Name) (y : Expression) (u : SpaceUse) → is_local_form m (var_form n None (Some (region_initializer y u))) ≡ true →
+      AreKept (parts_of_expression y) → IsSoundScope s → AllKept m s.names →
+      first_of_form tree task s (var_form n None (Some (region_initializer y u))) ≡ None → VarTyped s line n None (Some (region_initializer y u))
+  region_local s line n y u lo k scope names e =
+      let both = and_parts (is_among m.regions n) (is_local_expression m y) lo in
+      let parts = told_of_form tree task s sound scope (var_form n None (Some (region_initializer y u))) e in
+      let told = (option_or_parts (first_in_expression tree task s y) _ parts.2).0 in
+      let a = headed s line y both.1 k scope names told in
+      let space = stands_as s y space_spot scope told (first_stands s.known (stands (known_type tree s y) space_spot) [] parts.4).0 in
+      let begins = option_or_parts (first_of_initializer tree task s (region_initializer y u)) _ parts.3 in
+      let written = option_or_parts (first_in (first_in_type tree s.names) (term.Region Int1d u ∷ [])) _ begins.0 in
+      let type = option_or_parts (first_in_type tree s.names (term.Region Int1d u)) _ written.0 in
+      let bad = option_or_parts (rule_if (unbound_name_in_type tree s.names (term.Region Int1d u)) rule.Name) _ type.0 in
+      let there = not-false (has_space tree u.name)
+      (or_parts (not (has_space tree u.name)) _ (rule_none (unbound_name_in_type tree s.names (term.Region Int1d u)) rule.Name bad.0)).0 in (
+        (
+          refl,
+          simple_as_space (type_of tree s y) a.simple space,
+          a.is,
+          record { there = first_below (λ (f : FieldSpace). bytes_eq f.name u.name) (spaces_of tree) there; few = local.few (place_of_space tree u.name) },
+        ),
+        kept_region (kind_of_ispace (type_of tree s y)) (place_of_space tree u.name) (map (looked_up (in_scope s)) u.args) both.0,
+      )
+
+  -- ---- fields
+
+  filled_with : (s : Scope) (line : ℕ) (r : Name) (from known : StaticType) → known ≡ from → is_bound s.names r ≡ true → AllKept m s.names →
+      may_be is_region (type_named s.names r) ≡ true → IsSimple from → (fs : List Name) → list_any (is_unknown_region_field tree s.names r) fs ≡ false →
+      list_any (is_ill_typed_at_place s.known) (map (λ f. stands known (typed_spot (known_field tree (type_named s.names r) f))) fs) ≡ false →
+      AreFilled (at s line) r from fs
+  filled_with s line r from known same there names region simple [] unknown ill = tt
+  filled_with s line r from known same there names region simple (f ∷ fs) unknown ill =
+      let t = type_named s.names r in
+      let a = or_parts (is_unknown_region_field tree s.names r f) _ unknown in
+      let has = not-false (region_has tree t f) (or_parts (not (names_a is_region s.names r)) (not (region_has tree t f)) a.0).1 in
+      let d = field_is tree sound local m r (bound_to s.names r).number t f (named_kept m s.names r names there) region has in
+      let stood = first_stands s.known (stands known (typed_spot (known_field tree t f)))
+      (map (λ g. stands known (typed_spot (known_field tree t g))) fs) ill in
+      let fit = subst (λ u. fits s.known u (field_type tree (space_in t) (args_in t) f) ≡ true) same
+      (subst (λ u. fits s.known known u ≡ true) d.known stood.0) in (
+        simple_fitting s.known from (field_type tree (space_in t) (args_in t) f) simple d.scalar fit,
+        record { named = there; region = d.region; field = d.field; keeps = d.keeps },
+        filled_with s line r from known same there names region simple fs a.1 stood.1,
+      )
+
+  pub fill_local : (s : Scope) (line : ℕ) (r : Name) (fields : List Name) (y : Expression) → is_local_expression m y ≡ true → AreKept (parts_of_expression y) →
+      IsSoundScope s → AllKept m s.names → first_of_form tree task s (fill_form r fields y) ≡ None → IsTypedForm call_forms (at s line) (fill_form r fields y)
+  fill_local s line r fields y lo k scope names e =
+      let parts = told_of_form tree task s sound scope (fill_form r fields y) e in
+      let told = (option_or_parts (first_in_expression tree task s y) _ parts.2).0 in
+      let a = headed s line y lo k scope names told in
+      let named = or_parts (not (names_a is_region s.names r)) (list_any (is_unknown_region_field tree s.names r) fields)
+      (told_names tree task s (fill_form r fields y) e).0 in
+      let region = and_parts (is_bound s.names r) (may_be is_region (type_named s.names r)) (not-false (names_a is_region s.names r) named.0) in
+      let kept = named_kept m s.names r names region.0 in (
+        a.is,
+        region.0,
+        region_is tree sound local m r (bound_to s.names r).number (type_named s.names r) kept region.1,
+        filled_with s line r (type_of tree s y) (known_type tree s y) (head_known tree task sound s scope y told).1 region.0 names region.1 a.simple fields named.1 parts.4,
+      )
+
+  -- ---- assignments
+
+  pub set_local : (s : Scope) (line : ℕ) (n : Name) (y : Expression) → is_local_form m (assign_form n no_step how.Set y) ≡ true → AreKept (parts_of_expression y) →
+      IsSoundScope s → AllKept m s.names → first_of_form tree task s (assign_form n no_step how.Set y) ≡ None →
+      IsTypedForm call_forms (at s line) (assign_form n no_step how.Set y)
+  set_local s line n y lo k scope names e =
+      let form = assign_form n no_step how.Set y in
+      let one = and_parts (not (is_among m.regions n)) _ lo in
+      let two = and_parts (not (is_among m.indices n)) (is_local_expression m y) one.1 in
+      let parts = told_of_form tree task s sound scope form e in
+      let told = (option_or_parts (first_in_expression tree task s y) _ parts.2).0 in
+      let a = headed s line y two.1 k scope names told in
+      let target = option_or_parts (rule_if (not (is_bound s.names n)) rule.Name) _ (target_of_form tree task s sound scope form e) in
+      let there = not-false (is_bound s.names n) (rule_none (not (is_bound s.names n)) rule.Name target.0) in
+      let u = (bound_to s.names n).static_type in
+      let i = (bound_to s.names n).number in
+      let kept = named_kept m s.names n names there in
+      let scalar = simple_kept m n i u kept two.0 (kept_simple m n i u kept one.0) in
+      let spot = ap (λ b. typed_spot (cond b unknown_type u)) (told_later tree task s form e).0 in
+      let fit = stands_as s y (typed_spot u) scope told (subst (λ p. may_stand s.known (stands (known_type tree s y) p) ≡ true) spot
+      (first_stands s.known (stands (known_type tree s y) (spot_of_target (mistargets task s.names n no_step how.Set u) how.Set u)) [] parts.4).0) in
+      (simple_fitting s.known (type_of tree s y) u a.simple scalar fit, a.is, there)
+
+  pub reduce_local : (s : Scope) (line : ℕ) (n : Name) (o : Op) (y : Expression) → is_local_expression m y ≡ true → AreKept (parts_of_expression y) →
+      IsSoundScope s → AllKept m s.names → first_of_form tree task s (assign_form n no_step (how.Reduce o) y) ≡ None →
+      IsTypedForm call_forms (at s line) (assign_form n no_step (how.Reduce o) y)
+  reduce_local s line n o y lo k scope names e =
+      let form = assign_form n no_step (how.Reduce o) y in
+      let parts = told_of_form tree task s sound scope form e in
+      let told = (option_or_parts (first_in_expression tree task s y) _ parts.2).0 in
+      let a = headed s line y lo k scope names told in
+      let target = option_or_parts (rule_if (not (is_bound s.names n)) rule.Name) _ (target_of_form tree task s sound scope form e) in
+      let there = not-false (is_bound s.names n) (rule_none (not (is_bound s.names n)) rule.Name target.0) in
+      let u = (bound_to s.names n).static_type in
+      let whole = not-false (may_be is_integer u) (or_parts (is_no_target task s.names n no_step u) (not (may_be is_integer u)) (told_later tree task s form e).0).1 in
+      let may = stands_as s y integer_spot scope told (first_stands s.known (stands (known_type tree s y) integer_spot) [] parts.4).0 in (
+        simple_as_integer (type_of tree s y) a.simple may,
+        kept_integer m n (bound_to s.names n).number u (named_kept m s.names n names there) whole,
+        a.is,
+        there,
+      )
+
+  -- a target at a point of a region: its parts are typed, and its type is known
+  record IsTarget (s : Scope) (line : ℕ) (n : Name) (e : Expression) (f : Name) : Type 0 where
+    index : IsTyped call_forms (at s line) e
+    number : IsNumber (type_of tree s e)
+    through : GoesThrough (at s line) n e
+    field : IsField (at s line) n f (element_field (at s line) n e f)
+    scalar : IsScalar (element_field (at s line) n e f)
+    known : known_type tree s (access_expr n (at_step e (field_step f no_step))) ≡ element_field (at s line) n e f
+
+  target_local : (s : Scope) (line : ℕ) (n : Name) (e : Expression) (f : Name) → is_local_expression m e ≡ true → AreKept (parts_of_expression e) →
+      IsSoundScope s → AllKept m s.names → first_in_target tree task s n (at_step e (field_step f no_step)) ≡ None → IsTarget s line n e f
+  target_local s line n e f lo k scope names none =
+      let w = at s line in
+      let t = (bound_to s.names n).static_type in
+      let told = option_or_parts (rule_if (not (is_bound s.names n)) rule.Name) _ none in
+      let there = not-false (is_bound s.names n) (rule_none (not (is_bound s.names n)) rule.Name told.0) in
+      let index = option_or_parts (first_in_expression tree task s e) _ told.1 in
+      let taking = element_of t (known_type tree s e) in
+      let step = option_or_parts (first_of_step tree task s taking) _ index.1 in
+      let a = headed s line e lo k scope names index.0 in
+      let p = at_point task w sound local m scope names n e f there index.0 a (option_or_parts (first_of_taking tree taking) _ step.0).0 step.1 in
+      let is = named_place w sound local m n e f scope there p.place in record {
+        index = a.is;
+        number = p.number;
+        through = is.0;
+        field = is.1;
+        scalar = p.place.scalar;
+        known = ap (λ q. known_type_after_step tree (field_of q f) (type_of_field tree q f)) p.element ∙ p.place.known;
+      }
+
+  pub set_field_local : (s : Scope) (line : ℕ) (n : Name) (e : Expression) (f : Name) (y : Expression) → is_local_expression m e ≡ true → is_local_expression m y ≡ true →
+      AreKept (parts_of_expression e) → AreKept (parts_of_expression y) → IsSoundScope s → AllKept m s.names →
+      first_of_form tree task s (assign_form n (at_step e (field_step f no_step)) how.Set y) ≡ None →
+      IsTypedForm call_forms (at s line) (assign_form n (at_step e (field_step f no_step)) how.Set y)
+  set_field_local s line n e f y lo_e lo k_e k scope names none =
+      let steps = at_step e (field_step f no_step) in
+      let form = assign_form n steps how.Set y in
+      let parts = told_of_form tree task s sound scope form none in
+      let told = (option_or_parts (first_in_expression tree task s y) _ parts.2).0 in
+      let a = headed s line y lo k scope names told in
+      let target = target_local s line n e f lo_e k_e scope names (target_of_form tree task s sound scope form none) in
+      let u = known_type tree s (access_expr n steps) in
+      let spot = ap (λ b. typed_spot (cond b unknown_type u)) (told_later tree task s form none).0 ∙ ap typed_spot target.known in
+      let fit = stands_as s y (typed_spot (element_field (at s line) n e f)) scope told (subst (λ p. may_stand s.known (stands (known_type tree s y) p) ≡ true) spot
+      (first_stands s.known (stands (known_type tree s y) (spot_of_target (mistargets task s.names n steps how.Set u) how.Set u)) [] parts.4).0) in (
+        simple_fitting s.known (type_of tree s y) (element_field (at s line) n e f) a.simple target.scalar fit,
+        a.is,
+        target.index,
+        target.number,
+        target.through,
+        target.field,
+      )
+
+  pub reduce_field_local : (s : Scope) (line : ℕ) (n : Name) (e : Expression) (f : Name) (o : Op) (y : Expression) → is_local_expression m e ≡ true →
+      is_local_expression m y ≡ true → AreKept (parts_of_expression e) → AreKept (parts_of_expression y) → IsSoundScope s → AllKept m s.names →
+      first_of_form tree task s (assign_form n (at_step e (field_step f no_step)) (how.Reduce o) y) ≡ None →
+      IsTypedForm call_forms (at s line) (assign_form n (at_step e (field_step f no_step)) (how.Reduce o) y)
+  reduce_field_local s line n e f o y lo_e lo k_e k scope names none =
+      let steps = at_step e (field_step f no_step) in
+      let form = assign_form n steps (how.Reduce o) y in
+      let parts = told_of_form tree task s sound scope form none in
+      let told = (option_or_parts (first_in_expression tree task s y) _ parts.2).0 in
+      let a = headed s line y lo k scope names told in
+      let target = target_local s line n e f lo_e k_e scope names (target_of_form tree task s sound scope form none) in
+      let u = known_type tree s (access_expr n steps) in
+      let whole = subst (λ v. may_be is_integer v ≡ true) target.known
+      (not-false (may_be is_integer u) (or_parts (is_no_target task s.names n steps u) (not (may_be is_integer u)) (told_later tree task s form none).0).1) in
+      let may = stands_as s y integer_spot scope told (first_stands s.known (stands (known_type tree s y) integer_spot) [] parts.4).0 in (
+        simple_as_integer (type_of tree s y) a.simple may,
+        simple_as_integer (element_field (at s line) n e f) (scalar_simple _ target.scalar) whole,
+        a.is,
+        target.index,
+        target.number,
+        target.through,
+        target.field,
+      )
+
+  -- ---- calls, prints, results and tests
+
+  pub call_local : (s : Scope) (line : ℕ) (n : Name) (args : Expressions) → are_local_expressions m args ≡ true → AreKept (parts_of_expressions args) →
+      IsSoundScope s → AllKept m s.names → first_of_form tree task s (call_form n args) ≡ None → IsTypedForm call_forms (at s line) (call_form n args)
+  call_local s line n args lo k scope names e =
+      let told = listed_told tree task s args (told_of_form tree task s sound scope (call_form n args) e).2 in
+      let call = (option_or_parts (first_of_call tree task s (calling n (known_types tree s args))) _ (told_names tree task s (call_form n args) e).1).0 in
+      let p = local_passed task (at s line) sound local m scope names n args lo k told call in
+      (refl, (local.tasks n p.there).called, p.passed)
+
+  pub print_local : (s : Scope) (line : ℕ) (alias : Option Name) (format : List ℕ) (args : Expressions) → are_local_expressions m args ≡ true →
+      AreKept (parts_of_expressions args) → IsSoundScope s → AllKept m s.names →
+      first_of_form tree task s (print_form alias format args) ≡ None → IsTypedForm call_forms (at s line) (print_form alias format args)
+  print_local s line alias format args lo k scope names e =
+      let form = print_form alias format args in
+      let told = listed_told tree task s args (told_of_form tree task s sound scope form e).2 in
+      let types = known_types tree s args in
+      let whole = or_parts (not (is_count (length types) (numbers_in format))) _ (told_later tree task s form e).1 in
+      let many = counted (length types) (numbers_in format) (not-false (is_count (length types) (numbers_in format)) whole.0) in
+      (local_numbers task (at s line) sound local m scope names args lo k told whole.1, many ∙ ap Some (count_types tree s args))
+
+  pub return_local : (s : Scope) (line : ℕ) (y : Option Expression) → is_local_form m (return_form y) ≡ true → AreKept (parts_of_value y) → IsSoundScope s →
+      AllKept m s.names → first_of_form tree task s (return_form y) ≡ None → IsTypedForm call_forms (at s line) (return_form y)
+  return_local s line None lo k scope names e = λ c given. none_given tree task.result (told_later tree task s (return_form None) e).2 given
+  return_local s line (Some y) lo k scope names e =
+      let form = return_form (Some y) in
+      let parts = told_of_form tree task s sound scope form e in
+      let told = (option_or_parts (first_in_expression tree task s y) _ parts.2).0 in
+      let a = headed s line y lo k scope names told in
+      let fit = stands_as s y (typed_spot (known_result tree task.result)) scope told
+      (first_stands s.known (stands (known_type tree s y) (typed_spot (known_result tree task.result))) [] parts.4).0 in
+      (result_fits tree s.known task.result (type_of tree s y) result (told_later tree task s form e).2 a.simple fit, a.is)
+
+  pub test_local : (s : Scope) (line : ℕ) (y : Expression) → is_local_expression m y ≡ true → AreKept (parts_of_expression y) → IsSoundScope s →
+      AllKept m s.names → first_in_expression tree task s y ≡ None → may_stand s.known (stands (known_type tree s y) truth_spot) ≡ true →
+      IsTruth (type_of tree s y) × IsTyped call_forms (at s line) y
+  test_local s line y lo k scope names told may =
+      let a = headed s line y lo k scope names told in
+      (simple_as_truth (type_of tree s y) a.simple (stands_as s y truth_spot scope told may), a.is)
+
+  pub bound_local : (s : Scope) (line : ℕ) (y : Expression) → is_local_expression m y ≡ true → AreKept (parts_of_expression y) → IsSoundScope s →
+      AllKept m s.names → first_in_expression tree task s y ≡ None → may_stand s.known (stands (known_type tree s y) integer_spot) ≡ true →
+      IsInteger (type_of tree s y) × IsTyped call_forms (at s line) y
+  bound_local s line y lo k scope names told may =
+      let a = headed s line y lo k scope names told in
+      (simple_as_integer (type_of tree s y) a.simple (stands_as s y integer_spot scope told may), a.is)
+
+  pub domain_local : (s : Scope) (line : ℕ) (y : Expression) → is_local_expression m y ≡ true → AreKept (parts_of_expression y) → IsSoundScope s →
+      AllKept m s.names → first_in_expression tree task s y ≡ None → may_stand s.known (stands (known_type tree s y) domain_spot) ≡ true →
+      IsSpace (type_of tree s y) × IsTyped call_forms (at s line) y
+  domain_local s line y lo k scope names told may =
+      let a = headed s line y lo k scope names told in
+      (simple_as_domain (type_of tree s y) a.simple (stands_as s y domain_spot scope told may), a.is)

@@ -1,0 +1,195 @@
+-- A program over scalars keeps its regions to itself, since it has none; no name in it is marked.
+use Rattle.std.proofs.Common.{◌≡◌, ◌∙◌, Bool, [], ◌∷◌, None, Option, Some, true, false, refl, ap, subst, sym}
+use Rattle.std.specs.Prelude.{cond, ◌&&◌, ◌||◌, ◌==◌}
+use Rattle.std.specs.List.{list_all}
+use Rattle.std.proofs.lemmas.Bool.{and_parts}
+use Rattle.regent_tree.specs.Limits.{tasks_in}
+use Rattle.regent_tree.specs.Syntax.{Arms, Block, Expression, Expressions, Form, Initializer, ItemForm, ItemTree, Links, Name, Otherwise, Steps, TaskTree, Tree, a_link, a_statement, access_expr, alias_item, an_arm, an_expr, assert_form, assign_form, at_step, both_initializer, by_field_initializer, call_expr, call_form, cast_expr, chain_expr, convert_expr, do_form, either_initializer, else_block, equal_initializer, field_step, fill_form, for_in_form, for_to_form, if_form, image_initializer, import_item, is_null_expr, no_arm, no_else, no_expr, no_link, no_statement, no_step, null_expr, number_expr, plain_initializer, prefix_expr, preimage_initializer, print_form, region_initializer, return_form, space_expr, space_item, start_item, task_item, then_statement, truth_expr, var_form, while_form}
+use Rattle.regent_tree.specs.declared.expression.Operator.TheVariants.{And, Compare, Compute, Or}
+use Rattle.regent_tree.specs.declared.statement.How.{How}
+use Rattle.regent_tree.specs.declared.statement.How.TheVariants as how
+use Rattle.regent_tree.specs.declared.types.TypeTerm.{TypeTerm}
+use Rattle.code_laws.specs.LocalForm.{are_local_arms, are_local_expressions, are_local_links, are_scalar_params, gives_scalar, is_local_block, is_local_else, is_local_expression, is_local_form, is_local_item, is_local_program, is_local_task, links_give, marked_by, marked_by_arms, marked_by_else, marked_in, unmarked, with_index}
+use Rattle.code_laws.proofs.Typing.{no_way_back}
+use Rattle.scalar_form.specs.ScalarForm.{are_scalar_arms, are_scalar_expressions, are_scalar_links, is_empty, is_scalar_block, is_scalar_else, is_scalar_expression, is_scalar_form, is_scalar_if_said, is_scalar_item, is_scalar_number, is_scalar_program, is_scalar_task, is_scalar_term}
+
+both_true : (a b : Bool) → a ≡ true → b ≡ true → (a && b) ≡ true
+both_true a b h k = ap (λ x. x && b) h ∙ k
+
+-- ---- expressions
+
+mutual
+  expression_local : (e : Expression) → is_scalar_expression e ≡ true →
+      (is_local_expression unmarked e ≡ true) × (gives_scalar unmarked e ≡ true)
+  expression_local (number_expr z w) sc = (refl, refl)
+  expression_local (truth_expr b) sc = (refl, refl)
+  expression_local (chain_expr first rest) sc =
+      let s = and_parts (is_scalar_expression first) (are_scalar_links rest) sc in
+      let a = expression_local first s.0 in
+      let l = links_local rest s.1 in (
+        both_true (is_local_expression unmarked first) (are_local_links unmarked rest) a.0 l.0,
+        ap (λ b. links_give unmarked b rest) a.1 ∙ l.1,
+      )
+  expression_local (prefix_expr signs e) sc =
+      let a = expression_local e sc in (both_true (gives_scalar unmarked e) (is_local_expression unmarked e) a.1 a.0, refl)
+  expression_local (access_expr n no_step) sc = (refl, refl)
+  expression_local (access_expr n (field_step _ _)) sc = absurd (no_way_back sc)
+  expression_local (access_expr n (at_step _ _)) sc = absurd (no_way_back sc)
+  expression_local (convert_expr t e) sc =
+      let s = and_parts (is_scalar_number t) (is_scalar_expression e) sc in
+      (both_true (is_scalar_number t) (is_local_expression unmarked e) s.0 (expression_local e s.1).0, refl)
+  expression_local (call_expr _ _) sc = absurd (no_way_back sc)
+  expression_local (is_null_expr _) sc = absurd (no_way_back sc)
+  expression_local (null_expr _) sc = absurd (no_way_back sc)
+  expression_local (cast_expr _ _) sc = absurd (no_way_back sc)
+  expression_local (space_expr _ _) sc = absurd (no_way_back sc)
+
+  links_local : (ls : Links) → are_scalar_links ls ≡ true → (are_local_links unmarked ls ≡ true) × (links_give unmarked true ls ≡ true)
+  links_local no_link sc = (refl, refl)
+  links_local (a_link Or e rest) sc =
+      let s = and_parts (is_scalar_expression e) (are_scalar_links rest) sc in
+      let r = links_local rest s.1 in (both_true (is_local_expression unmarked e) (are_local_links unmarked rest) (expression_local e s.0).0 r.0, r.1)
+  links_local (a_link And e rest) sc =
+      let s = and_parts (is_scalar_expression e) (are_scalar_links rest) sc in
+      let r = links_local rest s.1 in (both_true (is_local_expression unmarked e) (are_local_links unmarked rest) (expression_local e s.0).0 r.0, r.1)
+  links_local (a_link (Compare c) e rest) sc =
+      let s = and_parts (is_scalar_expression e) (are_scalar_links rest) sc in
+      let r = links_local rest s.1 in (both_true (is_local_expression unmarked e) (are_local_links unmarked rest) (expression_local e s.0).0 r.0, r.1)
+  links_local (a_link (Compute o) e rest) sc =
+      let s = and_parts (is_scalar_expression e) (are_scalar_links rest) sc in
+      let a = expression_local e s.0 in
+      let r = links_local rest s.1 in (
+        both_true (is_local_expression unmarked e) (are_local_links unmarked rest) a.0 r.0,
+        ap (λ b. links_give unmarked b rest) a.1 ∙ r.1,
+      )
+
+expressions_local : (es : Expressions) → are_scalar_expressions es ≡ true → are_local_expressions unmarked es ≡ true
+expressions_local no_expr sc = refl
+expressions_local (an_expr e es) sc =
+    let s = and_parts (is_scalar_expression e) (are_scalar_expressions es) sc in
+    both_true (is_local_expression unmarked e) (are_local_expressions unmarked es) (expression_local e s.0).0 (expressions_local es s.1)
+
+-- ---- statements
+
+-- a statement is such, and marks no name
+abbrev IsLocalForm : Form → Type 0
+IsLocalForm form = (is_local_form unmarked form ≡ true) × (marked_by form unmarked ≡ unmarked)
+
+var_local : (n : Name) (t : Option TypeTerm) (i : Option Initializer) → is_scalar_form (var_form n t i) ≡ true → IsLocalForm (var_form n t i)
+var_local n None None sc = (refl, refl)
+var_local n (Some t) None sc = ((and_parts (is_scalar_term t) true sc).0, refl)
+var_local n None (Some (plain_initializer e)) sc =
+    let a = expression_local e sc in (
+      ap (λ b. (b || false) && is_local_expression unmarked e) a.1 ∙ a.0,
+      ap (λ b. cond b unmarked (with_index n unmarked)) a.1,
+    )
+var_local n (Some t) (Some (plain_initializer e)) sc =
+    let s = and_parts (is_scalar_term t) (is_scalar_expression e) sc in
+    (both_true (is_scalar_term t) (is_local_expression unmarked e) s.0 (expression_local e s.1).0, refl)
+var_local n t (Some (region_initializer _ _)) sc = absurd (no_way_back (and_parts (is_scalar_if_said t) false sc).1)
+var_local n t (Some (equal_initializer _ _)) sc = absurd (no_way_back (and_parts (is_scalar_if_said t) false sc).1)
+var_local n t (Some (by_field_initializer _ _ _)) sc = absurd (no_way_back (and_parts (is_scalar_if_said t) false sc).1)
+var_local n t (Some (image_initializer _ _ _ _)) sc = absurd (no_way_back (and_parts (is_scalar_if_said t) false sc).1)
+var_local n t (Some (preimage_initializer _ _ _ _)) sc = absurd (no_way_back (and_parts (is_scalar_if_said t) false sc).1)
+var_local n t (Some (both_initializer _ _)) sc = absurd (no_way_back (and_parts (is_scalar_if_said t) false sc).1)
+var_local n t (Some (either_initializer _ _)) sc = absurd (no_way_back (and_parts (is_scalar_if_said t) false sc).1)
+
+assign_local : (n : Name) (steps : Steps) (h : How) (e : Expression) → is_scalar_form (assign_form n steps h e) ≡ true →
+    is_local_form unmarked (assign_form n steps h e) ≡ true
+assign_local n no_step how.Set e sc = (expression_local e sc).0
+assign_local n no_step (how.Reduce o) e sc = (expression_local e sc).0
+assign_local n (field_step _ _) h e sc = absurd (no_way_back sc)
+assign_local n (at_step _ _) h e sc = absurd (no_way_back sc)
+
+mutual
+  form_local : (form : Form) → is_scalar_form form ≡ true → IsLocalForm form
+  form_local (var_form n t i) sc = var_local n t i sc
+  form_local (if_form arms other) sc =
+      let s = and_parts (are_scalar_arms arms) (is_scalar_else other) sc in
+      let a = arms_local arms s.0 in
+      let o = else_local other s.1 in
+      (both_true (are_local_arms unmarked arms) (is_local_else unmarked other) a.0 o.0, ap (marked_by_else other) a.1 ∙ o.1)
+  form_local (while_form test body) sc =
+      let s = and_parts (is_scalar_expression test) (is_scalar_block body) sc in
+      let b = block_local body s.1 in
+      (both_true (is_local_expression unmarked test) (is_local_block unmarked body) (expression_local test s.0).0 b.0, b.1)
+  form_local (for_to_form demanded n from to body) sc =
+      let s = and_parts (is_scalar_expression from) (is_scalar_expression to && is_scalar_block body) sc in
+      let r = and_parts (is_scalar_expression to) (is_scalar_block body) s.1 in
+      let b = block_local body r.1 in (
+        both_true (is_local_expression unmarked from) (is_local_expression unmarked to && is_local_block unmarked body) (expression_local from s.0).0
+            (both_true (is_local_expression unmarked to) (is_local_block unmarked body) (expression_local to r.0).0 b.0),
+        b.1,
+      )
+  form_local (do_form body) sc = block_local body sc
+  form_local (assert_form e) sc = ((expression_local e sc).0, refl)
+  form_local (print_form alias format args) sc = (expressions_local args sc, refl)
+  form_local (assign_form n steps h e) sc = (assign_local n steps h e sc, refl)
+  form_local (return_form None) sc = (refl, refl)
+  form_local (return_form (Some e)) sc = ((expression_local e sc).0, refl)
+  form_local (for_in_form _ _ _ _) sc = absurd (no_way_back sc)
+  form_local (fill_form _ _ _) sc = absurd (no_way_back sc)
+  form_local (call_form _ _) sc = absurd (no_way_back sc)
+
+  block_local : (b : Block) → is_scalar_block b ≡ true → (is_local_block unmarked b ≡ true) × (marked_in b unmarked ≡ unmarked)
+  block_local no_statement sc = (refl, refl)
+  block_local (then_statement (a_statement line form) rest) sc =
+      let s = and_parts (is_scalar_form form) (is_scalar_block rest) sc in
+      let f = form_local form s.0 in
+      let r = block_local rest s.1 in
+      (both_true (is_local_form unmarked form) (is_local_block unmarked rest) f.0 r.0, ap (marked_in rest) f.1 ∙ r.1)
+
+  arms_local : (arms : Arms) → are_scalar_arms arms ≡ true → (are_local_arms unmarked arms ≡ true) × (marked_by_arms arms unmarked ≡ unmarked)
+  arms_local no_arm sc = (refl, refl)
+  arms_local (an_arm test body rest) sc =
+      let s = and_parts (is_scalar_expression test) (is_scalar_block body && are_scalar_arms rest) sc in
+      let p = and_parts (is_scalar_block body) (are_scalar_arms rest) s.1 in
+      let b = block_local body p.0 in
+      let r = arms_local rest p.1 in (
+        both_true (is_local_expression unmarked test) (is_local_block unmarked body && are_local_arms unmarked rest) (expression_local test s.0).0
+            (both_true (is_local_block unmarked body) (are_local_arms unmarked rest) b.0 r.0),
+        ap (marked_by_arms rest) b.1 ∙ r.1,
+      )
+
+  else_local : (other : Otherwise) → is_scalar_else other ≡ true → (is_local_else unmarked other ≡ true) × (marked_by_else other unmarked ≡ unmarked)
+  else_local no_else sc = (refl, refl)
+  else_local (else_block body) sc = block_local body sc
+
+-- ---- programs
+
+-- the parts of a task over scalars
+pub record IsScalarTask (t : TaskTree) : Type 0 where
+  pub params : are_scalar_params t.params ≡ true
+  pub result : is_scalar_if_said t.result ≡ true
+  pub clauses : is_empty t.clauses ≡ true
+  pub body : is_scalar_block t.body ≡ true
+
+pub scalar_task : (t : TaskTree) → is_scalar_task t ≡ true → IsScalarTask t
+scalar_task t e =
+    let one = and_parts (are_scalar_params t.params) _ e in
+    let two = and_parts (is_scalar_if_said t.result) _ one.1 in
+    let three = and_parts (is_empty t.clauses) (is_scalar_block t.body) two.1 in
+    record { params = one.0; result = two.0; clauses = three.0; body = three.1 }
+
+task_is_local : (t : TaskTree) → is_scalar_task t ≡ true → is_local_task t ≡ true
+task_is_local t e =
+    let s = scalar_task t e in
+    let b = block_local t.body s.body in
+    both_true (are_scalar_params t.params) _ s.params (both_true (is_scalar_if_said t.result) _ s.result
+    (both_true (is_empty t.clauses) _ s.clauses (subst (λ m. is_local_block m t.body ≡ true) (sym b.1) b.0)))
+
+item_is_local : (i : ItemForm) → is_scalar_item i ≡ true → is_local_item i ≡ true
+item_is_local import_item e = refl
+item_is_local (alias_item n) e = refl
+item_is_local (start_item n) e = refl
+item_is_local (space_item s) e = absurd (no_way_back e)
+item_is_local (task_item t) e = task_is_local t e
+
+items_local : (tree : Tree) → list_all (λ (i : ItemTree). is_scalar_item i.form) tree ≡ true → is_local_program tree ≡ true
+items_local [] e = refl
+items_local (i ∷ items) e =
+    let s = and_parts (is_scalar_item i.form) _ e in
+    both_true (is_local_item i.form) (is_local_program items) (item_is_local i.form s.0) (items_local items s.1)
+
+pub scalar_local : (tree : Tree) → is_scalar_program tree ≡ true → is_local_program tree ≡ true
+scalar_local tree e = items_local tree (and_parts (list_all (λ (i : ItemTree). is_scalar_item i.form) tree) (tasks_in tree == 1) e).0
