@@ -16,4 +16,6 @@ pub mod Operations
 pub mod Partitioned
 pub mod Example
 pub mod Laws
+pub mod Standing
+pub mod Declared
 pub mod Runs
