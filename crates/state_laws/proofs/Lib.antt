@@ -18,4 +18,5 @@ pub mod Example
 pub mod Laws
 pub mod Standing
 pub mod Declared
+pub mod Texts
 pub mod Runs

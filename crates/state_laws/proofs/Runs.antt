@@ -31,10 +31,11 @@ use Rattle.check_rules.specs.types.Sorts.{type_at}
 use Rattle.check_laws.proofs.Parts.{contrary}
 use Rattle.statement_laws.specs.Steady.{ArePlaced}
 use Rattle.state_laws.specs.Going.{GoesOnFit, IsPlaceOfRun, StoreStays}
-use Rattle.state_laws.specs.Runs.{CallsFit, IsBodyOfFit, RunsFit}
+use Rattle.state_laws.specs.Runs.{CallsFit, IsBodyOfFit, IsTextOfFit, RunsFit}
 use Rattle.state_laws.proofs.Laws.{variable_fits}
 use Rattle.state_laws.proofs.Made.{none_is_kept}
 use Rattle.state_laws.proofs.Statements.{block_fits}
+use Rattle.state_laws.proofs.Texts.{texts_fit}
 use Rattle.state_laws.proofs.VariableTypes.{variable_spaced}
 use Rattle.value_laws.specs.Fitting.{Fits, NamesFit, fits_index, fits_integer, fits_nothing, fits_pointer, fits_truth, fits_unknown}
 use Rattle.value_laws.specs.Keeping.{AnswerFits, AnswersFit, AreFit, StateFits}
@@ -212,18 +213,22 @@ task_fits tree t sound declared body turns calls answers roots vs store rooted f
     block_fits t (variable_fits t) (λ roots h n q start r e limits. variable_spaced t roots h r n q start e limits) t.body (body_of tree calls t) roots place body.told body.written body.limits
     (opening tree turns t vs store) (opens tree t roots vs body turns store are fit)
 
-pub calls_fit : CallsFit
-calls_fit tree sound declared bodies turns zero roots line task vs store rooted fit are = tt
-calls_fit tree sound declared bodies turns (suc more) roots line task vs store rooted fit are =
+nested_fit : (tree : Tree) → IsTextOfFit tree → (turns more : ℕ) → AnswersFit tree (calls_at tree turns more)
+nested_fit tree text turns zero roots line task vs store rooted fit are = tt
+nested_fit tree text turns (suc more) roots line task vs store rooted fit are =
     let t = task_named tree task in
     let calls = calls_at tree turns more in
-    ends_fit tree roots _ (scope_of tree t) t (length store) (run_task tree turns calls t vs store) (sym (length-map store shape_of) ∙ ap length fit.shapes_are) (bodies task).result
-    (task_fits tree t sound declared (bodies task) turns calls (calls_fit tree sound declared bodies turns more) roots vs store rooted fit are)
+    ends_fit tree roots _ (scope_of tree t) t (length store) (run_task tree turns calls t vs store) (sym (length-map store shape_of) ∙ ap length fit.shapes_are) (text.bodies task).result
+    (task_fits tree t text.sound text.declared (text.bodies task) turns calls (nested_fit tree text turns more) roots vs store rooted fit are)
+
+pub calls_fit : CallsFit
+calls_fit tree none within treated turns more = nested_fit tree (texts_fit tree none within treated) turns more
 
 no_store : (tree : Tree) → StoreFits tree [] []
 no_store tree = record { shapes_are = refl; numbers = λ r f p. none_is_kept (field_term tree 0 f) }
 
 pub runs_fit : RunsFit
-runs_fit tree sound declared bodies turns inputs are =
+runs_fit tree none within treated turns inputs are =
     let n = entry_name tree in
-    task_fits tree (task_named tree n) sound declared (bodies n) turns (calls_at tree turns 63) (calls_fit tree sound declared bodies turns 63) [] inputs [] (All-nil (IsRootOfSpace tree)) (no_store tree) are
+    let text = texts_fit tree none within treated in
+    task_fits tree (task_named tree n) text.sound text.declared (text.bodies n) turns (calls_at tree turns 63) (nested_fit tree text turns 63) [] inputs [] (All-nil (IsRootOfSpace tree)) (no_store tree) are
