@@ -1,8 +1,9 @@
 pub mod Growing
+pub mod Written
+pub mod Rooted
 pub mod Going
 pub mod Scopes
 pub mod Leaves
-pub mod Written
 pub mod Writes
 pub mod Assignments
 pub mod Counts

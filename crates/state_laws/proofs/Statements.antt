@@ -21,6 +21,7 @@ use Rattle.check_rules.specs.first.FirstInExpressions.{first_in_expression}
 use Rattle.check_rules.specs.first.FirstInStatements.{first_in_arms, first_in_block, first_in_else, first_of_form}
 use Rattle.check_rules.specs.first.Rules.{first_in}
 use Rattle.check_rules.specs.types.Parts.{tests_of}
+use Rattle.check_rules.specs.types.Sorts.{is_collection}
 use Rattle.check_laws.proofs.Blocks.{count_scope, loop_scope}
 use Rattle.check_laws.proofs.Onward.{arm_next, block_next, else_next}
 use Rattle.check_laws.proofs.Variables.{parts_of_form as parts_told}
@@ -34,7 +35,7 @@ use Rattle.state_laws.proofs.Assignments.{assign_fits, filled}
 use Rattle.state_laws.proofs.Counts.{distance_up_to}
 use Rattle.state_laws.proofs.Going.{either_fits, in_order, leaves_fit, state_here, then_fits}
 use Rattle.state_laws.proofs.Growing.{extends_none, spaced_new, spaced_stays, stays_bound}
-use Rattle.state_laws.proofs.Items.{items_fit, lower_fits, taken_spaced, upper_fits}
+use Rattle.state_laws.proofs.Items.{items_fit, lower_fits, taken_plain, taken_spaced, upper_fits}
 use Rattle.state_laws.proofs.Leaves.{assert_fits, call_fits, evaluates, print_fits, return_fits}
 use Rattle.state_laws.proofs.Loops.{counting_fits, rounds_fit, turning_fits}
 use Rattle.state_laws.proofs.Scopes.{more_block, more_form}
@@ -136,7 +137,7 @@ module _ (task : TaskTree) where
           let b : Bound = record { name = n; number = s.next; place = length s.names; static_type = ty; by_loop = true } in
           then_fits h.tree roots r.place.rooted s.names s.names h.result (value h domain u) (λ v. rounds h (items_of v) (exec_block (looping h n ty) body))
           (evaluates task roots h r domain wr.0 limit told u st) (λ v w st is.
-          rounds_fit h.tree h h.result s n ty r.place.scope r.placed r.place.spaced (scope_after_block h.tree s1 body).names (more_block h.tree task r.place.sound s1 body scope told_body) roots
+          rounds_fit h.tree h h.result s n ty r.place.scope r.placed r.place.spaced (taken_plain type) (scope_after_block h.tree s1 body).names (more_block h.tree task r.place.sound s1 body scope told_body) roots
           (exec_block (looping h n ty) body) (λ after v more rooted st.
           block_fits body (looping h n ty) after (looped roots after h n ty r rooted scope spaced) told_body wr.1 (all_right KeepsLimit (parts_of_expression domain) (parts_of_block body) limits) v st)
           (items_of v) roots w (extends_none roots) r.place.rooted st (items_fit h.tree roots r.place.rooted s.names (b ∷ s.names) type v sort is))
@@ -161,7 +162,7 @@ module _ (task : TaskTree) where
           (evaluates task roots h r from wr.0 (all_left KeepsLimit (parts_of_expression from) (parts_of_expression to ++ parts_of_block body) limits) heads.0 u st) (λ x w st low.
           then_fits h.tree roots r.place.rooted s.names s.names h.result (value h to w) (λ y. counting h (distance (number_of x) (number_of y)) (width_of_type ty) (number_of x) (exec_block (looping h n ty) body))
           (evaluates task roots h r to wr.1 (all_left KeepsLimit (parts_of_expression to) (parts_of_block body) behind) second w st) (λ y w st high.
-          counting_fits h.tree h h.result s n ty r.place.scope r.placed r.place.spaced (scope_after_block h.tree s1 body).names (more_block h.tree task r.place.sound s1 body scope told_body) roots
+          counting_fits h.tree h h.result s n ty r.place.scope r.placed r.place.spaced (ap is_collection width) (scope_after_block h.tree s1 body).names (more_block h.tree task r.place.sound s1 body scope told_body) roots
           (exec_block (looping h n ty) body) (λ after v more rooted st.
           block_fits body (looping h n ty) after (looped roots after h n ty r rooted scope spaced) told_body wr.2 (all_right KeepsLimit (parts_of_expression to) (parts_of_block body) behind) v st)
           (width_of_type ty) (number_of y) (subst (λ q. FitsWidth q (number_of y)) (sym w0) (upper_fits roots s.names a.0 c.0 y (subst (λ t. Fits roots s.names t y) c.1 high)))

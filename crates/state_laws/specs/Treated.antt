@@ -1,7 +1,7 @@
 -- Statements of which the laws speak: as the reader gives them, and without a union of partitions. What fits
 -- doesn't say yet that two partitions of one parent are of one root, which a union needs.
 use Rattle.std.specs.Prelude.{None, Some}
-use Rattle.regent_tree.specs.Syntax.{Arms, Block, Form, Initializer, Otherwise, a_statement, an_arm, assert_form, assign_form, by_field_initializer, call_form, do_form, either_initializer, else_block, equal_initializer, fill_form, for_in_form, for_to_form, if_form, no_arm, no_else, no_statement, plain_initializer, print_form, region_initializer, return_form, then_statement, var_form, while_form}
+use Rattle.regent_tree.specs.Syntax.{Arms, Block, Form, Initializer, Otherwise, a_statement, an_arm, assert_form, assign_form, by_field_initializer, call_form, do_form, else_block, equal_initializer, fill_form, for_in_form, for_to_form, if_form, no_arm, no_else, no_statement, plain_initializer, print_form, region_initializer, return_form, then_statement, var_form, while_form}
 use Rattle.expression_laws.specs.Writing.{AreStepped, AreWritten, IsWritten}
 
 abbrev pub IsTreatedInitializer : Initializer → Type 0
@@ -9,7 +9,6 @@ IsTreatedInitializer (region_initializer e u) = IsWritten e
 IsTreatedInitializer (equal_initializer r e) = IsWritten e
 IsTreatedInitializer (by_field_initializer r f e) = IsWritten e
 IsTreatedInitializer (plain_initializer e) = IsWritten e
-IsTreatedInitializer (either_initializer p q) = ⊥
 IsTreatedInitializer initializer = Unit {0}
 
 abbrev mutual
