@@ -258,13 +258,13 @@ nested_fit tree text turns (suc more) roots line task vs store rooted fit are =
     (task_fits tree t text.sound text.declared (text.bodies task) turns calls (nested_fit tree text turns more) roots vs store rooted fit are)
 
 pub calls_fit : CallsFit
-calls_fit tree none within treated turns more = nested_fit tree (texts_fit tree none within treated) turns more
+calls_fit tree none within written turns more = nested_fit tree (texts_fit tree none within written) turns more
 
 no_store : (tree : Tree) → StoreFits tree [] []
 no_store tree = record { shapes_are = refl; numbers = λ r f p. none_is_kept (field_term tree 0 f) }
 
 pub runs_fit : RunsFit
-runs_fit tree none within treated turns inputs are =
+runs_fit tree none within written turns inputs are =
     let n = entry_name tree in
-    let text = texts_fit tree none within treated in
+    let text = texts_fit tree none within written in
     task_fits tree (task_named tree n) text.sound text.declared (text.bodies n) turns (calls_at tree turns 63) (nested_fit tree text turns 63) [] inputs [] (All-nil (IsRootOfSpace tree)) (no_store tree) are

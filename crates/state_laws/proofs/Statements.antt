@@ -28,7 +28,7 @@ use Rattle.check_laws.proofs.Variables.{parts_of_form as parts_told}
 use Rattle.check_laws.specs.SoundScopes.{IsSoundScope}
 use Rattle.statement_laws.proofs.Scopes.{bounds_whole, domain_sort, is_whole, names_arms, names_else}
 use Rattle.statement_laws.specs.Steady.{ArePlaced}
-use Rattle.state_laws.specs.Treated.{AreTreatedArms, IsTreatedBlock, IsTreatedElse}
+use Rattle.statement_laws.specs.WrittenStatements.{AreWrittenArms, IsWrittenBlock, IsWrittenElse}
 use Rattle.state_laws.specs.Going.{GoesOnFit, IsPlaceOfRun}
 use Rattle.state_laws.specs.Laws.{FormFits}
 use Rattle.state_laws.proofs.Assignments.{assign_fits, filled}
@@ -176,7 +176,7 @@ module _ (task : TaskTree) where
       form_fits (assign_form n steps how x) roots h r e w wr limits u st = assign_fits task n steps how x roots h r e w wr limits u st
       form_fits (return_form x) roots h r e w wr limits u st = return_fits task x roots h r e w wr limits u st
 
-      pub block_fits : (b : Block) (h : Here) (roots : List Shape) → IsPlaceOfRun task roots h → first_in_block h.tree task h.scope b ≡ None → IsTreatedBlock b → All KeepsLimit (parts_of_block b) →
+      pub block_fits : (b : Block) (h : Here) (roots : List Shape) → IsPlaceOfRun task roots h → first_in_block h.tree task h.scope b ≡ None → IsWrittenBlock b → All KeepsLimit (parts_of_block b) →
           (u : State) → StateFits h.tree roots h.scope.names u → GoesOnFit h.tree roots (scope_after_block h.tree h.scope b).names h.result (exec_block h b u)
       block_fits no_statement h roots r e wr limits u st = state_here h.tree roots r.place.rooted h.scope.names u st
       block_fits (then_statement (a_statement line form) rest) h roots r e wr limits u st =
@@ -191,7 +191,7 @@ module _ (task : TaskTree) where
           next.3 wr.1 (all_right KeepsLimit (parts_of_form form) (parts_of_block rest) both) w st)
 
       arms_fit : (arms : Arms) (own : Here) (s : Scope) (roots : List Shape) → IsPlaceOfRun task roots own → IsPlaceOfRun task roots (record own { scope = s }) → s.names ≡ own.scope.names →
-          first_in_arms own.tree task s arms ≡ None → first_in (first_in_expression own.tree task own.scope) (tests_of arms) ≡ None → AreTreatedArms arms → All KeepsLimit (parts_of_arms arms) →
+          first_in_arms own.tree task s arms ≡ None → first_in (first_in_expression own.tree task own.scope) (tests_of arms) ≡ None → AreWrittenArms arms → All KeepsLimit (parts_of_arms arms) →
           (other : Run Going) → ((u : State) → StateFits own.tree roots s.names u → GoesOnFit own.tree roots s.names own.result (other u)) →
           (u : State) → StateFits own.tree roots s.names u → GoesOnFit own.tree roots s.names own.result (exec_arms own (record own { scope = s }) arms other u)
       arms_fit no_arm own s roots ro r alike e told wr limits other others u st = others u st
@@ -211,7 +211,7 @@ module _ (task : TaskTree) where
           (arms_fit rest own s1 roots ro (place_at roots roots own s1 own.line ro r.place.rooted next.1 r.place.spaced r.placed) alike next.2 tests.1 wr.2
           (all_right KeepsLimit (parts_of_block body) (parts_of_arms rest) behind) other others w st))
 
-      else_fits : (other : Otherwise) (h : Here) (roots : List Shape) → IsPlaceOfRun task roots h → first_in_else h.tree task h.scope other ≡ None → IsTreatedElse other → All KeepsLimit (parts_of_otherwise other) →
+      else_fits : (other : Otherwise) (h : Here) (roots : List Shape) → IsPlaceOfRun task roots h → first_in_else h.tree task h.scope other ≡ None → IsWrittenElse other → All KeepsLimit (parts_of_otherwise other) →
           (u : State) → StateFits h.tree roots h.scope.names u → GoesOnFit h.tree roots (scope_after_else h.tree h.scope other).names h.result (exec_else h other u)
       else_fits no_else h roots r e wr limits u st = state_here h.tree roots r.place.rooted h.scope.names u st
       else_fits (else_block body) h roots r e wr limits u st =

@@ -33,7 +33,8 @@ use Rattle.check_laws.proofs.Entries.{no_line, none_left}
 use Rattle.check_laws.proofs.Trees.{declared_none}
 use Rattle.check_laws.specs.SoundScopes.{IsPlaced}
 use Rattle.expression_laws.proofs.Params.{param_type, parent_region}
-use Rattle.state_laws.specs.Runs.{AreTreatedTasks, IsBodyOfFit, TextsFit}
+use Rattle.state_laws.specs.Runs.{IsBodyOfFit, TextsFit}
+use Rattle.statement_laws.specs.WrittenStatements.{AreWrittenTasks}
 use Rattle.state_laws.proofs.Declared.{AreSoundParams, HasRegions, field_said, names_fine, no_params, params_said, sound_params, term_limit}
 use Rattle.state_laws.proofs.Standing.{form_limits, form_untold, forms, space_stands, task_stands}
 use Rattle.value_laws.proofs.Limits.{all_behind, all_left, all_right}
@@ -133,8 +134,8 @@ module _ (tree : Tree) (none : breaches tree ≡ []) (within : WithinLimits tree
       let t = task_named tree n in
       placed_type (scope_of tree t) (type_at (param_types tree t) i) (λ d r p e. parent_region tree t.params (task_fine n).params.written i d r p (param_type tree t i ∙ e))
 
-  body_fits : AreTreatedTasks tree → (n : Name) → IsBodyOfFit tree (task_named tree n)
-  body_fits treated n = elim (task_stands tree n) [
+  body_fits : AreWrittenTasks tree → (n : Name) → IsBodyOfFit tree (task_named tree n)
+  body_fits written n = elim (task_stands tree n) [
     | inl h ↦ let t = task_named tree n in
         let stands = Contains-from_Has (forms tree) (task_item t) h in
         let told = body_told tree t none stands in
@@ -145,15 +146,15 @@ module _ (tree : Tree) (none : breaches tree ≡ []) (within : WithinLimits tree
           regions = λ i k space args terms e. subst (HasRegions (scope_of tree t).names) (param_type tree t i ∙ e) (names i).1;
           result = told.sound_task.result;
           told = told.told;
-          written = treated t stands;
+          written = written t stands;
           limits = fine.body;
         }
     | inr e ↦ subst (IsBodyOfFit tree) (sym e) (no_body tree)
   ]
 
 pub texts_fit : TextsFit
-texts_fit tree none within treated = record {
+texts_fit tree none within written = record {
   sound = sound tree none within;
   declared = record { fields = fields_are tree none within; params = params_are tree none within; tasks = tasks_are tree none within };
-  bodies = body_fits tree none within treated;
+  bodies = body_fits tree none within written;
 }

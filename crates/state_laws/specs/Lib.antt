@@ -1,5 +1,4 @@
 pub mod Going
-pub mod Treated
 pub mod Operations
 pub mod Runs
 pub mod Example
