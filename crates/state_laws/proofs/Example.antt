@@ -96,11 +96,11 @@ agree (suc i) = subst (λ (b : Bound). HasRootOfName names example_state.names b
 
 -- ---- limits
 
-abbrev Each : List Part → Type 0
+abbrev pub Each : List Part → Type 0
 Each [] = Unit {0}
 Each (p ∷ ps) = KeepsLimit p × Each ps
 
-from_each : (ps : List Part) → Each ps → All KeepsLimit ps
+pub from_each : (ps : List Part) → Each ps → All KeepsLimit ps
 from_each [] e = All-nil KeepsLimit
 from_each (p ∷ ps) e = All-cons KeepsLimit p ps e.0 (from_each ps e.1)
 

@@ -21,3 +21,4 @@ pub mod Standing
 pub mod Declared
 pub mod Texts
 pub mod Runs
+pub mod UnionExample
