@@ -14,7 +14,7 @@ use Rattle.check_rules.specs.first.FirstInItems.{first_line, first_repeated}
 use Rattle.check_rules.specs.rules.Entries.{entry_given, is_integer_term, later_lines, lines_of_inputs, missing_lines, wrong_entry_lines}
 use Rattle.check_rules.specs.rules.Repeats.{Given}
 
-none_left : {A : Type 0} (xs ys : List A) → xs ++ ys ≡ [] → (xs ≡ []) × (ys ≡ [])
+pub none_left : {A : Type 0} (xs ys : List A) → xs ++ ys ≡ [] → (xs ≡ []) × (ys ≡ [])
 none_left [] ys e = (refl, e)
 none_left (x ∷ xs) ys e = absurd cc
 
@@ -69,7 +69,7 @@ pub record BeginsWell (tree : Tree) : Type 0 where
   pub there : has_task tree (entry_name tree) ≡ true
   pub integers : list_all (λ (p : Param). is_integer_term p.term) (task_named tree (entry_name tree)).params ≡ true
 
-no_line : (r : Rule) (lines : List ℕ) → first_line r lines ≡ None → lines ≡ []
+pub no_line : (r : Rule) (lines : List ℕ) → first_line r lines ≡ None → lines ≡ []
 no_line r [] e = refl
 no_line r (l ∷ ls) e = absurd cc
 

@@ -117,7 +117,7 @@ place_step p ps n true e = ap (λ b. cond (not b) (1 + place_in ps n) 0) e
 place_step p ps n false e = ap (λ b. cond (not b) (1 + place_in ps n) 0) e
 
 -- a parameter's number is its place
-number_is_place : (tree : Tree) (all : List Param) (i : ℕ) (ps : List Param) (earlier : List Given) → repeats_after earlier (given_by ps) ≡ [] →
+pub number_is_place : (tree : Tree) (all : List Param) (i : ℕ) (ps : List Param) (earlier : List Given) → repeats_after earlier (given_by ps) ≡ [] →
     (n : Name) → is_bound (bound_params tree all i ps) n ≡ true → (bound_to (bound_params tree all i ps) n).number ≡ i + place_in ps n
 number_is_place tree all i [] earlier none n e = absurd cc
 number_is_place tree all i (p ∷ ps) earlier none n e = elim (bound_after (bound_params tree all (suc i) ps) (bound tree all i p) n e) [

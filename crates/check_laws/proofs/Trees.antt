@@ -162,7 +162,7 @@ module _ (tree : Tree) (task : TaskTree) (sound : IsSound tree) where
 
 -- a task of which nothing is told
 module _ (tree : Tree) (declared : first_in (first_declared tree) tree ≡ None) where
-  unbound_none : (ps : List Param) (names : _) → list_any (λ (p : Param). is_flawed_type tree names p.term) ps ≡ false →
+  pub unbound_none : (ps : List Param) (names : _) → list_any (λ (p : Param). is_flawed_type tree names p.term) ps ≡ false →
       list_any (λ (p : Param). unbound_name_in_type tree names p.term) ps ≡ false
   unbound_none [] names e = refl
   unbound_none (p ∷ ps) names e =

@@ -1,5 +1,5 @@
 -- Assignments to variables and fields, and fills, of which nothing is told.
-use Rattle.std.proofs.Common.{List, [], ◌∷◌, None, false, true, refl, ap, sym, subst, ℕ, ◌≡◌, ◌∙◌, ◌||◌, ◌⊎◌, inl, inr, not, get_or}
+use Rattle.std.proofs.Common.{List, [], ◌∷◌, None, false, true, refl, ap, sym, subst, ℕ, ◌≡◌, ◌∙◌, ◌||◌, ◌⊎◌, inl, inr, not, get_or, ◌&&◌}
 use Rattle.std.proofs.lemmas.Bool.{and_parts, not-false, or_parts}
 use Rattle.std.proofs.lemmas.List.{length-set}
 use Rattle.std.proofs.lemmas.List.Elements.{All-nil}
@@ -37,7 +37,7 @@ use Rattle.check_rules.specs.first.FirstInStatements.{first_of_form}
 use Rattle.check_rules.specs.first.Rules.{rule_if}
 use Rattle.check_rules.specs.rules.Standing.{stands, typed_spot}
 use Rattle.check_rules.specs.rules.Statements.{standing_in_form}
-use Rattle.check_rules.specs.rules.Targets.{ends_in_element, ends_in_no_place, is_no_integer, is_no_target, mistargets}
+use Rattle.check_rules.specs.rules.Targets.{ends_in_element, ends_in_no_place, is_fixed, is_no_integer, is_no_target, mistargets}
 use Rattle.check_rules.specs.rules.Types.{is_ill_typed_at_place}
 use Rattle.check_rules.specs.types.Declarations.{is_flawed_field, is_no_field_type, known_field}
 use Rattle.check_rules.specs.types.Fitting.{fits, fits_known}
@@ -45,7 +45,7 @@ use Rattle.check_rules.specs.types.KnownTypes.{known_type}
 use Rattle.check_rules.specs.types.Lookup.{names_a, region_has}
 use Rattle.check_rules.specs.rules.Names.{is_unknown_region_field}
 use Rattle.check_rules.specs.types.Params.{type_unless}
-use Rattle.check_rules.specs.types.Sorts.{is_integer, is_region, is_space, is_unknown_type}
+use Rattle.check_rules.specs.types.Sorts.{is_collection, is_integer, is_region, is_space, is_unknown_type}
 use Rattle.check_rules.specs.declared.rule.Rule.TheVariants as rule
 use Rattle.check_laws.proofs.Forms.{target_as_meant}
 use Rattle.check_laws.proofs.Parts.{contrary, surely}
@@ -58,6 +58,7 @@ use Rattle.statement_laws.specs.Steady.{ArePlaced}
 use Rattle.state_laws.specs.Going.{GoesOnFit, IsPlaceOfRun}
 use Rattle.state_laws.specs.Laws.{FormFits}
 use Rattle.state_laws.proofs.Going.{state_here, then_fits}
+use Rattle.state_laws.proofs.Rooted.{roots_set}
 use Rattle.state_laws.proofs.Leaves.{evaluates}
 use Rattle.state_laws.proofs.Writes.{MayBePut, fill_fits, target_fits}
 use Rattle.state_laws.proofs.Written.{set_cases}
@@ -194,6 +195,12 @@ module _ (task : TaskTree) where
       name_fits h roots r n b u st = subst (λ (c : Bound). Fits roots h.scope.names c.static_type (get_or u.names c.place (a_truth false)))
           (found_by_number h.scope.next h.scope.names n r.place.scope.numbers b).0 (st.names (bound_to h.scope.names n).number)
 
+  -- a name that may be assigned is of no region, partition or index space
+  no_collection : (names : List Bound) (n : Name) → is_bound names n ≡ true → (is_bound names n && is_fixed task (bound_to names n)) ≡ false → is_collection (bound_to names n).static_type ≡ false
+  no_collection names n b e =
+      let fixed : is_fixed task (bound_to names n) ≡ false = sym (λ j. b j && is_fixed task (bound_to names n)) ∙ e in
+      (or_parts _ (is_collection (bound_to names n).static_type) fixed).1
+
   pub assign_fits : (n : Name) (steps : Steps) (k : How) (y : Expression) → FormFits task (assign_form n steps k y)
   assign_fits n no_step k y roots h r e w wr limits u st =
       let t = target_told roots h r n no_step k y e in
@@ -207,6 +214,7 @@ module _ (task : TaskTree) where
         names = names_set roots h.scope.names w.names b (updated k old (with_regions_of old v)) r.placed found t.known
             (put_in_name roots h.scope.names k b.static_type old v may was) st.names;
         counted = length-set w.names b.place _ ∙ st.counted;
+        agree = roots_set h.tree h.scope.names w.names b (updated k old (with_regions_of old v)) r.placed r.place.spaced found t.known (no_collection h.scope.names n t.bound (or_parts _ _ t.free).0) st.agree;
         store = st.store;
       }))
   assign_fits n (field_step f rest) k y roots h r e w wr limits u st =

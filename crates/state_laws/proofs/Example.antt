@@ -22,7 +22,7 @@ use Rattle.state_laws.specs.Example.{ExampleFits, example_place}
 use Rattle.point_sets.proofs.Rising.{rising-counted_from}
 use Rattle.state_laws.proofs.Items.{counted_below}
 use Rattle.state_laws.proofs.Made.{none_is_kept}
-use Rattle.value_laws.specs.Fitting.{Fits, NamesFit, fits_region, fits_unknown}
+use Rattle.value_laws.specs.Fitting.{Fits, HasRootOfName, NamesFit, RootsAgree, fits_region, fits_unknown}
 use Rattle.value_laws.specs.Shapes.{AreRootsOfSpaces, IsRootOfSpace, KeepsNumbers}
 use Rattle.value_laws.specs.Spaces.{AreSpaced, HasSpacedDeclarations, IsSpaced, space_declared}
 use Rattle.value_laws.proofs.Spaced.{no_arguments}
@@ -90,13 +90,17 @@ names_fit zero = fits_region (record {
 })
 names_fit (suc i) = subst (λ (b : Bound). Fits roots names b.static_type (get_or example_state.names b.place (a_truth false))) (sym (no_other i)) fits_unknown
 
+agree : RootsAgree names example_state.names
+agree zero = refl
+agree (suc i) = subst (λ (b : Bound). HasRootOfName names example_state.names b.static_type (get_or example_state.names b.place (a_truth false))) (sym (no_other i)) tt
+
 -- ---- limits
 
-abbrev Each : List Part → Type 0
+abbrev pub Each : List Part → Type 0
 Each [] = Unit {0}
 Each (p ∷ ps) = KeepsLimit p × Each ps
 
-from_each : (ps : List Part) → Each ps → All KeepsLimit ps
+pub from_each : (ps : List Part) → Each ps → All KeepsLimit ps
 from_each [] e = All-nil KeepsLimit
 from_each (p ∷ ps) e = All-cons KeepsLimit p ps e.0 (from_each ps e.1)
 
@@ -124,5 +128,5 @@ example_fits = record {
   told = told.told;
   written = example_holds.written;
   limits = limits;
-  state = record { names = names_fit; counted = refl; store = record { shapes_are = refl; numbers = numbers } };
+  state = record { names = names_fit; counted = refl; agree = agree; store = record { shapes_are = refl; numbers = numbers } };
 }

@@ -12,6 +12,7 @@ use Rattle.regent_tree.specs.declared.typing.StaticType.{StaticType}
 use Rattle.statement_laws.specs.Steady.{ArePlaced}
 use Rattle.state_laws.specs.Going.{GoesOnFit, StateStays, StoreStays}
 use Rattle.state_laws.proofs.Growing.{StaysBound, extends_none, extends_then, names_left}
+use Rattle.state_laws.proofs.Rooted.{roots_left}
 use Rattle.value_laws.specs.Keeping.{KeepsFit, StateFits}
 use Rattle.value_laws.specs.Shapes.{AreRootsOfSpaces, StoreFits}
 use Rattle.value_laws.specs.Spaces.{AreSpaced}
@@ -68,6 +69,7 @@ leaves_fit tree roots names inner n t (gives goes_on u) same stays longer placed
       state_fits = subst (λ k. StateFits tree s.after names (record u { names = take k u.names })) (sym same) (record {
         names = names_left tree s.after names inner u.names stays placed spaced s.state_fits.names;
         counted = length-take-le (length names) u.names (omega (arith, longer, counted));
+        agree = roots_left tree names inner u.names stays placed spaced s.state_fits.agree;
         store = s.state_fits.store;
       });
     }

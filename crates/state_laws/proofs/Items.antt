@@ -1,5 +1,5 @@
 -- What loops take: pointers into a region, indices of a space, and numbers between bounds.
-use Rattle.std.proofs.Common.{List, [], ◌∷◌, Some, true, ℕ, ℤ, zero, suc, pos, ◌≡◌, ◌<◌, ◌≤◌, ◌+◌, ◌||◌, inr, get_or, map, arith}
+use Rattle.std.proofs.Common.{List, [], ◌∷◌, Some, false, true, refl, ℕ, ℤ, zero, suc, pos, ◌≡◌, ◌<◌, ◌≤◌, ◌+◌, ◌||◌, inr, get_or, map, arith}
 use Rattle.std.proofs.lemmas.Int.{ints}
 use Rattle.std.proofs.lemmas.List.Elements.{All-cons, All-get_or, All-map, All-nil}
 use Rattle.std.specs.List.{All}
@@ -19,7 +19,7 @@ use Rattle.regent_tree.specs.declared.types.Kind.{Kind}
 use Rattle.regent_tree.specs.declared.typing.Bound.{Bound}
 use Rattle.regent_tree.specs.declared.typing.StaticType.{StaticType}
 use Rattle.regent_tree.specs.declared.typing.StaticType.TheVariants.{Index as index_type, Integer as integer_type, Ispace as ispace_type, Nothing as no_type, Partition as partition_type, Pointer as pointer_type, Region as region_type, Truth as truth_type, Unknown as unknown_type}
-use Rattle.check_rules.specs.types.Sorts.{is_region, is_space}
+use Rattle.check_rules.specs.types.Sorts.{is_collection, is_region, is_space}
 use Rattle.value_laws.proofs.Numbers.{point_fits}
 use Rattle.value_laws.proofs.Spaced.{no_arguments}
 use Rattle.value_laws.specs.Fitting.{Fits, IsGoal, fits_index, fits_integer, fits_pointer, fits_region, fits_space}
@@ -65,6 +65,18 @@ taken_spaced tree names (pointer_type k space args terms) is = no_arguments tree
 taken_spaced tree names (partition_type d r p) is = no_arguments tree names _ tt
 taken_spaced tree names no_type is = no_arguments tree names _ tt
 taken_spaced tree names unknown_type is = no_arguments tree names _ tt
+
+-- it is no region, partition or index space
+pub taken_plain : (t : StaticType) → is_collection (taken_from t) ≡ false
+taken_plain (region_type k space args t) = refl
+taken_plain (ispace_type k) = refl
+taken_plain (integer_type w) = refl
+taken_plain truth_type = refl
+taken_plain (index_type k) = refl
+taken_plain (pointer_type k space args terms) = refl
+taken_plain (partition_type d r p) = refl
+taken_plain no_type = refl
+taken_plain unknown_type = refl
 
 -- ---- bounds of counted loops
 

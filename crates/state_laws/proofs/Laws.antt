@@ -15,10 +15,10 @@ use Rattle.check_laws.proofs.Variables.{parts_of_form as parts_told}
 use Rattle.expression_laws.specs.Writing.{IsWritten}
 use Rattle.state_laws.specs.Going.{IsPlaceOfRun}
 use Rattle.state_laws.specs.Laws.{FormFits, StatementsFit}
-use Rattle.state_laws.proofs.Partitioned.{difference_evaluates, operation_fits}
+use Rattle.state_laws.proofs.Partitioned.{difference_evaluates, difference_rooted, operation_fits}
 use Rattle.state_laws.proofs.Statements.{form_fits}
 use Rattle.state_laws.proofs.VariableTypes.{variable_spaced}
-use Rattle.state_laws.proofs.Variables.{Evaluates, plain_fits, region_begun, typed_fits, unset_fits, whole_evaluates}
+use Rattle.state_laws.proofs.Variables.{Evaluates, IsRooted, plain_fits, region_begun, typed_fits, unset_fits, whole_evaluates, whole_rooted}
 use Rattle.value_laws.proofs.Limits.{all_right}
 
 module _ (task : TaskTree) where
@@ -28,6 +28,12 @@ module _ (task : TaskTree) where
   start_evaluates roots h r y false d wr limits heads = whole_evaluates task roots h r y d wr limits heads
   start_evaluates roots h r y true d wr limits heads =
       difference_evaluates task roots h r y (is_difference h.scope.names y) refl d (subst (λ b. first_in (first_in_expression h.tree task h.scope) (cond b (members_of y) (y ∷ [])) ≡ None) d heads)
+
+  start_rooted : (roots : List Shape) (h : Here) (r : IsPlaceOfRun task roots h) (y : Expression) (b : Bool) → is_difference h.scope.names y ≡ b → IsWritten y →
+      first_in (first_in_expression h.tree task h.scope) (cond (is_difference h.scope.names y) (members_of y) (y ∷ [])) ≡ None → IsRooted task roots h y
+  start_rooted roots h r y false d wr heads = whole_rooted task roots h r y d wr heads
+  start_rooted roots h r y true d wr heads =
+      difference_rooted task roots h r y (is_difference h.scope.names y) refl d (subst (λ b. first_in (first_in_expression h.tree task h.scope) (cond b (members_of y) (y ∷ [])) ≡ None) d heads)
 
   pub variable_fits : (n : Name) (t : Option TypeTerm) (start : Option Initializer) → FormFits task (var_form n t start)
   variable_fits n (Some t) None roots h r e w wr limits u st = unset_fits task n t roots h r e w wr limits u st
@@ -40,14 +46,16 @@ module _ (task : TaskTree) where
   variable_fits n t (Some (image_initializer parent p q f)) roots h r e w wr limits u st = operation_fits task roots h r n t (image_initializer parent p q f) tt refl e limits u st
   variable_fits n t (Some (preimage_initializer parent p q f)) roots h r e w wr limits u st = operation_fits task roots h r n t (preimage_initializer parent p q f) tt refl e limits u st
   variable_fits n t (Some (both_initializer p q)) roots h r e w wr limits u st = operation_fits task roots h r n t (both_initializer p q) tt refl e limits u st
-  variable_fits n t (Some (either_initializer p q)) roots h r e w wr limits u st = absurd wr
+  variable_fits n t (Some (either_initializer p q)) roots h r e w wr limits u st = operation_fits task roots h r n t (either_initializer p q) tt refl e limits u st
   variable_fits n None (Some (plain_initializer y)) roots h r e w wr limits u st =
       let parts = parts_told h.tree task h.scope r.place.sound r.place.scope (var_form n None (Some (plain_initializer y))) e in
-      plain_fits task n y roots h r e limits (start_evaluates roots h r y (is_difference h.scope.names y) refl wr limits parts.2) u st
+      plain_fits task n y roots h r e limits (start_evaluates roots h r y (is_difference h.scope.names y) refl wr limits parts.2)
+      (start_rooted roots h r y (is_difference h.scope.names y) refl wr parts.2) u st
   variable_fits n (Some t) (Some (plain_initializer y)) roots h r e w wr limits u st =
       let parts = parts_told h.tree task h.scope r.place.sound r.place.scope (var_form n (Some t) (Some (plain_initializer y))) e in
       typed_fits task n t y roots h r e limits
-      (start_evaluates roots h r y (is_difference h.scope.names y) refl wr (all_right KeepsLimit (parts_of_type (Some t)) (parts_of_expression y) limits) parts.2) u st
+      (start_evaluates roots h r y (is_difference h.scope.names y) refl wr (all_right KeepsLimit (parts_of_type (Some t)) (parts_of_expression y) limits) parts.2)
+      (start_rooted roots h r y (is_difference h.scope.names y) refl wr parts.2) u st
 
 pub statements_fit : StatementsFit
 statements_fit task form =

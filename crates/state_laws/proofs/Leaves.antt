@@ -142,7 +142,7 @@ module _ (task : TaskTree) where
       then_fits h.tree roots r.place.rooted h.scope.names h.scope.names h.result (values h [] es u) (λ vs. changing (λ s. record s { text = s.text ++ printed format (map number_of vs) }))
       (values_any roots h r es wr limits (args_told h.tree task h.scope es parts.heads) u st) (λ vs w st is.
       state_here h.tree roots r.place.rooted h.scope.names (record w { text = w.text ++ printed format (map number_of vs) })
-      (record { names = st.names; counted = st.counted; store = st.store }))
+      (record { names = st.names; counted = st.counted; agree = st.agree; store = st.store }))
 
   pub call_fits : (f : Name) (es : Expressions) → FormFits task (call_form f es)
   call_fits f es roots h r e w wr limits u st =

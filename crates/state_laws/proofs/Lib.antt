@@ -1,8 +1,9 @@
 pub mod Growing
+pub mod Written
+pub mod Rooted
 pub mod Going
 pub mod Scopes
 pub mod Leaves
-pub mod Written
 pub mod Writes
 pub mod Assignments
 pub mod Counts
@@ -16,4 +17,8 @@ pub mod Operations
 pub mod Partitioned
 pub mod Example
 pub mod Laws
+pub mod Standing
+pub mod Declared
+pub mod Texts
 pub mod Runs
+pub mod UnionExample

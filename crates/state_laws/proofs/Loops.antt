@@ -1,5 +1,5 @@
 -- Loops: each turn begins and ends in a state that fits.
-use Rattle.std.proofs.Common.{List, [], ◌∷◌, ◌++◌, true, refl, ℕ, ℤ, zero, suc, pos, ◌∙◌, ◌+ℤ◌, arith}
+use Rattle.std.proofs.Common.{List, [], ◌∷◌, ◌++◌, false, true, refl, ◌≡◌, ℕ, ℤ, zero, suc, pos, ◌∙◌, ◌+ℤ◌, arith}
 use Rattle.std.proofs.lemmas.List.{length-append}
 use Rattle.std.proofs.lemmas.List.Elements.{All-head, All-tail}
 use Rattle.std.specs.List.{All}
@@ -22,6 +22,8 @@ use Rattle.state_laws.proofs.Counts.{AreUpTo, next_up_to}
 use Rattle.state_laws.proofs.Going.{either_fits, in_order, leaves_fit, state_here, store_here, then_fits}
 use Rattle.state_laws.proofs.Growing.{extends_then, fits_more, names_new}
 use Rattle.state_laws.proofs.Scopes.{HasMoreNames, more_then, one_more}
+use Rattle.state_laws.proofs.Rooted.{no_parent, plain_own, plain_parent, roots_new}
+use Rattle.check_rules.specs.types.Sorts.{is_collection}
 use Rattle.value_laws.specs.Fitting.{Fits}
 use Rattle.value_laws.specs.Keeping.{KeepsFit, StateFits}
 use Rattle.value_laws.specs.Shapes.{AreRootsOfSpaces}
@@ -32,7 +34,7 @@ module _ (tree : Tree) (h : Here) (result : StaticType) where
   paid : (roots : List Shape) (names others : List Bound) (more : Run Going) (u : State) → AreRootsOfSpaces tree roots → StateFits tree roots names u →
       ((w : State) → StateFits tree roots names w → GoesOnFit tree roots others result (more w)) → (n : ℕ) → GoesOnFit tree roots others result (and_then (pay_from n h u) (λ _. more))
   paid roots names others more u rooted st next zero = store_here tree roots rooted u.store st.store
-  paid roots names others more u rooted st next (suc n) = next (record u { turns = n }) (record { names = st.names; counted = st.counted; store = st.store })
+  paid roots names others more u rooted st next (suc n) = next (record u { turns = n }) (record { names = st.names; counted = st.counted; agree = st.agree; store = st.store })
 
   -- a loop with a test
   pub turning_fits : (first : List Shape) (names : List Bound) (Is : List Shape → Value → Type 0) (test : Run Value) (body : Run Going) →
@@ -54,6 +56,7 @@ module _ (tree : Tree) (h : Here) (result : StaticType) where
   -- ---- loops that bind a name
 
   module _ (s : Scope) (n : Name) (ty : StaticType) (scope : IsSoundScope s) (placed : ArePlaced s.names) (spaced : AreSpaced tree s.names)
+      (plain : is_collection ty ≡ false)
       (inner : List Bound) (more_names : HasMoreNames (with_name s n ty true).names inner) (first : List Shape) (body : Run Going)
       (bodies : (roots : List Shape) (w : State) → Extends first roots → AreRootsOfSpaces tree roots → StateFits tree roots (with_name s n ty true).names w →
       GoesOnFit tree roots inner result (body w)) where
@@ -73,6 +76,7 @@ module _ (tree : Tree) (h : Here) (result : StaticType) where
         (bodies roots (record w { names = w.names ++ v ∷ [] }) more rooted (record {
           names = names_new tree s.next s.names bound scope.numbers refl roots w.names v (refl, placed) st.counted spaced st.names is;
           counted = length-append w.names (v ∷ []) ∙ omega (arith, count);
+          agree = roots_new tree s.next s.names bound scope.numbers refl w.names v (refl, placed) st.counted spaced st.agree (plain_parent s.names ty plain) (plain_own s.next ty plain) (no_parent s.names w.names ty v plain);
           store = st.store;
         }))) u.turns
 

@@ -1,6 +1,5 @@
 -- Calls of tasks, by recursion on how many more may nest.
-use Rattle.std.proofs.Common.{List, [], ◌∷◌, ◌++◌, Bool, None, Option, Some, false, true, refl, ap, sym, subst, ℕ, zero, suc, pos, ◌≡◌, ◌∙◌, ◌==◌, ◌⊎◌, inl, inr, get_or, cond, arith}
-use Rattle.std.proofs.lemmas.Bool.{eqb-true}
+use Rattle.std.proofs.Common.{List, [], ◌∷◌, ◌++◌, None, Option, Some, false, refl, ap, sym, subst, ℕ, zero, suc, pos, ◌≡◌, ◌∙◌, ◌⊎◌, inl, inr, get_or, arith}
 use Rattle.std.proofs.lemmas.Int.{ints}
 use Rattle.std.proofs.lemmas.List.{append_assoc, length-append, length-map}
 use Rattle.std.proofs.lemmas.List.Elements.{All-nil}
@@ -16,7 +15,8 @@ use Rattle.regent_tree.specs.StaticTypes.{Reach, entry_name, field_term, task_na
 use Rattle.regent_tree.specs.Store.{Store, no_root}
 use Rattle.regent_tree.specs.Syntax.{TaskTree, Tree}
 use Rattle.regent_tree.specs.Typing.{param_types, result_type, scope_after_block}
-use Rattle.regent_tree.specs.Values.{Value, a_truth}
+use Rattle.regent_tree.specs.Values.{Partition, Region, Value, a_number, a_partition, a_pointer, a_region, a_space, a_truth, an_index, partition_of, region_of}
+use Rattle.regent_tree.specs.declared.facts.Term.TheVariants as term
 use Rattle.regent_tree.specs.declared.outcome.RootImage.{RootImage}
 use Rattle.regent_tree.specs.declared.types.NumberTerm.TheVariants as number
 use Rattle.regent_tree.specs.declared.types.Param.{Param}
@@ -31,39 +31,18 @@ use Rattle.check_rules.specs.types.Sorts.{type_at}
 use Rattle.check_laws.proofs.Parts.{contrary}
 use Rattle.statement_laws.specs.Steady.{ArePlaced}
 use Rattle.state_laws.specs.Going.{GoesOnFit, IsPlaceOfRun, StoreStays}
-use Rattle.state_laws.specs.Runs.{CallsFit, IsBodyOfFit, RunsFit}
+use Rattle.state_laws.specs.Runs.{CallsFit, IsBodyOfFit, IsTextOfFit, RunsFit}
 use Rattle.state_laws.proofs.Laws.{variable_fits}
 use Rattle.state_laws.proofs.Made.{none_is_kept}
 use Rattle.state_laws.proofs.Statements.{block_fits}
+use Rattle.state_laws.proofs.Texts.{texts_fit}
 use Rattle.state_laws.proofs.VariableTypes.{variable_spaced}
-use Rattle.value_laws.specs.Fitting.{Fits, NamesFit, fits_index, fits_integer, fits_nothing, fits_pointer, fits_truth, fits_unknown}
-use Rattle.value_laws.specs.Keeping.{AnswerFits, AnswersFit, AreFit, StateFits}
+use Rattle.value_laws.specs.Fitting.{Fits, HasRootOfName, NamesFit, RootsAgree, fits_index, fits_integer, fits_nothing, fits_pointer, fits_truth, fits_unknown}
+use Rattle.value_laws.specs.Keeping.{AnswerFits, AnswersFit, AreFit, ArgumentsFit, StateFits}
 use Rattle.value_laws.specs.Shapes.{AreRootsOfSpaces, IsKeptOf, IsRootOfSpace, StoreFits}
 use Rattle.value_laws.specs.Spaces.{HasSpacedDeclarations, NamesRegionOf}
-use Rattle.value_laws.proofs.Parameters.{param_at, params_long}
+use Rattle.value_laws.proofs.Parameters.{at_place, param_at, params_are, params_long}
 use Rattle.value_laws.proofs.Regions.{goals}
-
--- ---- parameters in their places
-
-abbrev NumbersArePlaces : List Bound → Type 0
-NumbersArePlaces [] = Unit {0}
-NumbersArePlaces (b ∷ bs) = (b.place ≡ b.number) × NumbersArePlaces bs
-
-pushed : (bs : List Bound) (b : Bound) → NumbersArePlaces bs → b.place ≡ b.number → NumbersArePlaces (bs ++ b ∷ [])
-pushed [] b are is = (is, tt)
-pushed (x ∷ bs) b are is = (are.0, pushed bs b are.1 is)
-
-params_are : (tree : Tree) (all : List Param) (i : ℕ) (ps : List Param) → NumbersArePlaces (bound_params tree all i ps)
-params_are tree all i [] = tt
-params_are tree all i (p ∷ ps) = pushed (bound_params tree all (suc i) ps) _ (params_are tree all (suc i) ps) refl
-
-at_place : (bs : List Bound) (i : ℕ) → NumbersArePlaces bs → (bound_as bs i ≡ unbound) ⊎ ((bound_as bs i).place ≡ i)
-at_place [] i are = inl refl
-at_place (b ∷ bs) i are = by (b.number == i) refl (at_place bs i are.1)
-  where
-    by : (c : Bool) → (b.number == i) ≡ c → (bound_as bs i ≡ unbound) ⊎ ((bound_as bs i).place ≡ i) → (cond c b (bound_as bs i) ≡ unbound) ⊎ ((cond c b (bound_as bs i)).place ≡ i)
-    by true e rest = inr (are.0 ∙ eqb-true b.number i e)
-    by false e rest = rest
 
 -- the places of parameters count those before them
 placed_from : (tree : Tree) (all : List Param) (i : ℕ) (ps : List Param) (more : List Bound) → length more ≡ i → ArePlaced more → ArePlaced (bound_params tree all i ps ++ more)
@@ -125,12 +104,70 @@ module _ (tree : Tree) (t : TaskTree) (roots : List Shape) (vs : List Value) (bo
   bound_long all i [] = refl
   bound_long all i (p ∷ ps) = let rest = bound_long all (suc i) ps in length-append (bound_params tree all (suc i) ps) (_ ∷ []) ∙ omega (arith, rest)
 
+  -- regions and partitions enter as they are
+  entered_region : (q : StaticType) (v : Value) → region_of (entered_as s vs q v) ≡ region_of v
+  entered_region (pointer_type k space args terms) (a_pointer x rs) = refl
+  entered_region (pointer_type k space args terms) (a_number w z) = refl
+  entered_region (pointer_type k space args terms) (a_truth b) = refl
+  entered_region (pointer_type k space args terms) (an_index z) = refl
+  entered_region (pointer_type k space args terms) (a_space n) = refl
+  entered_region (pointer_type k space args terms) (a_region r) = refl
+  entered_region (pointer_type k space args terms) (a_partition p) = refl
+  entered_region (integer_type w) v = refl
+  entered_region truth_type v = refl
+  entered_region (index_type k) v = refl
+  entered_region (ispace_type k) v = refl
+  entered_region (region_type k space args q) v = refl
+  entered_region (partition_type d r p) v = refl
+  entered_region no_type v = refl
+  entered_region unknown_type v = refl
+
+  entered_partition : (q : StaticType) (v : Value) → partition_of (entered_as s vs q v) ≡ partition_of v
+  entered_partition (pointer_type k space args terms) (a_pointer x rs) = refl
+  entered_partition (pointer_type k space args terms) (a_number w z) = refl
+  entered_partition (pointer_type k space args terms) (a_truth b) = refl
+  entered_partition (pointer_type k space args terms) (an_index z) = refl
+  entered_partition (pointer_type k space args terms) (a_space n) = refl
+  entered_partition (pointer_type k space args terms) (a_region r) = refl
+  entered_partition (pointer_type k space args terms) (a_partition p) = refl
+  entered_partition (integer_type w) v = refl
+  entered_partition truth_type v = refl
+  entered_partition (index_type k) v = refl
+  entered_partition (ispace_type k) v = refl
+  entered_partition (region_type k space args q) v = refl
+  entered_partition (partition_type d r p) v = refl
+  entered_partition no_type v = refl
+  entered_partition unknown_type v = refl
+
+  entered_same : {A : Type 0} (f : Value → A) → ((q : StaticType) (v : Value) → f (entered_as s vs q v) ≡ f v) → (types : List StaticType) (us : List Value) (i : ℕ) →
+      f (get_or (entered s vs types us) i (a_truth false)) ≡ f (get_or us i (a_truth false))
+  entered_same f same [] us i = refl
+  entered_same f same (q ∷ types) [] i = refl
+  entered_same f same (q ∷ types) (u ∷ us) zero = same q u
+  entered_same f same (q ∷ types) (u ∷ us) (suc i) = entered_same f same types us i
+
+  entered_root : (types : List StaticType) (q : StaticType) (us : List Value) (place : ℕ) → HasRootOfName s.names us q (get_or us place (a_truth false)) →
+      HasRootOfName s.names (entered s vs types us) q (get_or (entered s vs types us) place (a_truth false))
+  entered_root types (partition_type d r p) us place root =
+      ap (λ (p : Partition). p.root) (entered_same partition_of entered_partition types us place) ∙ root ∙ sym (ap (λ (r : Region). r.root) (entered_same region_of entered_region types us (bound_as s.names r).place))
+  entered_root types (region_type k space args (term.Name j)) us place root =
+      ap (λ (r : Region). r.root) (entered_same region_of entered_region types us place) ∙ root ∙ sym (ap (λ (r : Region). r.root) (entered_same region_of entered_region types us (bound_as s.names j).place))
+  entered_root types (region_type k space args (term.Child p c)) us place root = tt
+  entered_root types (integer_type w) us place root = tt
+  entered_root types truth_type us place root = tt
+  entered_root types (index_type k) us place root = tt
+  entered_root types (pointer_type k space args terms) us place root = tt
+  entered_root types (ispace_type k) us place root = tt
+  entered_root types no_type us place root = tt
+  entered_root types unknown_type us place root = tt
+
   -- a body begins in a state that fits
-  opens : (turns : ℕ) (store : Store) → AreFit roots s.names (param_types tree t) vs → StoreFits tree roots store → StateFits tree roots s.names (opening tree turns t vs store)
-  opens turns store are fit = record {
+  opens : (turns : ℕ) (store : Store) → AreFit roots s.names (param_types tree t) vs → RootsAgree s.names vs → StoreFits tree roots store → StateFits tree roots s.names (opening tree turns t vs store)
+  opens turns store are agree fit = record {
     names = params_fit (entered s vs (param_types tree t) vs)
         (entered_at (param_types tree t) vs (params_fit vs (fit_at (param_types tree t) vs are)) are body.regions);
     counted = entered_long (param_types tree t) vs are ∙ params_long tree t.params 0 t.params ∙ sym (bound_long t.params 0 t.params);
+    agree = λ i. entered_root (param_types tree t) (bound_as s.names i).static_type _ (bound_as s.names i).place (agree i);
     store = fit;
   }
 
@@ -200,7 +237,7 @@ append_none (b ∷ bs) = ap (λ rest. b ∷ rest) (append_none bs)
 
 -- a task's body runs in states that fit
 task_fits : (tree : Tree) (t : TaskTree) → IsSound tree → HasSpacedDeclarations tree → IsBodyOfFit tree t → (turns : ℕ) (calls : Calls) → AnswersFit tree calls →
-    (roots : List Shape) (vs : List Value) (store : Store) → AreRootsOfSpaces tree roots → StoreFits tree roots store → AreFit roots (scope_of tree t).names (param_types tree t) vs →
+    (roots : List Shape) (vs : List Value) (store : Store) → AreRootsOfSpaces tree roots → StoreFits tree roots store → ArgumentsFit tree roots t vs →
     GoesOnFit tree roots (scope_after_block tree (scope_of tree t) t.body).names (result_type tree t.result) (run_task tree turns calls t vs store)
 task_fits tree t sound declared body turns calls answers roots vs store rooted fit are =
     let place : IsPlaceOfRun t roots (body_of tree calls t) = record {
@@ -210,20 +247,24 @@ task_fits tree t sound declared body turns calls answers roots vs store rooted f
       sound_result = body.result;
     } in
     block_fits t (variable_fits t) (λ roots h n q start r e limits. variable_spaced t roots h r n q start e limits) t.body (body_of tree calls t) roots place body.told body.written body.limits
-    (opening tree turns t vs store) (opens tree t roots vs body turns store are fit)
+    (opening tree turns t vs store) (opens tree t roots vs body turns store are.0 are.1 fit)
 
-pub calls_fit : CallsFit
-calls_fit tree sound declared bodies turns zero roots line task vs store rooted fit are = tt
-calls_fit tree sound declared bodies turns (suc more) roots line task vs store rooted fit are =
+nested_fit : (tree : Tree) → IsTextOfFit tree → (turns more : ℕ) → AnswersFit tree (calls_at tree turns more)
+nested_fit tree text turns zero roots line task vs store rooted fit are = tt
+nested_fit tree text turns (suc more) roots line task vs store rooted fit are =
     let t = task_named tree task in
     let calls = calls_at tree turns more in
-    ends_fit tree roots _ (scope_of tree t) t (length store) (run_task tree turns calls t vs store) (sym (length-map store shape_of) ∙ ap length fit.shapes_are) (bodies task).result
-    (task_fits tree t sound declared (bodies task) turns calls (calls_fit tree sound declared bodies turns more) roots vs store rooted fit are)
+    ends_fit tree roots _ (scope_of tree t) t (length store) (run_task tree turns calls t vs store) (sym (length-map store shape_of) ∙ ap length fit.shapes_are) (text.bodies task).result
+    (task_fits tree t text.sound text.declared (text.bodies task) turns calls (nested_fit tree text turns more) roots vs store rooted fit are)
+
+pub calls_fit : CallsFit
+calls_fit tree none within written turns more = nested_fit tree (texts_fit tree none within written) turns more
 
 no_store : (tree : Tree) → StoreFits tree [] []
 no_store tree = record { shapes_are = refl; numbers = λ r f p. none_is_kept (field_term tree 0 f) }
 
 pub runs_fit : RunsFit
-runs_fit tree sound declared bodies turns inputs are =
+runs_fit tree none within written turns inputs are =
     let n = entry_name tree in
-    task_fits tree (task_named tree n) sound declared (bodies n) turns (calls_at tree turns 63) (calls_fit tree sound declared bodies turns 63) [] inputs [] (All-nil (IsRootOfSpace tree)) (no_store tree) are
+    let text = texts_fit tree none within written in
+    task_fits tree (task_named tree n) text.sound text.declared (text.bodies n) turns (calls_at tree turns 63) (nested_fit tree text turns 63) [] inputs [] (All-nil (IsRootOfSpace tree)) (no_store tree) are

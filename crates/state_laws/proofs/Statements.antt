@@ -21,20 +21,21 @@ use Rattle.check_rules.specs.first.FirstInExpressions.{first_in_expression}
 use Rattle.check_rules.specs.first.FirstInStatements.{first_in_arms, first_in_block, first_in_else, first_of_form}
 use Rattle.check_rules.specs.first.Rules.{first_in}
 use Rattle.check_rules.specs.types.Parts.{tests_of}
+use Rattle.check_rules.specs.types.Sorts.{is_collection}
 use Rattle.check_laws.proofs.Blocks.{count_scope, loop_scope}
 use Rattle.check_laws.proofs.Onward.{arm_next, block_next, else_next}
 use Rattle.check_laws.proofs.Variables.{parts_of_form as parts_told}
 use Rattle.check_laws.specs.SoundScopes.{IsSoundScope}
 use Rattle.statement_laws.proofs.Scopes.{bounds_whole, domain_sort, is_whole, names_arms, names_else}
 use Rattle.statement_laws.specs.Steady.{ArePlaced}
-use Rattle.state_laws.specs.Treated.{AreTreatedArms, IsTreatedBlock, IsTreatedElse}
+use Rattle.statement_laws.specs.WrittenStatements.{AreWrittenArms, IsWrittenBlock, IsWrittenElse}
 use Rattle.state_laws.specs.Going.{GoesOnFit, IsPlaceOfRun}
 use Rattle.state_laws.specs.Laws.{FormFits}
 use Rattle.state_laws.proofs.Assignments.{assign_fits, filled}
 use Rattle.state_laws.proofs.Counts.{distance_up_to}
 use Rattle.state_laws.proofs.Going.{either_fits, in_order, leaves_fit, state_here, then_fits}
 use Rattle.state_laws.proofs.Growing.{extends_none, spaced_new, spaced_stays, stays_bound}
-use Rattle.state_laws.proofs.Items.{items_fit, lower_fits, taken_spaced, upper_fits}
+use Rattle.state_laws.proofs.Items.{items_fit, lower_fits, taken_plain, taken_spaced, upper_fits}
 use Rattle.state_laws.proofs.Leaves.{assert_fits, call_fits, evaluates, print_fits, return_fits}
 use Rattle.state_laws.proofs.Loops.{counting_fits, rounds_fit, turning_fits}
 use Rattle.state_laws.proofs.Scopes.{more_block, more_form}
@@ -136,7 +137,7 @@ module _ (task : TaskTree) where
           let b : Bound = record { name = n; number = s.next; place = length s.names; static_type = ty; by_loop = true } in
           then_fits h.tree roots r.place.rooted s.names s.names h.result (value h domain u) (λ v. rounds h (items_of v) (exec_block (looping h n ty) body))
           (evaluates task roots h r domain wr.0 limit told u st) (λ v w st is.
-          rounds_fit h.tree h h.result s n ty r.place.scope r.placed r.place.spaced (scope_after_block h.tree s1 body).names (more_block h.tree task r.place.sound s1 body scope told_body) roots
+          rounds_fit h.tree h h.result s n ty r.place.scope r.placed r.place.spaced (taken_plain type) (scope_after_block h.tree s1 body).names (more_block h.tree task r.place.sound s1 body scope told_body) roots
           (exec_block (looping h n ty) body) (λ after v more rooted st.
           block_fits body (looping h n ty) after (looped roots after h n ty r rooted scope spaced) told_body wr.1 (all_right KeepsLimit (parts_of_expression domain) (parts_of_block body) limits) v st)
           (items_of v) roots w (extends_none roots) r.place.rooted st (items_fit h.tree roots r.place.rooted s.names (b ∷ s.names) type v sort is))
@@ -161,7 +162,7 @@ module _ (task : TaskTree) where
           (evaluates task roots h r from wr.0 (all_left KeepsLimit (parts_of_expression from) (parts_of_expression to ++ parts_of_block body) limits) heads.0 u st) (λ x w st low.
           then_fits h.tree roots r.place.rooted s.names s.names h.result (value h to w) (λ y. counting h (distance (number_of x) (number_of y)) (width_of_type ty) (number_of x) (exec_block (looping h n ty) body))
           (evaluates task roots h r to wr.1 (all_left KeepsLimit (parts_of_expression to) (parts_of_block body) behind) second w st) (λ y w st high.
-          counting_fits h.tree h h.result s n ty r.place.scope r.placed r.place.spaced (scope_after_block h.tree s1 body).names (more_block h.tree task r.place.sound s1 body scope told_body) roots
+          counting_fits h.tree h h.result s n ty r.place.scope r.placed r.place.spaced (ap is_collection width) (scope_after_block h.tree s1 body).names (more_block h.tree task r.place.sound s1 body scope told_body) roots
           (exec_block (looping h n ty) body) (λ after v more rooted st.
           block_fits body (looping h n ty) after (looped roots after h n ty r rooted scope spaced) told_body wr.2 (all_right KeepsLimit (parts_of_expression to) (parts_of_block body) behind) v st)
           (width_of_type ty) (number_of y) (subst (λ q. FitsWidth q (number_of y)) (sym w0) (upper_fits roots s.names a.0 c.0 y (subst (λ t. Fits roots s.names t y) c.1 high)))
@@ -175,7 +176,7 @@ module _ (task : TaskTree) where
       form_fits (assign_form n steps how x) roots h r e w wr limits u st = assign_fits task n steps how x roots h r e w wr limits u st
       form_fits (return_form x) roots h r e w wr limits u st = return_fits task x roots h r e w wr limits u st
 
-      pub block_fits : (b : Block) (h : Here) (roots : List Shape) → IsPlaceOfRun task roots h → first_in_block h.tree task h.scope b ≡ None → IsTreatedBlock b → All KeepsLimit (parts_of_block b) →
+      pub block_fits : (b : Block) (h : Here) (roots : List Shape) → IsPlaceOfRun task roots h → first_in_block h.tree task h.scope b ≡ None → IsWrittenBlock b → All KeepsLimit (parts_of_block b) →
           (u : State) → StateFits h.tree roots h.scope.names u → GoesOnFit h.tree roots (scope_after_block h.tree h.scope b).names h.result (exec_block h b u)
       block_fits no_statement h roots r e wr limits u st = state_here h.tree roots r.place.rooted h.scope.names u st
       block_fits (then_statement (a_statement line form) rest) h roots r e wr limits u st =
@@ -190,7 +191,7 @@ module _ (task : TaskTree) where
           next.3 wr.1 (all_right KeepsLimit (parts_of_form form) (parts_of_block rest) both) w st)
 
       arms_fit : (arms : Arms) (own : Here) (s : Scope) (roots : List Shape) → IsPlaceOfRun task roots own → IsPlaceOfRun task roots (record own { scope = s }) → s.names ≡ own.scope.names →
-          first_in_arms own.tree task s arms ≡ None → first_in (first_in_expression own.tree task own.scope) (tests_of arms) ≡ None → AreTreatedArms arms → All KeepsLimit (parts_of_arms arms) →
+          first_in_arms own.tree task s arms ≡ None → first_in (first_in_expression own.tree task own.scope) (tests_of arms) ≡ None → AreWrittenArms arms → All KeepsLimit (parts_of_arms arms) →
           (other : Run Going) → ((u : State) → StateFits own.tree roots s.names u → GoesOnFit own.tree roots s.names own.result (other u)) →
           (u : State) → StateFits own.tree roots s.names u → GoesOnFit own.tree roots s.names own.result (exec_arms own (record own { scope = s }) arms other u)
       arms_fit no_arm own s roots ro r alike e told wr limits other others u st = others u st
@@ -210,7 +211,7 @@ module _ (task : TaskTree) where
           (arms_fit rest own s1 roots ro (place_at roots roots own s1 own.line ro r.place.rooted next.1 r.place.spaced r.placed) alike next.2 tests.1 wr.2
           (all_right KeepsLimit (parts_of_block body) (parts_of_arms rest) behind) other others w st))
 
-      else_fits : (other : Otherwise) (h : Here) (roots : List Shape) → IsPlaceOfRun task roots h → first_in_else h.tree task h.scope other ≡ None → IsTreatedElse other → All KeepsLimit (parts_of_otherwise other) →
+      else_fits : (other : Otherwise) (h : Here) (roots : List Shape) → IsPlaceOfRun task roots h → first_in_else h.tree task h.scope other ≡ None → IsWrittenElse other → All KeepsLimit (parts_of_otherwise other) →
           (u : State) → StateFits h.tree roots h.scope.names u → GoesOnFit h.tree roots (scope_after_else h.tree h.scope other).names h.result (exec_else h other u)
       else_fits no_else h roots r e wr limits u st = state_here h.tree roots r.place.rooted h.scope.names u st
       else_fits (else_block body) h roots r e wr limits u st =

@@ -109,7 +109,7 @@ module _ (task : TaskTree) (roots : List Shape) (h : Here) (r : IsPlaceOfRun tas
   region_begins : (k : _) (u : SpaceUse) → unbound_name_in_use h.tree h.scope.names u ≡ false → misfits_use h.tree h.scope.names u ≡ false →
       Begins (region_type k (place_of_space h.tree u.name) (map (looked_up (in_scope h.scope)) u.args) (term.Name h.scope.next))
   region_begins k u unbound misfit = record {
-    args = use_arguments h.tree h.scope r.place.scope u r.place.declared unbound misfit;
+    args = use_arguments h.tree h.scope r.place.scope u r.place.declared.params unbound misfit;
     parent = tt;
     few = omega (arith);
     own = refl;

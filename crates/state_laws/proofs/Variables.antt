@@ -25,6 +25,7 @@ use Rattle.regent_tree.specs.declared.types.NumberTerm.TheVariants as number
 use Rattle.regent_tree.specs.declared.types.SpaceUse.{SpaceUse}
 use Rattle.regent_tree.specs.declared.types.TypeTerm.{TypeTerm}
 use Rattle.regent_tree.specs.declared.types.TypeTerm.TheVariants as typed_as
+use Rattle.regent_tree.specs.declared.facts.Term.TheVariants as term
 use Rattle.regent_tree.specs.declared.typing.Bound.{Bound}
 use Rattle.regent_tree.specs.declared.typing.StaticType.{StaticType}
 use Rattle.regent_tree.specs.declared.typing.StaticType.TheVariants.{Index as index_type, Integer as integer_type, Ispace as ispace_type, Nothing as no_type, Partition as partition_type, Pointer as pointer_type, Region as region_type, Truth as truth_type, Unknown as unknown_type}
@@ -48,6 +49,7 @@ use Rattle.state_laws.proofs.Going.{store_here, then_fits}
 use Rattle.state_laws.proofs.Growing.{extends_none, fits_stays, names_more, names_new, stays_bound}
 use Rattle.state_laws.proofs.Leaves.{evaluates}
 use Rattle.state_laws.proofs.Made.{made_extends, made_fits, made_region, made_rooted, roots_made}
+use Rattle.state_laws.proofs.Rooted.{EndsOfParent, IsOfParent, converted_ends, ends_named, gives_parent, no_parent, owned_ends, roots_new}
 use Rattle.state_laws.proofs.VariableTypes.{BeginsSpaced, variable_begins}
 use Rattle.value_laws.specs.Fitting.{Fits, IsGoal, fits_index, fits_integer, fits_partition, fits_pointer, fits_region, fits_space, fits_truth}
 use Rattle.value_laws.specs.Keeping.{KeepsFit, StateFits}
@@ -56,6 +58,8 @@ use Rattle.value_laws.proofs.Conversions.{converted_fits}
 use Rattle.value_laws.proofs.Ends.{after, weaker}
 use Rattle.value_laws.proofs.Limits.{all_left, all_right}
 use Rattle.value_laws.proofs.Regions.{goals}
+use Rattle.value_laws.proofs.Roots.{value_root}
+use Rattle.value_laws.proofs.SameNames.{value_same}
 use Rattle.value_laws.proofs.Spaced.{written_spaced}
 use Rattle.value_laws.proofs.Types.{known}
 
@@ -112,9 +116,9 @@ unless_both false c t e = refl
 module _ (task : TaskTree) where
   -- a value is bound to a new name
   pub bound_fits : (roots after : List Shape) (h : Here) (r : IsPlaceOfRun task roots h) (n : Name) (ty : StaticType) → BeginsSpaced h.tree h.scope ty → Extends roots after →
-      AreRootsOfSpaces h.tree after → (v : Value) (u : State) → StateFits h.tree after h.scope.names u → Fits after h.scope.names ty v →
+      AreRootsOfSpaces h.tree after → (v : Value) (u : State) → StateFits h.tree after h.scope.names u → Fits after h.scope.names ty v → IsOfParent h.scope.names u.names ty v →
       GoesOnFit h.tree roots (record { name = n; number = h.scope.next; place = length h.scope.names; static_type = ty; by_loop = false } ∷ h.scope.names) h.result (bind v u)
-  bound_fits roots after h r n ty begins more rooted v u st is =
+  bound_fits roots after h r n ty begins more rooted v u st is root =
       let b : Bound = record { name = n; number = h.scope.next; place = length h.scope.names; static_type = ty; by_loop = false } in
       let count = st.counted in record {
         after = after;
@@ -124,16 +128,17 @@ module _ (task : TaskTree) where
           names = names_new h.tree h.scope.next h.scope.names b r.place.scope.numbers refl after u.names v (refl, r.placed) st.counted r.place.spaced st.names
               (fits_stays h.scope.names (b ∷ h.scope.names) (stays_bound h.scope.next h.scope.names b r.place.scope.numbers refl) after ty v begins.parent is);
           counted = length-append u.names (v ∷ []) ∙ omega (arith, count);
+          agree = roots_new h.tree h.scope.next h.scope.names b r.place.scope.numbers refl u.names v (refl, r.placed) st.counted r.place.spaced st.agree begins.parent begins.own root;
           store = st.store;
         };
       }
 
   -- a start value that makes no root
   pub started : (roots : List Shape) (h : Here) (r : IsPlaceOfRun task roots h) (n : Name) (ty : StaticType) → BeginsSpaced h.tree h.scope ty → (q : Result Value) →
-      KeepsFit h.tree roots h.scope.names (Fits roots h.scope.names ty) q →
+      KeepsFit h.tree roots h.scope.names (Fits roots h.scope.names ty) q → EndsOfParent h.scope.names ty q →
       GoesOnFit h.tree roots (record { name = n; number = h.scope.next; place = length h.scope.names; static_type = ty; by_loop = false } ∷ h.scope.names) h.result (and_then q (λ v. bind v))
-  started roots h r n ty begins (gives v u) fit = bound_fits roots roots h r n ty begins (extends_none roots) r.place.rooted v u fit.0 fit.1
-  started roots h r n ty begins (fails f u) fit = store_here h.tree roots r.place.rooted u.store fit
+  started roots h r n ty begins (gives v u) fit root = bound_fits roots roots h r n ty begins (extends_none roots) r.place.rooted v u fit.0 fit.1 root
+  started roots h r n ty begins (fails f u) fit root = store_here h.tree roots r.place.rooted u.store fit
 
   -- ---- what isn't told of a variable with a start value
 
@@ -184,7 +189,7 @@ module _ (task : TaskTree) where
       let told = (option_or_parts (first_in_type h.tree h.scope.names t) None (parts_told h.tree task h.scope r.place.sound r.place.scope (var_form n (Some t) None) e).0).0 in
       let limit = all_left KeepsLimit (parts_of_term t) (parts_of_init None) limits in
       bound_fits roots roots h r n (var_type h.tree h.scope (Some t) None) (variable_begins task roots h r n (Some t) None e limits) (extends_none roots) r.place.rooted _ u st
-      (zero_fits roots h r t plain told limit u st)
+      (zero_fits roots h r t plain told limit u st) (no_parent h.scope.names u.names (var_type h.tree h.scope (Some t) None) _ plain)
 
   -- ---- with an expression
 
@@ -197,17 +202,28 @@ module _ (task : TaskTree) where
   abbrev pub Evaluates : List Shape → Here → Expression → Type 0
   Evaluates roots h y = (u : State) → StateFits h.tree roots h.scope.names u → KeepsFit h.tree roots h.scope.names (Fits roots h.scope.names (typed h y)) (value h y u)
 
+  -- and it is of the root that its type names
+  abbrev pub IsRooted : List Shape → Here → Expression → Type 0
+  IsRooted roots h y = (u : State) → StateFits h.tree roots h.scope.names u → EndsOfParent h.scope.names (typed h y) (value h y u)
+
+  pub whole_rooted : (roots : List Shape) (h : Here) (r : IsPlaceOfRun task roots h) (y : Expression) → is_difference h.scope.names y ≡ false → IsWritten y →
+      first_in (first_in_expression h.tree task h.scope) (cond (is_difference h.scope.names y) (members_of y) (y ∷ [])) ≡ None → IsRooted roots h y
+  whole_rooted roots h r y whole wr heads u st =
+      ends_named h.scope.names u.names (typed h y) (value h y u)
+      (gives_parent h.scope.names u.names (typed h y) (value h y u) (value_root task roots h r.place u.names st.agree y wr (heads_told h y whole heads) u refl)) (value_same h u.names y u refl)
+
   pub whole_evaluates : (roots : List Shape) (h : Here) (r : IsPlaceOfRun task roots h) (y : Expression) → is_difference h.scope.names y ≡ false → IsWritten y → All KeepsLimit (parts_of_expression y) →
       first_in (first_in_expression h.tree task h.scope) (cond (is_difference h.scope.names y) (members_of y) (y ∷ [])) ≡ None → Evaluates roots h y
   whole_evaluates roots h r y whole wr limits heads u st = evaluates task roots h r y wr limits (heads_told h y whole heads) u st
 
   pub plain_fits : (n : Name) (y : Expression) (roots : List Shape) (h : Here) → IsPlaceOfRun task roots h →
-      first_of_form h.tree task h.scope (var_form n None (Some (plain_initializer y))) ≡ None → All KeepsLimit (parts_of_expression y) → Evaluates roots h y →
+      first_of_form h.tree task h.scope (var_form n None (Some (plain_initializer y))) ≡ None → All KeepsLimit (parts_of_expression y) → Evaluates roots h y → IsRooted roots h y →
       (u : State) → StateFits h.tree roots h.scope.names u →
       GoesOnFit h.tree roots (scope_after h.tree h.scope (var_form n None (Some (plain_initializer y)))).names h.result (and_then (value h y u) (λ v. bind v))
-  plain_fits n y roots h r e limits evals u st =
+  plain_fits n y roots h r e limits evals rooted u st =
       started roots h r n (owned h.scope.next (typed h y)) (variable_begins task roots h r n None (Some (plain_initializer y)) e limits) (value h y u)
       (weaker h.tree roots h.scope.names (value h y u) (evals u st) (λ v is. owned_fits roots h.scope.names h.scope.next (typed h y) v is))
+      (owned_ends h.scope.names h.scope.next (typed h y) (value h y u) (rooted u st))
 
   -- the regions that a written type has are of its field space
   written_goals : (roots : List Shape) (h : Here) (r : IsPlaceOfRun task roots h) (t : TypeTerm) → first_in_type h.tree h.scope.names t ≡ None → All KeepsLimit (parts_of_term t) →
@@ -226,11 +242,11 @@ module _ (task : TaskTree) where
 
   pub typed_fits : (n : Name) (t : TypeTerm) (y : Expression) (roots : List Shape) (h : Here) → IsPlaceOfRun task roots h →
       first_of_form h.tree task h.scope (var_form n (Some t) (Some (plain_initializer y))) ≡ None → All KeepsLimit (parts_of_form (var_form n (Some t) (Some (plain_initializer y)))) →
-      Evaluates roots h y →
+      Evaluates roots h y → IsRooted roots h y →
       (u : State) → StateFits h.tree roots h.scope.names u →
       GoesOnFit h.tree roots (scope_after h.tree h.scope (var_form n (Some t) (Some (plain_initializer y)))).names h.result
       (and_then (initialized h (Some t) (var_type h.tree h.scope (Some t) (Some (plain_initializer y))) (plain_initializer y) u) (λ v. bind v))
-  typed_fits n t y roots h r e limits evals u st =
+  typed_fits n t y roots h r e limits evals rooted u st =
       let i = plain_initializer y in
       let wanted = var_type h.tree h.scope (Some t) (Some i) in
       let parts = parts_told h.tree task h.scope r.place.sound r.place.scope (var_form n (Some t) (Some i)) e in
@@ -243,6 +259,7 @@ module _ (task : TaskTree) where
       (evals u st) (λ v z st is.
       converted_fits h.tree roots h.scope.names h (typed h y) wanted (regions_reached h.scope z.names (reaches_of wanted)) v z from_known
       (owned_fits_known h.scope.known h.scope.next (typed h y) wanted start.fit) (written_goals roots h r t told limit z st) is st))
+      (converted_ends h (typed h y) wanted from_known (owned_fits_known h.scope.known h.scope.next (typed h y) wanted start.fit) (value h y u) (rooted u st))
 
   -- ---- with a new region
 
@@ -284,6 +301,25 @@ module _ (task : TaskTree) where
   declared_region roots after h r n (Some t) y s e v is =
       region_settles after h.scope.names h.scope.known _ _ _ _ (var_type h.tree h.scope (Some t) (Some (region_initializer y s))) v (start_told roots h r n t (region_initializer y s) e).fit is
 
+  -- a new region is no partition
+  region_parent : (names : List Bound) (vs : List Value) (known : _) (k : _) (space : ℕ) (args : _) (q : _) (wanted : StaticType) (v : Value) → fits_known known (region_type k space args q) wanted ≡ true → IsOfParent names vs wanted v
+  region_parent names vs known k space args q (region_type j other others p) v e = tt
+  region_parent names vs known k space args q (integer_type w) v e = tt
+  region_parent names vs known k space args q truth_type v e = tt
+  region_parent names vs known k space args q (index_type j) v e = tt
+  region_parent names vs known k space args q (pointer_type j other others terms) v e = tt
+  region_parent names vs known k space args q (ispace_type j) v e = tt
+  region_parent names vs known k space args q (partition_type d p o) v e = absurd cc
+  region_parent names vs known k space args q no_type v e = tt
+  region_parent names vs known k space args q unknown_type v e = tt
+
+  declared_parent : (roots : List Shape) (h : Here) (r : IsPlaceOfRun task roots h) (n : Name) (t : Option TypeTerm) (y : Expression) (s : SpaceUse) →
+      first_of_form h.tree task h.scope (var_form n t (Some (region_initializer y s))) ≡ None → (vs : List Value) (v : Value) →
+      IsOfParent h.scope.names vs (var_type h.tree h.scope t (Some (region_initializer y s))) v
+  declared_parent roots h r n None y s e vs v = tt
+  declared_parent roots h r n (Some t) y s e vs v =
+      region_parent h.scope.names vs h.scope.known _ _ _ (term.Name h.scope.next) (var_type h.tree h.scope (Some t) (Some (region_initializer y s))) v (start_told roots h r n t (region_initializer y s) e).fit
+
   pub region_begun : (n : Name) (t : Option TypeTerm) (y : Expression) (s : SpaceUse) → FormFits task (var_form n t (Some (region_initializer y s)))
   region_begun n t y s roots h r e w wr limits u st =
       let i = region_initializer y s in
@@ -303,8 +339,10 @@ module _ (task : TaskTree) where
       (a_region (record { root = length z.store; points = points (size_of v) })) _ (record {
         names = names_more roots after more h.scope.names z.names st.names;
         counted = st.counted;
+        agree = st.agree;
         store = made_fits h.tree roots z.store space (size_of v) st.store r.place.rooted few;
-      }) (declared_region roots after h r n t y s e _ (fits_region (made_region h.tree roots z.store space (size_of v) st.store r.place.rooted few)))))
+      }) (declared_region roots after h r n t y s e _ (fits_region (made_region h.tree roots z.store space (size_of v) st.store r.place.rooted few)))
+      (declared_parent roots h r n t y s e z.names (a_region (record { root = length z.store; points = points (size_of v) })))))
     where
       in_turn : {A B : Type 0} (q : Result A) (f : A → Run B) (g : B → Run Going) →
           GoesOnFit h.tree roots (scope_after h.tree h.scope (var_form n t (Some (region_initializer y s)))).names h.result (and_then q (λ a u. and_then (f a u) g)) →

@@ -111,6 +111,7 @@ module _ (task : TaskTree) (roots : List Shape) (h : Here) (r : IsPlaceOfRun tas
           state_here h.tree roots r.place.rooted h.scope.names _ (record {
             names = st.names;
             counted = st.counted;
+            agree = st.agree;
             store = store_written h.tree u.store q.root (field_place h.tree space f) n _ roots st.store
                 (number_written space q (field_place h.tree space f) n _ u is
                 (put_is_kept roots h.scope.names h.tree (among_args (space_at h.tree space).params args) (field_term h.tree space (field_place h.tree space f)) o _ v said few may) st);
@@ -262,6 +263,7 @@ module _ (task : TaskTree) (roots : List Shape) (h : Here) (r : IsPlaceOfRun tas
       fill_fits from v k space args t q fs _ known parts.1 (λ g has. fit g (inr has)) are is value_is (record {
         names = st.names;
         counted = st.counted;
+        agree = st.agree;
         store = all_written h.tree roots w.store q.root (field_place h.tree space f) q.points (kept_number a) st.store
             (number_written space q (field_place h.tree space f) 0 (kept_number a) w is
             (kept_number_fits roots h.scope.names h.tree (among_args (space_at h.tree space).params args) (field_term h.tree space (field_place h.tree space f)) a said few is_kept) st);

@@ -8,7 +8,7 @@ use Rattle.regent_tree.specs.Running.{Here, State}
 use Rattle.regent_tree.specs.Syntax.{Form, TaskTree}
 use Rattle.regent_tree.specs.Typing.{scope_after}
 use Rattle.check_rules.specs.first.FirstInStatements.{first_of_form, first_within}
-use Rattle.state_laws.specs.Treated.{IsTreatedForm}
+use Rattle.statement_laws.specs.WrittenStatements.{IsWrittenForm}
 use Rattle.state_laws.specs.Going.{GoesOnFit, IsPlaceOfRun}
 use Rattle.value_laws.specs.Keeping.{StateFits}
 
@@ -16,7 +16,7 @@ use Rattle.value_laws.specs.Keeping.{StateFits}
 -- after it; or it returns a value that fits the result type, or it faults, and the store fits.
 abbrev pub FormFits : TaskTree → Form → Type 0
 FormFits task form = (roots : List Shape) (h : Here) → IsPlaceOfRun task roots h →
-    first_of_form h.tree task h.scope form ≡ None → first_within h.tree task h.scope form ≡ None → IsTreatedForm form →
+    first_of_form h.tree task h.scope form ≡ None → first_within h.tree task h.scope form ≡ None → IsWrittenForm form →
     All KeepsLimit (parts_of_form form) →
     (u : State) → StateFits h.tree roots h.scope.names u →
     GoesOnFit h.tree roots (scope_after h.tree h.scope form).names h.result (exec h form u)

@@ -1,6 +1,6 @@
 pub mod Going
-pub mod Treated
 pub mod Operations
 pub mod Runs
 pub mod Example
+pub mod UnionExample
 pub mod Laws

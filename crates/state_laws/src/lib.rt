@@ -7,7 +7,8 @@
 ghost use Rattle.state_laws.specs.Example.{ExampleFits};
 ghost use Rattle.state_laws.specs.Laws.{StatementsFit};
 ghost use Rattle.state_laws.specs.Operations.{OperationsAreTrue, RootsAreMade};
-ghost use Rattle.state_laws.specs.Runs.{CallsFit, RunsFit};
+ghost use Rattle.state_laws.specs.Runs.{CallsFit, RunsFit, TextsFit};
+ghost use Rattle.state_laws.specs.UnionExample.{UnionExampleFits};
 
 /// Each statement keeps that the names' values fit their types, and that the store fits.
 pub fn statements_fit()
@@ -27,6 +28,17 @@ pub fn roots_are_made()
 /// A place of a body, and a state, in which each premise of the law on statements holds.
 pub fn example_fits()
     ensures { ExampleFits }
+{}
+
+/// Such a place in the middle of a body, where a union of partitions stands.
+pub fn union_example_fits()
+    ensures { UnionExampleFits }
+{}
+
+/// In a program without a breach that keeps the limits, declarations and the scopes in which bodies begin are as the
+/// laws on places suppose.
+pub fn texts_fit()
+    ensures { TextsFit }
 {}
 
 /// The calls of a program without a breach give fitting answers on fitting arguments.

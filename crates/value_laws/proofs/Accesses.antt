@@ -78,7 +78,7 @@ module _ (roots : List Shape) (h : Here) (place : IsPlaceOfFit roots h) where
       hit : (b : Bool) → has (get_or rs i no_region).points n ≡ b →
           Keeps (field_type h.tree space args f) (read_field h (pointer_type k space args terms) f (aimed_in b (get_or rs i no_region) n) u)
       hit true e = (
-        record { names = st.names; counted = st.counted; store = st.store },
+        record { names = st.names; counted = st.counted; agree = st.agree; store = st.store },
         kept_value_fits roots h.scope.names h.tree (among_args (space_at h.tree space).params args) (field_term h.tree space (field_place h.tree space f)) _ _
             (field_said space f there)
             (goals roots h.scope u.names st.names (space_in (field_type h.tree space args f)) (reaches_of (field_type h.tree space args f))

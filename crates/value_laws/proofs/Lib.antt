@@ -9,6 +9,9 @@ pub mod Accesses
 pub mod Limits
 pub mod Types
 pub mod Parameters
+pub mod SameNames
 pub mod Calls
+pub mod Roots
+pub mod GivenRoots
 pub mod Values
 pub mod Laws

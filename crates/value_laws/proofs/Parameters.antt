@@ -1,6 +1,6 @@
 -- The types of a task's parameters, by the numbers of their bindings.
-use Rattle.std.proofs.Common.{List, [], ◌∷◌, ◌++◌, false, true, refl, ap, sym, ℕ, zero, suc, ◌≡◌, ◌∙◌, ◌<◌, ◌+◌, ◌==◌, map, cond, arith}
-use Rattle.std.proofs.lemmas.Bool.{eq-eqb}
+use Rattle.std.proofs.Common.{List, [], ◌∷◌, ◌++◌, false, true, refl, ap, sym, ℕ, zero, suc, ◌≡◌, ◌∙◌, ◌<◌, ◌+◌, ◌==◌, ◌⊎◌, Bool, inl, inr, map, cond, arith}
+use Rattle.std.proofs.lemmas.Bool.{eq-eqb, eqb-true}
 use Rattle.std.proofs.lemmas.List.{append_assoc, reverse-append}
 use Rattle.std.specs.Prelude.{length}
 use Rattle.regent_tree.specs.Scopes.{bound_as, bound_params, unbound}
@@ -58,3 +58,25 @@ param_at tree all i (p ∷ ps) (suc j) =
 pub params_long : (tree : Tree) (all : List Param) (i : ℕ) (ps : List Param) → length (types_in_order (bound_params tree all i ps)) ≡ length ps
 params_long tree all i [] = refl
 params_long tree all i (p ∷ ps) = ap length (in_order (bound_params tree all (suc i) ps) (bound tree all i p)) ∙ ap suc (params_long tree all (suc i) ps)
+
+-- ---- parameters in their places
+
+abbrev pub NumbersArePlaces : List Bound → Type 0
+NumbersArePlaces [] = Unit {0}
+NumbersArePlaces (b ∷ bs) = (b.place ≡ b.number) × NumbersArePlaces bs
+
+pushed : (bs : List Bound) (b : Bound) → NumbersArePlaces bs → b.place ≡ b.number → NumbersArePlaces (bs ++ b ∷ [])
+pushed [] b are is = (is, tt)
+pushed (x ∷ bs) b are is = (are.0, pushed bs b are.1 is)
+
+pub params_are : (tree : Tree) (all : List Param) (i : ℕ) (ps : List Param) → NumbersArePlaces (bound_params tree all i ps)
+params_are tree all i [] = tt
+params_are tree all i (p ∷ ps) = pushed (bound_params tree all (suc i) ps) _ (params_are tree all (suc i) ps) refl
+
+pub at_place : (bs : List Bound) (i : ℕ) → NumbersArePlaces bs → (bound_as bs i ≡ unbound) ⊎ ((bound_as bs i).place ≡ i)
+at_place [] i are = inl refl
+at_place (b ∷ bs) i are = by (b.number == i) refl (at_place bs i are.1)
+  where
+    by : (c : Bool) → (b.number == i) ≡ c → (bound_as bs i ≡ unbound) ⊎ ((bound_as bs i).place ≡ i) → (cond c b (bound_as bs i) ≡ unbound) ⊎ ((cond c b (bound_as bs i)).place ≡ i)
+    by true e rest = inr (are.0 ∙ eqb-true b.number i e)
+    by false e rest = rest

@@ -37,7 +37,7 @@ use Rattle.check_rules.specs.declared.rule.Rule.TheVariants as rule
 use Rattle.check_laws.proofs.Parts.{contrary, surely}
 use Rattle.check_laws.proofs.Scopes.{found_by_number}
 use Rattle.check_laws.specs.SoundScopes.{IsSoundScope}
-use Rattle.value_laws.specs.Spaces.{AreArgumentsOf, HasSpacedDeclarations, IsRegionTypeOf, IsSpaced, IsSpacedField, NamesRegionOf, space_of_param}
+use Rattle.value_laws.specs.Spaces.{AreArgumentsOf, AreParamsSaid, HasSpacedDeclarations, IsRegionTypeOf, IsSpaced, IsSpacedField, NamesRegionOf, space_of_param}
 
 -- ---- types of numbers, truths and index spaces
 
@@ -190,34 +190,39 @@ module _ (tree : Tree) (s : Scope) (scope : IsSoundScope s) where
   use_argument all (p ∷ ps) (r ∷ refs) (suc i) k d m is = use_argument all ps refs i k (or_parts _ _ d).1 (or_parts _ _ m).1 is
 
   -- the arguments of a field space use of which nothing is told
-  pub use_arguments : (u : SpaceUse) → HasSpacedDeclarations tree → unbound_name_in_use tree s.names u ≡ false → misfits_use tree s.names u ≡ false →
+  pub use_arguments : (u : SpaceUse) → AreParamsSaid tree → unbound_name_in_use tree s.names u ≡ false → misfits_use tree s.names u ≡ false →
       AreArgumentsOf tree s.names (place_of_space tree u.name) (map (looked_up (in_scope s)) u.args)
-  use_arguments u fields unbound misfit i k e =
+  use_arguments u params unbound misfit i k e =
       let parts = or_parts (not (has_space tree u.name)) _ unbound in
-      use_argument (map (type_of_ref s.names) u.args) (space_params tree u) u.args i k misfit parts.1 (fields.params u i k (not-false _ parts.0) e)
+      use_argument (map (type_of_ref s.names) u.args) (space_params tree u) u.args i k misfit parts.1 (params u i k (not-false _ parts.0) e)
 
   -- a pointer type that is written in a body
   pub record IsWrittenPointer (p : PointerTerm) : Type 0 where
     pub spaced : IsSpaced tree s.names (written_pointer tree (in_scope s) p)
     pub regions : All (NamesRegionOf s.names (place_of_space tree p.space.name)) (map (looked_up (in_scope s)) p.regions)
 
+  pub pointer_spaced : (p : PointerTerm) → AreParamsSaid tree → length p.regions ≤ most Regions → unbound_name_in_type tree s.names (typed.Pointer p) ≡ false →
+      wrong_region_in_type tree s.names (typed.Pointer p) ≡ false → misfits_in_type tree s.names (typed.Pointer p) ≡ false → IsWrittenPointer p
+  pointer_spaced p params few unbound wrong misfit =
+      let named = or_parts (unbound_name_in_use tree s.names p.space) _ unbound in
+      let there = not-false _ (or_parts _ _ named.0).0 in record {
+        spaced = record {
+          args = use_arguments p.space params named.0 (or_parts _ _ misfit).0;
+          named = tt;
+          parent = tt;
+          few = subst (λ n. n ≤ most Regions) (sym (length-map p.regions (looked_up (in_scope s)))) few;
+        };
+        regions = pointer_regions p p.regions there wrong;
+      }
+
   pub written_spaced : (p : PointerTerm) → HasSpacedDeclarations tree → All KeepsLimit (parts_of_pointer p) → first_in_type tree s.names (typed.Pointer p) ≡ None →
       IsWrittenPointer p
-  written_spaced p fields limits told =
+  written_spaced p declared limits told =
       let a = option_or_parts _ _ told in
       let b = option_or_parts _ _ a.1 in
       let c = option_or_parts _ _ b.1 in
       let d = option_or_parts _ _ c.1 in
-      let unbound = or_parts _ _ (rule_none (unbound_name_in_type tree s.names (typed.Pointer p)) rule.Name a.0) in
-      let wrong = rule_none (wrong_region_in_type tree s.names (typed.Pointer p)) rule.Pointer c.0 in
-      let misfit = rule_none (misfits_in_type tree s.names (typed.Pointer p)) rule.Spaces d.0 in
-      let there = not-false _ (or_parts _ _ unbound.0).0 in record {
-        spaced = record {
-          args = use_arguments p.space fields unbound.0 (or_parts _ _ misfit).0;
-          named = tt;
-          parent = tt;
-          few = subst (λ n. n ≤ most Regions) (sym (length-map p.regions (looked_up (in_scope s))))
-              (All-head KeepsLimit (counted Regions (length p.regions)) [] limits);
-        };
-        regions = pointer_regions p p.regions there wrong;
-      }
+      pointer_spaced p declared.params (All-head KeepsLimit (counted Regions (length p.regions)) [] limits)
+      (rule_none (unbound_name_in_type tree s.names (typed.Pointer p)) rule.Name a.0)
+      (rule_none (wrong_region_in_type tree s.names (typed.Pointer p)) rule.Pointer c.0)
+      (rule_none (misfits_in_type tree s.names (typed.Pointer p)) rule.Spaces d.0)

@@ -59,7 +59,7 @@ result_plain tree (Some (typed_as.Ispace k)) e = absurd (contrary e)
 result_plain tree (Some (typed_as.Region k u)) e = absurd (contrary e)
 result_plain tree (Some (typed_as.Partition d r c)) e = absurd (contrary e)
 
-counted_plain : (t : StaticType) → is_collection t ≡ false → HasNoArguments (counting_as t)
+pub counted_plain : (t : StaticType) → is_collection t ≡ false → HasNoArguments (counting_as t)
 counted_plain (integer_type w) e = tt
 counted_plain truth_type e = tt
 counted_plain (index_type k) e = tt
@@ -70,7 +70,7 @@ counted_plain (partition_type d r p) e = absurd cc
 counted_plain no_type e = tt
 counted_plain unknown_type e = tt
 
-operated_plain : (o : Operator) (t u : StaticType) → is_collection t ≡ false → is_collection u ≡ false → HasNoArguments (operated o t u)
+pub operated_plain : (o : Operator) (t u : StaticType) → is_collection t ≡ false → is_collection u ≡ false → HasNoArguments (operated o t u)
 operated_plain (Compute o) t u e f = by t e
   where
     beside : (w : _) (u : StaticType) → is_collection u ≡ false → HasNoArguments (arithmetic_type (integer_type w) (counting_as u))
@@ -98,7 +98,7 @@ operated_plain (Compare c) t u e f = tt
 operated_plain And t u e f = tt
 operated_plain Or t u e f = tt
 
-value_collection : (t : StaticType) → is_value_type t ≡ true → is_collection t ≡ false
+pub value_collection : (t : StaticType) → is_value_type t ≡ true → is_collection t ≡ false
 value_collection (integer_type w) e = refl
 value_collection truth_type e = refl
 value_collection (index_type k) e = refl

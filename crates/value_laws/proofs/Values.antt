@@ -1,5 +1,5 @@
 -- Each expression of which nothing is told gives a value that fits its type, by induction.
-use Rattle.std.proofs.Common.{List, [], ◌∷◌, ◌++◌, Bool, None, Some, false, true, refl, ap, sym, subst, ℕ, zero, suc, ◌≡◌, ◌∙◌, ◌<◌, ◌==◌, ◌&&◌, not, get_or, map, arith}
+use Rattle.std.proofs.Common.{List, [], ◌∷◌, ◌++◌, Bool, None, Some, false, true, refl, ap, sym, subst, ℕ, zero, suc, ◌≡◌, ◌∙◌, ◌==◌, ◌&&◌, not, get_or, map, arith}
 use Rattle.std.proofs.lemmas.Bool.{and_parts, eqb-true, not-false, or_parts}
 use Rattle.std.proofs.lemmas.List.{length-map}
 use Rattle.std.proofs.lemmas.List.Elements.{All-head}
@@ -37,7 +37,7 @@ use Rattle.check_rules.specs.rules.Types.{is_ill_typed_at_place, is_ill_typed_op
 use Rattle.check_rules.specs.types.Declarations.{is_no_result_type, params_of}
 use Rattle.check_rules.specs.types.KnownTypes.{known_type, known_types}
 use Rattle.check_rules.specs.types.Params.{types_in_order}
-use Rattle.check_rules.specs.types.Sorts.{is_number as numeric, is_partition, is_region, is_truth as truthful, is_unknown_type, may_be, type_at}
+use Rattle.check_rules.specs.types.Sorts.{is_number as numeric, is_partition, is_region, is_truth as truthful, may_be, type_at}
 use Rattle.check_rules.specs.types.TypedForms.{Calling, calling, computing}
 use Rattle.check_rules.specs.declared.rule.Rule.TheVariants as rule
 use Rattle.check_laws.proofs.Parts.{contrary, surely}
@@ -52,6 +52,7 @@ use Rattle.value_laws.specs.Spaces.{HasSpaceOfName, IsSpaced}
 use Rattle.value_laws.proofs.Accesses.{element_fits, field_fits}
 use Rattle.value_laws.proofs.Calls.{any_names, argument_fits, parents_agree}
 use Rattle.value_laws.proofs.Ends.{after, chosen}
+use Rattle.value_laws.proofs.GivenRoots.{arg_known, arguments_fit}
 use Rattle.value_laws.proofs.Limits.{all_behind, all_left, all_right}
 use Rattle.value_laws.proofs.Numbers.{literal_in_width}
 use Rattle.value_laws.proofs.Operators.{arithmetic_fits, as_number_fits, as_truth_fits, cast_fits, operand_any, signed_fits, size_fits, standing_fits}
@@ -118,12 +119,6 @@ module _ (task : TaskTree) (roots : List Shape) (h : Here) (place : IsPlaceOfFit
       let parts = option_or_parts (first_in_expression h.tree task h.scope y) _ e in
       λ j. (known task roots h place y parts.0).1 j ∷ args_meant es parts.1 j
 
-  arg_known : (es : Expressions) (r : ℕ) → first_in_args h.tree task h.scope es ≡ None → r < length (types_of h.tree h.scope es) →
-      is_unknown_type (type_at (types_of h.tree h.scope es) r) ≡ false
-  arg_known no_expr r e l = absurd (omega (arith, l))
-  arg_known (an_expr y es) zero e l = (known_meant task roots h place y (option_or_parts (first_in_expression h.tree task h.scope y) _ e).0).known
-  arg_known (an_expr y es) (suc r) e l = arg_known es r (option_or_parts (first_in_expression h.tree task h.scope y) _ e).1 (omega (arith, l))
-
   arg_named : (es : Expressions) (r : ℕ) → All KeepsLimit (parts_of_expressions es) → first_in_args h.tree task h.scope es ≡ None →
       HasSpaceOfName h.scope.names (type_at (types_of h.tree h.scope es) r)
   arg_named no_expr r limits e = tt
@@ -149,14 +144,14 @@ module _ (task : TaskTree) (roots : List Shape) (h : Here) (place : IsPlaceOfFit
       let at : (bound_as (scope_of h.tree t).names r).static_type ≡ type_at (param_types h.tree t) r =
       subst (λ n. (bound_as (scope_of h.tree t).names n).static_type ≡ type_at (param_types h.tree t) r) (omega (arith)) (param_at h.tree t.params 0 t.params r) in
       parents_agree h.scope.names (scope_of h.tree t).names (types_of h.tree h.scope es) (param_types h.tree t) r parent
-      (sym (ap is_region at) ∙ placed.0) at fit same (arg_known es r e (omega (arith, low, counted))) (arg_named es r limits e)
+      (sym (ap is_region at) ∙ placed.0) at fit same (arg_known task roots h place es r e (omega (arith, low, counted))) (arg_named es r limits e)
 
   -- ---- what a call gives
 
   answer_fits : (name : Name) (w : State) → State_fits w → (c : Called) → AnswerFits h.tree roots (task_named h.tree name) c →
       Gives (result_type h.tree (task_named h.tree name).result) (answered c w)
   answer_fits name w st (came_back v store text) is = (
-    record { names = st.names; counted = st.counted; store = is.1 },
+    record { names = st.names; counted = st.counted; agree = st.agree; store = is.1 },
     any_names h.tree roots [] h.scope.names h (result_type h.tree (task_named h.tree name).result) v
         (no_partition_result h.tree (task_named h.tree name).result (place.sound.results name)) is.0,
   )
@@ -169,7 +164,7 @@ module _ (task : TaskTree) (roots : List Shape) (h : Here) (place : IsPlaceOfFit
       paid : (n : ℕ) → Gives (result_type h.tree (task_named h.tree name).result)
           (and_then (pay_from n h u) (λ _ w. and_then (gives w w) (λ t. answered (h.calls h.line name vs t.store))))
       paid zero = st.store
-      paid (suc n) = answer_fits name (record u { turns = n }) (record { names = st.names; counted = st.counted; store = st.store }) _
+      paid (suc n) = answer_fits name (record u { turns = n }) (record { names = st.names; counted = st.counted; agree = st.agree; store = st.store }) _
           (place.answers roots h.line name vs u.store place.rooted st.store are)
 
   operates : (o : Operator) (t u : StaticType) → first_of_operator (computing o t u) ≡ None → operates_on o t u ≡ true
@@ -241,8 +236,9 @@ module _ (task : TaskTree) (roots : List Shape) (h : Here) (place : IsPlaceOfFit
         let limits = all_behind KeepsLimit node (parts_of_expressions es) l in
         after (Fits roots h.scope.names (type_of h.tree h.scope (call_expr name es))) (values h (params_at h.tree h.scope (task_named h.tree name) es) es u) (λ vs. called h name vs)
         (let untold = call_untold name es limits parts.0 more.0 in
-        args_are _ (param_types h.tree (task_named h.tree name)) (scope_of h.tree (task_named h.tree name)).names es wr limits parts.0
-        untold.counted untold.stand untold.fit untold.parted untold.agree u st) (λ vs w st are. called_fits name vs w st are)
+        arguments_fit task roots h place u.names st.agree name es parts.0 untold.counted untold.stand untold.parted wr u refl
+        (args_are _ (param_types h.tree (task_named h.tree name)) (scope_of h.tree (task_named h.tree name)).names es wr limits parts.0
+        untold.counted untold.stand untold.fit untold.parted untold.agree u st)) (λ vs w st are. called_fits name vs w st are)
     value_is (access_expr n steps) wr l e u st =
         let parts = option_or_parts (rule_if (not (is_bound h.scope.names n)) rule.Name) _ e in
         let bound = not-false (is_bound h.scope.names n) (rule_none _ rule.Name parts.0) in
@@ -383,5 +379,6 @@ module _ (task : TaskTree) (roots : List Shape) (h : Here) (place : IsPlaceOfFit
       KeepsFit h.tree roots h.scope.names (ArgumentsFit h.tree roots (task_named h.tree name)) (values h (params_at h.tree h.scope (task_named h.tree name) es) es u)
   call_is name es wr l e c u st =
       let untold = call_untold name es l e c in
-      args_are (types_of h.tree h.scope es) (param_types h.tree (task_named h.tree name)) (scope_of h.tree (task_named h.tree name)).names es wr l e
-      untold.counted untold.stand untold.fit untold.parted untold.agree u st
+      arguments_fit task roots h place u.names st.agree name es e untold.counted untold.stand untold.parted wr u refl
+      (args_are (types_of h.tree h.scope es) (param_types h.tree (task_named h.tree name)) (scope_of h.tree (task_named h.tree name)).names es wr l e
+      untold.counted untold.stand untold.fit untold.parted untold.agree u st)

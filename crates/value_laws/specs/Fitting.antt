@@ -8,8 +8,9 @@ use Rattle.regent_tree.specs.Accesses.{space_in}
 use Rattle.regent_tree.specs.Laws.{Shape}
 use Rattle.regent_tree.specs.Scopes.{bound_as}
 use Rattle.regent_tree.specs.StaticTypes.{Reach}
-use Rattle.regent_tree.specs.Values.{Partition, Region, Target, Value, a_number, a_partition, a_pointer, a_region, a_space, a_truth, an_index, no_region}
+use Rattle.regent_tree.specs.Values.{Partition, Region, Target, Value, a_number, a_partition, a_pointer, a_region, a_space, a_truth, an_index, no_region, partition_of, region_of}
 use Rattle.regent_tree.specs.declared.facts.Term.{Term}
+use Rattle.regent_tree.specs.declared.facts.Term.TheVariants.{Name}
 use Rattle.regent_tree.specs.declared.types.Kind.{Kind}
 use Rattle.regent_tree.specs.declared.typing.Bound.{Bound}
 use Rattle.regent_tree.specs.declared.typing.StaticType.{StaticType}
@@ -46,3 +47,20 @@ pub data Fits (roots : List Shape) (names : List Bound) : StaticType → Value �
 abbrev pub NamesFit : List Shape → List Bound → List Value → Type 0
 NamesFit roots names vs = (i : ℕ) →
     Fits roots names (bound_as names i).static_type (get_or vs (bound_as names i).place (a_truth false))
+
+-- ---- roots
+
+-- the root of the region with a number
+abbrev pub root_bound : List Bound → List Value → ℕ → ℕ
+root_bound names vs i = (region_of (get_or vs (bound_as names i).place (a_truth false))).root
+
+-- a partition is of its parent's root, and a region that has a name is of the root of the region with that name
+abbrev pub HasRootOfName : List Bound → List Value → StaticType → Value → Type 0
+HasRootOfName names vs (partition_type d parent own) v = (partition_of v).root ≡ root_bound names vs parent
+HasRootOfName names vs (region_type k space args (Name i)) v = (region_of v).root ≡ root_bound names vs i
+HasRootOfName names vs t v = Unit {0}
+
+-- each name's value is so
+abbrev pub RootsAgree : List Bound → List Value → Type 0
+RootsAgree names vs = (i : ℕ) →
+    HasRootOfName names vs (bound_as names i).static_type (get_or vs (bound_as names i).place (a_truth false))

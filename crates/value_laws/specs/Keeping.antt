@@ -11,13 +11,14 @@ use Rattle.regent_tree.specs.Values.{Value}
 use Rattle.regent_tree.specs.declared.typing.Bound.{Bound}
 use Rattle.regent_tree.specs.declared.typing.StaticType.{StaticType}
 use Rattle.expression_laws.specs.Sound.{EndsIn}
-use Rattle.value_laws.specs.Fitting.{Fits, NamesFit}
+use Rattle.value_laws.specs.Fitting.{Fits, NamesFit, RootsAgree}
 use Rattle.value_laws.specs.Shapes.{AreRootsOfSpaces, StoreFits}
 
 -- the names' values fit their types, and the store's numbers theirs
 pub record StateFits (tree : Tree) (roots : List Shape) (bound : List Bound) (u : State) : Type 0 where
   pub names : NamesFit roots bound u.names
   pub counted : length u.names ≡ length bound
+  pub agree : RootsAgree bound u.names
   pub store : StoreFits tree roots u.store
 
 -- a step gives something of which a claim holds, in a state that fits; where it faults, the store fits
@@ -33,9 +34,10 @@ AreFit roots names [] [] = Unit {0}
 AreFit roots names (t ∷ types) (v ∷ vs) = Fits roots names t v × AreFit roots names types vs
 AreFit roots names types vs = ⊥
 
--- values fit a task's parameters
+-- values fit a task's parameters, and partitions are of their parents' roots
 abbrev pub ArgumentsFit : Tree → List Shape → TaskTree → List Value → Type 0
-ArgumentsFit tree roots task vs = AreFit roots (scope_of tree task).names (param_types tree task) vs
+ArgumentsFit tree roots task vs =
+    AreFit roots (scope_of tree task).names (param_types tree task) vs × RootsAgree (scope_of tree task).names vs
 
 -- what a call gives fits the task's result type, and the caller's roots stay with numbers that fit
 abbrev pub AnswerFits : Tree → List Shape → TaskTree → Called → Type 0

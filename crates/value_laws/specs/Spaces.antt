@@ -82,12 +82,15 @@ pub record IsSpacedField (tree : Tree) (space : ℕ) (p : PointerTerm) : Type 0 
       space_of_param tree space (place_in (space_at tree space).params n) ≡ Some k
   pub few : length p.regions ≤ most Regions
 
--- The fields of a program's field spaces are so, and the types of their parameters say what is written; and the
--- parent of a task's parameter that is a partition is a parameter that is a region.
+-- The types of the parameters of a field space, where it is used, say what is written.
+abbrev pub AreParamsSaid : Tree → Type 0
+AreParamsSaid tree = (u : SpaceUse) (i k : ℕ) → has_space tree u.name ≡ true →
+    space_of_param tree (place_of_space tree u.name) i ≡ Some k → IsRegionTypeOf k (type_at (space_params tree u) i)
+
+-- The fields of a program's field spaces are so, and the types of their parameters; and the parent of a task's parameter that is a partition is a parameter that is a region.
 pub record HasSpacedDeclarations (tree : Tree) : Type 0 where
   pub fields : (space : ℕ) (f : Word) (p : PointerTerm) → has_field tree space f ≡ true →
       field_term tree space (field_place tree space f) ≡ typed.Pointer p → IsSpacedField tree space p
-  pub params : (u : SpaceUse) (i k : ℕ) → has_space tree u.name ≡ true →
-      space_of_param tree (place_of_space tree u.name) i ≡ Some k → IsRegionTypeOf k (type_at (space_params tree u) i)
+  pub params : AreParamsSaid tree
   pub tasks : (n : Word) (i : ℕ) →
       IsPlaced (scope_of tree (task_named tree n)) (type_at (param_types tree (task_named tree n)) i)
