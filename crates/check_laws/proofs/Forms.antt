@@ -26,7 +26,7 @@ use Rattle.check_rules.proofs.Untold.{rule_none}
 use Rattle.std.proofs.lemmas.Bool.{not-false}
 
 -- what is unknown where it is flawed, and known, isn't flawed
-unflawed : (b : Bool) (t : StaticType) → is_unknown_type (cond b unknown_type t) ≡ false → cond b unknown_type t ≡ t
+pub unflawed : (b : Bool) (t : StaticType) → is_unknown_type (cond b unknown_type t) ≡ false → cond b unknown_type t ≡ t
 unflawed true t k = absurd (contrary k)
 unflawed false t k = refl
 

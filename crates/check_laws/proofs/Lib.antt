@@ -10,6 +10,7 @@ pub mod Meant
 pub mod Trees
 pub mod Onward
 pub mod Entries
+pub mod Widths
 pub mod Sounding
 pub mod Bodies
 pub mod Places

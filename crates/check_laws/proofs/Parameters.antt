@@ -1,11 +1,11 @@
 -- The parameters of a task of which nothing is told.
-use Rattle.std.proofs.Common.{Bool, List, [], ◌++◌, ◌+◌, ◌<◌, ◌≤◌, ◌∷◌, ◌||◌, ◌≡◌, ◌⊎◌, ap, arith, bytes_eq, cond, false, inl, inr, length, not, refl, subst, suc, sym, true, ◌∙◌, ℕ}
+use Rattle.std.proofs.Common.{Bool, List, [], ◌++◌, ◌+◌, ◌<◌, ◌≤◌, ◌∷◌, ◌||◌, ◌≡◌, ap, arith, bytes_eq, cond, false, inl, inr, length, not, refl, subst, suc, sym, true, ◌∙◌, ℕ}
 use Rattle.std.proofs.lemmas.Bool.{and_parts, or_parts}
 use Rattle.std.specs.List.{list_any}
 use Rattle.std.proofs.lemmas.Bool.Decides.{same_from_decides}
 use Rattle.std.proofs.lemmas.Slice.Eq.{bytes_eq-Decides}
 use Rattle.regent_tree.specs.Lookup.{is_bound, type_named}
-use Rattle.regent_tree.specs.Scopes.{Scope, bound_as, bound_params, bound_to, unbound}
+use Rattle.regent_tree.specs.Scopes.{Scope, bound_as, bound_params, bound_to}
 use Rattle.regent_tree.specs.StaticTypes.{among_params, place_in, type_said}
 use Rattle.regent_tree.specs.Syntax.{Name, Tree}
 use Rattle.regent_tree.specs.declared.types.Param.{Param}
@@ -16,7 +16,7 @@ use Rattle.check_rules.specs.types.Lookup.{names_a}
 use Rattle.check_rules.specs.rules.Names.{unbound_name_in_type, misses_space}
 use Rattle.check_rules.specs.rules.Repeats.{Given, given_by, repeats_after, was_given}
 use Rattle.check_rules.specs.types.Sorts.{is_region, may_be}
-use Rattle.check_rules.proofs.Written.{written_known}
+use Rattle.check_rules.proofs.Written.{bound_after, written_known}
 use Rattle.check_laws.specs.SoundScopes.{Falls, IsKnown, IsSoundScope}
 use Rattle.check_laws.proofs.Parts.{contrary, number_known, surely, value_known}
 use Rattle.check_laws.proofs.Scopes.{found_by_number}
@@ -30,26 +30,6 @@ equal_back a b = same_from_decides (bytes_eq a b) (bytes_eq b a) (bytes_eq-Decid
 
 abbrev pub bound : Tree → List Param → ℕ → Param → Bound
 bound tree all i p = record { name = p.name; number = i; place = i; static_type = type_said tree (among_params all) i p.term; by_loop = false }
-
--- what a name is bound to behind others
-bound_after : (names : List Bound) (b : Bound) (n : Name) → is_bound (names ++ b ∷ []) n ≡ true →
-    ((is_bound names n ≡ true) × (bound_to (names ++ b ∷ []) n ≡ bound_to names n))
-    ⊎ ((bytes_eq b.name n ≡ true) × (bound_to (names ++ b ∷ []) n ≡ b))
-bound_after [] b n e = here (bytes_eq b.name n) e
-  where
-    here : (is : Bool) → (is || false) ≡ true →
-        ((is_bound [] n ≡ true) × (cond is b unbound ≡ bound_to [] n)) ⊎ ((is ≡ true) × (cond is b unbound ≡ b))
-    here true e = inr (refl, refl)
-    here false e = absurd cc
-bound_after (x ∷ xs) b n e = here (bytes_eq x.name n) (bound_after xs b n) e
-  where
-    here : (is : Bool) →
-        (is_bound (xs ++ b ∷ []) n ≡ true → ((is_bound xs n ≡ true) × (bound_to (xs ++ b ∷ []) n ≡ bound_to xs n)) ⊎ ((bytes_eq b.name n ≡ true) × (bound_to (xs ++ b ∷ []) n ≡ b))) →
-        (is || is_bound (xs ++ b ∷ []) n) ≡ true →
-        (((is || is_bound xs n) ≡ true) × (cond is x (bound_to (xs ++ b ∷ []) n) ≡ cond is x (bound_to xs n)))
-        ⊎ ((bytes_eq b.name n ≡ true) × (cond is x (bound_to (xs ++ b ∷ []) n) ≡ b))
-    here true rest e = inl (refl, refl)
-    here false rest e = rest e
 
 -- ---- numbers
 

@@ -11,8 +11,11 @@ use Rattle.regent_tree.specs.Syntax.{Arms, Block, Form, Name, Otherwise, Tree, a
 use Rattle.regent_tree.specs.declared.typing.Bound.{Bound}
 use Rattle.check_rules.specs.scopes.Variables.{known_scope_after, known_scope_after_arms, known_scope_after_block, known_scope_after_else, scope_in_count, scope_in_loop}
 
-differ : (a b : ℕ) → b < a → (a == b) ≡ false
+pub differ : (a b : ℕ) → b < a → (a == b) ≡ false
 differ a b lt = search (arith)
+
+pub differ_below : (a b : ℕ) → a < b → (a == b) ≡ false
+differ_below a b lt = search (arith)
 
 same : (a : ℕ) → (a == a) ≡ true
 same a = search (arith)

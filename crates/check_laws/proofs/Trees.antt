@@ -1,4 +1,5 @@
 -- Whole trees without a breach.
+use Rattle.check_laws.proofs.Entries.{no_line}
 use Rattle.std.proofs.Common.{List, None, Option, [], ◌++◌, ◌∷◌, ◌||◌, ◌≡◌, ap, false, flat_map, inl, inr, map, not, refl, subst, sym, ◌∙◌, ℕ}
 use Rattle.std.proofs.lemmas.Bool.{or_parts}
 use Rattle.std.specs.List.{Contains, list_any}
@@ -13,7 +14,7 @@ use Rattle.check_rules.specs.scopes.Bodies.{body_scope}
 use Rattle.check_rules.specs.Breaches.{breaches}
 use Rattle.check_rules.specs.types.Declarations.{is_flawed_type}
 use Rattle.check_rules.specs.first.FirstInExpressions.{first_in_expression, first_in_target}
-use Rattle.check_rules.specs.first.FirstInItems.{first_breach, first_declared, first_in_body, first_line, first_of_said, first_of_saying}
+use Rattle.check_rules.specs.first.FirstInItems.{first_breach, first_declared, first_in_body, first_of_said, first_of_saying}
 use Rattle.check_rules.specs.first.FirstInStatements.{first_in_arms, first_in_block, first_in_else, first_in_targets, first_of_form, first_within, told_on}
 use Rattle.check_rules.specs.rules.Names.{unbound_name_in_type}
 use Rattle.check_rules.specs.rules.Repeats.{given_by, repeats}
@@ -22,7 +23,6 @@ use Rattle.check_rules.specs.first.Rules.{first_in, rule_if}
 use Rattle.check_rules.specs.scopes.Sound.{IsSound}
 use Rattle.check_rules.specs.scopes.Variables.{known_scope_after, known_scope_after_arms, known_scope_after_block, scope_in_count, scope_in_loop}
 use Rattle.check_rules.specs.scopes.Visits.{Visit, declarations_in, heads_of, targets_of, visits, visits_in, visits_in_arms, visits_in_else, visits_of_item, visits_within}
-use Rattle.check_rules.specs.declared.rule.Rule.{Rule}
 use Rattle.check_rules.specs.declared.rule.Rule.TheVariants as rule
 use Rattle.check_rules.proofs.FirstInItems.{none_without_first}
 use Rattle.check_rules.proofs.Written.{all_is_sound, all_sound, beside_written, body_scope_written, standing_sound, untold}
@@ -44,10 +44,6 @@ pub none_of : {A B : Type 0} (f : A → Option B) (xs : List A) (x : A) → firs
 none_of f [] x e h = absurd h
 none_of f (y ∷ ys) x e (inl is) = ap f (sym is) ∙ (option_or_parts (f y) _ e).0
 none_of f (y ∷ ys) x e (inr h) = none_of f ys x (option_or_parts (f y) _ e).1 h
-
-no_lines : (r : Rule) (lines : List ℕ) → first_line r lines ≡ None → lines ≡ []
-no_lines r [] e = refl
-no_lines r (l ∷ ls) e = absurd cc
 
 pub has_flat : {A B : Type 0} (f : A → List B) (xs : List A) (y : B) → Has (flat_map f xs) y → (x : A) × Has xs x × Has (f x) y
 has_flat f [] y h = absurd h
@@ -176,7 +172,7 @@ module _ (tree : Tree) (declared : first_in (first_declared tree) tree ≡ None)
   scope_sound : (line : ℕ) (t : TaskTree) → Has tree (record { line = line; form = task_item t }) → IsSoundScope (scope_of tree t)
   scope_sound line t h =
       let of = untold tree (record { line = line; form = task_item t }) (none_of (first_declared tree) tree (record { line = line; form = task_item t }) declared h) in
-      let once = no_lines rule.Twice (repeats (given_by t.params)) of.twice in
+      let once = no_line rule.Twice (repeats (given_by t.params)) of.twice in
       let same = sym (append-nil t.params) in
       let saying = subst (λ all. first_in (first_of_saying tree) (declarations_in tree t.params all) ≡ None) same of.saying in
       let said = subst (λ all. first_in (first_of_said tree) (declarations_in tree t.params all) ≡ None) same of.said in

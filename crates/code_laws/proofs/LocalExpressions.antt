@@ -38,7 +38,8 @@ use Rattle.code_laws.specs.Typed.{AreNumbers, ArePassed, AreTypedLinks, IsTyped}
 use Rattle.code_laws.proofs.LocalNames.{AllKept, AreScalars, IsLocalTree, IsPlace, element_known, kept_simple, named_kept, named_place, place_is, simple_kept, taking_told}
 use Rattle.code_laws.proofs.LocalTypes.{number_is, operated_number, operated_simple, param_fitting, simple_after, simple_as_integer, simple_as_number, simple_compared, simple_computed, simple_truths, term_scalar}
 use Rattle.code_laws.proofs.Openings.{params_length, types_length}
-use Rattle.code_laws.proofs.Typing.{AreKept, integer_term, kept_behind, kept_left, kept_right, literal_fits, no_way, no_way_back, number_scalar, operates, signed_scalar, signs_fit, stands_well}
+use Rattle.check_laws.proofs.Widths.{literal_fits}
+use Rattle.code_laws.proofs.Typing.{AreKept, integer_term, kept_behind, kept_left, kept_right, no_way, no_way_back, number_scalar, operates, signed_scalar, signs_fit, stands_well}
 use Rattle.code_laws.proofs.Values.{scalar_simple}
 use Rattle.scalar_form.specs.ScalarForm.{is_scalar_if_said, is_scalar_number}
 

@@ -25,7 +25,8 @@ use Rattle.code_laws.proofs.LocalBlocks.{block_local}
 use Rattle.code_laws.proofs.LocalTrees.{item_local, local_tree, params_scalar, scalars_kept, task_stands}
 use Rattle.code_laws.proofs.LocalTypes.{term_scalar}
 use Rattle.code_laws.proofs.Openings.{params_length, types_length}
-use Rattle.code_laws.proofs.Entries.{begins, found, inputs_count, inputs_taken, kept_all, kept_item, no_clauses, params_integers, short_body, types_integers}
+use Rattle.check_laws.proofs.Entries.{begins}
+use Rattle.code_laws.proofs.Entries.{found, inputs_count, inputs_taken, kept_all, kept_item, no_clauses, params_integers, short_body, types_integers}
 use Rattle.code_laws.proofs.Top.{calls_fit_spaces, calls_run_as_meant}
 use Rattle.code_laws.proofs.Typing.{AreKept, kept_right}
 use Rattle.scalar_form.specs.ScalarForm.{is_scalar_if_said}

@@ -1,4 +1,5 @@
 -- Loops: the code of a loop does what its rounds mean.
+use Rattle.check_laws.proofs.Widths.{wider_left, wider_right}
 use Rattle.machine_terms.specs.declared.value.Value.{Value as MachineValue}
 use Rattle.task_code.specs.declared.instr.Instr.{Instr}
 use Rattle.machine_terms.specs.declared.order.Contents.{Contents}
@@ -44,21 +45,6 @@ use Rattle.code_laws.proofs.Names.{Grown}
 use Rattle.code_laws.proofs.States.{stored, bound_more, aside_stored, enters, leaves_round}
 
 -- ---- numbers that fit
-
-fits_64 : (z : ℤ) → FitsWidth W32 z → FitsWidth W64 z
-fits_64 z p = omega (arith, ints, p)
-
-wider_left : (a b : Width) (z : ℤ) → FitsWidth a z → FitsWidth (wider a b) z
-wider_left W32 W32 z p = p
-wider_left W32 W64 z p = fits_64 z p
-wider_left W64 W32 z p = p
-wider_left W64 W64 z p = p
-
-wider_right : (a b : Width) (z : ℤ) → FitsWidth b z → FitsWidth (wider a b) z
-wider_right W32 W32 z p = p
-wider_right W32 W64 z p = p
-wider_right W64 W32 z p = fits_64 z p
-wider_right W64 W64 z p = p
 
 next_fits : (w : Width) (z b : ℤ) → FitsWidth w z → FitsWidth w b → int_lt z b ≡ true → FitsWidth w (z +ℤ pos 1)
 next_fits W32 z b p q e = grind (arith, ints)

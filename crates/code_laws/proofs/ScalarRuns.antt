@@ -9,7 +9,8 @@ use Rattle.regent_tree.specs.Syntax.{ItemTree, Tree}
 use Rattle.code_rules.specs.Programs.{place_of}
 use Rattle.code_laws.specs.Programs.{IsTypedRun, scalar_forms}
 use Rattle.code_laws.specs.ScalarPrograms.{IsScalarProgramRun, ScalarProgramsLeaveNoRoots, ScalarProgramsRunAsMeant}
-use Rattle.code_laws.proofs.Entries.{all_of, begins, found}
+use Rattle.check_laws.proofs.Entries.{begins}
+use Rattle.code_laws.proofs.Entries.{all_of, found}
 use Rattle.code_laws.proofs.LocalRuns.{local_run}
 use Rattle.code_laws.proofs.ScalarLocal.{scalar_local, scalar_task}
 use Rattle.code_laws.proofs.ScalarTyped.{scalar_block}

@@ -1,11 +1,8 @@
 -- What a call of a task means, its child comes to: by induction on how many more calls may nest.
+use Rattle.code_laws.proofs.Variables.{zero_fits}
 use Rattle.std.proofs.Common.{◌≡◌, ℕ, zero, suc, ◌+◌, ◌^◌, ◌<◌, ◌≤◌, ℤ, pos, List, [], ◌∷◌, ◌++◌, Option, Some, None, refl, sym, ap, ◌∙◌, subst, arith}
 use Rattle.std.specs.Prelude.{length, map, take}
 use Rattle.std.proofs.lemmas.Bool.{eq-eqb}
-use Rattle.std.proofs.lemmas.Int.{ints}
-use Rattle.lane_kernels.specs.declared.numbers.Width.{Width}
-use Rattle.lane_kernels.specs.declared.numbers.Width.TheVariants.{W32, W64}
-use Rattle.lane_kernels.specs.Numbers.{FitsWidth}
 use Rattle.region_tree.specs.declared.tree.RootId.{RootId}
 use Rattle.regent_tree.specs.Execution.{Going, goes_on, returned}
 use Rattle.regent_tree.specs.Initializers.{zero_of}
@@ -62,11 +59,6 @@ taken_inside x store (t ∷ ts) (v ∷ vs) a =
     (simple_inside x store t v (scalar_simple t a.0.0), taken_inside x store ts vs a.1)
 taken_inside x store [] (v ∷ vs) a = absurd a
 taken_inside x store (t ∷ ts) [] a = absurd a
-
--- 0 is the value that falls off a body's end
-zero_fits : (w : Width) → FitsWidth w (pos 0)
-zero_fits W32 = omega (arith, ints)
-zero_fits W64 = omega (arith, ints)
 
 zero_typed : (sc : Scope) (t : StaticType) → IsScalar t → IsOf t (zero_of sc [] t)
 zero_typed sc _ (scalar_integer w) = of_integer w (pos 0) (zero_fits w)

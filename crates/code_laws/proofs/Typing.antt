@@ -1,15 +1,12 @@
 -- What is told of no breach of literals, prefixes and operators, and the limits of parts.
-use Rattle.std.proofs.Common.{◌≡◌, List, [], ◌∷◌, ◌++◌, None, false, true, refl, ap, sym, subst, ℕ, inr, ℤ, pos, ◌≤◌, arith}
+use Rattle.std.proofs.Common.{◌≡◌, List, [], ◌∷◌, ◌++◌, None, false, true, refl, ap, subst, inr}
 use Rattle.regent_tree.specs.StaticTypes.{number_type}
 use Rattle.regent_tree.specs.declared.expression.Operator.{Operator}
 use Rattle.regent_tree.specs.declared.facts.Known.{Known}
 use Rattle.std.proofs.lemmas.Bool.{not-false}
-use Rattle.std.proofs.lemmas.Int.{ints}
-use Rattle.lane_kernels.specs.Numbers.{FitsWidth}
-use Rattle.lane_kernels.specs.declared.numbers.Width.{Width}
 use Rattle.lane_kernels.specs.declared.numbers.Width.TheVariants.{W32, W64}
 use Rattle.plain_values.proofs.Plain.{option_or_parts}
-use Rattle.regent_tree.specs.Limits.{KeepsLimit, Part, literal, greatest_literal}
+use Rattle.regent_tree.specs.Limits.{KeepsLimit, Part}
 use Rattle.regent_tree.specs.Typing.{signed_type}
 use Rattle.regent_tree.specs.declared.expression.Sign.{Sign}
 use Rattle.regent_tree.specs.declared.expression.Sign.TheVariants.{Minus, Not}
@@ -57,16 +54,6 @@ kept_right ps qs k p h = k p (Has-append_right ps qs p h)
 
 pub kept_behind : (p : Part) (ps : List Part) → AreKept (p ∷ ps) → AreKept ps
 kept_behind p ps k q h = k q (inr h)
-
-pub literal_fits : (z : ℤ) (w : Width) → KeepsLimit (literal z w) → FitsWidth w z
-literal_fits z W32 k = subst (FitsWidth W32) (sym k.1) (small k.0 k.2)
-  where
-    small : (n : ℕ) → n ≤ greatest_literal W32 → FitsWidth W32 (pos n)
-    small n l = omega (arith, ints, l)
-literal_fits z W64 k = subst (FitsWidth W64) (sym k.1) (small k.0 k.2)
-  where
-    small : (n : ℕ) → n ≤ greatest_literal W64 → FitsWidth W64 (pos n)
-    small n l = omega (arith, ints, l)
 
 -- ---- what stands somewhere
 

@@ -46,7 +46,7 @@ use Rattle.code_laws.proofs.Good.{valued, Gives, pushes}
 use Rattle.code_laws.proofs.States.{stored, stores, bound_more, aside_stored}
 
 -- 0 fits
-zero_fits : (w : Width) → FitsWidth w (pos 0)
+pub zero_fits : (w : Width) → FitsWidth w (pos 0)
 zero_fits W32 = omega (arith, ints)
 zero_fits W64 = omega (arith, ints)
 

@@ -58,7 +58,8 @@ use Rattle.fact_laws.specs.Regions.{IsIn, Interpretation, StandsFor}
 use Rattle.expression_laws.specs.Sound.{ArePassed, Instance, IsPassed, IsSoundPlace}
 use Rattle.expression_laws.proofs.Covers.{has_flat, on_region}
 use Rattle.fact_laws.proofs.Facts.{is_subregion_holds}
-use Rattle.expression_laws.proofs.Joins.{met_among, met_joined, same_ops}
+use Rattle.lane_kernels.proofs.SameOps.{same_op-tells}
+use Rattle.expression_laws.proofs.Joins.{met_among, met_joined}
 use Rattle.expression_laws.proofs.Steps.{all_has}
 
 -- ---- lists
@@ -93,7 +94,7 @@ same_modes Write Write e = refl
 same_modes Write (Reduce o) e = absurd cc
 same_modes (Reduce p) Read e = absurd cc
 same_modes (Reduce p) Write e = absurd cc
-same_modes (Reduce p) (Reduce q) e = ap mode.Reduce (same_ops p q e)
+same_modes (Reduce p) (Reduce q) e = ap mode.Reduce (same_op-tells p q e)
 
 module _ (x : Instance) (m : Interpretation) (s : Scope) (task : IsSoundTask x.tree x.task) (place : IsSoundPlace x m s) where
   -- what is held on a term is had at each point of its regions

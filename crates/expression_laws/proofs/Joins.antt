@@ -1,4 +1,5 @@
 -- The join of modes.
+use Rattle.lane_kernels.proofs.SameOps.{same_op-tells}
 use Rattle.std.proofs.Common.{List, [], ◌∷◌, Bool, None, Option, Some, false, true, refl, ap, sym, subst, ◌≡◌, ◌∙◌, ◌⊎◌, inl, inr, cond}
 use Rattle.lane_kernels.specs.Modes.{joined, same_op}
 use Rattle.lane_kernels.specs.declared.numbers.Mode.{Mode}
@@ -7,24 +8,6 @@ use Rattle.lane_kernels.specs.declared.numbers.Op.{Op}
 use Rattle.lane_kernels.specs.declared.numbers.Op.TheVariants.{Sum, Product, Least, Greatest}
 use Rattle.regent_tree.proofs.Members.{Has}
 use Rattle.expression_laws.specs.Needs.{IsMet, joined_all, joined_with}
-
-pub same_ops : (p q : Op) → same_op p q ≡ true → p ≡ q
-same_ops Sum Sum e = refl
-same_ops Sum Product e = absurd cc
-same_ops Sum Least e = absurd cc
-same_ops Sum Greatest e = absurd cc
-same_ops Product Sum e = absurd cc
-same_ops Product Product e = refl
-same_ops Product Least e = absurd cc
-same_ops Product Greatest e = absurd cc
-same_ops Least Sum e = absurd cc
-same_ops Least Product e = absurd cc
-same_ops Least Least e = refl
-same_ops Least Greatest e = absurd cc
-same_ops Greatest Sum e = absurd cc
-same_ops Greatest Product e = absurd cc
-same_ops Greatest Least e = absurd cc
-same_ops Greatest Greatest e = refl
 
 joined_same : (a : Mode) → joined a a ≡ a
 joined_same Read = refl
@@ -36,7 +19,7 @@ joined_same (Reduce Greatest) = refl
 
 one_or_write : (b : Bool) (p q : Op) → same_op p q ≡ b →
     ((cond b (Reduce p) Write ≡ Reduce p) ⊎ (cond b (Reduce p) Write ≡ Write)) × ((cond b (Reduce p) Write ≡ Reduce q) ⊎ (cond b (Reduce p) Write ≡ Write))
-one_or_write true p q e = (inl refl, inl (ap Reduce (same_ops p q e)))
+one_or_write true p q e = (inl refl, inl (ap Reduce (same_op-tells p q e)))
 one_or_write false p q e = (inr refl, inr refl)
 
 joined_either : (a b : Mode) → ((joined a b ≡ a) ⊎ (joined a b ≡ Write)) × ((joined a b ≡ b) ⊎ (joined a b ≡ Write))

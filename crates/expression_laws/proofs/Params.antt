@@ -1,4 +1,5 @@
 -- The parameters of a task: their bindings by number, and what is known of them where a body begins.
+use Rattle.check_laws.proofs.Scopes.{differ, differ_below}
 use Rattle.std.proofs.Common.{arith, Bool, List, [], ◌∷◌, ◌++◌, false, true, refl, ap, sym, subst, ℕ, zero, suc, ◌+◌, ◌≡◌, ◌∙◌, ◌<◌, ◌≤◌, ◌==◌, inl, inr, cond, get_or, length, map, not, reverse}
 use Rattle.std.proofs.Math.ListN.{get_or-map}
 use Rattle.std.proofs.lemmas.Bool.{cond-false, cond-true, eq-eqb, or_parts}
@@ -53,18 +54,12 @@ module _ (tree : Tree) (all : List Param) where
   params_least i (p ∷ ps) =
       at_least_more i (bound_params tree all (suc i) ps) (bound tree all i p) (at_least_less i (suc i) (bound_params tree all (suc i) ps) (omega (arith)) (params_least (suc i) ps)) (omega (arith))
 
-  other_above : (a b : ℕ) → b < a → (a == b) ≡ false
-  other_above a b lt = search (arith)
-
-  other_below : (a b : ℕ) → a < b → (a == b) ≡ false
-  other_below a b lt = search (arith)
-
   skipped : (bs : List Bound) (b : Bound) (k : ℕ) → AtLeast (suc k) bs → bound_as (bs ++ b ∷ []) k ≡ bound_as (b ∷ []) k
   skipped [] b k are = refl
-  skipped (x ∷ xs) b k are = let l = are.0 in cond-false (x.number == k) x (bound_as (xs ++ b ∷ []) k) (other_above x.number k (omega (arith, l))) ∙ skipped xs b k are.1
+  skipped (x ∷ xs) b k are = let l = are.0 in cond-false (x.number == k) x (bound_as (xs ++ b ∷ []) k) (differ x.number k (omega (arith, l))) ∙ skipped xs b k are.1
 
   kept : (bs : List Bound) (b : Bound) (k : ℕ) → b.number < k → bound_as (bs ++ b ∷ []) k ≡ bound_as bs k
-  kept [] b k less = cond-false (b.number == k) b unbound (other_below b.number k less)
+  kept [] b k less = cond-false (b.number == k) b unbound (differ_below b.number k less)
   kept (x ∷ xs) b k less = ap (λ c. cond (x.number == k) x c) (kept xs b k less)
 
   numbered_as : (i : ℕ) (ps : List Param) (j k : ℕ) → k ≡ i + j → bound_as (bound_params tree all i ps) k ≡ get_or (numbered i ps) j unbound

@@ -1,4 +1,5 @@
 -- Expressions without a breach: their values are of their types, and what they read is covered.
+use Rattle.check_laws.proofs.Forms.{unflawed}
 use Rattle.check_rules.proofs.Untold.{rule_none, standing_none}
 use Rattle.plain_values.proofs.Plain.{option_or_parts}
 use Rattle.std.proofs.Common.{List, [], ◌∷◌, Bool, None, false, true, refl, ap, sym, subst, ℕ, ℤ, zero, suc, ◌≡◌, ◌∙◌, ◌≤◌, not, get_or, length, map, cond}
@@ -19,7 +20,7 @@ use Rattle.regent_tree.specs.declared.expression.Operator.TheVariants.{And, Comp
 use Rattle.regent_tree.specs.declared.types.PointerTerm.{PointerTerm}
 use Rattle.regent_tree.specs.declared.types.TypeTerm.TheVariants as typed_as
 use Rattle.regent_tree.specs.declared.typing.StaticType.{StaticType}
-use Rattle.regent_tree.specs.declared.typing.StaticType.TheVariants.{Truth as truth_type, Unknown as unknown_type}
+use Rattle.regent_tree.specs.declared.typing.StaticType.TheVariants.{Truth as truth_type}
 use Rattle.check_rules.specs.first.FirstInExpressions.{first_in_args, first_in_expression, first_in_links, first_in_steps, first_in_type, first_of_call, first_of_operator, first_of_standing, first_of_step, first_of_taking}
 use Rattle.check_rules.specs.types.KnownTypes.{known_type, known_types}
 use Rattle.check_rules.specs.rules.Names.{unbound_name_in_type}
@@ -32,7 +33,7 @@ use Rattle.check_rules.specs.rules.Types.{is_ill_typed_operation, operates_on}
 use Rattle.check_rules.specs.declared.rule.Rule.TheVariants as rule
 use Rattle.check_laws.specs.SoundScopes.{IsKnown, IsSoundScope}
 use Rattle.expression_laws.proofs.Knowing.{known_as_meant}
-use Rattle.check_laws.proofs.Parts.{after_operator, contrary, element_known, field_known, surely}
+use Rattle.check_laws.proofs.Parts.{after_operator, element_known, field_known, surely}
 use Rattle.expression_laws.specs.Kinds.{ArgumentsInScope, GoInto, IsOfType, IsWellScoped, NamesFit, is_number, is_pointer, is_truth, number_stood_for}
 use Rattle.fact_laws.specs.Regions.{IsColour, Interpretation}
 use Rattle.expression_laws.specs.Sound.{AreFitting, AreInStore, AreSoundAnswers, ArePassed, IsValueOf, IsSoundAnswer, Instance, IsSoundPlace, IsSoundState, KeepsSound}
@@ -44,10 +45,6 @@ use Rattle.expression_laws.specs.Needs.{IsCallWithin}
 use Rattle.expression_laws.proofs.Names.{named_fits, pointer_args, reached, said_named}
 use Rattle.expression_laws.proofs.Operators.{after, passed_is, arithmetic_is, as_number_is, as_truth, cast_is, chosen, computes_numbers, operand_any, signed_counted, signed_is, signs_value, size_is, standing_any, standing_is, value_from_number, weaker}
 use Rattle.expression_laws.proofs.Steps.{element_args, element_is, field_args_in, field_is, taking_stands}
-
-pub unless_known : (b : Bool) (t : StaticType) → is_unknown_type (cond b unknown_type t) ≡ false → cond b unknown_type t ≡ t
-unless_known true t e = absurd (contrary e)
-unless_known false t e = refl
 
 module _ (task : TaskTree) (args : List Value) (roots : ℕ) (m : Interpretation) (h : Here) (sound : IsSound h.tree) (sound_task : IsSoundTask h.tree task)
     (scope : IsSoundScope h.scope) (well_scoped : IsWellScoped h.scope) (place : IsSoundPlace (record { tree = h.tree; calls = h.calls; task = task; args = args; roots = roots }) m h.scope)
@@ -152,7 +149,7 @@ module _ (task : TaskTree) (args : List Value) (roots : ℕ) (m : Interpretation
       let right = known y parts.0 in
       let more = option_or_parts (first_of_operator (computing o t (known_type h.tree h.scope y))) _ parts.1 in
       let next = after_operator h.scope o t (known_type h.tree h.scope y) k.known right.0.known more.0 in
-      let same = unless_known _ (operated o t (known_type h.tree h.scope y)) next.known ∙ ap (operated o t) right.1 in record {
+      let same = unflawed _ (operated o t (known_type h.tree h.scope y)) next.known ∙ ap (operated o t) right.1 in record {
         right = parts.0;
         operates = subst (λ k. operates_on o t k ≡ true) right.1 (operates o t (known_type h.tree h.scope y) more.0);
         known = subst (IsKnown h.scope) same next;
@@ -242,7 +239,7 @@ module _ (task : TaskTree) (args : List Value) (roots : ℕ) (m : Interpretation
         let parts = option_or_parts (first_of_step h.tree task h.scope (field_of t f)) _ e in
         let here = option_or_parts (first_of_taking h.tree (field_of t f)) _ parts.0 in
         let next = field_known h.tree h.scope t f sound k here.0 in
-        let same = unless_known _ (type_of_field h.tree t f) next.known in
+        let same = unflawed _ (type_of_field h.tree t f) next.known in
         after (IsOfType m (stepped_type h.tree h.scope t (field_step f rest))) (take_field h t f v u) (λ a. stepped h (type_of_field h.tree t f) a rest)
         (field_is task args roots m h sound sound_task scope well_scoped place t f v u here.0 here.1 k are is st) (λ a w st is.
         steps_are (type_of_field h.tree t f) rest wr (subst (IsKnown h.scope) same next)
@@ -254,7 +251,7 @@ module _ (task : TaskTree) (args : List Value) (roots : ℕ) (m : Interpretation
         let more = option_or_parts (first_of_step h.tree task h.scope (element_of t (known_type h.tree h.scope y))) _ parts.1 in
         let here = option_or_parts (first_of_taking h.tree (element_of t (known_type h.tree h.scope y))) _ more.0 in
         let next = element_known h.tree h.scope t (known_type h.tree h.scope y) y k key.0.known here.0 in
-        let same = unless_known _ (type_of_element h.scope t y) next.known in
+        let same = unflawed _ (type_of_element h.scope t y) next.known in
         let number = subst (λ k. numeric k ≡ true) key.1 (element_number t (known_type h.tree h.scope y) key.0.known here.0) in
         let result = IsOfType m (stepped_type h.tree h.scope t (at_step y rest)) in
         after result (value h y u) (λ w. standing h w >>= λ z. take_element h (number_of z) v >>= λ a. stepped h (type_of_element h.scope t y) a rest)

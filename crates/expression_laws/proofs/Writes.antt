@@ -43,7 +43,8 @@ use Rattle.expression_laws.specs.Writing.{AreStepped, IsWritten}
 use Rattle.expression_laws.proofs.Covers.{may_covers}
 use Rattle.expression_laws.proofs.Operators.{after, converted_passes, weaker}
 use Rattle.expression_laws.proofs.Steps.{one_covered, taking_parts, use_covered, wanted_granted}
-use Rattle.expression_laws.proofs.Values.{steps_are, unless_known}
+use Rattle.check_laws.proofs.Forms.{unflawed}
+use Rattle.expression_laws.proofs.Values.{steps_are}
 use Rattle.expression_laws.proofs.Knowing.{known_as_meant}
 use Rattle.std.specs.Option.{option_or}
 
@@ -150,7 +151,7 @@ module _ (task : TaskTree) (args : List Value) (roots : ℕ) (m : Interpretation
   field_goes t f rest k e =
       let here = option_or_parts (first_of_taking h.tree (field_of t f)) _ e in
       let next = field_known h.tree h.scope t f sound k here.0 in
-      let same = unless_known _ (type_of_field h.tree t f) next.known in
+      let same = unflawed _ (type_of_field h.tree t f) next.known in
       (subst (IsKnown h.scope) same next, same)
 
   element_goes : (t : StaticType) (y : Expression) → IsKnown h.scope t → first_in_expression h.tree task h.scope y ≡ None →
@@ -161,7 +162,7 @@ module _ (task : TaskTree) (args : List Value) (roots : ℕ) (m : Interpretation
       let here = option_or_parts (first_of_taking h.tree (element_of t (known_type h.tree h.scope y))) _ e in
       let key = known_as_meant h.tree task h.scope y sound scope told in
       let next = element_known h.tree h.scope t (known_type h.tree h.scope y) y k key.0.known here.0 in
-      let same = unless_known _ (type_of_element h.scope t y) next.known in
+      let same = unflawed _ (type_of_element h.scope t y) next.known in
       (subst (IsKnown h.scope) same next, same)
 
   field_more : (a : Access) (t : StaticType) (f : Name) (before : Steps) (last : Name) → IsKnown h.scope t →

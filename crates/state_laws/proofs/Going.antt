@@ -11,7 +11,8 @@ use Rattle.regent_tree.specs.declared.typing.Bound.{Bound}
 use Rattle.regent_tree.specs.declared.typing.StaticType.{StaticType}
 use Rattle.statement_laws.specs.Steady.{ArePlaced}
 use Rattle.state_laws.specs.Going.{GoesOnFit, StateStays, StoreStays}
-use Rattle.state_laws.proofs.Growing.{StaysBound, extends_none, extends_then, names_left}
+use Rattle.regent_tree.proofs.Laws.{extends_twice}
+use Rattle.state_laws.proofs.Growing.{StaysBound, extends_none, names_left}
 use Rattle.state_laws.proofs.Rooted.{roots_left}
 use Rattle.value_laws.specs.Keeping.{KeepsFit, StateFits}
 use Rattle.value_laws.specs.Shapes.{AreRootsOfSpaces, StoreFits}
@@ -41,13 +42,13 @@ module _ (tree : Tree) (roots : List Shape) (rooted : AreRootsOfSpaces tree root
 pub fits_further : (tree : Tree) (roots after : List Shape) (names : List Bound) (t : StaticType) (r : Result Going) → Extends roots after →
     GoesOnFit tree after names t r → GoesOnFit tree roots names t r
 fits_further tree roots after names t (gives goes_on u) more s =
-    record { after = s.after; extends = extends_then roots after s.after more s.extends; rooted = s.rooted; state_fits = s.state_fits }
+    record { after = s.after; extends = extends_twice roots after s.after more s.extends; rooted = s.rooted; state_fits = s.state_fits }
 fits_further tree roots after names t (gives (returned v) u) more s = (
-  record { after = s.0.after; extends = extends_then roots after s.0.after more s.0.extends; rooted = s.0.rooted; store_fits = s.0.store_fits },
+  record { after = s.0.after; extends = extends_twice roots after s.0.after more s.0.extends; rooted = s.0.rooted; store_fits = s.0.store_fits },
   s.1,
 )
 fits_further tree roots after names t (fails f u) more s =
-    record { after = s.after; extends = extends_then roots after s.after more s.extends; rooted = s.rooted; store_fits = s.store_fits }
+    record { after = s.after; extends = extends_twice roots after s.after more s.extends; rooted = s.rooted; store_fits = s.store_fits }
 
 -- one statement and then the next
 pub in_order : (tree : Tree) (roots : List Shape) (names others : List Bound) (t : StaticType) (r : Result Going) (more : Run Going) → GoesOnFit tree roots names t r →

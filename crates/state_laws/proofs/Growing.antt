@@ -1,7 +1,8 @@
 -- What fits, fits still where more roots are there and more names are bound.
+use Rattle.check_laws.proofs.Scopes.{differ_below}
 use Rattle.std.proofs.Common.{List, [], ◌∷◌, ◌++◌, Bool, None, Some, false, true, refl, ap, sym, subst, ℕ, zero, suc, ◌≡◌, ◌∙◌, ◌<◌, ◌≤◌, ◌==◌, ◌⊎◌, inl, inr, get_or, cond, arith}
 use Rattle.std.proofs.lemmas.Bool.{eqb-true}
-use Rattle.std.proofs.lemmas.List.{append_assoc, get_or_append_left, get_or_push, length-append}
+use Rattle.std.proofs.lemmas.List.{get_or_append_left, get_or_push, length-append}
 use Rattle.std.specs.List.{All}
 use Rattle.std.specs.Prelude.{length, take}
 use Rattle.plain_values.specs.Points.{IsPoints}
@@ -29,9 +30,6 @@ use Rattle.value_laws.specs.Spaces.{AreSpaced, HasParent, HasSpaceOfName, IsRegi
 pub extends_none : {A : Type 0} (xs : List A) → Extends xs xs
 extends_none [] = ([], refl)
 extends_none (x ∷ xs) = let rest = extends_none xs in (rest.0, ap (λ ys. x ∷ ys) rest.1)
-
-pub extends_then : {A : Type 0} (xs ys zs : List A) → Extends xs ys → Extends ys zs → Extends xs zs
-extends_then xs ys zs a b = (a.0 ++ b.0, b.1 ∙ ap (λ l. l ++ b.0) a.1 ∙ append_assoc xs a.0 b.0)
 
 module _ (roots after : List Shape) (more : Extends roots after) where
   pub same_root : (i : ℕ) → i < length roots → get_or after i no_shape ≡ get_or roots i no_shape
@@ -95,14 +93,11 @@ stays_then a b c f g i = by (f i) (g i)
     by (inr e) (inl k) = inl (sym e ∙ k)
     by (inr e) (inr k) = inr (k ∙ e)
 
-other_number : (a b : ℕ) → a < b → (a == b) ≡ false
-other_number a b l = search (arith)
-
 unbound_above : (next : ℕ) (names : List Bound) → Falls next names → (i : ℕ) → next ≤ i → bound_as names i ≡ unbound
 unbound_above next [] f i l = refl
 unbound_above next (b ∷ names) f i l =
     let low = f.0 in
-    ap (λ c. cond c b (bound_as names i)) (other_number b.number i (omega (arith, low, l))) ∙ unbound_above b.number names f.1 i (omega (arith, low, l))
+    ap (λ c. cond c b (bound_as names i)) (differ_below b.number i (omega (arith, low, l))) ∙ unbound_above b.number names f.1 i (omega (arith, low, l))
 
 -- a new name has a number that none had
 pub stays_bound : (next : ℕ) (names : List Bound) (b : Bound) → Falls next names → b.number ≡ next → StaysBound names (b ∷ names)

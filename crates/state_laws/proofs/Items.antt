@@ -1,12 +1,11 @@
 -- What loops take: pointers into a region, indices of a space, and numbers between bounds.
-use Rattle.std.proofs.Common.{List, [], ◌∷◌, Some, false, true, refl, ℕ, ℤ, zero, suc, pos, ◌≡◌, ◌<◌, ◌≤◌, ◌+◌, ◌||◌, inr, get_or, map, arith}
-use Rattle.std.proofs.lemmas.Int.{ints}
+use Rattle.check_laws.proofs.Widths.{wider_left, wider_right}
+use Rattle.std.proofs.Common.{List, [], ◌∷◌, Some, false, true, refl, ℕ, zero, suc, pos, ◌≡◌, ◌<◌, ◌≤◌, ◌+◌, ◌||◌, inr, get_or, map, arith}
 use Rattle.std.proofs.lemmas.List.Elements.{All-cons, All-get_or, All-map, All-nil}
 use Rattle.std.specs.List.{All}
 use Rattle.plain_values.specs.Points.{counted_from, points}
 use Rattle.lane_kernels.specs.Numbers.{FitsWidth}
 use Rattle.lane_kernels.specs.declared.numbers.Width.{Width}
-use Rattle.lane_kernels.specs.declared.numbers.Width.TheVariants.{W32, W64}
 use Rattle.regent_tree.specs.Execution.{items_of}
 use Rattle.regent_tree.specs.Laws.{Shape}
 use Rattle.regent_tree.specs.Numbers.{wider}
@@ -80,18 +79,8 @@ taken_plain unknown_type = refl
 
 -- ---- bounds of counted loops
 
-widens_left : (a b : Width) (z : ℤ) → FitsWidth a z → FitsWidth (wider a b) z
-widens_left W32 W32 z p = p
-widens_left W32 W64 z p = omega (arith, ints, p)
-widens_left W64 b z p = p
-
-widens_right : (a b : Width) (z : ℤ) → FitsWidth b z → FitsWidth (wider a b) z
-widens_right W32 b z p = p
-widens_right W64 W32 z p = omega (arith, ints, p)
-widens_right W64 W64 z p = p
-
 pub lower_fits : (roots : List Shape) (names : List Bound) (a b : Width) (v : Value) → Fits roots names (integer_type a) v → FitsWidth (wider a b) (number_of v)
-lower_fits roots names a b v (fits_integer {z = z} f) = widens_left a b z f
+lower_fits roots names a b v (fits_integer {z = z} f) = wider_left a b z f
 
 pub upper_fits : (roots : List Shape) (names : List Bound) (a b : Width) (v : Value) → Fits roots names (integer_type b) v → FitsWidth (wider a b) (number_of v)
-upper_fits roots names a b v (fits_integer {z = z} f) = widens_right a b z f
+upper_fits roots names a b v (fits_integer {z = z} f) = wider_right a b z f

@@ -3,7 +3,6 @@ use Rattle.std.proofs.Common.{List, [], ◌∷◌, None, Option, Some, false, tr
 use Rattle.std.proofs.lemmas.Bool.{not-false, or_parts}
 use Rattle.std.proofs.lemmas.List.Elements.{All-nil}
 use Rattle.std.specs.List.{All}
-use Rattle.std.specs.Option.{option_or}
 use Rattle.std.specs.Prelude.{is_none, is_some, ℕ, ◌++◌}
 use Rattle.plain_values.proofs.Plain.{option_or_parts}
 use Rattle.regent_tree.specs.Accesses.{converted, space_in}
@@ -13,9 +12,8 @@ use Rattle.regent_tree.specs.Laws.{Shape}
 use Rattle.regent_tree.specs.Limits.{KeepsLimit, parts_of_expression, parts_of_expressions}
 use Rattle.regent_tree.specs.Printing.{printed}
 use Rattle.regent_tree.specs.Running.{Here, State, fault, given, if_true, ◌>>=◌}
-use Rattle.regent_tree.specs.Scopes.{Scope}
 use Rattle.regent_tree.specs.StaticTypes.{task_named}
-use Rattle.regent_tree.specs.Syntax.{Expression, Expressions, Form, Name, TaskTree, Tree, an_expr, assert_form, call_form, no_expr, print_form, return_form}
+use Rattle.regent_tree.specs.Syntax.{Expression, Expressions, Name, TaskTree, Tree, an_expr, assert_form, call_form, no_expr, print_form, return_form}
 use Rattle.regent_tree.specs.Typing.{params_at, result_type}
 use Rattle.regent_tree.specs.Values.{Value, a_truth, number_of, truth_of}
 use Rattle.regent_tree.specs.declared.outcome.FaultKind.TheVariants.{AssertFailed}
@@ -23,30 +21,18 @@ use Rattle.regent_tree.specs.declared.types.NumberTerm.TheVariants as number
 use Rattle.regent_tree.specs.declared.types.TypeTerm.{TypeTerm}
 use Rattle.regent_tree.specs.declared.types.TypeTerm.TheVariants as typed_as
 use Rattle.regent_tree.specs.declared.typing.StaticType.TheVariants.{Unknown as unknown_type}
-use Rattle.check_rules.specs.Breaches.{has_no_type, wrong_initializer_at}
-use Rattle.check_rules.specs.rules.Formats.{misprints_form}
-use Rattle.check_rules.specs.rules.Names.{unbound_name_in_form}
-use Rattle.check_rules.specs.rules.Privileges.{lacks, reductions_by, writes_by}
-use Rattle.check_rules.specs.rules.Targets.{mistargets_form}
-use Rattle.check_rules.specs.scopes.Visits.{call_of_form, declared_at, heads_of, initializer_at}
-use Rattle.check_rules.proofs.Untold.{rule_none}
-use Rattle.check_rules.specs.first.FirstInExpressions.{first_in_args, first_in_expression, first_in_type, first_of_call, first_of_standing}
-use Rattle.check_rules.specs.first.FirstInStatements.{first_in_targets, first_of_form, first_of_initializer}
-use Rattle.check_rules.specs.first.Rules.{first_in, rule_if}
-use Rattle.check_rules.specs.rules.Results.{misreturns}
+use Rattle.check_rules.specs.first.FirstInExpressions.{first_in_args, first_in_expression, first_of_call}
 use Rattle.check_rules.specs.rules.Standing.{stands, typed_spot}
-use Rattle.check_rules.specs.rules.Statements.{known_result, standing_in_form}
+use Rattle.check_rules.specs.rules.Statements.{known_result}
 use Rattle.check_rules.specs.rules.Types.{is_ill_typed_at_place}
-use Rattle.check_rules.specs.types.Parts.{listed}
 use Rattle.check_rules.specs.types.Declarations.{is_no_result_type}
 use Rattle.check_rules.specs.types.Fitting.{fits, fits_known}
 use Rattle.check_rules.specs.types.KnownTypes.{known_type, known_types}
 use Rattle.check_rules.specs.types.TypedForms.{calling}
-use Rattle.check_rules.specs.declared.rule.Rule.TheVariants as rule
 use Rattle.check_laws.proofs.Parts.{contrary}
 use Rattle.check_laws.proofs.Variables.{parts_of_form}
 use Rattle.expression_laws.specs.Writing.{AreWritten, IsWritten}
-use Rattle.statement_laws.proofs.Leaves.{form_parts}
+use Rattle.statement_laws.proofs.Leaves.{args_told, form_parts}
 use Rattle.state_laws.specs.Going.{IsPlaceOfRun}
 use Rattle.state_laws.specs.Laws.{FormFits}
 use Rattle.state_laws.proofs.Going.{either_fits, state_here, store_here, then_fits}
@@ -57,13 +43,6 @@ use Rattle.value_laws.proofs.Ends.{after}
 use Rattle.value_laws.proofs.Limits.{all_left, all_right}
 use Rattle.value_laws.proofs.Types.{known, known_meant}
 use Rattle.value_laws.proofs.Values.{call_is, called_fits, value_is}
-
--- arguments of which nothing is told, in a list or not
-args_told : (tree : Tree) (task : TaskTree) (s : Scope) (es : Expressions) → first_in (first_in_expression tree task s) (listed es) ≡ None → first_in_args tree task s es ≡ None
-args_told tree task s no_expr e = refl
-args_told tree task s (an_expr y es) e =
-    let parts = option_or_parts (first_in_expression tree task s y) _ e in
-    λ j. option_or (parts.0 j) (args_told tree task s es parts.1 j)
 
 -- what fits a result type needs no roots and no names
 pub result_anywhere : (tree : Tree) (r : Option TypeTerm) (roots : List Shape) (names : _) (v : Value) → is_no_result_type r ≡ false →
@@ -90,23 +69,6 @@ result_fits tree (Some (typed_as.Pointer p)) from known e some f = absurd (contr
 result_fits tree (Some (typed_as.Ispace k)) from known e some f = absurd (contrary e)
 result_fits tree (Some (typed_as.Region k u)) from known e some f = absurd (contrary e)
 result_fits tree (Some (typed_as.Partition d r c)) from known e some f = absurd (contrary e)
-
-return_told : (tree : Tree) (task : TaskTree) (s : Scope) (form : Form) → first_of_form tree task s form ≡ None → misreturns task form ≡ false
-return_told tree task s form e =
-    let a = option_or_parts (first_in (first_in_type tree s.names) (declared_at form)) _ e in
-    let b = option_or_parts (rule_if (has_no_type form) rule.Type) _ a.1 in
-    let c = option_or_parts (first_in (first_in_expression tree task s) (heads_of s.names form)) _ b.1 in
-    let d = option_or_parts (first_in_targets tree task s form) _ c.1 in
-    let f = option_or_parts (rule_if (unbound_name_in_form tree s.names form) rule.Name) _ d.1 in
-    let g = option_or_parts (first_in (first_of_initializer tree task s) (initializer_at form)) _ f.1 in
-    let h = option_or_parts (first_in (first_of_call tree task s) (call_of_form tree s form)) _ g.1 in
-    let i = option_or_parts (first_in (first_of_standing s.known) (standing_in_form tree task s form)) _ h.1 in
-    let k = option_or_parts (rule_if (wrong_initializer_at tree s form) rule.Place) _ i.1 in
-    let l = option_or_parts (rule_if (mistargets_form tree task s form) rule.Target) _ k.1 in
-    let p = option_or_parts (rule_if (misprints_form tree s form) rule.Format) _ l.1 in
-    let w = option_or_parts (rule_if (lacks tree task s (writes_by tree s form)) rule.Write) _ p.1 in
-    let r = option_or_parts (rule_if (lacks tree task s (reductions_by tree s form)) rule.Reduce) _ w.1 in
-    rule_none (misreturns task form) rule.Return (option_or_parts (rule_if (misreturns task form) rule.Return) _ r.1).0
 
 module _ (task : TaskTree) where
   -- ---- expressions in statements
@@ -157,7 +119,7 @@ module _ (task : TaskTree) where
   pub return_fits : (y : Option Expression) → FormFits task (return_form y)
   return_fits None roots h r e w wr limits u st = (
     store_here h.tree roots r.place.rooted u.store st.store,
-    subst (λ t. Fits [] [] t (a_truth false)) (sym r.result) (none task.result (return_told h.tree task h.scope (return_form None) e)),
+    subst (λ t. Fits [] [] t (a_truth false)) (sym r.result) (none task.result (form_parts h.tree task h.scope (return_form None) e).returns),
   )
     where
       none : (q : Option TypeTerm) → is_some q ≡ false → Fits [] [] (result_type h.tree q) (a_truth false)
@@ -169,7 +131,7 @@ module _ (task : TaskTree) where
       let k = known task roots h r.place y told in
       let stood = (or_parts (is_ill_typed_at_place h.scope.known (stands (known_type h.tree h.scope y) (typed_spot (known_result h.tree task.result)))) false
       (parts_of_form h.tree task h.scope r.place.sound r.place.scope (return_form (Some y)) e).4).0 in
-      let fit = result_fits h.tree task.result (known_type h.tree h.scope y) h.scope.known r.sound_result (some_there task.result (return_told h.tree task h.scope (return_form (Some y)) e)) (not-false _ stood) in
+      let fit = result_fits h.tree task.result (known_type h.tree h.scope y) h.scope.known r.sound_result (some_there task.result parts.returns) (not-false _ stood) in
       then_fits h.tree roots r.place.rooted h.scope.names h.scope.names h.result (value h y u) (λ v. converted h (typed h y) h.result [] v >>= λ a. given (returned a))
       (evaluates roots h r y wr limits told u st) (λ v w st is.
       then_fits h.tree roots r.place.rooted h.scope.names h.scope.names h.result (converted h (typed h y) h.result [] v w) (λ a. given (returned a))

@@ -20,7 +20,8 @@ use Rattle.statement_laws.specs.Steady.{ArePlaced}
 use Rattle.state_laws.specs.Going.{GoesOnFit}
 use Rattle.state_laws.proofs.Counts.{AreUpTo, next_up_to}
 use Rattle.state_laws.proofs.Going.{either_fits, in_order, leaves_fit, state_here, store_here, then_fits}
-use Rattle.state_laws.proofs.Growing.{extends_then, fits_more, names_new}
+use Rattle.regent_tree.proofs.Laws.{extends_twice}
+use Rattle.state_laws.proofs.Growing.{fits_more, names_new}
 use Rattle.state_laws.proofs.Scopes.{HasMoreNames, more_then, one_more}
 use Rattle.state_laws.proofs.Rooted.{no_parent, plain_own, plain_parent, roots_new}
 use Rattle.check_rules.specs.types.Sorts.{is_collection}
@@ -50,7 +51,7 @@ module _ (tree : Tree) (h : Here) (result : StaticType) where
       either_fits tree roots rooted names result (truth_of v) (pay h >>= λ _. body >>= λ g. going_on again g) (given goes_on) w
       (paid roots names names (body >>= λ g. going_on again g) w rooted st (λ u st.
       in_order tree roots names names result (body u) again (bodies roots u more rooted st) (λ after u further rooted st.
-      turning_fits first names Is test body tests bodies k after u (extends_then first roots after more further) rooted st)) w.turns)
+      turning_fits first names Is test body tests bodies k after u (extends_twice first roots after more further) rooted st)) w.turns)
       (state_here tree roots rooted names w st))
 
   -- ---- loops that bind a name
@@ -86,7 +87,7 @@ module _ (tree : Tree) (h : Here) (result : StaticType) where
     rounds_fit (v ∷ vs) roots u more rooted st are =
         in_order tree roots s.names s.names result (round h v body u) (rounds h vs body)
         (round_fits roots v u more rooted st (fits_more first roots more (bound ∷ s.names) ty v (All-head (Fits first (bound ∷ s.names) ty) v vs are))) (λ after w further rooted st.
-        rounds_fit vs after w (extends_then first roots after more further) rooted st (All-tail (Fits first (bound ∷ s.names) ty) v vs are))
+        rounds_fit vs after w (extends_twice first roots after more further) rooted st (All-tail (Fits first (bound ∷ s.names) ty) v vs are))
 
     pub counting_fits : (w : Width) (b : ℤ) → FitsWidth w b → ((roots : List Shape) (z : ℤ) → FitsWidth w z → Fits roots (bound ∷ s.names) ty (a_number w z)) →
         (k : ℕ) (i : ℤ) (roots : List Shape) (u : State) → FitsWidth w i → AreUpTo i k b → Extends first roots → AreRootsOfSpaces tree roots → StateFits tree roots s.names u →
@@ -96,4 +97,4 @@ module _ (tree : Tree) (h : Here) (result : StaticType) where
         let next = next_up_to w i b k fit last up in
         in_order tree roots s.names s.names result (round h (a_number w i) body u) (counting h k w (i +ℤ pos 1) body)
         (round_fits roots (a_number w i) u more rooted st (numbers roots i fit)) (λ after v further rooted st.
-        counting_fits w b last numbers k (i +ℤ pos 1) after v next.0 next.1 (extends_then first roots after more further) rooted st)
+        counting_fits w b last numbers k (i +ℤ pos 1) after v next.0 next.1 (extends_twice first roots after more further) rooted st)

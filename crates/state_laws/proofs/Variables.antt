@@ -1,4 +1,5 @@
 -- Variables: what they begin with fits their types.
+use Rattle.statement_laws.proofs.TypedVariables.{unless_both}
 use Rattle.std.proofs.Common.{List, [], ◌∷◌, Bool, None, Option, Some, false, true, refl, ap, sym, subst, ℕ, ◌≡◌, ◌∙◌, ◌≤◌, ◌&&◌, map, cond, arith}
 use Rattle.std.proofs.lemmas.Bool.{and_parts, eqb-true, not-false, or_parts}
 use Rattle.std.proofs.lemmas.Int.{ints}
@@ -108,10 +109,6 @@ owned_fits_known known own (pointer_type k space args terms) wanted e = e
 owned_fits_known known own (ispace_type k) wanted e = e
 owned_fits_known known own no_type wanted e = e
 owned_fits_known known own unknown_type wanted e = e
-
-unless_both : (b c : Bool) (t : StaticType) → c ≡ false → cond (b && c) unknown_type t ≡ t
-unless_both true c t e = λ j. cond (e j) unknown_type t
-unless_both false c t e = refl
 
 module _ (task : TaskTree) where
   -- a value is bound to a new name

@@ -43,7 +43,7 @@ use Rattle.check_rules.specs.types.Sorts.{is_integer, is_space, is_unknown_type}
 use Rattle.check_rules.specs.types.TypedForms.{element_of, field_of}
 use Rattle.check_laws.proofs.Parts.{contrary, element_known, field_known}
 use Rattle.check_laws.specs.SoundScopes.{IsKnown}
-use Rattle.expression_laws.proofs.Values.{unless_known}
+use Rattle.check_laws.proofs.Forms.{unflawed}
 use Rattle.expression_laws.specs.Writing.{AreStepped, IsWritten}
 use Rattle.state_laws.specs.Going.{GoesOnFit, IsPlaceOfRun}
 use Rattle.state_laws.proofs.Going.{state_here, store_here, then_fits}
@@ -155,7 +155,7 @@ module _ (task : TaskTree) (roots : List Shape) (h : Here) (r : IsPlaceOfRun tas
   field_goes t f k e =
       let here = option_or_parts (first_of_taking h.tree (field_of t f)) _ e in
       let next = field_known h.tree h.scope t f r.place.sound k here.0 in
-      let same = unless_known _ (type_of_field h.tree t f) next.known in
+      let same = unflawed _ (type_of_field h.tree t f) next.known in
       (subst (IsKnown h.scope) same next, same)
 
   element_goes : (t : StaticType) (y : Expression) → IsKnown h.scope t → first_in_expression h.tree task h.scope y ≡ None →
@@ -165,7 +165,7 @@ module _ (task : TaskTree) (roots : List Shape) (h : Here) (r : IsPlaceOfRun tas
   element_goes t y k told e =
       let here = option_or_parts (first_of_taking h.tree (element_of t (known_type h.tree h.scope y))) _ e in
       let next = element_known h.tree h.scope t (known_type h.tree h.scope y) y k (known task roots h r.place y told).0.known here.0 in
-      let same = unless_known _ (type_of_element h.scope t y) next.known in
+      let same = unflawed _ (type_of_element h.scope t y) next.known in
       (subst (IsKnown h.scope) same next, same)
 
   field_more : (t : StaticType) (f : Name) (rest before : Steps) (last : Name) → IsKnown h.scope t →

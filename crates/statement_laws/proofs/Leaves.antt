@@ -127,7 +127,7 @@ form_parts tree task s form e =
     }
 
 -- arguments of which nothing is told, in a list or not
-args_told : (tree : Tree) (task : TaskTree) (s : Scope) (es : Expressions) → first_in (first_in_expression tree task s) (listed es) ≡ None → first_in_args tree task s es ≡ None
+pub args_told : (tree : Tree) (task : TaskTree) (s : Scope) (es : Expressions) → first_in (first_in_expression tree task s) (listed es) ≡ None → first_in_args tree task s es ≡ None
 args_told tree task s no_expr e = refl
 args_told tree task s (an_expr y es) e =
     let parts = option_or_parts (first_in_expression tree task s y) _ e in

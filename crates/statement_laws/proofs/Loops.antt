@@ -36,7 +36,7 @@ use Rattle.regent_tree.proofs.Members.{Has, Has-map_cases}
 use Rattle.check_rules.specs.types.Sorts.{is_region, is_space}
 use Rattle.expression_laws.specs.Kinds.{IsWellScoped, is_index, is_pointer, is_region_of, is_space as is_space_of}
 use Rattle.statement_laws.proofs.Agree.{fact_up}
-use Rattle.statement_laws.proofs.Scopes.{differ}
+use Rattle.check_laws.proofs.Scopes.{differ}
 use Rattle.statement_laws.proofs.States.{bound_fits, put, put_agrees, plain_children, plain_region, put_in_store}
 use Rattle.statement_laws.proofs.Scopes.{IsMore}
 use Rattle.statement_laws.proofs.States.{is_of_too, skipped}

@@ -1,6 +1,7 @@
 -- Scopes behind statements of which nothing is told: what more is known there is of new bindings.
+use Rattle.check_laws.proofs.Scopes.{differ}
 use Rattle.plain_values.proofs.Plain.{option_or_parts}
-use Rattle.std.proofs.Common.{arith, Bool, ◌++◌, None, false, true, refl, ap, sym, subst, ℕ, suc, ◌≡◌, ◌∙◌, ◌<◌, ◌≤◌, ◌==◌, ◌||◌, ◌⊎◌, inl, inr, cond, length}
+use Rattle.std.proofs.Common.{arith, Bool, ◌++◌, None, false, true, refl, ap, sym, subst, ℕ, suc, ◌≡◌, ◌∙◌, ◌<◌, ◌≤◌, ◌||◌, ◌⊎◌, inl, inr, cond, length}
 use Rattle.std.proofs.lemmas.Bool.{or_parts, not-false}
 use Rattle.regent_tree.specs.Scopes.{Scope, bound_as, past, with_name}
 use Rattle.regent_tree.specs.Syntax.{Arms, Block, Expression, Form, Name, Otherwise, TaskTree, Tree, a_statement, an_arm, assert_form, assign_form, call_form, do_form, else_block, fill_form, for_in_form, for_to_form, if_form, no_arm, no_else, no_statement, print_form, return_form, then_statement, var_form, while_form}
@@ -67,9 +68,6 @@ pub record IsMore (s t : Scope) : Type 0 where
   pub extends : (i : ℕ) → i < s.next → bound_as t.names i ≡ bound_as s.names i
   pub longer : length s.names ≤ length t.names
   pub placed : ArePlaced s.names → ArePlaced t.names
-
-pub differ : (a b : ℕ) → b < a → (a == b) ≡ false
-differ a b lt = search (arith)
 
 -- two integers give an integer
 pub whole_sum : (t u : StaticType) → is_integer t ≡ true → is_integer u ≡ true → (w : Width) × (arithmetic_type t u ≡ integer_type w)

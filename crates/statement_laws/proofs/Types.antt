@@ -36,7 +36,7 @@ use Rattle.check_rules.specs.declared.rule.Rule.TheVariants as rule
 use Rattle.check_laws.specs.SoundScopes.{Falls, IsKnown, IsSoundScope}
 use Rattle.expression_laws.proofs.Knowing.{known_as_meant}
 use Rattle.check_laws.proofs.Parts.{contrary, element_known, field_known}
-use Rattle.check_laws.proofs.Scopes.{found_by_number}
+use Rattle.check_laws.proofs.Scopes.{differ, found_by_number}
 use Rattle.expression_laws.specs.Kinds.{ArgumentsInScope, AreArguments, ColourBelow, IsArgument, IsNamedByOwnNumber, IsWellScopedBinding, IsWellScoped, TermBelow, TermsBelow, TypeBelow}
 use Rattle.statement_laws.specs.Steady.{IsTypeInScope}
 use Rattle.statement_laws.proofs.Agree.{type_up}
@@ -49,7 +49,7 @@ use Rattle.check_rules.specs.first.Rules.{first_in}
 use Rattle.check_rules.specs.types.TypedForms.{computing}
 use Rattle.check_rules.specs.scopes.Variables.{members_of}
 use Rattle.expression_laws.proofs.Names.{field_args, pointer_args, said_named}
-use Rattle.expression_laws.proofs.Values.{unless_known}
+use Rattle.check_laws.proofs.Forms.{unflawed}
 
 -- ---- numbers of regions in scope
 
@@ -95,9 +95,6 @@ said_past s t same less well_scoped i = record {
   where
     ap_args : ArgumentsInScope s (bound_as s.names i).static_type → ArgumentsInScope s (bound_as t.names i).static_type
     ap_args h = subst (λ names. ArgumentsInScope s (bound_as names i).static_type) (sym same) h
-
-differ : (a b : ℕ) → b < a → (a == b) ≡ false
-differ a b lt = search (arith)
 
 -- one more name
 pub said_more : (s : Scope) (n : Name) (t : StaticType) (by_loop : Bool) → IsSoundScope s → IsWellScoped s → ArgumentsInScope s t → IsNamedByOwnNumber s.next t →
@@ -289,7 +286,7 @@ module _ (tree : Tree) (task : TaskTree) (s : Scope) (sound : IsSound tree) (sco
       let parts = option_or_parts (first_of_step tree task s (field_of t f)) _ e in
       let here = option_or_parts (first_of_taking tree (field_of t f)) _ parts.0 in
       let next = field_known tree s t f sound k here.0 in
-      let same = unless_known _ (type_of_field tree t f) next.known in
+      let same = unflawed _ (type_of_field tree t f) next.known in
       steps_in (type_of_field tree t f) rest (subst (IsKnown s) same next) (subst (λ q. first_in_steps tree task s q rest ≡ None) same parts.1) (field_in t f here.0 h)
   steps_in t (at_step y rest) k e h =
       let parts = option_or_parts (first_in_expression tree task s y) _ e in
@@ -297,7 +294,7 @@ module _ (tree : Tree) (task : TaskTree) (s : Scope) (sound : IsSound tree) (sco
       let here = option_or_parts (first_of_taking tree (element_of t (known_type tree s y))) _ more.0 in
       let key = known_as_meant tree task s y sound scope parts.0 in
       let next = element_known tree s t (known_type tree s y) y k key.0.known here.0 in
-      let same = unless_known _ (type_of_element s t y) next.known in
+      let same = unflawed _ (type_of_element s t y) next.known in
       steps_in (type_of_element s t y) rest (subst (IsKnown s) same next) (subst (λ q. first_in_steps tree task s q rest ≡ None) same more.1) (element_in t y parts.0 h)
 
   -- the types of what stands in the links of a chain

@@ -1,11 +1,10 @@
 -- Numbers that fit their widths, and kept pointers.
-use Rattle.std.proofs.Common.{Option, None, Some, Bool, true, false, ℕ, ℤ, pos, refl, sym, subst, ◌≡◌, ◌<◌, ◌≤◌, ◌^◌, arith}
+use Rattle.std.proofs.Common.{Option, None, Some, Bool, true, false, ℕ, ℤ, pos, refl, ◌≡◌, ◌<◌, ◌≤◌, ◌^◌, arith}
 use Rattle.std.proofs.lemmas.Int.{SFits-int_wrap, ints}
 use Rattle.std.proofs.lemmas.Nat.{div-mul-add, mod-mul-add}
 use Rattle.lane_kernels.specs.Numbers.{FitsWidth, std_width, wrapped}
 use Rattle.lane_kernels.specs.declared.numbers.Width.{Width}
 use Rattle.lane_kernels.specs.declared.numbers.Width.TheVariants.{W32, W64}
-use Rattle.regent_tree.specs.Limits.{KeepsLimit, greatest_literal, literal}
 use Rattle.regent_tree.specs.Numbers.{computed, unless_zero}
 use Rattle.regent_tree.specs.Values.{Target, kept_target, null_target, point_target, target_kept}
 use Rattle.regent_tree.specs.declared.expression.Arithmetic.{Arithmetic}
@@ -18,16 +17,6 @@ fits_most W64 z p = p
 
 pub wraps_fit : (w : Width) (z : ℤ) → FitsWidth w (wrapped w z)
 wraps_fit w z = SFits-int_wrap (std_width w) z
-
-pub literal_in_width : (z : ℤ) (w : Width) → KeepsLimit (literal z w) → FitsWidth w z
-literal_in_width z W32 k = subst (FitsWidth W32) (sym k.1) (small k.0 k.2)
-  where
-    small : (n : ℕ) → n ≤ greatest_literal W32 → FitsWidth W32 (pos n)
-    small n l = omega (arith, ints, l)
-literal_in_width z W64 k = subst (FitsWidth W64) (sym k.1) (small k.0 k.2)
-  where
-    small : (n : ℕ) → n ≤ greatest_literal W64 → FitsWidth W64 (pos n)
-    small n l = omega (arith, ints, l)
 
 -- a number that there is fits
 abbrev pub IfFits : Width → Option ℤ → Type 0

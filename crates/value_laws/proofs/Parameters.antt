@@ -1,4 +1,5 @@
 -- The types of a task's parameters, by the numbers of their bindings.
+use Rattle.check_laws.proofs.Scopes.{differ}
 use Rattle.std.proofs.Common.{List, [], ◌∷◌, ◌++◌, false, true, refl, ap, sym, ℕ, zero, suc, ◌≡◌, ◌∙◌, ◌<◌, ◌+◌, ◌==◌, ◌⊎◌, Bool, inl, inr, map, cond, arith}
 use Rattle.std.proofs.lemmas.Bool.{eq-eqb, eqb-true}
 use Rattle.std.proofs.lemmas.List.{append_assoc, reverse-append}
@@ -14,9 +15,6 @@ use Rattle.check_rules.specs.types.Sorts.{type_at}
 abbrev bound : Tree → List Param → ℕ → Param → Bound
 bound tree all i p = record { name = p.name; number = i; place = i; static_type = type_said tree (among_params all) i p.term; by_loop = false }
 
-other_number : (a b : ℕ) → b < a → (a == b) ≡ false
-other_number a b l = search (arith)
-
 same_number : (a : ℕ) → (a == a) ≡ true
 same_number a = eq-eqb a a refl
 
@@ -27,7 +25,7 @@ skips_params tree all i [] more r l = refl
 skips_params tree all i (p ∷ ps) more r l =
     ap (λ bs. bound_as bs r) (append_assoc (bound_params tree all (suc i) ps) (bound tree all i p ∷ []) more)
     ∙ skips_params tree all (suc i) ps (bound tree all i p ∷ more) r (omega (arith, l))
-    ∙ ap (λ b. cond b (bound tree all i p) (bound_as more r)) (other_number i r l)
+    ∙ ap (λ b. cond b (bound tree all i p) (bound_as more r)) (differ i r l)
 
 last_is_other : (bs : List Bound) (b : Bound) (r : ℕ) → (b.number == r) ≡ false → bound_as (bs ++ b ∷ []) r ≡ bound_as bs r
 last_is_other [] b r e = ap (λ c. cond c b unbound) e

@@ -36,7 +36,7 @@ use Rattle.check_laws.proofs.Scopes.{found_by_number}
 use Rattle.check_laws.specs.SoundScopes.{IsKnown}
 use Rattle.expression_laws.proofs.Knowing.{known_as_meant}
 use Rattle.expression_laws.proofs.Operators.{signs_value}
-use Rattle.expression_laws.proofs.Values.{unless_known}
+use Rattle.check_laws.proofs.Forms.{unflawed}
 use Rattle.value_laws.specs.Laws.{IsPlaceOfFit}
 use Rattle.value_laws.specs.Spaces.{IsSpaced}
 use Rattle.value_laws.proofs.Accesses.{element_is_spaced, field_is_spaced, taking_parts}
@@ -155,7 +155,7 @@ module _ (task : TaskTree) (roots : List Shape) (h : Here) (place : IsPlaceOfFit
       let parts = option_or_parts (first_of_step h.tree task h.scope (field_of t f)) _ e in
       let here = option_or_parts (first_of_taking h.tree (field_of t f)) _ parts.0 in
       let next = field_known h.tree h.scope t f place.sound k here.0 in
-      let same = unless_known _ (type_of_field h.tree t f) next.known in record {
+      let same = unflawed _ (type_of_field h.tree t f) next.known in record {
         taken = here.0;
         known = subst (IsKnown h.scope) same next;
         spaced = field_is_spaced roots h place t f here.0 spaced;
@@ -177,7 +177,7 @@ module _ (task : TaskTree) (roots : List Shape) (h : Here) (place : IsPlaceOfFit
       let more = option_or_parts (first_of_step h.tree task h.scope (element_of t (known_type h.tree h.scope y))) _ parts.1 in
       let here = option_or_parts (first_of_taking h.tree (element_of t (known_type h.tree h.scope y))) _ more.0 in
       let next = element_known h.tree h.scope t (known_type h.tree h.scope y) y k key.0.known here.0 in
-      let same = unless_known _ (type_of_element h.scope t y) next.known in record {
+      let same = unflawed _ (type_of_element h.scope t y) next.known in record {
         told_index = parts.0;
         taken = here.0;
         number = subst (λ k. numeric k ≡ true) key.1 (element_number t (known_type h.tree h.scope y) key.0.known here.0);
@@ -199,7 +199,7 @@ module _ (task : TaskTree) (roots : List Shape) (h : Here) (place : IsPlaceOfFit
       let right = known y parts.0 in
       let more = option_or_parts (first_of_operator (computing o t (known_type h.tree h.scope y))) _ parts.1 in
       let next = after_operator h.scope o t (known_type h.tree h.scope y) k.known right.0.known more.0 in
-      let same = unless_known _ (operated o t (known_type h.tree h.scope y)) next.known ∙ ap (operated o t) right.1 in record {
+      let same = unflawed _ (operated o t (known_type h.tree h.scope y)) next.known ∙ ap (operated o t) right.1 in record {
         right = parts.0;
         operates = subst (λ k. first_of_operator (computing o t k) ≡ None) right.1 more.0;
         known = subst (IsKnown h.scope) same next;

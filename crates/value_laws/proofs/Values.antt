@@ -54,7 +54,7 @@ use Rattle.value_laws.proofs.Calls.{any_names, argument_fits, parents_agree}
 use Rattle.value_laws.proofs.Ends.{after, chosen}
 use Rattle.value_laws.proofs.GivenRoots.{arg_known, arguments_fit}
 use Rattle.value_laws.proofs.Limits.{all_behind, all_left, all_right}
-use Rattle.value_laws.proofs.Numbers.{literal_in_width}
+use Rattle.check_laws.proofs.Widths.{literal_fits}
 use Rattle.value_laws.proofs.Operators.{arithmetic_fits, as_number_fits, as_truth_fits, cast_fits, operand_any, signed_fits, size_fits, standing_fits}
 use Rattle.value_laws.proofs.Parameters.{param_at, params_long}
 use Rattle.value_laws.proofs.Regions.{goals}
@@ -205,7 +205,7 @@ module _ (task : TaskTree) (roots : List Shape) (h : Here) (place : IsPlaceOfFit
   mutual
     pub value_is : (e : Expression) → IsWritten e → Limited e → told e → (u : State) → State_fits u → Gives (type_of h.tree h.scope e) (value h e u)
     value_is (number_expr z w) wr l e u st =
-        (st, fits_integer (literal_in_width z w (All-head KeepsLimit (literal z w) [] (all_behind KeepsLimit node (literal z w ∷ []) l))))
+        (st, fits_integer (literal_fits z w (All-head KeepsLimit (literal z w) [] (all_behind KeepsLimit node (literal z w ∷ []) l))))
     value_is (truth_expr b) wr l e u st = (st, fits_truth)
     value_is (chain_expr first rest) wr l e u st =
         let parts = option_or_parts (first_in_expression h.tree task h.scope first) _ e in
