@@ -3,3 +3,4 @@ pub mod Coming
 pub mod Rounds
 pub mod Taking
 pub mod Tasks
+pub mod Operating

@@ -6,6 +6,7 @@ mod fills;
 mod frequent;
 mod jumps;
 mod numbers;
+mod operations;
 mod partitioning;
 mod pointers;
 mod regions;
