@@ -38,8 +38,9 @@ use Rattle.code_rules.specs.Slots.{own_slot, slot, slots_of, typed}
 use Rattle.memory_laws.specs.Memory.{IsKept}
 use Rattle.memory_laws.specs.Places.{number_at}
 use Rattle.code_laws.specs.Steps.{Setting, machine_of, placed, on_step, Leads}
-use Rattle.code_laws.specs.Standing.{Stands, machine_value, IsInside, IsOf, LiesIn, of_index, of_integer, of_truth, of_region, nothing, blank, Aside, SlotsFit, where_of, Agrees, Comes}
-use Rattle.code_laws.specs.Simple.{FieldFits, IsInteger, IsNumber, an_integer, number_index, number_integer, IsRegion, a_region_type, fits_32, fits_64, fits_truth}
+use Rattle.code_laws.specs.Standing.{Stands, machine_value, IsInside, IsOf, of_index, of_integer, of_truth, of_region, nothing, blank, Aside, SlotsFit, where_of, Agrees, Comes}
+use Rattle.code_laws.specs.Taking.{MayDo}
+use Rattle.code_laws.specs.Simple.{term_in, FieldFits, IsInteger, IsNumber, an_integer, number_index, number_integer, IsRegion, a_region_type, fits_32, fits_64, fits_truth}
 use Rattle.code_laws.proofs.Good.{valued, Good, Gives}
 use Rattle.code_laws.proofs.Reaching.{Reached, reached, rewritten}
 use Rattle.code_laws.proofs.Runs.{leads_by, ends_by, comes_before}
@@ -121,7 +122,8 @@ module _ (x : Setting) (params slots : ℕ) (fit : SlotsFit x slots) (aside : As
   abbrev ReadsElement : Here → ℕ → ℕ → Expression → Name → Region → StaticType → List MachineValue →
       StaticType → StaticType → Value → State → Instance → Type 0
   ReadsElement h d sl e f q out st t ty u s1 j =
-      HasRegion j sl q × LiesIn x s1.store (space_in t) q →
+      HasRegion j sl q × IsInside x s1.store t (a_region q) →
+      MayDo x.forms.takes (term_in t) (field_place h.tree (space_in t) f) mode.Read →
       slots_of (where_of params h) sl (type_of_element h.scope t e) ≡ sl ∷ [] →
       field_place h.tree (space_in t) f < length (space_at h.tree (space_in t)).fields →
       FieldFits (field_kind h.tree (space_in t) (field_place h.tree (space_in t) f)) out →
@@ -143,25 +145,26 @@ module _ (x : Setting) (params slots : ℕ) (fit : SlotsFit x slots) (aside : As
       Gives x params slots fit aside h (typed (where_of params h) e) (expr_code (where_of params h) d e) pc st st i (value h e s) →
       IsNumber (typed (where_of params h) e) → Leaves SameNames s (value h e s) →
       ((s1 : State) (j : Instance) → s1.names ≡ s.names → Agrees x params slots aside h s1 j →
-      HasRegion j sl q × LiesIn x s1.store (space_in t) q) →
+      HasRegion j sl q × IsInside x s1.store t (a_region q)) →
+      MayDo x.forms.takes (term_in t) (field_place h.tree (space_in t) f) mode.Read →
       slots_of (where_of params h) sl (type_of_element h.scope t e) ≡ sl ∷ [] →
       field_place h.tree (space_in t) f < length (space_at h.tree (space_in t)).fields →
       FieldFits (field_kind h.tree (space_in t) (field_place h.tree (space_in t) f)) out →
       Stands x.body pc (steps_code (where_of params h) d t sl (at_step e (field_step f no_step))) →
       Gives x params slots fit aside h out (steps_code (where_of params h) d t sl (at_step e (field_step f no_step))) pc st st i
       (stepped h t (a_region q) (at_step e (field_step f no_step)) s)
-  element_reads h d t sl e f q out s pc st i region runs index same there one field fits stands =
+  element_reads h d t sl e f q out s pc st i region runs index same there may one field fits stands =
       then_kept x SameNames _ _ _ _ _ s (value h e s) _ same runs
-      (λ u s1 j names k. by_index t region (typed (where_of params h) e) index u k.0 s1 j (there s1 j names k.1) one field fits k.1
+      (λ u s1 j names k. by_index t region (typed (where_of params h) e) index u k.0 s1 j (there s1 j names k.1) may one field fits k.1
       (past (expr_code (where_of params h) d e) pc) stands.1)
     where
       by_integer : (t : StaticType) → IsRegion t → (ty : StaticType) → IsInteger ty → (u : Value) → IsOf ty u →
           (s1 : State) (j : Instance) → ReadsElement h d sl e f q out st t ty u s1 j
-      by_integer _ (a_region_type k sp args r) _ (an_integer w) _ (of_integer _ (negsuc n) _) s1 j there one field fits g a stands =
+      by_integer _ (a_region_type k sp args r) _ (an_integer w) _ (of_integer _ (negsuc n) _) s1 j there may one field fits g a stands =
           ends_by x _ _ (instr.At sl) h.line stands.1.0
           (ap (λ o. on_step x (placed a (machine.Number (negsuc n) ∷ st) j) (element (region_in o) (negsuc n) h.line st (machine_of (placed a (machine.Number (negsuc n) ∷ st) j)))) there.0
           ∙ ap (λ t. IsOver (Broke (Some (record { kind = OutOfRegion; line = h.line })) t)) g.text)
-      by_integer _ (a_region_type k sp args r) _ (an_integer w) _ (of_integer _ (pos n) _) s1 j there one field fits g a stands =
+      by_integer _ (a_region_type k sp args r) _ (an_integer w) _ (of_integer _ (pos n) _) s1 j there may one field fits g a stands =
           by_has (has q.points n) refl
         where
           at_acts : (b : Bool) → has q.points n ≡ b →
@@ -188,7 +191,7 @@ module _ (x : Setting) (params slots : ℕ) (fit : SlotsFit x slots) (aside : As
               (leads_by x _ (placed (suc a) (machine.Number (kept_target (point_target n 1)) ∷ st) j) (instr.At sl) h.line stands.1.0 (at_acts true c))
               (given_on (read_field h pt f (aimed_in (has q.points n) q n) s1)
               (field_reads h pt f place n sl q out s1 (suc a) st j fits there.0 c refl
-              (reached x params slots aside h s1 j q sp place n mode.Read g there.1 field c) g
+              (reached x params slots aside h s1 j q (region_type k sp args r) (a_region_type k sp args r) place n mode.Read g there.1 may field c) g
               (subst (λ rs. Stands x.body (suc a) (op (instr.Read rs place) h.line)) one stands.1.1.1.0)))
             where
               given_on : (r : Result Value) →
@@ -200,9 +203,9 @@ module _ (x : Setting) (params slots : ℕ) (fit : SlotsFit x slots) (aside : As
 
       by_index : (t : StaticType) → IsRegion t → (ty : StaticType) → IsNumber ty → (u : Value) → IsOf ty u →
           (s1 : State) (j : Instance) → ReadsElement h d sl e f q out st t ty u s1 j
-      by_index t region _ (number_index k) _ (of_index _ z p) s1 j there one field fits g a stands =
-          by_integer t region _ (an_integer W64) (a_number W64 z) (of_integer W64 z p) s1 j there one field fits g a stands
-      by_index t region _ (number_integer w) u o s1 j there one field fits g a stands = by_integer t region _ (an_integer w) u o s1 j there one field fits g a stands
+      by_index t region _ (number_index k) _ (of_index _ z p) s1 j there may one field fits g a stands =
+          by_integer t region _ (an_integer W64) (a_number W64 z) (of_integer W64 z p) s1 j there may one field fits g a stands
+      by_index t region _ (number_integer w) u o s1 j there may one field fits g a stands = by_integer t region _ (an_integer w) u o s1 j there may one field fits g a stands
 
   -- the region that a name has, where its slot is there
   pub region_there : (h : Here) (s1 : State) (j : Instance) (p : ℕ) (q : Region) →
@@ -223,17 +226,18 @@ module _ (x : Setting) (params slots : ℕ) (fit : SlotsFit x slots) (aside : As
       field_place h.tree (space_in t) f < length (space_at h.tree (space_in t)).fields →
       FieldFits (field_kind h.tree (space_in t) (field_place h.tree (space_in t) f)) out →
       ((s1 : State) (j : Instance) → Agrees x params slots aside h s1 j → IsInside x s1.store t (get_or s1.names p nothing)) →
+      MayDo x.forms.takes (term_in t) (field_place h.tree (space_in t) f) mode.Read →
       Stands x.body pc (load_code (where_of params h) t (slot (where_of params h) p) (at_step e (field_step f no_step))
       ⨟ steps_code (where_of params h) d t (own_slot (where_of params h) t p) (at_step e (field_step f no_step))) →
       Gives x params slots fit aside h out
       (load_code (where_of params h) t (slot (where_of params h) p) (at_step e (field_step f no_step))
       ⨟ steps_code (where_of params h) d t (own_slot (where_of params h) t p) (at_step e (field_step f no_step))) pc st st i
       (stepped h t v (at_step e (field_step f no_step)) s)
-  access_reads h d _ p _ e f out s pc st i (a_region_type k sp args r) (of_region _ _ _ _ q) is low runs index same single field fits lies stands =
+  access_reads h d _ p _ e f out s pc st i (a_region_type k sp args r) (of_region _ _ _ _ q) is low runs index same single field fits lies may stands =
       let sl = slot (where_of params h) p in
       let room : sl < slots = omega (arith, fit _ _ stands.1.1.1.0) in
       element_reads h d _ sl e f q out s pc st i (a_region_type k sp args r) (runs pc stands.1.0) index same
       (λ s1 j names g. (
         region_there h s1 j p q (ap (λ ns. get_or ns p nothing) names ∙ is) (subst (λ ns. p < length ns) (sym names) low) room g,
         subst (IsInside x s1.store (region_type k sp args r)) (ap (λ ns. get_or ns p nothing) names ∙ is) (lies s1 j g),
-      )) single field fits stands.1
+      )) may single field fits stands.1

@@ -1,5 +1,5 @@
 -- The premises of the law on calls hold of a program.
-use Rattle.std.proofs.Common.{zero, suc, pos, [], ◌∷◌, refl, subst, arith}
+use Rattle.std.proofs.Common.{zero, suc, pos, [], ◌∷◌, inl, refl, subst, arith}
 use Rattle.std.proofs.lemmas.Int.{ints}
 use Rattle.std.proofs.lemmas.Option.{none-some, same_Some}
 use Rattle.std.specs.Int.{int_wrap}
@@ -24,25 +24,28 @@ main_typed = (
   (
     (
       two_integers _ _,
-      (refl, scalar_integer _, (refl, refl), (two_integers _ _, refl, (refl, simple_integer _), tt)),
+      (refl, scalar_integer _, (refl, tt), (inl (two_integers _ _, refl, (refl, simple_integer _)), tt)),
       omega (arith, ints),
       number_integer _,
       refl,
       record { named = refl; region = a_region_type _ _ _ _; field = omega arith; keeps = fits_64 },
+      tt,
     ),
     (
-      (refl, (refl, refl), (two_integers _ _, refl, omega (arith, ints), tt)),
+      (refl, (refl, tt), (inl (two_integers _ _, refl, omega (arith, ints)), tt)),
       (
         (
           two_integers _ _,
           (
             refl,
             scalar_integer _,
-            (refl, refl),
+            (refl, tt),
             (
-              two_integers _ _,
-              refl,
-              (omega (arith, ints), number_integer _, refl, record { named = refl; region = a_region_type _ _ _ _; field = omega arith; keeps = fits_64 }),
+              inl (
+                two_integers _ _,
+                refl,
+                (omega (arith, ints), number_integer _, refl, record { named = refl; region = a_region_type _ _ _ _; field = omega arith; keeps = fits_64 }, tt),
+              ),
               tt,
             ),
           ),
@@ -50,12 +53,13 @@ main_typed = (
           number_integer _,
           refl,
           record { named = refl; region = a_region_type _ _ _ _; field = omega arith; keeps = fits_64 },
+          tt,
         ),
         (
           (
             (
               an_integer _,
-              (omega (arith, ints), number_integer _, refl, record { named = refl; region = a_region_type _ _ _ _; field = omega arith; keeps = fits_64 }),
+              (omega (arith, ints), number_integer _, refl, record { named = refl; region = a_region_type _ _ _ _; field = omega arith; keeps = fits_64 }, tt),
               tt,
             ),
             refl,
@@ -80,11 +84,12 @@ tasks zero t e = subst (IsTypedTask calls_program) (same_Some _ t e) (record {
         number_integer _,
         refl,
         record { named = refl; region = a_region_type _ _ _ _; field = omega arith; keeps = fits_64 },
+        tt,
       ),
       (
         (
           two_integers _ _,
-          (omega (arith, ints), number_integer _, refl, record { named = refl; region = a_region_type _ _ _ _; field = omega arith; keeps = fits_64 }),
+          (omega (arith, ints), number_integer _, refl, record { named = refl; region = a_region_type _ _ _ _; field = omega arith; keeps = fits_64 }, tt),
         ),
         tt,
       ),

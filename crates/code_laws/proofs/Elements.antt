@@ -6,7 +6,10 @@ use Rattle.regent_tree.specs.declared.typing.StaticType.{StaticType}
 use Rattle.lane_kernels.specs.declared.numbers.Op.{Op}
 use Rattle.regent_tree.specs.Execution.{Going, goes_on, returned, write_to}
 use Rattle.regent_tree.specs.Running.{State, Here, Result, gives, fails}
+use Rattle.lane_kernels.specs.declared.numbers.Mode.TheVariants as mode
+use Rattle.regent_tree.specs.Accesses.{space_in}
 use Rattle.regent_tree.specs.Scopes.{bound_to}
+use Rattle.regent_tree.specs.StaticTypes.{field_place}
 use Rattle.regent_tree.specs.Syntax.{Name, Expression, at_step, field_step, no_step}
 use Rattle.regent_tree.specs.Values.{Value, kept_number}
 use Rattle.regent_tree.proofs.Laws.{expressions_keep_names}
@@ -18,7 +21,7 @@ use Rattle.code_rules.specs.Slots.{typed}
 use Rattle.code_laws.specs.Steps.{Setting, placed}
 use Rattle.code_laws.specs.Standing.{Agrees, Aside, Comes, Does, IsInside, IsOf, SlotsFit, Stands, nothing, of_integer, where_of}
 use Rattle.code_laws.specs.Simple.{IsInteger, IsNumber, an_integer}
-use Rattle.code_laws.specs.Typed.{GoesThrough, IsField, IsTyped}
+use Rattle.code_laws.specs.Typed.{GoesThrough, IsField, IsTyped, MayTouch}
 use Rattle.code_laws.proofs.Expressions.{value_runs}
 use Rattle.code_laws.proofs.Good.{valued}
 use Rattle.code_laws.proofs.Values.{named}
@@ -42,13 +45,14 @@ module _ (x : Setting) (params slots : ℕ) (fit : SlotsFit x slots) (aside : As
   -- `r[e].f = v`, with the value on the stack
   pub sets_element : (h : Here) (n : Name) (e : Expression) (f : Name) (out : StaticType) (v : Value) (s : State) (pc : ℕ)
       (i : Instance) → params ≤ length h.scope.names → IsTyped x.forms (where_of params h) e → IsNumber (typed (where_of params h) e) →
-      GoesThrough (where_of params h) n e → IsField (where_of params h) n f out → IsOf out v →
+      GoesThrough (where_of params h) n e → IsField (where_of params h) n f out →
+      MayTouch x.forms (where_of params h) n (field_place h.tree (space_in (bound_to h.scope.names n).static_type) f) mode.Write → IsOf out v →
       Agrees x params slots aside h s i →
       Stands x.body pc (target_code (where_of params h) n (at_step e (field_step f no_step)) how.Set) →
       Does x params slots aside (valued pc [] v i)
       (past (target_code (where_of params h) n (at_step e (field_step f no_step)) how.Set) pc) h
       (write_to h n (at_step e (field_step f no_step)) how.Set v s)
-  sets_element h n e f out v s pc i low fine index through field o g stands =
+  sets_element h n e f out v s pc i low fine index through field may o g stands =
       let b = bound_to h.scope.names n in
       let m = named IsOf h.scope.names s.names n g.typed field.named in
       let done = past (target_code (where_of params h) n (at_step e (field_step f no_step)) how.Set) pc in
@@ -59,18 +63,19 @@ module _ (x : Setting) (params slots : ℕ) (fit : SlotsFit x slots) (aside : As
       field.region m.holding refl (omega (arith, m.below, g.count))
       (λ a f1. value_runs x params slots fit aside h 0 low e s a (machine.Number (kept_number v) ∷ []) i fine g f1)
       index (expressions_keep_names h e s) through field.field field.keeps o
-      (λ s1 j g1. (named (IsInside x s1.store) h.scope.names s1.names n g1.inside_store field.named).holding) stands))
+      (λ s1 j g1. (named (IsInside x s1.store) h.scope.names s1.names n g1.inside_store field.named).holding) may stands))
 
   -- `r[e].f o= v`
   pub folds_element : (o : Op) (h : Here) (n : Name) (e : Expression) (f : Name) (out t : StaticType) (v : Value) (s : State)
       (pc : ℕ) (i : Instance) → params ≤ length h.scope.names → IsTyped x.forms (where_of params h) e →
       IsNumber (typed (where_of params h) e) → GoesThrough (where_of params h) n e → IsField (where_of params h) n f out →
+      MayTouch x.forms (where_of params h) n (field_place h.tree (space_in (bound_to h.scope.names n).static_type) f) (mode.Reduce o) →
       IsInteger out → IsInteger t → IsOf t v → Agrees x params slots aside h s i →
       Stands x.body pc (target_code (where_of params h) n (at_step e (field_step f no_step)) (how.Reduce o)) →
       Does x params slots aside (valued pc [] v i)
       (past (target_code (where_of params h) n (at_step e (field_step f no_step)) (how.Reduce o)) pc) h
       (write_to h n (at_step e (field_step f no_step)) (how.Reduce o) v s)
-  folds_element o h n e f _ _ _ s pc i low fine index through field (an_integer wd) (an_integer we) (of_integer _ y p) g stands =
+  folds_element o h n e f _ _ _ s pc i low fine index through field may (an_integer wd) (an_integer we) (of_integer _ y p) g stands =
       let b = bound_to h.scope.names n in
       let m = named IsOf h.scope.names s.names n g.typed field.named in
       let done = past (target_code (where_of params h) n (at_step e (field_step f no_step)) (how.Reduce o)) pc in
@@ -79,4 +84,4 @@ module _ (x : Setting) (params slots : ℕ) (fit : SlotsFit x slots) (aside : As
       field.region m.holding refl (omega (arith, m.below, g.count))
       (λ a f1. value_runs x params slots fit aside h 0 low e s a (machine.Number y ∷ []) i fine g f1)
       index (expressions_keep_names h e s) through field.field field.keeps
-      (λ s1 j g1. (named (IsInside x s1.store) h.scope.names s1.names n g1.inside_store field.named).holding) stands)
+      (λ s1 j g1. (named (IsInside x s1.store) h.scope.names s1.names n g1.inside_store field.named).holding) may stands)

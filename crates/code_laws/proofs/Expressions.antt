@@ -1,13 +1,14 @@
 -- The code of an expression leaves its value on the stack, or ends with its fault.
-use Rattle.machine_terms.specs.Contents.{no_contents}
+use Rattle.regent_tree.specs.Laws.{SameNames}
 use Rattle.code_laws.proofs.States.{stored}
 use Rattle.code_laws.proofs.Prints.{pushed_all}
 use Rattle.code_laws.proofs.Results.{results_run}
-use Rattle.code_laws.proofs.Calling.{HasResult, calls_run, pending, scalar_value}
+use Rattle.code_laws.proofs.Calling.{HasResult, calls_run, pending}
+use Rattle.code_laws.proofs.Handing.{AreGivenBy, IsGivenBy, arguments_keep_names, call_takes, given_either, handed_run, value_stays}
 use Rattle.code_laws.proofs.Operations.{compared_left, compared_operand, compared_right, standing_number, alike_right, and_runs, compare_runs, compute_runs, converted_runs, fetch_small, named_runs, or_runs, plain_signs, same_type, signs_run, signs_typed, space_runs, standing_runs, truth_of_type, wraps_run}
 use Rattle.code_laws.proofs.Accesses.{access_reads}
 use Rattle.regent_tree.proofs.Laws.{expressions_keep_names}
-use Rattle.std.proofs.Common.{◌≡◌, ℕ, suc, ◌<◌, ◌≤◌, List, [], ◌∷◌, false, refl, sym, ap, subst, arith}
+use Rattle.std.proofs.Common.{◌≡◌, ℕ, suc, ◌<◌, ◌≤◌, List, [], ◌∷◌, false, inl, inr, refl, sym, ap, subst, arith}
 use Rattle.std.specs.Prelude.{get_or, length}
 use Rattle.regent_tree.specs.declared.expression.Operator.TheVariants.{Or, And, Compare, Compute}
 use Rattle.regent_tree.specs.declared.typing.StaticType.{StaticType}
@@ -16,7 +17,7 @@ use Rattle.regent_tree.specs.Scopes.{bound_to}
 use Rattle.regent_tree.specs.Syntax.{Expression, number_expr, truth_expr, chain_expr, prefix_expr, access_expr, call_expr, convert_expr, is_null_expr, null_expr, cast_expr, space_expr, Expressions, no_expr, an_expr, Links, no_link, a_link, no_step, field_step, at_step}
 use Rattle.regent_tree.specs.Values.{Value, a_number, a_truth, kept_truth}
 use Rattle.regent_tree.specs.Typing.{linked_type, signed_type, are_pointers, param_types, params_at, result_type}
-use Rattle.regent_tree.specs.Running.{State, Here}
+use Rattle.regent_tree.specs.Running.{State, Here, and_then, given}
 use Rattle.regent_tree.specs.Operators.{all_signed, combined, operand}
 use Rattle.regent_tree.specs.Accesses.{converted, standing}
 use Rattle.regent_tree.specs.Evaluation.{called, value, values, linked}
@@ -27,19 +28,19 @@ use Rattle.code_rules.specs.Pieces.{op, past}
 use Rattle.code_rules.specs.Slots.{spare, typed}
 use Rattle.code_rules.specs.Expressions.{count, expr_code, exprs_code, links_code}
 use Rattle.code_rules.specs.Instructions.{converted_code, operand_code, place_of_task}
-use Rattle.code_laws.specs.Steps.{Setting, placed}
-use Rattle.code_laws.specs.Standing.{AreTaken, Comes, Stands, machine_value, IsInside, IsOf, of_integer, of_truth, nothing, Aside, SlotsFit, where_of, Agrees}
-use Rattle.code_laws.specs.Simple.{IsScalar}
+use Rattle.code_laws.specs.Steps.{Leads, Setting, placed}
+use Rattle.code_laws.specs.Standing.{Comes, Stands, machine_value, IsInside, IsOf, of_integer, of_truth, nothing, Aside, SlotsFit, where_of, Agrees}
+use Rattle.code_laws.specs.Simple.{AreAlike, IsScalar}
 use Rattle.regent_tree.specs.StaticTypes.{task_named}
 use Rattle.code_laws.specs.Typed.{ArePassed, IsTyped, AreTypedLinks}
-use Rattle.code_laws.proofs.Runs.{comes_on, leads_none, then, comes_said}
+use Rattle.code_laws.proofs.Runs.{comes_on, leads_none, then, then_led, comes_said}
 use Rattle.code_laws.proofs.Good.{valued, Good, Gives, pushes}
-use Rattle.code_laws.proofs.Values.{past_later, named}
+use Rattle.code_laws.proofs.Values.{past_later, named, scalar_simple, simple_inside}
 
 module _ (x : Setting) (params slots : ℕ) (fit : SlotsFit x slots) (aside : Aside) where
-  -- so many values, each a number or a truth of its parameter's type
-  abbrev pub AreGiven : Here → List StaticType → ℕ → List Value → State → Instance → Type 0
-  AreGiven h ps n vs s j = AreTaken (λ t v. IsScalar t × IsOf t v) ps vs × (length vs ≡ n) × Agrees x params slots aside h s j
+  -- so many values, each that of its argument
+  abbrev pub AreGiven : Here → List StaticType → Expressions → List Value → State → Instance → Type 0
+  AreGiven h ps es vs s j = AreGivenBy x params slots fit aside h ps es vs s.names × (length vs ≡ count es) × Agrees x params slots aside h s j
 
   -- ---- expressions
 
@@ -97,11 +98,12 @@ module _ (x : Setting) (params slots : ℕ) (fit : SlotsFit x slots) (aside : As
         then x said _ _ _ (values h ts args s) _
         (args_run h d low ts (param_types h.tree callee) args s pc st i fine.3 g f.0)
         (λ vs s1 j k.
+        let made = call_takes x params slots fit aside h task args vs s1 j fine.2 k.0 k.2 in
         let called_at = subst (λ n. Stands x.body a (op (instr.Call (place_of_task h.tree task) n) h.line)) (sym k.1) f.1.0 in
         comes_on x (pending x params slots fit aside j.frame.children (suc a) st) (valued done st)
         (HasResult x params slots fit aside j.frame.children h task) (Good x params slots fit aside h t) _ (called h task vs s1)
         (calls_run x params slots fit aside h task vs s1 a st j (k.2.answers fine.0)
-        (record { there = fine.2.0; needs = fine.2.1; taken = k.0 }) (fetch_small x.body (suc a) _ f.1.1.0) k.2 called_at)
+        made.takes made.within (fetch_small x.body (suc a) _ f.1.1.0) k.2 called_at)
         (λ v s2 j2 k2.
         let o = k2.2 fine.1 in
         let r = results_run x params slots fit aside h t d j.frame.children v s2 (suc a) h.line st j2 low fine.1 o k2.0 k2.1 f.1.1.0 f.1.1.1 in
@@ -114,7 +116,7 @@ module _ (x : Setting) (params slots : ℕ) (fit : SlotsFit x slots) (aside : As
         fine.3.region m.holding refl (omega (arith, m.below, g.count))
         (λ a f1. value_runs h d low e s a st i fine.0 g f1) fine.1 (expressions_keep_names h e s)
         fine.2 fine.3.field fine.3.keeps
-        (λ s1 j g1. (named (IsInside x s1.store) h.scope.names s1.names n g1.inside_store fine.3.named).holding) f
+        (λ s1 j g1. (named (IsInside x s1.store) h.scope.names s1.names n g1.inside_store fine.3.named).holding) fine.4 f
     value_runs h d low (access_expr n (at_step _ no_step)) s pc st i fine g f = absurd fine
     value_runs h d low (access_expr n (at_step _ (at_step _ _))) s pc st i fine g f = absurd fine
     value_runs h d low (access_expr n (at_step _ (field_step _ (field_step _ _)))) s pc st i fine g f = absurd fine
@@ -127,34 +129,40 @@ module _ (x : Setting) (params slots : ℕ) (fit : SlotsFit x slots) (aside : As
         then x (comes_said x _ _) _ _ _ (value h e s) _ (value_runs h d low e s pc st i fine.0 g f.0)
         (λ v s1 j k1. space_runs x params slots fit aside h k (typed w e) v s1 _ st j fine.1 k1.0 k1.1 f.1)
 
-    -- arguments: numbers and truths in a row on the stack
+    -- arguments in a row on the stack
     pub args_run : (h : Here) (d : ℕ) → params ≤ length h.scope.names → (ts ps : List StaticType) (args : Expressions)
         (s : State) (pc : ℕ) (st : List MachineValue) (i : Instance) → ArePassed x.forms (where_of params h) ts ps args →
         Agrees x params slots aside h s i → Stands x.body pc (exprs_code (where_of params h) d ts args) →
         Comes x (placed pc st i)
-        (λ vs j. placed (past (exprs_code (where_of params h) d ts args) pc) (pushed_all no_contents vs st) j)
-        (AreGiven h ps (count args)) (values h ts args s)
+        (λ vs j. placed (past (exprs_code (where_of params h) d ts args) pc) (pushed_all j.contents vs st) j)
+        (AreGiven h ps args) (values h ts args s)
     args_run h d low [] [] no_expr s pc st i fine g f = (i, leads_none x _, (tt, refl, g))
     args_run h d low (t ∷ ts) (p ∷ ps) (an_expr e es) s pc st i fine g f =
         let w = where_of params h in
         let a = past (converted_code w (typed w e) t) (past (expr_code w d e) pc) in
-        let said = comes_said x (λ vs j. placed (past (exprs_code w d (t ∷ ts) (an_expr e es)) pc) (pushed_all no_contents vs st) j)
-        (AreGiven h (p ∷ ps) (count (an_expr e es))) in
-        then x said _ _ _ (value h e s) _ (value_runs h d low e s pc st i fine.2 g f.0)
-        (λ v s1 j k. then x said (valued a st) (Good x params slots fit aside h t) _ (converted h (typed w e) t [] v s1) _
-        (converted_runs x params slots fit aside h (typed w e) t [] v s1 _ st j fine.0 k.0 k.1 f.1.0)
-        (λ u s2 j2 k2.
-        let scalar = alike_right x params slots fit aside (typed w e) t fine.0 in
-        then x said _ _ _ (values h ts es s2) _
-        (subst (λ m. Comes x (placed a (m ∷ st) j2)
-        (λ vs j. placed (past (exprs_code w d ts es) a) (pushed_all no_contents vs (machine_value no_contents u ∷ st)) j)
-        (AreGiven h ps (count es)) (values h ts es s2)) (scalar_value no_contents j2.contents t u scalar k2.0)
-        (args_run h d low ts ps es s2 a (machine_value no_contents u ∷ st) j2 fine.3 k2.1 f.1.1))
-        (λ us s3 j3 k3. (
+        let done = past (exprs_code w d (t ∷ ts) (an_expr e es)) pc in
+        let shape : List Value → Instance → Instance = λ vs j. placed done (pushed_all j.contents vs st) j in
+        let said = comes_said x shape (AreGiven h (p ∷ ps) (an_expr e es)) in
+        let rest : (u : Value) (s2 : State) (j2 : Instance) (b : StaticType) → IsGivenBy x params slots fit aside h p e u s2.names →
+        IsOf b u → IsInside x s2.store b u → Agrees x params slots aside h s2 j2 →
+        Comes x (valued a st u j2) shape (AreGiven h (p ∷ ps) (an_expr e es)) (and_then (values h ts es s2) (λ us. given (u ∷ us))) =
+        λ u s2 j2 b is o inside g2. then_led x said SameNames _ _ (valued a st u j2) s2 (values h ts es s2) _ (arguments_keep_names h ts es s2)
+        (args_run h d low ts ps es s2 a (machine_value j2.contents u ∷ st) j2 fine.1 g2 f.1.1)
+        (λ us s3 j3 names led k. (
           j3,
-          leads_none x _,
-          ((subst (λ q. IsScalar q × IsOf q u) fine.1 (scalar, k2.0), k3.0), ap suc k3.1, k3.2),
-        ))))
+          subst (λ m. Leads x (placed done (pushed_all j3.contents us (machine_value j2.contents u ∷ st)) j3) (placed done (pushed_all j3.contents us (m ∷ st)) j3))
+              (value_stays x params slots fit aside h s2 s3 j2 j3 g2 k.2 led.own b u o inside) (leads_none x _),
+          ((subst (IsGivenBy x params slots fit aside h p e u) (sym names) is, k.0), ap suc k.1, k.2),
+        )) in
+        given_either x.forms.takes w t p e (IsTyped x.forms w e) (Comes x (placed pc st i) shape (AreGiven h (p ∷ ps) (an_expr e es)) (values h (t ∷ ts) (an_expr e es) s))
+        (λ alike same typed_e. then x said _ _ _ (value h e s) _ (value_runs h d low e s pc st i typed_e g f.0)
+        (λ v s1 j k. then x said (valued a st) (Good x params slots fit aside h t) _ (converted h (typed w e) t [] v s1) _
+        (converted_runs x params slots fit aside h (typed w e) t [] v s1 _ st j alike k.0 k.1 f.1.0)
+        (λ u s2 j2 k2. rest u s2 j2 t
+        (inl (subst (λ q. AreAlike (typed w e) q × IsOf q u) same (alike, k2.0)))
+        k2.0 (simple_inside x s2.store t u (scalar_simple t (alike_right x params slots fit aside (typed w e) t alike))) k2.1)))
+        (λ y takes handed. handed_run x params slots fit aside said h d y t p e s pc st i _ takes handed g f.0
+        (λ v b j is o inside g2. rest v s j b (inr is) o inside g2)) fine.0
     args_run h d low _ _ _ s pc st i fine g f = absurd fine
 
     pub linked_runs : (h : Here) (d : ℕ) → params ≤ length h.scope.names →

@@ -43,11 +43,12 @@ use Rattle.memory_laws.specs.Touches.{IsCovered}
 use Rattle.memory_laws.proofs.Cells.{part_set}
 use Rattle.memory_laws.proofs.Finding.{covered_is_found}
 use Rattle.memory_laws.proofs.Touching.{found_tells, set_cells_hold}
+use Rattle.code_laws.specs.Simple.{IsRegion}
 use Rattle.code_laws.specs.Steps.{Setting, machine_of, placed, on_step, Leads}
-use Rattle.code_laws.specs.Standing.{Agrees, Aside, Comes, IsOf, LiesIn, SlotsFit, Stands, blank, machine_value, nothing, where_of}
-use Rattle.code_laws.specs.Typed.{AreFilled}
+use Rattle.code_laws.specs.Standing.{Agrees, Aside, Comes, IsInside, IsOf, SlotsFit, Stands, blank, machine_value, nothing, where_of}
+use Rattle.code_laws.specs.Typed.{AreFilled, MayFill}
 use Rattle.code_laws.proofs.Accesses.{region_there}
-use Rattle.code_laws.proofs.Reaching.{lies_stays, reached, rewritten}
+use Rattle.code_laws.proofs.Reaching.{reached, region_stays, rewritten}
 use Rattle.code_laws.proofs.Runs.{comes_before, leads_by, leads_none, leads_twice}
 use Rattle.code_laws.proofs.Touching.{parted, same_width-itself, touches}
 use Rattle.code_laws.proofs.Values.{load_value}
@@ -166,9 +167,10 @@ fills x i pc line s f place w z st xs store there h good stands = by_points xs r
 
 module _ (x : Setting) (params slots : ℕ) (fit : SlotsFit x slots) (aside : Aside) where
   pub fields_filled : (h : Here) (r : Name) (from : StaticType) (v : Value) (q : Region) (fs : List Name)
-      (s : State) (pc : ℕ) (i : Instance) → AreFilled (where_of params h) r from fs → IsOf from v →
+      (s : State) (pc : ℕ) (i : Instance) → AreFilled (where_of params h) r from fs → MayFill x.forms (where_of params h) r fs →
+      IsRegion (bound_to h.scope.names r).static_type → IsOf from v →
       get_or s.names (bound_to h.scope.names r).place nothing ≡ a_region q →
-      LiesIn x s.store (space_in (bound_to h.scope.names r).static_type) q →
+      IsInside x s.store (bound_to h.scope.names r).static_type (a_region q) →
       (bound_to h.scope.names r).place < length s.names →
       get_or i.frame.slots (spare (where_of params h) 0) blank ≡ machine_value i.contents v →
       Agrees x params slots aside h s i →
@@ -179,8 +181,8 @@ module _ (x : Setting) (params slots : ℕ) (fit : SlotsFit x slots) (aside : As
       (slot_named (where_of params h) r) fs) pc) [] j)
       (GoesOn x params slots fit aside h)
       (fill_fields h from v (bound_to h.scope.names r).static_type q fs s)
-  fields_filled h r from v q [] s pc i fine o is lies low kept_there g stands = (i, leads_none x _, (refl, g))
-  fields_filled h r from v q (f ∷ fs) s pc i fine o is lies low kept_there g stands =
+  fields_filled h r from v q [] s pc i fine may region o is lies low kept_there g stands = (i, leads_none x _, (refl, g))
+  fields_filled h r from v q (f ∷ fs) s pc i fine may kind_is o is lies low kept_there g stands =
       let w = where_of params h in
       let t = (bound_to h.scope.names r).static_type in
       let p = (bound_to h.scope.names r).place in
@@ -203,7 +205,7 @@ module _ (x : Setting) (params slots : ℕ) (fit : SlotsFit x slots) (aside : As
       let filled = fills x i a h.line (slot w p) place q.root wide (kept_number u) [] q.points s.store
       (ap region_in region) g.memory
       (λ n b.
-      let r = reached x params slots aside h s i q (space_in t) place n mode.Write g lies fine.1.field b in (
+      let r = reached x params slots aside h s i q t kind_is place n mode.Write g lies may.0 fine.1.field b in (
         r.covers,
         ap width_of (sym r.kind_is),
         subst (λ k. IsKept k (wrapped wide (kept_number u))) (sym r.kind_is) (subst (IsKept kind) (sym stays) fk),
@@ -228,5 +230,5 @@ module _ (x : Setting) (params slots : ℕ) (fit : SlotsFit x slots) (aside : As
         store = write_all s1.store q.root place q.points (kept_number u);
         touches = s1.touches ++ touch_all q.root place mode.Write q.points;
       }))) c.gives_it))
-      (fields_filled h r from v q fs (record s { store = store; touches = ts }) (suc a) (parted filled.0 i) fine.2 o is
-      (lies_stays x s.store store (space_in t) q roots lies) low kept_there g2 stands.1.1.1)))))
+      (fields_filled h r from v q fs (record s { store = store; touches = ts }) (suc a) (parted filled.0 i) fine.2 may.1 kind_is o is
+      (region_stays x s.store store t q kind_is roots lies) low kept_there g2 stands.1.1.1)))))

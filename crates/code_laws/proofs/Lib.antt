@@ -1,3 +1,4 @@
+pub mod Growing
 pub mod Runs
 pub mod Values
 pub mod Names
@@ -17,6 +18,8 @@ pub mod Openings
 pub mod Calling
 pub mod Results
 pub mod Operations
+pub mod Requiring
+pub mod Handing
 pub mod Expressions
 pub mod Rows
 pub mod Loops
@@ -33,6 +36,7 @@ pub mod Typing
 pub mod LocalTypes
 pub mod TypedStatements
 pub mod Entries
+pub mod Untaken
 pub mod LocalNames
 pub mod LocalExpressions
 pub mod LocalStatements
@@ -46,3 +50,4 @@ pub mod LocalExample
 pub mod Example
 pub mod RegionExample
 pub mod CallExample
+pub mod HandingExample

@@ -35,6 +35,7 @@ use Rattle.code_laws.specs.LocalForm.{Marked, are_local_expressions, are_local_l
 use Rattle.code_laws.specs.Programs.{call_forms}
 use Rattle.code_laws.specs.Simple.{AreAlike, IsNumber, IsScalar, IsSimple, scalar_integer, scalar_truth, simple_integer, simple_space, simple_truth}
 use Rattle.code_laws.specs.Typed.{AreNumbers, ArePassed, AreTypedLinks, IsTyped}
+use Rattle.code_laws.proofs.Untaken.{callable}
 use Rattle.code_laws.proofs.LocalNames.{AllKept, AreScalars, IsLocalTree, IsPlace, element_known, kept_simple, named_kept, named_place, place_is, simple_kept, taking_told}
 use Rattle.code_laws.proofs.LocalTypes.{number_is, operated_number, operated_simple, param_fitting, simple_after, simple_as_integer, simple_as_number, simple_compared, simple_computed, simple_truths, term_scalar}
 use Rattle.code_laws.proofs.Openings.{params_length, types_length}
@@ -190,7 +191,7 @@ module _ (task : TaskTree) (w : Where) (sound : IsSound w.tree) (local : IsLocal
         let a = local_well e lo (kept_left (parts_of_expression e) (node ∷ []) parts) index.0 in
         let p = at_point n e f there index.0 a (option_or_parts (first_of_taking w.tree taking) _ step.0).0 (option_or_parts _ _ field).0 in
         let is = named_place w sound local m n e f scope there p.place in
-        record { is = (a.is, p.number, is.0, is.1); simple = scalar_simple _ p.place.scalar; scalar = λ q. p.place.scalar }
+        record { is = (a.is, p.number, is.0, is.1, tt); simple = scalar_simple _ p.place.scalar; scalar = λ q. p.place.scalar }
     local_well (convert_expr t e) lo k none =
         let s = and_parts (is_scalar_number t) (is_local_expression m e) lo in
         let told = option_or_parts (first_in_expression w.tree task w.scope e) _ none in
@@ -210,7 +211,7 @@ module _ (task : TaskTree) (w : Where) (sound : IsSound w.tree) (local : IsLocal
         let given = rule_none (has_no_result w.tree c) rule.Type called.1 in
         let some = and_then (has_task w.tree n) (is_none (task_named w.tree n).result) t.there given in
         let scalar = given_result w.tree (task_named w.tree n).result (local.tasks n t.there).result some in
-        record { is = (refl, scalar, (local.tasks n t.there).called, passed); simple = scalar_simple _ scalar; scalar = λ q. scalar }
+        record { is = (refl, scalar, callable call_forms w n args (local.tasks n t.there).called, passed); simple = scalar_simple _ scalar; scalar = λ q. scalar }
     local_well (space_expr kind e) lo k none =
         let told = option_or_parts (first_in_expression w.tree task w.scope e) _ none in
         let a = local_well e lo (kept_behind node (parts_of_expression e) k) told.0 in
@@ -260,9 +261,7 @@ module _ (task : TaskTree) (w : Where) (sound : IsSound w.tree) (local : IsLocal
         let alike = param_fitting w.scope.known (typed w e) p a.simple scalars.0
         (subst (λ u. may_stand w.scope.known (stands u (param_spot p)) ≡ true) (local_known e parts.0) may) in
         let same = put_scalar types p scalars.0 in (
-          subst (AreAlike (typed w e)) (sym same) alike,
-          same,
-          a.is,
+          inl (subst (AreAlike (typed w e)) (sym same) alike, same, a.is),
           local_given all types ps es s.1 (kept_right (parts_of_expression e) (parts_of_expressions es) k) scalars.1 parts.1 stood.1 (omega (arith, many)),
         )
 

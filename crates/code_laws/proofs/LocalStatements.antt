@@ -49,6 +49,7 @@ use Rattle.code_laws.specs.Programs.{call_forms}
 use Rattle.code_laws.specs.Simple.{IsInteger, IsNumber, IsScalar, IsSimple, IsSpace, IsTruth, scalar_integer, scalar_truth}
 use Rattle.code_laws.specs.Typed.{AreFilled, GoesThrough, IsField, IsTyped, IsTypedForm, element_field}
 use Rattle.code_laws.proofs.LocalExpressions.{IsWell, at_point, local_numbers, local_passed, local_well}
+use Rattle.code_laws.proofs.Untaken.{callable, may_fill}
 use Rattle.code_laws.proofs.LocalNames.{AllKept, field_is, kept_integer, region_is, IsKept, IsLocalTree, first_below, kept_index, kept_region, kept_scalar, kept_simple, named_kept, named_place, no_kept_partition, simple_kept}
 use Rattle.code_laws.proofs.LocalTypes.{either, owned_simple, simple_as_domain, simple_as_integer, simple_as_space, simple_as_truth, simple_fitting, term_scalar}
 use Rattle.code_laws.proofs.TypedStatements.{HasNoPartition, count_types, counted, declared_fits, first_stands, initial_told, listed_told, result_fits, told_later, told_names}
@@ -179,6 +180,7 @@ module _ (tree : Tree) (task : TaskTree) (sound : IsSound tree) (local : IsLocal
         region.0,
         region_is tree sound local m r (bound_to s.names r).number (type_named s.names r) kept region.1,
         filled_with s line r (type_of tree s y) (known_type tree s y) (head_known tree task sound s scope y told).1 region.0 names region.1 a.simple fields named.1 parts.4,
+        may_fill (at s line) r fields,
       )
 
   -- ---- assignments
@@ -274,6 +276,7 @@ module _ (tree : Tree) (task : TaskTree) (sound : IsSound tree) (local : IsLocal
         target.number,
         target.through,
         target.field,
+        tt,
       )
 
   pub reduce_field_local : (s : Scope) (line : ℕ) (n : Name) (e : Expression) (f : Name) (o : Op) (y : Expression) → is_local_expression m e ≡ true →
@@ -298,6 +301,7 @@ module _ (tree : Tree) (task : TaskTree) (sound : IsSound tree) (local : IsLocal
         target.number,
         target.through,
         target.field,
+        tt,
       )
 
   -- ---- calls, prints, results and tests
@@ -308,7 +312,7 @@ module _ (tree : Tree) (task : TaskTree) (sound : IsSound tree) (local : IsLocal
       let told = listed_told tree task s args (told_of_form tree task s sound scope (call_form n args) e).2 in
       let call = (option_or_parts (first_of_call tree task s (calling n (known_types tree s args))) _ (told_names tree task s (call_form n args) e).1).0 in
       let p = local_passed task (at s line) sound local m scope names n args lo k told call in
-      (refl, (local.tasks n p.there).called, p.passed)
+      (refl, callable call_forms (at s line) n args (local.tasks n p.there).called, p.passed)
 
   pub print_local : (s : Scope) (line : ℕ) (alias : Option Name) (format : List ℕ) (args : Expressions) → are_local_expressions m args ≡ true →
       AreKept (parts_of_expressions args) → IsSoundScope s → AllKept m s.names →

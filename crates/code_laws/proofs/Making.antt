@@ -1,5 +1,5 @@
 -- A root is made for a new variable: the instance agrees with the state whose store has one root more.
-use Rattle.std.proofs.Common.{◌≡◌, ℕ, suc, ◌+◌, ◌^◌, ◌<◌, ◌≤◌, List, [], ◌∷◌, ◌++◌, true, false, refl, sym, ap, ◌∙◌, subst, arith, length-append, ⊎_elim}
+use Rattle.std.proofs.Common.{◌≡◌, ℕ, suc, ◌+◌, ◌^◌, ◌<◌, ◌≤◌, List, [], ◌∷◌, ◌++◌, true, false, Option, Some, None, inl, refl, sym, ap, ◌∙◌, subst, arith, length-append, ⊎_elim}
 use Rattle.std.specs.Prelude.{get_or, leb, length, ltb, map}
 use Rattle.std.proofs.lemmas.Bool.{and_parts, cases_lt, le-leb, lt-ltb, ltb-true}
 use Rattle.std.proofs.lemmas.List.{length-map}
@@ -36,7 +36,13 @@ use Rattle.memory_laws.proofs.Making.{made_holds, made_is_numbered, made_is_own}
 use Rattle.region_tree.specs.declared.tree.RootId.{RootId}
 use Rattle.machine_terms.specs.declared.order.Root.{Root}
 use Rattle.code_laws.specs.Standing.{Agrees, AreOf, Aside, IsInside, is_own, IsOf, LiesIn, Stands, machine_value, nothing, of_index, of_integer, of_partition, of_pointer, of_region, of_space, of_truth}
-use Rattle.code_laws.specs.Steps.{Setting, machine_of, placed, on_step, Leads}
+use Rattle.code_laws.specs.Steps.{Setting, Taking, machine_of, placed, on_step, Leads}
+use Rattle.code_laws.specs.Taking.{IsHadBy, is_asked}
+use Rattle.regent_tree.specs.StaticTypes.{Reach}
+use Rattle.regent_tree.specs.declared.facts.Term.{Term}
+use Rattle.regent_tree.specs.declared.types.Kind.{Kind}
+use Rattle.regent_tree.specs.declared.typing.StaticType.TheVariants.{Region as region_type}
+use Rattle.task_code.specs.declared.code.Code.{Code}
 use Rattle.code_laws.specs.Typed.{IsMakable}
 use Rattle.code_laws.proofs.Reaching.{kinds_are}
 use Rattle.regent_tree.specs.StaticTypes.{spaces_of}
@@ -47,11 +53,10 @@ use Rattle.code_laws.proofs.Runs.{leads_by}
 -- ---- what was there stays
 
 module _ (x : Setting) (store : Store) (image : RootImage) where
-  lies_more : (sp : ℕ) (q : Region) → LiesIn x store sp q → LiesIn x (store ++ image ∷ []) sp q
+  lies_more : (sp : ℕ) (q : Region) → LiesIn x.code store sp q → LiesIn x.code (store ++ image ∷ []) sp q
   lies_more sp q l =
       let same : get_or (store ++ image ∷ []) q.root no_root ≡ get_or store q.root no_root =
       get_or-append store (image ∷ []) no_root q.root l.there in record {
-        own = l.own;
         there = omega (arith, l.there, length-append store (image ∷ []));
         of_space = ap (λ (r : RootImage). r.space) same ∙ l.of_space;
         points = λ f n low h. subst (λ (r : RootImage). n < length (get_or r.fields f [])) (sym same) (l.points f n low h);
@@ -64,7 +69,7 @@ module _ (x : Setting) (store : Store) (image : RootImage) where
   inside_more _ _ (of_index k z p) l = tt
   inside_more _ _ (of_pointer k sp args rs t regions) l = tt
   inside_more _ _ (of_space k n p) l = tt
-  inside_more _ _ (of_region k sp args r q) l = lies_more sp q l
+  inside_more _ _ (of_region k sp args r q) l = (lies_more sp q l.0, l.1)
   inside_more _ _ (of_partition d r p q) l = omega (arith, l, length-append store (image ∷ []))
 
   all_more : (bs : List Bound) (names : List Value) → AreOf IsOf bs names → AreOf (IsInside x store) bs names →
@@ -74,14 +79,14 @@ module _ (x : Setting) (store : Store) (image : RootImage) where
       (a.0, inside_more b.static_type (get_or names b.place nothing) a.1 l.1, all_more bs names a.2 l.2)
 
   -- values have the numbers that they had
-  same_value : (c d : Contents) → ((r : ℕ) → r < length store → number_at d r ≡ number_at c r) → (t : StaticType) (v : Value) →
+  pub same_value : (c d : Contents) → ((r : ℕ) → r < length store → number_at d r ≡ number_at c r) → (t : StaticType) (v : Value) →
       IsOf t v → IsInside x store t v → machine_value d v ≡ machine_value c v
   same_value c d same _ _ (of_integer w z p) l = refl
   same_value c d same _ _ (of_truth b) l = refl
   same_value c d same _ _ (of_index k z p) l = refl
   same_value c d same _ _ (of_pointer k sp args rs t regions) l = refl
   same_value c d same _ _ (of_space k n p) l = refl
-  same_value c d same _ _ (of_region k sp args r q) l = ap (λ n. machine.Region (region_with n q.points)) (same q.root l.there)
+  same_value c d same _ _ (of_region k sp args r q) l = ap (λ n. machine.Region (region_with n q.points)) (same q.root l.0.there)
   same_value c d same _ _ (of_partition e r p q) l = ap (λ n. machine.Partition (record {
     root = record { 0 = n };
     disjoint = q.disjoint;
@@ -107,16 +112,15 @@ point_below size n e =
     omega (arith, ltb-true n (0 + size) (and_parts (leb 0 n) (ltb n (0 + size)) (sym (has-counted_from 0 size n) ∙ e)).1)
 
 -- the region of all points of a new root lies in it
-new_lies : (x : Setting) (store : Store) (sp size : ℕ) → size ≤ 4194304 → length x.before ≤ length store →
-    LiesIn x (store ++ new_root sp size (kinds_of x.code sp) ∷ []) sp (record { root = length store; points = points size })
-new_lies x store sp size small before =
-    let image = new_root sp size (kinds_of x.code sp) in
+new_lies : (code : Code) (store : Store) (sp size : ℕ) → size ≤ 4194304 →
+    LiesIn code (store ++ new_root sp size (kinds_of code sp) ∷ []) sp (record { root = length store; points = points size })
+new_lies code store sp size small =
+    let image = new_root sp size (kinds_of code sp) in
     let seam : get_or (store ++ image ∷ []) (length store) no_root ≡ image = get_or-append_seam store image [] no_root in record {
-      own = before;
       there = omega (arith, length-append store (image ∷ []));
       of_space = ap (λ (r : RootImage). r.space) seam;
       points = λ f n low h. subst (λ (r : RootImage). n < length (get_or r.fields f [])) (sym seam)
-          (subst (λ k. n < k) (sym (size_of (kinds_of x.code sp) size f low)) (point_below size n h));
+          (subst (λ k. n < k) (sym (size_of (kinds_of code sp) size f low)) (point_below size n h));
       small = λ n h. omega (arith, point_below size n h, small);
     }
 
@@ -162,6 +166,7 @@ module _ (x : Setting) (params slots : ℕ) (aside : Aside) where
           none = λ e. absurd (no_way (sym makes ∙ e));
           shaped = shaped_more x.code.spaces (length x.before) s.store image (new_shaped x.code sp size (space_there h s i sp can g)) g.framed.shaped;
           allows = made_covers x.code s.store i size sp (is_own x) g.memory g.framed.allows;
+          given = λ n e. made_covers x.code s.store i size sp (is_asked x.args n) g.memory (g.framed.given n e);
         };
       })
     where
@@ -203,8 +208,16 @@ module _ (x : Setting) (params slots : ℕ) (aside : Aside) where
     g.memory.stands.count,
   )
 
-  pub new_inside : (h : Here) (s : State) (i : Instance) (sp size : ℕ) → size ≤ 4194304 → Agrees x params slots aside h s i →
-      LiesIn x (with_new h sp size s).store sp (record { root = length s.store; points = points size })
-  new_inside h s i sp size small g =
-      subst (λ ks. LiesIn x (s.store ++ new_root sp size ks ∷ []) sp (record { root = length s.store; points = points size }))
-      (kinds_are x.code h.tree sp g.spaces) (new_lies x s.store sp size small (own_below h s i g))
+  -- what the instance made itself it has
+  own_had : (o : Option Taking) (r : Term) (q : Region) → length x.before ≤ q.root → IsHadBy o x r q
+  own_had None r q own = own
+  own_had (Some y) r q own = inl own
+
+  pub new_inside : (h : Here) (s : State) (i : Instance) (sp size : ℕ) (k : Kind) (args : List Reach) (r : Term) → size ≤ 4194304 →
+      Agrees x params slots aside h s i →
+      IsInside x (with_new h sp size s).store (region_type k sp args r) (new_region s size)
+  new_inside h s i sp size k args r small g = (
+    subst (λ ks. LiesIn x.code (s.store ++ new_root sp size ks ∷ []) sp (record { root = length s.store; points = points size }))
+        (kinds_are x.code h.tree sp g.spaces) (new_lies x.code s.store sp size small),
+    own_had x.forms.takes r (record { root = length s.store; points = points size }) (own_below h s i g),
+  )

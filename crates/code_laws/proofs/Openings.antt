@@ -25,7 +25,12 @@ use Rattle.machine_terms.specs.Orders.{begun}
 use Rattle.code_rules.specs.Programs.{code_of, task_code}
 use Rattle.code_rules.specs.Slots.{slot}
 use Rattle.code_rules.specs.Used.{greatest, slots_of_lines, slots_used}
-use Rattle.code_laws.specs.Programs.{task_setting}
+use Rattle.code_laws.specs.Programs.{called_setting}
+use Rattle.code_laws.specs.Taking.{is_asked, needs_taken}
+use Rattle.memory_laws.specs.Covering.{AreCovered}
+use Rattle.region_tree.specs.Requirements.{Requirement}
+use Rattle.std.specs.List.{Contains}
+use Rattle.task_code.specs.declared.code.NeedCode.{NeedCode}
 use Rattle.memory_laws.proofs.Keeping.{root_below}
 use Rattle.memory_laws.specs.Memory.{Holds, memory_of}
 use Rattle.memory_laws.specs.Places.{numbers}
@@ -205,18 +210,20 @@ ready_blanks (suc n) zero = refl
 ready_blanks (suc n) (suc k) = ready_blanks n k
 
 -- a task that begins at a depth, with these roots
-module _ (tree : Tree) (turns more depth : ℕ) (t : TaskTree) (place : ℕ) (vs : List Value) (store : Store) (c : Contents) where
+module _ (tree : Tree) (turns more depth : ℕ) (t : TaskTree) (place : ℕ) (vs : List Value) (store : Store) (c : Contents)
+    (needs : List Requirement) (args : List Value) where
   abbrev pub begins : Instance
-  begins = begun (frames.opening turns depth place (task_code tree t) (map (machine_value c) vs)) [] c
+  begins = begun (frames.opening turns depth place (task_code tree t) (map (machine_value c) vs)) needs c
 
   pub opens : (forms : Forms) (calls : Calls) →
-      (forms.calls ≡ true → Answering (task_setting forms tree turns more depth (numbers c) t) tree calls) → AreTaken IsOf (param_types tree t) vs →
-      AreTaken (IsInside (task_setting forms tree turns more depth (numbers c) t) store) (param_types tree t) vs →
+      (forms.calls ≡ true → Answering (called_setting forms tree turns more depth (numbers c) args t) tree calls) → AreTaken IsOf (param_types tree t) vs →
+      AreTaken (IsInside (called_setting forms tree turns more depth (numbers c) args t) store) (param_types tree t) vs →
       length vs ≤ (task_code tree t).slots → Holds (code_of tree) store (memory_of begins) →
-      Agrees (task_setting forms tree turns more depth (numbers c) t) (length t.params) (task_code tree t).slots
+      ((n : NeedCode) → Contains (needs_taken forms.takes) n → AreCovered (is_asked args n) store (memory_of begins)) →
+      Agrees (called_setting forms tree turns more depth (numbers c) args t) (length t.params) (task_code tree t).slots
       (before_all turns) (body_of tree calls t) (opening tree turns t vs store) begins
-  opens forms calls answers takes inside room holds =
-      let x = task_setting forms tree turns more depth (numbers c) t in
+  opens forms calls answers takes inside room holds given =
+      let x = called_setting forms tree turns more depth (numbers c) args t in
       let code = task_code tree t in
       let sc = scope_of tree t in
       let e = entered_taken c sc vs (param_types tree t) vs takes in
@@ -263,5 +270,6 @@ module _ (tree : Tree) (turns more depth : ℕ) (t : TaskTree) (place : ℕ) (vs
             length-map c.roots (λ (r : Root). r.id.0),
             holds.stands.count,
           ));
+          given = given;
         };
       }

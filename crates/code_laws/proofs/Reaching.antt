@@ -1,21 +1,26 @@
 -- A field at a point of a region that a name has: its kind is the one that is declared, and a touch of it is
 -- allowed.
-use Rattle.std.proofs.Common.{◌≡◌, ℕ, ◌^◌, ◌<◌, List, [], ◌∷◌, true, refl, sym, ap, ◌∙◌, subst}
-use Rattle.std.specs.Prelude.{get_or, length, map}
+use Rattle.std.proofs.Common.{◌≡◌, ℕ, ◌^◌, ◌<◌, List, [], ◌∷◌, true, Option, Some, None, inl, inr, refl, sym, ap, ◌∙◌, subst}
+use Rattle.std.specs.Prelude.{get_or, length, map, ◌==◌, ◌&&◌}
+use Rattle.std.specs.List.{Contains}
+use Rattle.regent_tree.proofs.Members.{Contains-from_Has, Has-from_list_any}
 use Rattle.std.proofs.lemmas.List.{length-map}
 use Rattle.std.proofs.lemmas.Simd.{map-map}
 use Rattle.std.proofs.Math.ListN.{get_or-map}
-use Rattle.std.proofs.lemmas.Bool.{le-leb}
+use Rattle.std.proofs.lemmas.Bool.{and_from, and_parts, eq-eqb, eqb-true, le-leb}
 use Rattle.plain_values.specs.Points.{has}
 use Rattle.lane_kernels.specs.declared.numbers.FieldKind.TheVariants.{Truth}
 use Rattle.lane_kernels.specs.declared.numbers.Mode.{Mode}
 use Rattle.region_tree.specs.declared.piece.Part.{Part}
+use Rattle.region_tree.specs.declared.tree.RootId.{RootId}
+use Rattle.regent_tree.specs.Accesses.{space_in}
+use Rattle.regent_tree.specs.declared.facts.Term.{Term}
 use Rattle.regent_tree.specs.Laws.{SameRoots, Shape, shape_of}
 use Rattle.regent_tree.specs.Running.{Here, State}
 use Rattle.regent_tree.specs.StaticTypes.{field_kind, field_kinds, kind_said, space_at, spaces_of}
 use Rattle.regent_tree.specs.Store.{Store, Touch, column, no_root}
 use Rattle.regent_tree.specs.Syntax.{Tree}
-use Rattle.regent_tree.specs.Values.{Region, Value}
+use Rattle.regent_tree.specs.Values.{Region, Value, a_region, region_of}
 use Rattle.regent_tree.specs.declared.types.Param.{Param}
 use Rattle.regent_tree.specs.declared.types.TypeTerm.TheVariants as typed
 use Rattle.regent_tree.specs.declared.typing.Bound.{Bound}
@@ -26,14 +31,16 @@ use Rattle.task_code.specs.declared.code.SpaceCode.{SpaceCode}
 use Rattle.machine_terms.specs.declared.order.Instance.{Instance}
 use Rattle.machine_terms.specs.Contents.{kind_of, kinds_of, no_space}
 use Rattle.code_rules.specs.Programs.{space_code}
-use Rattle.memory_laws.specs.Memory.{Holds, memory_of}
+use Rattle.memory_laws.specs.Memory.{Holds, Memory, memory_of}
 use Rattle.memory_laws.specs.Places.{number_at}
 use Rattle.memory_laws.specs.Touches.{IsCovered}
 use Rattle.memory_laws.proofs.Covering.{covered_stays}
 use Rattle.memory_laws.proofs.Shapes.{length_of, shapes_at}
 use Rattle.code_laws.proofs.Shapes.{shaped_stays}
-use Rattle.code_laws.specs.Standing.{Agrees, is_own, AreOf, Aside, IsInside, IsOf, LiesIn, nothing, of_index, of_integer, of_partition, of_pointer, of_region, of_space, of_truth}
-use Rattle.code_laws.specs.Steps.{Setting}
+use Rattle.code_laws.specs.Standing.{Agrees, is_own, AreOf, Aside, IsFramed, IsInside, IsOf, LiesIn, nothing, of_index, of_integer, of_partition, of_pointer, of_region, of_space, of_truth}
+use Rattle.code_laws.specs.Simple.{IsRegion, a_region_type, term_in}
+use Rattle.code_laws.specs.Steps.{Setting, Taking}
+use Rattle.code_laws.specs.Taking.{IsHadBy, MayDo, allows, given_region, is_asked, is_need, needs_taken}
 use Rattle.code_laws.proofs.Touching.{parted}
 
 -- ---- kinds of fields
@@ -55,10 +62,9 @@ kind_in tree sp place =
 -- ---- what stays where no root is made
 
 -- a region lies in its root still
-pub lies_stays : (x : Setting) (store after : Store) (sp : ℕ) (q : Region) → SameRoots store after →
-    LiesIn x store sp q → LiesIn x after sp q
-lies_stays x store after sp q same l = record {
-  own = l.own;
+lies_stays : (code : Code) (store after : Store) (sp : ℕ) (q : Region) → SameRoots store after →
+    LiesIn code store sp q → LiesIn code after sp q
+lies_stays code store after sp q same l = record {
   there = subst (λ n. q.root < n) (sym (length-map store shape_of) ∙ ap length (sym same) ∙ length-map after shape_of) l.there;
   of_space = ap (λ (s : Shape). s.space) (shapes_at store after q.root same) ∙ l.of_space;
   points = λ f n low h. subst (λ k. n < k)
@@ -74,9 +80,13 @@ inside_stays x store after _ _ same (of_truth b) l = tt
 inside_stays x store after _ _ same (of_index k z p) l = tt
 inside_stays x store after _ _ same (of_pointer k sp args rs t regions) l = tt
 inside_stays x store after _ _ same (of_space k n p) l = tt
-inside_stays x store after _ _ same (of_region k sp args r q) l = lies_stays x store after sp q same l
+inside_stays x store after _ _ same (of_region k sp args r q) l = (lies_stays x.code store after sp q same l.0, l.1)
 inside_stays x store after _ _ same (of_partition d r p q) l =
     subst (λ n. q.root < n) (sym (length-map store shape_of) ∙ ap length (sym same) ∙ length-map after shape_of) l
+
+pub region_stays : (x : Setting) (store after : Store) (t : StaticType) (q : Region) → IsRegion t → SameRoots store after →
+    IsInside x store t (a_region q) → IsInside x after t (a_region q)
+region_stays x store after _ q (a_region_type k sp args r) same l = inside_stays x store after _ _ same (of_region k sp args r q) l
 
 pub all_inside : (x : Setting) (store after : Store) (bs : List Bound) (names : List Value) → SameRoots store after →
     AreOf IsOf bs names → AreOf (IsInside x store) bs names → AreOf (IsInside x after) bs names
@@ -114,6 +124,7 @@ rewritten x params slots aside h s i ps ts store same g holds = record {
     none = g.framed.none;
     shaped = shaped_stays x.code.spaces (length x.before) s.store store same g.framed.shaped;
     allows = covered_stays x.code s.store store (memory_of i) (memory_of (parted ps i)) (is_own x) g.memory refl refl same g.framed.allows;
+    given = λ n e. covered_stays x.code s.store store (memory_of i) (memory_of (parted ps i)) (is_asked x.args n) g.memory refl refl same (g.framed.given n e);
   };
 }
 
@@ -126,19 +137,60 @@ pub record Reached (x : Setting) (tree : Tree) (i : Instance) (store : Store) (q
   pub covers : IsCovered i.contents i.needs (record { root = q.root; field = place; point = n; access = a })
   pub kind_is : kind_of x.code i.contents (number_at i.contents q.root) place ≡ field_kind tree sp place
 
+-- a touch of a region that an instance has is covered, where it may be made
+touch_covered : (x : Setting) (store : Store) (m : Memory) (own : List RootId) (r : Term) (q : Region) (place n : ℕ) (a : Mode)
+    (o : Option Taking) → x.forms.takes ≡ o → IsHadBy o x r q → MayDo o r place a → IsFramed x store own m → has q.points n ≡ true →
+    n < length (column store q.root place) → IsCovered m.contents m.needs (record { root = q.root; field = place; point = n; access = a })
+touch_covered x store m own r q place n a None e had may framed there is =
+    framed.allows (record { root = q.root; field = place; point = n; access = a }) (le-leb (length x.before) q.root had) is
+touch_covered x store m own r q place n a (Some y) e (inl had) may framed there is =
+    framed.allows (record { root = q.root; field = place; point = n; access = a }) (le-leb (length x.before) q.root had) is
+touch_covered x store m own r q place n a (Some y) e (inr p) may framed there is =
+    let touch : Touch = record { root = q.root; field = place; point = n; access = a } in
+    let f = Has-from_list_any (is_need p.place place a) y.needs (subst (λ r. MayDo (Some y) r place a) p.named may p.below) in
+    let d = f.0 in
+    let one = and_parts (d.param == p.place) ((d.field == place) && allows d.mode a) f.2 in
+    let two = and_parts (d.field == place) (allows d.mode a) one.1 in
+    let same : given_region x.args d.param ≡ q = ap (given_region x.args) (eqb-true d.param p.place one.0) ∙ p.is in
+    framed.given d (subst (λ t. Contains (needs_taken t) d) (sym e) (Contains-from_Has y.needs d f.1)) touch
+    (and_from (d.field == place) _ two.0 (and_from (allows d.mode a) _ two.1
+    (and_from ((given_region x.args d.param).root == q.root) _ (eq-eqb (given_region x.args d.param).root q.root (ap (λ (r : Region). r.root) same))
+    (ap (λ (r : Region). has r.points n) same ∙ there)))) is
+
+-- a value of a region's type is a region
+pub a_region_there : (t : StaticType) (v : Value) → IsRegion t → IsOf t v → (q : Region) × (region_of v ≡ q) × (v ≡ a_region q)
+a_region_there _ _ (a_region_type k sp args r) (of_region _ _ _ _ q) = (q, refl, refl)
+
+pub region_lies_in : (x : Setting) (store : Store) (t : StaticType) (q : Region) → IsRegion t → IsInside x store t (a_region q) →
+    LiesIn x.code store (space_in t) q
+region_lies_in x store _ q (a_region_type k sp args r) l = l.0
+
+-- a field of a field space has a kind in the code
+pub field_there : (code : Code) (tree : Tree) (sp place : ℕ) → code.spaces ≡ map space_code (spaces_of tree) →
+    place < length (space_at tree sp).fields → place < length (kinds_of code sp)
+field_there code tree sp place spaces low =
+    subst (λ k. place < k) (sym (length-map (space_at tree sp).fields (λ (p : Param). kind_said p.term)) ∙ sym (ap length (kinds_are code tree sp spaces))) low
+
+pub region_covered : (x : Setting) (store : Store) (m : Memory) (own : List RootId) (t : StaticType) (q : Region) (place n : ℕ) (a : Mode) →
+    IsRegion t → IsInside x store t (a_region q) → MayDo x.forms.takes (term_in t) place a → IsFramed x store own m →
+    has q.points n ≡ true → place < length (kinds_of x.code (space_in t)) →
+    IsCovered m.contents m.needs (record { root = q.root; field = place; point = n; access = a })
+region_covered x store m own _ q place n a (a_region_type k sp args r) l may framed e low =
+    touch_covered x store m own r q place n a x.forms.takes refl l.1 may framed e (l.0.points place n low e)
+
 pub reached : (x : Setting) (params slots : ℕ) (aside : Aside) (h : Here) (s : State) (i : Instance) (q : Region)
-    (sp place n : ℕ) (a : Mode) → Agrees x params slots aside h s i → LiesIn x s.store sp q →
-    place < length (space_at h.tree sp).fields → has q.points n ≡ true →
-    Reached x h.tree i s.store q sp place n a
-reached x params slots aside h s i q sp place n a g l field e =
-    let kinds = kinds_are x.code h.tree sp g.spaces in
-    let low : place < length (kinds_of x.code sp) =
-    subst (λ k. place < k) (sym (length-map (space_at h.tree sp).fields (λ (p : Param). kind_said p.term)) ∙ sym (ap length kinds)) field in
-    let is = l.points place n low e in record {
-      small = l.small n e;
-      there = is;
-      covers = g.framed.allows (record { root = q.root; field = place; point = n; access = a }) (le-leb (length x.before) q.root l.own) is;
+    (t : StaticType) → IsRegion t → (place n : ℕ) (a : Mode) → Agrees x params slots aside h s i →
+    IsInside x s.store t (a_region q) → MayDo x.forms.takes (term_in t) place a →
+    place < length (space_at h.tree (space_in t)).fields → has q.points n ≡ true →
+    Reached x h.tree i s.store q (space_in t) place n a
+reached x params slots aside h s i q t region place n a g l may field e =
+    let sp = space_in t in
+    let lies = region_lies_in x s.store t q region l in
+    let low = field_there x.code h.tree sp place g.spaces field in record {
+      small = lies.small n e;
+      there = lies.points place n low e;
+      covers = region_covered x s.store (memory_of i) i.frame.own t q place n a region l may g.framed e low;
       kind_is = ap (λ (s : Shape). get_or (kinds_of x.code s.space) place Truth) (g.memory.stands.shape q.root)
-          ∙ ap (λ k. get_or (kinds_of x.code k) place Truth) l.of_space
-          ∙ ap (λ ks. get_or ks place Truth) kinds ∙ kind_in h.tree sp place;
+          ∙ ap (λ k. get_or (kinds_of x.code k) place Truth) lies.of_space
+          ∙ ap (λ ks. get_or ks place Truth) (kinds_are x.code h.tree sp g.spaces) ∙ kind_in h.tree sp place;
     }

@@ -32,6 +32,7 @@ runs z fits = record {
             tt,
           ),
         ),
+        (tt, (tt, tt)),
       ),
       -- the write
       (
@@ -42,6 +43,7 @@ runs z fits = record {
           number_integer _,
           refl,
           record { named = refl; region = a_region_type _ _ _ _; field = omega arith; keeps = fits_32 },
+          tt,
         ),
         -- the loop
         (
@@ -54,11 +56,12 @@ runs z fits = record {
               (
                 an_integer _,
                 an_integer _,
-                (omega (arith, ints), number_integer _, refl, record { named = refl; region = a_region_type _ _ _ _; field = omega arith; keeps = fits_32 }),
+                (omega (arith, ints), number_integer _, refl, record { named = refl; region = a_region_type _ _ _ _; field = omega arith; keeps = fits_32 }, tt),
                 (refl, simple_integer _),
                 number_integer _,
                 refl,
                 record { named = refl; region = a_region_type _ _ _ _; field = omega arith; keeps = fits_64 },
+                tt,
               ),
               tt,
             ),
@@ -77,6 +80,7 @@ runs z fits = record {
                   number_index _,
                   refl,
                   record { named = refl; region = a_region_type _ _ _ _; field = omega arith; keeps = fits_32 },
+                  tt,
                 ),
                 tt,
               ),
@@ -86,10 +90,10 @@ runs z fits = record {
               (
                 (
                   an_integer _,
-                  (omega (arith, ints), number_integer _, refl, record { named = refl; region = a_region_type _ _ _ _; field = omega arith; keeps = fits_32 }),
+                  (omega (arith, ints), number_integer _, refl, record { named = refl; region = a_region_type _ _ _ _; field = omega arith; keeps = fits_32 }, tt),
                   (
                     an_integer _,
-                    (omega (arith, ints), number_integer _, refl, record { named = refl; region = a_region_type _ _ _ _; field = omega arith; keeps = fits_64 }),
+                    (omega (arith, ints), number_integer _, refl, record { named = refl; region = a_region_type _ _ _ _; field = omega arith; keeps = fits_64 }, tt),
                     tt,
                   ),
                 ),

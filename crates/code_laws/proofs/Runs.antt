@@ -2,6 +2,7 @@
 use Rattle.std.proofs.Common.{◌≡◌, ℕ, suc, ◌+◌, Option, Some, refl, ap, ◌∙◌, arith}
 use Rattle.machine_terms.specs.Orders.{until_over}
 use Rattle.regent_tree.specs.declared.outcome.Fault.{Fault}
+use Rattle.regent_tree.specs.Laws.{Leaves}
 use Rattle.regent_tree.specs.Running.{State, Run, Result, gives, fails, and_then}
 use Rattle.task_code.specs.declared.code.Line.{Line}
 use Rattle.task_code.specs.declared.instr.Instr.{Instr}
@@ -14,15 +15,17 @@ use Rattle.machine_terms.specs.declared.order.Resumed.TheVariants.{GoesOn, IsOve
 use Rattle.code_rules.specs.Pieces.{line_of}
 use Rattle.code_laws.specs.Steps.{Setting, machine_of, on_step, run_steps, Leads, Ends}
 use Rattle.code_laws.specs.Standing.{Comes}
+use Rattle.code_laws.proofs.Growing.{goes_grow, more_none, more_twice}
 
 module _ (x : Setting) where
   pub leads_none : (i : Instance) → Leads x i i
-  leads_none i = record { steps = 0; by = λ k n e. let d : n ≡ k = omega arith in ap (λ m. run_steps x m i) d }
+  leads_none i = record { steps = 0; by = λ k n e. let d : n ≡ k = omega arith in ap (λ m. run_steps x m i) d; own = more_none i.frame.own }
 
   pub leads_twice : {i j k : Instance} → Leads x i j → Leads x j k → Leads x i k
   leads_twice l m = record {
     steps = l.steps + m.steps;
     by = λ k n e. l.by (m.steps + k) n (omega arith) ∙ m.by k (m.steps + k) refl;
+    own = more_twice _ _ _ l.own m.own;
   }
 
   pub leads_end : {i j : Instance} {e : Ended} → Leads x i j → Ends x j e → Ends x i e
@@ -46,6 +49,7 @@ module _ (x : Setting) where
     steps = 1;
     by = λ k n d. acted i (Some (line_of ins line)) f k n d
         ∙ ap (λ r. until_over r (run_steps x k)) e;
+    own = goes_grow x i j ins line e;
   }
 
   pub ends_by : (i : Instance) (e : Ended) (ins : Instr) (line : ℕ) →
@@ -72,6 +76,16 @@ module _ (x : Setting) where
   then said shape Good i (gives a s) k c more =
       said.before i (shape a c.0) _ c.1 (more a s c.0 c.2)
   then said shape Good i (fails f s) k c more = said.failing i f s c
+
+  -- so, where it is known what the first step leaves of the state, and that the run leads there
+  pub then_led : {A B : Type 0} {T : Instance → Result B → Type 0} (said : Said T) (R : State → State → Type 0)
+      (shape : A → Instance → Instance) (Good : A → State → Instance → Type 0)
+      (i : Instance) (s : State) (r : Result A) (k : A → Run B) → Leaves R s r → Comes x i shape Good r →
+      ((a : A) (t : State) (j : Instance) → R s t → Leads x i (shape a j) → Good a t j → T (shape a j) (k a t)) →
+      T i (and_then r k)
+  then_led said R shape Good i s (gives a t) k kept c more =
+      said.before i (shape a c.0) _ c.1 (more a t c.0 kept c.1 c.2)
+  then_led said R shape Good i s (fails f t) k kept c more = said.failing i f t c
 
   pub comes_before : {A : Type 0} (shape : A → Instance → Instance)
       (Good : A → State → Instance → Type 0) (i j : Instance) (r : Result A) →

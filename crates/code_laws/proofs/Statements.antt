@@ -40,6 +40,7 @@ use Rattle.code_laws.proofs.Values.{past_later, scalar_simple, simple_inside}
 use Rattle.code_laws.proofs.Good.{valued, Good}
 use Rattle.code_laws.proofs.Operations.{converted_runs, fetch_small, alike_right, truth_of_type}
 use Rattle.code_laws.proofs.Expressions.{AreGiven, args_run, value_runs}
+use Rattle.code_laws.proofs.Handing.{call_takes}
 use Rattle.code_laws.proofs.Calling.{HasResult, calls_run, pending}
 use Rattle.code_laws.proofs.Prints.{pushed_all}
 use Rattle.machine_terms.specs.Contents.{no_contents}
@@ -271,7 +272,7 @@ module _ (x : Setting) (params slots : ℕ) (fit : SlotsFit x slots) (counts : C
         (then x (comes_said x _ _) _ _ _ (value h e s) _
         (value_runs x params slots fit aside h 0 low e s pc [] i fine.1 g f.0.0)
         (λ v s1 j k. converted_runs x params slots fit aside h t u [] v s1 _ [] j fine.0 k.0 k.1 f.0.1))
-        (λ v s1 j k. sets_element x params slots fit aside h n y f2 u v s1 _ j low fine.2 fine.3 fine.4 fine.5 k.0 k.1 f.1)
+        (λ v s1 j k. sets_element x params slots fit aside h n y f2 u v s1 _ j low fine.2 fine.3 fine.4 fine.5 fine.6 k.0 k.1 f.1)
     form_runs aside h (assign_form n (at_step y (field_step f2 no_step)) (how.Reduce o) e) s pc i low fine g f =
         let w = where_of params h in
         let t = typed w e in
@@ -281,7 +282,7 @@ module _ (x : Setting) (params slots : ℕ) (fit : SlotsFit x slots) (counts : C
         (valued (past (expr_code w 0 e) pc) []) (Good x params slots fit aside h t) _ (value h e s) _
         (value_runs x params slots fit aside h 0 low e s pc [] i fine.2 g f.0)
         (λ v s1 j k. folds_element x params slots fit aside o h n y f2 u t v s1 _ j low fine.3 fine.4 fine.5 fine.6
-        fine.1 fine.0 k.0 k.1 f.1)
+        fine.7 fine.1 fine.0 k.0 k.1 f.1)
     form_runs aside h (assign_form n (at_step _ no_step) how.Set e) s pc i low fine g f = absurd fine
     form_runs aside h (assign_form n (at_step _ (at_step _ _)) how.Set e) s pc i low fine g f = absurd fine
     form_runs aside h (assign_form n (at_step _ (field_step _ (field_step _ _))) how.Set e) s pc i low fine g f = absurd fine
@@ -294,7 +295,7 @@ module _ (x : Setting) (params slots : ℕ) (fit : SlotsFit x slots) (counts : C
         let t = typed (where_of params h) e in
         then x (does_said x params slots fit counts aside _ h) _ _ _ (value h e s) _
         (value_runs x params slots fit aside h 0 low e s pc [] i fine.0 g f.0)
-        (λ v s1 j k. fill_runs x params slots fit counts aside h r fields t v s1 _ j low fine.1 fine.2 fine.3 k.0 k.1 f.1.0 f.1.1)
+        (λ v s1 j k. fill_runs x params slots fit counts aside h r fields t v s1 _ j low fine.1 fine.2 fine.3 fine.4 k.0 k.1 f.1.0 f.1.1)
     form_runs aside h (call_form task args) s pc i low fine g f =
         let w = where_of params h in
         let callee = task_named h.tree task in
@@ -302,15 +303,16 @@ module _ (x : Setting) (params slots : ℕ) (fit : SlotsFit x slots) (counts : C
         let ps = param_types h.tree callee in
         let a = past (exprs_code w 0 ts args) pc in
         let done = past (form_code w (call_form task args)) pc in
-        then x (does_said x params slots fit counts aside done h) (λ vs j. placed a (pushed_all no_contents vs []) j)
-        (AreGiven x params slots fit aside h ps (count args)) _ (values h ts args s) _
+        then x (does_said x params slots fit counts aside done h) (λ vs j. placed a (pushed_all j.contents vs []) j)
+        (AreGiven x params slots fit aside h ps args) _ (values h ts args s) _
         (args_run x params slots fit aside h 0 low ts ps args s pc [] i fine.2 g f.0)
         (λ vs s1 j k.
+        let made = call_takes x params slots fit aside h task args vs s1 j fine.1 k.0 k.2 in
         let called_at = subst (λ n. Stands x.body a (op (instr.Call (place_of_task h.tree task) n) h.line)) (sym k.1) f.1.0 in
         then x (does_said x params slots fit counts aside done h) (pending x params slots fit aside j.frame.children (suc a) [])
         (HasResult x params slots fit aside j.frame.children h task) _ (called h task vs s1) _
         (calls_run x params slots fit aside h task vs s1 a [] j (k.2.answers fine.0)
-        (record { there = fine.1.0; needs = fine.1.1; taken = k.0 }) (fetch_small x.body (suc a) _ f.1.1) k.2 called_at)
+        made.takes made.within (fetch_small x.body (suc a) _ f.1.1) k.2 called_at)
         (λ v s2 j2 k2. (j2, leads_by x _ _ instr.Drop h.line f.1.1 refl, k2.0)))
 
     arms_run : (aside : Aside) (own h h0 : Here) (arms : Arms) (other : Run Going) (oc : Piece) (s : State)

@@ -1,7 +1,7 @@
 -- The run in order of a program over scalars is what the program means.
-use Rattle.std.proofs.Common.{◌≡◌, ℕ, ◌≤◌, ◌<◌, ◌^◌, ℤ, List, [], ◌∷◌, ◌++◌, true, false, refl, sym, ap, ◌∙◌, arith}
+use Rattle.std.proofs.Common.{◌≡◌, ℕ, ◌≤◌, ◌<◌, ◌^◌, ℤ, List, [], ◌∷◌, ◌++◌, Bool, true, false, refl, sym, ap, ◌∙◌, arith}
 use Rattle.std.specs.Prelude.{cond, length, map, nat_le, ◌==◌, ◌&&◌}
-use Rattle.std.proofs.lemmas.Bool.{le-leb, eq-eqb}
+use Rattle.std.proofs.lemmas.Bool.{and_parts, le-leb, eq-eqb}
 use Rattle.regent_tree.specs.Execution.{Going, goes_on, returned}
 use Rattle.regent_tree.specs.Meaning.{body_of, calls_at, inputs_of, meaning, opening, outcome}
 use Rattle.regent_tree.specs.Running.{Result, State, fails, gives}
@@ -34,6 +34,10 @@ use Rattle.regent_tree.specs.declared.outcome.RootImage.{RootImage}
 use Rattle.machine_terms.specs.declared.order.Instance.{Instance}
 use Rattle.code_laws.proofs.Tasks.{answering}
 use Rattle.code_laws.proofs.Values.{not_true, number_inside}
+use Rattle.task_code.specs.declared.code.NeedCode.{NeedCode}
+use Rattle.regent_tree.specs.Store.{Touch}
+use Rattle.code_laws.specs.Handing.{AreTypedBy, RegionsAreHandedAsMeant, forms_by}
+use Rattle.code_laws.specs.Taking.{allows, given_region, is_asked}
 use Rattle.code_laws.specs.Programs.{AreTypedTasks, CallsRunAsMeant, call_forms, IsTypedRun, LeavesNoRoots, RegionsRunAsMeant, RunsAsMeant, ScalarsRunAsMeant, entry_setting, job_of, region_forms, scalar_forms}
 use Rattle.code_laws.specs.Standing.{Answering, AreTaken, Does, IsFramed, IsInside, IsOf, Stands, machine_value}
 use Rattle.code_laws.specs.Steps.{Ends, Forms, Setting, placed}
@@ -117,6 +121,14 @@ module _ (forms : Forms) (tree : Tree) (turns : ℕ) (t : TaskTree) where
   )
   by_end i (fails k s) d f = (_, d, (refl, λ m. tt, refl))
 
+-- nothing is asked of the first task's arguments
+nothing_asked : (n : NeedCode) (u : Touch) → is_asked [] n u ≡ true → ⊥
+nothing_asked n u e =
+    let q = given_region [] n.param in
+    let one = and_parts (n.field == u.field) _ e in
+    let two = and_parts (allows n.mode u.access) _ one.1 in
+    not_true (and_parts (q.root == u.root) _ two.1).1
+
 pub typed_run_ends : (forms : Forms) (tree : Tree) (inputs : List ℤ) (turns : ℕ) →
     (forms.calls ≡ true → Answering (entry_setting forms tree turns (task_named tree (entry_name tree))) tree (calls_at tree turns 63)) →
     IsTypedRun forms tree inputs →
@@ -131,13 +143,13 @@ typed_run_ends forms tree inputs turns answers p =
     let vs = inputs_of ts inputs in
     let x = entry_setting forms tree turns t in
     let h = body_of tree (calls_at tree turns 63) t in
-    let i = begins tree turns 63 1 t place vs [] no_contents in
+    let i = begins tree turns 63 1 t place vs [] no_contents [] [] in
     let params : length ts ≡ length t.params = types_length (scope_of tree t).names ∙ params_length tree t.params 0 t.params in
     let same : map (machine_value no_contents) vs ≡ map machine.Number inputs = inputs_kept ts inputs (p.count ∙ sym params) in
     let room : length t.params ≤ code.slots = least_slots (length t.params) code.body in
     let few : length vs ≤ code.slots = omega (arith, taken_length IsOf ts vs p.taken, params, room) in
-    let g = opens tree turns 63 1 t place vs [] no_contents forms (calls_at tree turns 63) answers p.taken (inputs_inside x [] ts inputs p.taken) few
-    (first_holds (code_of tree) i.frame) in
+    let g = opens tree turns 63 1 t place vs [] no_contents [] [] forms (calls_at tree turns 63) answers p.taken (inputs_inside x [] ts inputs p.taken) few
+    (first_holds (code_of tree) i.frame) (λ n h u asked. absurd (nothing_asked n u asked)) in
     let low : length t.params ≤ length h.scope.names = omega (arith, params_length tree t.params 0 t.params) in
     let stands = stands_alone (body_piece tree t) p.small in
     let done = by_end forms tree turns t i _ (block_runs x (length t.params) code.slots (fits_slots x tree t refl) counts_down
@@ -165,11 +177,26 @@ pub regions_run_as_meant : RegionsRunAsMeant
 regions_run_as_meant tree inputs turns p = (typed_run_ends region_forms tree inputs turns (λ e. absurd (not_true e)) p).0
 
 -- by what calls are answered
+handed_end : (handing : Bool) (tree : Tree) (inputs : List ℤ) (turns : ℕ) → turns < 2 ^ 64 → AreTypedBy handing tree →
+    IsTypedRun (forms_by handing tree (task_named tree (entry_name tree))) tree inputs →
+    RunsAsMeant tree inputs turns × (true ≡ false → LeavesNoRoots (meaning tree inputs turns).ending)
+    × (fits_spaces (code_of tree) (meaning tree inputs turns) ≡ true)
+handed_end handing tree inputs turns few are p =
+    let t = task_named tree (entry_name tree) in
+    typed_run_ends (forms_by handing tree t) tree inputs turns (λ e. answering handing tree turns few are 63 1 [] [] t refl) p
+
+pub regions_are_handed_as_meant : RegionsAreHandedAsMeant
+regions_are_handed_as_meant tree inputs turns few are p = (handed_end true tree inputs turns few are p).0
+
+pub handed_fit_spaces : (tree : Tree) (inputs : List ℤ) (turns : ℕ) → turns < 2 ^ 64 → AreTypedBy true tree →
+    IsTypedRun (forms_by true tree (task_named tree (entry_name tree))) tree inputs → fits_spaces (code_of tree) (meaning tree inputs turns) ≡ true
+handed_fit_spaces tree inputs turns few are p = (handed_end true tree inputs turns few are p).2
+
 calls_end : (tree : Tree) (inputs : List ℤ) (turns : ℕ) → turns < 2 ^ 64 → AreTypedTasks tree → IsTypedRun call_forms tree inputs →
-    RunsAsMeant tree inputs turns × (call_forms.makes ≡ false → LeavesNoRoots (meaning tree inputs turns).ending)
+    RunsAsMeant tree inputs turns × (true ≡ false → LeavesNoRoots (meaning tree inputs turns).ending)
     × (fits_spaces (code_of tree) (meaning tree inputs turns) ≡ true)
 calls_end tree inputs turns few are p =
-    typed_run_ends call_forms tree inputs turns (λ e. answering tree turns few are 63 1 [] (task_named tree (entry_name tree)) refl) p
+    handed_end false tree inputs turns few (λ k t e. let a = are k t e in record { given = a.given; typed = a.typed; small = a.small }) p
 
 pub calls_run_as_meant : CallsRunAsMeant
 calls_run_as_meant tree inputs turns few are p = (calls_end tree inputs turns few are p).0

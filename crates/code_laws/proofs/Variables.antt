@@ -28,7 +28,6 @@ use Rattle.regent_tree.specs.Syntax.{Name, var_form, Initializer}
 use Rattle.regent_tree.specs.Typing.{var_type}
 use Rattle.regent_tree.specs.Values.{Region, Value, a_number, a_region, a_truth, region_of, size_of}
 use Rattle.regent_tree.specs.Running.{State, Here, and_then, gives}
-use Rattle.regent_tree.specs.Accesses.{space_in}
 use Rattle.regent_tree.specs.Evaluation.{named_value}
 use Rattle.regent_tree.specs.Execution.{fill_fields, bind, after_statement}
 use Rattle.task_code.specs.declared.instr.Instr.TheVariants as instr
@@ -38,9 +37,10 @@ use Rattle.code_rules.specs.Slots.{slot, slot_named, spare}
 use Rattle.code_rules.specs.Initializers.{new_place, zero_kept}
 use Rattle.code_rules.specs.Assignments.{fill_code}
 use Rattle.code_laws.specs.Steps.{Setting, placed}
-use Rattle.code_laws.specs.Standing.{Stands, machine_value, Comes, IsInside, IsOf, LiesIn, nothing, of_integer, of_region, of_space, of_truth, blank, Aside, where_of, Agrees, SlotsFit, Does}
+use Rattle.code_laws.specs.Standing.{Stands, machine_value, Comes, IsInside, IsOf, nothing, of_integer, of_region, of_space, of_truth, blank, Aside, where_of, Agrees, SlotsFit, Does}
 use Rattle.code_laws.specs.Simple.{IsRegion, IsScalar, IsSpace, a_region_type, a_space_type, scalar_integer, scalar_truth}
-use Rattle.code_laws.specs.Typed.{AreFilled, CountsDown, IsMakable}
+use Rattle.code_laws.specs.Typed.{AreFilled, CountsDown, IsMakable, MayFill}
+use Rattle.code_laws.proofs.Reaching.{a_region_there}
 use Rattle.code_laws.proofs.Values.{named}
 use Rattle.code_laws.proofs.Good.{valued, Gives, pushes}
 use Rattle.code_laws.proofs.States.{stored, stores, bound_more, aside_stored}
@@ -50,12 +50,8 @@ pub zero_fits : (w : Width) → FitsWidth w (pos 0)
 zero_fits W32 = omega (arith, ints)
 zero_fits W64 = omega (arith, ints)
 
--- a value of a region's type is a region
-a_region_there : (t : StaticType) (v : Value) → IsRegion t → IsOf t v → (q : Region) × (region_of v ≡ q) × (v ≡ a_region q)
-a_region_there _ _ (a_region_type k sp args r) (of_region _ _ _ _ q) = (q, refl, refl)
-
 region_lies : (x : Setting) (store : Store) (t : StaticType) (v : Value) → IsRegion t → (q : Region) → v ≡ a_region q →
-    IsInside x store t v → LiesIn x store (space_in t) q
+    IsInside x store t v → IsInside x store t (a_region q)
 region_lies x store _ v (a_region_type k sp args r) q e l = subst (IsInside x store (region_type k sp args r)) e l
 
 module _ (x : Setting) (params slots : ℕ) (fit : SlotsFit x slots) (counts : CountsDown) where
@@ -102,19 +98,19 @@ module _ (x : Setting) (params slots : ℕ) (fit : SlotsFit x slots) (counts : C
       let sp = place_of_space h.tree u.name in (
         make_instance x.code size sp i,
         makes_root x params slots aside h s i sp size pc h.line near can g f,
-        (of_region k sp args r _, new_inside x params slots aside h s i sp size small g, made_agrees x params slots aside h s i sp size makes can g),
+        (of_region k sp args r _, new_inside x params slots aside h s i sp size k args r small g, made_agrees x params slots aside h s i sp size makes can g),
       )
 
   -- the value is put aside, and the fields are filled with it
   pub fill_runs : (aside : Aside) (h : Here) (r : Name) (fs : List Name) (from : StaticType) (v : Value) (s : State) (pc : ℕ) (i : Instance) →
       params ≤ length h.scope.names → is_bound h.scope.names r ≡ true → IsRegion (bound_to h.scope.names r).static_type →
-      AreFilled (where_of params h) r from fs → IsOf from v → Agrees x params slots aside h s i →
+      AreFilled (where_of params h) r from fs → MayFill x.forms (where_of params h) r fs → IsOf from v → Agrees x params slots aside h s i →
       Stands x.body pc (op (instr.Store (spare (where_of params h) 0)) h.line) →
       Stands x.body (suc pc) (fill_code (where_of params h) from (bound_to h.scope.names r).static_type (slot_named (where_of params h) r) fs) →
       Does x params slots aside (valued pc [] v i)
       (past (fill_code (where_of params h) from (bound_to h.scope.names r).static_type (slot_named (where_of params h) r) fs) (suc pc)) h
       (and_then (named_value h r s) (λ u. fill_fields h from v (bound_to h.scope.names r).static_type (region_of u) fs))
-  fill_runs aside h r fs from v s pc i low bound region fine o g at code =
+  fill_runs aside h r fs from v s pc i low bound region fine may o g at code =
       let w = where_of params h in
       let b = bound_to h.scope.names r in
       let k = length h.scope.names in
@@ -131,6 +127,6 @@ module _ (x : Setting) (params slots : ℕ) (fit : SlotsFit x slots) (counts : C
       (subst (λ u. Comes x (placed (suc pc) [] j)
       (λ g3 j3. placed (past (fill_code w from b.static_type (slot_named w r) fs) (suc pc)) [] j3) (GoesOn x params slots fit aside h)
       (fill_fields h from v b.static_type u fs s)) (sym q.1)
-      (fields_filled x params slots fit aside h r from v q.0 fs s (suc pc) j fine o q.2
+      (fields_filled x params slots fit aside h r from v q.0 fs s (suc pc) j fine may region o q.2
       (region_lies x s.store b.static_type (get_or s.names b.place nothing) region q.0 q.2 lies) (omega (arith, m.below, g.count))
       (get_or-set_same i.frame.slots (spare w 0) put blank (omega (arith, fit pc _ at, g.slots_are))) g2 code)))

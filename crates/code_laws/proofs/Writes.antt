@@ -45,7 +45,8 @@ use Rattle.memory_laws.specs.Memory.{Holds, IsKept, memory_of}
 use Rattle.memory_laws.specs.Places.{number_at}
 use Rattle.code_laws.specs.Steps.{Setting, machine_of, placed, on_step, Leads}
 use Rattle.code_laws.specs.Standing.{Agrees, Aside, Comes, IsInside, IsOf, SlotsFit, Stands, machine_value, nothing, of_index, of_integer, of_region, of_truth, where_of}
-use Rattle.code_laws.specs.Simple.{AreAlike, FieldFits, IsInteger, IsNumber, IsRegion, an_integer, number_index, number_integer, a_region_type, fits_32, fits_64, fits_truth, two_integers, two_truths}
+use Rattle.code_laws.specs.Taking.{MayDo}
+use Rattle.code_laws.specs.Simple.{term_in, AreAlike, FieldFits, IsInteger, IsNumber, IsRegion, an_integer, number_index, number_integer, a_region_type, fits_32, fits_64, fits_truth, two_integers, two_truths}
 use Rattle.code_laws.proofs.Accesses.{HasRegion, aims_first, region_there}
 use Rattle.code_laws.proofs.Good.{valued, Gives}
 use Rattle.code_laws.proofs.Reaching.{Reached, reached, rewritten}
@@ -252,6 +253,7 @@ module _ (x : Setting) (params slots : ℕ) (fit : SlotsFit x slots) (aside : As
       field_place h.tree (space_in t) f < length (space_at h.tree (space_in t)).fields →
       FieldFits (field_kind h.tree (space_in t) (field_place h.tree (space_in t) f)) out → IsOf out v →
       ((s1 : State) (j : Instance) → Agrees x params slots aside h s1 j → IsInside x s1.store t (get_or s1.names p nothing)) →
+      MayDo x.forms.takes (term_in t) (field_place h.tree (space_in t) f) mode.Write →
       Stands x.body pc ((load_code (where_of params h) t (slot (where_of params h) p) (at_step e no_step)
       ⨟ steps_code (where_of params h) 0 t (own_slot (where_of params h) t p) (at_step e no_step))
       ⨟ put_code (where_of params h) (type_of_element h.scope t e)
@@ -264,7 +266,7 @@ module _ (x : Setting) (params slots : ℕ) (fit : SlotsFit x slots) (aside : As
       (GoesOn h)
       (and_then (stepped h t v0 (at_step e no_step) s)
       (λ u. write_field h (type_of_element h.scope t e) f how.Set v (aimed u)))
-  access_writes h _ p _ e f out v s pc i (a_region_type k sp args r) (of_region _ _ _ _ q) is low runs index same single field fits o lies stands =
+  access_writes h _ p _ e f out v s pc i (a_region_type k sp args r) (of_region _ _ _ _ q) is low runs index same single field fits o lies may stands =
       let sl = slot (where_of params h) p in
       let room : sl < slots = omega (arith, fit _ _ stands.0.1.1.1.0) in
       let pt = type_of_element h.scope (region_type k sp args r) e in
@@ -276,8 +278,8 @@ module _ (x : Setting) (params slots : ℕ) (fit : SlotsFit x slots) (aside : As
       element_points _ (comes_said x _ (GoesOn h)) h 0 _ sl e q s pc (machine.Number (kept_number v) ∷ []) i _ (a_region_type k sp args r)
       (runs pc stands.0.1.0) index same there stands.0.1
       (λ n s1 j names b g. field_writes h pt f place n sl q out v s1 a [] j fits o (there s1 j names g) b refl
-      (reached x params slots aside h s1 j q sp place n (mode.Write) g
-      (subst (IsInside x s1.store (region_type k sp args r)) (ap (λ ns. get_or ns p nothing) names ∙ is) (lies s1 j g)) field b) g
+      (reached x params slots aside h s1 j q (region_type k sp args r) (a_region_type k sp args r) place n (mode.Write) g
+      (subst (IsInside x s1.store (region_type k sp args r)) (ap (λ ns. get_or ns p nothing) names ∙ is) (lies s1 j g)) may field b) g
       (subst (λ rs. Stands x.body a (op (instr.Write rs place (width_of (field_kind h.tree sp place))) h.line)) single stands.1))
 
   -- `r[e].f o= y`
@@ -292,6 +294,7 @@ module _ (x : Setting) (params slots : ℕ) (fit : SlotsFit x slots) (aside : As
       field_place h.tree (space_in t) f < length (space_at h.tree (space_in t)).fields →
       FieldFits (field_kind h.tree (space_in t) (field_place h.tree (space_in t) f)) (integer_type wd) →
       ((s1 : State) (j : Instance) → Agrees x params slots aside h s1 j → IsInside x s1.store t (get_or s1.names p nothing)) →
+      MayDo x.forms.takes (term_in t) (field_place h.tree (space_in t) f) (mode.Reduce o) →
       Stands x.body pc ((load_code (where_of params h) t (slot (where_of params h) p) (at_step e no_step)
       ⨟ steps_code (where_of params h) 0 t (own_slot (where_of params h) t p) (at_step e no_step))
       ⨟ put_code (where_of params h) (type_of_element h.scope t e)
@@ -304,7 +307,7 @@ module _ (x : Setting) (params slots : ℕ) (fit : SlotsFit x slots) (aside : As
       (GoesOn h)
       (and_then (stepped h t v0 (at_step e no_step) s)
       (λ u. write_field h (type_of_element h.scope t e) f (how.Reduce o) (a_number we y) (aimed u)))
-  access_folds o h _ p _ e f wd we y s pc i (a_region_type k sp args r) (of_region _ _ _ _ q) is low runs index same single field fits lies stands =
+  access_folds o h _ p _ e f wd we y s pc i (a_region_type k sp args r) (of_region _ _ _ _ q) is low runs index same single field fits lies may stands =
       let sl = slot (where_of params h) p in
       let room : sl < slots = omega (arith, fit _ _ stands.0.1.1.1.0) in
       let pt = type_of_element h.scope (region_type k sp args r) e in
@@ -316,8 +319,8 @@ module _ (x : Setting) (params slots : ℕ) (fit : SlotsFit x slots) (aside : As
       element_points _ (comes_said x _ (GoesOn h)) h 0 _ sl e q s pc (machine.Number y ∷ []) i _ (a_region_type k sp args r)
       (runs pc stands.0.1.0) index same there stands.0.1
       (λ n s1 j names b g. field_folds o h pt f place n sl q wd we y s1 a [] j fits (there s1 j names g) b refl
-      (reached x params slots aside h s1 j q sp place n (mode.Reduce o) g
-      (subst (IsInside x s1.store (region_type k sp args r)) (ap (λ ns. get_or ns p nothing) names ∙ is) (lies s1 j g)) field b) g
+      (reached x params slots aside h s1 j q (region_type k sp args r) (a_region_type k sp args r) place n (mode.Reduce o) g
+      (subst (IsInside x s1.store (region_type k sp args r)) (ap (λ ns. get_or ns p nothing) names ∙ is) (lies s1 j g)) may field b) g
       (subst (λ rs. Stands x.body a (op (instr.Reduce rs place o (width_of (field_kind h.tree sp place))) h.line)) single stands.1))
 
   -- ---- conversions

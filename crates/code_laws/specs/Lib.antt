@@ -1,8 +1,10 @@
 pub mod Steps
 pub mod Simple
+pub mod Taking
 pub mod Standing
 pub mod Typed
 pub mod Programs
+pub mod Handing
 pub mod ScalarPrograms
 pub mod LocalForm
 pub mod LocalPrograms
@@ -10,3 +12,4 @@ pub mod LocalExample
 pub mod Example
 pub mod RegionExample
 pub mod CallExample
+pub mod HandingExample

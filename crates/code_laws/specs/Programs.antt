@@ -1,9 +1,10 @@
 -- Programs whose entry task treats scalars alone, and what is to be shown of them.
-use Rattle.std.specs.Prelude.{◌≡◌, false, true, ℕ, ◌^◌, ◌<◌, ◌≤◌, ℤ, List, [], length, Some, slice_get}
+use Rattle.std.specs.Prelude.{◌≡◌, false, true, ℕ, ◌^◌, ◌<◌, ◌≤◌, ℤ, List, [], length, Some, None, slice_get}
 use Rattle.regent_tree.specs.Meaning.{inputs_of, meaning}
 use Rattle.regent_tree.specs.StaticTypes.{entry_name, task_named}
 use Rattle.regent_tree.specs.Syntax.{TaskTree, Tree}
 use Rattle.regent_tree.specs.Typing.{param_types, result_type}
+use Rattle.regent_tree.specs.Values.{Value}
 use Rattle.regent_tree.specs.declared.outcome.Ending.{Ending}
 use Rattle.regent_tree.specs.declared.outcome.Ending.TheVariants.{Finished, Faulted, Broken}
 use Rattle.regent_tree.specs.declared.typing.StaticType.{StaticType}
@@ -25,13 +26,13 @@ job_of tree inputs turns = record { code = code_of tree; inputs = inputs; turns 
 
 -- numbers and truths alone; roots too; and calls too
 abbrev pub scalar_forms : Forms
-scalar_forms = record { makes = false; calls = false }
+scalar_forms = record { makes = false; calls = false; takes = None }
 
 abbrev pub region_forms : Forms
-region_forms = record { makes = true; calls = false }
+region_forms = record { makes = true; calls = false; takes = None }
 
 abbrev pub call_forms : Forms
-call_forms = record { makes = true; calls = true }
+call_forms = record { makes = true; calls = true; takes = None }
 
 -- a task at a depth, where so many more calls may nest, and these roots are there
 abbrev pub task_setting : Forms → Tree → ℕ → ℕ → ℕ → List ℕ → TaskTree → Setting
@@ -43,8 +44,13 @@ task_setting forms tree turns more depth before t = record {
   result = result_type tree t.result;
   depth = depth;
   before = before;
+  args = [];
   forms = forms;
 }
+
+-- a task that was called with these arguments
+abbrev pub called_setting : Forms → Tree → ℕ → ℕ → ℕ → List ℕ → List Value → TaskTree → Setting
+called_setting forms tree turns more depth before args t = record (task_setting forms tree turns more depth before t) { args = args }
 
 -- the entry task
 abbrev pub entry_setting : Forms → Tree → ℕ → TaskTree → Setting

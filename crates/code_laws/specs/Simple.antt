@@ -7,6 +7,7 @@ use Rattle.lane_kernels.specs.declared.numbers.Width.TheVariants.{W32, W64}
 use Rattle.regent_tree.specs.declared.expression.Sign.{Sign}
 use Rattle.regent_tree.specs.declared.expression.Sign.TheVariants.{Minus, Not}
 use Rattle.regent_tree.specs.declared.facts.Term.{Term}
+use Rattle.regent_tree.specs.declared.facts.Term.TheVariants.{Name}
 use Rattle.regent_tree.specs.declared.types.Kind.{Kind}
 use Rattle.regent_tree.specs.declared.types.NumberTerm.{NumberTerm}
 use Rattle.regent_tree.specs.declared.types.NumberTerm.TheVariants as number
@@ -42,6 +43,16 @@ pub data IsSpace : StaticType → Type 0 where
 
 pub data IsRegion : StaticType → Type 0 where
   a_region_type : (k : Kind) (sp : ℕ) (args : List Reach) (r : Term) → IsRegion (region_type k sp args r)
+
+-- two regions of one field space
+pub data AreRegions : StaticType → StaticType → Type 0 where
+  two_regions : (k l : Kind) (sp : ℕ) (args brgs : List Reach) (r u : Term) →
+      AreRegions (region_type k sp args r) (region_type l sp brgs u)
+
+-- what names a region, by its type
+abbrev pub term_in : StaticType → Term
+term_in (region_type k sp args r) = r
+term_in t = Name 0
 
 -- two integers, or two truths
 pub data AreAlike : StaticType → StaticType → Type 0 where

@@ -1,5 +1,6 @@
 -- Where code stands, and how an instance agrees with a state of the meaning.
 use Rattle.std.specs.Prelude.{◌≡◌, ℕ, suc, ◌+◌, ◌^◌, ◌<◌, ◌≤◌, ℤ, pos, false, true, List, [], ◌∷◌, map, length, Option, Some, get_or, nat_le, slice_get, take, Bool}
+use Rattle.std.specs.List.{Contains}
 use Rattle.plain_values.specs.Points.{has}
 use Rattle.lane_kernels.specs.Numbers.{FitsWidth}
 use Rattle.lane_kernels.specs.declared.numbers.Width.TheVariants.{W64}
@@ -32,7 +33,9 @@ use Rattle.machine_terms.specs.Makes.{region_with}
 use Rattle.machine_terms.specs.Orders.{begun, result_of}
 use Rattle.code_laws.specs.Simple.{IsScalar}
 use Rattle.code_rules.specs.Instructions.{place_of_task, tasks_of}
-use Rattle.machine_terms.specs.Opening.{opening}
+use Rattle.machine_terms.specs.Opening.{opening, requirements_on}
+use Rattle.region_tree.specs.Requirements.{Requirement}
+use Rattle.task_code.specs.declared.code.NeedCode.{NeedCode}
 use Rattle.regent_tree.specs.Laws.{SameRoots}
 use Rattle.regent_tree.specs.Syntax.{Name, Tree}
 use Rattle.regent_tree.specs.Typing.{param_types, result_type}
@@ -48,7 +51,8 @@ use Rattle.memory_laws.specs.Covering.{AreCovered}
 use Rattle.memory_laws.specs.Memory.{Holds, Memory, StandFor, memory_of}
 use Rattle.memory_laws.specs.Places.{number_at, numbers}
 use Rattle.run_report.specs.Dumps.{is_of_space}
-use Rattle.code_laws.specs.Steps.{Setting, placed, Leads, Ends}
+use Rattle.code_laws.specs.Steps.{Setting, Taking, placed, Leads, Ends}
+use Rattle.code_laws.specs.Taking.{IsHad, is_asked, needs_taken}
 
 -- a piece stands in a body at a place
 abbrev pub Stands : List Line → ℕ → Piece → Type 0
@@ -121,19 +125,18 @@ AreOf Holding [] names = Unit {0}
 AreOf Holding (b ∷ bs) names = (b.place ≡ length bs) × Holding b.static_type (get_or names b.place nothing)
     × AreOf Holding bs names
 
--- A region lies in a root of the store that the instance made itself: that is of a field space, and each of
--- its fields has a number at each of the region's points.
-pub record LiesIn (x : Setting) (store : Store) (space : ℕ) (q : Region) : Type 0 where
-  pub own : length x.before ≤ q.root
+-- A region lies in a root of the store: that is of a field space, and each of its fields has a number at each
+-- of the region's points.
+pub record LiesIn (code : Code) (store : Store) (space : ℕ) (q : Region) : Type 0 where
   pub there : q.root < length store
   pub of_space : (get_or store q.root no_root).space ≡ space
-  pub points : (field n : ℕ) → field < length (kinds_of x.code space) → has q.points n ≡ true →
+  pub points : (field n : ℕ) → field < length (kinds_of code space) → has q.points n ≡ true →
       n < length (column store q.root field)
   pub small : (n : ℕ) → has q.points n ≡ true → n < 2 ^ 32
 
--- a value stays within the store: regions lie in it, and partitions are of its roots
+-- a value stays within the store: regions lie in it and are the task's own or given, and partitions are of its roots
 abbrev pub IsInside : Setting → Store → StaticType → Value → Type 0
-IsInside x store (region_type k space args r) (a_region q) = LiesIn x store space q
+IsInside x store (region_type k space args r) (a_region q) = LiesIn x.code store space q × IsHad x r q
 IsInside x store (partition_type d r p) (a_partition q) = q.root < length store
 IsInside x store t v = Unit {0}
 
@@ -162,21 +165,31 @@ abbrev pub is_own : Setting → Touch → Bool
 is_own x t = nat_le (length x.before) t.root
 
 -- What stays while an instance runs: its own roots come behind those that were there before it, each is of one
--- of the field spaces, and its needs allow each touch of a point of these.
+-- of the field spaces, and its needs allow each touch of a point of these, and what is needed of parameters.
 pub record IsFramed (x : Setting) (store : Store) (own : List RootId) (m : Memory) : Type 0 where
   pub own_are : AreOwn x.before own m.contents
   pub none : x.forms.makes ≡ false → own ≡ []
   pub shaped : (place : ℕ) → length x.before ≤ place → place < length store →
       is_of_space x.code.spaces (get_or store place no_root) ≡ true
   pub allows : AreCovered (is_own x) store m
+  pub given : (n : NeedCode) → Contains (needs_taken x.forms.takes) n → AreCovered (is_asked x.args n) store m
 
 -- ---- calls
 
--- a task of the program that needs nothing, and numbers and truths that it takes
-pub record Takes (tree : Tree) (task : Name) (vs : List Value) : Type 0 where
+-- A value that is given to a parameter: a number or truth; or, where regions are handed over, one that lies in the
+-- store.
+pub data IsTaken (takes : Option Taking) (code : Code) (store : Store) : StaticType → Value → Type 0 where
+  takes_scalar : (t : StaticType) (v : Value) → IsScalar t → IsOf t v → IsTaken takes code store t v
+  takes_region : (y : Taking) (k : Kind) (space : ℕ) (args : List Reach) (r : Term) (q : Region) → takes ≡ Some y →
+      LiesIn code store space q → IsTaken takes code store (region_type k space args r) (a_region q)
+
+-- a task of the program, what it takes, and what it requires of that
+pub record Takes (takes : Option Taking) (code : Code) (tree : Tree) (task : Name) (vs : List Value) (store : Store)
+    (c : Contents) : Type 0 where
   pub there : slice_get (tasks_of tree) (place_of_task tree task) ≡ Some (task_named tree task)
-  pub needs : (task_code tree (task_named tree task)).needs ≡ []
-  pub taken : AreTaken (λ t v. IsScalar t × IsOf t v) (param_types tree (task_named tree task)) vs
+  pub taken : AreTaken (IsTaken takes code store) (param_types tree (task_named tree task)) vs
+  pub needs : List Requirement
+  pub required : requirements_on code c (task_code tree (task_named tree task)).needs (map (machine_value c) vs) ≡ Some needs
 
 -- the value that a task gives is of its result's type, where that is a number's or a truth's
 abbrev pub Returns : Tree → Name → Value → Type 0
@@ -193,9 +206,9 @@ pub data Matches (code : Code) (Returned : Value → Type 0) (store : Store) (be
   both_broke : (f : Fault) (text : List ℕ) → Matches code Returned store before (broke f text) (Broke (Some f) text)
 
 -- a task that begins as a call of it
-abbrev pub called_with : Tree → ℕ → ℕ → Name → List Value → Contents → Instance
-called_with tree turns depth task vs c = begun
-    (opening turns depth (place_of_task tree task) (task_code tree (task_named tree task)) (map (machine_value c) vs)) [] c
+abbrev pub called_with : Tree → ℕ → ℕ → Name → List Value → List Requirement → Contents → Instance
+called_with tree turns depth task vs needs c = begun
+    (opening turns depth (place_of_task tree task) (task_code tree (task_named tree task)) (map (machine_value c) vs)) needs c
 
 -- What calls give, children give; at depth 64 there is none, and the call is a fault.
 pub record Answering (x : Setting) (tree : Tree) (calls : Calls) : Type 0 where
@@ -204,9 +217,10 @@ pub record Answering (x : Setting) (tree : Tree) (calls : Calls) : Type 0 where
   pub at_end : 64 ≤ x.depth → (line : ℕ) (task : Name) (vs : List Value) (store : Store) →
       calls line task vs store ≡ broke (record { kind = Depth; line = line }) []
   pub below : x.depth < 64 → (line : ℕ) (task : Name) (vs : List Value) (store : Store) (c : Contents) →
-      Takes tree task vs → Holds x.code store (memory_of (called_with tree x.turns (suc x.depth) task vs c)) →
+      (takes : Takes x.forms.takes x.code tree task vs store c) →
+      Holds x.code store (memory_of (called_with tree x.turns (suc x.depth) task vs takes.needs c)) →
       Matches x.code (Returns tree task) store (numbers c) (calls line task vs store)
-      (x.child (called_with tree x.turns (suc x.depth) task vs c))
+      (x.child (called_with tree x.turns (suc x.depth) task vs takes.needs c))
 
 -- a frame without its slots, stack and place
 abbrev pub unplaced : Frame → Frame

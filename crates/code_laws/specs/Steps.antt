@@ -1,9 +1,12 @@
 -- A task instance in a run in order, instruction by instruction: what a segment stops for is done at
 -- once, and the instance goes on.
-use Rattle.std.specs.Prelude.{◌≡◌, Bool, ℕ, zero, suc, ◌+◌, List, ◌++◌, None}
+use Rattle.std.specs.Prelude.{◌≡◌, Bool, ℕ, zero, suc, ◌+◌, List, ◌++◌, None, Option}
+use Rattle.region_tree.specs.declared.tree.RootId.{RootId}
+use Rattle.regent_tree.specs.Values.{Value as Meant}
 use Rattle.regent_tree.specs.declared.typing.StaticType.{StaticType}
 use Rattle.task_code.specs.declared.code.Code.{Code}
 use Rattle.task_code.specs.declared.code.Line.{Line}
+use Rattle.task_code.specs.declared.code.NeedCode.{NeedCode}
 use Rattle.machine_terms.specs.declared.order.Ended.{Ended}
 use Rattle.machine_terms.specs.declared.order.Ended.TheVariants.{Broke}
 use Rattle.machine_terms.specs.declared.order.Instance.{Instance}
@@ -14,14 +17,21 @@ use Rattle.machine_terms.specs.Machine.{Machine, Stepped, goes, prints, stops}
 use Rattle.machine_terms.specs.Orders.{Runner, resume_in, until_over}
 use Rattle.machine_terms.specs.Segments.{frame_after, step}
 
--- which forms a body may have beside those of numbers and truths: roots that are made, and calls
+-- a task that may have regions among its parameters: how many these are, and what it needs of them
+pub record Taking : Type 0 where
+  pub params : ℕ
+  pub needs : List NeedCode
+
+-- which forms a body may have beside those of numbers and truths: roots that are made, calls, and regions that are
+-- handed over
 pub record Forms : Type 0 where
   pub makes : Bool
   pub calls : Bool
+  pub takes : Option Taking
 
 -- The code of all tasks, the turns of each instance, what calls give, the code of the task, and its
--- result's type; its depth, the numbers of the roots that were there when it began, and the forms that its body
--- may have.
+-- result's type; its depth, the numbers of the roots that were there when it began, its arguments, and the forms
+-- that its body may have.
 pub record Setting : Type 0 where
   pub code : Code
   pub turns : ℕ
@@ -30,6 +40,7 @@ pub record Setting : Type 0 where
   pub result : StaticType
   pub depth : ℕ
   pub before : List ℕ
+  pub args : List Meant
   pub forms : Forms
 
 abbrev pub machine_of : Instance → Machine
@@ -56,10 +67,16 @@ abbrev pub run_steps : Setting → ℕ → Instance → Ended
 run_steps x zero i = Broke None i.text
 run_steps x (suc k) i = until_over (advance x i) (run_steps x k)
 
--- from one instance the run comes to another one, in a number of steps
+-- roots behind others
+pub record HasMore (before after : List RootId) : Type 0 where
+  pub more : List RootId
+  pub are : after ≡ before ++ more
+
+-- from one instance the run comes to another one, in a number of steps; it has its roots still
 pub record Leads (x : Setting) (i j : Instance) : Type 0 where
   pub steps : ℕ
   pub by : (k n : ℕ) → n ≡ steps + k → run_steps x n i ≡ run_steps x k j
+  pub own : HasMore i.frame.own j.frame.own
 
 -- the run ends so, with any number of further steps
 pub record Ends (x : Setting) (i : Instance) (e : Ended) : Type 0 where

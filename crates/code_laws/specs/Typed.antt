@@ -1,8 +1,11 @@
 -- Well-typed expressions and statements of numbers and truths, also those of fields at points of regions that
 -- have names, of indices, and of loops over index spaces: no partition, and no pointer that is kept. Roots are
 -- made, and tasks called, where the forms allow it.
-use Rattle.std.specs.Prelude.{◌≡◌, ℕ, suc, ◌<◌, ◌≤◌, ℤ, pos, ◌+ℤ◌, int_lt, length, slice_get, List, [], ◌∷◌, true, false, Some, None}
+use Rattle.std.specs.Prelude.{◌≡◌, ◌⊎◌, ℕ, zero, suc, Option, ◌<◌, ◌≤◌, ℤ, pos, ◌+ℤ◌, int_lt, length, slice_get, List, [], ◌∷◌, true, false, Some, None}
 use Rattle.lane_kernels.specs.Numbers.{FitsWidth}
+use Rattle.lane_kernels.specs.declared.numbers.Mode.{Mode}
+use Rattle.lane_kernels.specs.declared.numbers.Mode.TheVariants as mode
+use Rattle.task_code.specs.declared.code.NeedCode.{NeedCode}
 use Rattle.regent_tree.specs.declared.expression.Operator.TheVariants.{Or, And, Compare, Compute}
 use Rattle.regent_tree.specs.declared.statement.How.TheVariants as how
 use Rattle.regent_tree.specs.declared.typing.StaticType.{StaticType}
@@ -13,10 +16,11 @@ use Rattle.regent_tree.specs.Lookup.{is_bound}
 use Rattle.regent_tree.specs.Numbers.{distance}
 use Rattle.regent_tree.specs.Syntax.{a_statement, Form, var_form, if_form, while_form, for_in_form, for_to_form, do_form, assert_form, print_form, assign_form, return_form, Block, no_statement, then_statement, Arms, no_arm, an_arm, Otherwise, no_else, else_block, plain_initializer, region_initializer, Name, Tree, fill_form, call_form, call_expr, Expression, number_expr, truth_expr, chain_expr, prefix_expr, access_expr, convert_expr, Expressions, no_expr, an_expr, Links, no_link, a_link, no_step, field_step, at_step, space_expr}
 use Rattle.regent_tree.specs.Typing.{arithmetic_type, operated, param_types, params_at, result_type, taken_from, type_of_element, type_of_field, var_type}
-use Rattle.code_laws.specs.Simple.{AreComparable, IsInteger, IsTruth, IsScalar, IsSimple, IsNumber, IsSpace, IsRegion, AreAlike, SignsFit, FieldFits, IsIntegerTerm}
+use Rattle.code_laws.specs.Simple.{AreComparable, IsInteger, IsTruth, IsScalar, IsSimple, IsNumber, IsSpace, IsRegion, AreAlike, SignsFit, FieldFits, IsIntegerTerm, AreRegions, term_in}
 use Rattle.code_rules.specs.Instructions.{place_of_task, tasks_of}
 use Rattle.code_rules.specs.Programs.{task_code}
-use Rattle.code_laws.specs.Steps.{Forms}
+use Rattle.code_laws.specs.Steps.{Forms, Taking}
+use Rattle.code_laws.specs.Taking.{MayDo}
 use Rattle.code_rules.specs.Slots.{Where, typed, bound, slot_named, slots_of}
 use Rattle.code_rules.specs.Expressions.{count}
 use Rattle.code_rules.specs.Statements.{on_line, after_form, after_arm, after_arms, looping}
@@ -48,6 +52,54 @@ IsCalled tree task =
     (slice_get (tasks_of tree) (place_of_task tree task) ≡ Some (task_named tree task))
     × ((task_code tree (task_named tree task)).needs ≡ [])
 
+-- the access may be made to a field of a name's region
+abbrev pub MayTouch : Forms → Where → Name → ℕ → Mode → Type 0
+MayTouch forms w n field a = MayDo forms.takes (term_in (bound w n).static_type) field a
+
+-- so it may to each of these fields, for writing
+abbrev pub MayFill : Forms → Where → Name → List Name → Type 0
+MayFill forms w n [] = Unit {0}
+MayFill forms w n (f ∷ fs) =
+    MayTouch forms w n (field_place w.tree (space_in (bound w n).static_type) f) mode.Write × MayFill forms w n fs
+
+-- a name that stands as an argument
+abbrev pub name_of : Expression → Option Name
+name_of (access_expr n no_step) = Some n
+name_of e = None
+
+abbrev pub name_at : Expressions → ℕ → Option Name
+name_at no_expr k = None
+name_at (an_expr e es) zero = name_of e
+name_at (an_expr e es) (suc k) = name_at es k
+
+-- a region that has a name is handed over, as one of its field space
+abbrev pub IsHanded : Option Taking → Where → StaticType → StaticType → Expression → Type 0
+IsHanded (Some y) w t p (access_expr n no_step) =
+    (is_bound w.scope.names n ≡ true) × (t ≡ p) × AreRegions (bound w n).static_type p
+IsHanded takes w t p e = ⊥
+
+-- what the called task needs of the region with a name may be done with it
+abbrev pub IsMet : Option Taking → Where → NeedCode → Option Name → Type 0
+IsMet None w need o = ⊥
+IsMet (Some y) w need None = ⊥
+IsMet (Some y) w need (Some n) = (is_bound w.scope.names n ≡ true) × IsRegion (bound w n).static_type
+    × (need.field < length (space_at w.tree (space_in (bound w n).static_type)).fields)
+    × MayDo (Some y) (term_in (bound w n).static_type) need.field need.mode
+
+abbrev pub AreMet : Option Taking → Where → Expressions → List NeedCode → Type 0
+AreMet takes w args [] = Unit {0}
+AreMet takes w args (n ∷ ns) = IsMet takes w n (name_at args n.param) × AreMet takes w args ns
+
+-- a task of the program, whose needs are met
+abbrev pub IsCallable : Forms → Where → Name → Expressions → Type 0
+IsCallable forms w task args =
+    (slice_get (tasks_of w.tree) (place_of_task w.tree task) ≡ Some (task_named w.tree task))
+    × AreMet forms.takes w args (task_code w.tree (task_named w.tree task)).needs
+
+-- a number or truth, or a region, is given to a parameter
+abbrev pub IsPassed : Forms → Where → StaticType → StaticType → Expression → Type 0 → Type 0
+IsPassed forms w t p e Typed = (AreAlike (typed w e) t × (t ≡ p) × Typed) ⊎ IsHanded forms.takes w t p e
+
 abbrev mutual
   pub IsTyped : Forms → Where → Expression → Type 0
   IsTyped forms w (number_expr z v) = FitsWidth v z
@@ -58,8 +110,9 @@ abbrev mutual
       (is_bound w.scope.names n ≡ true) × IsSimple (bound w n).static_type
   IsTyped forms w (access_expr n (at_step e (field_step f no_step))) = IsTyped forms w e × IsNumber (typed w e)
       × GoesThrough w n e × IsField w n f (element_field w n e f)
+      × MayTouch forms w n (field_place w.tree (space_in (bound w n).static_type) f) mode.Read
   IsTyped forms w (call_expr task args) = (forms.calls ≡ true)
-      × IsScalar (result_type w.tree (task_named w.tree task).result) × IsCalled w.tree task
+      × IsScalar (result_type w.tree (task_named w.tree task).result) × IsCallable forms w task args
       × ArePassed forms w (params_at w.tree w.scope (task_named w.tree task) args)
       (param_types w.tree (task_named w.tree task)) args
   IsTyped forms w (space_expr k e) = IsTyped forms w e × IsInteger (typed w e)
@@ -77,11 +130,11 @@ abbrev mutual
   AreTypedLinks forms w t (a_link (Compute o) e rest) = IsNumber t × IsNumber (typed w e) × IsTyped forms w e
       × AreTypedLinks forms w (operated (Compute o) t (typed w e)) rest
 
-  -- numbers and truths that are given to parameters of these types
+  -- what is given to parameters of these types
   pub ArePassed : Forms → Where → List StaticType → List StaticType → Expressions → Type 0
   ArePassed forms w [] [] no_expr = Unit {0}
   ArePassed forms w (t ∷ ts) (p ∷ ps) (an_expr e es) =
-      AreAlike (typed w e) t × (t ≡ p) × IsTyped forms w e × ArePassed forms w ts ps es
+      IsPassed forms w t p e (IsTyped forms w e) × ArePassed forms w ts ps es
   ArePassed forms w _ _ _ = ⊥
 
 -- numbers that are printed
@@ -132,14 +185,16 @@ abbrev mutual
   IsTypedForm forms w (assign_form n (at_step e (field_step f no_step)) how.Set y) =
       AreAlike (typed w y) (element_field w n e f) × IsTyped forms w y × IsTyped forms w e × IsNumber (typed w e)
       × GoesThrough w n e × IsField w n f (element_field w n e f)
+      × MayTouch forms w n (field_place w.tree (space_in (bound w n).static_type) f) mode.Write
   IsTypedForm forms w (assign_form n (at_step e (field_step f no_step)) (how.Reduce o) y) =
       IsInteger (typed w y) × IsInteger (element_field w n e f) × IsTyped forms w y × IsTyped forms w e
       × IsNumber (typed w e) × GoesThrough w n e × IsField w n f (element_field w n e f)
-  IsTypedForm forms w (call_form task args) = (forms.calls ≡ true) × IsCalled w.tree task
+      × MayTouch forms w n (field_place w.tree (space_in (bound w n).static_type) f) (mode.Reduce o)
+  IsTypedForm forms w (call_form task args) = (forms.calls ≡ true) × IsCallable forms w task args
       × ArePassed forms w (params_at w.tree w.scope (task_named w.tree task) args)
       (param_types w.tree (task_named w.tree task)) args
   IsTypedForm forms w (fill_form r fields e) = IsTyped forms w e × (is_bound w.scope.names r ≡ true)
-      × IsRegion (bound w r).static_type × AreFilled w r (typed w e) fields
+      × IsRegion (bound w r).static_type × AreFilled w r (typed w e) fields × MayFill forms w r fields
   IsTypedForm forms w _ = ⊥
 
   -- tests stand in the scope of the `if` itself

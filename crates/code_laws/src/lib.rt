@@ -5,6 +5,8 @@
 
 ghost use Rattle.code_laws.specs.CallExample.{CallExampleHolds};
 ghost use Rattle.code_laws.specs.Example.{ExampleHolds};
+ghost use Rattle.code_laws.specs.Handing.{RegionsAreHandedAsMeant};
+ghost use Rattle.code_laws.specs.HandingExample.{HandingExampleHolds};
 ghost use Rattle.code_laws.specs.LocalExample.{LocalExampleHolds};
 ghost use Rattle.code_laws.specs.RegionExample.{RegionExampleHolds};
 ghost use Rattle.code_laws.specs.Programs.{CallsRunAsMeant, RegionsRunAsMeant, ScalarsRunAsMeant};
@@ -30,6 +32,13 @@ pub fn regions_run_as_meant()
 #[tactic(auto, using(crate::proofs::Top::calls_run_as_meant))]
 pub fn calls_run_as_meant()
     ensures { CallsRunAsMeant }
+{}
+
+/// So it is where tasks hand regions over to those that they call: roots that they made, or regions that they took.
+/// What the called task needs lies within what the caller has, and the called task finds each point that it may touch.
+#[tactic(auto, using(crate::proofs::Top::regions_are_handed_as_meant))]
+pub fn regions_are_handed_as_meant()
+    ensures { RegionsAreHandedAsMeant }
 {}
 
 /// So it is for each accepted program over scalars.
@@ -69,6 +78,13 @@ pub fn region_example_holds()
 #[tactic(auto, using(crate::proofs::CallExample::call_example_holds))]
 pub fn call_example_holds()
     ensures { CallExampleHolds }
+{}
+
+/// An accepted program that hands a region over, and on, of which each premise of the law on that holds; it means an
+/// end, with another input a fault in the called task, and with too few turns one at a call.
+#[tactic(auto, using(crate::proofs::HandingExample::handing_example_holds))]
+pub fn handing_example_holds()
+    ensures { HandingExampleHolds }
 {}
 
 /// A histogram, with calls and regions, of which each premise of the law on such programs holds; with two inputs it

@@ -112,7 +112,7 @@ plain_stands body w e i _ pc simple_truth st = st.0
 plain_stands body w e i _ pc (simple_space c) st = st.0
 plain_stands body w e i _ pc (simple_index c) st = st.0
 
-module _ (g : Program) (t : TaskCode) (k slots : ℕ) (have : HasSlots t slots) (forms : Forms) where
+module _ (g : Program) (t : TaskCode) (k slots : ℕ) (have : HasSlots t slots) (forms : Forms) (plain : forms.takes ≡ None) where
   -- what is asked of a place
   abbrev At : Where → Mark → Type 0
   At w m = Asked g t k slots w m
@@ -158,10 +158,10 @@ module _ (g : Program) (t : TaskCode) (k slots : ℕ) (have : HasSlots t slots) 
           computed_marked g t k w m a.ready a.params (slot_named w x) v there (omega (arith, l, a.room)) kept Multiply s ns
       by Least pc st = let l = loaded _ (slot_named w x) w.line st.1.1.1.0 in
           chosen_marked g t k w m a.ready a.params (slot_named w x) v there (omega (arith, l, a.room)) kept
-          (stored g t k slots have forms w m a _ (spare w 0) st.1.0) Less s ns
+          (stored g t k slots have forms plain w m a _ (spare w 0) st.1.0) Less s ns
       by Greatest pc st = let l = loaded _ (slot_named w x) w.line st.1.1.1.0 in
           chosen_marked g t k w m a.ready a.params (slot_named w x) v there (omega (arith, l, a.room)) kept
-          (stored g t k slots have forms w m a _ (spare w 0) st.1.0) Greater s ns
+          (stored g t k slots have forms plain w m a _ (spare w 0) st.1.0) Greater s ns
 
   mutual
     pub form_marked : (w : Where) (m : Mark) (form : Form) → IsTypedForm forms w form → At w m → (pc : ℕ) →
@@ -169,26 +169,26 @@ module _ (g : Program) (t : TaskCode) (k slots : ℕ) (have : HasSlots t slots) 
     form_marked w m (var_form x None (Some (plain_initializer e))) f a pc st =
         let u = owned w.scope.next (typed w e) in
         let same = owned_same w.scope.next (typed w e) f.0 in
-        bind_marked g t k slots have forms w m a x (shape_of (typed w e)) u _
+        bind_marked g t k slots have forms plain w m a x (shape_of (typed w e)) u _
         (ap shape_of (sym same))
-        (plain_marked g t k slots have forms w m a (typed w e) e w.scope.next _ _ f.0
-        (value_marked g t k slots have forms w m a e [] f.1 pc (plain_stands t.body w e w.scope.next (typed w e) pc f.0 st.0)))
-        (stored g t k slots have forms w m a _ _ st.1)
+        (plain_marked g t k slots have forms plain w m a (typed w e) e w.scope.next _ _ f.0
+        (value_marked g t k slots have forms plain w m a e [] f.1 pc (plain_stands t.body w e w.scope.next (typed w e) pc f.0 st.0)))
+        (stored g t k slots have forms plain w m a _ _ st.1)
     form_marked w m (var_form x None (Some (region_initializer e u))) f a pc st =
         let sp = place_of_space w.tree u.name in
         let v = var_type w.tree w.scope None (Some (region_initializer e u)) in
-        bind_marked g t k slots have forms w m a x (shape_of v) v _ refl
-        (root_marked g t k slots have forms w m a e sp f.1 f.2 f.3 pc st.0.0) (stored g t k slots have forms w m a _ _ st.1)
+        bind_marked g t k slots have forms plain w m a x (shape_of v) v _ refl
+        (root_marked g t k slots have forms plain w m a e sp f.1 f.2 f.3 pc st.0.0) (stored g t k slots have forms plain w m a _ _ st.1)
     form_marked w m (var_form x (Some term) (Some (plain_initializer e))) f a pc st =
         let u = var_type w.tree w.scope (Some term) (Some (plain_initializer e)) in
-        bind_marked g t k slots have forms w m a x (shape_of u) u _ refl
-        (both g t k (value_marked g t k slots have forms w m a e [] f.1 pc st.0.0)
-        (converted_marked g t k slots have forms w m a _ _ [] f.0))
-        (stored g t k slots have forms w m a _ _ st.1)
+        bind_marked g t k slots have forms plain w m a x (shape_of u) u _ refl
+        (both g t k (value_marked g t k slots have forms plain w m a e [] f.1 pc st.0.0)
+        (converted_marked g t k slots have forms plain w m a _ _ [] f.0))
+        (stored g t k slots have forms plain w m a _ _ st.1)
     form_marked w m (var_form x (Some term) None) f a pc st =
         let u = var_type w.tree w.scope (Some term) None in
-        bind_marked g t k slots have forms w m a x (shape_of u) u _ refl (zero_marked g t k slots have forms w m a u f)
-        (stored g t k slots have forms w m a _ _ st.1)
+        bind_marked g t k slots have forms plain w m a x (shape_of u) u _ refl (zero_marked g t k slots have forms plain w m a u f)
+        (stored g t k slots have forms plain w m a _ _ st.1)
     form_marked w m (if_form arms other) f a pc st = record {
       next = m;
       is = arms_marked w w m arms (else_code (after_arms w arms) other) f.0 a a pc st
@@ -199,7 +199,7 @@ module _ (g : Program) (t : TaskCode) (k slots : ℕ) (have : HasSlots t slots) 
       facts = refl;
     }
     form_marked w m (while_form test body) f a pc st = unchanged g t k _ _ m _ a.ready
-        (while_marked g t k slots have forms w m a test (block_code w body) f.0 f.1 _ st.3
+        (while_marked g t k slots have forms plain w m a test (block_code w body) f.0 f.1 _ st.3
         (closed_block g t k _ _ m _ (block_marked w m body f.2 a _ st.2)))
     form_marked w m (for_to_form demanded x from to body) f a pc st =
         let u = typed w from in
@@ -214,7 +214,7 @@ module _ (g : Program) (t : TaskCode) (k slots : ℕ) (have : HasSlots t slots) 
           static_type = arithmetic_type u v;
           by_loop = true;
         } in
-        let hi : beside w (new_place w) < length m.slots = stored g t k slots have forms w m a _ _ st.1.1.0 in
+        let hi : beside w (new_place w) < length m.slots = stored g t k slots have forms plain w m a _ _ st.1.1.0 in
         let lw = looping w x (arithmetic_type u v) in
         let rm = numbers.round g t k w.params bs m a.ready a.params wd.width hi in
         let hm = numbers.head g t k w.params bs m a.ready a.params wd.width hi in
@@ -228,8 +228,8 @@ module _ (g : Program) (t : TaskCode) (k slots : ℕ) (have : HasSlots t slots) 
         }) _ st.1.1.1.1.1 in
         let narrow = narrow_then _ _ _ inner.narrower (round_narrow w.params bs m a.ready i i i m.facts hi) in
         unchanged g t k _ _ m _ a.ready
-        (both g t k (value_marked g t k slots have forms w m a from [] f.2 pc st.0)
-        (both g t k (value_marked g t k slots have forms w m a to (shape_of u ∷ []) f.3 _ st.1.0)
+        (both g t k (value_marked g t k slots have forms plain w m a from [] f.2 pc st.0)
+        (both g t k (value_marked g t k slots have forms plain w m a to (shape_of u ∷ []) f.3 _ st.1.0)
         (numbers.counted g t k w.params bs m a.ready a.params wd.width hi (shape_of u) (shape_of v) w.line
         (block_code lw body) wd.left wd.right
         (into g t k inner.is (narrow_into t.params inner.next hm [] narrow (same_facts _ _ inner.facts)) (sym (narrow_long _ _ narrow))))))
@@ -244,7 +244,7 @@ module _ (g : Program) (t : TaskCode) (k slots : ℕ) (have : HasSlots t slots) 
           static_type = taken_from u;
           by_loop = true;
         } in
-        let hi : beside w (new_place w) < length m.slots = stored g t k slots have forms w m a _ _ st.1.0 in
+        let hi : beside w (new_place w) < length m.slots = stored g t k slots have forms plain w m a _ _ st.1.0 in
         let lw = looping w x (taken_from u) in
         let rm = points.round g t k w.params bs m a.ready a.params hi in
         let hm = points.head g t k w.params bs m a.ready a.params hi in
@@ -260,44 +260,44 @@ module _ (g : Program) (t : TaskCode) (k slots : ℕ) (have : HasSlots t slots) 
         let narrow = narrow_then _ _ _ inner.narrower (round_narrow w.params bs m a.ready space index index fs hi) in
         unchanged g t k _ _ m _ a.ready
         (both g t k (subst (λ y. Marked g t k (stacked m []) (expr_code w 0 domain) (stacked m (y ∷ []))) tk.domain
-        (value_marked g t k slots have forms w m a domain [] f.1 pc st.0))
+        (value_marked g t k slots have forms plain w m a domain [] f.1 pc st.0))
         (subst (λ p. Marked g t k (stacked m (space ∷ [])) (over_points w x u body p) (stacked m [])) (sym tk.no_pointer)
         (points.counted g t k w.params bs m a.ready a.params hi w.line (block_code lw body)
         (into g t k inner.is (narrow_into t.params inner.next hm [] narrow (same_facts _ _ inner.facts)) (sym (narrow_long _ _ narrow))))))
     form_marked w m (do_form body) f a pc st = unchanged g t k _ _ m _ a.ready
         (closed_block g t k _ _ m _ (block_marked w m body f a pc st))
-    form_marked w m (fill_form r fields e) f a pc st = fill_marked g t k slots have forms w m a r fields e f.0 f.1 f.2 f.3 pc st
-    form_marked w m (call_form task args) f a pc st = call_marked g t k slots have forms w m a task args f.1 f.2 pc st
-    form_marked w m (assert_form e) f a pc st = assert_marked g t k slots have forms w m a e f.0 f.1 pc st.0
-    form_marked w m (print_form alias format args) f a pc st = print_marked g t k slots have forms w m a alias format args f.0 f.1 pc st
+    form_marked w m (fill_form r fields e) f a pc st = fill_marked g t k slots have forms plain w m a r fields e f.0 f.1 f.2 f.3 pc st
+    form_marked w m (call_form task args) f a pc st = call_marked g t k slots have forms plain w m a task args f.1 f.2 pc st
+    form_marked w m (assert_form e) f a pc st = assert_marked g t k slots have forms plain w m a e f.0 f.1 pc st.0
+    form_marked w m (print_form alias format args) f a pc st = print_marked g t k slots have forms plain w m a alias format args f.0 f.1 pc st
     form_marked w m (assign_form x no_step how.Set e) f a pc st =
-        assign_marked g t k slots have forms w m a x e f.0 f.1 f.2 (stored g t k slots have forms w m a _ _ st.1) pc st.0.0
+        assign_marked g t k slots have forms plain w m a x e f.0 f.1 f.2 (stored g t k slots have forms plain w m a _ _ st.1) pc st.0.0
     form_marked w m (assign_form x no_step (how.Reduce o) e) f a pc st =
-        unchanged g t k _ _ m _ a.ready (both g t k (value_marked g t k slots have forms w m a e [] f.2 pc st.0)
+        unchanged g t k _ _ m _ a.ready (both g t k (value_marked g t k slots have forms plain w m a e [] f.2 pc st.0)
         (folded w m x o (shape_of (typed w e)) (bound w x).static_type refl (scalar_numeric _ (integer_is_plain _ f.0)) f.1 f.3 a _ st.1))
     form_marked w m (assign_form x (at_step e (field_step l no_step)) how.Set y) f a pc st =
         let field = f.5 in
         let out = element_field w x e l in
         unchanged g t k _ _ m _ a.ready
-        (both g t k (both g t k (value_marked g t k slots have forms w m a y [] f.1 pc st.0.0)
-        (converted_marked g t k slots have forms w m a _ _ [] f.0))
+        (both g t k (both g t k (value_marked g t k slots have forms plain w m a y [] f.1 pc st.0.0)
+        (converted_marked g t k slots have forms plain w m a _ _ [] f.0))
         (writes g t k w m a.known (bound w x).static_type (bound w x).place e l out [] field.region
         (named_at w.params m.slots w.scope.names x a.ready.named field.named) f.3 f.4 field.field field.keeps
-        (λ q s. value_marked g t k slots have forms w m a e (shape_of out ∷ []) f.2 q s) _ st.1))
+        (λ q s. value_marked g t k slots have forms plain w m a e (shape_of out ∷ []) f.2 q s) _ st.1))
     form_marked w m (assign_form x (at_step e (field_step l no_step)) (how.Reduce o) y) f a pc st =
         let field = f.6 in
         let out = element_field w x e l in
         unchanged g t k _ _ m _ a.ready
-        (both g t k (value_marked g t k slots have forms w m a y [] f.2 pc st.0)
+        (both g t k (value_marked g t k slots have forms plain w m a y [] f.2 pc st.0)
         (reduces g t k w m a.known (bound w x).static_type (bound w x).place e l out [] field.region
         (named_at w.params m.slots w.scope.names x a.ready.named field.named) f.4 f.5 field.field field.keeps
         o (shape_of (typed w y)) (scalar_numeric _ (integer_is_plain _ f.0)) f.1
-        (λ q s. value_marked g t k slots have forms w m a e (shape_of (typed w y) ∷ []) f.3 q s) _ st.1))
+        (λ q s. value_marked g t k slots have forms plain w m a e (shape_of (typed w y) ∷ []) f.3 q s) _ st.1))
     form_marked w m (return_form None) f a pc st = unchanged g t k _ _ m _ a.ready (record {
       marks = _;
       is = typed_op (stacked m []) (stacked m []) instr.Return w.line (leads_nowhere _ _ refl);
     })
-    form_marked w m (return_form (Some e)) f a pc st = return_marked g t k slots have forms w m a e f.0 f.1 pc st.0
+    form_marked w m (return_form (Some e)) f a pc st = return_marked g t k slots have forms plain w m a e f.0 f.1 pc st.0
     form_marked w m _ f a pc st = absurd f
 
     arms_marked : (own w : Where) (m : Mark) (arms : Arms) (other : Piece) → AreTypedArms forms own w arms → At own m →
@@ -306,7 +306,7 @@ module _ (g : Program) (t : TaskCode) (k slots : ℕ) (have : HasSlots t slots) 
         Marked g t k (stacked m []) (arms_code own w arms other) (stacked m [])
     arms_marked own w m no_arm other f o a pc st more = more pc st
     arms_marked own w m (an_arm test body rest) other f o a pc st more =
-        branch_marked g t k slots have forms own m o w.line test (block_code w body) (arms_code own (after_arm w body) rest other) f.0 f.1 pc st.0
+        branch_marked g t k slots have forms plain own m o w.line test (block_code w body) (arms_code own (after_arm w body) rest other) f.0 f.1 pc st.0
         (closed_block g t k _ _ m _ (block_marked w m body f.2 a _ st.1.1))
         (arms_marked own (after_arm w body) m rest other f.3 o
         (record { ready = a.ready; params = a.params; result = a.result; room = a.room; known = a.known }) _ st.1.3 more)

@@ -1,6 +1,6 @@
 -- Code of calls has marks: the arguments are pushed one after the other, and the frame that a call opens suits the
 -- mark in which the task's body begins.
-use Rattle.std.proofs.Common.{◌≡◌, inl, ℕ, zero, suc, ◌<◌, ◌-◌, ◌+◌, pos, List, [], ◌∷◌, ◌++◌, map, Some, refl, sym, ap, ◌∙◌, subst, arith, length-append}
+use Rattle.std.proofs.Common.{◌≡◌, inl, ℕ, zero, suc, ◌<◌, ◌-◌, ◌+◌, pos, List, [], ◌∷◌, ◌++◌, map, Option, None, Some, ⊎_elim, refl, sym, ap, ◌∙◌, subst, arith, length-append}
 use Rattle.std.specs.Prelude.{slice_get, length, replicate}
 use Rattle.std.proofs.lemmas.List.{length-map}
 use Rattle.regent_tree.specs.declared.typing.StaticType.{StaticType}
@@ -21,8 +21,9 @@ use Rattle.code_rules.specs.Programs.{place_of, task_code}
 use Rattle.code_rules.specs.Statements.{block_code}
 use Rattle.code_rules.specs.Slots.{Where}
 use Rattle.code_laws.specs.Simple.{AreAlike, two_integers, two_truths, IsScalar, scalar_integer, scalar_truth, IsSimple, simple_integer, simple_truth, simple_index, simple_space}
-use Rattle.code_laws.specs.Steps.{Forms}
-use Rattle.code_laws.specs.Typed.{ArePassed, IsCalled}
+use Rattle.task_code.specs.declared.code.NeedCode.{NeedCode}
+use Rattle.code_laws.specs.Steps.{Forms, Taking}
+use Rattle.code_laws.specs.Typed.{AreMet, ArePassed, IsCallable, IsHanded, IsMet, name_at}
 use Rattle.code_laws.proofs.Calling.{code_there}
 use Rattle.code_laws.proofs.Openings.{params_length, types_length}
 use Rattle.fit_rules.specs.Shapes.{Each, Shape, anything, awaited, Numeric, numeric_integer, numeric_truth, World, Is, is_anything, is_number, is_space, Are, are_none, are_more}
@@ -137,24 +138,32 @@ numerics : (ts : List StaticType) → Each IsScalar ts → Each Numeric (map sha
 numerics [] h = tt
 numerics (t ∷ ts) h = (scalar_numeric t h.0, numerics ts h.1)
 
-passed_scalars : (forms : Forms) (w : Where) (ts ps : List StaticType) (es : Expressions) → ArePassed forms w ts ps es →
+passed_scalars : (forms : Forms) (plain : forms.takes ≡ None) (w : Where) (ts ps : List StaticType) (es : Expressions) → ArePassed forms w ts ps es →
     Each IsScalar ps
-passed_scalars forms w [] [] no_expr h = tt
-passed_scalars forms w (t ∷ ts) (p ∷ ps) (an_expr e es) h =
-    (subst IsScalar h.1 (alike_second _ t h.0), passed_scalars forms w ts ps es h.3)
-passed_scalars forms w [] [] (an_expr e es) h = absurd h
-passed_scalars forms w [] (p ∷ ps) es h = absurd h
-passed_scalars forms w (t ∷ ts) [] es h = absurd h
-passed_scalars forms w (t ∷ ts) (p ∷ ps) no_expr h = absurd h
+passed_scalars forms plain w [] [] no_expr h = tt
+passed_scalars forms plain w (t ∷ ts) (p ∷ ps) (an_expr e es) h =
+    (
+      ⊎_elim (λ a. subst IsScalar a.1 (alike_second _ t a.0)) (λ r. absurd (subst (λ o. IsHanded o w t p e) plain r)) h.0,
+      passed_scalars forms plain w ts ps es h.1,
+    )
+passed_scalars forms plain w [] [] (an_expr e es) h = absurd h
+passed_scalars forms plain w [] (p ∷ ps) es h = absurd h
+passed_scalars forms plain w (t ∷ ts) [] es h = absurd h
+passed_scalars forms plain w (t ∷ ts) (p ∷ ps) no_expr h = absurd h
 
 passed_many : (forms : Forms) (w : Where) (ts ps : List StaticType) (es : Expressions) → ArePassed forms w ts ps es →
     length ps ≡ count es
 passed_many forms w [] [] no_expr h = refl
-passed_many forms w (t ∷ ts) (p ∷ ps) (an_expr e es) h = ap suc (passed_many forms w ts ps es h.3)
+passed_many forms w (t ∷ ts) (p ∷ ps) (an_expr e es) h = ap suc (passed_many forms w ts ps es h.1)
 passed_many forms w [] [] (an_expr e es) h = absurd h
 passed_many forms w [] (p ∷ ps) es h = absurd h
 passed_many forms w (t ∷ ts) [] es h = absurd h
 passed_many forms w (t ∷ ts) (p ∷ ps) no_expr h = absurd h
+
+-- where no regions are handed over, a task that is called needs nothing
+nothing_needed : (o : Option Taking) → o ≡ None → (w : Where) (es : Expressions) (ns : List NeedCode) → AreMet o w es ns → ns ≡ []
+nothing_needed o e w es [] a = refl
+nothing_needed o e w es (n ∷ ns) a = absurd (subst (λ o. IsMet o w n (name_at es n.param)) e a.0)
 
 -- a task's body has an instruction at least
 some_lines : (p : Piece) (line : ℕ) → 0 < length (lines (p ⨟ op instr.Return line) 0)
@@ -175,15 +184,15 @@ module _ (g : Program) (t : TaskCode) (k : ℕ) (w : Where) (known : Known g w.t
   )
 
   -- a call with its arguments on the stack
-  pub calls : (forms : Forms) (m : Mark) (task : Name) (ts : List StaticType) (es : Expressions) (us : List Shape) → IsCalled w.tree task →
+  pub calls : (forms : Forms) (plain : forms.takes ≡ None) (m : Mark) (task : Name) (ts : List StaticType) (es : Expressions) (us : List Shape) → IsCallable forms w task es →
       ArePassed forms w ts (param_types w.tree (task_named w.tree task)) es →
       Marked g t k (stacked m (onto (map shape_of (param_types w.tree (task_named w.tree task))) us))
       (one w (instr.Call (place_of_task w.tree task) (count es)))
       (stacked m (awaited (g.results (place_of_task w.tree task)) ∷ us))
-  calls forms m task ts es us is passed =
+  calls forms plain m task ts es us is passed =
       let u = task_named w.tree task in
       let types = param_types w.tree u in
-      let scalars = passed_scalars forms w ts types es passed in
+      let scalars = passed_scalars forms plain w ts types es passed in
       let many : length types ≡ count es = passed_many forms w ts types es passed in
       record {
         marks = _;
@@ -193,5 +202,6 @@ module _ (g : Program) (t : TaskCode) (k : ℕ) (w : Where) (known : Known g w.t
             (sym (types_many w.tree u) ∙ many) (some_body w.tree u)
             (subst (λ y. Takes y (onto (map shape_of types) us) [] (map shape_of types) us) (length-map types shape_of ∙ many)
             (takes_pushed (map shape_of types) us (numerics types scalars)))
-            (opens (stacked m (onto (map shape_of types) us)) (place_of_task w.tree task) u is.0 is.1 scalars));
+            (opens (stacked m (onto (map shape_of types) us)) (place_of_task w.tree task) u is.0
+            (nothing_needed forms.takes plain w es (task_code w.tree u).needs is.1) scalars));
       }

@@ -1,5 +1,5 @@
 -- The code of expressions has marks: each leads from a mark to the same with a value on the stack.
-use Rattle.std.proofs.Common.{◌≡◌, inl, ℕ, ◌<◌, ◌≤◌, List, [], ◌∷◌, Bool, true, false, cond, map, Some, refl, sym, subst, arith}
+use Rattle.std.proofs.Common.{◌≡◌, inl, ℕ, ◌<◌, ◌≤◌, List, [], ◌∷◌, Bool, true, false, cond, map, None, Some, refl, ◌∙◌, sym, subst, arith}
 use Rattle.std.specs.Prelude.{slice_get, bytes_eq, length, ◌||◌}
 use Rattle.std.proofs.lemmas.Bool.{false≢true}
 use Rattle.std.proofs.lemmas.List.{length-set}
@@ -28,7 +28,9 @@ use Rattle.code_rules.specs.Instructions.{converted_code, signs_code, standing_c
 use Rattle.code_rules.specs.Slots.{Where, bound, spare, typed, slot_named}
 use Rattle.code_laws.specs.Simple.{IsSimple, AreComparable, compare_numbers, compare_truths, simple_integer, simple_truth, simple_space, simple_index, IsInteger, an_integer, IsTruth, a_truth_type, AreAlike, two_integers, two_truths, IsScalar, scalar_integer, IsNumber, number_integer, number_index, SignsFit, of_a_truth, of_an_integer, not_before, minus_before, IsIntegerTerm, term_32, term_64}
 use Rattle.code_laws.specs.Standing.{Stands}
+use Rattle.code_laws.proofs.Handing.{given_either}
 use Rattle.code_laws.specs.Steps.{Forms}
+use Rattle.std.proofs.lemmas.Option.{none-some}
 use Rattle.code_laws.specs.Typed.{ArePassed, IsTyped, AreTypedLinks}
 use Rattle.fit_rules.specs.Shapes.{numeric_index, Are, are_more, index, is_number, World, Shape, awaited, integer, truth, space, Numeric, numeric_integer, numeric_truth}
 use Rattle.fit_rules.specs.Marks.{Mark, stacked}
@@ -107,7 +109,7 @@ converted_at g t k w m _ _ us (two_integers a b) =
     does g t k (stacked m (integer a ∷ us)) (instr.Wrap b) w.line _ (does_wrap b (integer a) us (numeric_integer a))
 converted_at g t k w m _ _ us two_truths = nothing_done g t k _
 
-module _ (g : Program) (t : TaskCode) (k slots : ℕ) (have : HasSlots t slots) (forms : Forms) (w : Where) (m : Mark)
+module _ (g : Program) (t : TaskCode) (k slots : ℕ) (have : HasSlots t slots) (forms : Forms) (plain : forms.takes ≡ None) (w : Where) (m : Mark)
     (asked : Asked g t k slots w m) where
   -- code that leads from one stack to another
   abbrev Goes : List Shape → Piece → List Shape → Type 0
@@ -222,7 +224,7 @@ module _ (g : Program) (t : TaskCode) (k slots : ℕ) (have : HasSlots t slots) 
         let nr : Numeric (g.results place) = subst Numeric (sym same) (scalar_numeric _ fine.1) in
         subst (λ y. Goes us (expr_code w d (call_expr task args)) (y ∷ us)) same
         (both g t k (args_marked d (params_at w.tree w.scope u args) types args us fine.3 pc st.0)
-        (both g t k (calls g t k w asked.known forms m task (params_at w.tree w.scope u args) args us fine.2 fine.3)
+        (both g t k (calls g t k w asked.known forms plain m task (params_at w.tree w.scope u args) args us fine.2 fine.3)
         (awaited_marked (spare w d) (g.results place) us nr (omega arith) (stored _ (spare w d) st.1.1.0))))
     expr_marked d (convert_expr c e) us fine pc st = both g t k (expr_marked d e us fine.0 pc st.0)
         (both g t k (standing_marked (typed w e) _ (number_simple _ fine.1)) (number_marked c (typed w e) us fine.1 fine.2))
@@ -265,10 +267,12 @@ module _ (g : Program) (t : TaskCode) (k slots : ℕ) (have : HasSlots t slots) 
         (pc : ℕ) → Stands t.body pc (exprs_code w d ts es) → Goes us (exprs_code w d ts es) (onto (map shape_of ps) us)
     args_marked d [] [] no_expr us fine pc st = nothing_done g t k _
     args_marked d (u ∷ ts) (p ∷ ps) (an_expr e es) us fine pc st =
-        both g t k (expr_marked d e us fine.2 pc st.0)
-        (both g t k (subst (λ y. Goes (shape_of (typed w e) ∷ us) (converted_code w (typed w e) u) (shape_of y ∷ us)) fine.1
-        (converted_marked (typed w e) u us fine.0))
-        (args_marked d ts ps es (shape_of p ∷ us) fine.3 _ st.1.1))
+        given_either forms.takes w u p e (IsTyped forms w e) (Goes us (exprs_code w d (u ∷ ts) (an_expr e es)) (onto (map shape_of (p ∷ ps)) us))
+        (λ alike same is. both g t k (expr_marked d e us is pc st.0)
+        (both g t k (subst (λ y. Goes (shape_of (typed w e) ∷ us) (converted_code w (typed w e) u) (shape_of y ∷ us)) same
+        (converted_marked (typed w e) u us alike))
+        (args_marked d ts ps es (shape_of p ∷ us) fine.1 _ st.1.1)))
+        (λ y takes h. absurd (none-some y (sym plain ∙ takes))) fine.0
     args_marked d [] [] (an_expr e es) us fine pc st = absurd fine
     args_marked d [] (p ∷ ps) es us fine pc st = absurd fine
     args_marked d (u ∷ ts) [] es us fine pc st = absurd fine

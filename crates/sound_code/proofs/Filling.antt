@@ -1,5 +1,5 @@
 -- The code of fills has marks: the value is put aside, and each field is filled with it.
-use Rattle.std.proofs.Common.{◌≡◌, inl, ℕ, ◌<◌, List, [], ◌∷◌, true, Some, refl, sym, arith}
+use Rattle.std.proofs.Common.{◌≡◌, inl, ℕ, ◌<◌, List, [], ◌∷◌, true, None, Some, refl, sym, arith}
 use Rattle.std.specs.Prelude.{slice_get, length}
 use Rattle.std.proofs.lemmas.List.{length-set}
 use Rattle.regent_tree.specs.Lookup.{is_bound}
@@ -26,7 +26,7 @@ use Rattle.sound_code.proofs.Expressions.{converted_at, named_at, stored}
 use Rattle.sound_code.proofs.Narrowing.{get_set, narrow_itself, narrow_set, narrow_into, named_behind, same_facts}
 use Rattle.sound_code.proofs.Statements.{Followed, scalar_settled, unchanged, value_marked}
 
-module _ (g : Program) (t : TaskCode) (k slots : ℕ) (have : HasSlots t slots) (forms : Forms) (w : Where) (m : Mark)
+module _ (g : Program) (t : TaskCode) (k slots : ℕ) (have : HasSlots t slots) (forms : Forms) (plain : forms.takes ≡ None) (w : Where) (m : Mark)
     (asked : Asked g t k slots w m) where
   -- from a mark with the value in the slot
   fields_marked : (o : Mark) (r : Name) (from : StaticType) (fs : List Name) → AreNamed w.params o.slots w.scope.names →
@@ -48,11 +48,11 @@ module _ (g : Program) (t : TaskCode) (k slots : ℕ) (have : HasSlots t slots) 
   fill_marked r fs e f b is h pc st =
       let ready = asked.ready in
       let s = spare w 0 in
-      let hi : s < length m.slots = stored g t k slots have forms w m asked _ s st.1.0 in
+      let hi : s < length m.slots = stored g t k slots have forms plain w m asked _ s st.1.0 in
       let a = shape_of (typed w e) in
       let o = set_mark m s a [] in
       unchanged g t k _ _ m _ ready
-      (both g t k (value_marked g t k slots have forms w m asked e [] f pc st.0)
+      (both g t k (value_marked g t k slots have forms plain w m asked e [] f pc st.0)
       (both g t k (storing g t k m s a a [] w.line (behind_kept w.params w.scope.names m s ready (omega arith))
       (omega (arith, slot_high w.params (length w.scope.names) ready.low, asked.params)) hi (λ x v q. q))
       (into g t k (fields_marked o r (typed w e) fs (named_behind w.params m.slots w.scope.names s a ready.named (omega arith))

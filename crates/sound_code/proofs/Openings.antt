@@ -79,7 +79,7 @@ module _ (tree : Tree) (lists : ℕ → List Mark) (marked : IsMarked tree lists
 
 -- ---- programs of one task
 
-module _ (forms : Forms) (tree : Tree) (inputs : List ℤ) (p : IsTypedRun forms tree inputs) where
+module _ (forms : Forms) (plain : forms.takes ≡ None) (tree : Tree) (inputs : List ℤ) (p : IsTypedRun forms tree inputs) where
   abbrev entry : TaskTree
   entry = task_named tree (entry_name tree)
 
@@ -87,7 +87,7 @@ module _ (forms : Forms) (tree : Tree) (inputs : List ℤ) (p : IsTypedRun forms
   entry_there = named_there tree (entry_name tree) _ p.start
 
   entry_marks : HasMarks tree (entry_place tree) entry
-  entry_marks = treat tree forms (entry_place tree) entry entry_there p.typed p.small
+  entry_marks = treat tree forms plain (entry_place tree) entry entry_there p.typed p.small
 
   -- the entry task alone has marks
   abbrev entry_alone : ℕ → List Mark
@@ -120,10 +120,10 @@ module _ (forms : Forms) (tree : Tree) (inputs : List ℤ) (p : IsTypedRun forms
   }
 
 pub scalar_tasks_are_sound : ScalarTasksAreSound
-scalar_tasks_are_sound tree inputs p = one_task scalar_forms tree inputs p
+scalar_tasks_are_sound tree inputs p = one_task scalar_forms refl tree inputs p
 
 pub region_tasks_are_sound : RegionTasksAreSound
-region_tasks_are_sound tree inputs p = one_task region_forms tree inputs p
+region_tasks_are_sound tree inputs p = one_task region_forms refl tree inputs p
 
 pub scalar_programs_are_sound : ScalarProgramsAreSound
 scalar_programs_are_sound tree inputs p = scalar_tasks_are_sound tree inputs (scalar_run tree inputs p)
@@ -132,7 +132,7 @@ scalar_programs_are_sound tree inputs p = scalar_tasks_are_sound tree inputs (sc
 
 module _ (tree : Tree) (typed : AreTypedTasks tree) where
   marks_at : (k : ℕ) (t : TaskTree) → slice_get (tasks_of tree) k ≡ Some t → HasMarks tree k t
-  marks_at k t there = let h = typed k t there in treat tree call_forms k t there h.typed h.small
+  marks_at k t there = let h = typed k t there in treat tree call_forms refl k t there h.typed h.small
 
   -- each task has marks
   abbrev chosen : (k : ℕ) (o : Option TaskTree) → slice_get (tasks_of tree) k ≡ o → List Mark

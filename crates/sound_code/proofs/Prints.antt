@@ -1,5 +1,5 @@
 -- The code of prints has marks.
-use Rattle.std.proofs.Common.{◌≡◌, ℕ, suc, pos, List, [], ◌∷◌, Option, Some, refl, sym, ap, ◌∙◌, subst}
+use Rattle.std.proofs.Common.{◌≡◌, ℕ, suc, pos, List, [], ◌∷◌, Option, None, Some, refl, sym, ap, ◌∙◌, subst}
 use Rattle.std.specs.Prelude.{length, replicate}
 use Rattle.std.proofs.lemmas.List.{length-replicate}
 use Rattle.check_rules.specs.rules.Formats.{numbers_in}
@@ -32,7 +32,7 @@ printed_count format n e =
     let long = length-replicate n (pos 0) in
     (writes_format [] format (replicate n (pos 0)) (e ∙ ap Some (sym long))).count ∙ long
 
-module _ (g : Program) (t : TaskCode) (k slots : ℕ) (have : HasSlots t slots) (forms : Forms) (w : Where) (m : Mark)
+module _ (g : Program) (t : TaskCode) (k slots : ℕ) (have : HasSlots t slots) (forms : Forms) (plain : forms.takes ≡ None) (w : Where) (m : Mark)
     (asked : Asked g t k slots w m) where
   abbrev shapes : Expressions → List Shape
   shapes no_expr = []
@@ -50,7 +50,7 @@ module _ (g : Program) (t : TaskCode) (k slots : ℕ) (have : HasSlots t slots) 
       Stands t.body pc (exprs_code w 0 [] es) →
       Marked g t k (stacked m us) (exprs_code w 0 [] es) (stacked m (onto (shapes es) us))
   numbers_marked no_expr us h pc st = nothing_done g t k _
-  numbers_marked (an_expr e es) us h pc st = both g t k (value_marked g t k slots have forms w m asked e us h.1 pc st.0)
+  numbers_marked (an_expr e es) us h pc st = both g t k (value_marked g t k slots have forms plain w m asked e us h.1 pc st.0)
       (both g t k (nothing_done g t k _) (numbers_marked es (shape_of (typed w e) ∷ us) h.2 _ st.1.1))
 
   pub print_marked : (alias : Option Name) (format : List ℕ) (es : Expressions) → AreNumbers forms w es → numbers_in format ≡ Some (count es) →

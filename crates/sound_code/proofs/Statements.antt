@@ -1,5 +1,5 @@
 -- The code of statements without blocks has marks.
-use Rattle.std.proofs.Common.{◌≡◌, inl, ℕ, suc, ◌<◌, ◌≤◌, List, [], ◌∷◌, pos, true, false, Some, refl, sym, ap, ◌∙◌, subst, arith}
+use Rattle.std.proofs.Common.{◌≡◌, inl, ℕ, suc, ◌<◌, ◌≤◌, List, [], ◌∷◌, pos, true, false, None, Some, refl, sym, ap, ◌∙◌, subst, arith}
 use Rattle.std.specs.Prelude.{get_or, slice_get, slice_set, length}
 use Rattle.std.proofs.lemmas.List.{length-map, length-set}
 use Rattle.std.proofs.lemmas.Int.{ints}
@@ -28,7 +28,7 @@ use Rattle.code_rules.specs.Statements.{form_code}
 use Rattle.code_laws.specs.Simple.{IsTruth, AreAlike, IsScalar, scalar_integer, scalar_truth, IsSimple, simple_integer, simple_truth, simple_space, simple_index, IsSpace, a_space_type}
 use Rattle.code_laws.specs.Standing.{Stands}
 use Rattle.code_laws.specs.Steps.{Forms}
-use Rattle.code_laws.specs.Typed.{ArePassed, IsCalled, IsMakable, IsTyped}
+use Rattle.code_laws.specs.Typed.{ArePassed, IsCallable, IsMakable, IsTyped}
 use Rattle.fit_rules.specs.Shapes.{Shape, integer, truth, space, region, NumberIs, Is, numeric_truth}
 use Rattle.fit_rules.specs.Marks.{Mark, stacked}
 use Rattle.fit_rules.specs.Fits.{Program}
@@ -91,7 +91,7 @@ module _ (g : Program) (t : TaskCode) (k : ℕ) where
   closed_block params bs m p f = into g t k f.is (narrow_into t.params f.next m [] f.narrower (same_facts _ _ f.facts))
       (sym (narrow_long _ _ f.narrower))
 
-module _ (g : Program) (t : TaskCode) (k slots : ℕ) (have : HasSlots t slots) (forms : Forms) (w : Where) (m : Mark)
+module _ (g : Program) (t : TaskCode) (k slots : ℕ) (have : HasSlots t slots) (forms : Forms) (plain : forms.takes ≡ None) (w : Where) (m : Mark)
     (asked : Asked g t k slots w m) where
   -- a name that is bound next
   abbrev pub new_name : Name → StaticType → Bound
@@ -130,7 +130,7 @@ module _ (g : Program) (t : TaskCode) (k slots : ℕ) (have : HasSlots t slots) 
 
   pub value_marked : (e : Expression) (us : List Shape) → IsTyped forms w e → (pc : ℕ) → Stands t.body pc (expr_code w 0 e) →
       Marked g t k (stacked m us) (expr_code w 0 e) (stacked m (shape_of (typed w e) ∷ us))
-  value_marked e us f pc st = expr_marked g t k slots have forms w m asked 0 e us f pc st
+  value_marked e us f pc st = expr_marked g t k slots have forms plain w m asked 0 e us f pc st
 
   pub test_marked : (e : Expression) (us : List Shape) → IsTruth (typed w e) → IsTyped forms w e → (pc : ℕ) →
       Stands t.body pc (expr_code w 0 e) → Marked g t k (stacked m us) (expr_code w 0 e) (stacked m (truth ∷ us))
@@ -193,14 +193,14 @@ module _ (g : Program) (t : TaskCode) (k slots : ℕ) (have : HasSlots t slots) 
       let r = asked.ready in
       let h = named_at w.params m.slots w.scope.names x r.named b in
       unchanged g t k _ _ m _ r (both g t k (both g t k (value_marked e [] f pc st)
-      (converted_marked g t k slots have forms w m asked _ _ [] al))
+      (converted_marked g t k slots have forms plain w m asked _ _ [] al))
       (keeping g t k m (slot_named w x) (shape_of (bound w x).static_type) [] w.line
       (named_kept w.params w.scope.names m (bound w x).place r) (scalar_numeric _ (alike_second _ _ al)) hi h))
 
   pub return_marked : (e : Expression) → AreAlike (typed w e) w.result → IsTyped forms w e → (pc : ℕ) → Stands t.body pc (expr_code w 0 e) →
       Followed g t k w.params w.scope.names m (form_code w (return_form (Some e)))
   return_marked e al f pc st = unchanged g t k _ _ m _ asked.ready (both g t k (value_marked e [] f pc st)
-      (both g t k (converted_marked g t k slots have forms w m asked _ _ [] al) (record {
+      (both g t k (converted_marked g t k slots have forms plain w m asked _ _ [] al) (record {
         marks = _;
         is = typed_op _ _ _ w.line (leads_back (stacked m (shape_of w.result ∷ [])) (stacked m []) (shape_of w.result) []
             refl (scalar_numeric _ (alike_second _ _ al)) (λ z h. subst (λ y. NumberIs y z) (sym asked.result) h) refl);
@@ -212,7 +212,7 @@ module _ (g : Program) (t : TaskCode) (k slots : ℕ) (have : HasSlots t slots) 
       (does g t k (stacked m (truth ∷ [])) instr.Assert w.line [] (does_assert truth [] numeric_truth)))
 
   -- a call whose result is left
-  pub call_marked : (task : Name) (args : Expressions) → IsCalled w.tree task →
+  pub call_marked : (task : Name) (args : Expressions) → IsCallable forms w task args →
       ArePassed forms w (params_at w.tree w.scope (task_named w.tree task) args) (param_types w.tree (task_named w.tree task)) args →
       (pc : ℕ) → Stands t.body pc (form_code w (call_form task args)) →
       Followed g t k w.params w.scope.names m (form_code w (call_form task args))
@@ -220,8 +220,8 @@ module _ (g : Program) (t : TaskCode) (k slots : ℕ) (have : HasSlots t slots) 
       let u = task_named w.tree task in
       let ts = params_at w.tree w.scope u args in
       unchanged g t k _ _ m _ asked.ready
-      (both g t k (args_marked g t k slots have forms w m asked 0 ts (param_types w.tree u) args [] passed pc st.0)
-      (both g t k (calls g t k w asked.known forms m task ts args [] is passed)
+      (both g t k (args_marked g t k slots have forms plain w m asked 0 ts (param_types w.tree u) args [] passed pc st.0)
+      (both g t k (calls g t k w asked.known forms plain m task ts args [] is passed)
       (does g t k _ instr.Drop w.line [] (does_drop _ []))))
 
   pub while_marked : (test : Expression) (p : Piece) → IsTruth (typed w test) → IsTyped forms w test → (pc : ℕ) →

@@ -130,13 +130,13 @@ module _ (tree : Tree) where
     pub marks : List Mark
     pub treated : Treated k t marks
 
-  pub treat : (forms : Forms) (k : ℕ) (t : TaskTree) → slice_get (tasks_of tree) k ≡ Some t →
+  pub treat : (forms : Forms) (plain : forms.takes ≡ None) (k : ℕ) (t : TaskTree) → slice_get (tasks_of tree) k ≡ Some t →
       IsTypedBlock forms (place_of tree t) t.body → length (lines (body_piece tree t) 0) ≤ 2 ^ 32 → HasMarks k t
-  treat forms k t there typed small =
+  treat forms plain k t there typed small =
       let code = task_code tree t in
       let m = opening_mark tree t in
       let have : HasSlots code code.slots = fits_slots (task_setting forms tree 0 0 0 [] t) tree t refl in
-      let f = block_marked bare code k code.slots have forms (place_of tree t) m t.body typed
+      let f = block_marked bare code k code.slots have forms plain (place_of tree t) m t.body typed
       (record {
         ready = opening_ready t;
         params = refl;

@@ -1,0 +1,187 @@
+-- The premises of the law on regions that are handed over hold of a program.
+use Rattle.std.proofs.Common.{zero, suc, pos, [], ◌∷◌, inl, inr, true, refl, subst, arith}
+use Rattle.std.proofs.lemmas.Int.{ints}
+use Rattle.std.proofs.lemmas.Option.{none-some, same_Some}
+use Rattle.std.specs.Int.{int_wrap}
+use Rattle.std.specs.Fmt.{digits}
+use Rattle.lane_kernels.specs.declared.numbers.Width.TheVariants.{W64}
+use Rattle.regent_tree.specs.StaticTypes.{entry_name, task_named}
+use Rattle.regent_tree.specs.Syntax.{TaskTree}
+use Rattle.code_rules.specs.Programs.{place_of}
+use Rattle.code_laws.specs.Handing.{AreTypedBy, IsTypedBy, forms_by}
+use Rattle.code_laws.specs.HandingExample.{HandingExampleHolds, handing_program}
+use Rattle.code_laws.specs.Programs.{IsTypedRun, gives_nothing, gives_scalar}
+use Rattle.code_laws.specs.Simple.{a_region_type, a_space_type, an_integer, fits_64, number_integer, scalar_integer, simple_integer, two_integers, two_regions}
+use Rattle.code_laws.specs.Standing.{of_integer}
+use Rattle.code_laws.specs.Typed.{IsTypedBlock}
+
+-- the entry task
+abbrev main : TaskTree
+main = task_named handing_program (entry_name handing_program)
+
+main_typed : IsTypedBlock (forms_by true handing_program main) (place_of handing_program main) main.body
+main_typed = (
+  -- the root
+  (refl, a_space_type _, ((refl, simple_integer _), an_integer _), record { there = omega arith; few = omega arith }),
+  (
+    -- it is handed over
+    (
+      refl,
+      (
+        refl,
+        (
+          (refl, a_region_type _ _ _ _, omega arith, λ low. absurd (omega (arith, low))),
+          ((refl, a_region_type _ _ _ _, omega arith, λ low. absurd (omega (arith, low))), tt),
+        ),
+      ),
+      (inr (refl, refl, two_regions _ _ _ _ _ _ _), (inl (two_integers _ _, refl, omega (arith, ints)), tt)),
+    ),
+    (
+      -- and again, behind a call that takes it twice
+      (
+        refl,
+        (
+          refl,
+          (
+            (refl, a_region_type _ _ _ _, omega arith, λ low. absurd (omega (arith, low))),
+            ((refl, a_region_type _ _ _ _, omega arith, λ low. absurd (omega (arith, low))), tt),
+          ),
+        ),
+        (
+          inr (refl, refl, two_regions _ _ _ _ _ _ _),
+          (
+            inl (
+              two_integers _ _,
+              refl,
+              (
+                refl,
+                scalar_integer _,
+                (
+                  refl,
+                  (
+                    (refl, a_region_type _ _ _ _, omega arith, λ low. absurd (omega (arith, low))),
+                    ((refl, a_region_type _ _ _ _, omega arith, λ low. absurd (omega (arith, low))), tt),
+                  ),
+                ),
+                (inr (refl, refl, two_regions _ _ _ _ _ _ _), (inr (refl, refl, two_regions _ _ _ _ _ _ _), tt)),
+              ),
+            ),
+            tt,
+          ),
+        ),
+      ),
+      (
+        -- the print
+        (
+          (
+            an_integer _,
+            (
+              omega (arith, ints),
+              number_integer _,
+              refl,
+              record { named = refl; region = a_region_type _ _ _ _; field = omega arith; keeps = fits_64 },
+              λ low. absurd (omega (arith, low)),
+            ),
+            tt,
+          ),
+          refl,
+        ),
+        tt,
+      ),
+    ),
+  ),
+)
+
+tasks : AreTypedBy true handing_program
+tasks zero t e = subst (IsTypedBy true handing_program) (same_Some _ t e) (record {
+  given = gives_scalar _ (scalar_integer _);
+  typed = (
+    (
+      two_integers _ _,
+      (
+        (
+          omega (arith, ints),
+          number_integer _,
+          refl,
+          record { named = refl; region = a_region_type _ _ _ _; field = omega arith; keeps = fits_64 },
+          λ low. refl,
+        ),
+        (
+          number_integer _,
+          number_integer _,
+          (
+            omega (arith, ints),
+            number_integer _,
+            refl,
+            record { named = refl; region = a_region_type _ _ _ _; field = omega arith; keeps = fits_64 },
+            λ low. refl,
+          ),
+          tt,
+        ),
+      ),
+    ),
+    tt,
+  );
+  small = omega arith;
+})
+tasks (suc zero) t e = subst (IsTypedBy true handing_program) (same_Some _ t e) (record {
+  given = gives_nothing;
+  typed = (
+    -- the write
+    (
+      two_integers _ _,
+      (refl, simple_integer _),
+      omega (arith, ints),
+      number_integer _,
+      refl,
+      record { named = refl; region = a_region_type _ _ _ _; field = omega arith; keeps = fits_64 },
+      λ low. refl,
+    ),
+    (
+      -- the reduction of what a call gives that takes the region twice
+      (
+        an_integer _,
+        an_integer _,
+        (
+          refl,
+          scalar_integer _,
+          (
+            refl,
+            (
+              (refl, a_region_type _ _ _ _, omega arith, λ low. refl),
+              ((refl, a_region_type _ _ _ _, omega arith, λ low. refl), tt),
+            ),
+          ),
+          (inr (refl, refl, two_regions _ _ _ _ _ _ _), (inr (refl, refl, two_regions _ _ _ _ _ _ _), tt)),
+        ),
+        omega (arith, ints),
+        number_integer _,
+        refl,
+        record { named = refl; region = a_region_type _ _ _ _; field = omega arith; keeps = fits_64 },
+        λ low. refl,
+      ),
+      tt,
+    ),
+  );
+  small = omega arith;
+})
+tasks (suc (suc zero)) t e = subst (IsTypedBy true handing_program) (same_Some _ t e) (record {
+  given = gives_nothing;
+  typed = main_typed;
+  small = omega arith;
+})
+tasks (suc (suc (suc k))) t e = absurd (none-some t e)
+
+run : IsTypedRun (forms_by true handing_program main) handing_program (pos 2 ∷ [])
+run = record {
+  start = refl;
+  needs = refl;
+  typed = main_typed;
+  small = omega arith;
+  taken = (of_integer W64 (pos 2) (omega (arith, ints)), tt);
+  count = refl;
+}
+
+pub handing_example_holds : HandingExampleHolds
+unfolding int_wrap digits
+handing_example_holds = record { accepted = refl; tasks = tasks; run = run; end_is = refl; fault_is = refl; turns_are = refl }

@@ -1,0 +1,35 @@
+-- Programs whose tasks hand regions over, and what is to be shown of them.
+use Rattle.std.specs.Prelude.{◌≡◌, Bool, true, false, ℕ, ◌^◌, ◌<◌, ◌≤◌, ℤ, List, length, Option, Some, None, slice_get}
+use Rattle.regent_tree.specs.StaticTypes.{entry_name, task_named}
+use Rattle.regent_tree.specs.Syntax.{TaskTree, Tree}
+use Rattle.regent_tree.specs.Typing.{result_type}
+use Rattle.code_rules.specs.Instructions.{tasks_of}
+use Rattle.code_rules.specs.Pieces.{lines}
+use Rattle.code_rules.specs.Programs.{body_piece, place_of, task_code}
+use Rattle.code_laws.specs.Programs.{IsGiven, IsTypedRun, RunsAsMeant}
+use Rattle.code_laws.specs.Steps.{Forms, Taking}
+use Rattle.code_laws.specs.Typed.{IsTypedBlock}
+
+-- whether regions are handed over; a task may do with those that it takes what it declares
+abbrev pub takes_by : Bool → Tree → TaskTree → Option Taking
+takes_by false tree t = None
+takes_by true tree t = Some (record { params = length t.params; needs = (task_code tree t).needs })
+
+abbrev pub forms_by : Bool → Tree → TaskTree → Forms
+forms_by handing tree t = record { makes = true; calls = true; takes = takes_by handing tree t }
+
+-- a task gives a number or truth, or nothing, is typed and not too long
+pub record IsTypedBy (handing : Bool) (tree : Tree) (t : TaskTree) : Type 0 where
+  pub given : IsGiven (result_type tree t.result)
+  pub typed : IsTypedBlock (forms_by handing tree t) (place_of tree t) t.body
+  pub small : length (lines (body_piece tree t) 0) ≤ 2 ^ 32
+
+abbrev pub AreTypedBy : Bool → Tree → Type 0
+AreTypedBy handing tree = (k : ℕ) (t : TaskTree) → slice_get (tasks_of tree) k ≡ Some t → IsTypedBy handing tree t
+
+-- The run in order is what the program means where tasks call others that also take regions, which have names: roots
+-- that the caller made, and regions that it took itself. What the called task declares to need, the caller made or
+-- declares too; and each access to a region that was taken is declared.
+abbrev pub RegionsAreHandedAsMeant : Type 0
+RegionsAreHandedAsMeant = (tree : Tree) (inputs : List ℤ) (turns : ℕ) → turns < 2 ^ 64 → AreTypedBy true tree →
+    IsTypedRun (forms_by true tree (task_named tree (entry_name tree))) tree inputs → RunsAsMeant tree inputs turns
