@@ -42,6 +42,7 @@ use Rattle.code_laws.proofs.Calling.{code_there, room_for}
 use Rattle.code_laws.proofs.Counts.{counts_down}
 use Rattle.code_laws.proofs.Openings.{before_all, fits_slots, opens, params_length}
 use Rattle.code_laws.proofs.Places.{stands_alone}
+use Rattle.code_laws.proofs.Pointing.{IsPlain, simple_plain}
 use Rattle.code_laws.proofs.Runs.{ends_by, leads_end}
 use Rattle.code_laws.proofs.Segments.{segments_give}
 use Rattle.code_laws.proofs.Statements.{block_runs}
@@ -62,6 +63,12 @@ taken_inside x store (t ∷ ts) (v ∷ vs) a =
     (simple_inside x store t v (scalar_simple t a.0.0), taken_inside x store ts vs a.1)
 taken_inside x store [] (v ∷ vs) a = absurd a
 taken_inside x store (t ∷ ts) [] a = absurd a
+
+taken_plain : (ts : List StaticType) (vs : List Value) → AreTaken (λ t v. IsScalar t × IsOf t v) ts vs → AreTaken (λ u v. IsPlain v) ts vs
+taken_plain [] [] a = tt
+taken_plain (t ∷ ts) (v ∷ vs) a = (simple_plain t v (scalar_simple t a.0.0) a.0.1, taken_plain ts vs a.1)
+taken_plain [] (v ∷ vs) a = absurd a
+taken_plain (t ∷ ts) [] a = absurd a
 
 -- 0 is the value that falls off a body's end
 zero_fits : (w : Width) → FitsWidth w (pos 0)
@@ -147,7 +154,8 @@ module _ (tree : Tree) (turns : ℕ) (few : turns < 2 ^ 64) (are : AreTypedTasks
       let r = run_task tree turns (calls_at tree turns more) t vs store in
       let room = (room_for h task vs takes).1 in
       let g = opens tree turns more depth t (place_of_task tree task) vs store c call_forms (calls_at tree turns more) (λ e. answers)
-      (taken_typed (param_types tree t) vs takes.taken) (taken_inside x store (param_types tree t) vs takes.taken) room holds in
+      (taken_typed (param_types tree t) vs takes.taken) (taken_inside x store (param_types tree t) vs takes.taken)
+      (taken_plain (param_types tree t) vs takes.taken) room holds in
       let low : length t.params ≤ length h.scope.names = omega (arith, params_length tree t.params 0 t.params) in
       let task_is = are (place_of_task tree task) t takes.there in
       let stands = stands_alone (body_piece tree t) task_is.small in

@@ -34,7 +34,7 @@ use Rattle.regent_tree.specs.declared.outcome.RootImage.{RootImage}
 use Rattle.machine_terms.specs.declared.order.Instance.{Instance}
 use Rattle.code_laws.proofs.Tasks.{answering}
 use Rattle.code_laws.proofs.Values.{not_true, number_inside}
-use Rattle.code_laws.specs.Programs.{AreTypedTasks, CallsRunAsMeant, call_forms, IsTypedRun, LeavesNoRoots, RegionsRunAsMeant, RunsAsMeant, ScalarsRunAsMeant, entry_setting, job_of, region_forms, scalar_forms}
+use Rattle.code_laws.specs.Programs.{AreTypedTasks, CallsRunAsMeant, call_forms, IsTypedRun, LeavesNoRoots, PointersRunAsMeant, RegionsRunAsMeant, RunsAsMeant, ScalarsRunAsMeant, entry_setting, job_of, pointer_forms, region_forms, scalar_forms}
 use Rattle.code_laws.specs.Standing.{Answering, AreTaken, Does, IsFramed, IsInside, IsOf, Stands, machine_value}
 use Rattle.code_laws.specs.Steps.{Ends, Forms, Setting, placed}
 use Rattle.code_laws.proofs.Counts.{counts_down}
@@ -42,6 +42,7 @@ use Rattle.code_laws.proofs.Openings.{before_all, begins, fits_slots, least_slot
 use Rattle.code_laws.proofs.Shapes.{all_shaped}
 use Rattle.run_report.specs.Dumps.{fits_spaces}
 use Rattle.code_laws.proofs.Places.{stands_alone}
+use Rattle.code_laws.proofs.Pointing.{IsPlain}
 use Rattle.code_laws.proofs.Runs.{ends_by, leads_end}
 use Rattle.code_laws.proofs.Segments.{segments_give}
 use Rattle.code_laws.proofs.Statements.{block_runs}
@@ -61,6 +62,12 @@ inputs_inside x store [] (z ∷ zs) a = tt
 inputs_inside x store (t ∷ ts) [] a = absurd a
 inputs_inside x store (t ∷ ts) (z ∷ zs) a =
     (number_inside x store t (width_of_type t) z a.0, inputs_inside x store ts zs a.1)
+
+inputs_plain : (ts : List StaticType) (zs : List ℤ) → AreTaken IsOf ts (inputs_of ts zs) → AreTaken (λ u v. IsPlain v) ts (inputs_of ts zs)
+inputs_plain [] [] a = tt
+inputs_plain [] (z ∷ zs) a = tt
+inputs_plain (t ∷ ts) [] a = absurd a
+inputs_plain (t ∷ ts) (z ∷ zs) a = (tt, inputs_plain ts zs a.1)
 
 -- at the end of the first task what its roots hold is the store
 roots_are : (x : Setting) (s : State) (j : Instance) → x.before ≡ [] → Holds x.code s.store (memory_of j) →
@@ -136,7 +143,7 @@ typed_run_ends forms tree inputs turns answers p =
     let same : map (machine_value no_contents) vs ≡ map machine.Number inputs = inputs_kept ts inputs (p.count ∙ sym params) in
     let room : length t.params ≤ code.slots = least_slots (length t.params) code.body in
     let few : length vs ≤ code.slots = omega (arith, taken_length IsOf ts vs p.taken, params, room) in
-    let g = opens tree turns 63 1 t place vs [] no_contents forms (calls_at tree turns 63) answers p.taken (inputs_inside x [] ts inputs p.taken) few
+    let g = opens tree turns 63 1 t place vs [] no_contents forms (calls_at tree turns 63) answers p.taken (inputs_inside x [] ts inputs p.taken) (inputs_plain ts inputs p.taken) few
     (first_holds (code_of tree) i.frame) in
     let low : length t.params ≤ length h.scope.names = omega (arith, params_length tree t.params 0 t.params) in
     let stands = stands_alone (body_piece tree t) p.small in
@@ -160,6 +167,9 @@ typed_run_ends forms tree inputs turns answers p =
 
 pub scalars_run_as_meant : ScalarsRunAsMeant
 scalars_run_as_meant tree inputs turns p = (typed_run_ends scalar_forms tree inputs turns (λ e. absurd (not_true e)) p).0
+
+pub pointers_run_as_meant : PointersRunAsMeant
+pointers_run_as_meant tree inputs turns p = (typed_run_ends pointer_forms tree inputs turns (λ e. absurd (not_true e)) p).0
 
 pub regions_run_as_meant : RegionsRunAsMeant
 regions_run_as_meant tree inputs turns p = (typed_run_ends region_forms tree inputs turns (λ e. absurd (not_true e)) p).0

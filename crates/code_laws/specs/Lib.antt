@@ -1,5 +1,6 @@
 pub mod Steps
 pub mod Simple
+pub mod Pointers
 pub mod Standing
 pub mod Typed
 pub mod Programs
@@ -9,4 +10,5 @@ pub mod LocalPrograms
 pub mod LocalExample
 pub mod Example
 pub mod RegionExample
+pub mod PointerExample
 pub mod CallExample

@@ -1,6 +1,6 @@
 -- A task instance in a run in order, instruction by instruction: what a segment stops for is done at
 -- once, and the instance goes on.
-use Rattle.std.specs.Prelude.{◌≡◌, Bool, ℕ, zero, suc, ◌+◌, List, ◌++◌, None}
+use Rattle.std.specs.Prelude.{◌≡◌, Bool, false, ℕ, zero, suc, ◌+◌, List, ◌++◌, None}
 use Rattle.regent_tree.specs.declared.typing.StaticType.{StaticType}
 use Rattle.task_code.specs.declared.code.Code.{Code}
 use Rattle.task_code.specs.declared.code.Line.{Line}
@@ -14,10 +14,16 @@ use Rattle.machine_terms.specs.Machine.{Machine, Stepped, goes, prints, stops}
 use Rattle.machine_terms.specs.Orders.{Runner, resume_in, until_over}
 use Rattle.machine_terms.specs.Segments.{frame_after, step}
 
--- which forms a body may have beside those of numbers and truths: roots that are made, and calls
+-- which forms a body may have beside those of numbers and truths: roots that are made, calls, and pointers that are
+-- kept, with loops over regions and indices in variables and fields
 pub record Forms : Type 0 where
   pub makes : Bool
   pub calls : Bool
+  pub keeps : Bool
+
+-- the same forms without kept pointers
+abbrev pub without_pointers : Forms → Forms
+without_pointers forms = record forms { keeps = false }
 
 -- The code of all tasks, the turns of each instance, what calls give, the code of the task, and its
 -- result's type; its depth, the numbers of the roots that were there when it began, and the forms that its body

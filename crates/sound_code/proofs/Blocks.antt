@@ -1,5 +1,6 @@
 -- The code of blocks has marks.
 use Rattle.std.proofs.Common.{◌≡◌, ℕ, ◌<◌, ℤ, pos, List, [], ◌∷◌, Bool, true, false, Some, None, refl, sym, ap, ◌∙◌, subst, arith}
+use Rattle.std.proofs.lemmas.Bool.{false≢true}
 use Rattle.std.specs.Prelude.{length, slice_get}
 use Rattle.std.proofs.lemmas.Int.{ints}
 use Rattle.lane_kernels.specs.declared.numbers.Op.{Op}
@@ -36,7 +37,7 @@ use Rattle.fit_rules.specs.Fits.{Program}
 use Rattle.regent_tree.specs.StaticTypes.{place_of_space}
 use Rattle.code_rules.specs.Expressions.{expr_code}
 use Rattle.code_laws.specs.Simple.{IsSimple, simple_integer, simple_truth, simple_space, simple_index, IsInteger, an_integer, IsSpace, a_space_type}
-use Rattle.code_laws.specs.Steps.{Forms}
+use Rattle.code_laws.specs.Steps.{Forms, without_pointers}
 use Rattle.code_laws.specs.Typed.{element_field, IsTypedForm, AreTypedArms, IsTypedElse, IsTypedBlock}
 use Rattle.fit_rules.specs.Shapes.{index, space}
 use Rattle.marked_code.specs.Marked.{leads_nowhere, typed_op}
@@ -164,7 +165,7 @@ module _ (g : Program) (t : TaskCode) (k slots : ℕ) (have : HasSlots t slots) 
           (stored g t k slots have forms w m a _ (spare w 0) st.1.0) Greater s ns
 
   mutual
-    pub form_marked : (w : Where) (m : Mark) (form : Form) → IsTypedForm forms w form → At w m → (pc : ℕ) →
+    pub form_marked : (w : Where) (m : Mark) (form : Form) → IsTypedForm (without_pointers forms) w form → At w m → (pc : ℕ) →
         Stands t.body pc (form_code w form) → Followed g t k w.params (after_form w form).scope.names m (form_code w form)
     form_marked w m (var_form x None (Some (plain_initializer e))) f a pc st =
         let u = owned w.scope.next (typed w e) in
@@ -298,9 +299,11 @@ module _ (g : Program) (t : TaskCode) (k slots : ℕ) (have : HasSlots t slots) 
       is = typed_op (stacked m []) (stacked m []) instr.Return w.line (leads_nowhere _ _ refl);
     })
     form_marked w m (return_form (Some e)) f a pc st = return_marked g t k slots have forms w m a e f.0 f.1 pc st.0
+    form_marked w m (assign_form x (field_step l no_step) how.Set y) f a pc st = absurd (false≢true f.0)
+    form_marked w m (assign_form x (field_step l no_step) (how.Reduce o) y) f a pc st = absurd (false≢true f.0)
     form_marked w m _ f a pc st = absurd f
 
-    arms_marked : (own w : Where) (m : Mark) (arms : Arms) (other : Piece) → AreTypedArms forms own w arms → At own m →
+    arms_marked : (own w : Where) (m : Mark) (arms : Arms) (other : Piece) → AreTypedArms (without_pointers forms) own w arms → At own m →
         At w m → (pc : ℕ) → Stands t.body pc (arms_code own w arms other) →
         ((q : ℕ) → Stands t.body q other → Marked g t k (stacked m []) other (stacked m [])) →
         Marked g t k (stacked m []) (arms_code own w arms other) (stacked m [])
@@ -311,13 +314,13 @@ module _ (g : Program) (t : TaskCode) (k slots : ℕ) (have : HasSlots t slots) 
         (arms_marked own (after_arm w body) m rest other f.3 o
         (record { ready = a.ready; params = a.params; result = a.result; room = a.room; known = a.known }) _ st.1.3 more)
 
-    else_marked : (w : Where) (m : Mark) (other : Otherwise) → IsTypedElse forms w other → At w m → (pc : ℕ) →
+    else_marked : (w : Where) (m : Mark) (other : Otherwise) → IsTypedElse (without_pointers forms) w other → At w m → (pc : ℕ) →
         Stands t.body pc (else_code w other) → Marked g t k (stacked m []) (else_code w other) (stacked m [])
     else_marked w m no_else f a pc st = nothing_done g t k _
     else_marked w m (else_block body) f a pc st =
         closed_block g t k _ _ m _ (block_marked w m body f a pc st)
 
-    pub block_marked : (w : Where) (m : Mark) (b : Block) → IsTypedBlock forms w b → At w m → (pc : ℕ) →
+    pub block_marked : (w : Where) (m : Mark) (b : Block) → IsTypedBlock (without_pointers forms) w b → At w m → (pc : ℕ) →
         Stands t.body pc (block_code w b) → Followed g t k w.params (scope_after_block w.tree w.scope b).names m (block_code w b)
     block_marked w m no_statement f a pc st = unchanged g t k _ _ m _ a.ready (nothing_done g t k _)
     block_marked w m (then_statement (a_statement line form) rest) f a pc st =

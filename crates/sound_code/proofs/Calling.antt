@@ -21,7 +21,7 @@ use Rattle.code_rules.specs.Programs.{place_of, task_code}
 use Rattle.code_rules.specs.Statements.{block_code}
 use Rattle.code_rules.specs.Slots.{Where}
 use Rattle.code_laws.specs.Simple.{AreAlike, two_integers, two_truths, IsScalar, scalar_integer, scalar_truth, IsSimple, simple_integer, simple_truth, simple_index, simple_space}
-use Rattle.code_laws.specs.Steps.{Forms}
+use Rattle.code_laws.specs.Steps.{Forms, without_pointers}
 use Rattle.code_laws.specs.Typed.{ArePassed, IsCalled}
 use Rattle.code_laws.proofs.Calling.{code_there}
 use Rattle.code_laws.proofs.Openings.{params_length, types_length}
@@ -137,7 +137,7 @@ numerics : (ts : List StaticType) → Each IsScalar ts → Each Numeric (map sha
 numerics [] h = tt
 numerics (t ∷ ts) h = (scalar_numeric t h.0, numerics ts h.1)
 
-passed_scalars : (forms : Forms) (w : Where) (ts ps : List StaticType) (es : Expressions) → ArePassed forms w ts ps es →
+passed_scalars : (forms : Forms) (w : Where) (ts ps : List StaticType) (es : Expressions) → ArePassed (without_pointers forms) w ts ps es →
     Each IsScalar ps
 passed_scalars forms w [] [] no_expr h = tt
 passed_scalars forms w (t ∷ ts) (p ∷ ps) (an_expr e es) h =
@@ -147,7 +147,7 @@ passed_scalars forms w [] (p ∷ ps) es h = absurd h
 passed_scalars forms w (t ∷ ts) [] es h = absurd h
 passed_scalars forms w (t ∷ ts) (p ∷ ps) no_expr h = absurd h
 
-passed_many : (forms : Forms) (w : Where) (ts ps : List StaticType) (es : Expressions) → ArePassed forms w ts ps es →
+passed_many : (forms : Forms) (w : Where) (ts ps : List StaticType) (es : Expressions) → ArePassed (without_pointers forms) w ts ps es →
     length ps ≡ count es
 passed_many forms w [] [] no_expr h = refl
 passed_many forms w (t ∷ ts) (p ∷ ps) (an_expr e es) h = ap suc (passed_many forms w ts ps es h.3)
@@ -176,7 +176,7 @@ module _ (g : Program) (t : TaskCode) (k : ℕ) (w : Where) (known : Known g w.t
 
   -- a call with its arguments on the stack
   pub calls : (forms : Forms) (m : Mark) (task : Name) (ts : List StaticType) (es : Expressions) (us : List Shape) → IsCalled w.tree task →
-      ArePassed forms w ts (param_types w.tree (task_named w.tree task)) es →
+      ArePassed (without_pointers forms) w ts (param_types w.tree (task_named w.tree task)) es →
       Marked g t k (stacked m (onto (map shape_of (param_types w.tree (task_named w.tree task))) us))
       (one w (instr.Call (place_of_task w.tree task) (count es)))
       (stacked m (awaited (g.results (place_of_task w.tree task)) ∷ us))

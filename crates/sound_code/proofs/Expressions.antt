@@ -28,7 +28,7 @@ use Rattle.code_rules.specs.Instructions.{converted_code, signs_code, standing_c
 use Rattle.code_rules.specs.Slots.{Where, bound, spare, typed, slot_named}
 use Rattle.code_laws.specs.Simple.{IsSimple, AreComparable, compare_numbers, compare_truths, simple_integer, simple_truth, simple_space, simple_index, IsInteger, an_integer, IsTruth, a_truth_type, AreAlike, two_integers, two_truths, IsScalar, scalar_integer, IsNumber, number_integer, number_index, SignsFit, of_a_truth, of_an_integer, not_before, minus_before, IsIntegerTerm, term_32, term_64}
 use Rattle.code_laws.specs.Standing.{Stands}
-use Rattle.code_laws.specs.Steps.{Forms}
+use Rattle.code_laws.specs.Steps.{Forms, without_pointers}
 use Rattle.code_laws.specs.Typed.{ArePassed, IsTyped, AreTypedLinks}
 use Rattle.fit_rules.specs.Shapes.{numeric_index, Are, are_more, index, is_number, World, Shape, awaited, integer, truth, space, Numeric, numeric_integer, numeric_truth}
 use Rattle.fit_rules.specs.Marks.{Mark, stacked}
@@ -195,7 +195,7 @@ module _ (g : Program) (t : TaskCode) (k slots : ℕ) (have : HasSlots t slots) 
       (sym (length-set m.slots s (awaited r)))
 
   mutual
-    pub expr_marked : (d : ℕ) (e : Expression) (us : List Shape) → IsTyped forms w e → (pc : ℕ) →
+    pub expr_marked : (d : ℕ) (e : Expression) (us : List Shape) → IsTyped (without_pointers forms) w e → (pc : ℕ) →
         Stands t.body pc (expr_code w d e) → Goes us (expr_code w d e) (shape_of (typed w e) ∷ us)
     expr_marked d (number_expr z v) us fine pc st = does g t k _ (instr.Num z) w.line _ (does_num z (integer v) us fine)
     expr_marked d (truth_expr b) us fine pc st = does g t k _ (instr.Num (kept_truth b)) w.line _ (does_num _ truth us (truth_is b))
@@ -229,9 +229,10 @@ module _ (g : Program) (t : TaskCode) (k slots : ℕ) (have : HasSlots t slots) 
     expr_marked d (space_expr c e) us fine pc st = both g t k (expr_marked d e us fine.0 pc st.0)
         (does g t k (stacked m (shape_of (typed w e) ∷ us)) instr.Space w.line (space ∷ us)
         (does_space _ us (scalar_numeric _ (integer_is_plain _ fine.1))))
+    expr_marked d (access_expr x (field_step f no_step)) us fine pc st = absurd (false≢true fine.0)
     expr_marked d _ us fine pc st = absurd fine
 
-    pub links_marked : (d : ℕ) (u : StaticType) (ls : Links) (us : List Shape) → AreTypedLinks forms w u ls → (pc : ℕ) →
+    pub links_marked : (d : ℕ) (u : StaticType) (ls : Links) (us : List Shape) → AreTypedLinks (without_pointers forms) w u ls → (pc : ℕ) →
         Stands t.body pc (links_code w d u ls) →
         Goes (shape_of u ∷ us) (links_code w d u ls) (shape_of (linked_type w.tree w.scope u ls) ∷ us)
     links_marked d u no_link us fine pc st = nothing_done g t k _
@@ -261,7 +262,7 @@ module _ (g : Program) (t : TaskCode) (k slots : ℕ) (have : HasSlots t slots) 
         (links_marked d _ rest us fine.2 _ st.1.1.1.1))))
 
     -- arguments of parameters of these types
-    pub args_marked : (d : ℕ) (ts ps : List StaticType) (es : Expressions) (us : List Shape) → ArePassed forms w ts ps es →
+    pub args_marked : (d : ℕ) (ts ps : List StaticType) (es : Expressions) (us : List Shape) → ArePassed (without_pointers forms) w ts ps es →
         (pc : ℕ) → Stands t.body pc (exprs_code w d ts es) → Goes us (exprs_code w d ts es) (onto (map shape_of ps) us)
     args_marked d [] [] no_expr us fine pc st = nothing_done g t k _
     args_marked d (u ∷ ts) (p ∷ ps) (an_expr e es) us fine pc st =

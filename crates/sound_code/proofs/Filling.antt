@@ -1,5 +1,5 @@
 -- The code of fills has marks: the value is put aside, and each field is filled with it.
-use Rattle.std.proofs.Common.{◌≡◌, inl, ℕ, ◌<◌, List, [], ◌∷◌, true, Some, refl, sym, arith}
+use Rattle.std.proofs.Common.{◌≡◌, inl, ℕ, ◌<◌, List, [], ◌∷◌, false, true, Some, refl, sym, arith}
 use Rattle.std.specs.Prelude.{slice_get, length}
 use Rattle.std.proofs.lemmas.List.{length-set}
 use Rattle.regent_tree.specs.Lookup.{is_bound}
@@ -12,7 +12,7 @@ use Rattle.code_rules.specs.Slots.{Where, bound, slot_named, spare, typed}
 use Rattle.code_rules.specs.Statements.{form_code}
 use Rattle.code_laws.specs.Simple.{IsRegion}
 use Rattle.code_laws.specs.Standing.{Stands}
-use Rattle.code_laws.specs.Steps.{Forms}
+use Rattle.code_laws.specs.Steps.{Forms, without_pointers}
 use Rattle.code_laws.specs.Typed.{AreFilled, IsTyped}
 use Rattle.fit_rules.specs.Marks.{Mark, stacked}
 use Rattle.fit_rules.specs.Fits.{Program}
@@ -31,7 +31,7 @@ module _ (g : Program) (t : TaskCode) (k slots : ℕ) (have : HasSlots t slots) 
   -- from a mark with the value in the slot
   fields_marked : (o : Mark) (r : Name) (from : StaticType) (fs : List Name) → AreNamed w.params o.slots w.scope.names →
       slice_get o.slots (spare w 0) ≡ Some (shape_of from) → is_bound w.scope.names r ≡ true → IsRegion (bound w r).static_type →
-      AreFilled w r from fs →
+      AreFilled false w r from fs →
       Marked g t k (stacked o []) (fill_code w from (bound w r).static_type (slot_named w r) fs) (stacked o [])
   fields_marked o r from [] names there b is h = nothing_done g t k _
   fields_marked o r from (f ∷ fs) names there b is h =
@@ -42,8 +42,8 @@ module _ (g : Program) (t : TaskCode) (k slots : ℕ) (have : HasSlots t slots) 
       (named_at w.params o.slots w.scope.names r names b) h.1.field h.1.keeps)
       (fields_marked o r from fs names there b is h.2)))
 
-  pub fill_marked : (r : Name) (fs : List Name) (e : Expression) → IsTyped forms w e → is_bound w.scope.names r ≡ true →
-      IsRegion (bound w r).static_type → AreFilled w r (typed w e) fs → (pc : ℕ) → Stands t.body pc (form_code w (fill_form r fs e)) →
+  pub fill_marked : (r : Name) (fs : List Name) (e : Expression) → IsTyped (without_pointers forms) w e → is_bound w.scope.names r ≡ true →
+      IsRegion (bound w r).static_type → AreFilled false w r (typed w e) fs → (pc : ℕ) → Stands t.body pc (form_code w (fill_form r fs e)) →
       Followed g t k w.params w.scope.names m (form_code w (fill_form r fs e))
   fill_marked r fs e f b is h pc st =
       let ready = asked.ready in

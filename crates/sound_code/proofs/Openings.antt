@@ -17,7 +17,7 @@ use Rattle.code_rules.specs.Instructions.{tasks_of}
 use Rattle.code_rules.specs.Programs.{task_code}
 use Rattle.code_laws.specs.Programs.{AreTypedTasks, IsTypedRun, call_forms, scalar_forms, region_forms}
 use Rattle.code_laws.specs.Standing.{AreTaken, IsOf, of_integer}
-use Rattle.code_laws.specs.Steps.{Forms}
+use Rattle.code_laws.specs.Steps.{Forms, without_pointers}
 use Rattle.code_laws.proofs.ScalarRuns.{scalar_run}
 use Rattle.fit_rules.specs.Shapes.{NumberIs, World, is_number, Are, are_none, are_more}
 use Rattle.fit_rules.specs.Marks.{Mark, Suits}
@@ -79,7 +79,7 @@ module _ (tree : Tree) (lists : ℕ → List Mark) (marked : IsMarked tree lists
 
 -- ---- programs of one task
 
-module _ (forms : Forms) (tree : Tree) (inputs : List ℤ) (p : IsTypedRun forms tree inputs) where
+module _ (forms : Forms) (tree : Tree) (inputs : List ℤ) (p : IsTypedRun (without_pointers forms) tree inputs) where
   abbrev entry : TaskTree
   entry = task_named tree (entry_name tree)
 

@@ -27,7 +27,7 @@ use Rattle.code_rules.specs.Slots.{Where, typed, bound, slot_named}
 use Rattle.code_rules.specs.Statements.{form_code}
 use Rattle.code_laws.specs.Simple.{IsTruth, AreAlike, IsScalar, scalar_integer, scalar_truth, IsSimple, simple_integer, simple_truth, simple_space, simple_index, IsSpace, a_space_type}
 use Rattle.code_laws.specs.Standing.{Stands}
-use Rattle.code_laws.specs.Steps.{Forms}
+use Rattle.code_laws.specs.Steps.{Forms, without_pointers}
 use Rattle.code_laws.specs.Typed.{ArePassed, IsCalled, IsMakable, IsTyped}
 use Rattle.fit_rules.specs.Shapes.{Shape, integer, truth, space, region, NumberIs, Is, numeric_truth}
 use Rattle.fit_rules.specs.Marks.{Mark, stacked}
@@ -128,11 +128,11 @@ module _ (g : Program) (t : TaskCode) (k slots : ℕ) (have : HasSlots t slots) 
   plain_marked _ e i n o (simple_space c) f = both g t k f (beside_marked _ e o (simple_space c))
   plain_marked _ e i n o (simple_index c) f = both g t k f (beside_marked _ e o (simple_index c))
 
-  pub value_marked : (e : Expression) (us : List Shape) → IsTyped forms w e → (pc : ℕ) → Stands t.body pc (expr_code w 0 e) →
+  pub value_marked : (e : Expression) (us : List Shape) → IsTyped (without_pointers forms) w e → (pc : ℕ) → Stands t.body pc (expr_code w 0 e) →
       Marked g t k (stacked m us) (expr_code w 0 e) (stacked m (shape_of (typed w e) ∷ us))
   value_marked e us f pc st = expr_marked g t k slots have forms w m asked 0 e us f pc st
 
-  pub test_marked : (e : Expression) (us : List Shape) → IsTruth (typed w e) → IsTyped forms w e → (pc : ℕ) →
+  pub test_marked : (e : Expression) (us : List Shape) → IsTruth (typed w e) → IsTyped (without_pointers forms) w e → (pc : ℕ) →
       Stands t.body pc (expr_code w 0 e) → Marked g t k (stacked m us) (expr_code w 0 e) (stacked m (truth ∷ us))
   test_marked e us h f pc st = subst (λ y. Marked g t k (stacked m us) (expr_code w 0 e) (stacked m (y ∷ us)))
       (truth_shape _ h) (value_marked e us f pc st)
@@ -162,7 +162,7 @@ module _ (g : Program) (t : TaskCode) (k slots : ℕ) (have : HasSlots t slots) 
   zero_marked _ scalar_truth = does g t k _ (instr.Num (pos 0)) w.line _ (does_num (pos 0) truth [] (inl refl))
 
   -- a root is made, whose field space is there
-  pub root_marked : (e : Expression) (sp : ℕ) → IsSpace (typed w e) → IsTyped forms w e → IsMakable w.tree sp → (pc : ℕ) →
+  pub root_marked : (e : Expression) (sp : ℕ) → IsSpace (typed w e) → IsTyped (without_pointers forms) w e → IsMakable w.tree sp → (pc : ℕ) →
       Stands t.body pc (expr_code w 0 e) →
       Marked g t k (stacked m []) (expr_code w 0 e ⨟ one w (instr.NewRoot sp)) (stacked m (region (Some sp) true ∷ []))
   root_marked e sp is f can pc st =
@@ -186,7 +186,7 @@ module _ (g : Program) (t : TaskCode) (k slots : ℕ) (have : HasSlots t slots) 
       few = subst (λ n. n ≤ 256) (sym (ap (λ y. length y.fields) (get_or-map space_code (spaces_of w.tree) sp _)
           ∙ length-map (space_at w.tree sp).fields _)) can.few
 
-  pub assign_marked : (x : Name) (e : Expression) → AreAlike (typed w e) (bound w x).static_type → IsTyped forms w e →
+  pub assign_marked : (x : Name) (e : Expression) → AreAlike (typed w e) (bound w x).static_type → IsTyped (without_pointers forms) w e →
       is_bound w.scope.names x ≡ true → slot_named w x < length m.slots → (pc : ℕ) → Stands t.body pc (expr_code w 0 e) →
       Followed g t k w.params w.scope.names m (form_code w (assign_form x no_step how.Set e))
   assign_marked x e al f b hi pc st =
@@ -197,7 +197,7 @@ module _ (g : Program) (t : TaskCode) (k slots : ℕ) (have : HasSlots t slots) 
       (keeping g t k m (slot_named w x) (shape_of (bound w x).static_type) [] w.line
       (named_kept w.params w.scope.names m (bound w x).place r) (scalar_numeric _ (alike_second _ _ al)) hi h))
 
-  pub return_marked : (e : Expression) → AreAlike (typed w e) w.result → IsTyped forms w e → (pc : ℕ) → Stands t.body pc (expr_code w 0 e) →
+  pub return_marked : (e : Expression) → AreAlike (typed w e) w.result → IsTyped (without_pointers forms) w e → (pc : ℕ) → Stands t.body pc (expr_code w 0 e) →
       Followed g t k w.params w.scope.names m (form_code w (return_form (Some e)))
   return_marked e al f pc st = unchanged g t k _ _ m _ asked.ready (both g t k (value_marked e [] f pc st)
       (both g t k (converted_marked g t k slots have forms w m asked _ _ [] al) (record {
@@ -206,14 +206,14 @@ module _ (g : Program) (t : TaskCode) (k slots : ℕ) (have : HasSlots t slots) 
             refl (scalar_numeric _ (alike_second _ _ al)) (λ z h. subst (λ y. NumberIs y z) (sym asked.result) h) refl);
       })))
 
-  pub assert_marked : (e : Expression) → IsTruth (typed w e) → IsTyped forms w e → (pc : ℕ) → Stands t.body pc (expr_code w 0 e) →
+  pub assert_marked : (e : Expression) → IsTruth (typed w e) → IsTyped (without_pointers forms) w e → (pc : ℕ) → Stands t.body pc (expr_code w 0 e) →
       Followed g t k w.params w.scope.names m (form_code w (assert_form e))
   assert_marked e h f pc st = unchanged g t k _ _ m _ asked.ready (both g t k (test_marked e [] h f pc st)
       (does g t k (stacked m (truth ∷ [])) instr.Assert w.line [] (does_assert truth [] numeric_truth)))
 
   -- a call whose result is left
   pub call_marked : (task : Name) (args : Expressions) → IsCalled w.tree task →
-      ArePassed forms w (params_at w.tree w.scope (task_named w.tree task) args) (param_types w.tree (task_named w.tree task)) args →
+      ArePassed (without_pointers forms) w (params_at w.tree w.scope (task_named w.tree task) args) (param_types w.tree (task_named w.tree task)) args →
       (pc : ℕ) → Stands t.body pc (form_code w (call_form task args)) →
       Followed g t k w.params w.scope.names m (form_code w (call_form task args))
   call_marked task args is passed pc st =
@@ -224,7 +224,7 @@ module _ (g : Program) (t : TaskCode) (k slots : ℕ) (have : HasSlots t slots) 
       (both g t k (calls g t k w asked.known forms m task ts args [] is passed)
       (does g t k _ instr.Drop w.line [] (does_drop _ []))))
 
-  pub while_marked : (test : Expression) (p : Piece) → IsTruth (typed w test) → IsTyped forms w test → (pc : ℕ) →
+  pub while_marked : (test : Expression) (p : Piece) → IsTruth (typed w test) → IsTyped (without_pointers forms) w test → (pc : ℕ) →
       Stands t.body pc (expr_code w 0 test) → Marked g t k (stacked m []) p (stacked m []) →
       Marked g t k (stacked m []) (loop w.line (expr_code w 0 test) p) (stacked m [])
   while_marked test p h f pc st body =
@@ -235,7 +235,7 @@ module _ (g : Program) (t : TaskCode) (k slots : ℕ) (have : HasSlots t slots) 
             (λ x vs st y. y);
       }
 
-  pub branch_marked : (line : ℕ) (test : Expression) (p q : Piece) → IsTruth (typed w test) → IsTyped forms w test → (pc : ℕ) →
+  pub branch_marked : (line : ℕ) (test : Expression) (p q : Piece) → IsTruth (typed w test) → IsTyped (without_pointers forms) w test → (pc : ℕ) →
       Stands t.body pc (expr_code w 0 test) →
       Marked g t k (stacked m []) p (stacked m []) → Marked g t k (stacked m []) q (stacked m []) →
       Marked g t k (stacked m []) (expr_code w 0 test ⨟ branch line p q) (stacked m [])

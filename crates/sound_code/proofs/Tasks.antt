@@ -15,7 +15,7 @@ use Rattle.code_rules.specs.Pieces.{lines}
 use Rattle.code_rules.specs.Programs.{body_piece, code_of, task_code, place_of}
 use Rattle.code_rules.specs.Statements.{block_code}
 use Rattle.code_laws.specs.Programs.{task_setting}
-use Rattle.code_laws.specs.Steps.{Forms}
+use Rattle.code_laws.specs.Steps.{Forms, without_pointers}
 use Rattle.code_laws.specs.Typed.{IsTypedBlock}
 use Rattle.code_laws.proofs.Openings.{AreFrom, fits_slots, least_slots, params_from, params_length, types_in, types_cons, types_length}
 use Rattle.code_laws.proofs.Places.{stands_alone}
@@ -131,7 +131,7 @@ module _ (tree : Tree) where
     pub treated : Treated k t marks
 
   pub treat : (forms : Forms) (k : ℕ) (t : TaskTree) → slice_get (tasks_of tree) k ≡ Some t →
-      IsTypedBlock forms (place_of tree t) t.body → length (lines (body_piece tree t) 0) ≤ 2 ^ 32 → HasMarks k t
+      IsTypedBlock (without_pointers forms) (place_of tree t) t.body → length (lines (body_piece tree t) 0) ≤ 2 ^ 32 → HasMarks k t
   treat forms k t there typed small =
       let code = task_code tree t in
       let m = opening_mark tree t in
