@@ -2,12 +2,15 @@
 use Rattle.std.proofs.Common.{◌≡◌, ℕ, suc, ◌+◌, ◌*◌, ◌^◌, ◌/◌, ◌<◌, ℤ, pos, negsuc, List, [], ◌∷◌, Bool, true, false, Some, refl, sym, ap, ◌∙◌, subst, arith}
 use Rattle.std.specs.Prelude.{get_or, slice_get, length}
 use Rattle.std.proofs.lemmas.Option.{slice_get-get_or}
+use Rattle.std.proofs.lemmas.Int.{ints}
 use Rattle.std.proofs.lemmas.Nat.{mod-mul-add, div-mul-add}
 use Rattle.plain_values.specs.Points.{has}
 use Rattle.lane_kernels.specs.declared.numbers.FieldKind.{FieldKind}
 use Rattle.lane_kernels.specs.declared.numbers.Mode.TheVariants as mode
+use Rattle.lane_kernels.specs.Numbers.{FitsWidth}
+use Rattle.lane_kernels.specs.declared.numbers.Width.{Width}
 use Rattle.lane_kernels.specs.declared.numbers.Width.TheVariants.{W32, W64}
-use Rattle.regent_tree.specs.declared.outcome.FaultKind.TheVariants.{OutOfRegion}
+use Rattle.regent_tree.specs.declared.outcome.FaultKind.TheVariants.{NullPointer, OutOfRegion}
 use Rattle.regent_tree.specs.declared.typing.StaticType.{StaticType}
 use Rattle.regent_tree.specs.declared.typing.StaticType.TheVariants.{Region as region_type}
 use Rattle.regent_tree.specs.Accesses.{standing, take_element, read_field, aimed_in, space_in}
@@ -18,7 +21,7 @@ use Rattle.regent_tree.specs.StaticTypes.{field_kind, field_place, space_at}
 use Rattle.regent_tree.specs.Store.{read_at}
 use Rattle.regent_tree.specs.Syntax.{Name, Expression, no_step, field_step, at_step}
 use Rattle.regent_tree.specs.Typing.{type_of_element}
-use Rattle.regent_tree.specs.Values.{Value, a_number, a_pointer, a_region, Region, point_target, target_kept, kept_target, meant, number_of}
+use Rattle.regent_tree.specs.Values.{Value, a_number, a_pointer, a_region, Region, null_target, point_target, target_kept, kept_target, meant, number_of}
 use Rattle.task_code.specs.declared.instr.Instr.TheVariants as instr
 use Rattle.machine_terms.specs.declared.order.Contents.{Contents}
 use Rattle.machine_terms.specs.declared.order.Ended.TheVariants.{Broke}
@@ -29,7 +32,7 @@ use Rattle.machine_terms.specs.declared.value.Value.{Value as MachineValue}
 use Rattle.machine_terms.specs.declared.value.Value.TheVariants as machine
 use Rattle.machine_terms.specs.Machine.{Machine, when, next, faults}
 use Rattle.machine_terms.specs.Makes.{region_with}
-use Rattle.machine_terms.specs.Pointers.{aims, aim, aim_in, aim_if, region_in, element}
+use Rattle.machine_terms.specs.Pointers.{aims, aim, aim_in, aim_if, aim_through, region_in, element, point}
 use Rattle.machine_terms.specs.Segments.{act}
 use Rattle.code_rules.specs.Expressions.{expr_code, steps_code}
 use Rattle.code_rules.specs.Instructions.{element_code, kept_code, load_code, slot_after, standing_code}
@@ -38,9 +41,10 @@ use Rattle.code_rules.specs.Slots.{own_slot, slot, slots_of, typed}
 use Rattle.memory_laws.specs.Memory.{IsKept}
 use Rattle.memory_laws.specs.Places.{number_at}
 use Rattle.code_laws.specs.Steps.{Setting, machine_of, placed, on_step, Leads}
-use Rattle.code_laws.specs.Standing.{Stands, machine_value, IsInside, IsOf, of_index, of_integer, of_truth, of_region, nothing, blank, Aside, SlotsFit, where_of, Agrees, Comes}
+use Rattle.code_laws.specs.Standing.{Stands, machine_value, IsInside, IsOf, of_index, of_integer, of_truth, of_pointer, of_region, nothing, blank, Aside, SlotsFit, where_of, Agrees, Comes}
 use Rattle.code_laws.specs.Taking.{MayDo}
-use Rattle.code_laws.specs.Simple.{term_in, FieldFits, IsInteger, IsNumber, an_integer, number_index, number_integer, IsRegion, a_region_type, fits_32, fits_64, fits_truth}
+use Rattle.code_laws.specs.Pointers.{FieldKeeps, IsCounting, counts_number, counts_pointer, keeps_index, keeps_plain}
+use Rattle.code_laws.specs.Simple.{term_in, IsInteger, an_integer, number_index, number_integer, IsRegion, a_region_type, fits_32, fits_64, fits_truth}
 use Rattle.code_laws.proofs.Good.{valued, Good, Gives}
 use Rattle.code_laws.proofs.Reaching.{Reached, reached, rewritten}
 use Rattle.code_laws.proofs.Runs.{leads_by, ends_by, comes_before}
@@ -48,31 +52,38 @@ use Rattle.code_laws.proofs.Touching.{parted, reads}
 
 -- ---- kept pointers
 
--- the pointer to a point through the first region of its list
-pub kept_first : (n : ℕ) → n < 2 ^ 32 → target_kept (kept_target (point_target n 1)) ≡ point_target n 1
-kept_first n l = ap (λ k. point_target k ((1 * 2 ^ 32 + n) / 2 ^ 32)) (mod-mul-add 1 (2 ^ 32) n l)
-    ∙ ap (point_target n) (div-mul-add 1 (2 ^ 32) n l)
+-- an integer of any width is an index
+pub index_fits : (w : Width) (z : ℤ) → FitsWidth w z → FitsWidth W64 z
+index_fits W32 z p = omega (arith, ints, p)
+index_fits W64 z p = p
+
+-- what a pointer is kept as means the pointer
+pub kept_round : (n i : ℕ) → n < 2 ^ 32 → target_kept (kept_target (point_target n i)) ≡ point_target n i
+kept_round n i l = ap (λ k. point_target k ((i * 2 ^ 32 + n) / 2 ^ 32)) (mod-mul-add i (2 ^ 32) n l)
+    ∙ ap (point_target n) (div-mul-add i (2 ^ 32) n l)
 
 -- such a pointer aims at the point of the region in the slot
 pub aims_first : (m : Machine) (s n : ℕ) (r : RegionValue) → n < 2 ^ 32 →
     region_in (slice_get m.frame.slots s) ≡ Some r → has r.points n ≡ true →
     aim m (s ∷ []) (target_kept (kept_target (point_target n 1))) ≡ aims r.root.0 n
-aims_first m s n r l there e = ap (aim m (s ∷ [])) (kept_first n l)
+aims_first m s n r l there e = ap (aim m (s ∷ [])) (kept_round n 1 l)
     ∙ ap (λ o. aim_in o n) there ∙ ap (λ b. aim_if b r n) e
 
 -- ---- the values of fields
 
-meant_typed : (kind : FieldKind) (t : StaticType) (rs : List Region) (z : ℤ) → FieldFits kind t → IsKept kind z →
+meant_typed : (kind : FieldKind) (t : StaticType) (rs : List Region) (z : ℤ) → FieldKeeps kind t → IsKept kind z →
     IsOf t (meant kind rs z)
-meant_typed _ _ rs z fits_32 k = of_integer W32 z k.0
-meant_typed _ _ rs z fits_64 k = of_integer W64 z k.0
-meant_typed _ _ rs z fits_truth k = of_truth _
+meant_typed _ _ rs z (keeps_plain _ _ fits_32) k = of_integer W32 z k.0
+meant_typed _ _ rs z (keeps_plain _ _ fits_64) k = of_integer W64 z k.0
+meant_typed _ _ rs z (keeps_plain _ _ fits_truth) k = of_truth _
+meant_typed _ _ rs z (keeps_index j) k = of_index j z k.0
 
-meant_kept : (c : Contents) (kind : FieldKind) (t : StaticType) (rs : List Region) (z : ℤ) → FieldFits kind t → IsKept kind z →
+meant_kept : (c : Contents) (kind : FieldKind) (t : StaticType) (rs : List Region) (z : ℤ) → FieldKeeps kind t → IsKept kind z →
     machine_value c (meant kind rs z) ≡ machine.Number z
-meant_kept c _ _ rs z fits_32 k = refl
-meant_kept c _ _ rs z fits_64 k = refl
-meant_kept c _ _ rs z fits_truth k = ap (λ z. machine.Number z) k.1
+meant_kept c _ _ rs z (keeps_plain _ _ fits_32) k = refl
+meant_kept c _ _ rs z (keeps_plain _ _ fits_64) k = refl
+meant_kept c _ _ rs z (keeps_plain _ _ fits_truth) k = ap (λ z. machine.Number z) k.1
+meant_kept c _ _ rs z (keeps_index j) k = refl
 
 -- what an expression leaves of a state is known where the run goes on
 pub then_kept : (x : Setting) {A B : Type 0} (R : State → State → Type 0) (shape2 : B → Instance → Instance)
@@ -90,27 +101,25 @@ abbrev pub HasRegion : Instance → ℕ → Region → Type 0
 HasRegion i sl q = slice_get i.frame.slots sl ≡ Some (machine.Region (region_with (number_at i.contents q.root) q.points))
 
 module _ (x : Setting) (params slots : ℕ) (fit : SlotsFit x slots) (aside : Aside) where
-  -- The field of a point of a region in a slot.
-  pub field_reads : (h : Here) (t : StaticType) (f : Name) (place n sl : ℕ) (q : Region) (out : StaticType)
+  -- The field of a point at which a kept number aims.
+  pub field_reads : (h : Here) (t : StaticType) (f : Name) (place n : ℕ) (z : ℤ) (rs : List ℕ) (q : Region) (out : StaticType)
       (s : State) (pc : ℕ) (st : List MachineValue) (i : Instance) →
-      FieldFits (field_kind h.tree (space_in t) (field_place h.tree (space_in t) f)) out →
-      HasRegion i sl q → has q.points n ≡ true → place ≡ field_place h.tree (space_in t) f →
+      FieldKeeps (field_kind h.tree (space_in t) (field_place h.tree (space_in t) f)) out →
+      aim_through i.frame.slots rs (target_kept z) ≡ aims (number_at i.contents q.root) n →
+      has q.points n ≡ true → place ≡ field_place h.tree (space_in t) f →
       Reached x h.tree i s.store q (space_in t) (field_place h.tree (space_in t) f) n mode.Read →
-      Agrees x params slots aside h s i → Stands x.body pc (op (instr.Read (sl ∷ []) place) h.line) →
-      Gives x params slots fit aside h out (op (instr.Read (sl ∷ []) place) h.line) pc
-      (machine.Number (kept_target (point_target n 1)) ∷ st) st i
+      Agrees x params slots aside h s i → Stands x.body pc (op (instr.Read rs place) h.line) →
+      Gives x params slots fit aside h out (op (instr.Read rs place) h.line) pc
+      (machine.Number z ∷ st) st i
       (read_field h t f (aimed_in (has q.points n) q n) s)
-  field_reads h t f place n sl q out s pc st i fits there e same r g stands =
+  field_reads h t f place n z rs q out s pc st i fits to e same r g stands =
       let p = field_place h.tree (space_in t) f in
       let kind = field_kind h.tree (space_in t) p in
-      let z = kept_target (point_target n 1) in
-      let d = reads x i pc h.line q.root p n z st (sl ∷ []) s.store g.memory r.covers
-      (subst (λ k. Stands x.body pc (op (instr.Read (sl ∷ []) k) h.line)) same stands)
-      (aims_first (machine_of (placed pc (machine.Number z ∷ st) i)) sl n (region_with (number_at i.contents q.root) q.points) r.small
-      (ap region_in there) e) in
+      let d = reads x i pc h.line q.root p n z st rs s.store g.memory r.covers
+      (subst (λ k. Stands x.body pc (op (instr.Read rs k) h.line)) same stands) to in
       let y = read_at s.store q.root p n in
       let sound : IsKept kind y = subst (λ k. IsKept k y) r.kind_is (g.memory.stands.kept q.root p n r.there) in
-      subst (λ b. Gives x params slots fit aside h out (op (instr.Read (sl ∷ []) place) h.line) pc
+      subst (λ b. Gives x params slots fit aside h out (op (instr.Read rs place) h.line) pc
       (machine.Number z ∷ st) st i (read_field h t f (aimed_in b q n) s)) (sym e) (
         parted d.0 i,
         subst (λ v. Leads x (placed pc (machine.Number z ∷ st) i) (placed (suc pc) (v ∷ st) (parted d.0 i)))
@@ -126,7 +135,7 @@ module _ (x : Setting) (params slots : ℕ) (fit : SlotsFit x slots) (aside : As
       MayDo x.forms.takes (term_in t) (field_place h.tree (space_in t) f) mode.Read →
       slots_of (where_of params h) sl (type_of_element h.scope t e) ≡ sl ∷ [] →
       field_place h.tree (space_in t) f < length (space_at h.tree (space_in t)).fields →
-      FieldFits (field_kind h.tree (space_in t) (field_place h.tree (space_in t) f)) out →
+      FieldKeeps (field_kind h.tree (space_in t) (field_place h.tree (space_in t) f)) out →
       Agrees x params slots aside h s1 j → (a : ℕ) →
       Stands x.body a (standing_code (where_of params h) ty ⨟ element_code (where_of params h) t sl
       ⨟ kept_code (where_of params h) d t (field_step f no_step)
@@ -143,13 +152,13 @@ module _ (x : Setting) (params slots : ℕ) (fit : SlotsFit x slots) (aside : As
   pub element_reads : (h : Here) (d : ℕ) (t : StaticType) (sl : ℕ) (e : Expression) (f : Name) (q : Region)
       (out : StaticType) (s : State) (pc : ℕ) (st : List MachineValue) (i : Instance) → IsRegion t →
       Gives x params slots fit aside h (typed (where_of params h) e) (expr_code (where_of params h) d e) pc st st i (value h e s) →
-      IsNumber (typed (where_of params h) e) → Leaves SameNames s (value h e s) →
+      IsCounting (typed (where_of params h) e) → Leaves SameNames s (value h e s) →
       ((s1 : State) (j : Instance) → s1.names ≡ s.names → Agrees x params slots aside h s1 j →
       HasRegion j sl q × IsInside x s1.store t (a_region q)) →
       MayDo x.forms.takes (term_in t) (field_place h.tree (space_in t) f) mode.Read →
       slots_of (where_of params h) sl (type_of_element h.scope t e) ≡ sl ∷ [] →
       field_place h.tree (space_in t) f < length (space_at h.tree (space_in t)).fields →
-      FieldFits (field_kind h.tree (space_in t) (field_place h.tree (space_in t) f)) out →
+      FieldKeeps (field_kind h.tree (space_in t) (field_place h.tree (space_in t) f)) out →
       Stands x.body pc (steps_code (where_of params h) d t sl (at_step e (field_step f no_step))) →
       Gives x params slots fit aside h out (steps_code (where_of params h) d t sl (at_step e (field_step f no_step))) pc st st i
       (stepped h t (a_region q) (at_step e (field_step f no_step)) s)
@@ -190,8 +199,9 @@ module _ (x : Setting) (params slots : ℕ) (fit : SlotsFit x slots) (aside : As
               comes_before x (valued (suc (suc a)) st) (Good x params slots fit aside h out) _ _ _
               (leads_by x _ (placed (suc a) (machine.Number (kept_target (point_target n 1)) ∷ st) j) (instr.At sl) h.line stands.1.0 (at_acts true c))
               (given_on (read_field h pt f (aimed_in (has q.points n) q n) s1)
-              (field_reads h pt f place n sl q out s1 (suc a) st j fits there.0 c refl
-              (reached x params slots aside h s1 j q (region_type k sp args r) (a_region_type k sp args r) place n mode.Read g there.1 may field c) g
+              (field_reads h pt f place n (kept_target (point_target n 1)) (sl ∷ []) q out s1 (suc a) st j fits
+              (aims_first (machine_of j) sl n (region_with (number_at j.contents q.root) q.points) (there.1.0.small n c) (ap region_in there.0) c)
+              c refl (reached x params slots aside h s1 j q (region_type k sp args r) (a_region_type k sp args r) place n mode.Read g there.1 may field c) g
               (subst (λ rs. Stands x.body (suc a) (op (instr.Read rs place) h.line)) one stands.1.1.1.0)))
             where
               given_on : (r : Result Value) →
@@ -201,11 +211,21 @@ module _ (x : Setting) (params slots : ℕ) (fit : SlotsFit x slots) (aside : As
               given_on (gives v s2) c = c
               given_on (fails f s2) c = c
 
-      by_index : (t : StaticType) → IsRegion t → (ty : StaticType) → IsNumber ty → (u : Value) → IsOf ty u →
+      by_index : (t : StaticType) → IsRegion t → (ty : StaticType) → IsCounting ty → (u : Value) → IsOf ty u →
           (s1 : State) (j : Instance) → ReadsElement h d sl e f q out st t ty u s1 j
-      by_index t region _ (number_index k) _ (of_index _ z p) s1 j there may one field fits g a stands =
+      by_index t region _ (counts_number _ (number_index k)) _ (of_index _ z p) s1 j there may one field fits g a stands =
           by_integer t region _ (an_integer W64) (a_number W64 z) (of_integer W64 z p) s1 j there may one field fits g a stands
-      by_index t region _ (number_integer w) u o s1 j there may one field fits g a stands = by_integer t region _ (an_integer w) u o s1 j there may one field fits g a stands
+      by_index t region _ (counts_number _ (number_integer w)) u o s1 j there may one field fits g a stands = by_integer t region _ (an_integer w) u o s1 j there may one field fits g a stands
+      by_index t region _ (counts_pointer k sp args rs) _ (of_pointer _ _ _ _ null_target _ o) s1 j there may one field fits g a stands =
+          ends_by x _ _ instr.Point h.line stands.0
+          (ap (λ t. IsOver (Broke (Some (record { kind = NullPointer; line = h.line })) t)) g.text)
+      by_index t region _ (counts_pointer k sp args rs) _ (of_pointer _ _ _ _ (point_target n m) _ o) s1 j there may one field fits g a stands =
+          comes_before x _ (Good x params slots fit aside h out) _ (placed (suc a) (machine.Number (pos n) ∷ st) j) _
+          (leads_by x _ _ instr.Point h.line stands.0
+          (ap (λ t. on_step x (placed a (machine.Number (kept_target (point_target n m)) ∷ st) j)
+          (point t h.line st (machine_of (placed a (machine.Number (kept_target (point_target n m)) ∷ st) j)))) (kept_round n m o.0)))
+          (by_integer t region _ (an_integer W64) (a_number W64 (pos n)) (of_integer W64 (pos n) (omega (arith, ints, o.0)))
+          s1 j there may one field fits g (suc a) (tt, stands.1))
 
   -- the region that a name has, where its slot is there
   pub region_there : (h : Here) (s1 : State) (j : Instance) (p : ℕ) (q : Region) →
@@ -221,10 +241,10 @@ module _ (x : Setting) (params slots : ℕ) (fit : SlotsFit x slots) (aside : As
       get_or s.names p nothing ≡ v → p < length s.names →
       ((pc : ℕ) → Stands x.body pc (expr_code (where_of params h) d e) →
       Gives x params slots fit aside h (typed (where_of params h) e) (expr_code (where_of params h) d e) pc st st i (value h e s)) →
-      IsNumber (typed (where_of params h) e) → Leaves SameNames s (value h e s) →
+      IsCounting (typed (where_of params h) e) → Leaves SameNames s (value h e s) →
       slots_of (where_of params h) (slot (where_of params h) p) (type_of_element h.scope t e) ≡ slot (where_of params h) p ∷ [] →
       field_place h.tree (space_in t) f < length (space_at h.tree (space_in t)).fields →
-      FieldFits (field_kind h.tree (space_in t) (field_place h.tree (space_in t) f)) out →
+      FieldKeeps (field_kind h.tree (space_in t) (field_place h.tree (space_in t) f)) out →
       ((s1 : State) (j : Instance) → Agrees x params slots aside h s1 j → IsInside x s1.store t (get_or s1.names p nothing)) →
       MayDo x.forms.takes (term_in t) (field_place h.tree (space_in t) f) mode.Read →
       Stands x.body pc (load_code (where_of params h) t (slot (where_of params h) p) (at_step e (field_step f no_step))

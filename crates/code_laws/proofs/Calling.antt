@@ -180,6 +180,8 @@ module _ (x : Setting) (params slots : ℕ) (fit : SlotsFit x slots) (aside : As
         hidden = g.hidden;
         typed = g.typed;
         inside_store = all_inside x s.store (take (length s.store) after) h.scope.names s.names same g.typed g.inside_store;
+        pointed = g.pointed;
+        steady = g.steady;
         count = g.count;
         inside = g.inside;
         slots_are = g.slots_are;

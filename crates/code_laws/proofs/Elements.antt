@@ -1,13 +1,13 @@
 -- Assignments to fields of elements: the code does what the assignment means.
-use Rattle.std.proofs.Common.{◌≡◌, ℕ, ◌≤◌, [], ◌∷◌, refl, sym, subst, arith}
+use Rattle.std.proofs.Common.{ℕ, ◌≤◌, [], ◌∷◌, refl, sym, subst, arith}
 use Rattle.std.specs.Prelude.{get_or, length}
 use Rattle.regent_tree.specs.declared.statement.How.TheVariants as how
 use Rattle.regent_tree.specs.declared.typing.StaticType.{StaticType}
 use Rattle.lane_kernels.specs.declared.numbers.Op.{Op}
-use Rattle.regent_tree.specs.Execution.{Going, goes_on, returned, write_to}
-use Rattle.regent_tree.specs.Running.{State, Here, Result, gives, fails}
 use Rattle.lane_kernels.specs.declared.numbers.Mode.TheVariants as mode
 use Rattle.regent_tree.specs.Accesses.{space_in}
+use Rattle.regent_tree.specs.Execution.{write_to}
+use Rattle.regent_tree.specs.Running.{State, Here}
 use Rattle.regent_tree.specs.Scopes.{bound_to}
 use Rattle.regent_tree.specs.StaticTypes.{field_place}
 use Rattle.regent_tree.specs.Syntax.{Name, Expression, at_step, field_step, no_step}
@@ -20,32 +20,20 @@ use Rattle.code_rules.specs.Pieces.{past}
 use Rattle.code_rules.specs.Slots.{typed}
 use Rattle.code_laws.specs.Steps.{Setting, placed}
 use Rattle.code_laws.specs.Standing.{Agrees, Aside, Comes, Does, IsInside, IsOf, SlotsFit, Stands, nothing, of_integer, where_of}
-use Rattle.code_laws.specs.Simple.{IsInteger, IsNumber, an_integer}
-use Rattle.code_laws.specs.Typed.{GoesThrough, IsField, IsTyped, MayTouch}
+use Rattle.code_laws.specs.Pointers.{IsCounting}
+use Rattle.code_laws.specs.Simple.{IsInteger, an_integer}
+use Rattle.code_laws.specs.Typed.{GoesThrough, IsAnyField, IsTyped, MayTouch}
 use Rattle.code_laws.proofs.Expressions.{value_runs}
 use Rattle.code_laws.proofs.Good.{valued}
 use Rattle.code_laws.proofs.Values.{named}
+use Rattle.code_laws.proofs.Going.{does_come}
 use Rattle.code_laws.proofs.Writes.{GoesOn, access_folds, access_writes, field_value}
 
-abbrev IsGoing : Going → Type 0
-IsGoing goes_on = Unit {0}
-IsGoing (returned v) = ⊥
-
-no_return : (v : Value) → returned v ≡ goes_on → ⊥
-no_return v e = subst IsGoing (sym e) tt
-
 module _ (x : Setting) (params slots : ℕ) (fit : SlotsFit x slots) (aside : Aside) where
-  -- what goes on is done
-  pub does_come : (pc : ℕ) (h : Here) (i : Instance) (r : Result Going) →
-      Comes x i (λ g j. placed pc [] j) (GoesOn x params slots fit aside h) r → Does x params slots aside i pc h r
-  does_come pc h i (gives goes_on s) c = (c.0, c.1, c.2.1)
-  does_come pc h i (gives (returned v) s) c = absurd (no_return v c.2.0)
-  does_come pc h i (fails f s) c = c
-
   -- `r[e].f = v`, with the value on the stack
   pub sets_element : (h : Here) (n : Name) (e : Expression) (f : Name) (out : StaticType) (v : Value) (s : State) (pc : ℕ)
-      (i : Instance) → params ≤ length h.scope.names → IsTyped x.forms (where_of params h) e → IsNumber (typed (where_of params h) e) →
-      GoesThrough (where_of params h) n e → IsField (where_of params h) n f out →
+      (i : Instance) → params ≤ length h.scope.names → IsTyped x.forms (where_of params h) e → IsCounting (typed (where_of params h) e) →
+      GoesThrough (where_of params h) n e → IsAnyField (where_of params h) n f out →
       MayTouch x.forms (where_of params h) n (field_place h.tree (space_in (bound_to h.scope.names n).static_type) f) mode.Write → IsOf out v →
       Agrees x params slots aside h s i →
       Stands x.body pc (target_code (where_of params h) n (at_step e (field_step f no_step)) how.Set) →
@@ -56,7 +44,7 @@ module _ (x : Setting) (params slots : ℕ) (fit : SlotsFit x slots) (aside : As
       let b = bound_to h.scope.names n in
       let m = named IsOf h.scope.names s.names n g.typed field.named in
       let done = past (target_code (where_of params h) n (at_step e (field_step f no_step)) how.Set) pc in
-      does_come done h _ _
+      does_come x params slots fit aside done h _ _
       (subst (λ u. Comes x (placed pc (u ∷ []) i) (λ g j. placed done [] j) (GoesOn x params slots fit aside h)
       (write_to h n (at_step e (field_step f no_step)) how.Set v s)) (sym (field_value i.contents _ out v field.keeps o))
       (access_writes x params slots fit aside h b.static_type b.place (get_or s.names b.place nothing) e f out v s pc i
@@ -68,7 +56,7 @@ module _ (x : Setting) (params slots : ℕ) (fit : SlotsFit x slots) (aside : As
   -- `r[e].f o= v`
   pub folds_element : (o : Op) (h : Here) (n : Name) (e : Expression) (f : Name) (out t : StaticType) (v : Value) (s : State)
       (pc : ℕ) (i : Instance) → params ≤ length h.scope.names → IsTyped x.forms (where_of params h) e →
-      IsNumber (typed (where_of params h) e) → GoesThrough (where_of params h) n e → IsField (where_of params h) n f out →
+      IsCounting (typed (where_of params h) e) → GoesThrough (where_of params h) n e → IsAnyField (where_of params h) n f out →
       MayTouch x.forms (where_of params h) n (field_place h.tree (space_in (bound_to h.scope.names n).static_type) f) (mode.Reduce o) →
       IsInteger out → IsInteger t → IsOf t v → Agrees x params slots aside h s i →
       Stands x.body pc (target_code (where_of params h) n (at_step e (field_step f no_step)) (how.Reduce o)) →
@@ -79,7 +67,7 @@ module _ (x : Setting) (params slots : ℕ) (fit : SlotsFit x slots) (aside : As
       let b = bound_to h.scope.names n in
       let m = named IsOf h.scope.names s.names n g.typed field.named in
       let done = past (target_code (where_of params h) n (at_step e (field_step f no_step)) (how.Reduce o)) pc in
-      does_come done h _ _
+      does_come x params slots fit aside done h _ _
       (access_folds x params slots fit aside o h b.static_type b.place (get_or s.names b.place nothing) e f wd we y s pc i
       field.region m.holding refl (omega (arith, m.below, g.count))
       (λ a f1. value_runs x params slots fit aside h 0 low e s a (machine.Number y ∷ []) i fine g f1)

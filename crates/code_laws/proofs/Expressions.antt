@@ -5,8 +5,11 @@ use Rattle.code_laws.proofs.Prints.{pushed_all}
 use Rattle.code_laws.proofs.Results.{results_run}
 use Rattle.code_laws.proofs.Calling.{HasResult, calls_run, pending}
 use Rattle.code_laws.proofs.Handing.{AreGivenBy, IsGivenBy, arguments_keep_names, call_takes, given_either, handed_run, value_stays}
-use Rattle.code_laws.proofs.Operations.{compared_left, compared_operand, compared_right, standing_number, alike_right, and_runs, compare_runs, compute_runs, converted_runs, fetch_small, named_runs, or_runs, plain_signs, same_type, signs_run, signs_typed, space_runs, standing_runs, truth_of_type, wraps_run}
+use Rattle.code_laws.proofs.Operations.{compared_left, compared_operand, compared_right, alike_right, and_runs, compare_runs, converted_runs, fetch_small, named_runs, or_runs, plain_signs, same_type, signs_run, signs_typed, space_runs, standing_runs, truth_of_type}
 use Rattle.code_laws.proofs.Accesses.{access_reads}
+use Rattle.code_laws.proofs.Behind.{behind_reads}
+use Rattle.code_laws.proofs.Counting.{counted_runs, number_runs, stands_runs}
+use Rattle.code_laws.proofs.Wider.{any_field, converting, counting}
 use Rattle.regent_tree.proofs.Laws.{expressions_keep_names}
 use Rattle.std.proofs.Common.{◌≡◌, ℕ, suc, ◌<◌, ◌≤◌, List, [], ◌∷◌, false, inl, inr, refl, sym, ap, subst, arith}
 use Rattle.std.specs.Prelude.{get_or, length}
@@ -32,7 +35,7 @@ use Rattle.code_laws.specs.Steps.{Leads, Setting, placed}
 use Rattle.code_laws.specs.Standing.{Comes, Stands, machine_value, IsInside, IsOf, of_integer, of_truth, nothing, Aside, SlotsFit, where_of, Agrees}
 use Rattle.code_laws.specs.Simple.{AreAlike, IsScalar}
 use Rattle.regent_tree.specs.StaticTypes.{task_named}
-use Rattle.code_laws.specs.Typed.{ArePassed, IsTyped, AreTypedLinks}
+use Rattle.code_laws.specs.Typed.{ArePassed, IsTyped, AreTypedLinks, element_field}
 use Rattle.code_laws.proofs.Runs.{comes_on, leads_none, then, then_led, comes_said}
 use Rattle.code_laws.proofs.Good.{valued, Good, Gives, pushes}
 use Rattle.code_laws.proofs.Values.{past_later, named, scalar_simple, simple_inside}
@@ -85,8 +88,9 @@ module _ (x : Setting) (params slots : ℕ) (fit : SlotsFit x slots) (aside : As
         (Good x params slots fit aside h (typed w (convert_expr t e))) in
         then x said _ _ _ (value h e s) _ (value_runs h d low e s pc st i fine.0 g f.0)
         (λ v s1 j k. then x said _ _ _ (standing h v s1) _
-        (standing_number x params slots fit aside h from v s1 _ st j fine.1 k.0 k.1)
-        (λ u s2 j2 k2. wraps_run x params slots fit aside h t from u s2 _ st j2 fine.2 fine.1 k2.0 k2.1 f.1.1))
+        (stands_runs x params slots fit aside h from v s1 _ st j (counting x.forms.keeps from fine.1) k.0 k.1 f.1.0)
+        (λ u s2 j2 k2. number_runs x params slots fit aside h t from u s2 _ st j2 (converting x.forms.keeps t fine.2)
+        (counting x.forms.keeps from fine.1) k2.0 k2.1 f.1.1))
     value_runs h d low (call_expr task args) s pc st i fine g f =
         let w = where_of params h in
         let callee = task_named h.tree task in
@@ -108,15 +112,20 @@ module _ (x : Setting) (params slots : ℕ) (fit : SlotsFit x slots) (aside : As
         let o = k2.2 fine.1 in
         let r = results_run x params slots fit aside h t d j.frame.children v s2 (suc a) h.line st j2 low fine.1 o k2.0 k2.1 f.1.1.0 f.1.1.1 in
         (stored (spare w d) (machine_value j2.contents v) j2, r.0, (o, r.1))))
-    value_runs h d low (access_expr n (field_step _ _)) s pc st i fine g f = absurd fine
+    value_runs h d low (access_expr n (field_step name no_step)) s pc st i fine g f =
+        behind_reads x params slots fit aside h d n name _ s pc st i fine.1 fine.2 g f
+    value_runs h d low (access_expr n (field_step _ (field_step _ _))) s pc st i fine g f = absurd fine
+    value_runs h d low (access_expr n (field_step _ (at_step _ _))) s pc st i fine g f = absurd fine
     value_runs h d low (access_expr n (at_step e (field_step name no_step))) s pc st i fine g f =
+        let w = where_of params h in
         let b = bound_to h.scope.names n in
-        let m = named IsOf h.scope.names s.names n g.typed fine.3.named in
+        let field = any_field x.forms.keeps w n name (element_field w n e name) fine.3 in
+        let m = named IsOf h.scope.names s.names n g.typed field.named in
         access_reads x params slots fit aside h d b.static_type b.place (get_or s.names b.place nothing) e name _ s pc st i
-        fine.3.region m.holding refl (omega (arith, m.below, g.count))
-        (λ a f1. value_runs h d low e s a st i fine.0 g f1) fine.1 (expressions_keep_names h e s)
-        fine.2 fine.3.field fine.3.keeps
-        (λ s1 j g1. (named (IsInside x s1.store) h.scope.names s1.names n g1.inside_store fine.3.named).holding) fine.4 f
+        field.region m.holding refl (omega (arith, m.below, g.count))
+        (λ a f1. value_runs h d low e s a st i fine.0 g f1) (counting x.forms.keeps (typed w e) fine.1) (expressions_keep_names h e s)
+        fine.2 field.field field.keeps
+        (λ s1 j g1. (named (IsInside x s1.store) h.scope.names s1.names n g1.inside_store field.named).holding) fine.4 f
     value_runs h d low (access_expr n (at_step _ no_step)) s pc st i fine g f = absurd fine
     value_runs h d low (access_expr n (at_step _ (at_step _ _))) s pc st i fine g f = absurd fine
     value_runs h d low (access_expr n (at_step _ (field_step _ (field_step _ _)))) s pc st i fine g f = absurd fine
@@ -196,14 +205,16 @@ module _ (x : Setting) (params slots : ℕ) (fit : SlotsFit x slots) (aside : As
         let w = where_of params h in
         let u = typed w e in
         let b = false in
+        let ct = counting x.forms.keeps t fine.0 in
+        let cu = counting x.forms.keeps u fine.1 in
         then x (comes_said x _ _) _ _ _ (operand h b v s) _
-        (standing_number x params slots fit aside h t v s pc st i fine.0 o g)
+        (stands_runs x params slots fit aside h t v s pc st i ct o g f.0)
         (λ v1 s1 j1 k1. then x (comes_said x _ _) _ _ _ (value h e s1) _
         (value_runs h d low e s1 _ (machine_value j1.contents v1 ∷ st) j1 fine.2 k1.1 f.1.0)
         (λ v2 s2 j2 k2. then x (comes_said x _ _) _ _ _ (operand h b v2 s2) _
-        (standing_number x params slots fit aside h u v2 s2 _ (machine_value j1.contents v1 ∷ st) j2 fine.1 k2.0 k2.1)
+        (stands_runs x params slots fit aside h u v2 s2 _ (machine_value j1.contents v1 ∷ st) j2 cu k2.0 k2.1 f.1.1.0)
         (λ v3 s3 j3 k3. then x (comes_said x _ _) _ _ _ (combined h (Compute c) v1 v3 s3) _
-        (compute_runs x params slots fit aside j1.contents h c t u v1 v3 s3 _ st j3 fine.0 fine.1 k1.0 k3.0 k3.1 f.1.1.1.0)
+        (counted_runs x params slots fit aside j1.contents h c t u v1 v3 s3 _ st j3 ct cu k1.0 k3.0 k3.1 f.1.1.1.0)
         (λ v4 s4 j4 k4. linked_runs h d low _ v4 rest s4 _ st j4 fine.3 k4.0 k4.1 f.1.1.1.1))))
     linked_runs h d low t v (a_link (Compare c) e rest) s pc st i fine o g f =
         let w = where_of params h in

@@ -52,6 +52,7 @@ use Rattle.code_laws.proofs.Reaching.{reached, region_stays, rewritten}
 use Rattle.code_laws.proofs.Runs.{comes_before, leads_by, leads_none, leads_twice}
 use Rattle.code_laws.proofs.Touching.{parted, same_width-itself, touches}
 use Rattle.code_laws.proofs.Values.{load_value}
+use Rattle.code_laws.proofs.Wider.{any_field, filling}
 use Rattle.code_laws.proofs.Writes.{GoesOn, converted_at, field_kept, field_value}
 
 -- writes keep the shapes of roots
@@ -167,7 +168,7 @@ fills x i pc line s f place w z st xs store there h good stands = by_points xs r
 
 module _ (x : Setting) (params slots : ℕ) (fit : SlotsFit x slots) (aside : Aside) where
   pub fields_filled : (h : Here) (r : Name) (from : StaticType) (v : Value) (q : Region) (fs : List Name)
-      (s : State) (pc : ℕ) (i : Instance) → AreFilled (where_of params h) r from fs → MayFill x.forms (where_of params h) r fs →
+      (s : State) (pc : ℕ) (i : Instance) → AreFilled x.forms.keeps (where_of params h) r from fs → MayFill x.forms (where_of params h) r fs →
       IsRegion (bound_to h.scope.names r).static_type → IsOf from v →
       get_or s.names (bound_to h.scope.names r).place nothing ≡ a_region q →
       IsInside x s.store (bound_to h.scope.names r).static_type (a_region q) →
@@ -194,10 +195,11 @@ module _ (x : Setting) (params slots : ℕ) (fit : SlotsFit x slots) (aside : As
       slice_get-get_or i.frame.slots k blank (omega (arith, fit pc _ stands.0, g.slots_are)) ∙ ap (λ u. Some u) kept_there in
       let shape : Going → Instance → Instance = λ g j. placed (past (fill_code w from t (slot_named w r) (f ∷ fs)) pc) [] j in
       let a = past (converted_code w from out) (suc pc) in
-      let c = converted_at x params slots fit aside h from out v s (suc pc) [] i fine.0 o stands.1.0 in
+      let c = converted_at x params slots fit aside h from out v s (suc pc) [] i (filling x.forms.keeps from out fine.0) o stands.1.0 in
       let u = c.value in
+      let field = any_field x.forms.keeps w r f out fine.1 in
       let wide = width_of kind in
-      let fk = field_kept kind out u fine.1.keeps c.typed in
+      let fk = field_kept kind out u field.keeps c.typed in
       let stays : wrapped wide (kept_number u) ≡ kept_number u = int_wrap_fits (std_width wide) (kept_number u) fk.0 in
       let fill_at = stands.1.1.0 in
       let room : slot w p < slots = omega (arith, fit a _ fill_at) in
@@ -205,7 +207,7 @@ module _ (x : Setting) (params slots : ℕ) (fit : SlotsFit x slots) (aside : As
       let filled = fills x i a h.line (slot w p) place q.root wide (kept_number u) [] q.points s.store
       (ap region_in region) g.memory
       (λ n b.
-      let r = reached x params slots aside h s i q t kind_is place n mode.Write g lies may.0 fine.1.field b in (
+      let r = reached x params slots aside h s i q t kind_is place n mode.Write g lies may.0 field.field b in (
         r.covers,
         ap width_of (sym r.kind_is),
         subst (λ k. IsKept k (wrapped wide (kept_number u))) (sym r.kind_is) (subst (IsKept kind) (sym stays) fk),
@@ -222,7 +224,7 @@ module _ (x : Setting) (params slots : ℕ) (fit : SlotsFit x slots) (aside : As
       ∙ ap (on_step x (placed pc [] i)) (load_value i.contents v (machine_of (placed pc [] i)))))
       (comes_before x shape (GoesOn x params slots fit aside h) _ (placed a (machine_value i.contents u ∷ []) i) _ c.leads
       (subst (λ y. Comes x (placed a (y ∷ []) i) shape (GoesOn x params slots fit aside h) (fill_fields h from v t q (f ∷ fs) s))
-      (sym (field_value i.contents kind out u fine.1.keeps c.typed))
+      (sym (field_value i.contents kind out u field.keeps c.typed))
       (comes_before x shape (GoesOn x params slots fit aside h) (placed a (machine.Number (kept_number u) ∷ []) i)
       (placed (suc a) [] (parted filled.0 i)) _ filled.1
       (subst (λ y. Comes x (placed (suc a) [] (parted filled.0 i)) shape (GoesOn x params slots fit aside h) y)

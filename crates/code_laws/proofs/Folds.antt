@@ -28,13 +28,14 @@ use Rattle.machine_terms.specs.Numbers.{load}
 use Rattle.code_rules.specs.Assignments.{fold_code, set_code}
 use Rattle.code_rules.specs.Pieces.{op, over, past, ◌⨟◌}
 use Rattle.code_rules.specs.Slots.{slot, slot_named, spare}
-use Rattle.code_laws.specs.Simple.{IsInteger, an_integer}
+use Rattle.code_laws.specs.Simple.{IsInteger, an_integer, simple_integer}
 use Rattle.code_laws.specs.Typed.{CountsDown}
 use Rattle.code_laws.specs.Standing.{Agrees, Aside, Does, IsOf, SlotsFit, Stands, blank, machine_value, nothing, of_integer, where_of}
 use Rattle.code_laws.specs.Steps.{Leads, Setting, machine_of, on_step, placed}
 use Rattle.code_laws.proofs.Good.{valued}
 use Rattle.code_laws.proofs.Runs.{leads_by, leads_twice}
 use Rattle.code_laws.proofs.States.{aside_stored, changed, stored, stores}
+use Rattle.code_laws.proofs.Pointing.{simple_no_region}
 use Rattle.code_laws.proofs.Values.{jump_later, named, number_inside}
 
 -- ---- numbers
@@ -88,7 +89,10 @@ module _ (x : Setting) (params slots : ℕ) (fit : SlotsFit x slots) (counts : C
         stores x params slots fit k pc line (machine.Number z) [] i g.slots_are f,
         changed x params slots fit aside h s i n (a_number w z) b room
             (subst (λ t. IsOf t (a_number w z)) (sym ty) (of_integer w z p))
-            (number_inside x s.store _ w z (subst (λ t. IsOf t (a_number w z)) (sym ty) (of_integer w z p))) g,
+            (number_inside x s.store _ w z (subst (λ t. IsOf t (a_number w z)) (sym ty) (of_integer w z p)))
+            (simple_no_region (integer_type w) _ (simple_integer w)
+            (subst (λ t. IsOf t (get_or s.names (bound_to h.scope.names n).place nothing)) ty (named IsOf h.scope.names s.names n g.typed b).holding))
+            (λ bs names t q. tt) g,
       )
 
   before : (pc : ℕ) (h : Here) (i j : Instance) (s : State) → Leads x i j →

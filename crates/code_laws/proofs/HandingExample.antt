@@ -1,5 +1,5 @@
 -- The premises of the law on regions that are handed over hold of a program.
-use Rattle.std.proofs.Common.{zero, suc, pos, [], ◌∷◌, inl, inr, true, refl, subst, arith}
+use Rattle.std.proofs.Common.{zero, suc, pos, [], ◌∷◌, inl, inr, false, true, refl, subst, arith}
 use Rattle.std.proofs.lemmas.Int.{ints}
 use Rattle.std.proofs.lemmas.Option.{none-some, same_Some}
 use Rattle.std.specs.Int.{int_wrap}
@@ -19,7 +19,7 @@ use Rattle.code_laws.specs.Typed.{IsTypedBlock}
 abbrev main : TaskTree
 main = task_named handing_program (entry_name handing_program)
 
-main_typed : IsTypedBlock (forms_by true handing_program main) (place_of handing_program main) main.body
+main_typed : IsTypedBlock (forms_by true false handing_program main) (place_of handing_program main) main.body
 main_typed = (
   -- the root
   (refl, a_space_type _, ((refl, simple_integer _), an_integer _), record { there = omega arith; few = omega arith }),
@@ -92,8 +92,8 @@ main_typed = (
   ),
 )
 
-tasks : AreTypedBy true handing_program
-tasks zero t e = subst (IsTypedBy true handing_program) (same_Some _ t e) (record {
+tasks : AreTypedBy true false handing_program
+tasks zero t e = subst (IsTypedBy true false handing_program) (same_Some _ t e) (record {
   given = gives_scalar _ (scalar_integer _);
   typed = (
     (
@@ -124,7 +124,7 @@ tasks zero t e = subst (IsTypedBy true handing_program) (same_Some _ t e) (recor
   );
   small = omega arith;
 })
-tasks (suc zero) t e = subst (IsTypedBy true handing_program) (same_Some _ t e) (record {
+tasks (suc zero) t e = subst (IsTypedBy true false handing_program) (same_Some _ t e) (record {
   given = gives_nothing;
   typed = (
     -- the write
@@ -165,14 +165,14 @@ tasks (suc zero) t e = subst (IsTypedBy true handing_program) (same_Some _ t e) 
   );
   small = omega arith;
 })
-tasks (suc (suc zero)) t e = subst (IsTypedBy true handing_program) (same_Some _ t e) (record {
+tasks (suc (suc zero)) t e = subst (IsTypedBy true false handing_program) (same_Some _ t e) (record {
   given = gives_nothing;
   typed = main_typed;
   small = omega arith;
 })
 tasks (suc (suc (suc k))) t e = absurd (none-some t e)
 
-run : IsTypedRun (forms_by true handing_program main) handing_program (pos 2 ∷ [])
+run : IsTypedRun (forms_by true false handing_program main) handing_program (pos 2 ∷ [])
 run = record {
   start = refl;
   needs = refl;

@@ -2,6 +2,7 @@ pub mod Growing
 pub mod Runs
 pub mod Values
 pub mod Names
+pub mod Pointing
 pub mod States
 pub mod Places
 pub mod Counts
@@ -11,6 +12,7 @@ pub mod Shapes
 pub mod Reaching
 pub mod Accesses
 pub mod Writes
+pub mod Wider
 pub mod Filling
 pub mod Making
 pub mod Prints
@@ -20,14 +22,20 @@ pub mod Results
 pub mod Operations
 pub mod Requiring
 pub mod Handing
+pub mod Counting
+pub mod Through
+pub mod Going
+pub mod Behind
 pub mod Expressions
 pub mod Rows
 pub mod Loops
 pub mod SpaceLoops
+pub mod RegionLoops
 pub mod PrintRuns
 pub mod Elements
 pub mod Folds
 pub mod Variables
+pub mod PointerForms
 pub mod Statements
 pub mod Segments
 pub mod Tasks
@@ -49,5 +57,6 @@ pub mod ScalarRuns
 pub mod LocalExample
 pub mod Example
 pub mod RegionExample
+pub mod PointerExample
 pub mod CallExample
 pub mod HandingExample

@@ -150,7 +150,7 @@ module _ (tree : Tree) (task : TaskTree) (sound : IsSound tree) (local : IsLocal
   filled_with : (s : Scope) (line : ℕ) (r : Name) (from known : StaticType) → known ≡ from → is_bound s.names r ≡ true → AllKept m s.names →
       may_be is_region (type_named s.names r) ≡ true → IsSimple from → (fs : List Name) → list_any (is_unknown_region_field tree s.names r) fs ≡ false →
       list_any (is_ill_typed_at_place s.known) (map (λ f. stands known (typed_spot (known_field tree (type_named s.names r) f))) fs) ≡ false →
-      AreFilled (at s line) r from fs
+      AreFilled false (at s line) r from fs
   filled_with s line r from known same there names region simple [] unknown ill = tt
   filled_with s line r from known same there names region simple (f ∷ fs) unknown ill =
       let t = type_named s.names r in

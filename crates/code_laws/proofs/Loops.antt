@@ -11,7 +11,8 @@ use Rattle.std.proofs.Common.{◌≡◌, ℕ, zero, suc, ◌<◌, ◌≤◌, ℤ
 use Rattle.std.specs.Prelude.{length, take, slice_get, nat_lt, int_lt}
 use Rattle.std.proofs.lemmas.Bool.{lt-ltb}
 use Rattle.std.proofs.lemmas.Option.{slice_get-get_or, get_or_from_slice_get}
-use Rattle.std.proofs.lemmas.List.{get_or-set_same, get_or-set_other}
+use Rattle.std.proofs.lemmas.List.{get_or-set_same, get_or-set_other, get_or-take}
+use Rattle.std.proofs.Math.ListN.{get_or-append}
 use Rattle.lane_kernels.specs.declared.numbers.Width.{Width}
 use Rattle.regent_tree.specs.declared.outcome.FaultKind.TheVariants.{Turns}
 use Rattle.regent_tree.specs.declared.typing.StaticType.{StaticType}
@@ -33,7 +34,8 @@ use Rattle.code_rules.specs.Pieces.{Piece, op, loop, rounds, past}
 use Rattle.code_rules.specs.Slots.{typed, slot, counter, beside}
 use Rattle.code_rules.specs.Expressions.{expr_code}
 use Rattle.code_laws.specs.Steps.{Setting, machine_of, placed, on_step, Leads, Ends}
-use Rattle.code_laws.specs.Standing.{IsInside, program_of, Stands, machine_value, IsOf, of_integer, blank, Aside, where_of, Agrees, SlotsFit, Does}
+use Rattle.code_laws.specs.Standing.{IsInside, program_of, Stands, machine_value, IsOf, of_integer, blank, nothing, Aside, where_of, Agrees, RegionsStay, SlotsFit, Does}
+use Rattle.code_laws.specs.Pointers.{IsPointed}
 use Rattle.code_laws.specs.Simple.{IsInteger, an_integer, IsTruth}
 use Rattle.code_laws.specs.Typed.{CountsDown, IsTyped}
 use Rattle.code_laws.proofs.Runs.{leads_none, leads_end, leads_by, ends_by, then}
@@ -190,7 +192,7 @@ module _ (x : Setting) (params slots : ℕ) (fit : SlotsFit x slots) (counts : C
   -- one round, and what comes after it
   pub one_round : (m : ℕ) (aside : Aside) (h h2 : Here) (n : Name) (t : StaticType) (item : Value)
       (body : Run Going) (code : Piece) (z : ℤ) (keeps : MachineValue) (head : ℕ → Instr) (s : State) (pc : ℕ) (i : Instance) →
-      IsOf t item → IsInside x s.store t item → params ≤ length h.scope.names →
+      IsOf t item → IsInside x s.store t item → IsPointed h.scope.names s.names t item → params ≤ length h.scope.names →
       IsHead h (head (suc (past code (suc pc)))) (past code (suc pc)) pc (machine_value i.contents item) z i →
       Agrees x params slots aside h s i →
       slice_get i.frame.slots (beside (where_of params h) (length h.scope.names)) ≡ Some keeps →
@@ -203,14 +205,15 @@ module _ (x : Setting) (params slots : ℕ) (fit : SlotsFit x slots) (counts : C
       slice_get j3.frame.slots (counter (where_of params h) (length h.scope.names))
       ≡ Some (machine.Number (z +ℤ pos 1)) →
       slice_get j3.frame.slots (beside (where_of params h) (length h.scope.names)) ≡ Some keeps →
+      RegionsStay (length h.scope.names) s.names s3.names →
       Does x params slots aside (placed pc [] j3) (suc (past code (suc pc))) h (rest s3)) →
       Does x params slots aside (placed pc [] i) (suc (past code (suc pc))) h
       (and_then (and_then (pay_from m h s) (λ _. scoped (bind item >>= λ _. body)))
       (λ g. going_on rest g))
-  one_round zero aside h h2 n t item body code z keeps head s pc i ty inside low is g el f grown tree more rest q again =
+  one_round zero aside h h2 n t item body code z keeps head s pc i ty inside pointed low is g el f grown tree more rest q again =
       subst (λ u. Ends x (placed pc [] i) (Broke (Some (record { kind = Turns; line = h.line })) u)) g.text
       (is.faults (g.turns ∙ q))
-  one_round (suc m) aside h h2 n t item body code z keeps head s pc i ty inside low is g el f grown tree more rest q again =
+  one_round (suc m) aside h h2 n t item body code z keeps head s pc i ty inside pointed low is g el f grown tree more rest q again =
       let w = where_of params h in
       let k = length h.scope.names in
       let c = counter w k in
@@ -224,11 +227,11 @@ module _ (x : Setting) (params slots : ℕ) (fit : SlotsFit x slots) (counts : C
       let i2 = stored v put i1 in
       let j = headed c v put z m i in
       let g2 = bound_more x params slots fit aside h s1 i1 n t true item low
-      (omega (arith, is.puts_in)) ty inside g1 in
+      (omega (arith, is.puts_in)) ty inside pointed g1 in
       let up : aside.upto ≤ k = omega (arith, g.inside, g.count) in
       let g3 = aside_stored x params slots fit aside (looping h n t) s2 i2 k 1 (machine.Number (z +ℤ pos 1))
       low up (omega arith) (omega arith) (omega arith) refl g2 in
-      let aside2 : Aside = record { upto = suc k; slots = j.frame.slots; turns = m } in
+      let aside2 : Aside = record { upto = suc k; slots = j.frame.slots; names = s2.names; turns = m } in
       let g4 = enters x params slots fit aside (looping h n t) s2 j (suc k) (omega (arith, g3.count)) g3 in
       let e = past code (suc pc) in
       does_before x params slots fit counts aside (suc e) h _ _ _ (is.begins m (g.turns ∙ q))
@@ -248,7 +251,9 @@ module _ (x : Setting) (params slots : ℕ) (fit : SlotsFit x slots) (counts : C
       does_before x params slots fit counts aside (suc e) h _ _ _ (jumps_to_head e pc h.line h.line (head (suc e)) j3 is.back f.0 f.2)
       (again (record s3 { names = take (length s.names) s3.names }) j3
       (leaves_round x params slots fit aside aside2 h h2 (length s.names) s2 s3 j j3 refl (omega (arith, up))
-      (omega (arith, g.bound, q)) grown tree g.count (omega (arith, up, g.count)) g3.hidden g5) cs ls)))
+      (omega (arith, g.bound, q)) grown tree g.count (omega (arith, up, g.count)) g3.hidden g3.steady g5) cs ls
+      (λ p q l d. get_or-take (length s.names) s3.names p nothing (omega (arith, l, g.count))
+      ∙ g5.steady p q (omega (arith, l)) (get_or-append s.names (item ∷ []) nothing p (omega (arith, l, g.count)) ∙ d)))))
 
   -- from the head on
   pub counting_runs : (k : ℕ) (aside : Aside) (h h2 : Here) (n : Name) (t : StaticType) (wd : Width)
@@ -274,7 +279,7 @@ module _ (x : Setting) (params slots : ℕ) (fit : SlotsFit x slots) (counts : C
       let to = suc (past code (suc pc)) in
       let used = three_least (counter w m) (beside w m) (slot w m) slots (fit pc _ f.0) in
       one_round s.turns aside h h2 n t (a_number wd z) body code z (machine.Number b)
-      (instr.NextNumber (counter w m) (beside w m) (slot w m)) s pc i (ty z fz) (number_inside x s.store t wd z (ty z fz)) low
+      (instr.NextNumber (counter w m) (beside w m) (slot w m)) s pc i (ty z fz) (number_inside x s.store t wd z (ty z fz)) tt low
       (record {
         back = lt-ltb (past code (suc pc)) to (omega arith);
         counts_in = used.0;
@@ -285,7 +290,7 @@ module _ (x : Setting) (params slots : ℕ) (fit : SlotsFit x slots) (counts : C
             (omega (arith, used.2, g.slots_are)) ec el f.0;
       }) g el f grown tree more
       (counting h k wd (z +ℤ pos 1) body) refl
-      (λ s3 j3 g3 e3 f3. counting_runs k aside h h2 n t wd body code (z +ℤ pos 1) b s3 pc j3 ty (next_fits wd z b fz fb c.0) fb low c.1 g3
+      (λ s3 j3 g3 e3 f3 stay. counting_runs k aside h h2 n t wd body code (z +ℤ pos 1) b s3 pc j3 ty (next_fits wd z b fz fb c.0) fb low c.1 g3
       e3 f3 f grown tree more)
 
   pub integer_kept : (c : Contents) (t : StaticType) (v : Value) → IsInteger t → IsOf t v →

@@ -67,7 +67,7 @@ module _ (x : Setting) (store : Store) (image : RootImage) where
   inside_more _ _ (of_integer w z p) l = tt
   inside_more _ _ (of_truth b) l = tt
   inside_more _ _ (of_index k z p) l = tt
-  inside_more _ _ (of_pointer k sp args rs t regions) l = tt
+  inside_more _ _ (of_pointer k sp args rs t regions p) l = tt
   inside_more _ _ (of_space k n p) l = tt
   inside_more _ _ (of_region k sp args r q) l = (lies_more sp q l.0, l.1)
   inside_more _ _ (of_partition d r p q) l = omega (arith, l, length-append store (image ∷ []))
@@ -84,7 +84,7 @@ module _ (x : Setting) (store : Store) (image : RootImage) where
   same_value c d same _ _ (of_integer w z p) l = refl
   same_value c d same _ _ (of_truth b) l = refl
   same_value c d same _ _ (of_index k z p) l = refl
-  same_value c d same _ _ (of_pointer k sp args rs t regions) l = refl
+  same_value c d same _ _ (of_pointer k sp args rs t regions p) l = refl
   same_value c d same _ _ (of_space k n p) l = refl
   same_value c d same _ _ (of_region k sp args r q) l = ap (λ n. machine.Region (region_with n q.points)) (same q.root l.0.there)
   same_value c d same _ _ (of_partition e r p q) l = ap (λ n. machine.Partition (record {
@@ -149,6 +149,8 @@ module _ (x : Setting) (params slots : ℕ) (aside : Aside) where
         hidden = g.hidden;
         typed = g.typed;
         inside_store = all_more x s.store image h.scope.names s.names g.typed g.inside_store;
+        pointed = g.pointed;
+        steady = g.steady;
         count = g.count;
         inside = g.inside;
         slots_are = g.slots_are;

@@ -40,6 +40,7 @@ use Rattle.code_laws.specs.Standing.{Answering, AreTaken, Agrees, AreOf, AreRead
 use Rattle.code_laws.specs.Steps.{Forms, Setting}
 use Rattle.code_laws.proofs.States.{ready_value}
 use Rattle.code_laws.proofs.Names.{typed_more}
+use Rattle.code_laws.proofs.Pointing.{IsPlain, all_plain}
 
 -- ---- arguments as a task has them
 
@@ -48,7 +49,7 @@ entered_value : (c : Contents) (s : Scope) (vs : List Value) (t : StaticType) (v
 entered_value c s vs _ _ (of_integer w z p) = (of_integer w z p, refl)
 entered_value c s vs _ _ (of_truth b) = (of_truth b, refl)
 entered_value c s vs _ _ (of_index k z p) = (of_index k z p, refl)
-entered_value c s vs _ _ (of_pointer k sp args rs t regions) = (of_pointer k sp args rs t _, refl)
+entered_value c s vs _ _ (of_pointer k sp args rs t regions p) = (of_pointer k sp args rs t _ p, refl)
 entered_value c s vs _ _ (of_space k n l) = (of_space k n l, refl)
 entered_value c s vs _ _ (of_region k sp args r q) = (of_region k sp args r q, refl)
 entered_value c s vs _ _ (of_partition d r p q) = (of_partition d r p q, refl)
@@ -76,12 +77,37 @@ entered_inside x store s vs (t ∷ ts) (u ∷ us) a b =
     one _ _ (of_integer w z p) b = tt
     one _ _ (of_truth v) b = tt
     one _ _ (of_index k z p) b = tt
-    one _ _ (of_pointer k sp args rs t regions) b = tt
+    one _ _ (of_pointer k sp args rs t regions p) b = tt
     one _ _ (of_space k n l) b = tt
     one _ _ (of_region k sp args r q) b = b
     one _ _ (of_partition d r p q) b = b
 entered_inside x store s vs [] (u ∷ us) a b = absurd a
 entered_inside x store s vs (t ∷ ts) [] a b = absurd a
+
+-- values that are no pointers go as they are too
+entered_plain : (s : Scope) (vs : List Value) (ts : List StaticType) (us : List Value) → AreTaken IsOf ts us →
+    AreTaken (λ u v. IsPlain v) ts us → AreTaken (λ u v. IsPlain v) ts (entered s vs ts us)
+entered_plain s vs [] [] a b = tt
+entered_plain s vs (t ∷ ts) (u ∷ us) a b = (one t u a.0 b.0, entered_plain s vs ts us a.1 b.1)
+  where
+    one : (t : StaticType) (v : Value) → IsOf t v → IsPlain v → IsPlain (entered_as s vs t v)
+    one _ _ (of_integer w z p) b = tt
+    one _ _ (of_truth v) b = tt
+    one _ _ (of_index k z p) b = tt
+    one _ _ (of_pointer k sp args rs t regions p) b = absurd b
+    one _ _ (of_space k n l) b = tt
+    one _ _ (of_region k sp args r q) b = tt
+    one _ _ (of_partition d r p q) b = tt
+entered_plain s vs [] (u ∷ us) a b = absurd a
+entered_plain s vs (t ∷ ts) [] a b = absurd a
+
+plain_at : (ts : List StaticType) (vs : List Value) → AreTaken (λ u v. IsPlain v) ts vs → (k : ℕ) → IsPlain (get_or vs k nothing)
+plain_at [] [] a zero = tt
+plain_at [] [] a (suc k) = tt
+plain_at (t ∷ ts) (v ∷ vs) a zero = a.0
+plain_at (t ∷ ts) (v ∷ vs) a (suc k) = plain_at ts vs a.1 k
+plain_at [] (v ∷ vs) a k = absurd a
+plain_at (t ∷ ts) [] a k = absurd a
 
 -- names in the places of their order
 abbrev pub AreFrom : ℕ → List Bound → Type 0
@@ -188,7 +214,7 @@ fits_slots x tree t e pc l f = by (nat_lt pc (2 ^ 32)) (subst (λ b. fetch b pc 
 
 -- nothing is put aside where a task begins
 abbrev pub before_all : ℕ → Aside
-before_all turns = record { upto = 0; slots = []; turns = turns }
+before_all turns = record { upto = 0; slots = []; names = []; turns = turns }
 
 -- ---- slots where a task begins
 
@@ -218,11 +244,11 @@ module _ (tree : Tree) (turns more depth : ℕ) (t : TaskTree) (place : ℕ) (vs
   pub opens : (forms : Forms) (calls : Calls) →
       (forms.calls ≡ true → Answering (called_setting forms tree turns more depth (numbers c) args t) tree calls) → AreTaken IsOf (param_types tree t) vs →
       AreTaken (IsInside (called_setting forms tree turns more depth (numbers c) args t) store) (param_types tree t) vs →
-      length vs ≤ (task_code tree t).slots → Holds (code_of tree) store (memory_of begins) →
+      AreTaken (λ u v. IsPlain v) (param_types tree t) vs → length vs ≤ (task_code tree t).slots → Holds (code_of tree) store (memory_of begins) →
       ((n : NeedCode) → Contains (needs_taken forms.takes) n → AreCovered (is_asked args n) store (memory_of begins)) →
       Agrees (called_setting forms tree turns more depth (numbers c) args t) (length t.params) (task_code tree t).slots
       (before_all turns) (body_of tree calls t) (opening tree turns t vs store) begins
-  opens forms calls answers takes inside room holds given =
+  opens forms calls answers takes inside plain room holds given =
       let x = called_setting forms tree turns more depth (numbers c) args t in
       let code = task_code tree t in
       let sc = scope_of tree t in
@@ -245,6 +271,8 @@ module _ (tree : Tree) (turns more depth : ℕ) (t : TaskTree) (place : ℕ) (vs
         typed = names_typed IsOf sc.names us (params_from tree t.params 0 t.params) e.0;
         inside_store = names_typed (IsInside x store) sc.names us (params_from tree t.params 0 t.params)
             (entered_inside x store sc vs (param_types tree t) vs takes inside);
+        steady = λ k q l e. absurd (omega (arith, l));
+        pointed = all_plain sc.names us (plain_at (param_types tree t) us (entered_plain sc vs (param_types tree t) vs takes plain));
         count = taken_length IsOf (param_types tree t) us e.0 ∙ types_length sc.names;
         inside = omega arith;
         slots_are = length-append ms blanks

@@ -78,7 +78,7 @@ pub inside_stays : (x : Setting) (store after : Store) (t : StaticType) (v : Val
 inside_stays x store after _ _ same (of_integer w z p) l = tt
 inside_stays x store after _ _ same (of_truth b) l = tt
 inside_stays x store after _ _ same (of_index k z p) l = tt
-inside_stays x store after _ _ same (of_pointer k sp args rs t regions) l = tt
+inside_stays x store after _ _ same (of_pointer k sp args rs t regions p) l = tt
 inside_stays x store after _ _ same (of_space k n p) l = tt
 inside_stays x store after _ _ same (of_region k sp args r q) l = (lies_stays x.code store after sp q same l.0, l.1)
 inside_stays x store after _ _ same (of_partition d r p q) l =
@@ -107,6 +107,8 @@ rewritten x params slots aside h s i ps ts store same g holds = record {
   hidden = g.hidden;
   typed = g.typed;
   inside_store = all_inside x s.store store h.scope.names s.names same g.typed g.inside_store;
+  pointed = g.pointed;
+  steady = g.steady;
   count = g.count;
   inside = g.inside;
   slots_are = g.slots_are;

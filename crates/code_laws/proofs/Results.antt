@@ -63,6 +63,8 @@ module _ (x : Setting) (params slots : ℕ) (fit : SlotsFit x slots) (aside : As
         );
         typed = g.typed;
         inside_store = g.inside_store;
+        pointed = g.pointed;
+        steady = g.steady;
         count = g.count;
         inside = g.inside;
         slots_are = length-set xs k v ∙ g.slots_are;

@@ -28,11 +28,13 @@ use Rattle.code_rules.specs.Expressions.{expr_code}
 use Rattle.code_rules.specs.Initializers.{beside_code, plain_code}
 use Rattle.code_rules.specs.Used.{greatest, above_all}
 use Rattle.code_laws.specs.Steps.{Setting, machine_of, placed, on_step, Leads, Ends}
-use Rattle.code_laws.specs.Standing.{Answering, program_of, Stands, machine_value, IsInside, IsOf, AreOf, of_integer, of_truth, nothing, Aside, where_of, Agrees, SlotsFit, Does}
+use Rattle.code_laws.specs.Standing.{Answering, program_of, Stands, machine_value, IsInside, IsOf, AreOf, of_index, of_integer, of_space, of_truth, nothing, Aside, where_of, Agrees, SlotsFit, Does}
+use Rattle.code_laws.specs.Pointers.{ArePointed}
 use Rattle.code_laws.specs.Simple.{IsScalar, IsSimple, scalar_integer, scalar_truth, simple_index, simple_integer, simple_space, simple_truth}
 use Rattle.code_laws.specs.Typed.{CountsDown}
 use Rattle.code_laws.proofs.Runs.{Said, leads_twice, leads_end, leads_by, ends_by}
-use Rattle.code_laws.proofs.Values.{jump_later, scalar_simple, simple_inside}
+use Rattle.code_laws.proofs.Pointing.{simple_alike, simple_no_region}
+use Rattle.code_laws.proofs.Values.{jump_later, named, simple_inside}
 use Rattle.code_laws.proofs.Good.{valued}
 use Rattle.code_laws.proofs.Names.{Grown, block_grown}
 use Rattle.code_laws.proofs.States.{stored, stores, changed, cut}
@@ -79,9 +81,11 @@ plain_stands body params h _ e pc n (simple_space k) f = f.0
 plain_stands body params h _ e pc n (simple_index k) f = f.0
 
 -- a value that carries no regions
-pub plain_kept : (u : StaticType) (old v : Value) → IsScalar u → IsOf u v → with_regions_of old v ≡ v
-plain_kept _ old _ (scalar_integer w) (of_integer _ z _) = refl
-plain_kept _ old _ scalar_truth (of_truth b) = refl
+pub plain_kept : (u : StaticType) (old v : Value) → IsSimple u → IsOf u v → with_regions_of old v ≡ v
+plain_kept _ old _ (simple_integer w) (of_integer _ z _) = refl
+plain_kept _ old _ simple_truth (of_truth b) = refl
+plain_kept _ old _ (simple_space k) (of_space _ n _) = refl
+plain_kept _ old _ (simple_index k) (of_index _ z _) = refl
 
 -- the greater of two numbers
 greatest_least : (a b n : ℕ) → greatest a b ≤ n → (a ≤ n) × (b ≤ n)
@@ -110,6 +114,8 @@ same_scope x params slots aside h h2 s i e g = record {
   hidden = g.hidden;
   typed = subst (λ bs. AreOf IsOf bs s.names) e.0 g.typed;
   inside_store = subst (λ bs. AreOf (IsInside x s.store) bs s.names) e.0 g.inside_store;
+  pointed = subst (λ bs. ArePointed bs s.names) e.0 g.pointed;
+  steady = g.steady;
   count = g.count ∙ ap length e.0;
   inside = g.inside;
   slots_are = g.slots_are;
@@ -222,6 +228,8 @@ module _ (x : Setting) (params slots : ℕ) (fit : SlotsFit x slots) (counts : C
     hidden = g.hidden;
     typed = g.typed;
     inside_store = g.inside_store;
+    pointed = g.pointed;
+    steady = g.steady;
     count = g.count;
     inside = g.inside;
     slots_are = g.slots_are;
@@ -244,6 +252,8 @@ module _ (x : Setting) (params slots : ℕ) (fit : SlotsFit x slots) (counts : C
     hidden = g.hidden;
     typed = g.typed;
     inside_store = g.inside_store;
+    pointed = g.pointed;
+    steady = g.steady;
     count = g.count;
     inside = g.inside;
     slots_are = g.slots_are;
@@ -288,7 +298,7 @@ module _ (x : Setting) (params slots : ℕ) (fit : SlotsFit x slots) (counts : C
   -- ---- assignments
 
   pub writes_name : (aside : Aside) (h : Here) (n : Name) (v : Value) (s : State) (pc : ℕ) (i : Instance) →
-      IsScalar (bound_to h.scope.names n).static_type → IsOf (bound_to h.scope.names n).static_type v →
+      IsSimple (bound_to h.scope.names n).static_type → IsOf (bound_to h.scope.names n).static_type v →
       is_bound h.scope.names n ≡ true → Agrees x params slots aside h s i →
       Stands x.body pc (op (instr.Store (slot_named (where_of params h) n)) h.line) →
       Does x params slots aside (valued pc [] v i) (suc pc) h (write_name h n how.Set v s)
@@ -301,7 +311,8 @@ module _ (x : Setting) (params slots : ℕ) (fit : SlotsFit x slots) (counts : C
       (sym (plain_kept _ old v p ty)) (
         stored k (machine_value i.contents v) i,
         stores x params slots fit k pc h.line (machine_value i.contents v) [] i g.slots_are f,
-        changed x params slots fit aside h s i n v b room ty (simple_inside x s.store _ v (scalar_simple _ p)) g,
+        changed x params slots fit aside h s i n v b room ty (simple_inside x s.store _ v p)
+            (simple_no_region _ old p (named IsOf h.scope.names s.names n g.typed b).holding) (simple_alike _ old v p ty) g,
       )
 
   -- ---- asserts and returns

@@ -1,5 +1,9 @@
 -- The code of a statement does what the statement means.
-use Rattle.code_laws.proofs.SpaceLoops.{spaces_run}
+use Rattle.code_laws.proofs.Behind.{folds_behind, sets_behind}
+use Rattle.code_laws.proofs.Counting.{into_runs}
+use Rattle.code_laws.proofs.PointerForms.{begins_run, points_run}
+use Rattle.code_laws.proofs.Pointing.{region_pointed, simple_pointed}
+use Rattle.code_laws.proofs.Wider.{any_field, counting, going, into_simple, keepable, loops_over, zero_simple, zeroed}
 use Rattle.code_laws.proofs.States.{ready_value}
 use Rattle.code_laws.proofs.Variables.{GoodInside, binds, fill_runs, region_runs, zero_runs}
 use Rattle.code_laws.proofs.Elements.{folds_element, sets_element}
@@ -7,7 +11,7 @@ use Rattle.regent_tree.specs.Initializers.{initial_value, make_root}
 use Rattle.code_laws.proofs.Folds.{folds}
 use Rattle.code_laws.proofs.Loops.{counting_runs, integer_kept, loop_typed, turning_runs, from_fits, to_fits}
 use Rattle.code_rules.specs.Instructions.{converted_code, place_of_task}
-use Rattle.code_laws.proofs.Rows.{IsAlike, asserts, does_as, does_before, does_said, plain_past, returns, same_scope, scoped_by, tests, then_going, then_leads, writes_name, plain_stands, owned_plain, relimit, jumps_later}
+use Rattle.code_laws.proofs.Rows.{IsAlike, asserts, does_as, does_before, does_said, returns, same_scope, scoped_by, tests, then_going, then_leads, writes_name, relimit, jumps_later}
 use Rattle.std.proofs.Common.{◌≡◌, ℕ, suc, ◌<◌, ◌≤◌, [], ◌∷◌, ◌++◌, Some, None, refl, sym, ap, ◌∙◌, subst, arith, length-append}
 use Rattle.std.specs.Prelude.{length, slice_get}
 use Rattle.std.proofs.lemmas.Option.{slice_get-get_or}
@@ -26,17 +30,16 @@ use Rattle.regent_tree.specs.Numbers.{distance}
 use Rattle.machine_terms.specs.declared.value.Value.TheVariants as machine
 use Rattle.machine_terms.specs.declared.order.Instance.{Instance}
 use Rattle.code_rules.specs.Pieces.{Piece, op, past}
-use Rattle.code_rules.specs.Slots.{typed, slot, counter, beside}
+use Rattle.code_rules.specs.Slots.{typed, counter, beside}
 use Rattle.code_rules.specs.Expressions.{expr_code, exprs_code, count}
-use Rattle.code_rules.specs.Initializers.{new_place}
 use Rattle.code_rules.specs.Statements.{form_code, arms_code, else_code, block_code}
 use Rattle.code_rules.specs.Assignments.{right_code}
 use Rattle.code_laws.specs.Steps.{Setting, placed}
-use Rattle.code_laws.specs.Standing.{Stands, machine_value, IsInside, IsOf, blank, Aside, where_of, Agrees, SlotsFit, Does}
-use Rattle.code_laws.specs.Simple.{IsScalar}
-use Rattle.code_laws.specs.Typed.{CountsDown, element_field, AreTypedArms, IsTypedBlock, IsTypedElse, IsTypedForm}
+use Rattle.code_laws.specs.Standing.{Stands, machine_value, blank, Aside, where_of, Agrees, SlotsFit, Does}
+use Rattle.code_laws.specs.Simple.{IsScalar, a_region_type}
+use Rattle.code_laws.specs.Typed.{CountsDown, element_field, field_behind, AreTypedArms, IsTypedBlock, IsTypedElse, IsTypedForm}
 use Rattle.code_laws.proofs.Runs.{leads_by, leads_none, leads_twice, ends_by, then, comes_said}
-use Rattle.code_laws.proofs.Values.{past_later, scalar_simple, simple_inside}
+use Rattle.code_laws.proofs.Values.{past_later, simple_inside}
 use Rattle.code_laws.proofs.Good.{valued, Good}
 use Rattle.code_laws.proofs.Operations.{converted_runs, fetch_small, alike_right, truth_of_type}
 use Rattle.code_laws.proofs.Expressions.{AreGiven, args_run, value_runs}
@@ -59,23 +62,7 @@ module _ (x : Setting) (params slots : ℕ) (fit : SlotsFit x slots) (counts : C
         Does x params slots aside (placed pc [] i) (past (form_code (where_of params h) form) pc)
         (after_statement h form) (exec h form s)
     form_runs aside h (var_form n None (Some (plain_initializer e))) s pc i low fine g f =
-        let w = where_of params h in
-        let t = typed w e in
-        let code = expr_code w 0 e in
-        let there = plain_past params h t e pc h.scope.next fine.0 in
-        let k = slot w (new_place w) in
-        let f2 : Stands x.body (past code pc) (op (instr.Store k) h.line) =
-        subst (λ p. Stands x.body p (op (instr.Store k) h.line)) there f.1 in
-        subst (λ p. Does x params slots aside (placed pc [] i) (suc p)
-        (after_statement h (var_form n None (Some (plain_initializer e)))) (exec h (var_form n None (Some (plain_initializer e))) s))
-        (sym there)
-        (then x (does_said x params slots fit counts aside (suc (past code pc)) (after_statement h (var_form n None (Some (plain_initializer e)))))
-        _ _ _ (value h e s) _
-        (value_runs x params slots fit aside h 0 low e s pc [] i fine.1 g
-        (plain_stands x.body params h t e pc h.scope.next fine.0 f.0))
-        (λ v s1 j k1. binds x params slots fit counts aside h n None (Some (plain_initializer e)) v s1 (past code pc) j low
-        (subst (λ u. IsOf u v) (owned_plain h.scope.next t fine.0) k1.0)
-        (subst (λ u. IsInside x s1.store u v) (owned_plain h.scope.next t fine.0) (simple_inside x s1.store t v fine.0)) k1.1 f2))
+        begins_run x params slots fit counts aside h n e s pc i low (keepable x.forms.keeps (where_of params h) e fine.0) fine.1 g f
     form_runs aside h (var_form n (Some t) (Some (plain_initializer e))) s pc i low fine g f =
         let w = where_of params h in
         let from = typed w e in
@@ -83,34 +70,38 @@ module _ (x : Setting) (params slots : ℕ) (fit : SlotsFit x slots) (counts : C
         let u = var_type h.tree h.scope (Some t) (Some (plain_initializer e)) in
         let a = past (expr_code w 0 e) pc in
         let b = past (converted_code w from u) a in
+        let into = going x.forms.keeps from u fine.0 in
+        let simple = into_simple from u into in
         let done = does_said x params slots fit counts aside (suc b) (after_statement h form) in
         then x done (valued b []) (Good x params slots fit aside h u) _
         (initial_value h (Some t) u (Some (plain_initializer e)) s) _
         (then x (comes_said x _ _) _ _ _ (value h e s) _
         (value_runs x params slots fit aside h 0 low e s pc [] i fine.1 g f.0.0)
-        (λ v s1 j k. converted_runs x params slots fit aside h from u (regions_reached h.scope s1.names (reaches_of u)) v s1 a [] j
-        fine.0 k.0 k.1 f.0.1))
+        (λ v s1 j k. into_runs x params slots fit aside h from u (regions_reached h.scope s1.names (reaches_of u)) v s1 a [] j
+        into k.0 k.1 f.0.1))
         (λ v s1 j k. binds x params slots fit counts aside h n (Some t) (Some (plain_initializer e)) v s1 b j low k.0
-        (simple_inside x s1.store u v (scalar_simple u (alike_right x params slots fit aside from u fine.0))) k.1 f.1)
+        (simple_inside x s1.store u v simple) (simple_pointed h.scope.names s1.names u v simple k.0) k.1 f.1)
     form_runs aside h (var_form n (Some t) None) s pc i low fine g f =
         let form = var_form n (Some t) None in
         let u = var_type h.tree h.scope (Some t) None in
+        let zero = zeroed x.forms.keeps u fine in
         then x (does_said x params slots fit counts aside (suc (suc pc)) (after_statement h form)) (valued (suc pc) [])
         (Good x params slots fit aside h u) _ (initial_value h (Some t) u None s) (λ v. bind v)
-        (zero_runs x params slots fit counts aside h u s pc i fine g f.0)
-        (λ v s1 j k. binds x params slots fit counts aside h n (Some t) None v s1 (suc pc) j low k.0 (simple_inside x s1.store u v (scalar_simple u fine)) k.1 f.1)
+        (zero_runs x params slots fit counts aside h u s pc i zero g f.0)
+        (λ v s1 j k. binds x params slots fit counts aside h n (Some t) None v s1 (suc pc) j low k.0
+        (simple_inside x s1.store u v (zero_simple u zero)) (simple_pointed h.scope.names s1.names u v (zero_simple u zero) k.0) k.1 f.1)
     form_runs aside h (assign_form n no_step how.Set e) s pc i low fine g f =
         let w = where_of params h in
         let t = typed w e in
         let u = (bound_to h.scope.names n).static_type in
         let done = past (form_code w (assign_form n no_step how.Set e)) pc in
+        let into = going x.forms.keeps t u fine.0 in
         then x (does_said x params slots fit counts aside done h) (valued (past (right_code w n no_step how.Set e) pc) [])
         (Good x params slots fit aside h u) _ (right_side h n no_step how.Set e s) _
         (then x (comes_said x _ _) _ _ _ (value h e s) _
         (value_runs x params slots fit aside h 0 low e s pc [] i fine.1 g f.0.0)
-        (λ v s1 j k. converted_runs x params slots fit aside h t u [] v s1 _ [] j fine.0 k.0 k.1 f.0.1))
-        (λ v s1 j k. writes_name x params slots fit counts aside h n v s1 _ j
-        (alike_right x params slots fit aside t u fine.0) k.0 fine.2 k.1 f.1)
+        (λ v s1 j k. into_runs x params slots fit aside h t u [] v s1 _ [] j into k.0 k.1 f.0.1))
+        (λ v s1 j k. writes_name x params slots fit counts aside h n v s1 _ j (into_simple t u into) k.0 fine.2 k.1 f.1)
     form_runs aside h (assign_form n no_step (how.Reduce o) e) s pc i low fine g f =
         let w = where_of params h in
         let t = typed w e in
@@ -230,7 +221,8 @@ module _ (x : Setting) (params slots : ℕ) (fit : SlotsFit x slots) (counts : C
         (then x (comes_said x _ _) (valued a []) (Good x params slots fit aside h (typed w e)) _ (value h e s)
         (λ v. make_root h u (size_of v)) (value_runs x params slots fit aside h 0 low e s pc [] i fine.2 g f.0.0)
         (λ v s1 j k. region_runs x params slots fit counts aside h (typed w e) v u s1 a j _ _ _ fine.0 fine.1 fine.3 k.0 k.1 f.0.1 (fetch_small x.body (suc a) _ f.1)))
-        (λ v s1 j k. binds x params slots fit counts aside h n None start v s1 (suc a) j low k.0 k.1 k.2 f.1)
+        (λ v s1 j k. binds x params slots fit counts aside h n None start v s1 (suc a) j low k.0 k.1
+        (region_pointed h.scope.names s1.names t v (a_region_type _ _ _ _) k.0) k.2 f.1)
     form_runs aside h (var_form n (Some t) (Some (region_initializer _ _))) s pc i low fine g f = absurd fine
     form_runs aside h (var_form n None (Some (equal_initializer _ _))) s pc i low fine g f = absurd fine
     form_runs aside h (var_form n (Some t) (Some (equal_initializer _ _))) s pc i low fine g f = absurd fine
@@ -245,22 +237,32 @@ module _ (x : Setting) (params slots : ℕ) (fit : SlotsFit x slots) (counts : C
     form_runs aside h (var_form n None (Some (either_initializer _ _))) s pc i low fine g f = absurd fine
     form_runs aside h (var_form n (Some t) (Some (either_initializer _ _))) s pc i low fine g f = absurd fine
     form_runs aside h (for_in_form demanded n domain body) s pc i low fine g f =
+        points_run x params slots fit counts aside h demanded n domain body s pc i low
+        (loops_over x.forms.keeps (where_of params h) domain fine.0) fine.1 g f
+        (λ aside2 s5 p j5 g5 f5. block_runs aside2 (looping h n (taken_from (typed (where_of params h) domain))) body s5 p j5
+        (omega (arith, low)) fine.2 g5 f5)
+    form_runs aside h (assign_form n (field_step f2 no_step) how.Set e) s pc i low fine g f =
         let w = where_of params h in
-        let t = typed w domain in
-        let a = past (expr_code w 0 domain) pc in
-        let done = past (form_code w (for_in_form demanded n domain body)) pc in
-        let h1 = looping h n (taken_from t) in
-        let h2 = record h1 { scope = scope_after_block h.tree h1.scope body } in
-        let grown = block_grown h.tree h1.scope body in
-        does_as x params slots fit counts aside _ h (after_statement h (for_in_form demanded n domain body)) _ _ (refl, refl)
-        (then x (does_said x params slots fit counts aside done h) _ _ _ (value h domain s) _
-        (value_runs x params slots fit aside h 0 low domain s pc [] i fine.1 g f.0)
-        (λ v s1 j k1. spaces_run x params slots fit counts aside h h2 n t v (exec_block h1 body) (block_code (where_of params h1) body)
-        s1 a j fine.0 k1.0 low k1.1 f.1.0 f.1.1.0 f.1.1.1.0 f.1.1.1.1
-        (record { more = grown.more ++ _ ∷ []; are = grown.are ∙ sym (append_assoc grown.more (_ ∷ []) h.scope.names) }) refl
-        (λ aside2 s5 j5 g5. block_runs aside2 h1 body s5 (suc (suc (suc (suc a)))) j5 (omega (arith, low)) fine.2 g5 f.1.1.1.1.1)))
-    form_runs aside h (assign_form n (field_step _ _) how.Set e) s pc i low fine g f = absurd fine
-    form_runs aside h (assign_form n (field_step _ _) (how.Reduce o) e) s pc i low fine g f = absurd fine
+        let t = typed w e in
+        let u = field_behind w n f2 in
+        let steps = field_step f2 no_step in
+        then x (does_said x params slots fit counts aside (past (form_code w (assign_form n steps how.Set e)) pc) h)
+        (valued (past (right_code w n steps how.Set e) pc) []) (Good x params slots fit aside h u) _ (right_side h n steps how.Set e s) _
+        (then x (comes_said x _ _) _ _ _ (value h e s) _
+        (value_runs x params slots fit aside h 0 low e s pc [] i fine.2 g f.0.0)
+        (λ v s1 j k. into_runs x params slots fit aside h t u [] v s1 _ [] j fine.1 k.0 k.1 f.0.1))
+        (λ v s1 j k. sets_behind x params slots fit aside h n f2 u v s1 _ j fine.3 fine.4 k.0 k.1 f.1)
+    form_runs aside h (assign_form n (field_step f2 no_step) (how.Reduce o) e) s pc i low fine g f =
+        let w = where_of params h in
+        let t = typed w e in
+        then x (does_said x params slots fit counts aside (past (form_code w (assign_form n (field_step f2 no_step) (how.Reduce o) e)) pc) h)
+        (valued (past (expr_code w 0 e) pc) []) (Good x params slots fit aside h t) _ (value h e s) _
+        (value_runs x params slots fit aside h 0 low e s pc [] i fine.3 g f.0)
+        (λ v s1 j k. folds_behind x params slots fit aside o h n f2 (field_behind w n f2) t v s1 _ j fine.4 fine.5 fine.2 fine.1 k.0 k.1 f.1)
+    form_runs aside h (assign_form n (field_step _ (field_step _ _)) how.Set e) s pc i low fine g f = absurd fine
+    form_runs aside h (assign_form n (field_step _ (at_step _ _)) how.Set e) s pc i low fine g f = absurd fine
+    form_runs aside h (assign_form n (field_step _ (field_step _ _)) (how.Reduce o) e) s pc i low fine g f = absurd fine
+    form_runs aside h (assign_form n (field_step _ (at_step _ _)) (how.Reduce o) e) s pc i low fine g f = absurd fine
     form_runs aside h (assign_form n (at_step y (field_step f2 no_step)) how.Set e) s pc i low fine g f =
         let w = where_of params h in
         let t = typed w e in
@@ -271,8 +273,9 @@ module _ (x : Setting) (params slots : ℕ) (fit : SlotsFit x slots) (counts : C
         (Good x params slots fit aside h u) _ (right_side h n (at_step y (field_step f2 no_step)) how.Set e s) _
         (then x (comes_said x _ _) _ _ _ (value h e s) _
         (value_runs x params slots fit aside h 0 low e s pc [] i fine.1 g f.0.0)
-        (λ v s1 j k. converted_runs x params slots fit aside h t u [] v s1 _ [] j fine.0 k.0 k.1 f.0.1))
-        (λ v s1 j k. sets_element x params slots fit aside h n y f2 u v s1 _ j low fine.2 fine.3 fine.4 fine.5 fine.6 k.0 k.1 f.1)
+        (λ v s1 j k. into_runs x params slots fit aside h t u [] v s1 _ [] j (going x.forms.keeps t u fine.0) k.0 k.1 f.0.1))
+        (λ v s1 j k. sets_element x params slots fit aside h n y f2 u v s1 _ j low fine.2 (counting x.forms.keeps _ fine.3) fine.4
+        (any_field x.forms.keeps w n f2 u fine.5) fine.6 k.0 k.1 f.1)
     form_runs aside h (assign_form n (at_step y (field_step f2 no_step)) (how.Reduce o) e) s pc i low fine g f =
         let w = where_of params h in
         let t = typed w e in
@@ -281,8 +284,8 @@ module _ (x : Setting) (params slots : ℕ) (fit : SlotsFit x slots) (counts : C
         then x (does_said x params slots fit counts aside (past (form_code w form) pc) h)
         (valued (past (expr_code w 0 e) pc) []) (Good x params slots fit aside h t) _ (value h e s) _
         (value_runs x params slots fit aside h 0 low e s pc [] i fine.2 g f.0)
-        (λ v s1 j k. folds_element x params slots fit aside o h n y f2 u t v s1 _ j low fine.3 fine.4 fine.5 fine.6
-        fine.7 fine.1 fine.0 k.0 k.1 f.1)
+        (λ v s1 j k. folds_element x params slots fit aside o h n y f2 u t v s1 _ j low fine.3 (counting x.forms.keeps _ fine.4) fine.5
+        (any_field x.forms.keeps w n f2 u fine.6) fine.7 fine.1 fine.0 k.0 k.1 f.1)
     form_runs aside h (assign_form n (at_step _ no_step) how.Set e) s pc i low fine g f = absurd fine
     form_runs aside h (assign_form n (at_step _ (at_step _ _)) how.Set e) s pc i low fine g f = absurd fine
     form_runs aside h (assign_form n (at_step _ (field_step _ (field_step _ _))) how.Set e) s pc i low fine g f = absurd fine

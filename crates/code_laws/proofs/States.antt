@@ -22,10 +22,12 @@ use Rattle.code_rules.specs.Programs.{space_code}
 use Rattle.regent_tree.specs.StaticTypes.{spaces_of}
 use Rattle.code_rules.specs.Slots.{slot, counter, beside}
 use Rattle.code_laws.specs.Steps.{Setting, machine_of, placed, on_step, Leads}
-use Rattle.code_laws.specs.Standing.{Answering, program_of, Stands, machine_value, IsInside, IsOf, AreOf, AreReady, nothing, blank, Aside, where_of, Agrees, SlotsFit}
+use Rattle.code_laws.specs.Standing.{Answering, program_of, Stands, machine_value, IsInside, IsOf, AreOf, AreReady, nothing, blank, Aside, where_of, Agrees, RegionsStay, SlotsFit}
 use Rattle.code_laws.proofs.Runs.{leads_by}
 use Rattle.code_laws.proofs.Values.{named}
+use Rattle.code_laws.specs.Pointers.{ArePointed, IsPointed}
 use Rattle.code_laws.proofs.Names.{Grown, typed_more, typed_cut, typed_set, typed_fewer}
+use Rattle.code_laws.proofs.Pointing.{GoAlike, IsNoRegion, pointed_cut, pointed_fewer, pointed_more, pointed_set, region_kept}
 
 -- no value is a child that is pending
 pub ready_value : (c : Contents) (v : Value) → is_pending (machine_value c v) ≡ false
@@ -74,10 +76,10 @@ module _ (x : Setting) (params slots : ℕ) (fit : SlotsFit x slots) where
   pub bound_more : (o : Aside) (h : Here) (s : State) (i : Instance) (n : Name) (t : StaticType)
       (by_loop : Bool) (v : Value) → params ≤ length h.scope.names →
       slot (where_of params h) (length h.scope.names) < slots → IsOf t v → IsInside x s.store t v →
-      Agrees x params slots o h s i → Agrees x params slots o (record h { scope = with_name h.scope n t by_loop })
+      IsPointed h.scope.names s.names t v → Agrees x params slots o h s i → Agrees x params slots o (record h { scope = with_name h.scope n t by_loop })
       (record s { names = s.names ++ v ∷ [] })
       (stored (slot (where_of params h) (length h.scope.names)) (machine_value i.contents v) i)
-  bound_more o h s i n t by_loop v low room ty inside g =
+  bound_more o h s i n t by_loop v low room ty inside pointed g =
       let w = where_of params h in
       let k = length h.scope.names in
       let c = g.count in
@@ -112,6 +114,9 @@ module _ (x : Setting) (params slots : ℕ) (fit : SlotsFit x slots) where
           subst (IsInside x s.store t) (sym last) inside,
           typed_more (IsInside x s.store) h.scope.names s.names (v ∷ []) (omega (arith, c)) g.inside_store,
         );
+        pointed = pointed_more (record { name = n; number = h.scope.next; place = k; static_type = t; by_loop = by_loop })
+            h.scope.names s.names v c refl g.typed pointed g.pointed;
+        steady = λ p q l e. get_or-append s.names (v ∷ []) nothing p (omega (arith, l, g.inside)) ∙ g.steady p q l e;
         count = grown;
         inside = omega (arith, g.inside, grown, c);
         slots_are = length-set xs (slot w k) m ∙ g.slots_are;
@@ -132,10 +137,11 @@ module _ (x : Setting) (params slots : ℕ) (fit : SlotsFit x slots) where
       is_bound h.scope.names n ≡ true →
       slot (where_of params h) (bound_to h.scope.names n).place < slots →
       IsOf (bound_to h.scope.names n).static_type v → IsInside x s.store (bound_to h.scope.names n).static_type v →
-      Agrees x params slots o h s i →
+      IsNoRegion (get_or s.names (bound_to h.scope.names n).place nothing) →
+      GoAlike (get_or s.names (bound_to h.scope.names n).place nothing) v → Agrees x params slots o h s i →
       Agrees x params slots o h (record s { names = slice_set s.names (bound_to h.scope.names n).place v })
       (stored (slot (where_of params h) (bound_to h.scope.names n).place) (machine_value i.contents v) i)
-  changed o h s i n v b room ty inside g =
+  changed o h s i n v b room ty inside none alike g =
       let w = where_of params h in
       let k = (bound_to h.scope.names n).place in
       let c = g.count in
@@ -165,6 +171,8 @@ module _ (x : Setting) (params slots : ℕ) (fit : SlotsFit x slots) where
         );
         typed = typed_set IsOf h.scope.names s.names n v (omega (arith, c)) b ty g.typed;
         inside_store = typed_set (IsInside x s.store) h.scope.names s.names n v (omega (arith, c)) b inside g.inside_store;
+        pointed = pointed_set h.scope.names s.names k v (omega (arith, low, c)) none alike g.pointed;
+        steady = λ p q l e. region_kept s.names k v none p q (g.steady p q l e);
         count = same ∙ c;
         inside = omega (arith, g.inside, same);
         slots_are = length-set xs (slot w k) m ∙ g.slots_are;
@@ -199,6 +207,10 @@ module _ (x : Setting) (params slots : ℕ) (fit : SlotsFit x slots) where
         inside_store = typed_cut (IsInside x s.store) h.scope.names s.names n (omega (arith, e))
             (typed_fewer (IsInside x s.store) grown.more h.scope.names s.names
             (subst (λ bs. AreOf (IsInside x s.store) bs s.names) grown.are g.inside_store));
+        pointed = pointed_cut h.scope.names s.names n (omega (arith, e))
+            (typed_fewer IsOf grown.more h.scope.names s.names (subst (λ bs. AreOf IsOf bs s.names) grown.are g.typed))
+            (pointed_fewer grown.more h.scope.names s.names (subst (λ bs. ArePointed bs s.names) grown.are g.pointed));
+        steady = λ p q l e. get_or-take n s.names p nothing (omega (arith, l, up)) ∙ g.steady p q l e;
         count = len ∙ e;
         inside = omega (arith, len, up);
         slots_are = g.slots_are;
@@ -231,6 +243,8 @@ module _ (x : Setting) (params slots : ℕ) (fit : SlotsFit x slots) where
         );
         typed = g.typed;
         inside_store = g.inside_store;
+        pointed = g.pointed;
+        steady = g.steady;
         count = g.count;
         inside = g.inside;
         slots_are = length-set xs (slot w k + d) v ∙ g.slots_are;
@@ -249,12 +263,14 @@ module _ (x : Setting) (params slots : ℕ) (fit : SlotsFit x slots) where
   -- a round begins: the slots are kept_number as they are now
   pub enters : (o : Aside) (h : Here) (s : State) (i : Instance) (k : ℕ) → k ≤ length s.names →
       Agrees x params slots o h s i →
-      Agrees x params slots (record { upto = k; slots = i.frame.slots; turns = s.turns }) h s i
+      Agrees x params slots (record { upto = k; slots = i.frame.slots; names = s.names; turns = s.turns }) h s i
   enters o h s i k l g = record {
     names = g.names;
     hidden = λ p a b. (refl, refl);
     typed = g.typed;
     inside_store = g.inside_store;
+    pointed = g.pointed;
+    steady = λ p q l e. e;
     count = g.count;
     inside = l;
     slots_are = g.slots_are;
@@ -279,9 +295,9 @@ module _ (x : Setting) (params slots : ℕ) (fit : SlotsFit x slots) where
       ≡ get_or o.slots (counter (where_of params h) p) blank)
       × (get_or i.frame.slots (beside (where_of params h) p) blank
       ≡ get_or o.slots (beside (where_of params h) p) blank)) →
-      Agrees x params slots o2 h2 s2 j →
+      RegionsStay o.upto o.names o2.names → Agrees x params slots o2 h2 s2 j →
       Agrees x params slots o h (record s2 { names = take n s2.names }) j
-  leaves_round o o2 h h2 n s s2 i j e up fewer grown tree en low kept_number g =
+  leaves_round o o2 h h2 n s s2 i j e up fewer grown tree en low kept_number steady g =
       let w = where_of params h in
       let many : length h2.scope.names ≡ length grown.more + length h.scope.names =
       ap length grown.are ∙ length-append grown.more h.scope.names in
@@ -299,6 +315,10 @@ module _ (x : Setting) (params slots : ℕ) (fit : SlotsFit x slots) where
         inside_store = typed_cut (IsInside x s2.store) h.scope.names s2.names n (omega (arith, en))
             (typed_fewer (IsInside x s2.store) grown.more h.scope.names s2.names
             (subst (λ bs. AreOf (IsInside x s2.store) bs s2.names) grown.are g.inside_store));
+        pointed = pointed_cut h.scope.names s2.names n (omega (arith, en))
+            (typed_fewer IsOf grown.more h.scope.names s2.names (subst (λ bs. AreOf IsOf bs s2.names) grown.are g.typed))
+            (pointed_fewer grown.more h.scope.names s2.names (subst (λ bs. ArePointed bs s2.names) grown.are g.pointed));
+        steady = λ p q l e. get_or-take n s2.names p nothing (omega (arith, l, low)) ∙ g.steady p q (omega (arith, l, up)) (steady p q l e);
         count = len ∙ en;
         inside = omega (arith, len, low);
         slots_are = g.slots_are;

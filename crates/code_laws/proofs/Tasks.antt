@@ -56,6 +56,7 @@ use Rattle.code_laws.proofs.Counts.{counts_down}
 use Rattle.code_laws.proofs.Openings.{before_all, fits_slots, opens, params_length, types_in}
 use Rattle.code_laws.proofs.Requiring.{asked_covered}
 use Rattle.code_laws.proofs.Places.{stands_alone}
+use Rattle.code_laws.proofs.Pointing.{IsPlain, simple_plain}
 use Rattle.code_laws.proofs.Runs.{ends_by, leads_end}
 use Rattle.code_laws.proofs.Segments.{segments_give}
 use Rattle.code_laws.proofs.Statements.{block_runs}
@@ -133,6 +134,17 @@ taken_inside x all takes code store i n (t ∷ ts) (v ∷ vs) ec ea has long at 
 taken_inside x all takes code store i n [] (v ∷ vs) ec ea has long at own a = absurd a
 taken_inside x all takes code store i n (t ∷ ts) [] ec ea has long at own a = absurd a
 
+taken_plain : (takes : Option Taking) (code : Code) (store : Store) (ts : List StaticType) (vs : List Value) →
+    AreTaken (IsTaken takes code store) ts vs → AreTaken (λ u v. IsPlain v) ts vs
+taken_plain takes code store [] [] a = tt
+taken_plain takes code store (t ∷ ts) (v ∷ vs) a = (one t v a.0, taken_plain takes code store ts vs a.1)
+  where
+    one : (t : StaticType) (v : Value) → IsTaken takes code store t v → IsPlain v
+    one _ _ (takes_scalar t v s o) = simple_plain t v (scalar_simple t s) o
+    one _ _ (takes_region y k sp args r q e l) = tt
+taken_plain takes code store [] (v ∷ vs) a = absurd a
+taken_plain takes code store (t ∷ ts) [] a = absurd a
+
 zero_typed : (sc : Scope) (t : StaticType) → IsScalar t → IsOf t (zero_of sc [] t)
 zero_typed sc _ (scalar_integer w) = of_integer w (pos 0) (zero_fits w)
 zero_typed sc _ scalar_truth = of_truth _
@@ -157,7 +169,7 @@ needs_are : (handing : Bool) (tree : Tree) (t : TaskTree) (n : NeedCode) → Con
 needs_are false tree t n h = absurd (Has-from_Contains [] n h)
 needs_are true tree t n h = Has-from_Contains (task_code tree t).needs n h
 
-module _ (handing : Bool) (tree : Tree) (turns : ℕ) (few : turns < 2 ^ 64) (are : AreTypedBy handing tree) where
+module _ (handing keeping : Bool) (tree : Tree) (turns : ℕ) (few : turns < 2 ^ 64) (are : AreTypedBy handing keeping tree) where
   -- a task's end, by the meaning and by the run
   matches_end : (x : Setting) (task : Name) (store : Store) (before : List ℕ) (v : Value) (s : State) (j : Instance) (result : Option ℤ) →
       x.code ≡ code_of tree → x.before ≡ before → Returns tree task v → result_of result ≡ kept_number v → j.text ≡ s.text →
@@ -172,7 +184,7 @@ module _ (handing : Bool) (tree : Tree) (turns : ℕ) (few : turns < 2 ^ 64) (ar
 
   abbrev setting : ℕ → ℕ → Contents → Name → List Value → Setting
   setting more depth c task args =
-      called_setting (forms_by handing tree (task_named tree task)) tree turns more depth (numbers c) args (task_named tree task)
+      called_setting (forms_by handing keeping tree (task_named tree task)) tree turns more depth (numbers c) args (task_named tree task)
 
   -- what a call of a task means where its body came to a result
   abbrev meant_by : Name → Store → Result Going → Called
@@ -226,10 +238,11 @@ module _ (handing : Bool) (tree : Tree) (turns : ℕ) (few : turns < 2 ^ 64) (ar
       let r = run_task tree turns (calls_at tree turns more) t vs store in
       let ts = param_types tree t in
       let room = room_for h task vs takes (code_of tree) store c takes_it in
-      let g = opens tree turns more depth t (place_of_task tree task) vs store c takes_it.needs vs (forms_by handing tree t) (calls_at tree turns more) (λ e. answers)
+      let g = opens tree turns more depth t (place_of_task tree task) vs store c takes_it.needs vs (forms_by handing keeping tree t) (calls_at tree turns more) (λ e. answers)
       (taken_typed takes (code_of tree) store ts vs takes_it.taken)
       (taken_inside x vs takes (code_of tree) store 0 (length t.params) ts vs refl refl
-      (λ y e. all_take handing tree u t y (sym from ∙ e)) (omega (arith, room.0)) (λ k. ap (λ j. get_or vs j (a_truth false)) (omega arith)) (params_own tree t.params 0 t.params) takes_it.taken) room.1 holds
+      (λ y e. all_take handing tree u t y (sym from ∙ e)) (omega (arith, room.0)) (λ k. ap (λ j. get_or vs j (a_truth false)) (omega arith)) (params_own tree t.params 0 t.params) takes_it.taken)
+      (taken_plain takes (code_of tree) store ts vs takes_it.taken) room.1 holds
       (λ n h. asked_covered (code_of tree) c vs code.needs store (memory_of i) refl takes_it.required n (needs_are handing tree t n h)) in
       let low : length t.params ≤ length h.scope.names = omega (arith, params_length tree t.params 0 t.params) in
       let task_is = are (place_of_task tree task) t takes_it.there in
@@ -248,7 +261,7 @@ module _ (handing : Bool) (tree : Tree) (turns : ℕ) (few : turns < 2 ^ 64) (ar
 
   -- calls are answered at each depth
   pub answering : (more depth : ℕ) (before : List ℕ) (args : List Value) (t : TaskTree) → depth + more ≡ 64 →
-      Answering (called_setting (forms_by handing tree t) tree turns more depth before args t) tree (calls_at tree turns more)
+      Answering (called_setting (forms_by handing keeping tree t) tree turns more depth before args t) tree (calls_at tree turns more)
   answering zero depth before args t e = record {
     code_is = refl;
     few = few;

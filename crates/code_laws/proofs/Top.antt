@@ -38,7 +38,7 @@ use Rattle.task_code.specs.declared.code.NeedCode.{NeedCode}
 use Rattle.regent_tree.specs.Store.{Touch}
 use Rattle.code_laws.specs.Handing.{AreTypedBy, RegionsAreHandedAsMeant, forms_by}
 use Rattle.code_laws.specs.Taking.{allows, given_region, is_asked}
-use Rattle.code_laws.specs.Programs.{AreTypedTasks, CallsRunAsMeant, call_forms, IsTypedRun, LeavesNoRoots, RegionsRunAsMeant, RunsAsMeant, ScalarsRunAsMeant, entry_setting, job_of, region_forms, scalar_forms}
+use Rattle.code_laws.specs.Programs.{AreTypedTasks, CallsRunAsMeant, call_forms, IsTypedRun, LeavesNoRoots, PointersRunAsMeant, RegionsRunAsMeant, RunsAsMeant, ScalarsRunAsMeant, entry_setting, job_of, pointer_forms, region_forms, scalar_forms}
 use Rattle.code_laws.specs.Standing.{Answering, AreTaken, Does, IsFramed, IsInside, IsOf, Stands, machine_value}
 use Rattle.code_laws.specs.Steps.{Ends, Forms, Setting, placed}
 use Rattle.code_laws.proofs.Counts.{counts_down}
@@ -46,6 +46,7 @@ use Rattle.code_laws.proofs.Openings.{before_all, begins, fits_slots, least_slot
 use Rattle.code_laws.proofs.Shapes.{all_shaped}
 use Rattle.run_report.specs.Dumps.{fits_spaces}
 use Rattle.code_laws.proofs.Places.{stands_alone}
+use Rattle.code_laws.proofs.Pointing.{IsPlain}
 use Rattle.code_laws.proofs.Runs.{ends_by, leads_end}
 use Rattle.code_laws.proofs.Segments.{segments_give}
 use Rattle.code_laws.proofs.Statements.{block_runs}
@@ -65,6 +66,12 @@ inputs_inside x store [] (z ∷ zs) a = tt
 inputs_inside x store (t ∷ ts) [] a = absurd a
 inputs_inside x store (t ∷ ts) (z ∷ zs) a =
     (number_inside x store t (width_of_type t) z a.0, inputs_inside x store ts zs a.1)
+
+inputs_plain : (ts : List StaticType) (zs : List ℤ) → AreTaken IsOf ts (inputs_of ts zs) → AreTaken (λ u v. IsPlain v) ts (inputs_of ts zs)
+inputs_plain [] [] a = tt
+inputs_plain [] (z ∷ zs) a = tt
+inputs_plain (t ∷ ts) [] a = absurd a
+inputs_plain (t ∷ ts) (z ∷ zs) a = (tt, inputs_plain ts zs a.1)
 
 -- at the end of the first task what its roots hold is the store
 roots_are : (x : Setting) (s : State) (j : Instance) → x.before ≡ [] → Holds x.code s.store (memory_of j) →
@@ -148,7 +155,7 @@ typed_run_ends forms tree inputs turns answers p =
     let same : map (machine_value no_contents) vs ≡ map machine.Number inputs = inputs_kept ts inputs (p.count ∙ sym params) in
     let room : length t.params ≤ code.slots = least_slots (length t.params) code.body in
     let few : length vs ≤ code.slots = omega (arith, taken_length IsOf ts vs p.taken, params, room) in
-    let g = opens tree turns 63 1 t place vs [] no_contents [] [] forms (calls_at tree turns 63) answers p.taken (inputs_inside x [] ts inputs p.taken) few
+    let g = opens tree turns 63 1 t place vs [] no_contents [] [] forms (calls_at tree turns 63) answers p.taken (inputs_inside x [] ts inputs p.taken) (inputs_plain ts inputs p.taken) few
     (first_holds (code_of tree) i.frame) (λ n h u asked. absurd (nothing_asked n u asked)) in
     let low : length t.params ≤ length h.scope.names = omega (arith, params_length tree t.params 0 t.params) in
     let stands = stands_alone (body_piece tree t) p.small in
@@ -173,30 +180,33 @@ typed_run_ends forms tree inputs turns answers p =
 pub scalars_run_as_meant : ScalarsRunAsMeant
 scalars_run_as_meant tree inputs turns p = (typed_run_ends scalar_forms tree inputs turns (λ e. absurd (not_true e)) p).0
 
+pub pointers_run_as_meant : PointersRunAsMeant
+pointers_run_as_meant tree inputs turns p = (typed_run_ends pointer_forms tree inputs turns (λ e. absurd (not_true e)) p).0
+
 pub regions_run_as_meant : RegionsRunAsMeant
 regions_run_as_meant tree inputs turns p = (typed_run_ends region_forms tree inputs turns (λ e. absurd (not_true e)) p).0
 
 -- by what calls are answered
-handed_end : (handing : Bool) (tree : Tree) (inputs : List ℤ) (turns : ℕ) → turns < 2 ^ 64 → AreTypedBy handing tree →
-    IsTypedRun (forms_by handing tree (task_named tree (entry_name tree))) tree inputs →
+handed_end : (handing keeping : Bool) (tree : Tree) (inputs : List ℤ) (turns : ℕ) → turns < 2 ^ 64 → AreTypedBy handing keeping tree →
+    IsTypedRun (forms_by handing keeping tree (task_named tree (entry_name tree))) tree inputs →
     RunsAsMeant tree inputs turns × (true ≡ false → LeavesNoRoots (meaning tree inputs turns).ending)
     × (fits_spaces (code_of tree) (meaning tree inputs turns) ≡ true)
-handed_end handing tree inputs turns few are p =
+handed_end handing keeping tree inputs turns few are p =
     let t = task_named tree (entry_name tree) in
-    typed_run_ends (forms_by handing tree t) tree inputs turns (λ e. answering handing tree turns few are 63 1 [] [] t refl) p
+    typed_run_ends (forms_by handing keeping tree t) tree inputs turns (λ e. answering handing keeping tree turns few are 63 1 [] [] t refl) p
 
 pub regions_are_handed_as_meant : RegionsAreHandedAsMeant
-regions_are_handed_as_meant tree inputs turns few are p = (handed_end true tree inputs turns few are p).0
+regions_are_handed_as_meant keeping tree inputs turns few are p = (handed_end true keeping tree inputs turns few are p).0
 
-pub handed_fit_spaces : (tree : Tree) (inputs : List ℤ) (turns : ℕ) → turns < 2 ^ 64 → AreTypedBy true tree →
-    IsTypedRun (forms_by true tree (task_named tree (entry_name tree))) tree inputs → fits_spaces (code_of tree) (meaning tree inputs turns) ≡ true
-handed_fit_spaces tree inputs turns few are p = (handed_end true tree inputs turns few are p).2
+pub handed_fit_spaces : (keeping : Bool) (tree : Tree) (inputs : List ℤ) (turns : ℕ) → turns < 2 ^ 64 → AreTypedBy true keeping tree →
+    IsTypedRun (forms_by true keeping tree (task_named tree (entry_name tree))) tree inputs → fits_spaces (code_of tree) (meaning tree inputs turns) ≡ true
+handed_fit_spaces keeping tree inputs turns few are p = (handed_end true keeping tree inputs turns few are p).2
 
 calls_end : (tree : Tree) (inputs : List ℤ) (turns : ℕ) → turns < 2 ^ 64 → AreTypedTasks tree → IsTypedRun call_forms tree inputs →
     RunsAsMeant tree inputs turns × (true ≡ false → LeavesNoRoots (meaning tree inputs turns).ending)
     × (fits_spaces (code_of tree) (meaning tree inputs turns) ≡ true)
 calls_end tree inputs turns few are p =
-    handed_end false tree inputs turns few (λ k t e. let a = are k t e in record { given = a.given; typed = a.typed; small = a.small }) p
+    handed_end false false tree inputs turns few (λ k t e. let a = are k t e in record { given = a.given; typed = a.typed; small = a.small }) p
 
 pub calls_run_as_meant : CallsRunAsMeant
 calls_run_as_meant tree inputs turns few are p = (calls_end tree inputs turns few are p).0

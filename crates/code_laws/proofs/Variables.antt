@@ -10,7 +10,7 @@ use Rattle.regent_tree.specs.Store.{Store}
 use Rattle.regent_tree.specs.Lookup.{is_bound}
 use Rattle.code_laws.proofs.Writes.{GoesOn}
 use Rattle.code_laws.proofs.Filling.{fields_filled}
-use Rattle.code_laws.proofs.Elements.{does_come}
+use Rattle.code_laws.proofs.Going.{does_come}
 use Rattle.regent_tree.specs.Initializers.{make_root, zero_of}
 use Rattle.std.proofs.lemmas.Int.{ints}
 use Rattle.lane_kernels.specs.declared.numbers.Width.TheVariants.{W32, W64}
@@ -22,11 +22,11 @@ use Rattle.std.specs.Prelude.{get_or, length}
 use Rattle.std.proofs.lemmas.List.{get_or-set_same}
 use Rattle.lane_kernels.specs.declared.numbers.Width.{Width}
 use Rattle.regent_tree.specs.declared.typing.StaticType.{StaticType}
-use Rattle.regent_tree.specs.declared.typing.StaticType.TheVariants.{Integer as integer_type, Region as region_type, Truth as truth_type}
+use Rattle.regent_tree.specs.declared.typing.StaticType.TheVariants.{Index as index_type, Integer as integer_type, Region as region_type, Truth as truth_type}
 use Rattle.regent_tree.specs.Scopes.{bound_to, with_name}
 use Rattle.regent_tree.specs.Syntax.{Name, var_form, Initializer}
 use Rattle.regent_tree.specs.Typing.{var_type}
-use Rattle.regent_tree.specs.Values.{Region, Value, a_number, a_region, a_truth, region_of, size_of}
+use Rattle.regent_tree.specs.Values.{Region, Value, a_number, a_region, a_truth, an_index, region_of, size_of}
 use Rattle.regent_tree.specs.Running.{State, Here, and_then, gives}
 use Rattle.regent_tree.specs.Evaluation.{named_value}
 use Rattle.regent_tree.specs.Execution.{fill_fields, bind, after_statement}
@@ -37,8 +37,9 @@ use Rattle.code_rules.specs.Slots.{slot, slot_named, spare}
 use Rattle.code_rules.specs.Initializers.{new_place, zero_kept}
 use Rattle.code_rules.specs.Assignments.{fill_code}
 use Rattle.code_laws.specs.Steps.{Setting, placed}
-use Rattle.code_laws.specs.Standing.{Stands, machine_value, Comes, IsInside, IsOf, nothing, of_integer, of_region, of_space, of_truth, blank, Aside, where_of, Agrees, SlotsFit, Does}
-use Rattle.code_laws.specs.Simple.{IsRegion, IsScalar, IsSpace, a_region_type, a_space_type, scalar_integer, scalar_truth}
+use Rattle.code_laws.specs.Standing.{Stands, machine_value, Comes, IsInside, IsOf, nothing, of_index, of_integer, of_region, of_space, of_truth, blank, Aside, where_of, Agrees, SlotsFit, Does}
+use Rattle.code_laws.specs.Simple.{IsRegion, IsSpace, a_region_type, a_space_type, scalar_integer, scalar_truth}
+use Rattle.code_laws.specs.Pointers.{HasZero, IsPointed, zero_index, zero_scalar}
 use Rattle.code_laws.specs.Typed.{AreFilled, CountsDown, IsMakable, MayFill}
 use Rattle.code_laws.proofs.Reaching.{a_region_there}
 use Rattle.code_laws.proofs.Values.{named}
@@ -60,9 +61,10 @@ module _ (x : Setting) (params slots : ℕ) (fit : SlotsFit x slots) (counts : C
   -- a new variable has the value that stands on the stack
   pub binds : (aside : Aside) (h : Here) (n : Name) (t : Option TypeTerm) (start : Option Initializer) (v : Value) (s : State)
       (pc : ℕ) (i : Instance) → params ≤ length h.scope.names → IsOf (var_type h.tree h.scope t start) v →
-      IsInside x s.store (var_type h.tree h.scope t start) v → Agrees x params slots aside h s i → Stands x.body pc (op (instr.Store (slot (where_of params h) (new_place (where_of params h)))) h.line) →
+      IsInside x s.store (var_type h.tree h.scope t start) v → IsPointed h.scope.names s.names (var_type h.tree h.scope t start) v →
+      Agrees x params slots aside h s i → Stands x.body pc (op (instr.Store (slot (where_of params h) (new_place (where_of params h)))) h.line) →
       Does x params slots aside (valued pc [] v i) (suc pc) (after_statement h (var_form n t start)) (bind v s)
-  binds aside h n t start v s pc i low ty inside g f =
+  binds aside h n t start v s pc i low ty inside pointed g f =
       let w = where_of params h in
       let k = slot w (new_place w) in
       let u = var_type h.tree h.scope t start in
@@ -70,18 +72,21 @@ module _ (x : Setting) (params slots : ℕ) (fit : SlotsFit x slots) (counts : C
         stored k (machine_value i.contents v) i,
         stores x params slots fit k pc h.line (machine_value i.contents v) [] i g.slots_are f,
         same_scope x params slots aside (record h { scope = with_name h.scope n u false }) _ _ _ (refl, refl)
-            (bound_more x params slots fit aside h s i n u false v low room ty inside g),
+            (bound_more x params slots fit aside h s i n u false v low room ty inside pointed g),
       )
 
   -- 0 or false
-  pub zero_runs : (aside : Aside) (h : Here) (t : StaticType) (s : State) (pc : ℕ) (i : Instance) → IsScalar t →
+  pub zero_runs : (aside : Aside) (h : Here) (t : StaticType) (s : State) (pc : ℕ) (i : Instance) → HasZero t →
       Agrees x params slots aside h s i → Stands x.body pc (op (instr.Num (zero_kept t)) h.line) →
       Gives x params slots fit aside h t (op (instr.Num (zero_kept t)) h.line) pc [] [] i (gives (zero_of h.scope s.names t) s)
-  zero_runs aside h _ s pc i (scalar_integer w) g f =
+  zero_runs aside h _ s pc i (zero_scalar _ (scalar_integer w)) g f =
       pushes x params slots fit aside h (integer_type w) (a_number w (pos 0)) s pc [] [] i (instr.Num (pos 0)) h.line f
       (of_integer w (pos 0) (zero_fits w)) g refl
-  zero_runs aside h _ s pc i scalar_truth g f =
+  zero_runs aside h _ s pc i (zero_scalar _ scalar_truth) g f =
       pushes x params slots fit aside h truth_type (a_truth false) s pc [] [] i (instr.Num (pos 0)) h.line f (of_truth false) g refl
+  zero_runs aside h _ s pc i (zero_index k) g f =
+      pushes x params slots fit aside h (index_type k) (an_index (pos 0)) s pc [] [] i (instr.Num (pos 0)) h.line f
+      (of_index k (pos 0) (zero_fits W64)) g refl
 
   -- a value that may be a region
   abbrev pub GoodInside : Aside → Here → StaticType → Value → State → Instance → Type 0
@@ -104,7 +109,7 @@ module _ (x : Setting) (params slots : ℕ) (fit : SlotsFit x slots) (counts : C
   -- the value is put aside, and the fields are filled with it
   pub fill_runs : (aside : Aside) (h : Here) (r : Name) (fs : List Name) (from : StaticType) (v : Value) (s : State) (pc : ℕ) (i : Instance) →
       params ≤ length h.scope.names → is_bound h.scope.names r ≡ true → IsRegion (bound_to h.scope.names r).static_type →
-      AreFilled (where_of params h) r from fs → MayFill x.forms (where_of params h) r fs → IsOf from v → Agrees x params slots aside h s i →
+      AreFilled x.forms.keeps (where_of params h) r from fs → MayFill x.forms (where_of params h) r fs → IsOf from v → Agrees x params slots aside h s i →
       Stands x.body pc (op (instr.Store (spare (where_of params h) 0)) h.line) →
       Stands x.body (suc pc) (fill_code (where_of params h) from (bound_to h.scope.names r).static_type (slot_named (where_of params h) r) fs) →
       Does x params slots aside (valued pc [] v i)

@@ -10,7 +10,7 @@ use Rattle.lane_kernels.specs.declared.numbers.Op.{Op}
 use Rattle.lane_kernels.specs.declared.numbers.Width.{Width}
 use Rattle.lane_kernels.proofs.Operators.{closed}
 use Rattle.lane_kernels.specs.Numbers.{FitsWidth, applied, std_width, width_of, wrapped}
-use Rattle.regent_tree.specs.declared.outcome.FaultKind.TheVariants.{OutOfRegion}
+use Rattle.regent_tree.specs.declared.outcome.FaultKind.TheVariants.{NullPointer, OutOfRegion}
 use Rattle.regent_tree.specs.declared.statement.How.TheVariants as how
 use Rattle.regent_tree.specs.declared.typing.StaticType.{StaticType}
 use Rattle.regent_tree.specs.declared.typing.StaticType.TheVariants.{Integer as integer_type, Region as region_type}
@@ -23,7 +23,7 @@ use Rattle.regent_tree.specs.StaticTypes.{field_kind, field_place, space_at}
 use Rattle.regent_tree.specs.Store.{read_at, write_at}
 use Rattle.regent_tree.specs.Syntax.{Name, Expression, at_step, no_step}
 use Rattle.regent_tree.specs.Typing.{type_of_element}
-use Rattle.regent_tree.specs.Values.{Region, Value, a_number, a_pointer, a_region, a_truth, kept_number, kept_target, meant, number_of, point_target}
+use Rattle.regent_tree.specs.Values.{Region, Value, a_number, a_pointer, a_region, a_truth, an_index, kept_number, kept_target, meant, null_target, number_of, point_target, target_kept}
 use Rattle.regent_tree.proofs.Roots.{shapes_written}
 use Rattle.task_code.specs.declared.instr.Instr.TheVariants as instr
 use Rattle.machine_terms.specs.declared.order.Contents.{Contents}
@@ -34,7 +34,7 @@ use Rattle.machine_terms.specs.declared.value.Value.{Value as MachineValue}
 use Rattle.machine_terms.specs.declared.value.Value.TheVariants as machine
 use Rattle.machine_terms.specs.Machine.{faults, next, when}
 use Rattle.machine_terms.specs.Makes.{region_with}
-use Rattle.machine_terms.specs.Pointers.{element, region_in}
+use Rattle.machine_terms.specs.Pointers.{aim_through, aims, element, point, region_in}
 use Rattle.machine_terms.specs.Segments.{act}
 use Rattle.code_rules.specs.Assignments.{put_code, slot_behind}
 use Rattle.code_rules.specs.Expressions.{expr_code, steps_code}
@@ -44,10 +44,11 @@ use Rattle.code_rules.specs.Slots.{own_slot, slot, slots_of, typed}
 use Rattle.memory_laws.specs.Memory.{Holds, IsKept, memory_of}
 use Rattle.memory_laws.specs.Places.{number_at}
 use Rattle.code_laws.specs.Steps.{Setting, machine_of, placed, on_step, Leads}
-use Rattle.code_laws.specs.Standing.{Agrees, Aside, Comes, IsInside, IsOf, SlotsFit, Stands, machine_value, nothing, of_index, of_integer, of_region, of_truth, where_of}
+use Rattle.code_laws.specs.Standing.{Agrees, Aside, Comes, IsInside, IsOf, SlotsFit, Stands, machine_value, nothing, of_index, of_integer, of_pointer, of_region, of_truth, where_of}
 use Rattle.code_laws.specs.Taking.{MayDo}
-use Rattle.code_laws.specs.Simple.{term_in, AreAlike, FieldFits, IsInteger, IsNumber, IsRegion, an_integer, number_index, number_integer, a_region_type, fits_32, fits_64, fits_truth, two_integers, two_truths}
-use Rattle.code_laws.proofs.Accesses.{HasRegion, aims_first, region_there}
+use Rattle.code_laws.specs.Pointers.{FieldKeeps, Fills, IsCounting, counts_number, counts_pointer, fills_alike, fills_index, keeps_index, keeps_plain}
+use Rattle.code_laws.specs.Simple.{term_in, IsInteger, IsRegion, an_integer, number_index, number_integer, a_region_type, fits_32, fits_64, fits_truth, two_integers, two_truths}
+use Rattle.code_laws.proofs.Accesses.{HasRegion, aims_first, index_fits, kept_round, region_there}
 use Rattle.code_laws.proofs.Good.{valued, Gives}
 use Rattle.code_laws.proofs.Reaching.{Reached, reached, rewritten}
 use Rattle.code_laws.proofs.Runs.{Said, comes_said, ends_by, leads_by, leads_none}
@@ -55,17 +56,19 @@ use Rattle.code_laws.proofs.Touching.{parted, sets}
 
 -- ---- values that fields keep
 
-pub field_kept : (kind : FieldKind) (t : StaticType) (v : Value) → FieldFits kind t → IsOf t v → IsKept kind (kept_number v)
-field_kept _ _ _ fits_32 (of_integer _ z f) = (f, refl)
-field_kept _ _ _ fits_64 (of_integer _ z f) = (f, refl)
-field_kept _ _ _ fits_truth (of_truth true) = (omega (arith, ints), refl)
-field_kept _ _ _ fits_truth (of_truth false) = (omega (arith, ints), refl)
+pub field_kept : (kind : FieldKind) (t : StaticType) (v : Value) → FieldKeeps kind t → IsOf t v → IsKept kind (kept_number v)
+field_kept _ _ _ (keeps_plain _ _ fits_32) (of_integer _ z f) = (f, refl)
+field_kept _ _ _ (keeps_plain _ _ fits_64) (of_integer _ z f) = (f, refl)
+field_kept _ _ _ (keeps_plain _ _ fits_truth) (of_truth true) = (omega (arith, ints), refl)
+field_kept _ _ _ (keeps_plain _ _ fits_truth) (of_truth false) = (omega (arith, ints), refl)
+field_kept _ _ _ (keeps_index j) (of_index _ z f) = (f, refl)
 
-pub field_value : (c : Contents) (kind : FieldKind) (t : StaticType) (v : Value) → FieldFits kind t → IsOf t v →
+pub field_value : (c : Contents) (kind : FieldKind) (t : StaticType) (v : Value) → FieldKeeps kind t → IsOf t v →
     machine_value c v ≡ machine.Number (kept_number v)
-field_value c _ _ _ fits_32 (of_integer _ z f) = refl
-field_value c _ _ _ fits_64 (of_integer _ z f) = refl
-field_value c _ _ _ fits_truth (of_truth b) = refl
+field_value c _ _ _ (keeps_plain _ _ fits_32) (of_integer _ z f) = refl
+field_value c _ _ _ (keeps_plain _ _ fits_64) (of_integer _ z f) = refl
+field_value c _ _ _ (keeps_plain _ _ fits_truth) (of_truth b) = refl
+field_value c _ _ _ (keeps_index j) (of_index _ z f) = refl
 
 no_read : mode.Write ≢ mode.Read
 no_read e = absurd cc
@@ -82,29 +85,27 @@ module _ (x : Setting) (params slots : ℕ) (fit : SlotsFit x slots) (aside : As
   abbrev pub Written : ℕ → Here → List MachineValue → Instance → Result Going → Type 0
   Written pc h st i r = Comes x i (λ g j. placed (suc pc) st j) (GoesOn h) r
 
-  pub field_writes : (h : Here) (t : StaticType) (f : Name) (place n sl : ℕ) (q : Region) (out : StaticType) (v : Value)
+  pub field_writes : (h : Here) (t : StaticType) (f : Name) (place n : ℕ) (z : ℤ) (rs : List ℕ) (q : Region) (out : StaticType) (v : Value)
       (s : State) (pc : ℕ) (st : List MachineValue) (i : Instance) →
-      FieldFits (field_kind h.tree (space_in t) (field_place h.tree (space_in t) f)) out → IsOf out v →
-      HasRegion i sl q → has q.points n ≡ true → place ≡ field_place h.tree (space_in t) f →
+      FieldKeeps (field_kind h.tree (space_in t) (field_place h.tree (space_in t) f)) out → IsOf out v →
+      aim_through i.frame.slots rs (target_kept z) ≡ aims (number_at i.contents q.root) n →
+      has q.points n ≡ true → place ≡ field_place h.tree (space_in t) f →
       Reached x h.tree i s.store q (space_in t) (field_place h.tree (space_in t) f) n mode.Write →
       Agrees x params slots aside h s i →
-      Stands x.body pc (op (instr.Write (sl ∷ []) place (width_of (field_kind h.tree (space_in t) place))) h.line) →
-      Written pc h st (placed pc (machine.Number (kept_target (point_target n 1)) ∷ machine.Number (kept_number v) ∷ st) i)
+      Stands x.body pc (op (instr.Write rs place (width_of (field_kind h.tree (space_in t) place))) h.line) →
+      Written pc h st (placed pc (machine.Number z ∷ machine.Number (kept_number v) ∷ st) i)
       (write_field h t f how.Set v (aimed_in (has q.points n) q n) s)
-  field_writes h t f place n sl q out v s pc st i fits o there e same r g stands =
+  field_writes h t f place n z rs q out v s pc st i fits o to e same r g stands =
       let p = field_place h.tree (space_in t) f in
       let kind = field_kind h.tree (space_in t) p in
       let w = width_of kind in
-      let z = kept_target (point_target n 1) in
       let c = field_kept kind out v fits o in
       let stays : wrapped w (kept_number v) ≡ kept_number v = int_wrap_fits (std_width w) (kept_number v) c.0 in
-      let d = sets x mode.Write no_read i pc h.line q.root p n z (kept_number v) st (sl ∷ []) w
-      (instr.Write (sl ∷ []) p w) s.store (λ m. refl) (ap width_of (sym r.kind_is))
+      let d = sets x mode.Write no_read i pc h.line q.root p n z (kept_number v) st rs w
+      (instr.Write rs p w) s.store (λ m. refl) (ap width_of (sym r.kind_is))
       (subst (λ k. IsKept k (wrapped w (kept_number v))) (sym r.kind_is) (subst (IsKept kind) (sym stays) c))
       g.memory r.covers
-      (subst (λ k. Stands x.body pc (op (instr.Write (sl ∷ []) k (width_of (field_kind h.tree (space_in t) k))) h.line)) same stands)
-      (aims_first (machine_of (placed pc (machine.Number z ∷ machine.Number (kept_number v) ∷ st) i)) sl n (region_with (number_at i.contents q.root) q.points) r.small
-      (ap region_in there) e) in
+      (subst (λ k. Stands x.body pc (op (instr.Write rs k (width_of (field_kind h.tree (space_in t) k))) h.line)) same stands) to in
       subst (λ b. Written pc h st (placed pc (machine.Number z ∷ machine.Number (kept_number v) ∷ st) i)
       (write_field h t f how.Set v (aimed_in b q n) s)) (sym e) (
         parted d.0 i,
@@ -118,28 +119,26 @@ module _ (x : Setting) (params slots : ℕ) (fit : SlotsFit x slots) (aside : As
       )
 
   -- a reduction, on a field of integers
-  pub field_folds : (o : Op) (h : Here) (t : StaticType) (f : Name) (place n sl : ℕ) (q : Region) (wd we : Width) (y : ℤ)
+  pub field_folds : (o : Op) (h : Here) (t : StaticType) (f : Name) (place n : ℕ) (z : ℤ) (rs : List ℕ) (q : Region) (wd we : Width) (y : ℤ)
       (s : State) (pc : ℕ) (st : List MachineValue) (i : Instance) →
-      FieldFits (field_kind h.tree (space_in t) (field_place h.tree (space_in t) f)) (integer_type wd) →
-      HasRegion i sl q → has q.points n ≡ true → place ≡ field_place h.tree (space_in t) f →
+      FieldKeeps (field_kind h.tree (space_in t) (field_place h.tree (space_in t) f)) (integer_type wd) →
+      aim_through i.frame.slots rs (target_kept z) ≡ aims (number_at i.contents q.root) n →
+      has q.points n ≡ true → place ≡ field_place h.tree (space_in t) f →
       Reached x h.tree i s.store q (space_in t) (field_place h.tree (space_in t) f) n (mode.Reduce o) →
       Agrees x params slots aside h s i →
-      Stands x.body pc (op (instr.Reduce (sl ∷ []) place o (width_of (field_kind h.tree (space_in t) place))) h.line) →
-      Written pc h st (placed pc (machine.Number (kept_target (point_target n 1)) ∷ machine.Number y ∷ st) i)
+      Stands x.body pc (op (instr.Reduce rs place o (width_of (field_kind h.tree (space_in t) place))) h.line) →
+      Written pc h st (placed pc (machine.Number z ∷ machine.Number y ∷ st) i)
       (write_field h t f (how.Reduce o) (a_number we y) (aimed_in (has q.points n) q n) s)
-  field_folds o h t f place n sl q wd we y s pc st i fits there e same r g stands =
+  field_folds o h t f place n z rs q wd we y s pc st i fits to e same r g stands =
       let p = field_place h.tree (space_in t) f in
       let kind = field_kind h.tree (space_in t) p in
       let w = width_of kind in
-      let z = kept_target (point_target n 1) in
       let new = applied o w (read_at s.store q.root p n) (wrapped w y) in
-      let d = sets x (mode.Reduce o) (no_fold o) i pc h.line q.root p n z y st (sl ∷ []) w
-      (instr.Reduce (sl ∷ []) p o w) s.store (λ m. refl) (ap width_of (sym r.kind_is))
+      let d = sets x (mode.Reduce o) (no_fold o) i pc h.line q.root p n z y st rs w
+      (instr.Reduce rs p o w) s.store (λ m. refl) (ap width_of (sym r.kind_is))
       (subst (λ k. IsKept k new) (sym r.kind_is) (integer_kept kind wd new fits (closed o w _ _)))
       g.memory r.covers
-      (subst (λ k. Stands x.body pc (op (instr.Reduce (sl ∷ []) k o (width_of (field_kind h.tree (space_in t) k))) h.line)) same stands)
-      (aims_first (machine_of (placed pc (machine.Number z ∷ machine.Number y ∷ st) i)) sl n (region_with (number_at i.contents q.root) q.points) r.small
-      (ap region_in there) e) in
+      (subst (λ k. Stands x.body pc (op (instr.Reduce rs k o (width_of (field_kind h.tree (space_in t) k))) h.line)) same stands) to in
       subst (λ b. Written pc h st (placed pc (machine.Number z ∷ machine.Number y ∷ st) i)
       (write_field h t f (how.Reduce o) (a_number we y) (aimed_in b q n) s)) (sym e) (
         parted d.0 i,
@@ -153,14 +152,14 @@ module _ (x : Setting) (params slots : ℕ) (fit : SlotsFit x slots) (aside : As
         ),
       )
     where
-      integer_kept : (kind : FieldKind) (wd : Width) (z : ℤ) → FieldFits kind (integer_type wd) → FitsWidth (width_of kind) z → IsKept kind z
-      integer_kept _ _ z fits_32 f = (f, refl)
-      integer_kept _ _ z fits_64 f = (f, refl)
+      integer_kept : (kind : FieldKind) (wd : Width) (z : ℤ) → FieldKeeps kind (integer_type wd) → FitsWidth (width_of kind) z → IsKept kind z
+      integer_kept _ _ z (keeps_plain _ _ fits_32) f = (f, refl)
+      integer_kept _ _ z (keeps_plain _ _ fits_64) f = (f, refl)
 
-      folded : (kind : FieldKind) (wd : Width) (old : ℤ) → FieldFits kind (integer_type wd) →
+      folded : (kind : FieldKind) (wd : Width) (old : ℤ) → FieldKeeps kind (integer_type wd) →
           applied o (width_of kind) old (wrapped (width_of kind) y) ≡ kept_number (updated (how.Reduce o) (meant kind [] old) (a_number we y))
-      folded _ _ old fits_32 = refl
-      folded _ _ old fits_64 = refl
+      folded _ _ old (keeps_plain _ _ fits_32) = refl
+      folded _ _ old (keeps_plain _ _ fits_64) = refl
 
   -- what is to be shown where the index was evaluated
   abbrev PointsAt : {B : Type 0} → (Instance → Result B → Type 0) → (Value → Run B) → Here → ℕ → ℕ → Expression → Region → List MachineValue →
@@ -184,7 +183,7 @@ module _ (x : Setting) (params slots : ℕ) (fit : SlotsFit x slots) (aside : As
       (sl : ℕ) (e : Expression) (q : Region) (s : State) (pc : ℕ) (st : List MachineValue) (i : Instance) (K : Value → Run B) →
       IsRegion t →
       Gives x params slots fit aside h (typed (where_of params h) e) (expr_code (where_of params h) d e) pc st st i (value h e s) →
-      IsNumber (typed (where_of params h) e) → Leaves SameNames s (value h e s) →
+      IsCounting (typed (where_of params h) e) → Leaves SameNames s (value h e s) →
       ((s1 : State) (j : Instance) → s1.names ≡ s.names → Agrees x params slots aside h s1 j → HasRegion j sl q) →
       Stands x.body pc (steps_code (where_of params h) d t sl (at_step e no_step)) →
       ((n : ℕ) (s1 : State) (j : Instance) → s1.names ≡ s.names → has q.points n ≡ true → Agrees x params slots aside h s1 j →
@@ -224,11 +223,21 @@ module _ (x : Setting) (params slots : ℕ) (fit : SlotsFit x slots) (aside : As
               (leads_by x _ (placed (suc a) (machine.Number (kept_target (point_target n 1)) ∷ st) j) (instr.At sl) h.line stands.1.0 (at_acts true c))
               (go n c)
 
-      by_index : (t : StaticType) → IsRegion t → (ty : StaticType) → IsNumber ty → (u : Value) → IsOf ty u →
+      by_index : (t : StaticType) → IsRegion t → (ty : StaticType) → IsCounting ty → (u : Value) → IsOf ty u →
           (s1 : State) (j : Instance) → PointsAt T K h d sl e q st t ty u s1 j
-      by_index t region _ (number_index k) _ (of_index _ z p) s1 j there g a stands go =
+      by_index t region _ (counts_number _ (number_index k)) _ (of_index _ z p) s1 j there g a stands go =
           by_integer t region _ (an_integer W64) (a_number W64 z) (of_integer W64 z p) s1 j there g a stands go
-      by_index t region _ (number_integer w) u o s1 j there g a stands go = by_integer t region _ (an_integer w) u o s1 j there g a stands go
+      by_index t region _ (counts_number _ (number_integer w)) u o s1 j there g a stands go = by_integer t region _ (an_integer w) u o s1 j there g a stands go
+      by_index t region _ (counts_pointer k sp args rs) _ (of_pointer _ _ _ _ null_target _ o) s1 j there g a stands go =
+          said.failing _ _ s1 (ends_by x _ _ instr.Point h.line stands.0
+          (ap (λ t. IsOver (Broke (Some (record { kind = NullPointer; line = h.line })) t)) g.text))
+      by_index t region _ (counts_pointer k sp args rs) _ (of_pointer _ _ _ _ (point_target n m) _ o) s1 j there g a stands go =
+          said.before _ _ _
+          (leads_by x _ (placed (suc a) (machine.Number (pos n) ∷ st) j) instr.Point h.line stands.0
+          (ap (λ t. on_step x (placed a (machine.Number (kept_target (point_target n m)) ∷ st) j)
+          (point t h.line st (machine_of (placed a (machine.Number (kept_target (point_target n m)) ∷ st) j)))) (kept_round n m o.0)))
+          (by_integer t region _ (an_integer W64) (a_number W64 (pos n)) (of_integer W64 (pos n) (omega (arith, ints, o.0)))
+          s1 j there g (suc a) (tt, stands.1) go)
 
       by_value : (r : Result Value) →
           Gives x params slots fit aside h (typed (where_of params h) e) (expr_code (where_of params h) d e) pc st st i r →
@@ -248,10 +257,10 @@ module _ (x : Setting) (params slots : ℕ) (fit : SlotsFit x slots) (aside : As
       ((pc : ℕ) → Stands x.body pc (expr_code (where_of params h) 0 e) →
       Gives x params slots fit aside h (typed (where_of params h) e) (expr_code (where_of params h) 0 e) pc
       (machine.Number (kept_number v) ∷ []) (machine.Number (kept_number v) ∷ []) i (value h e s)) →
-      IsNumber (typed (where_of params h) e) → Leaves SameNames s (value h e s) →
+      IsCounting (typed (where_of params h) e) → Leaves SameNames s (value h e s) →
       slots_of (where_of params h) (slot (where_of params h) p) (type_of_element h.scope t e) ≡ slot (where_of params h) p ∷ [] →
       field_place h.tree (space_in t) f < length (space_at h.tree (space_in t)).fields →
-      FieldFits (field_kind h.tree (space_in t) (field_place h.tree (space_in t) f)) out → IsOf out v →
+      FieldKeeps (field_kind h.tree (space_in t) (field_place h.tree (space_in t) f)) out → IsOf out v →
       ((s1 : State) (j : Instance) → Agrees x params slots aside h s1 j → IsInside x s1.store t (get_or s1.names p nothing)) →
       MayDo x.forms.takes (term_in t) (field_place h.tree (space_in t) f) mode.Write →
       Stands x.body pc ((load_code (where_of params h) t (slot (where_of params h) p) (at_step e no_step)
@@ -277,9 +286,11 @@ module _ (x : Setting) (params slots : ℕ) (fit : SlotsFit x slots) (aside : As
       (subst (λ ns. p < length ns) (sym names) low) room g in
       element_points _ (comes_said x _ (GoesOn h)) h 0 _ sl e q s pc (machine.Number (kept_number v) ∷ []) i _ (a_region_type k sp args r)
       (runs pc stands.0.1.0) index same there stands.0.1
-      (λ n s1 j names b g. field_writes h pt f place n sl q out v s1 a [] j fits o (there s1 j names g) b refl
-      (reached x params slots aside h s1 j q (region_type k sp args r) (a_region_type k sp args r) place n (mode.Write) g
-      (subst (IsInside x s1.store (region_type k sp args r)) (ap (λ ns. get_or ns p nothing) names ∙ is) (lies s1 j g)) may field b) g
+      (λ n s1 j names b g.
+      let lie = subst (IsInside x s1.store (region_type k sp args r)) (ap (λ ns. get_or ns p nothing) names ∙ is) (lies s1 j g) in
+      field_writes h pt f place n (kept_target (point_target n 1)) (sl ∷ []) q out v s1 a [] j fits o
+      (aims_first (machine_of j) sl n (region_with (number_at j.contents q.root) q.points) (lie.0.small n b) (ap region_in (there s1 j names g)) b)
+      b refl (reached x params slots aside h s1 j q (region_type k sp args r) (a_region_type k sp args r) place n (mode.Write) g lie may field b) g
       (subst (λ rs. Stands x.body a (op (instr.Write rs place (width_of (field_kind h.tree sp place))) h.line)) single stands.1))
 
   -- `r[e].f o= y`
@@ -289,10 +300,10 @@ module _ (x : Setting) (params slots : ℕ) (fit : SlotsFit x slots) (aside : As
       ((pc : ℕ) → Stands x.body pc (expr_code (where_of params h) 0 e) →
       Gives x params slots fit aside h (typed (where_of params h) e) (expr_code (where_of params h) 0 e) pc
       (machine.Number y ∷ []) (machine.Number y ∷ []) i (value h e s)) →
-      IsNumber (typed (where_of params h) e) → Leaves SameNames s (value h e s) →
+      IsCounting (typed (where_of params h) e) → Leaves SameNames s (value h e s) →
       slots_of (where_of params h) (slot (where_of params h) p) (type_of_element h.scope t e) ≡ slot (where_of params h) p ∷ [] →
       field_place h.tree (space_in t) f < length (space_at h.tree (space_in t)).fields →
-      FieldFits (field_kind h.tree (space_in t) (field_place h.tree (space_in t) f)) (integer_type wd) →
+      FieldKeeps (field_kind h.tree (space_in t) (field_place h.tree (space_in t) f)) (integer_type wd) →
       ((s1 : State) (j : Instance) → Agrees x params slots aside h s1 j → IsInside x s1.store t (get_or s1.names p nothing)) →
       MayDo x.forms.takes (term_in t) (field_place h.tree (space_in t) f) (mode.Reduce o) →
       Stands x.body pc ((load_code (where_of params h) t (slot (where_of params h) p) (at_step e no_step)
@@ -318,9 +329,11 @@ module _ (x : Setting) (params slots : ℕ) (fit : SlotsFit x slots) (aside : As
       (subst (λ ns. p < length ns) (sym names) low) room g in
       element_points _ (comes_said x _ (GoesOn h)) h 0 _ sl e q s pc (machine.Number y ∷ []) i _ (a_region_type k sp args r)
       (runs pc stands.0.1.0) index same there stands.0.1
-      (λ n s1 j names b g. field_folds o h pt f place n sl q wd we y s1 a [] j fits (there s1 j names g) b refl
-      (reached x params slots aside h s1 j q (region_type k sp args r) (a_region_type k sp args r) place n (mode.Reduce o) g
-      (subst (IsInside x s1.store (region_type k sp args r)) (ap (λ ns. get_or ns p nothing) names ∙ is) (lies s1 j g)) may field b) g
+      (λ n s1 j names b g.
+      let lie = subst (IsInside x s1.store (region_type k sp args r)) (ap (λ ns. get_or ns p nothing) names ∙ is) (lies s1 j g) in
+      field_folds o h pt f place n (kept_target (point_target n 1)) (sl ∷ []) q wd we y s1 a [] j fits
+      (aims_first (machine_of j) sl n (region_with (number_at j.contents q.root) q.points) (lie.0.small n b) (ap region_in (there s1 j names g)) b)
+      b refl (reached x params slots aside h s1 j q (region_type k sp args r) (a_region_type k sp args r) place n (mode.Reduce o) g lie may field b) g
       (subst (λ rs. Stands x.body a (op (instr.Reduce rs place o (width_of (field_kind h.tree sp place))) h.line)) single stands.1))
 
   -- ---- conversions
@@ -333,17 +346,29 @@ module _ (x : Setting) (params slots : ℕ) (fit : SlotsFit x slots) (aside : As
     pub typed : IsOf t value
 
   pub converted_at : (h : Here) (from t : StaticType) (v : Value) (s : State) (pc : ℕ) (st : List MachineValue) (i : Instance) →
-      AreAlike from t → IsOf from v → Stands x.body pc (converted_code (where_of params h) from t) →
+      Fills from t → IsOf from v → Stands x.body pc (converted_code (where_of params h) from t) →
       ConvertedAt h from t v s pc st i
-  converted_at h _ _ _ s pc st i (two_integers a b) (of_integer _ z _) f = record {
+  converted_at h _ _ _ s pc st i (fills_alike _ _ (two_integers a b)) (of_integer _ z _) f = record {
     value = a_number b (wrapped b z);
     gives_it = refl;
     leads = leads_by x _ _ (instr.Wrap b) h.line f refl;
     typed = of_integer b _ (SFits-int_wrap (std_width b) z);
   }
-  converted_at h _ _ _ s pc st i two_truths (of_truth b) f = record {
+  converted_at h _ _ _ s pc st i (fills_alike _ _ two_truths) (of_truth b) f = record {
     value = a_truth b;
     gives_it = refl;
     leads = leads_none x _;
     typed = of_truth b;
+  }
+  converted_at h _ _ _ s pc st i (fills_index _ j (number_integer w)) (of_integer _ z p) f = record {
+    value = an_index z;
+    gives_it = refl;
+    leads = leads_none x _;
+    typed = of_index j z (index_fits w z p);
+  }
+  converted_at h _ _ _ s pc st i (fills_index _ j (number_index k)) (of_index _ z p) f = record {
+    value = an_index z;
+    gives_it = refl;
+    leads = leads_none x _;
+    typed = of_index j z p;
   }

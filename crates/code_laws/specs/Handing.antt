@@ -15,21 +15,24 @@ abbrev pub takes_by : Bool → Tree → TaskTree → Option Taking
 takes_by false tree t = None
 takes_by true tree t = Some (record { params = length t.params; needs = (task_code tree t).needs })
 
-abbrev pub forms_by : Bool → Tree → TaskTree → Forms
-forms_by handing tree t = record { makes = true; calls = true; takes = takes_by handing tree t }
+-- also whether pointers are kept
+abbrev pub forms_by : Bool → Bool → Tree → TaskTree → Forms
+forms_by handing keeping tree t = record { makes = true; calls = true; takes = takes_by handing tree t; keeps = keeping }
 
 -- a task gives a number or truth, or nothing, is typed and not too long
-pub record IsTypedBy (handing : Bool) (tree : Tree) (t : TaskTree) : Type 0 where
+pub record IsTypedBy (handing keeping : Bool) (tree : Tree) (t : TaskTree) : Type 0 where
   pub given : IsGiven (result_type tree t.result)
-  pub typed : IsTypedBlock (forms_by handing tree t) (place_of tree t) t.body
+  pub typed : IsTypedBlock (forms_by handing keeping tree t) (place_of tree t) t.body
   pub small : length (lines (body_piece tree t) 0) ≤ 2 ^ 32
 
-abbrev pub AreTypedBy : Bool → Tree → Type 0
-AreTypedBy handing tree = (k : ℕ) (t : TaskTree) → slice_get (tasks_of tree) k ≡ Some t → IsTypedBy handing tree t
+abbrev pub AreTypedBy : Bool → Bool → Tree → Type 0
+AreTypedBy handing keeping tree =
+    (k : ℕ) (t : TaskTree) → slice_get (tasks_of tree) k ≡ Some t → IsTypedBy handing keeping tree t
 
 -- The run in order is what the program means where tasks call others that also take regions, which have names: roots
 -- that the caller made, and regions that it took itself. What the called task declares to need, the caller made or
--- declares too; and each access to a region that was taken is declared.
+-- declares too; and each access to a region that was taken is declared. The tasks may keep pointers or not.
 abbrev pub RegionsAreHandedAsMeant : Type 0
-RegionsAreHandedAsMeant = (tree : Tree) (inputs : List ℤ) (turns : ℕ) → turns < 2 ^ 64 → AreTypedBy true tree →
-    IsTypedRun (forms_by true tree (task_named tree (entry_name tree))) tree inputs → RunsAsMeant tree inputs turns
+RegionsAreHandedAsMeant = (keeping : Bool) (tree : Tree) (inputs : List ℤ) (turns : ℕ) → turns < 2 ^ 64 →
+    AreTypedBy true keeping tree →
+    IsTypedRun (forms_by true keeping tree (task_named tree (entry_name tree))) tree inputs → RunsAsMeant tree inputs turns

@@ -1,5 +1,5 @@
 -- A program whose main task hands a region over to a task that writes in it, and hands it on.
-use Rattle.std.specs.Prelude.{◌≡◌, [], ◌∷◌, pos, true}
+use Rattle.std.specs.Prelude.{◌≡◌, [], ◌∷◌, pos, false, true}
 use Rattle.lane_kernels.specs.declared.numbers.Op.TheVariants.{Sum}
 use Rattle.regent_tree.specs.Meaning.{meaning}
 use Rattle.regent_tree.specs.StaticTypes.{entry_name, task_named}
@@ -56,8 +56,8 @@ handing_program =
 -- called by a called task faults; and with two turns the third call is a fault.
 pub record HandingExampleHolds : Type 0 where
   pub accepted : breaches handing_program ≡ []
-  pub tasks : AreTypedBy true handing_program
-  pub run : IsTypedRun (forms_by true handing_program (task_named handing_program (entry_name handing_program))) handing_program (pos 2 ∷ [])
+  pub tasks : AreTypedBy true false handing_program
+  pub run : IsTypedRun (forms_by true false handing_program (task_named handing_program (entry_name handing_program))) handing_program (pos 2 ∷ [])
   pub end_is : meaning handing_program (pos 2 ∷ []) 5 ≡ prints "20\n" (root 0 2 (naturals (10 ∷ 20 ∷ []) ∷ []) ∷ [])
   pub fault_is : meaning handing_program (pos 1 ∷ []) 5 ≡ faults "" OutOfRegion 4
   pub turns_are : meaning handing_program (pos 2 ∷ []) 2 ≡ faults "" Turns 14

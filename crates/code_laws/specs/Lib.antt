@@ -1,6 +1,7 @@
 pub mod Steps
 pub mod Simple
 pub mod Taking
+pub mod Pointers
 pub mod Standing
 pub mod Typed
 pub mod Programs
@@ -11,5 +12,6 @@ pub mod LocalPrograms
 pub mod LocalExample
 pub mod Example
 pub mod RegionExample
+pub mod PointerExample
 pub mod CallExample
 pub mod HandingExample

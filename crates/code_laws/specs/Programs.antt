@@ -26,13 +26,17 @@ job_of tree inputs turns = record { code = code_of tree; inputs = inputs; turns 
 
 -- numbers and truths alone; roots too; and calls too
 abbrev pub scalar_forms : Forms
-scalar_forms = record { makes = false; calls = false; takes = None }
+scalar_forms = record { makes = false; calls = false; takes = None; keeps = false }
 
 abbrev pub region_forms : Forms
-region_forms = record { makes = true; calls = false; takes = None }
+region_forms = record { makes = true; calls = false; takes = None; keeps = false }
 
 abbrev pub call_forms : Forms
-call_forms = record { makes = true; calls = true; takes = None }
+call_forms = record { makes = true; calls = true; takes = None; keeps = false }
+
+-- roots and kept pointers
+abbrev pub pointer_forms : Forms
+pointer_forms = record { makes = true; calls = false; takes = None; keeps = true }
 
 -- a task at a depth, where so many more calls may nest, and these roots are there
 abbrev pub task_setting : Forms → Tree → ℕ → ℕ → ℕ → List ℕ → TaskTree → Setting
@@ -79,6 +83,11 @@ ScalarsRunAsMeant = (tree : Tree) (inputs : List ℤ) (turns : ℕ) → IsTypedR
 -- have names.
 abbrev pub RegionsRunAsMeant : Type 0
 RegionsRunAsMeant = (tree : Tree) (inputs : List ℤ) (turns : ℕ) → IsTypedRun region_forms tree inputs → RunsAsMeant tree inputs turns
+
+-- Also where it loops over regions and keeps pointers and indices, through which fields are read, written and
+-- reduced.
+abbrev pub PointersRunAsMeant : Type 0
+PointersRunAsMeant = (tree : Tree) (inputs : List ℤ) (turns : ℕ) → IsTypedRun pointer_forms tree inputs → RunsAsMeant tree inputs turns
 
 -- a result of numbers or truths, or none
 pub data IsGiven : StaticType → Type 0 where

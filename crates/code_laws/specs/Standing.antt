@@ -31,6 +31,7 @@ use Rattle.machine_terms.specs.Copies.{give_parts}
 use Rattle.machine_terms.specs.Jumps.{fetch}
 use Rattle.machine_terms.specs.Makes.{region_with}
 use Rattle.machine_terms.specs.Orders.{begun, result_of}
+use Rattle.code_laws.specs.Pointers.{ArePointed, IsTarget}
 use Rattle.code_laws.specs.Simple.{IsScalar}
 use Rattle.code_rules.specs.Instructions.{place_of_task, tasks_of}
 use Rattle.machine_terms.specs.Opening.{opening, requirements_on}
@@ -98,7 +99,7 @@ pub data IsOf : StaticType → Value → Type 0 where
   of_integer : (w : Width) (z : ℤ) → FitsWidth w z → IsOf (integer_type w) (a_number w z)
   of_truth : (b : Bool) → IsOf truth_type (a_truth b)
   of_index : (k : Kind) (z : ℤ) → FitsWidth W64 z → IsOf (index_type k) (an_index z)
-  of_pointer : (k : Kind) (sp : ℕ) (args rs : List Reach) (t : Target) (regions : List Region) →
+  of_pointer : (k : Kind) (sp : ℕ) (args rs : List Reach) (t : Target) (regions : List Region) → IsTarget (length rs) t →
       IsOf (pointer_type k sp args rs) (a_pointer t regions)
   of_space : (k : Kind) (n : ℕ) → n ≤ 4194304 → IsOf (ispace_type k) (a_space n)
   of_region : (k : Kind) (sp : ℕ) (args : List Reach) (r : Term) (q : Region) →
@@ -153,11 +154,12 @@ where_of params h = record {
 abbrev pub program_of : Here → Tree × Calls × StaticType
 program_of h = (h.tree, h.calls, h.result)
 
--- the slots when the round of the innermost loop began, how many names were in scope there, and a
+-- the slots when the round of the innermost loop began, how many names were in scope there, their values, and a
 -- bound of the turns that were left
 pub record Aside : Type 0 where
   pub upto : ℕ
   pub slots : List MachineValue
+  pub names : List Value
   pub turns : ℕ
 
 -- a touch of a root that the instance made itself: these come behind those that were there before it
@@ -236,9 +238,13 @@ pub record MayCall (x : Setting) (f : Frame) (results : List ℤ) : Type 0 where
   pub children : f.children ≡ length results
   pub depth : f.depth ≡ x.depth
 
+-- the first values that are regions are so among others too
+abbrev pub RegionsStay : ℕ → List Value → List Value → Type 0
+RegionsStay n names after = (p : ℕ) (q : Region) → p < n → get_or names p nothing ≡ a_region q → get_or after p nothing ≡ a_region q
+
 -- An instance agrees with a state: the names stand in their slots, the turns and the text are alike,
 -- and what it has of the roots stands for the store. The slots beside those of names that were in scope
--- when the innermost loop's round began are as they were then.
+-- when the innermost loop's round began are as they were then, and so are the regions that these names had.
 pub record Agrees (x : Setting) (params slots : ℕ) (o : Aside) (h : Here) (s : State) (i : Instance) : Type 0 where
   pub names : (p : ℕ) → p < length s.names →
       get_or i.frame.slots (slot (where_of params h) p) blank
@@ -250,6 +256,8 @@ pub record Agrees (x : Setting) (params slots : ℕ) (o : Aside) (h : Here) (s :
       ≡ get_or o.slots (beside (where_of params h) p) blank)
   pub typed : AreOf IsOf h.scope.names s.names
   pub inside_store : AreOf (IsInside x s.store) h.scope.names s.names
+  pub pointed : ArePointed h.scope.names s.names
+  pub steady : RegionsStay o.upto o.names s.names
   pub count : length s.names ≡ length h.scope.names
   pub inside : o.upto ≤ length s.names
   pub slots_are : length i.frame.slots ≡ slots

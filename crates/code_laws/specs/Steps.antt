@@ -1,6 +1,6 @@
 -- A task instance in a run in order, instruction by instruction: what a segment stops for is done at
 -- once, and the instance goes on.
-use Rattle.std.specs.Prelude.{◌≡◌, Bool, ℕ, zero, suc, ◌+◌, List, ◌++◌, None, Option}
+use Rattle.std.specs.Prelude.{◌≡◌, Bool, false, ℕ, zero, suc, ◌+◌, List, ◌++◌, None, Option}
 use Rattle.region_tree.specs.declared.tree.RootId.{RootId}
 use Rattle.regent_tree.specs.Values.{Value as Meant}
 use Rattle.regent_tree.specs.declared.typing.StaticType.{StaticType}
@@ -22,12 +22,17 @@ pub record Taking : Type 0 where
   pub params : ℕ
   pub needs : List NeedCode
 
--- which forms a body may have beside those of numbers and truths: roots that are made, calls, and regions that are
--- handed over
+-- which forms a body may have beside those of numbers and truths: roots that are made, calls, regions that are
+-- handed over, and pointers that are kept, with loops over regions and indices in variables and fields
 pub record Forms : Type 0 where
   pub makes : Bool
   pub calls : Bool
   pub takes : Option Taking
+  pub keeps : Bool
+
+-- the same forms without kept pointers
+abbrev pub without_pointers : Forms → Forms
+without_pointers forms = record forms { keeps = false }
 
 -- The code of all tasks, the turns of each instance, what calls give, the code of the task, and its
 -- result's type; its depth, the numbers of the roots that were there when it began, its arguments, and the forms

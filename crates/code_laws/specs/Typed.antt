@@ -1,22 +1,26 @@
 -- Well-typed expressions and statements of numbers and truths, also those of fields at points of regions that
--- have names, of indices, and of loops over index spaces: no partition, and no pointer that is kept. Roots are
--- made, and tasks called, where the forms allow it.
-use Rattle.std.specs.Prelude.{◌≡◌, ◌⊎◌, ℕ, zero, suc, Option, ◌<◌, ◌≤◌, ℤ, pos, ◌+ℤ◌, int_lt, length, slice_get, List, [], ◌∷◌, true, false, Some, None}
+-- have names, of indices, and of loops over index spaces: no partition. Roots are made, tasks called, regions handed
+-- over, and pointers kept, where the forms allow it.
+use Rattle.std.specs.Prelude.{◌≡◌, ◌⊎◌, Bool, ℕ, zero, suc, Option, ◌<◌, ◌≤◌, ℤ, pos, ◌+ℤ◌, int_lt, length, slice_get, List, [], ◌∷◌, true, false, Some, None}
 use Rattle.lane_kernels.specs.Numbers.{FitsWidth}
 use Rattle.lane_kernels.specs.declared.numbers.Mode.{Mode}
 use Rattle.lane_kernels.specs.declared.numbers.Mode.TheVariants as mode
 use Rattle.task_code.specs.declared.code.NeedCode.{NeedCode}
 use Rattle.regent_tree.specs.declared.expression.Operator.TheVariants.{Or, And, Compare, Compute}
 use Rattle.regent_tree.specs.declared.statement.How.TheVariants as how
+use Rattle.regent_tree.specs.declared.facts.Term.TheVariants as term
+use Rattle.regent_tree.specs.declared.typing.Bound.{Bound}
 use Rattle.regent_tree.specs.declared.typing.StaticType.{StaticType}
 use Rattle.regent_tree.specs.declared.typing.StaticType.TheVariants.{Truth as truth_type}
 use Rattle.regent_tree.specs.Accesses.{args_in, space_in}
-use Rattle.regent_tree.specs.StaticTypes.{field_kind, field_place, field_type, place_of_space, space_at, spaces_of, task_named}
+use Rattle.regent_tree.specs.StaticTypes.{Reach, field_kind, field_place, field_type, place_of_space, space_at, spaces_of, task_named}
 use Rattle.regent_tree.specs.Lookup.{is_bound}
 use Rattle.regent_tree.specs.Numbers.{distance}
 use Rattle.regent_tree.specs.Syntax.{a_statement, Form, var_form, if_form, while_form, for_in_form, for_to_form, do_form, assert_form, print_form, assign_form, return_form, Block, no_statement, then_statement, Arms, no_arm, an_arm, Otherwise, no_else, else_block, plain_initializer, region_initializer, Name, Tree, fill_form, call_form, call_expr, Expression, number_expr, truth_expr, chain_expr, prefix_expr, access_expr, convert_expr, Expressions, no_expr, an_expr, Links, no_link, a_link, no_step, field_step, at_step, space_expr}
-use Rattle.regent_tree.specs.Typing.{arithmetic_type, operated, param_types, params_at, result_type, taken_from, type_of_element, type_of_field, var_type}
-use Rattle.code_laws.specs.Simple.{AreComparable, IsInteger, IsTruth, IsScalar, IsSimple, IsNumber, IsSpace, IsRegion, AreAlike, SignsFit, FieldFits, IsIntegerTerm, AreRegions, term_in}
+use Rattle.regent_tree.specs.Scopes.{bound_as}
+use Rattle.regent_tree.specs.Typing.{arithmetic_type, operated, param_types, params_at, reaches_of, result_type, taken_from, type_of_element, type_of_field, var_type}
+use Rattle.code_laws.specs.Pointers.{BeginsAs, ConvertsTo, CountsAs, FieldKeeps, FillsInto, FitsInto, GoesInto, IsPointer, IsRead}
+use Rattle.code_laws.specs.Simple.{AreComparable, IsInteger, IsTruth, IsScalar, IsSimple, IsSpace, IsRegion, AreAlike, SignsFit, FieldFits, AreRegions, term_in}
 use Rattle.code_rules.specs.Instructions.{place_of_task, tasks_of}
 use Rattle.code_rules.specs.Programs.{task_code}
 use Rattle.code_laws.specs.Steps.{Forms, Taking}
@@ -24,6 +28,7 @@ use Rattle.code_laws.specs.Taking.{MayDo}
 use Rattle.code_rules.specs.Slots.{Where, typed, bound, slot_named, slots_of}
 use Rattle.code_rules.specs.Expressions.{count}
 use Rattle.code_rules.specs.Statements.{on_line, after_form, after_arm, after_arms, looping}
+use Rattle.check_laws.specs.SoundScopes.{Falls}
 use Rattle.check_rules.specs.rules.Formats.{numbers_in}
 
 -- A name in scope has a region, and the field is one of its field space, which keeps values of a type.
@@ -34,6 +39,62 @@ pub record IsField (w : Where) (n f : Name) (t : StaticType) : Type 0 where
       < length (space_at w.tree (space_in (bound w n).static_type)).fields
   pub keeps : FieldFits (field_kind w.tree (space_in (bound w n).static_type)
       (field_place w.tree (space_in (bound w n).static_type) f)) t
+
+-- also a field of indices, where these are kept
+pub record IsAnyField (w : Where) (n f : Name) (t : StaticType) : Type 0 where
+  pub named : is_bound w.scope.names n ≡ true
+  pub region : IsRegion (bound w n).static_type
+  pub field : field_place w.tree (space_in (bound w n).static_type) f
+      < length (space_at w.tree (space_in (bound w n).static_type)).fields
+  pub keeps : FieldKeeps (field_kind w.tree (space_in (bound w n).static_type)
+      (field_place w.tree (space_in (bound w n).static_type) f)) t
+
+abbrev pub IsFieldOf : Bool → Where → Name → Name → StaticType → Type 0
+IsFieldOf false w n f t = IsField w n f t
+IsFieldOf true w n f t = IsAnyField w n f t
+
+-- A name in scope has a pointer to elements of regions that have names, and the field is one of its field space.
+-- The numbers of names in scope are all different.
+pub record IsBehind (w : Where) (n f : Name) (t : StaticType) : Type 0 where
+  pub named : is_bound w.scope.names n ≡ true
+  pub numbers : Falls w.scope.next w.scope.names
+  pub pointer : IsPointer (bound w n).static_type
+  pub field : field_place w.tree (space_in (bound w n).static_type) f
+      < length (space_at w.tree (space_in (bound w n).static_type)).fields
+  pub keeps : FieldKeeps (field_kind w.tree (space_in (bound w n).static_type)
+      (field_place w.tree (space_in (bound w n).static_type) f)) t
+
+-- the type of a field of what a name's pointer goes to
+abbrev pub field_behind : Where → Name → Name → StaticType
+field_behind w n f = type_of_field w.tree (bound w n).static_type f
+
+-- a region that has a name, with its own term
+pub record IsOwnRegion (w : Where) (b : Bound) (t : StaticType) : Type 0 where
+  pub number : ℕ
+  pub numbered : (bound_as w.scope.names number).number ≡ number
+  pub place : (bound_as w.scope.names number).place ≡ b.place
+  pub typed : IsRegion (bound_as w.scope.names number).static_type
+  pub space : space_in (bound_as w.scope.names number).static_type ≡ space_in t
+  pub is : reaches_of (taken_from t) ≡ Some (term.Name number) ∷ []
+
+-- over what a loop goes: an index space, or also a region that has a name
+abbrev pub IsNamedRegion : Where → Expression → Type 0
+IsNamedRegion w (access_expr n no_step) = IsRegion (bound w n).static_type × IsOwnRegion w (bound w n) (bound w n).static_type
+IsNamedRegion w e = ⊥
+
+abbrev pub LoopsOver : Bool → Where → Expression → Type 0
+LoopsOver false w e = IsSpace (typed w e)
+LoopsOver true w e = IsSpace (typed w e) ⊎ IsNamedRegion w e
+
+-- how a variable begins: as a number, a truth or an index space, and where pointers are kept as one of these or a
+-- name's pointer
+abbrev pub IsPointerName : Where → Expression → Type 0
+IsPointerName w (access_expr n no_step) = IsPointer (bound w n).static_type × Falls w.scope.next w.scope.names
+IsPointerName w e = ⊥
+
+abbrev pub IsKeepable : Bool → Where → Expression → Type 0
+IsKeepable false w e = IsSimple (typed w e)
+IsKeepable true w e = IsSimple (typed w e) ⊎ IsPointerName w e
 
 -- a pointer to an element of a region that has a name goes through the name's slot
 abbrev pub GoesThrough : Where → Name → Expression → Type 0
@@ -61,6 +122,19 @@ abbrev pub MayFill : Forms → Where → Name → List Name → Type 0
 MayFill forms w n [] = Unit {0}
 MayFill forms w n (f ∷ fs) =
     MayTouch forms w n (field_place w.tree (space_in (bound w n).static_type) f) mode.Write × MayFill forms w n fs
+
+-- so it may of each region that a pointer's type names
+abbrev pub MayReach : Forms → Where → List Reach → ℕ → Mode → Type 0
+MayReach forms w [] field a = Unit {0}
+MayReach forms w (Some (term.Name i) ∷ rs) field a =
+    MayDo forms.takes (term_in (bound_as w.scope.names i).static_type) field a × MayReach forms w rs field a
+MayReach forms w (Some (term.Child p c) ∷ rs) field a = MayReach forms w rs field a
+MayReach forms w (None ∷ rs) field a = MayReach forms w rs field a
+
+-- so it may to a field through a name's pointer
+abbrev pub MayGo : Forms → Where → Name → Name → Mode → Type 0
+MayGo forms w n f a = MayReach forms w (reaches_of (bound w n).static_type)
+    (field_place w.tree (space_in (bound w n).static_type) f) a
 
 -- a name that stands as an argument
 abbrev pub name_of : Expression → Option Name
@@ -107,16 +181,18 @@ abbrev mutual
   IsTyped forms w (chain_expr first rest) = IsTyped forms w first × AreTypedLinks forms w (typed w first) rest
   IsTyped forms w (prefix_expr signs e) = IsTyped forms w e × SignsFit (typed w e) signs
   IsTyped forms w (access_expr n no_step) =
-      (is_bound w.scope.names n ≡ true) × IsSimple (bound w n).static_type
-  IsTyped forms w (access_expr n (at_step e (field_step f no_step))) = IsTyped forms w e × IsNumber (typed w e)
-      × GoesThrough w n e × IsField w n f (element_field w n e f)
+      (is_bound w.scope.names n ≡ true) × IsRead forms.keeps (bound w n).static_type
+  IsTyped forms w (access_expr n (field_step f no_step)) = (forms.keeps ≡ true) × IsBehind w n f (field_behind w n f)
+      × MayGo forms w n f mode.Read
+  IsTyped forms w (access_expr n (at_step e (field_step f no_step))) = IsTyped forms w e × CountsAs forms.keeps (typed w e)
+      × GoesThrough w n e × IsFieldOf forms.keeps w n f (element_field w n e f)
       × MayTouch forms w n (field_place w.tree (space_in (bound w n).static_type) f) mode.Read
   IsTyped forms w (call_expr task args) = (forms.calls ≡ true)
       × IsScalar (result_type w.tree (task_named w.tree task).result) × IsCallable forms w task args
       × ArePassed forms w (params_at w.tree w.scope (task_named w.tree task) args)
       (param_types w.tree (task_named w.tree task)) args
   IsTyped forms w (space_expr k e) = IsTyped forms w e × IsInteger (typed w e)
-  IsTyped forms w (convert_expr t e) = IsTyped forms w e × IsNumber (typed w e) × IsIntegerTerm t
+  IsTyped forms w (convert_expr t e) = IsTyped forms w e × CountsAs forms.keeps (typed w e) × ConvertsTo forms.keeps t
   IsTyped forms w _ = ⊥
 
   pub AreTypedLinks : Forms → Where → StaticType → Links → Type 0
@@ -127,7 +203,7 @@ abbrev mutual
       IsTruth t × IsTruth (typed w e) × IsTyped forms w e × AreTypedLinks forms w truth_type rest
   AreTypedLinks forms w t (a_link (Compare c) e rest) = AreComparable t (typed w e) × IsTyped forms w e
       × AreTypedLinks forms w (operated (Compare c) t (typed w e)) rest
-  AreTypedLinks forms w t (a_link (Compute o) e rest) = IsNumber t × IsNumber (typed w e) × IsTyped forms w e
+  AreTypedLinks forms w t (a_link (Compute o) e rest) = CountsAs forms.keeps t × CountsAs forms.keeps (typed w e) × IsTyped forms w e
       × AreTypedLinks forms w (operated (Compute o) t (typed w e)) rest
 
   -- what is given to parameters of these types
@@ -145,11 +221,11 @@ AreNumbers forms w (an_expr e es) = IsInteger (typed w e) × IsTyped forms w e �
 -- ---- statements
 
 -- fields of a region that are filled with a value of a type
-abbrev pub AreFilled : Where → Name → StaticType → List Name → Type 0
-AreFilled w r from [] = Unit {0}
-AreFilled w r from (f ∷ fs) =
+abbrev pub AreFilled : Bool → Where → Name → StaticType → List Name → Type 0
+AreFilled keeps w r from [] = Unit {0}
+AreFilled keeps w r from (f ∷ fs) =
     let out = field_type w.tree (space_in (bound w r).static_type) (args_in (bound w r).static_type) f in
-    AreAlike from out × IsField w r f out × AreFilled w r from fs
+    FillsInto keeps from out × IsFieldOf keeps w r f out × AreFilled keeps w r from fs
 
 -- a field space that is there and has no more fields than a root may have
 pub record IsMakable (tree : Tree) (space : ℕ) : Type 0 where
@@ -158,12 +234,12 @@ pub record IsMakable (tree : Tree) (space : ℕ) : Type 0 where
 
 abbrev mutual
   pub IsTypedForm : Forms → Where → Form → Type 0
-  IsTypedForm forms w (var_form n None (Some (plain_initializer e))) = IsSimple (typed w e) × IsTyped forms w e
+  IsTypedForm forms w (var_form n None (Some (plain_initializer e))) = IsKeepable forms.keeps w e × IsTyped forms w e
   IsTypedForm forms w (var_form n None (Some (region_initializer e u))) = (forms.makes ≡ true) × IsSpace (typed w e)
       × IsTyped forms w e × IsMakable w.tree (place_of_space w.tree u.name)
   IsTypedForm forms w (var_form n (Some t) (Some (plain_initializer e))) =
-      AreAlike (typed w e) (var_type w.tree w.scope (Some t) (Some (plain_initializer e))) × IsTyped forms w e
-  IsTypedForm forms w (var_form n (Some t) None) = IsScalar (var_type w.tree w.scope (Some t) None)
+      FitsInto forms.keeps (typed w e) (var_type w.tree w.scope (Some t) (Some (plain_initializer e))) × IsTyped forms w e
+  IsTypedForm forms w (var_form n (Some t) None) = BeginsAs forms.keeps (var_type w.tree w.scope (Some t) None)
   IsTypedForm forms w (if_form arms other) = AreTypedArms forms w w arms × IsTypedElse forms (after_arms w arms) other
   IsTypedForm forms w (while_form test body) =
       IsTruth (typed w test) × IsTyped forms w test × IsTypedBlock forms w body
@@ -176,25 +252,31 @@ abbrev mutual
   IsTypedForm forms w (for_to_form demanded n from to body) =
       IsInteger (typed w from) × IsInteger (typed w to) × IsTyped forms w from × IsTyped forms w to
       × IsTypedBlock forms (looping w n (arithmetic_type (typed w from) (typed w to))) body
-  IsTypedForm forms w (for_in_form demanded n domain body) = IsSpace (typed w domain) × IsTyped forms w domain
+  IsTypedForm forms w (for_in_form demanded n domain body) = LoopsOver forms.keeps w domain × IsTyped forms w domain
       × IsTypedBlock forms (looping w n (taken_from (typed w domain))) body
   IsTypedForm forms w (assign_form n no_step how.Set e) =
-      AreAlike (typed w e) (bound w n).static_type × IsTyped forms w e × (is_bound w.scope.names n ≡ true)
+      FitsInto forms.keeps (typed w e) (bound w n).static_type × IsTyped forms w e × (is_bound w.scope.names n ≡ true)
   IsTypedForm forms w (assign_form n no_step (how.Reduce o) e) = IsInteger (typed w e)
       × IsInteger (bound w n).static_type × IsTyped forms w e × (is_bound w.scope.names n ≡ true)
   IsTypedForm forms w (assign_form n (at_step e (field_step f no_step)) how.Set y) =
-      AreAlike (typed w y) (element_field w n e f) × IsTyped forms w y × IsTyped forms w e × IsNumber (typed w e)
-      × GoesThrough w n e × IsField w n f (element_field w n e f)
+      FitsInto forms.keeps (typed w y) (element_field w n e f) × IsTyped forms w y × IsTyped forms w e
+      × CountsAs forms.keeps (typed w e) × GoesThrough w n e × IsFieldOf forms.keeps w n f (element_field w n e f)
       × MayTouch forms w n (field_place w.tree (space_in (bound w n).static_type) f) mode.Write
+  IsTypedForm forms w (assign_form n (field_step f no_step) how.Set y) = (forms.keeps ≡ true)
+      × GoesInto (typed w y) (field_behind w n f) × IsTyped forms w y × IsBehind w n f (field_behind w n f)
+      × MayGo forms w n f mode.Write
+  IsTypedForm forms w (assign_form n (field_step f no_step) (how.Reduce o) y) = (forms.keeps ≡ true)
+      × IsInteger (typed w y) × IsInteger (field_behind w n f) × IsTyped forms w y × IsBehind w n f (field_behind w n f)
+      × MayGo forms w n f (mode.Reduce o)
   IsTypedForm forms w (assign_form n (at_step e (field_step f no_step)) (how.Reduce o) y) =
       IsInteger (typed w y) × IsInteger (element_field w n e f) × IsTyped forms w y × IsTyped forms w e
-      × IsNumber (typed w e) × GoesThrough w n e × IsField w n f (element_field w n e f)
+      × CountsAs forms.keeps (typed w e) × GoesThrough w n e × IsFieldOf forms.keeps w n f (element_field w n e f)
       × MayTouch forms w n (field_place w.tree (space_in (bound w n).static_type) f) (mode.Reduce o)
   IsTypedForm forms w (call_form task args) = (forms.calls ≡ true) × IsCallable forms w task args
       × ArePassed forms w (params_at w.tree w.scope (task_named w.tree task) args)
       (param_types w.tree (task_named w.tree task)) args
   IsTypedForm forms w (fill_form r fields e) = IsTyped forms w e × (is_bound w.scope.names r ≡ true)
-      × IsRegion (bound w r).static_type × AreFilled w r (typed w e) fields × MayFill forms w r fields
+      × IsRegion (bound w r).static_type × AreFilled forms.keeps w r (typed w e) fields × MayFill forms w r fields
   IsTypedForm forms w _ = ⊥
 
   -- tests stand in the scope of the `if` itself

@@ -8,8 +8,9 @@ ghost use Rattle.code_laws.specs.Example.{ExampleHolds};
 ghost use Rattle.code_laws.specs.Handing.{RegionsAreHandedAsMeant};
 ghost use Rattle.code_laws.specs.HandingExample.{HandingExampleHolds};
 ghost use Rattle.code_laws.specs.LocalExample.{LocalExampleHolds};
+ghost use Rattle.code_laws.specs.PointerExample.{PointerExampleHolds};
 ghost use Rattle.code_laws.specs.RegionExample.{RegionExampleHolds};
-ghost use Rattle.code_laws.specs.Programs.{CallsRunAsMeant, RegionsRunAsMeant, ScalarsRunAsMeant};
+ghost use Rattle.code_laws.specs.Programs.{CallsRunAsMeant, PointersRunAsMeant, RegionsRunAsMeant, ScalarsRunAsMeant};
 ghost use Rattle.code_laws.specs.LocalPrograms.{LocalProgramsEndWell, LocalProgramsRunAsMeant};
 ghost use Rattle.code_laws.specs.ScalarPrograms.{ScalarProgramsLeaveNoRoots, ScalarProgramsRunAsMeant};
 
@@ -25,6 +26,13 @@ pub fn scalars_run_as_meant()
 #[tactic(auto, using(crate::proofs::Top::regions_run_as_meant))]
 pub fn regions_run_as_meant()
     ensures { RegionsRunAsMeant }
+{}
+
+/// So it is where the task also loops over regions and keeps pointers and indices: fields are read, written and reduced
+/// through them, null and a point outside the region are the faults that the program means.
+#[tactic(auto, using(crate::proofs::Top::pointers_run_as_meant))]
+pub fn pointers_run_as_meant()
+    ensures { PointersRunAsMeant }
 {}
 
 /// So it is where tasks call others that take and give numbers and truths, each with roots of its own: a call
@@ -71,6 +79,13 @@ pub fn local_programs_end_well()
 #[tactic(auto, using(crate::proofs::RegionExample::region_example_holds))]
 pub fn region_example_holds()
     ensures { RegionExampleHolds }
+{}
+
+/// A program that loops over its region and keeps pointers, and indices in a field, of which each premise of the law on
+/// pointers holds; with two inputs it means an end and a fault.
+#[tactic(auto, using(crate::proofs::PointerExample::pointer_example_holds))]
+pub fn pointer_example_holds()
+    ensures { PointerExampleHolds }
 {}
 
 /// A program with calls of which each premise of the law on calls holds; it means an end, and with too few turns

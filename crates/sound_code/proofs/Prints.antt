@@ -12,7 +12,7 @@ use Rattle.code_rules.specs.Prints.{parts_of}
 use Rattle.code_rules.specs.Slots.{Where, typed}
 use Rattle.code_rules.specs.Statements.{form_code}
 use Rattle.code_laws.specs.Standing.{Stands}
-use Rattle.code_laws.specs.Steps.{Forms}
+use Rattle.code_laws.specs.Steps.{Forms, without_pointers}
 use Rattle.code_laws.specs.Typed.{AreNumbers}
 use Rattle.code_laws.proofs.Prints.{writes_format}
 use Rattle.fit_rules.specs.Shapes.{Each, Shape, Numeric}
@@ -42,18 +42,18 @@ module _ (g : Program) (t : TaskCode) (k slots : ℕ) (have : HasSlots t slots) 
   shapes_long no_expr = refl
   shapes_long (an_expr e es) = ap suc (shapes_long es)
 
-  shapes_numeric : (es : Expressions) → AreNumbers forms w es → Each Numeric (shapes es)
+  shapes_numeric : (es : Expressions) → AreNumbers (without_pointers forms) w es → Each Numeric (shapes es)
   shapes_numeric no_expr h = tt
   shapes_numeric (an_expr e es) h = (scalar_numeric _ (integer_is_plain _ h.0), shapes_numeric es h.2)
 
-  numbers_marked : (es : Expressions) (us : List Shape) → AreNumbers forms w es → (pc : ℕ) →
+  numbers_marked : (es : Expressions) (us : List Shape) → AreNumbers (without_pointers forms) w es → (pc : ℕ) →
       Stands t.body pc (exprs_code w 0 [] es) →
       Marked g t k (stacked m us) (exprs_code w 0 [] es) (stacked m (onto (shapes es) us))
   numbers_marked no_expr us h pc st = nothing_done g t k _
   numbers_marked (an_expr e es) us h pc st = both g t k (value_marked g t k slots have forms plain w m asked e us h.1 pc st.0)
       (both g t k (nothing_done g t k _) (numbers_marked es (shape_of (typed w e) ∷ us) h.2 _ st.1.1))
 
-  pub print_marked : (alias : Option Name) (format : List ℕ) (es : Expressions) → AreNumbers forms w es → numbers_in format ≡ Some (count es) →
+  pub print_marked : (alias : Option Name) (format : List ℕ) (es : Expressions) → AreNumbers (without_pointers forms) w es → numbers_in format ≡ Some (count es) →
       (pc : ℕ) → Stands t.body pc (form_code w (print_form alias format es)) → Followed g t k w.params w.scope.names m (form_code w (print_form alias format es))
   print_marked alias format es h e pc st =
       let many = printed_count format (count es) e in

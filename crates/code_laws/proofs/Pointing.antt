@@ -1,0 +1,233 @@
+-- The regions of the pointers that names have: where more names come, some go, or one has another value.
+use Rattle.std.proofs.Common.{◌≡◌, ℕ, ◌<◌, ◌≤◌, List, [], ◌∷◌, ◌++◌, Bool, true, false, Some, None, refl, sym, ap, ◌∙◌, subst, arith}
+use Rattle.std.specs.Prelude.{bytes_eq, cond, get_or, length, slice_set, take, ◌==◌, ◌||◌}
+use Rattle.std.proofs.lemmas.Bool.{eqb-false, eqb-true, ne_eqb}
+use Rattle.std.proofs.lemmas.List.{get_or-set_other, get_or-set_same, get_or-take}
+use Rattle.std.proofs.Math.ListN.{get_or-append}
+use Rattle.std.proofs.Math.Seq.{get_or-append_seam}
+use Rattle.check_laws.specs.SoundScopes.{Falls}
+use Rattle.regent_tree.specs.Accesses.{space_in}
+use Rattle.regent_tree.specs.Lookup.{is_bound}
+use Rattle.regent_tree.specs.Scopes.{bound_as, bound_to}
+use Rattle.regent_tree.specs.StaticTypes.{Reach}
+use Rattle.regent_tree.specs.Syntax.{Name}
+use Rattle.regent_tree.specs.Typing.{reaches_of}
+use Rattle.regent_tree.specs.Values.{Region, Value, a_number, a_partition, a_pointer, a_region, a_space, a_truth, an_index}
+use Rattle.regent_tree.specs.declared.facts.Term.TheVariants as term
+use Rattle.regent_tree.specs.declared.typing.Bound.{Bound}
+use Rattle.regent_tree.specs.declared.typing.StaticType.{StaticType}
+use Rattle.code_laws.specs.Pointers.{ArePointed, AreReached, IsOfName, IsPointed}
+use Rattle.code_laws.specs.Simple.{IsRegion, IsSimple, a_region_type, simple_index, simple_integer, simple_space, simple_truth}
+use Rattle.code_laws.specs.Standing.{AreOf, IsOf, RegionsStay, nothing, of_index, of_integer, of_region, of_space, of_truth}
+use Rattle.code_laws.proofs.Values.{not_true}
+
+-- ---- values that are no pointers
+
+abbrev pub IsPlain : Value → Type 0
+IsPlain (a_pointer t rs) = ⊥
+IsPlain (a_number w z) = Unit {0}
+IsPlain (a_truth b) = Unit {0}
+IsPlain (an_index z) = Unit {0}
+IsPlain (a_space n) = Unit {0}
+IsPlain (a_region q) = Unit {0}
+IsPlain (a_partition p) = Unit {0}
+
+pub plain_pointed : (bs : List Bound) (names : List Value) (t : StaticType) (v : Value) → IsPlain v → IsPointed bs names t v
+plain_pointed bs names t (a_pointer target rs) p = absurd p
+plain_pointed bs names t (a_number w z) p = tt
+plain_pointed bs names t (a_truth b) p = tt
+plain_pointed bs names t (an_index z) p = tt
+plain_pointed bs names t (a_space n) p = tt
+plain_pointed bs names t (a_region q) p = tt
+plain_pointed bs names t (a_partition q) p = tt
+
+pub simple_plain : (t : StaticType) (v : Value) → IsSimple t → IsOf t v → IsPlain v
+simple_plain _ _ (simple_integer w) (of_integer _ z p) = tt
+simple_plain _ _ simple_truth (of_truth b) = tt
+simple_plain _ _ (simple_space k) (of_space _ n p) = tt
+simple_plain _ _ (simple_index k) (of_index _ z p) = tt
+
+pub simple_pointed : (bs : List Bound) (names : List Value) (t : StaticType) (v : Value) → IsSimple t → IsOf t v → IsPointed bs names t v
+simple_pointed bs names t v s o = plain_pointed bs names t v (simple_plain t v s o)
+
+pub region_pointed : (bs : List Bound) (names : List Value) (t : StaticType) (v : Value) → IsRegion t → IsOf t v → IsPointed bs names t v
+region_pointed bs names _ _ (a_region_type k sp args r) (of_region _ _ _ _ q) = tt
+
+pub all_plain : (bs : List Bound) (names : List Value) → ((k : ℕ) → IsPlain (get_or names k nothing)) → ArePointed bs names
+all_plain [] names p = tt
+all_plain (b ∷ bs) names p = (plain_pointed bs names b.static_type (get_or names b.place nothing) (p b.place), all_plain bs names p)
+
+-- ---- other values
+
+pub reached_stays : (bs : List Bound) (names after : List Value) (sp : ℕ) (rs : List Reach) (qs : List Region) →
+    RegionsStay (length bs) names after → AreReached bs names sp rs qs → AreReached bs after sp rs qs
+reached_stays bs names after sp [] [] stay a = tt
+reached_stays bs names after sp (Some (term.Name i) ∷ rs) (q ∷ qs) stay a = (
+  record {
+    numbered = a.0.numbered;
+    region = a.0.region;
+    space = a.0.space;
+    below = a.0.below;
+    value = stay (bound_as bs i).place q a.0.below a.0.value;
+  },
+  reached_stays bs names after sp rs qs stay a.1,
+)
+reached_stays bs names after sp (Some (term.Child p c) ∷ rs) (q ∷ qs) stay a = reached_stays bs names after sp rs qs stay a
+reached_stays bs names after sp (None ∷ rs) (q ∷ qs) stay a = reached_stays bs names after sp rs qs stay a
+reached_stays bs names after sp _ _ stay a = absurd a
+
+pointed_stays : (bs : List Bound) (names after : List Value) (t : StaticType) (v : Value) → RegionsStay (length bs) names after →
+    IsPointed bs names t v → IsPointed bs after t v
+pointed_stays bs names after t (a_pointer target qs) stay a = reached_stays bs names after (space_in t) (reaches_of t) qs stay a
+pointed_stays bs names after t (a_number w z) stay a = tt
+pointed_stays bs names after t (a_truth b) stay a = tt
+pointed_stays bs names after t (an_index z) stay a = tt
+pointed_stays bs names after t (a_space n) stay a = tt
+pointed_stays bs names after t (a_region q) stay a = tt
+pointed_stays bs names after t (a_partition q) stay a = tt
+
+-- where the values below a place are the same
+pointed_same : (bs : List Bound) (names after : List Value) (n : ℕ) → length bs ≤ n →
+    ((p : ℕ) → p < n → get_or after p nothing ≡ get_or names p nothing) → AreOf IsOf bs names → ArePointed bs names → ArePointed bs after
+pointed_same [] names after n l same o a = tt
+pointed_same (b ∷ bs) names after n l same o a = (
+  subst (IsPointed bs after b.static_type) (sym (same b.place (omega (arith, o.0, l))))
+      (pointed_stays bs names after b.static_type (get_or names b.place nothing)
+      (λ p q low e. same p (omega (arith, low, l)) ∙ e) a.0),
+  pointed_same bs names after n (omega (arith, l)) same o.2 a.1,
+)
+
+-- one more name
+pub pointed_more : (b : Bound) (bs : List Bound) (names : List Value) (v : Value) → length names ≡ length bs → b.place ≡ length bs →
+    AreOf IsOf bs names → IsPointed bs names b.static_type v → ArePointed bs names → ArePointed (b ∷ bs) (names ++ v ∷ [])
+pointed_more b bs names v long place o p a =
+    let last : get_or (names ++ v ∷ []) b.place nothing ≡ v =
+    ap (λ k. get_or (names ++ v ∷ []) k nothing) (place ∙ sym long) ∙ get_or-append_seam names v [] nothing in (
+      subst (IsPointed bs (names ++ v ∷ []) b.static_type) (sym last)
+          (pointed_stays bs names (names ++ v ∷ []) b.static_type v
+          (λ k q low e. get_or-append names (v ∷ []) nothing k (omega (arith, low, long)) ∙ e) p),
+      pointed_same bs names (names ++ v ∷ []) (length names) (omega (arith, long))
+          (λ k low. get_or-append names (v ∷ []) nothing k low) o a,
+    )
+
+-- fewer names
+pub pointed_fewer : (more bs : List Bound) (names : List Value) → ArePointed (more ++ bs) names → ArePointed bs names
+pointed_fewer [] bs names a = a
+pointed_fewer (b ∷ more) bs names a = pointed_fewer more bs names a.1
+
+pub pointed_cut : (bs : List Bound) (names : List Value) (n : ℕ) → length bs ≤ n → AreOf IsOf bs names → ArePointed bs names →
+    ArePointed bs (take n names)
+pointed_cut bs names n l o a = pointed_same bs names (take n names) n l (λ k low. get_or-take n names k nothing low) o a
+
+-- another value in the place of one that is no region
+abbrev pub IsNoRegion : Value → Type 0
+IsNoRegion v = (q : Region) → v ≡ a_region q → ⊥
+
+-- the regions of one pointer are those of another
+abbrev pub GoAlike : Value → Value → Type 0
+GoAlike old v = (bs : List Bound) (names : List Value) (t : StaticType) → IsPointed bs names t old → IsPointed bs names t v
+
+pub simple_no_region : (t : StaticType) (v : Value) → IsSimple t → IsOf t v → IsNoRegion v
+simple_no_region _ _ (simple_integer w) (of_integer _ z p) q e = absurd cc
+simple_no_region _ _ simple_truth (of_truth b) q e = absurd cc
+simple_no_region _ _ (simple_space k) (of_space _ n p) q e = absurd cc
+simple_no_region _ _ (simple_index k) (of_index _ z p) q e = absurd cc
+
+pub simple_alike : (t : StaticType) (old v : Value) → IsSimple t → IsOf t v → GoAlike old v
+simple_alike t old v s o bs names u p = plain_pointed bs names u v (simple_plain t v s o)
+
+pub region_kept : (names : List Value) (k : ℕ) (v : Value) → IsNoRegion (get_or names k nothing) → (p : ℕ) (q : Region) →
+    get_or names p nothing ≡ a_region q → get_or (slice_set names k v) p nothing ≡ a_region q
+region_kept names k v none p q e = by (k == p) refl
+  where
+    by : (c : Bool) → (k == p) ≡ c → get_or (slice_set names k v) p nothing ≡ a_region q
+    by true c = absurd (none q (ap (λ n. get_or names n nothing) (eqb-true k p c) ∙ e))
+    by false c = get_or-set_other names k p v nothing (λ d. eqb-false k p c (sym d)) ∙ e
+
+pub pointed_set : (bs : List Bound) (names : List Value) (k : ℕ) (v : Value) → k < length names →
+    IsNoRegion (get_or names k nothing) → GoAlike (get_or names k nothing) v → ArePointed bs names → ArePointed bs (slice_set names k v)
+pointed_set [] names k v room none alike a = tt
+pointed_set (b ∷ bs) names k v room none alike a = (
+  pointed_stays bs names (slice_set names k v) b.static_type (get_or (slice_set names k v) b.place nothing)
+      (λ p q low e. region_kept names k v none p q e) (own (k == b.place) refl),
+  pointed_set bs names k v room none alike a.1,
+)
+  where
+    own : (c : Bool) → (k == b.place) ≡ c → IsPointed bs names b.static_type (get_or (slice_set names k v) b.place nothing)
+    own true c = subst (λ p. IsPointed bs names b.static_type (get_or (slice_set names k v) p nothing)) (eqb-true k b.place c)
+        (subst (IsPointed bs names b.static_type) (sym (get_or-set_same names k v nothing room))
+        (alike bs names b.static_type (subst (λ p. IsPointed bs names b.static_type (get_or names p nothing)) (sym (eqb-true k b.place c)) a.0)))
+    own false c = subst (IsPointed bs names b.static_type)
+        (sym (get_or-set_other names k b.place v nothing (λ d. eqb-false k b.place c (sym d)))) a.0
+
+-- ---- by numbers
+
+-- a binding that is found by its number has one below those behind it
+found_below : (next : ℕ) (bs : List Bound) (i : ℕ) → Falls next bs → IsRegion (bound_as bs i).static_type → (bound_as bs i).number < next
+found_below next [] i f r = absurd (nowhere r)
+  where
+    nowhere : IsRegion (bound_as [] i).static_type → ⊥
+    nowhere r = elim r [ ]
+found_below next (b ∷ bs) i f r = chosen (b.number == i) (λ r. omega (arith, f.0, found_below b.number bs i f.1 r)) r
+  where
+    chosen : (c : Bool) → (IsRegion (bound_as bs i).static_type → (bound_as bs i).number < next) →
+        IsRegion (cond c b (bound_as bs i)).static_type → (cond c b (bound_as bs i)).number < next
+    chosen true more r = f.0
+    chosen false more r = more r
+
+reached_wider : (b : Bound) (bs : List Bound) (names : List Value) (sp : ℕ) (rs : List Reach) (qs : List Region) → Falls b.number bs →
+    AreReached bs names sp rs qs → AreReached (b ∷ bs) names sp rs qs
+reached_wider b bs names sp [] [] f a = tt
+reached_wider b bs names sp (Some (term.Name i) ∷ rs) (q ∷ qs) f a = (
+  wider (b.number == i) (ne_eqb b.number i (λ e. omega (arith, e, a.0.numbered, found_below b.number bs i f a.0.region))),
+  reached_wider b bs names sp rs qs f a.1,
+)
+  where
+    wider : (c : Bool) → c ≡ false → IsOfName (cond c b (bound_as bs i)) (length (b ∷ bs)) names sp i q
+    wider c e = subst (λ c. IsOfName (cond c b (bound_as bs i)) (length (b ∷ bs)) names sp i q) (sym e) (record {
+      numbered = a.0.numbered;
+      region = a.0.region;
+      space = a.0.space;
+      below = omega (arith, a.0.below);
+      value = a.0.value;
+    })
+reached_wider b bs names sp (Some (term.Child p c) ∷ rs) (q ∷ qs) f a = reached_wider b bs names sp rs qs f a
+reached_wider b bs names sp (None ∷ rs) (q ∷ qs) f a = reached_wider b bs names sp rs qs f a
+reached_wider b bs names sp _ _ f a = absurd a
+
+pointed_wider : (b : Bound) (bs : List Bound) (names : List Value) (t : StaticType) (v : Value) → Falls b.number bs →
+    IsPointed bs names t v → IsPointed (b ∷ bs) names t v
+pointed_wider b bs names t (a_pointer target qs) f a = reached_wider b bs names (space_in t) (reaches_of t) qs f a
+pointed_wider b bs names t (a_number w z) f a = tt
+pointed_wider b bs names t (a_truth c) f a = tt
+pointed_wider b bs names t (an_index z) f a = tt
+pointed_wider b bs names t (a_space n) f a = tt
+pointed_wider b bs names t (a_region q) f a = tt
+pointed_wider b bs names t (a_partition q) f a = tt
+
+-- the pointer of a name goes to regions of names in scope
+pub named_pointed : (next : ℕ) (bs : List Bound) (names : List Value) (n : Name) → Falls next bs → ArePointed bs names →
+    is_bound bs n ≡ true → IsPointed bs names (bound_to bs n).static_type (get_or names (bound_to bs n).place nothing)
+named_pointed next [] names n f a h = absurd (not_true h)
+named_pointed next (b ∷ bs) names n f a h = chosen (bytes_eq b.name n) (named_pointed b.number bs names n f.1 a.1) h
+  where
+    chosen : (c : Bool) → (is_bound bs n ≡ true →
+        IsPointed bs names (bound_to bs n).static_type (get_or names (bound_to bs n).place nothing)) → (c || is_bound bs n) ≡ true →
+        IsPointed (b ∷ bs) names (cond c b (bound_to bs n)).static_type (get_or names (cond c b (bound_to bs n)).place nothing)
+    chosen true more e = pointed_wider b bs names b.static_type (get_or names b.place nothing) f.1 a.0
+    chosen false more e = pointed_wider b bs names (bound_to bs n).static_type (get_or names (bound_to bs n).place nothing) f.1 (more e)
+
+-- what holds of the value that a region's name has
+pub numbered : (Holding : StaticType → Value → Type 0) (bs : List Bound) (names : List Value) (i : ℕ) → AreOf Holding bs names →
+    IsRegion (bound_as bs i).static_type →
+    Holding (bound_as bs i).static_type (get_or names (bound_as bs i).place nothing) × ((bound_as bs i).place < length bs)
+numbered Holding [] names i a r = absurd (elim r [ ])
+numbered Holding (b ∷ bs) names i a r = chosen (b.number == i) (numbered Holding bs names i a.2) r
+  where
+    chosen : (c : Bool) → (IsRegion (bound_as bs i).static_type →
+        Holding (bound_as bs i).static_type (get_or names (bound_as bs i).place nothing) × ((bound_as bs i).place < length bs)) →
+        IsRegion (cond c b (bound_as bs i)).static_type →
+        Holding (cond c b (bound_as bs i)).static_type (get_or names (cond c b (bound_as bs i)).place nothing)
+        × ((cond c b (bound_as bs i)).place < length (b ∷ bs))
+    chosen true more r = (a.1, omega (arith, a.0))
+    chosen false more r = let m = more r in (m.0, omega (arith, m.1))

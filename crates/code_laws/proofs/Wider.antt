@@ -1,0 +1,63 @@
+-- What is asked where pointers aren't kept is asked where they are.
+use Rattle.std.proofs.Common.{◌⊎◌, Bool, true, false, inl}
+use Rattle.regent_tree.specs.Syntax.{Name}
+use Rattle.regent_tree.specs.Typing.{counting_as}
+use Rattle.regent_tree.specs.declared.types.NumberTerm.{NumberTerm}
+use Rattle.regent_tree.specs.declared.typing.StaticType.{StaticType}
+use Rattle.code_rules.specs.Slots.{Where}
+use Rattle.code_laws.specs.Pointers.{BeginsAs, ConvertsTo, CountsAs, Fills, FillsInto, FitsInto, GoesInto, HasZero, IsCounting, IsNumberTerm, counts_number, counts_pointer, fills_alike, fills_index, into_index, into_plain, keeps_plain, term_integer, zero_index, zero_scalar}
+use Rattle.code_laws.specs.Simple.{IsNumber, IsSimple, IsSpace, number_index, number_integer, scalar_integer, scalar_truth, simple_index, simple_integer, simple_truth, two_integers, two_truths}
+use Rattle.regent_tree.specs.Syntax.{Expression}
+use Rattle.code_rules.specs.Slots.{typed}
+use Rattle.code_laws.specs.Typed.{IsAnyField, IsFieldOf, IsKeepable, IsNamedRegion, IsPointerName, LoopsOver}
+
+pub counting : (b : Bool) (t : StaticType) → CountsAs b t → IsCounting t
+counting false t p = counts_number t p
+counting true t p = p
+
+pub filling : (b : Bool) (t u : StaticType) → FillsInto b t u → Fills t u
+filling false t u p = fills_alike t u p
+filling true t u p = p
+
+pub going : (b : Bool) (t u : StaticType) → FitsInto b t u → GoesInto t u
+going false t u p = into_plain t u (fills_alike t u p)
+going true t u p = p
+
+pub zeroed : (b : Bool) (t : StaticType) → BeginsAs b t → HasZero t
+zeroed false t p = zero_scalar t p
+zeroed true t p = p
+
+pub converting : (b : Bool) (t : NumberTerm) → ConvertsTo b t → IsNumberTerm t
+converting false t p = term_integer t p
+converting true t p = p
+
+pub any_field : (b : Bool) (w : Where) (n f : Name) (t : StaticType) → IsFieldOf b w n f t → IsAnyField w n f t
+any_field false w n f t p = record { named = p.named; region = p.region; field = p.field; keeps = keeps_plain _ _ p.keeps }
+any_field true w n f t p = p
+
+-- what counts as a number is one where it stands for it
+pub counted : (t : StaticType) → IsCounting t → IsNumber (counting_as t)
+counted _ (counts_number _ (number_integer w)) = number_integer w
+counted _ (counts_number _ (number_index k)) = number_index k
+counted _ (counts_pointer k sp args rs) = number_index k
+
+-- how a variable begins, and over what a loop goes
+pub keepable : (b : Bool) (w : Where) (e : Expression) → IsKeepable b w e → IsSimple (typed w e) ⊎ IsPointerName w e
+keepable false w e p = inl p
+keepable true w e p = p
+
+pub loops_over : (b : Bool) (w : Where) (e : Expression) → LoopsOver b w e → IsSpace (typed w e) ⊎ IsNamedRegion w e
+loops_over false w e p = inl p
+loops_over true w e p = p
+
+-- what goes into it is no pointer
+pub into_simple : (t u : StaticType) → GoesInto t u → IsSimple u
+into_simple _ _ (into_plain _ _ (fills_alike _ _ (two_integers v w))) = simple_integer w
+into_simple _ _ (into_plain _ _ (fills_alike _ _ two_truths)) = simple_truth
+into_simple _ _ (into_plain _ _ (fills_index _ k n)) = simple_index k
+into_simple _ _ (into_index k sp args rs j) = simple_index j
+
+pub zero_simple : (t : StaticType) → HasZero t → IsSimple t
+zero_simple _ (zero_scalar _ (scalar_integer w)) = simple_integer w
+zero_simple _ (zero_scalar _ scalar_truth) = simple_truth
+zero_simple _ (zero_index k) = simple_index k

@@ -1,0 +1,119 @@
+-- Pointers that are kept: the types that have them, and to which regions they go.
+use Rattle.std.specs.Prelude.{◌≡◌, ℕ, ◌<◌, ◌≤◌, ◌^◌, Bool, true, false, List, [], ◌∷◌, length, get_or, Some, None}
+use Rattle.lane_kernels.specs.declared.numbers.FieldKind.{FieldKind}
+use Rattle.lane_kernels.specs.declared.numbers.FieldKind.TheVariants.{Index}
+use Rattle.regent_tree.specs.declared.facts.Term.TheVariants as term
+use Rattle.regent_tree.specs.declared.types.Kind.{Kind}
+use Rattle.regent_tree.specs.declared.types.NumberTerm.{NumberTerm}
+use Rattle.regent_tree.specs.declared.types.NumberTerm.TheVariants as number
+use Rattle.regent_tree.specs.declared.typing.Bound.{Bound}
+use Rattle.regent_tree.specs.declared.typing.StaticType.{StaticType}
+use Rattle.regent_tree.specs.declared.typing.StaticType.TheVariants.{Index as index_type, Pointer as pointer_type}
+use Rattle.regent_tree.specs.Accesses.{space_in}
+use Rattle.regent_tree.specs.Scopes.{bound_as}
+use Rattle.regent_tree.specs.StaticTypes.{Reach}
+use Rattle.regent_tree.specs.Typing.{reaches_of}
+use Rattle.regent_tree.specs.Values.{Region, Target, Value, a_pointer, a_region, a_truth, null_target, point_target}
+use Rattle.code_laws.specs.Simple.{AreAlike, FieldFits, IsIntegerTerm, IsNumber, IsRegion, IsScalar, IsSimple}
+
+-- ---- types
+
+-- each region of a list has a name
+abbrev pub AreNames : List Reach → Type 0
+AreNames [] = Unit {0}
+AreNames (Some (term.Name i) ∷ rs) = AreNames rs
+AreNames (Some (term.Child p c) ∷ rs) = ⊥
+AreNames (None ∷ rs) = ⊥
+
+-- a pointer to elements of regions that have names
+pub data IsPointer : StaticType → Type 0 where
+  a_pointer_type : (k : Kind) (sp : ℕ) (args rs : List Reach) → AreNames rs → IsPointer (pointer_type k sp args rs)
+
+-- what counts as a number: an integer, an index, or a pointer, which stands for its point
+pub data IsCounting : StaticType → Type 0 where
+  counts_number : (t : StaticType) → IsNumber t → IsCounting t
+  counts_pointer : (k : Kind) (sp : ℕ) (args rs : List Reach) → IsCounting (pointer_type k sp args rs)
+
+-- what fields of a type are filled with
+pub data Fills : StaticType → StaticType → Type 0 where
+  fills_alike : (t u : StaticType) → AreAlike t u → Fills t u
+  fills_index : (t : StaticType) (k : Kind) → IsNumber t → Fills t (index_type k)
+
+-- what goes into a variable or a field of a type
+pub data GoesInto : StaticType → StaticType → Type 0 where
+  into_plain : (t u : StaticType) → Fills t u → GoesInto t u
+  into_index : (k : Kind) (sp : ℕ) (args rs : List Reach) (j : Kind) → GoesInto (pointer_type k sp args rs) (index_type j)
+
+-- a variable's type that has a value by itself: 0, or false
+pub data HasZero : StaticType → Type 0 where
+  zero_scalar : (t : StaticType) → IsScalar t → HasZero t
+  zero_index : (k : Kind) → HasZero (index_type k)
+
+-- the numbers of a field of a kind are values of a type
+pub data FieldKeeps : FieldKind → StaticType → Type 0 where
+  keeps_plain : (k : FieldKind) (t : StaticType) → FieldFits k t → FieldKeeps k t
+  keeps_index : (k : Kind) → FieldKeeps Index (index_type k)
+
+-- a number type to which numbers are converted
+pub data IsNumberTerm : NumberTerm → Type 0 where
+  term_integer : (t : NumberTerm) → IsIntegerTerm t → IsNumberTerm t
+  term_index : (k : Kind) → IsNumberTerm (number.Index k)
+
+-- ---- the same where pointers aren't kept
+
+abbrev pub CountsAs : Bool → StaticType → Type 0
+CountsAs false t = IsNumber t
+CountsAs true t = IsCounting t
+
+abbrev pub FitsInto : Bool → StaticType → StaticType → Type 0
+FitsInto false t u = AreAlike t u
+FitsInto true t u = GoesInto t u
+
+abbrev pub FillsInto : Bool → StaticType → StaticType → Type 0
+FillsInto false t u = AreAlike t u
+FillsInto true t u = Fills t u
+
+abbrev pub BeginsAs : Bool → StaticType → Type 0
+BeginsAs false t = IsScalar t
+BeginsAs true t = HasZero t
+
+abbrev pub ConvertsTo : Bool → NumberTerm → Type 0
+ConvertsTo false t = IsIntegerTerm t
+ConvertsTo true t = IsNumberTerm t
+
+-- what a name has where it is read
+abbrev pub IsRead : Bool → StaticType → Type 0
+IsRead false t = IsSimple t
+IsRead true t = Unit {0}
+
+-- ---- where pointers go
+
+-- null, or a point through one of so many regions
+abbrev pub IsTarget : ℕ → Target → Type 0
+IsTarget n null_target = Unit {0}
+IsTarget n (point_target p i) = (p < 2 ^ 32) × (i ≤ n)
+
+-- a region of a field space is the value of a name that has a number, at a place below another
+pub record IsOfName (b : Bound) (upto : ℕ) (names : List Value) (sp i : ℕ) (q : Region) : Type 0 where
+  pub numbered : b.number ≡ i
+  pub region : IsRegion b.static_type
+  pub space : space_in b.static_type ≡ sp
+  pub below : b.place < upto
+  pub value : get_or names b.place (a_truth false) ≡ a_region q
+
+abbrev pub AreReached : List Bound → List Value → ℕ → List Reach → List Region → Type 0
+AreReached bs names sp [] [] = Unit {0}
+AreReached bs names sp (Some (term.Name i) ∷ rs) (q ∷ qs) = IsOfName (bound_as bs i) (length bs) names sp i q × AreReached bs names sp rs qs
+AreReached bs names sp (Some (term.Child p c) ∷ rs) (q ∷ qs) = AreReached bs names sp rs qs
+AreReached bs names sp (None ∷ rs) (q ∷ qs) = AreReached bs names sp rs qs
+AreReached bs names sp _ _ = ⊥
+
+-- the regions of a pointer are those that its type names
+abbrev pub IsPointed : List Bound → List Value → StaticType → Value → Type 0
+IsPointed bs names t (a_pointer target qs) = AreReached bs names (space_in t) (reaches_of t) qs
+IsPointed bs names t _ = Unit {0}
+
+-- so of each name's value, among the names that were bound before it
+abbrev pub ArePointed : List Bound → List Value → Type 0
+ArePointed [] names = Unit {0}
+ArePointed (b ∷ bs) names = IsPointed bs names b.static_type (get_or names b.place (a_truth false)) × ArePointed bs names
