@@ -204,6 +204,7 @@ module _ (x : Setting) (params slots : ℕ) (fit : SlotsFit x slots) (aside : As
               (record (memory_of i) { contents = closed own c; parts = [] }) (is_own x) g.memory numbers_stay refl same g.framed.allows;
           given = λ n e. covered_stays x.code s.store (take (length s.store) after) (memory_of i)
               (record (memory_of i) { contents = closed own c; parts = [] }) (is_asked x.args n) g.memory numbers_stay refl same (g.framed.given n e);
+          parts = g.framed.parts;
         };
       }
 

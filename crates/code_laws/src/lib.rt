@@ -35,7 +35,8 @@ pub fn calls_run_as_meant()
 {}
 
 /// So it is where tasks hand regions over to those that they call: roots that they made, or regions that they took.
-/// What the called task needs lies within what the caller has, and the called task finds each point that it may touch.
+/// What the called task needs lies within what the caller has, and the called task finds each point that it may touch,
+/// of a region that it needs or of one that lies within such a region.
 #[tactic(auto, using(crate::proofs::Top::regions_are_handed_as_meant))]
 pub fn regions_are_handed_as_meant()
     ensures { RegionsAreHandedAsMeant }
