@@ -36,7 +36,8 @@ use Rattle.code_laws.proofs.Tasks.{answering}
 use Rattle.code_laws.proofs.Values.{not_true, number_inside}
 use Rattle.task_code.specs.declared.code.NeedCode.{NeedCode}
 use Rattle.regent_tree.specs.Store.{Touch}
-use Rattle.code_laws.specs.Handing.{AreTypedBy, RegionsAreHandedAsMeant, forms_by}
+use Rattle.code_laws.specs.Handing.{AreTypedBy, HandingProgramsEndWell, RegionsAreHandedAsMeant, forms_by}
+use Rattle.code_laws.specs.LocalPrograms.{IsEnded}
 use Rattle.code_laws.specs.Taking.{allows, given_region, is_asked}
 use Rattle.code_laws.specs.Programs.{AreTypedTasks, CallsRunAsMeant, call_forms, IsTypedRun, LeavesNoRoots, RegionsRunAsMeant, RunsAsMeant, ScalarsRunAsMeant, entry_setting, job_of, region_forms, scalar_forms}
 use Rattle.code_laws.specs.Standing.{Answering, AreTaken, Does, IsFramed, IsInside, IsOf, Stands, machine_value}
@@ -189,9 +190,16 @@ handed_end handing tree inputs turns few are p =
 pub regions_are_handed_as_meant : RegionsAreHandedAsMeant
 regions_are_handed_as_meant tree inputs turns few are p = (handed_end true tree inputs turns few are p).0
 
-pub handed_fit_spaces : (tree : Tree) (inputs : List ℤ) (turns : ℕ) → turns < 2 ^ 64 → AreTypedBy true tree →
-    IsTypedRun (forms_by true tree (task_named tree (entry_name tree))) tree inputs → fits_spaces (code_of tree) (meaning tree inputs turns) ≡ true
-handed_fit_spaces tree inputs turns few are p = (handed_end true tree inputs turns few are p).2
+-- no outcome of a run of the meaning is broken
+pub is_ended : (r : Result Going) → IsEnded (outcome r).ending
+is_ended (gives g s) = tt
+is_ended (fails f s) = tt
+
+pub handing_programs_end_well : HandingProgramsEndWell
+handing_programs_end_well tree inputs turns few are p = record {
+  ended = is_ended _;
+  fits = (handed_end true tree inputs turns few are p).2;
+}
 
 calls_end : (tree : Tree) (inputs : List ℤ) (turns : ℕ) → turns < 2 ^ 64 → AreTypedTasks tree → IsTypedRun call_forms tree inputs →
     RunsAsMeant tree inputs turns × (true ≡ false → LeavesNoRoots (meaning tree inputs turns).ending)

@@ -7,6 +7,7 @@ use Rattle.regent_tree.specs.Typing.{result_type}
 use Rattle.code_rules.specs.Instructions.{tasks_of}
 use Rattle.code_rules.specs.Pieces.{lines}
 use Rattle.code_rules.specs.Programs.{body_piece, place_of, task_code}
+use Rattle.code_laws.specs.LocalPrograms.{EndsWell}
 use Rattle.code_laws.specs.Programs.{IsGiven, IsTypedRun, RunsAsMeant}
 use Rattle.code_laws.specs.Steps.{Forms, Taking}
 use Rattle.code_laws.specs.Taking.{pairs_in}
@@ -36,3 +37,8 @@ AreTypedBy handing tree = (k : ℕ) (t : TaskTree) → slice_get (tasks_of tree)
 abbrev pub RegionsAreHandedAsMeant : Type 0
 RegionsAreHandedAsMeant = (tree : Tree) (inputs : List ℤ) (turns : ℕ) → turns < 2 ^ 64 → AreTypedBy true tree →
     IsTypedRun (forms_by true tree (task_named tree (entry_name tree))) tree inputs → RunsAsMeant tree inputs turns
+
+-- So what it means is never broken, and the roots at the end are of the code's field spaces.
+abbrev pub HandingProgramsEndWell : Type 0
+HandingProgramsEndWell = (tree : Tree) (inputs : List ℤ) (turns : ℕ) → turns < 2 ^ 64 → AreTypedBy true tree →
+    IsTypedRun (forms_by true tree (task_named tree (entry_name tree))) tree inputs → EndsWell tree inputs turns

@@ -5,7 +5,7 @@
 
 ghost use Rattle.code_laws.specs.CallExample.{CallExampleHolds};
 ghost use Rattle.code_laws.specs.Example.{ExampleHolds};
-ghost use Rattle.code_laws.specs.Handing.{RegionsAreHandedAsMeant};
+ghost use Rattle.code_laws.specs.Handing.{HandingProgramsEndWell, RegionsAreHandedAsMeant};
 ghost use Rattle.code_laws.specs.HandingExample.{HandingExampleHolds};
 ghost use Rattle.code_laws.specs.LocalExample.{LocalExampleHolds};
 ghost use Rattle.code_laws.specs.RegionExample.{RegionExampleHolds};
@@ -40,6 +40,11 @@ pub fn calls_run_as_meant()
 #[tactic(auto, using(crate::proofs::Top::regions_are_handed_as_meant))]
 pub fn regions_are_handed_as_meant()
     ensures { RegionsAreHandedAsMeant }
+{}
+
+/// What such a program means is never broken, and the roots that it leaves are of the code's field spaces.
+pub fn handing_programs_end_well()
+    ensures { HandingProgramsEndWell }
 {}
 
 /// So it is for each accepted program over scalars.
