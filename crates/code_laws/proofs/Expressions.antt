@@ -31,7 +31,7 @@ use Rattle.code_rules.specs.Expressions.{count, expr_code, exprs_code, links_cod
 use Rattle.code_rules.specs.Instructions.{converted_code, operand_code, place_of_task}
 use Rattle.code_laws.specs.Steps.{Leads, Setting, placed}
 use Rattle.code_laws.specs.Standing.{Comes, Stands, machine_value, IsInside, IsOf, of_integer, of_truth, nothing, Aside, SlotsFit, where_of, Agrees}
-use Rattle.code_laws.specs.Simple.{AreAlike, IsScalar}
+use Rattle.code_laws.specs.Simple.{AreAlike}
 use Rattle.regent_tree.specs.StaticTypes.{task_named}
 use Rattle.code_laws.specs.Typed.{ArePassed, IsTyped, AreTypedLinks}
 use Rattle.code_laws.proofs.Runs.{comes_on, leads_none, then, then_led, comes_said}

@@ -6,20 +6,19 @@ use Rattle.std.proofs.lemmas.List.{append_assoc, get_or_default, length-map, map
 use Rattle.std.proofs.lemmas.Option.{get_or_from_slice_get, none-some, same_Some, slice_get-map}
 use Rattle.std.proofs.Math.ListN.{get_or-append}
 use Rattle.plain_values.specs.Points.{has}
-use Rattle.lane_kernels.specs.declared.numbers.Mode.{Mode}
-use Rattle.region_tree.specs.Requirements.{Requirement, is_within, mode_at}
+use Rattle.region_tree.specs.Requirements.{is_within, mode_at}
 use Rattle.region_tree.specs.declared.tree.RootId.{RootId}
 use Rattle.regent_tree.proofs.Expressions.{values_kept}
 use Rattle.regent_tree.proofs.Laws.{any_calls, names_law}
 use Rattle.regent_tree.proofs.Members.{Has, Has-from_Contains}
 use Rattle.regent_tree.specs.Evaluation.{value, values}
 use Rattle.regent_tree.specs.Accesses.{converted, space_in}
-use Rattle.regent_tree.specs.Laws.{Leaves, SameNames, shape_of, Shape}
+use Rattle.regent_tree.specs.Laws.{Leaves, SameNames, Shape}
 use Rattle.regent_tree.specs.Lookup.{is_bound}
-use Rattle.regent_tree.specs.Running.{Here, Result, Run, State, and_then, gives}
+use Rattle.regent_tree.specs.Running.{Here, Result, Run, State, and_then}
 use Rattle.regent_tree.specs.Scopes.{bound_to, scope_of}
 use Rattle.regent_tree.specs.StaticTypes.{space_at, task_named}
-use Rattle.regent_tree.specs.Store.{Store, no_root}
+use Rattle.regent_tree.specs.Store.{no_root}
 use Rattle.regent_tree.specs.Syntax.{Expression, Expressions, Name, access_expr, an_expr, no_expr, no_step}
 use Rattle.regent_tree.specs.Typing.{param_types}
 use Rattle.regent_tree.specs.Values.{Region, Value, a_region, a_truth, region_of}
@@ -34,7 +33,7 @@ use Rattle.machine_terms.specs.Makes.{region_with}
 use Rattle.machine_terms.specs.Pointers.{region_in}
 use Rattle.machine_terms.specs.declared.value.RegionValue.{RegionValue}
 use Rattle.memory_laws.proofs.Given.{given_stands}
-use Rattle.code_rules.specs.Expressions.{count, expr_code}
+use Rattle.code_rules.specs.Expressions.{expr_code}
 use Rattle.code_rules.specs.Instructions.{converted_code}
 use Rattle.code_rules.specs.Pieces.{past}
 use Rattle.code_rules.specs.Programs.{task_code}
@@ -43,8 +42,8 @@ use Rattle.memory_laws.specs.Memory.{memory_of}
 use Rattle.memory_laws.specs.Places.{number_at, numbers}
 use Rattle.memory_laws.specs.Touches.{Covers}
 use Rattle.code_laws.specs.Simple.{AreAlike, AreRegions, IsRegion, term_in, two_regions}
-use Rattle.code_laws.specs.Standing.{Agrees, AreTaken, Aside, IsInside, IsOf, IsTaken, LiesIn, SlotsFit, Stands, Takes, machine_value, nothing, of_region, takes_region, takes_scalar, where_of}
-use Rattle.code_laws.specs.Steps.{HasMore, Leads, Setting, Taking, placed}
+use Rattle.code_laws.specs.Standing.{Agrees, AreTaken, Aside, IsInside, IsOf, IsTaken, SlotsFit, Stands, Takes, machine_value, nothing, takes_region, takes_scalar, where_of}
+use Rattle.code_laws.specs.Steps.{HasMore, Setting, Taking, placed}
 use Rattle.code_laws.specs.Taking.{AreParts, IsHad, IsHadBy, MayDo, given_region, pairs_in, pairs_taken}
 use Rattle.fact_laws.specs.Regions.{LiesWithin}
 use Rattle.regent_tree.specs.declared.facts.Term.{Term}
@@ -56,7 +55,7 @@ use Rattle.code_laws.proofs.Good.{valued}
 use Rattle.code_laws.proofs.Making.{same_value}
 use Rattle.code_laws.proofs.Operations.{named_runs}
 use Rattle.code_laws.proofs.Reaching.{a_region_there, field_there, part_lies, region_covered, region_had, region_lies_in}
-use Rattle.code_laws.proofs.Requiring.{IsNeeded, IsOnRegion, covered_within, requirements_there}
+use Rattle.code_laws.proofs.Requiring.{covered_within, requirements_there}
 use Rattle.code_laws.proofs.Runs.{Said}
 use Rattle.code_laws.proofs.Values.{named}
 

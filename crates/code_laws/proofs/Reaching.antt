@@ -11,7 +11,7 @@ use Rattle.regent_tree.specs.declared.facts.Term.TheVariants.{Name}
 use Rattle.std.proofs.lemmas.List.{length-map}
 use Rattle.std.proofs.lemmas.Simd.{map-map}
 use Rattle.std.proofs.Math.ListN.{get_or-map}
-use Rattle.std.proofs.lemmas.Bool.{and_from, and_parts, eq-eqb, eqb-true, le-leb}
+use Rattle.std.proofs.lemmas.Bool.{and_from, and_parts, eq-eqb, le-leb}
 use Rattle.plain_values.specs.Points.{has}
 use Rattle.lane_kernels.specs.declared.numbers.FieldKind.TheVariants.{Truth}
 use Rattle.lane_kernels.specs.declared.numbers.Mode.{Mode}

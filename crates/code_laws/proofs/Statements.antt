@@ -43,7 +43,6 @@ use Rattle.code_laws.proofs.Expressions.{AreGiven, args_run, value_runs}
 use Rattle.code_laws.proofs.Handing.{call_takes}
 use Rattle.code_laws.proofs.Calling.{HasResult, calls_run, pending}
 use Rattle.code_laws.proofs.Prints.{pushed_all}
-use Rattle.machine_terms.specs.Contents.{no_contents}
 use Rattle.regent_tree.specs.StaticTypes.{task_named}
 use Rattle.code_laws.proofs.PrintRuns.{values_run, prints}
 use Rattle.code_laws.proofs.Names.{form_grown, block_grown, arms_names, else_names}

@@ -1,6 +1,6 @@
 -- What a call of a task means, its child comes to: by induction on how many more calls may nest.
 use Rattle.std.proofs.Common.{inr, ◌≡◌, ℕ, zero, suc, ◌+◌, ◌^◌, ◌<◌, ◌≤◌, ℤ, pos, List, [], ◌∷◌, ◌++◌, Option, Some, None, refl, sym, ap, ◌∙◌, subst, arith}
-use Rattle.std.specs.Prelude.{Bool, get_or, length, map, reverse, take, true, false}
+use Rattle.std.specs.Prelude.{Bool, get_or, length, map, take, true, false}
 use Rattle.std.specs.List.{Contains}
 use Rattle.std.proofs.lemmas.List.{reverse-append}
 use Rattle.std.proofs.lemmas.Option.{none-some, same_Some}

@@ -1,8 +1,6 @@
 -- Where no regions are handed over, a call of a task that needs nothing is typed, and each field may be filled.
 use Rattle.std.proofs.Common.{List, [], ◌∷◌, None, sym, subst}
-use Rattle.regent_tree.specs.StaticTypes.{task_named}
 use Rattle.regent_tree.specs.Syntax.{Expressions, Name}
-use Rattle.code_rules.specs.Programs.{task_code}
 use Rattle.code_rules.specs.Slots.{Where}
 use Rattle.code_laws.specs.Programs.{call_forms}
 use Rattle.code_laws.specs.Typed.{AreMet, IsCallable, IsCalled, MayFill}
