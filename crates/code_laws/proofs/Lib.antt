@@ -39,6 +39,7 @@ pub mod TypedStatements
 pub mod Entries
 pub mod Untaken
 pub mod LocalNames
+pub mod Privileges
 pub mod LocalExpressions
 pub mod LocalStatements
 pub mod LocalBlocks

@@ -13,3 +13,4 @@ pub mod Example
 pub mod RegionExample
 pub mod CallExample
 pub mod HandingExample
+pub mod Privileges

@@ -8,6 +8,7 @@ ghost use Rattle.code_laws.specs.Example.{ExampleHolds};
 ghost use Rattle.code_laws.specs.Handing.{HandingProgramsEndWell, RegionsAreHandedAsMeant};
 ghost use Rattle.code_laws.specs.HandingExample.{HandingExampleHolds};
 ghost use Rattle.code_laws.specs.LocalExample.{LocalExampleHolds};
+ghost use Rattle.code_laws.specs.Privileges.{AllowedIsNeeded};
 ghost use Rattle.code_laws.specs.RegionExample.{RegionExampleHolds};
 ghost use Rattle.code_laws.specs.Programs.{CallsRunAsMeant, RegionsRunAsMeant, ScalarsRunAsMeant};
 ghost use Rattle.code_laws.specs.LocalPrograms.{LocalProgramsEndWell, LocalProgramsRunAsMeant};
@@ -40,6 +41,12 @@ pub fn calls_run_as_meant()
 #[tactic(auto, using(crate::proofs::Top::regions_are_handed_as_meant))]
 pub fn regions_are_handed_as_meant()
     ensures { RegionsAreHandedAsMeant }
+{}
+
+/// Where the rules allow an access to a region that a task took, its code needs that: so the access may be made.
+#[tactic(auto, using(crate::proofs::Privileges::allowed_is_needed))]
+pub fn allowed_accesses_may_be_made()
+    ensures { AllowedIsNeeded }
 {}
 
 /// What such a program means is never broken, and the roots that it leaves are of the code's field spaces.
