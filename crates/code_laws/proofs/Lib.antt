@@ -21,6 +21,7 @@ pub mod Calling
 pub mod Results
 pub mod Operations
 pub mod Requiring
+pub mod Arguments
 pub mod Handing
 pub mod Counting
 pub mod Through
@@ -46,6 +47,7 @@ pub mod TypedStatements
 pub mod Entries
 pub mod Untaken
 pub mod LocalNames
+pub mod Privileges
 pub mod LocalExpressions
 pub mod LocalStatements
 pub mod LocalBlocks

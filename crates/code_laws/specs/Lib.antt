@@ -15,3 +15,4 @@ pub mod RegionExample
 pub mod PointerExample
 pub mod CallExample
 pub mod HandingExample
+pub mod Privileges
