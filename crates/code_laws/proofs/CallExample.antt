@@ -20,11 +20,11 @@ main = task_named calls_program (entry_name calls_program)
 
 main_typed : IsTypedBlock call_forms (place_of calls_program main) main.body
 main_typed = (
-  (refl, a_space_type _, (omega (arith, ints), an_integer _), record { there = omega arith; few = omega arith }),
+  (refl, a_space_type _, (omega (arith, ints), an_integer _), record { there = omega arith; few = omega arith }, tt),
   (
     (
       two_integers _ _,
-      (refl, scalar_integer _, (refl, tt), (inl (two_integers _ _, refl, (refl, simple_integer _)), tt)),
+      (refl, scalar_integer _, (refl, tt, tt), (inl (two_integers _ _, refl, (refl, simple_integer _)), tt)),
       omega (arith, ints),
       number_integer _,
       refl,
@@ -32,14 +32,14 @@ main_typed = (
       tt,
     ),
     (
-      (refl, (refl, tt), (inl (two_integers _ _, refl, omega (arith, ints)), tt)),
+      (refl, (refl, tt, tt), (inl (two_integers _ _, refl, omega (arith, ints)), tt)),
       (
         (
           two_integers _ _,
           (
             refl,
             scalar_integer _,
-            (refl, tt),
+            (refl, tt, tt),
             (
               inl (
                 two_integers _ _,
@@ -75,7 +75,7 @@ tasks : AreTypedTasks calls_program
 tasks zero t e = subst (IsTypedTask calls_program) (same_Some _ t e) (record {
   given = gives_scalar _ (scalar_integer _);
   typed = (
-    (refl, a_space_type _, (omega (arith, ints), an_integer _), record { there = omega arith; few = omega arith }),
+    (refl, a_space_type _, (omega (arith, ints), an_integer _), record { there = omega arith; few = omega arith }, tt),
     (
       (
         two_integers _ _,

@@ -15,7 +15,6 @@ use Rattle.regent_tree.specs.Syntax.{Name, Tree}
 use Rattle.regent_tree.specs.Typing.{param_types}
 use Rattle.regent_tree.specs.Values.{Value, a_number, a_partition, a_pointer, a_region, a_space, a_truth, an_index, kept_number}
 use Rattle.regent_tree.specs.declared.outcome.FaultKind.TheVariants.{Depth, Turns}
-use Rattle.regent_tree.specs.declared.typing.StaticType.{StaticType}
 use Rattle.task_code.specs.declared.code.TaskCode.{TaskCode}
 use Rattle.task_code.specs.declared.instr.Instr.TheVariants as instr
 use Rattle.machine_terms.specs.declared.order.Contents.{Contents}
@@ -53,7 +52,7 @@ use Rattle.memory_laws.proofs.Given.{given_holds, given_keeps_numbers}
 use Rattle.memory_laws.proofs.Returning.{returned_holds}
 use Rattle.code_laws.specs.Taking.{is_asked}
 use Rattle.code_laws.proofs.Shapes.{shaped_stays}
-use Rattle.code_laws.specs.Standing.{Agrees, Answering, AreTaken, Aside, Comes, IsTaken, Matches, Returns, SlotsFit, Stands, Takes, both_back, both_broke, called_with, is_own, machine_value}
+use Rattle.code_laws.specs.Standing.{Agrees, Answering, Aside, Comes, IsTaken, Matches, Returns, SlotsFit, Stands, Takes, both_back, both_broke, called_with, is_own, machine_value}
 use Rattle.code_laws.specs.Steps.{Setting, Taking, machine_of, placed, on_step, Leads, Ends}
 use Rattle.code_laws.proofs.Making.{same_names}
 use Rattle.code_laws.proofs.Openings.{least_slots, params_length, taken_length, types_length}
@@ -204,6 +203,7 @@ module _ (x : Setting) (params slots : ℕ) (fit : SlotsFit x slots) (aside : As
               (record (memory_of i) { contents = closed own c; parts = [] }) (is_own x) g.memory numbers_stay refl same g.framed.allows;
           given = λ n e. covered_stays x.code s.store (take (length s.store) after) (memory_of i)
               (record (memory_of i) { contents = closed own c; parts = [] }) (is_asked x.args n) g.memory numbers_stay refl same (g.framed.given n e);
+          parts = g.framed.parts;
         };
       }
 

@@ -4,7 +4,8 @@ use Rattle.code_laws.proofs.States.{stored}
 use Rattle.code_laws.proofs.Prints.{pushed_all}
 use Rattle.code_laws.proofs.Results.{results_run}
 use Rattle.code_laws.proofs.Calling.{HasResult, calls_run, pending}
-use Rattle.code_laws.proofs.Handing.{AreGivenBy, IsGivenBy, arguments_keep_names, call_takes, given_either, handed_run, value_stays}
+use Rattle.code_laws.proofs.Handing.{AreGivenBy, IsGivenBy, arguments_keep_names, call_takes, handed_run, value_stays}
+use Rattle.code_laws.proofs.Arguments.{given_either}
 use Rattle.code_laws.proofs.Operations.{compared_left, compared_operand, compared_right, standing_number, alike_right, and_runs, compare_runs, compute_runs, converted_runs, fetch_small, named_runs, or_runs, plain_signs, same_type, signs_run, signs_typed, space_runs, standing_runs, truth_of_type, wraps_run}
 use Rattle.code_laws.proofs.Accesses.{access_reads}
 use Rattle.regent_tree.proofs.Laws.{expressions_keep_names}
@@ -30,7 +31,7 @@ use Rattle.code_rules.specs.Expressions.{count, expr_code, exprs_code, links_cod
 use Rattle.code_rules.specs.Instructions.{converted_code, operand_code, place_of_task}
 use Rattle.code_laws.specs.Steps.{Leads, Setting, placed}
 use Rattle.code_laws.specs.Standing.{Comes, Stands, machine_value, IsInside, IsOf, of_integer, of_truth, nothing, Aside, SlotsFit, where_of, Agrees}
-use Rattle.code_laws.specs.Simple.{AreAlike, IsScalar}
+use Rattle.code_laws.specs.Simple.{AreAlike}
 use Rattle.regent_tree.specs.StaticTypes.{task_named}
 use Rattle.code_laws.specs.Typed.{ArePassed, IsTyped, AreTypedLinks}
 use Rattle.code_laws.proofs.Runs.{comes_on, leads_none, then, then_led, comes_said}

@@ -1,30 +1,28 @@
 -- Arguments of a call: numbers, truths and regions that have names; what the called task requires of them is there,
 -- and lies within what the caller has.
-use Rattle.std.proofs.Common.{◌≡◌, ℕ, zero, suc, ◌<◌, List, [], ◌∷◌, ◌++◌, ◌⊎◌, inl, inr, true, Option, Some, None, refl, sym, ap, ◌∙◌, subst, arith, ⊎_elim}
+use Rattle.std.proofs.Common.{◌≡◌, ℕ, zero, suc, ◌<◌, List, [], ◌∷◌, ◌++◌, ◌⊎◌, inl, inr, true, false, Option, Some, None, refl, sym, ap, ◌∙◌, subst, arith, ⊎_elim}
 use Rattle.std.specs.Prelude.{get_or, length, map, option_map, slice_get}
 use Rattle.std.proofs.lemmas.List.{append_assoc, get_or_default, length-map, map-append}
-use Rattle.std.proofs.lemmas.Option.{none-some, same_Some, slice_get-map}
+use Rattle.std.proofs.lemmas.Option.{get_or_from_slice_get, none-some, same_Some, slice_get-map}
 use Rattle.std.proofs.Math.ListN.{get_or-append}
 use Rattle.plain_values.specs.Points.{has}
-use Rattle.lane_kernels.specs.declared.numbers.Mode.{Mode}
-use Rattle.region_tree.specs.Requirements.{Requirement, is_within, mode_at}
+use Rattle.region_tree.specs.Requirements.{is_within, mode_at}
 use Rattle.region_tree.specs.declared.tree.RootId.{RootId}
 use Rattle.regent_tree.proofs.Expressions.{values_kept}
 use Rattle.regent_tree.proofs.Laws.{any_calls, names_law}
-use Rattle.regent_tree.proofs.Members.{Has}
+use Rattle.regent_tree.proofs.Members.{Has, Has-from_Contains}
 use Rattle.regent_tree.specs.Evaluation.{value, values}
 use Rattle.regent_tree.specs.Accesses.{converted, space_in}
-use Rattle.regent_tree.specs.Laws.{Leaves, SameNames, shape_of, Shape}
+use Rattle.regent_tree.specs.Laws.{Leaves, SameNames, Shape}
 use Rattle.regent_tree.specs.Lookup.{is_bound}
-use Rattle.regent_tree.specs.Running.{Here, Result, Run, State, and_then, gives}
-use Rattle.regent_tree.specs.Scopes.{bound_to}
+use Rattle.regent_tree.specs.Running.{Here, Result, Run, State, and_then}
+use Rattle.regent_tree.specs.Scopes.{bound_to, scope_of}
 use Rattle.regent_tree.specs.StaticTypes.{space_at, task_named}
-use Rattle.regent_tree.specs.Store.{Store, no_root}
-use Rattle.regent_tree.specs.Syntax.{Expression, Expressions, Name, access_expr, an_expr, at_step, call_expr, cast_expr, chain_expr, convert_expr, field_step, is_null_expr, no_expr, no_step, null_expr, number_expr, prefix_expr, space_expr, truth_expr}
+use Rattle.regent_tree.specs.Store.{no_root}
+use Rattle.regent_tree.specs.Syntax.{Expression, Expressions, Name, access_expr, an_expr, no_expr, no_step}
 use Rattle.regent_tree.specs.Typing.{param_types}
-use Rattle.regent_tree.specs.Values.{Region, Value, a_region}
+use Rattle.regent_tree.specs.Values.{Region, Value, a_region, a_truth, region_of}
 use Rattle.regent_tree.specs.declared.typing.StaticType.{StaticType}
-use Rattle.regent_tree.specs.declared.typing.StaticType.TheVariants.{Region as region_type}
 use Rattle.task_code.specs.declared.code.NeedCode.{NeedCode}
 use Rattle.machine_terms.specs.declared.order.Instance.{Instance}
 use Rattle.machine_terms.specs.declared.order.Root.{Root}
@@ -35,101 +33,35 @@ use Rattle.machine_terms.specs.Makes.{region_with}
 use Rattle.machine_terms.specs.Pointers.{region_in}
 use Rattle.machine_terms.specs.declared.value.RegionValue.{RegionValue}
 use Rattle.memory_laws.proofs.Given.{given_stands}
-use Rattle.code_rules.specs.Expressions.{count, expr_code}
+use Rattle.code_rules.specs.Expressions.{expr_code}
 use Rattle.code_rules.specs.Instructions.{converted_code}
-use Rattle.code_rules.specs.Pieces.{empty, past}
+use Rattle.code_rules.specs.Pieces.{past}
 use Rattle.code_rules.specs.Programs.{task_code}
-use Rattle.code_rules.specs.Slots.{Where, bound, typed}
+use Rattle.code_rules.specs.Slots.{Where, typed}
 use Rattle.memory_laws.specs.Memory.{memory_of}
 use Rattle.memory_laws.specs.Places.{number_at, numbers}
 use Rattle.memory_laws.specs.Touches.{Covers}
-use Rattle.code_laws.specs.Simple.{AreAlike, AreRegions, IsRegion, IsScalar, a_region_type, scalar_integer, scalar_truth, term_in, two_integers, two_regions, two_truths}
-use Rattle.code_laws.specs.Standing.{Agrees, AreTaken, Aside, IsInside, IsOf, IsTaken, LiesIn, SlotsFit, Stands, Takes, machine_value, nothing, of_region, takes_region, takes_scalar, where_of}
-use Rattle.code_laws.specs.Steps.{HasMore, Leads, Setting, Taking, placed}
-use Rattle.code_laws.specs.Taking.{MayDo}
-use Rattle.code_laws.specs.Typed.{AreMet, IsCallable, IsHanded, IsMet, name_at, name_of}
+use Rattle.code_laws.specs.Simple.{AreAlike, AreRegions, IsRegion, term_in, two_regions}
+use Rattle.code_laws.specs.Standing.{Agrees, AreTaken, Aside, IsInside, IsOf, IsTaken, SlotsFit, Stands, Takes, machine_value, nothing, takes_region, takes_scalar, where_of}
+use Rattle.code_laws.specs.Steps.{HasMore, Setting, Taking, placed}
+use Rattle.code_laws.specs.Taking.{AreParts, IsHad, IsHadBy, MayDo, given_region, pairs_in, pairs_taken}
+use Rattle.fact_laws.specs.Regions.{LiesWithin}
+use Rattle.regent_tree.specs.declared.facts.Term.{Term}
+use Rattle.regent_tree.specs.declared.facts.Term.TheVariants as term
+use Rattle.code_laws.specs.Typed.{AreMet, AreParted, IsCallable, IsHanded, IsMet, IsPart, IsParted, name_at, name_of}
+use Rattle.code_laws.proofs.Arguments.{Unchanged, alike_other, alike_scalar, first_region, handed_name, named_typed, region_other, unchanged}
 use Rattle.code_laws.proofs.Calling.{given_number}
 use Rattle.code_laws.proofs.Good.{valued}
 use Rattle.code_laws.proofs.Making.{same_value}
 use Rattle.code_laws.proofs.Operations.{named_runs}
-use Rattle.code_laws.proofs.Reaching.{a_region_there, field_there, region_covered, region_lies_in}
-use Rattle.code_laws.proofs.Requiring.{IsNeeded, IsOnRegion, covered_within, requirements_there}
+use Rattle.code_laws.proofs.Reaching.{a_region_there, field_there, part_lies, region_covered, region_had, region_lies_in}
+use Rattle.code_laws.proofs.Requiring.{covered_within, requirements_there}
 use Rattle.code_laws.proofs.Runs.{Said}
 use Rattle.code_laws.proofs.Values.{named}
 
 -- arguments leave the names as they were
 pub arguments_keep_names : (h : Here) (ts : List StaticType) (es : Expressions) (s : State) → Leaves SameNames s (values h ts es s)
 arguments_keep_names h ts es s = (values_kept names_law h (any_calls h.calls) ts es).all s
-
--- ---- names that stand as arguments
-
--- a region that is handed over has a name
-handed_name : (y : Taking) (w : Where) (t p : StaticType) (e : Expression) → IsHanded (Some y) w t p e →
-    (n : Name) × (e ≡ access_expr n no_step) × (is_bound w.scope.names n ≡ true) × (t ≡ p) × AreRegions (bound w n).static_type p
-handed_name y w t p (access_expr n no_step) h = (n, refl, h.0, h.1, h.2)
-handed_name y w t p (access_expr n (field_step _ _)) h = absurd h
-handed_name y w t p (access_expr n (at_step _ _)) h = absurd h
-handed_name y w t p (number_expr _ _) h = absurd h
-handed_name y w t p (truth_expr _) h = absurd h
-handed_name y w t p (chain_expr _ _) h = absurd h
-handed_name y w t p (prefix_expr _ _) h = absurd h
-handed_name y w t p (call_expr _ _) h = absurd h
-handed_name y w t p (convert_expr _ _) h = absurd h
-handed_name y w t p (is_null_expr _) h = absurd h
-handed_name y w t p (null_expr _) h = absurd h
-handed_name y w t p (cast_expr _ _) h = absurd h
-handed_name y w t p (space_expr _ _) h = absurd h
-
--- a name's type
-named_typed : (w : Where) (e : Expression) (n : Name) → name_of e ≡ Some n → typed w e ≡ (bound w n).static_type
-named_typed w (access_expr m no_step) n h = ap (λ k. (bound w k).static_type) (same_Some m n h)
-named_typed w (access_expr m (field_step _ _)) n h = absurd (none-some n h)
-named_typed w (access_expr m (at_step _ _)) n h = absurd (none-some n h)
-named_typed w (number_expr _ _) n h = absurd (none-some n h)
-named_typed w (truth_expr _) n h = absurd (none-some n h)
-named_typed w (chain_expr _ _) n h = absurd (none-some n h)
-named_typed w (prefix_expr _ _) n h = absurd (none-some n h)
-named_typed w (call_expr _ _) n h = absurd (none-some n h)
-named_typed w (convert_expr _ _) n h = absurd (none-some n h)
-named_typed w (is_null_expr _) n h = absurd (none-some n h)
-named_typed w (null_expr _) n h = absurd (none-some n h)
-named_typed w (cast_expr _ _) n h = absurd (none-some n h)
-named_typed w (space_expr _ _) n h = absurd (none-some n h)
-
--- no region is a number or truth
-abbrev IsNoRegion : StaticType → Type 0
-IsNoRegion (region_type k sp args r) = ⊥
-IsNoRegion t = Unit {0}
-
-alike_other : (t u : StaticType) → AreAlike t u → IsNoRegion t
-alike_other _ _ (two_integers v w) = tt
-alike_other _ _ two_truths = tt
-
-region_other : (t : StaticType) → IsRegion t → IsNoRegion t → ⊥
-region_other _ (a_region_type k sp args r) h = absurd h
-
-alike_scalar : (t u : StaticType) → AreAlike t u → IsScalar u
-alike_scalar _ _ (two_integers v w) = scalar_integer w
-alike_scalar _ _ two_truths = scalar_truth
-
-first_region : (t u : StaticType) → AreRegions t u → IsRegion t
-first_region _ _ (two_regions k l sp args brgs r u) = a_region_type k sp args r
-
--- a region isn't converted
-record Unchanged (h : Here) (w : Where) (from t : StaticType) : Type 0 where
-  code : converted_code w from t ≡ empty
-  value : (v : Value) (s : State) → converted h from t [] v s ≡ gives v s
-
-unchanged : (h : Here) (w : Where) (from b p : StaticType) → AreRegions b p → Unchanged h w from p
-unchanged h w from _ _ (two_regions k l sp args brgs r u) = record { code = refl; value = λ v s. refl }
-
--- what is passed is a number or truth, or a region
-pub given_either : (o : Option Taking) (w : Where) (t p : StaticType) (e : Expression) (Typed Goal : Type 0) →
-    (AreAlike (typed w e) t → t ≡ p → Typed → Goal) → ((y : Taking) → o ≡ Some y → IsHanded (Some y) w t p e → Goal) →
-    (AreAlike (typed w e) t × (t ≡ p) × Typed) ⊎ IsHanded o w t p e → Goal
-given_either o w t p e Typed Goal this that (inl a) = this a.0 a.1 a.2
-given_either None w t p e Typed Goal this that (inr h) = absurd h
-given_either (Some y) w t p e Typed Goal this that (inr h) = that y refl h
 
 -- ---- what arguments are
 
@@ -286,6 +218,69 @@ module _ (x : Setting) (params slots : ℕ) (fit : SlotsFit x slots) (aside : As
   taken_by h s i (p ∷ ps) no_expr vs a g = absurd a
   taken_by h s i (p ∷ ps) (an_expr e es) [] a g = absurd a
 
+  -- ---- constraints
+
+  abbrev number_in : Term → ℕ
+  number_in (term.Name i) = i
+  number_in (term.Child p c) = 0
+
+  -- what a parameter's name stands for is its argument
+  given_as : (y : Taking) (i : ℕ) (q : Region) → i < y.params → IsHadBy (Some y) x (term.Name i) q → given_region x.args i ≡ q
+  given_as y i q low (inl own) = absurd (omega (arith, low, own.1))
+  given_as y i q low (inr g) = ap (given_region x.args) (ap number_in g.named) ∙ g.is
+
+  part_given : (y : Taking) (r u : Term) (q p : Region) → x.forms.takes ≡ Some y → IsPart y r u → IsHad x r q → IsHad x u p →
+      AreParts x.args (pairs_taken x.forms.takes) → LiesWithin q p
+  part_given y (term.Name i) (term.Name j) q p e is had there parts =
+      subst (λ a. LiesWithin a p) (given_as y i q is.0 (subst (λ o. IsHadBy o x (term.Name i) q) e had))
+      (subst (LiesWithin (given_region x.args i)) (given_as y j p is.1 (subst (λ o. IsHadBy o x (term.Name j) p) e there))
+      (part_lies y x.args i j (subst (λ o. AreParts x.args (pairs_taken o)) e parts) is.2))
+  part_given y (term.Name i) (term.Child _ _) q p e is had there parts = absurd is
+  part_given y (term.Child _ _) u q p e is had there parts = absurd is
+
+  -- the region of a name that stands as an argument
+  record ByName (h : Here) (s : State) (vs : List Value) (k : ℕ) (n : Name) : Type 0 where
+    region : Region
+    is : given_region vs k ≡ region
+    value : get_or s.names (bound_to h.scope.names n).place nothing ≡ a_region region
+    had : IsHad x (term_in (bound_to h.scope.names n).static_type) region
+
+  by_name : (h : Here) (s : State) (i : Instance) (ps : List StaticType) (es : Expressions) (vs : List Value) (k : ℕ) (n : Name) →
+      name_at es k ≡ Some n → is_bound h.scope.names n ≡ true → IsRegion (bound_to h.scope.names n).static_type →
+      AreGivenBy h ps es vs s.names → Agrees x params slots aside h s i → ByName h s vs k n
+  by_name h s i ps es vs k n at there region a g =
+      let b = bound_to h.scope.names n in
+      let v = get_or s.names b.place nothing in
+      let q = a_region_there b.static_type v region (named IsOf h.scope.names s.names n g.typed there).holding in record {
+        region = q.0;
+        is = ap region_of (get_or_from_slice_get vs k v (a_truth false) (value_at h ps es vs s.names k n a at region)) ∙ q.1;
+        value = q.2;
+        had = region_had x s.store b.static_type q.0 region
+            (subst (IsInside x s.store b.static_type) q.2 (named (IsInside x s.store) h.scope.names s.names n g.inside_store there).holding);
+      }
+
+  parted_lies : (h : Here) (s : State) (i : Instance) (ps : List StaticType) (es : Expressions) (vs : List Value) (y : Taking) (j k : ℕ) (o u : Option Name) →
+      x.forms.takes ≡ Some y → name_at es j ≡ o → name_at es k ≡ u → IsParted y (where_of params h) o u → AreGivenBy h ps es vs s.names →
+      Agrees x params slots aside h s i → LiesWithin (given_region vs j) (given_region vs k)
+  parted_lies h s i ps es vs y j k None u e at there is a g = absurd is
+  parted_lies h s i ps es vs y j k (Some m) None e at there is a g = absurd is
+  parted_lies h s i ps es vs y j k (Some m) (Some n) e at there is a g =
+      let b = by_name h s i ps es vs j m at is.0 is.2 a g in
+      let c = by_name h s i ps es vs k n there is.1 is.3 a g in
+      subst (λ q. LiesWithin q (given_region vs k)) (sym b.is)
+      (subst (LiesWithin b.region) (sym c.is)
+      (⊎_elim
+      (λ same. subst (LiesWithin b.region)
+      (ap region_of (sym b.value ∙ ap (λ n. get_or s.names (bound_to h.scope.names n).place nothing) same ∙ c.value)) (λ root point in_it. in_it))
+      (λ part. part_given y (term_in (bound_to h.scope.names m).static_type) (term_in (bound_to h.scope.names n).static_type) b.region c.region e
+      part b.had c.had g.framed.parts) is.4))
+
+  parted_at : (y : Taking) (w : Where) (es : Expressions) (ps : List (ℕ × ℕ)) (p : ℕ × ℕ) → AreParted (Some y) w es ps → Has ps p →
+      IsParted y w (name_at es p.0) (name_at es p.1)
+  parted_at y w es [] p a h = absurd h
+  parted_at y w es (k ∷ ps) p a (inl e) = subst (λ k. IsParted y w (name_at es k.0) (name_at es k.1)) e a.0
+  parted_at y w es (k ∷ ps) p a (inr h) = parted_at y w es ps p a.1 h
+
   -- a call takes what its arguments are, and requires no more than its caller has
   pub record CallTakes (h : Here) (task : Name) (vs : List Value) (s : State) (i : Instance) : Type 0 where
     pub takes : Takes x.forms.takes x.code h.tree task vs s.store (give_parts i.parts i.contents)
@@ -315,8 +310,13 @@ module _ (x : Setting) (params slots : ℕ) (fit : SlotsFit x slots) (aside : As
         field = subst (λ sp. n.field < length (kinds_of x.code sp))
             (sym (ap (λ (s : Shape). s.space) (stands.shape o.points.root) ∙ (region_lies_in x s.store t o.points o.region o.inside).of_space))
             (field_there x.code h.tree (space_in t) n.field g.spaces o.field);
-      }) in record {
-        takes = record { there = fine.0; taken = taken_by h s i ps es vs a g; needs = there.0; required = there.1 };
+      }) in
+      let parts : (y : Taking) → x.forms.takes ≡ Some y → AreParts vs (pairs_in (scope_of h.tree (task_named h.tree task)).known) =
+      λ y e p k. parted_lies h s i ps es vs y p.0 p.1 (name_at es p.0) (name_at es p.1) e refl refl
+      (parted_at y w es (pairs_in (scope_of h.tree (task_named h.tree task)).known) p
+      (subst (λ o. AreParted o w es (pairs_in (scope_of h.tree (task_named h.tree task)).known)) e fine.2)
+      (Has-from_Contains (pairs_in (scope_of h.tree (task_named h.tree task)).known) p k)) a g in record {
+        takes = record { there = fine.0; taken = taken_by h s i ps es vs a g; parts = parts; needs = there.0; required = there.1 };
         within = covered_within x.code c args ns there.0 i.needs there.1 (λ root field point m k.
             let n = k.need in
             let o = on n k.among in

@@ -22,51 +22,36 @@ main = task_named handing_program (entry_name handing_program)
 main_typed : IsTypedBlock (forms_by true handing_program main) (place_of handing_program main) main.body
 main_typed = (
   -- the root
-  (refl, a_space_type _, ((refl, simple_integer _), an_integer _), record { there = omega arith; few = omega arith }),
+  (refl, a_space_type _, ((refl, simple_integer _), an_integer _), record { there = omega arith; few = omega arith }, omega arith),
   (
     -- it is handed over
     (
       refl,
-      (
-        refl,
-        (
-          (refl, a_region_type _ _ _ _, omega arith, λ low. absurd (omega (arith, low))),
-          ((refl, a_region_type _ _ _ _, omega arith, λ low. absurd (omega (arith, low))), tt),
-        ),
-      ),
-      (inr (refl, refl, two_regions _ _ _ _ _ _ _), (inl (two_integers _ _, refl, omega (arith, ints)), tt)),
+      (refl, ((refl, a_region_type _ _ _ _, omega arith, λ low. absurd (omega (arith, low))), ((refl, a_region_type _ _ _ _, omega arith, λ low. absurd (omega (arith, low))), tt)), ((refl, refl, a_region_type _ _ _ _, a_region_type _ _ _ _, inl refl), tt)),
+      (inr (refl, refl, two_regions _ _ _ _ _ _ _), (inr (refl, refl, two_regions _ _ _ _ _ _ _), (inl (two_integers _ _, refl, omega (arith, ints)), tt))),
     ),
     (
-      -- and again, behind a call that takes it twice
+      -- and again, behind a call that takes it
       (
         refl,
-        (
-          refl,
-          (
-            (refl, a_region_type _ _ _ _, omega arith, λ low. absurd (omega (arith, low))),
-            ((refl, a_region_type _ _ _ _, omega arith, λ low. absurd (omega (arith, low))), tt),
-          ),
-        ),
+        (refl, ((refl, a_region_type _ _ _ _, omega arith, λ low. absurd (omega (arith, low))), ((refl, a_region_type _ _ _ _, omega arith, λ low. absurd (omega (arith, low))), tt)), ((refl, refl, a_region_type _ _ _ _, a_region_type _ _ _ _, inl refl), tt)),
         (
           inr (refl, refl, two_regions _ _ _ _ _ _ _),
           (
-            inl (
-              two_integers _ _,
-              refl,
-              (
+            inr (refl, refl, two_regions _ _ _ _ _ _ _),
+            (
+              inl (
+                two_integers _ _,
                 refl,
-                scalar_integer _,
                 (
                   refl,
-                  (
-                    (refl, a_region_type _ _ _ _, omega arith, λ low. absurd (omega (arith, low))),
-                    ((refl, a_region_type _ _ _ _, omega arith, λ low. absurd (omega (arith, low))), tt),
-                  ),
+                  scalar_integer _,
+                  (refl, ((refl, a_region_type _ _ _ _, omega arith, λ low. absurd (omega (arith, low))), tt), ((refl, refl, a_region_type _ _ _ _, a_region_type _ _ _ _, inl refl), tt)),
+                  (inr (refl, refl, two_regions _ _ _ _ _ _ _), (inr (refl, refl, two_regions _ _ _ _ _ _ _), tt)),
                 ),
-                (inr (refl, refl, two_regions _ _ _ _ _ _ _), (inr (refl, refl, two_regions _ _ _ _ _ _ _), tt)),
               ),
+              tt,
             ),
-            tt,
           ),
         ),
       ),
@@ -99,25 +84,8 @@ tasks zero t e = subst (IsTypedBy true handing_program) (same_Some _ t e) (recor
     (
       two_integers _ _,
       (
-        (
-          omega (arith, ints),
-          number_integer _,
-          refl,
-          record { named = refl; region = a_region_type _ _ _ _; field = omega arith; keeps = fits_64 },
-          λ low. refl,
-        ),
-        (
-          number_integer _,
-          number_integer _,
-          (
-            omega (arith, ints),
-            number_integer _,
-            refl,
-            record { named = refl; region = a_region_type _ _ _ _; field = omega arith; keeps = fits_64 },
-            λ low. refl,
-          ),
-          tt,
-        ),
+        (omega (arith, ints), number_integer _, refl, record { named = refl; region = a_region_type _ _ _ _; field = omega arith; keeps = fits_64 }, λ low. refl),
+        (number_integer _, number_integer _, (omega (arith, ints), number_integer _, refl, record { named = refl; region = a_region_type _ _ _ _; field = omega arith; keeps = fits_64 }, λ low. refl), tt),
       ),
     ),
     tt,
@@ -128,17 +96,9 @@ tasks (suc zero) t e = subst (IsTypedBy true handing_program) (same_Some _ t e) 
   given = gives_nothing;
   typed = (
     -- the write
+    (two_integers _ _, (refl, simple_integer _), omega (arith, ints), number_integer _, refl, record { named = refl; region = a_region_type _ _ _ _; field = omega arith; keeps = fits_64 }, λ low. refl),
     (
-      two_integers _ _,
-      (refl, simple_integer _),
-      omega (arith, ints),
-      number_integer _,
-      refl,
-      record { named = refl; region = a_region_type _ _ _ _; field = omega arith; keeps = fits_64 },
-      λ low. refl,
-    ),
-    (
-      -- the reduction of what a call gives that takes the region twice
+      -- the reduction of what a call gives that takes both
       (
         an_integer _,
         an_integer _,
@@ -147,10 +107,8 @@ tasks (suc zero) t e = subst (IsTypedBy true handing_program) (same_Some _ t e) 
           scalar_integer _,
           (
             refl,
-            (
-              (refl, a_region_type _ _ _ _, omega arith, λ low. refl),
-              ((refl, a_region_type _ _ _ _, omega arith, λ low. refl), tt),
-            ),
+            ((refl, a_region_type _ _ _ _, omega arith, λ low. refl), tt),
+            ((refl, refl, a_region_type _ _ _ _, a_region_type _ _ _ _, inr (omega arith, omega arith, refl)), tt),
           ),
           (inr (refl, refl, two_regions _ _ _ _ _ _ _), (inr (refl, refl, two_regions _ _ _ _ _ _ _), tt)),
         ),

@@ -19,6 +19,7 @@ pub mod Calling
 pub mod Results
 pub mod Operations
 pub mod Requiring
+pub mod Arguments
 pub mod Handing
 pub mod Expressions
 pub mod Rows

@@ -211,7 +211,7 @@ module _ (task : TaskTree) (w : Where) (sound : IsSound w.tree) (local : IsLocal
         let given = rule_none (has_no_result w.tree c) rule.Type called.1 in
         let some = and_then (has_task w.tree n) (is_none (task_named w.tree n).result) t.there given in
         let scalar = given_result w.tree (task_named w.tree n).result (local.tasks n t.there).result some in
-        record { is = (refl, scalar, callable call_forms w n args (local.tasks n t.there).called, passed); simple = scalar_simple _ scalar; scalar = λ q. scalar }
+        record { is = (refl, scalar, callable w n args (local.tasks n t.there).called, passed); simple = scalar_simple _ scalar; scalar = λ q. scalar }
     local_well (space_expr kind e) lo k none =
         let told = option_or_parts (first_in_expression w.tree task w.scope e) _ none in
         let a = local_well e lo (kept_behind node (parts_of_expression e) k) told.0 in

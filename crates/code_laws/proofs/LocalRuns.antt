@@ -5,9 +5,6 @@ use Rattle.std.proofs.lemmas.List.{length-map}
 use Rattle.std.proofs.lemmas.Option.{slice_get-map}
 use Rattle.regent_tree.proofs.Members.{Contains-from_Has, Has, Has-map}
 use Rattle.regent_tree.specs.Limits.{parts_of_block, parts_of_item, parts_of_params, parts_of_program, parts_of_type}
-use Rattle.regent_tree.specs.Execution.{Going}
-use Rattle.regent_tree.specs.Meaning.{outcome}
-use Rattle.regent_tree.specs.Running.{Result, fails, gives}
 use Rattle.regent_tree.specs.Scopes.{scope_of}
 use Rattle.regent_tree.specs.StaticTypes.{entry_name, task_named}
 use Rattle.regent_tree.specs.Syntax.{ItemTree, Tree, task_item}
@@ -19,7 +16,7 @@ use Rattle.check_rules.specs.scopes.Sound.{StandsIn}
 use Rattle.code_rules.specs.Instructions.{place_of_task, tasks_of}
 use Rattle.code_rules.specs.Programs.{task_code}
 use Rattle.code_laws.specs.LocalForm.{marked_in, unmarked}
-use Rattle.code_laws.specs.LocalPrograms.{IsEnded, IsLocalProgramRun, LocalProgramsEndWell, LocalProgramsRunAsMeant}
+use Rattle.code_laws.specs.LocalPrograms.{IsLocalProgramRun, LocalProgramsEndWell, LocalProgramsRunAsMeant}
 use Rattle.code_laws.specs.Programs.{AreTypedTasks, IsGiven, IsTypedRun, call_forms, gives_nothing, gives_scalar}
 use Rattle.code_laws.proofs.LocalBlocks.{block_local}
 use Rattle.code_laws.proofs.LocalTrees.{item_local, local_tree, params_scalar, scalars_kept, task_stands}
@@ -27,7 +24,7 @@ use Rattle.code_laws.proofs.LocalTypes.{term_scalar}
 use Rattle.code_laws.proofs.Openings.{params_length, types_length}
 use Rattle.check_laws.proofs.Entries.{begins}
 use Rattle.code_laws.proofs.Entries.{found, inputs_count, inputs_taken, kept_all, kept_item, no_clauses, params_integers, short_body, types_integers}
-use Rattle.code_laws.proofs.Top.{calls_fit_spaces, calls_run_as_meant}
+use Rattle.code_laws.proofs.Top.{calls_fit_spaces, calls_run_as_meant, is_ended}
 use Rattle.code_laws.proofs.Typing.{AreKept, kept_right}
 use Rattle.scalar_form.specs.ScalarForm.{is_scalar_if_said}
 
@@ -81,12 +78,8 @@ module _ (tree : Tree) (inputs : List ℤ) (p : IsLocalProgramRun tree inputs) w
 pub local_programs_run_as_meant : LocalProgramsRunAsMeant
 local_programs_run_as_meant tree inputs turns few p = calls_run_as_meant tree inputs turns few (local_tasks tree inputs p) (local_run tree inputs p)
 
-ends : (r : Result Going) → IsEnded (outcome r).ending
-ends (gives g s) = tt
-ends (fails f s) = tt
-
 pub local_programs_end_well : LocalProgramsEndWell
 local_programs_end_well tree inputs turns few p = record {
-  ended = ends _;
+  ended = is_ended _;
   fits = calls_fit_spaces tree inputs turns few (local_tasks tree inputs p) (local_run tree inputs p);
 }

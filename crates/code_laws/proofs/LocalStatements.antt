@@ -141,6 +141,7 @@ module _ (tree : Tree) (task : TaskTree) (sound : IsSound tree) (local : IsLocal
           simple_as_space (type_of tree s y) a.simple space,
           a.is,
           record { there = first_below (λ (f : FieldSpace). bytes_eq f.name u.name) (spaces_of tree) there; few = local.few (place_of_space tree u.name) },
+          tt,
         ),
         kept_region (kind_of_ispace (type_of tree s y)) (place_of_space tree u.name) (map (looked_up (in_scope s)) u.args) both.0,
       )
@@ -312,7 +313,7 @@ module _ (tree : Tree) (task : TaskTree) (sound : IsSound tree) (local : IsLocal
       let told = listed_told tree task s args (told_of_form tree task s sound scope (call_form n args) e).2 in
       let call = (option_or_parts (first_of_call tree task s (calling n (known_types tree s args))) _ (told_names tree task s (call_form n args) e).1).0 in
       let p = local_passed task (at s line) sound local m scope names n args lo k told call in
-      (refl, callable call_forms (at s line) n args (local.tasks n p.there).called, p.passed)
+      (refl, callable (at s line) n args (local.tasks n p.there).called, p.passed)
 
   pub print_local : (s : Scope) (line : ℕ) (alias : Option Name) (format : List ℕ) (args : Expressions) → are_local_expressions m args ≡ true →
       AreKept (parts_of_expressions args) → IsSoundScope s → AllKept m s.names →

@@ -37,7 +37,7 @@ use Rattle.region_tree.specs.declared.tree.RootId.{RootId}
 use Rattle.machine_terms.specs.declared.order.Root.{Root}
 use Rattle.code_laws.specs.Standing.{Agrees, AreOf, Aside, IsInside, is_own, IsOf, LiesIn, Stands, machine_value, nothing, of_index, of_integer, of_partition, of_pointer, of_region, of_space, of_truth}
 use Rattle.code_laws.specs.Steps.{Setting, Taking, machine_of, placed, on_step, Leads}
-use Rattle.code_laws.specs.Taking.{IsHadBy, is_asked}
+use Rattle.code_laws.specs.Taking.{IsFresh, IsHadBy, is_asked}
 use Rattle.regent_tree.specs.StaticTypes.{Reach}
 use Rattle.regent_tree.specs.declared.facts.Term.{Term}
 use Rattle.regent_tree.specs.declared.types.Kind.{Kind}
@@ -167,6 +167,7 @@ module _ (x : Setting) (params slots : ℕ) (aside : Aside) where
           shaped = shaped_more x.code.spaces (length x.before) s.store image (new_shaped x.code sp size (space_there h s i sp can g)) g.framed.shaped;
           allows = made_covers x.code s.store i size sp (is_own x) g.memory g.framed.allows;
           given = λ n e. made_covers x.code s.store i size sp (is_asked x.args n) g.memory (g.framed.given n e);
+          parts = g.framed.parts;
         };
       })
     where
@@ -209,15 +210,15 @@ module _ (x : Setting) (params slots : ℕ) (aside : Aside) where
   )
 
   -- what the instance made itself it has
-  own_had : (o : Option Taking) (r : Term) (q : Region) → length x.before ≤ q.root → IsHadBy o x r q
-  own_had None r q own = own
-  own_had (Some y) r q own = inl own
+  own_had : (o : Option Taking) (r : Term) (q : Region) → length x.before ≤ q.root → IsFresh o r → IsHadBy o x r q
+  own_had None r q own fresh = own
+  own_had (Some y) r q own fresh = inl (own, fresh)
 
-  pub new_inside : (h : Here) (s : State) (i : Instance) (sp size : ℕ) (k : Kind) (args : List Reach) (r : Term) → size ≤ 4194304 →
+  pub new_inside : (h : Here) (s : State) (i : Instance) (sp size : ℕ) (k : Kind) (args : List Reach) (r : Term) → IsFresh x.forms.takes r → size ≤ 4194304 →
       Agrees x params slots aside h s i →
       IsInside x (with_new h sp size s).store (region_type k sp args r) (new_region s size)
-  new_inside h s i sp size k args r small g = (
+  new_inside h s i sp size k args r fresh small g = (
     subst (λ ks. LiesIn x.code (s.store ++ new_root sp size ks ∷ []) sp (record { root = length s.store; points = points size }))
         (kinds_are x.code h.tree sp g.spaces) (new_lies x.code s.store sp size small),
-    own_had x.forms.takes r (record { root = length s.store; points = points size }) (own_below h s i g),
+    own_had x.forms.takes r (record { root = length s.store; points = points size }) (own_below h s i g) fresh,
   )

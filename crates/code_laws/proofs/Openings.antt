@@ -26,7 +26,7 @@ use Rattle.code_rules.specs.Programs.{code_of, task_code}
 use Rattle.code_rules.specs.Slots.{slot}
 use Rattle.code_rules.specs.Used.{greatest, slots_of_lines, slots_used}
 use Rattle.code_laws.specs.Programs.{called_setting}
-use Rattle.code_laws.specs.Taking.{is_asked, needs_taken}
+use Rattle.code_laws.specs.Taking.{AreParts, is_asked, needs_taken, pairs_taken}
 use Rattle.memory_laws.specs.Covering.{AreCovered}
 use Rattle.region_tree.specs.Requirements.{Requirement}
 use Rattle.std.specs.List.{Contains}
@@ -220,9 +220,10 @@ module _ (tree : Tree) (turns more depth : ℕ) (t : TaskTree) (place : ℕ) (vs
       AreTaken (IsInside (called_setting forms tree turns more depth (numbers c) args t) store) (param_types tree t) vs →
       length vs ≤ (task_code tree t).slots → Holds (code_of tree) store (memory_of begins) →
       ((n : NeedCode) → Contains (needs_taken forms.takes) n → AreCovered (is_asked args n) store (memory_of begins)) →
+      AreParts args (pairs_taken forms.takes) →
       Agrees (called_setting forms tree turns more depth (numbers c) args t) (length t.params) (task_code tree t).slots
       (before_all turns) (body_of tree calls t) (opening tree turns t vs store) begins
-  opens forms calls answers takes inside room holds given =
+  opens forms calls answers takes inside room holds given parts =
       let x = called_setting forms tree turns more depth (numbers c) args t in
       let code = task_code tree t in
       let sc = scope_of tree t in
@@ -271,5 +272,6 @@ module _ (tree : Tree) (turns more depth : ℕ) (t : TaskTree) (place : ℕ) (vs
             holds.stands.count,
           ));
           given = given;
+          parts = parts;
         };
       }

@@ -1,13 +1,17 @@
 -- A field at a point of a region that a name has: its kind is the one that is declared, and a touch of it is
 -- allowed.
-use Rattle.std.proofs.Common.{◌≡◌, ℕ, ◌^◌, ◌<◌, List, [], ◌∷◌, true, Option, Some, None, inl, inr, refl, sym, ap, ◌∙◌, subst}
+use Rattle.std.proofs.Common.{◌≡◌, ℕ, ◌^◌, ◌<◌, List, [], ◌∷◌, false, pos, true, Option, Some, None, inl, inr, refl, sym, ap, ◌∙◌, subst}
 use Rattle.std.specs.Prelude.{get_or, length, map, ◌==◌, ◌&&◌}
 use Rattle.std.specs.List.{Contains}
-use Rattle.regent_tree.proofs.Members.{Contains-from_Has, Has-from_list_any}
+use Rattle.regent_tree.proofs.Members.{Contains-from_Has, Has-from_Contains, Has-from_list_any, Has-map_cases}
+use Rattle.fact_laws.specs.Regions.{AllHold, Holds as Sure, Interpretation, LiesWithin}
+use Rattle.fact_laws.proofs.Facts.{is_subregion_holds}
+use Rattle.regent_tree.specs.declared.facts.Known.TheVariants.{Within}
+use Rattle.regent_tree.specs.declared.facts.Term.TheVariants.{Name}
 use Rattle.std.proofs.lemmas.List.{length-map}
 use Rattle.std.proofs.lemmas.Simd.{map-map}
 use Rattle.std.proofs.Math.ListN.{get_or-map}
-use Rattle.std.proofs.lemmas.Bool.{and_from, and_parts, eq-eqb, eqb-true, le-leb}
+use Rattle.std.proofs.lemmas.Bool.{and_from, and_parts, eq-eqb, le-leb}
 use Rattle.plain_values.specs.Points.{has}
 use Rattle.lane_kernels.specs.declared.numbers.FieldKind.TheVariants.{Truth}
 use Rattle.lane_kernels.specs.declared.numbers.Mode.{Mode}
@@ -40,7 +44,7 @@ use Rattle.code_laws.proofs.Shapes.{shaped_stays}
 use Rattle.code_laws.specs.Standing.{Agrees, is_own, AreOf, Aside, IsFramed, IsInside, IsOf, LiesIn, nothing, of_index, of_integer, of_partition, of_pointer, of_region, of_space, of_truth}
 use Rattle.code_laws.specs.Simple.{IsRegion, a_region_type, term_in}
 use Rattle.code_laws.specs.Steps.{Setting, Taking}
-use Rattle.code_laws.specs.Taking.{IsHadBy, MayDo, allows, given_region, is_asked, is_need, needs_taken}
+use Rattle.code_laws.specs.Taking.{AreParts, IsHad, IsHadBy, MayDo, allows, given_region, is_asked, is_need, is_part, known_of_pairs, needs_taken, pairs_taken}
 use Rattle.code_laws.proofs.Touching.{parted}
 
 -- ---- kinds of fields
@@ -125,6 +129,7 @@ rewritten x params slots aside h s i ps ts store same g holds = record {
     shaped = shaped_stays x.code.spaces (length x.before) s.store store same g.framed.shaped;
     allows = covered_stays x.code s.store store (memory_of i) (memory_of (parted ps i)) (is_own x) g.memory refl refl same g.framed.allows;
     given = λ n e. covered_stays x.code s.store store (memory_of i) (memory_of (parted ps i)) (is_asked x.args n) g.memory refl refl same (g.framed.given n e);
+    parts = g.framed.parts;
   };
 }
 
@@ -137,6 +142,30 @@ pub record Reached (x : Setting) (tree : Tree) (i : Instance) (store : Store) (q
   pub covers : IsCovered i.contents i.needs (record { root = q.root; field = place; point = n; access = a })
   pub kind_is : kind_of x.code i.contents (number_at i.contents q.root) place ≡ field_kind tree sp place
 
+-- what parameters stand for
+abbrev as_given : List Value → Interpretation
+as_given args = record {
+  region = given_region args;
+  partition = λ i. record { root = 0; disjoint = false; sets = [] };
+  number = λ i. pos 0;
+}
+
+pairs_hold : (args : List Value) (ps : List (ℕ × ℕ)) → AreParts args ps → AllHold (as_given args) (known_of_pairs ps)
+pairs_hold args ps h fact there =
+    let k = Has-map_cases (λ (p : ℕ × ℕ). Within (Name p.0) (Name p.1)) ps fact (Has-from_Contains (known_of_pairs ps) fact there) in
+    subst (Sure (as_given args)) k.2 (λ r stands. record {
+      outer = given_region args k.0.1;
+      stands = refl;
+      lies = subst (λ q. LiesWithin q (given_region args k.0.1)) stands (h k.0 (Contains-from_Has ps k.0 k.1));
+    })
+
+-- what follows of parameters holds of their regions
+pub part_lies : (y : Taking) (args : List Value) (i j : ℕ) → AreParts args y.within → is_part y i j ≡ true →
+    LiesWithin (given_region args i) (given_region args j)
+part_lies y args i j h e =
+    is_subregion_holds (as_given args) (known_of_pairs y.within) (pairs_hold args y.within h) (Name i) (Name j) e
+    (given_region args i) (given_region args j) refl refl
+
 -- a touch of a region that an instance has is covered, where it may be made
 touch_covered : (x : Setting) (store : Store) (m : Memory) (own : List RootId) (r : Term) (q : Region) (place n : ℕ) (a : Mode)
     (o : Option Taking) → x.forms.takes ≡ o → IsHadBy o x r q → MayDo o r place a → IsFramed x store own m → has q.points n ≡ true →
@@ -144,18 +173,18 @@ touch_covered : (x : Setting) (store : Store) (m : Memory) (own : List RootId) (
 touch_covered x store m own r q place n a None e had may framed there is =
     framed.allows (record { root = q.root; field = place; point = n; access = a }) (le-leb (length x.before) q.root had) is
 touch_covered x store m own r q place n a (Some y) e (inl had) may framed there is =
-    framed.allows (record { root = q.root; field = place; point = n; access = a }) (le-leb (length x.before) q.root had) is
+    framed.allows (record { root = q.root; field = place; point = n; access = a }) (le-leb (length x.before) q.root had.0) is
 touch_covered x store m own r q place n a (Some y) e (inr p) may framed there is =
     let touch : Touch = record { root = q.root; field = place; point = n; access = a } in
-    let f = Has-from_list_any (is_need p.place place a) y.needs (subst (λ r. MayDo (Some y) r place a) p.named may p.below) in
+    let f = Has-from_list_any (is_need y p.place place a) y.needs (subst (λ r. MayDo (Some y) r place a) p.named may p.below) in
     let d = f.0 in
-    let one = and_parts (d.param == p.place) ((d.field == place) && allows d.mode a) f.2 in
+    let one = and_parts (is_part y p.place d.param) ((d.field == place) && allows d.mode a) f.2 in
     let two = and_parts (d.field == place) (allows d.mode a) one.1 in
-    let same : given_region x.args d.param ≡ q = ap (given_region x.args) (eqb-true d.param p.place one.0) ∙ p.is in
+    let lies = part_lies y x.args p.place d.param (subst (λ t. AreParts x.args (pairs_taken t)) e framed.parts) one.0 q.root n
+    (ap (λ (r : Region). r.root) p.is, ap (λ (r : Region). has r.points n) p.is ∙ there) in
     framed.given d (subst (λ t. Contains (needs_taken t) d) (sym e) (Contains-from_Has y.needs d f.1)) touch
     (and_from (d.field == place) _ two.0 (and_from (allows d.mode a) _ two.1
-    (and_from ((given_region x.args d.param).root == q.root) _ (eq-eqb (given_region x.args d.param).root q.root (ap (λ (r : Region). r.root) same))
-    (ap (λ (r : Region). has r.points n) same ∙ there)))) is
+    (and_from ((given_region x.args d.param).root == q.root) _ (eq-eqb (given_region x.args d.param).root q.root lies.0) lies.1))) is
 
 -- a value of a region's type is a region
 pub a_region_there : (t : StaticType) (v : Value) → IsRegion t → IsOf t v → (q : Region) × (region_of v ≡ q) × (v ≡ a_region q)
@@ -164,6 +193,9 @@ a_region_there _ _ (a_region_type k sp args r) (of_region _ _ _ _ q) = (q, refl,
 pub region_lies_in : (x : Setting) (store : Store) (t : StaticType) (q : Region) → IsRegion t → IsInside x store t (a_region q) →
     LiesIn x.code store (space_in t) q
 region_lies_in x store _ q (a_region_type k sp args r) l = l.0
+
+pub region_had : (x : Setting) (store : Store) (t : StaticType) (q : Region) → IsRegion t → IsInside x store t (a_region q) → IsHad x (term_in t) q
+region_had x store _ q (a_region_type k sp args r) l = l.1
 
 -- a field of a field space has a kind in the code
 pub field_there : (code : Code) (tree : Tree) (sp place : ℕ) → code.spaces ≡ map space_code (spaces_of tree) →

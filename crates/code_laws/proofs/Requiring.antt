@@ -1,7 +1,7 @@
 -- What a call requires: it lies within the caller's needs where each need is covered there, and it covers what the
 -- called task may do.
 use Rattle.std.proofs.Common.{◌≡◌, ℕ, zero, suc, ◌<◌, List, [], ◌∷◌, ◌⊎◌, inl, inr, Bool, true, false, Option, Some, None, refl, sym, ap, ◌∙◌, subst, ⊎_elim}
-use Rattle.std.specs.Prelude.{cond, get_or, length, map, nat_lt, slice_get, ◌==◌, ◌&&◌}
+use Rattle.std.specs.Prelude.{cond, length, map, nat_lt, slice_get, ◌==◌}
 use Rattle.std.specs.List.{list_all}
 use Rattle.std.proofs.lemmas.Bool.{and_from, and_parts, eq-eqb, eqb-true, lt-ltb, or_cases}
 use Rattle.std.proofs.lemmas.Option.{none-some, same_Some}
@@ -12,8 +12,8 @@ use Rattle.region_tree.specs.Requirements.{Requirement, is_at, is_of, is_within,
 use Rattle.region_tree.proofs.Covering.{within_tells}
 use Rattle.region_tree.proofs.Joins.{from_Some, modes_at-cons, same_mode-itself, same_mode-tells}
 use Rattle.regent_tree.proofs.Members.{Has}
-use Rattle.regent_tree.specs.Store.{Store, Touch}
-use Rattle.regent_tree.specs.Values.{Region, Value, a_number, a_partition, a_pointer, a_region, a_space, a_truth, an_index}
+use Rattle.regent_tree.specs.Store.{Store}
+use Rattle.regent_tree.specs.Values.{Value, a_number, a_partition, a_pointer, a_region, a_space, a_truth, an_index}
 use Rattle.task_code.specs.declared.code.Code.{Code}
 use Rattle.task_code.specs.declared.code.NeedCode.{NeedCode}
 use Rattle.machine_terms.specs.declared.order.Contents.{Contents}
@@ -26,7 +26,7 @@ use Rattle.machine_terms.specs.Pointers.{region_in}
 use Rattle.memory_laws.specs.Covering.{AreCovered}
 use Rattle.memory_laws.specs.Memory.{Memory}
 use Rattle.memory_laws.specs.Places.{number_at}
-use Rattle.memory_laws.specs.Touches.{Covers, IsCovered}
+use Rattle.memory_laws.specs.Touches.{Covers}
 use Rattle.code_laws.specs.Standing.{machine_value}
 use Rattle.code_laws.specs.Taking.{allows, given_region, is_asked}
 use Rattle.code_laws.proofs.Values.{not_true}

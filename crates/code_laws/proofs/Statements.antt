@@ -43,7 +43,6 @@ use Rattle.code_laws.proofs.Expressions.{AreGiven, args_run, value_runs}
 use Rattle.code_laws.proofs.Handing.{call_takes}
 use Rattle.code_laws.proofs.Calling.{HasResult, calls_run, pending}
 use Rattle.code_laws.proofs.Prints.{pushed_all}
-use Rattle.machine_terms.specs.Contents.{no_contents}
 use Rattle.regent_tree.specs.StaticTypes.{task_named}
 use Rattle.code_laws.proofs.PrintRuns.{values_run, prints}
 use Rattle.code_laws.proofs.Names.{form_grown, block_grown, arms_names, else_names}
@@ -229,7 +228,7 @@ module _ (x : Setting) (params slots : ℕ) (fit : SlotsFit x slots) (counts : C
         (GoodInside x params slots fit counts aside h t) _ (initial_value h None t start s) (λ v. bind v)
         (then x (comes_said x _ _) (valued a []) (Good x params slots fit aside h (typed w e)) _ (value h e s)
         (λ v. make_root h u (size_of v)) (value_runs x params slots fit aside h 0 low e s pc [] i fine.2 g f.0.0)
-        (λ v s1 j k. region_runs x params slots fit counts aside h (typed w e) v u s1 a j _ _ _ fine.0 fine.1 fine.3 k.0 k.1 f.0.1 (fetch_small x.body (suc a) _ f.1)))
+        (λ v s1 j k. region_runs x params slots fit counts aside h (typed w e) v u s1 a j _ _ _ fine.0 fine.1 fine.3 fine.4 k.0 k.1 f.0.1 (fetch_small x.body (suc a) _ f.1)))
         (λ v s1 j k. binds x params slots fit counts aside h n None start v s1 (suc a) j low k.0 k.1 k.2 f.1)
     form_runs aside h (var_form n (Some t) (Some (region_initializer _ _))) s pc i low fine g f = absurd fine
     form_runs aside h (var_form n None (Some (equal_initializer _ _))) s pc i low fine g f = absurd fine

@@ -50,7 +50,7 @@ use Rattle.code_laws.specs.Programs.{IsGiven, called_setting, gives_nothing, giv
 use Rattle.code_laws.specs.Simple.{IsScalar, scalar_integer, scalar_truth}
 use Rattle.code_laws.specs.Standing.{Answering, AreTaken, Does, IsFramed, IsInside, IsOf, IsTaken, LiesIn, Matches, Returns, Stands, Takes, back, both_back, both_broke, called_with, of_integer, of_region, of_truth, takes_region, takes_scalar}
 use Rattle.code_laws.specs.Steps.{Ends, Setting, Taking, placed}
-use Rattle.code_laws.specs.Taking.{IsGivenAs, IsHadBy, needs_taken}
+use Rattle.code_laws.specs.Taking.{AreParts, IsGivenAs, IsHadBy, needs_taken, pairs_in, pairs_taken}
 use Rattle.code_laws.proofs.Calling.{code_there, room_for}
 use Rattle.code_laws.proofs.Counts.{counts_down}
 use Rattle.code_laws.proofs.Openings.{before_all, fits_slots, opens, params_length, types_in}
@@ -149,13 +149,20 @@ zero_given sc _ gives_nothing = refl
 all_take : (handing : Bool) (tree : Tree) (t u : TaskTree) (y : Taking) → takes_by handing tree t ≡ Some y →
     (z : Taking) × (takes_by handing tree u ≡ Some z) × (z.params ≡ length u.params)
 all_take false tree t u y e = absurd (none-some y e)
-all_take true tree t u y e = (record { params = length u.params; needs = (task_code tree u).needs }, refl, refl)
+all_take true tree t u y e = (record { params = length u.params; needs = (task_code tree u).needs; within = pairs_in (scope_of tree u).known }, refl, refl)
 
 -- it needs what it declares
 needs_are : (handing : Bool) (tree : Tree) (t : TaskTree) (n : NeedCode) → Contains (needs_taken (takes_by handing tree t)) n →
     Has (task_code tree t).needs n
 needs_are false tree t n h = absurd (Has-from_Contains [] n h)
 needs_are true tree t n h = Has-from_Contains (task_code tree t).needs n h
+
+-- its constraints are those that it declares
+parts_are : (handing : Bool) (tree : Tree) (u t : TaskTree) (vs : List Value) →
+    ((y : Taking) → takes_by handing tree u ≡ Some y → AreParts vs (pairs_in (scope_of tree t).known)) →
+    AreParts vs (pairs_taken (takes_by handing tree t))
+parts_are false tree u t vs h = λ p there. absurd (Has-from_Contains [] p there)
+parts_are true tree u t vs h = h (record { params = length u.params; needs = (task_code tree u).needs; within = pairs_in (scope_of tree u).known }) refl
 
 module _ (handing : Bool) (tree : Tree) (turns : ℕ) (few : turns < 2 ^ 64) (are : AreTypedBy handing tree) where
   -- a task's end, by the meaning and by the run
@@ -230,7 +237,8 @@ module _ (handing : Bool) (tree : Tree) (turns : ℕ) (few : turns < 2 ^ 64) (ar
       (taken_typed takes (code_of tree) store ts vs takes_it.taken)
       (taken_inside x vs takes (code_of tree) store 0 (length t.params) ts vs refl refl
       (λ y e. all_take handing tree u t y (sym from ∙ e)) (omega (arith, room.0)) (λ k. ap (λ j. get_or vs j (a_truth false)) (omega arith)) (params_own tree t.params 0 t.params) takes_it.taken) room.1 holds
-      (λ n h. asked_covered (code_of tree) c vs code.needs store (memory_of i) refl takes_it.required n (needs_are handing tree t n h)) in
+      (λ n h. asked_covered (code_of tree) c vs code.needs store (memory_of i) refl takes_it.required n (needs_are handing tree t n h))
+      (parts_are handing tree u t vs (λ y e. takes_it.parts y (from ∙ e))) in
       let low : length t.params ≤ length h.scope.names = omega (arith, params_length tree t.params 0 t.params) in
       let task_is = are (place_of_task tree task) t takes_it.there in
       let stands = stands_alone (body_piece tree t) task_is.small in

@@ -36,7 +36,8 @@ use Rattle.code_laws.proofs.Tasks.{answering}
 use Rattle.code_laws.proofs.Values.{not_true, number_inside}
 use Rattle.task_code.specs.declared.code.NeedCode.{NeedCode}
 use Rattle.regent_tree.specs.Store.{Touch}
-use Rattle.code_laws.specs.Handing.{AreTypedBy, RegionsAreHandedAsMeant, forms_by}
+use Rattle.code_laws.specs.Handing.{AreTypedBy, HandingProgramsEndWell, RegionsAreHandedAsMeant, forms_by}
+use Rattle.code_laws.specs.LocalPrograms.{IsEnded}
 use Rattle.code_laws.specs.Taking.{allows, given_region, is_asked}
 use Rattle.code_laws.specs.Programs.{AreTypedTasks, CallsRunAsMeant, call_forms, IsTypedRun, LeavesNoRoots, RegionsRunAsMeant, RunsAsMeant, ScalarsRunAsMeant, entry_setting, job_of, region_forms, scalar_forms}
 use Rattle.code_laws.specs.Standing.{Answering, AreTaken, Does, IsFramed, IsInside, IsOf, Stands, machine_value}
@@ -149,7 +150,8 @@ typed_run_ends forms tree inputs turns answers p =
     let room : length t.params ≤ code.slots = least_slots (length t.params) code.body in
     let few : length vs ≤ code.slots = omega (arith, taken_length IsOf ts vs p.taken, params, room) in
     let g = opens tree turns 63 1 t place vs [] no_contents [] [] forms (calls_at tree turns 63) answers p.taken (inputs_inside x [] ts inputs p.taken) few
-    (first_holds (code_of tree) i.frame) (λ n h u asked. absurd (nothing_asked n u asked)) in
+    (first_holds (code_of tree) i.frame) (λ n h u asked. absurd (nothing_asked n u asked))
+    (λ q h root point is. absurd (not_true is.1)) in
     let low : length t.params ≤ length h.scope.names = omega (arith, params_length tree t.params 0 t.params) in
     let stands = stands_alone (body_piece tree t) p.small in
     let done = by_end forms tree turns t i _ (block_runs x (length t.params) code.slots (fits_slots x tree t refl) counts_down
@@ -188,9 +190,16 @@ handed_end handing tree inputs turns few are p =
 pub regions_are_handed_as_meant : RegionsAreHandedAsMeant
 regions_are_handed_as_meant tree inputs turns few are p = (handed_end true tree inputs turns few are p).0
 
-pub handed_fit_spaces : (tree : Tree) (inputs : List ℤ) (turns : ℕ) → turns < 2 ^ 64 → AreTypedBy true tree →
-    IsTypedRun (forms_by true tree (task_named tree (entry_name tree))) tree inputs → fits_spaces (code_of tree) (meaning tree inputs turns) ≡ true
-handed_fit_spaces tree inputs turns few are p = (handed_end true tree inputs turns few are p).2
+-- no outcome of a run of the meaning is broken
+pub is_ended : (r : Result Going) → IsEnded (outcome r).ending
+is_ended (gives g s) = tt
+is_ended (fails f s) = tt
+
+pub handing_programs_end_well : HandingProgramsEndWell
+handing_programs_end_well tree inputs turns few are p = record {
+  ended = is_ended _;
+  fits = (handed_end true tree inputs turns few are p).2;
+}
 
 calls_end : (tree : Tree) (inputs : List ℤ) (turns : ℕ) → turns < 2 ^ 64 → AreTypedTasks tree → IsTypedRun call_forms tree inputs →
     RunsAsMeant tree inputs turns × (true ≡ false → LeavesNoRoots (meaning tree inputs turns).ending)

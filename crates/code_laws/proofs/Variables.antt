@@ -39,6 +39,7 @@ use Rattle.code_rules.specs.Assignments.{fill_code}
 use Rattle.code_laws.specs.Steps.{Setting, placed}
 use Rattle.code_laws.specs.Standing.{Stands, machine_value, Comes, IsInside, IsOf, nothing, of_integer, of_region, of_space, of_truth, blank, Aside, where_of, Agrees, SlotsFit, Does}
 use Rattle.code_laws.specs.Simple.{IsRegion, IsScalar, IsSpace, a_region_type, a_space_type, scalar_integer, scalar_truth}
+use Rattle.code_laws.specs.Taking.{IsFresh}
 use Rattle.code_laws.specs.Typed.{AreFilled, CountsDown, IsMakable, MayFill}
 use Rattle.code_laws.proofs.Reaching.{a_region_there}
 use Rattle.code_laws.proofs.Values.{named}
@@ -90,15 +91,15 @@ module _ (x : Setting) (params slots : ℕ) (fit : SlotsFit x slots) (counts : C
   -- a root of an index space's size
   pub region_runs : (aside : Aside) (h : Here) (from : StaticType) (v : Value) (u : SpaceUse) (s : State) (pc : ℕ) (i : Instance)
       (k : Kind) (args : List Reach) (r : Term) → x.forms.makes ≡ true → IsSpace from →
-      IsMakable h.tree (place_of_space h.tree u.name) → IsOf from v → Agrees x params slots aside h s i →
+      IsMakable h.tree (place_of_space h.tree u.name) → IsFresh x.forms.takes r → IsOf from v → Agrees x params slots aside h s i →
       Stands x.body pc (op (instr.NewRoot (place_of_space h.tree u.name)) h.line) → suc pc < 2 ^ 32 →
       Comes x (valued pc [] v i) (valued (suc pc) []) (GoodInside aside h (region_type k (place_of_space h.tree u.name) args r))
       (make_root h u (size_of v) s)
-  region_runs aside h _ _ u s pc i k args r makes (a_space_type kind) can (of_space _ size small) g f near =
+  region_runs aside h _ _ u s pc i k args r makes (a_space_type kind) can fresh (of_space _ size small) g f near =
       let sp = place_of_space h.tree u.name in (
         make_instance x.code size sp i,
         makes_root x params slots aside h s i sp size pc h.line near can g f,
-        (of_region k sp args r _, new_inside x params slots aside h s i sp size k args r small g, made_agrees x params slots aside h s i sp size makes can g),
+        (of_region k sp args r _, new_inside x params slots aside h s i sp size k args r fresh small g, made_agrees x params slots aside h s i sp size makes can g),
       )
 
   -- the value is put aside, and the fields are filled with it

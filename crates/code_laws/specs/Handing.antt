@@ -1,19 +1,22 @@
 -- Programs whose tasks hand regions over, and what is to be shown of them.
 use Rattle.std.specs.Prelude.{◌≡◌, Bool, true, false, ℕ, ◌^◌, ◌<◌, ◌≤◌, ℤ, List, length, Option, Some, None, slice_get}
+use Rattle.regent_tree.specs.Scopes.{scope_of}
 use Rattle.regent_tree.specs.StaticTypes.{entry_name, task_named}
 use Rattle.regent_tree.specs.Syntax.{TaskTree, Tree}
 use Rattle.regent_tree.specs.Typing.{result_type}
 use Rattle.code_rules.specs.Instructions.{tasks_of}
 use Rattle.code_rules.specs.Pieces.{lines}
 use Rattle.code_rules.specs.Programs.{body_piece, place_of, task_code}
+use Rattle.code_laws.specs.LocalPrograms.{EndsWell}
 use Rattle.code_laws.specs.Programs.{IsGiven, IsTypedRun, RunsAsMeant}
 use Rattle.code_laws.specs.Steps.{Forms, Taking}
+use Rattle.code_laws.specs.Taking.{pairs_in}
 use Rattle.code_laws.specs.Typed.{IsTypedBlock}
 
--- whether regions are handed over; a task may do with those that it takes what it declares
+-- whether regions are handed over; a task may do with those that it takes what it declares, by its constraints
 abbrev pub takes_by : Bool → Tree → TaskTree → Option Taking
 takes_by false tree t = None
-takes_by true tree t = Some (record { params = length t.params; needs = (task_code tree t).needs })
+takes_by true tree t = Some (record { params = length t.params; needs = (task_code tree t).needs; within = pairs_in (scope_of tree t).known })
 
 abbrev pub forms_by : Bool → Tree → TaskTree → Forms
 forms_by handing tree t = record { makes = true; calls = true; takes = takes_by handing tree t }
@@ -29,7 +32,13 @@ AreTypedBy handing tree = (k : ℕ) (t : TaskTree) → slice_get (tasks_of tree)
 
 -- The run in order is what the program means where tasks call others that also take regions, which have names: roots
 -- that the caller made, and regions that it took itself. What the called task declares to need, the caller made or
--- declares too; and each access to a region that was taken is declared.
+-- declares too; that its regions lie within one another as it declares, the caller declares too, where the two aren't one;
+-- and each access to a region that was taken is declared, of that region or of one within which it lies.
 abbrev pub RegionsAreHandedAsMeant : Type 0
 RegionsAreHandedAsMeant = (tree : Tree) (inputs : List ℤ) (turns : ℕ) → turns < 2 ^ 64 → AreTypedBy true tree →
     IsTypedRun (forms_by true tree (task_named tree (entry_name tree))) tree inputs → RunsAsMeant tree inputs turns
+
+-- So what it means is never broken, and the roots at the end are of the code's field spaces.
+abbrev pub HandingProgramsEndWell : Type 0
+HandingProgramsEndWell = (tree : Tree) (inputs : List ℤ) (turns : ℕ) → turns < 2 ^ 64 → AreTypedBy true tree →
+    IsTypedRun (forms_by true tree (task_named tree (entry_name tree))) tree inputs → EndsWell tree inputs turns

@@ -1,11 +1,13 @@
--- A program whose main task hands a region over to a task that writes in it, and hands it on.
-use Rattle.std.specs.Prelude.{◌≡◌, [], ◌∷◌, pos, true}
+-- A program whose main task hands a region over to a task that writes in it, and hands it on. The tasks take it twice,
+-- and need one of the two alone, within which the other lies.
+use Rattle.std.specs.Prelude.{◌≡◌, [], ◌∷◌, codes, pos, true}
 use Rattle.lane_kernels.specs.declared.numbers.Op.TheVariants.{Sum}
 use Rattle.regent_tree.specs.Meaning.{meaning}
 use Rattle.regent_tree.specs.StaticTypes.{entry_name, task_named}
 use Rattle.regent_tree.specs.Syntax.{Tree}
 use Rattle.regent_tree.specs.declared.expression.Arithmetic.TheVariants.{Add}
 use Rattle.regent_tree.specs.declared.outcome.FaultKind.TheVariants.{OutOfRegion, Turns}
+use Rattle.regent_tree.specs.declared.program.Clause.TheVariants.{Within}
 use Rattle.regent_tree.specs.declared.program.Grant.TheVariants.{Reads, Writes}
 use Rattle.regent_tree.specs.declared.types.NumberTerm.TheVariants.{Int64}
 use Rattle.check_rules.specs.Breaches.{breaches}
@@ -15,18 +17,18 @@ use Rattle.code_laws.specs.Programs.{IsTypedRun}
 
 --     fspace f { x : int64 }
 --     task total(r : region(ispace(int1d), f), s : region(ispace(int1d), f)) : int64
---     where reads(r.x, s.x) do
+--     where s <= r, reads(r.x) do
 --       return r[0].x + s[1].x
 --     end
---     task change(r : region(ispace(int1d), f), n : int64)
---     where reads writes(r.x) do
+--     task change(r : region(ispace(int1d), f), s : region(ispace(int1d), f), n : int64)
+--     where s <= r, reads writes(r.x) do
 --       r[0].x = n
---       r[1].x += total(r, r)
+--       s[1].x += total(r, s)
 --     end
 --     task main(n : int64)
 --       var a = region(ispace(int1d, n), f)
---       change(a, 5)
---       change(a, total(a, a))
+--       change(a, a, 5)
+--       change(a, a, total(a, a))
 --       regentlib.c.printf("%lld\n", a[1].x)
 --     end
 abbrev pub handing_program : Tree
@@ -34,20 +36,20 @@ handing_program =
     item 1 (field_space "f" [] (param 1 "x" (number Int64) ∷ []))
     ∷ item 2
     (task_giving (number Int64) "total" (param 2 "r" (region (space_of "f" [])) ∷ param 2 "s" (region (space_of "f" [])) ∷ [])
-    (grants (Reads ∷ []) (fields "r" ("x" ∷ []) ∷ fields "s" ("x" ∷ []) ∷ []) ∷ [])
+    (Within (codes "s") (codes "r") ∷ grants (Reads ∷ []) (fields "r" ("x" ∷ []) ∷ []) ∷ [])
     (line 4 (give (calc (access "r" (at (int 0) ∷ dot "x" ∷ [])) Add (access "s" (at (int 1) ∷ dot "x" ∷ []))))
     ∷ []))
     ∷ item 6
-    (task "change" (param 6 "r" (region (space_of "f" [])) ∷ param 6 "n" (number Int64) ∷ [])
-    (grants (Reads ∷ Writes ∷ []) (fields "r" ("x" ∷ []) ∷ []) ∷ [])
+    (task "change" (param 6 "r" (region (space_of "f" [])) ∷ param 6 "s" (region (space_of "f" [])) ∷ param 6 "n" (number Int64) ∷ [])
+    (Within (codes "s") (codes "r") ∷ grants (Reads ∷ Writes ∷ []) (fields "r" ("x" ∷ []) ∷ []) ∷ [])
     (line 8 (set "r" (at (int 0) ∷ dot "x" ∷ []) (get "n"))
-    ∷ line 9 (reduce "r" (at (int 1) ∷ dot "x" ∷ []) Sum (call_of "total" (get "r" ∷ get "r" ∷ [])))
+    ∷ line 9 (reduce "s" (at (int 1) ∷ dot "x" ∷ []) Sum (call_of "total" (get "r" ∷ get "s" ∷ [])))
     ∷ []))
     ∷ item 11
     (task "main" (param 11 "n" (number Int64) ∷ []) []
     (line 12 (var_from "a" (new_region (space (get "n")) (space_of "f" [])))
-    ∷ line 13 (call "change" (get "a" ∷ int 5 ∷ []))
-    ∷ line 14 (call "change" (get "a" ∷ call_of "total" (get "a" ∷ get "a" ∷ []) ∷ []))
+    ∷ line 13 (call "change" (get "a" ∷ get "a" ∷ int 5 ∷ []))
+    ∷ line 14 (call "change" (get "a" ∷ get "a" ∷ call_of "total" (get "a" ∷ get "a" ∷ []) ∷ []))
     ∷ line 15 (print "%lld\n" (access "a" (at (int 1) ∷ dot "x" ∷ []) ∷ []))
     ∷ []))
     ∷ []

@@ -37,6 +37,7 @@ use Rattle.machine_terms.specs.Opening.{opening, requirements_on}
 use Rattle.region_tree.specs.Requirements.{Requirement}
 use Rattle.task_code.specs.declared.code.NeedCode.{NeedCode}
 use Rattle.regent_tree.specs.Laws.{SameRoots}
+use Rattle.regent_tree.specs.Scopes.{scope_of}
 use Rattle.regent_tree.specs.Syntax.{Name, Tree}
 use Rattle.regent_tree.specs.Typing.{param_types, result_type}
 use Rattle.regent_tree.specs.declared.outcome.Fault.{Fault}
@@ -52,7 +53,7 @@ use Rattle.memory_laws.specs.Memory.{Holds, Memory, StandFor, memory_of}
 use Rattle.memory_laws.specs.Places.{number_at, numbers}
 use Rattle.run_report.specs.Dumps.{is_of_space}
 use Rattle.code_laws.specs.Steps.{Setting, Taking, placed, Leads, Ends}
-use Rattle.code_laws.specs.Taking.{IsHad, is_asked, needs_taken}
+use Rattle.code_laws.specs.Taking.{AreParts, IsHad, is_asked, needs_taken, pairs_in, pairs_taken}
 
 -- a piece stands in a body at a place
 abbrev pub Stands : List Line → ℕ → Piece → Type 0
@@ -173,6 +174,7 @@ pub record IsFramed (x : Setting) (store : Store) (own : List RootId) (m : Memor
       is_of_space x.code.spaces (get_or store place no_root) ≡ true
   pub allows : AreCovered (is_own x) store m
   pub given : (n : NeedCode) → Contains (needs_taken x.forms.takes) n → AreCovered (is_asked x.args n) store m
+  pub parts : AreParts x.args (pairs_taken x.forms.takes)
 
 -- ---- calls
 
@@ -183,11 +185,12 @@ pub data IsTaken (takes : Option Taking) (code : Code) (store : Store) : StaticT
   takes_region : (y : Taking) (k : Kind) (space : ℕ) (args : List Reach) (r : Term) (q : Region) → takes ≡ Some y →
       LiesIn code store space q → IsTaken takes code store (region_type k space args r) (a_region q)
 
--- a task of the program, what it takes, and what it requires of that
+-- a task of the program, what it takes, of which its constraints hold, and what it requires of that
 pub record Takes (takes : Option Taking) (code : Code) (tree : Tree) (task : Name) (vs : List Value) (store : Store)
     (c : Contents) : Type 0 where
   pub there : slice_get (tasks_of tree) (place_of_task tree task) ≡ Some (task_named tree task)
   pub taken : AreTaken (IsTaken takes code store) (param_types tree (task_named tree task)) vs
+  pub parts : (y : Taking) → takes ≡ Some y → AreParts vs (pairs_in (scope_of tree (task_named tree task)).known)
   pub needs : List Requirement
   pub required : requirements_on code c (task_code tree (task_named tree task)).needs (map (machine_value c) vs) ≡ Some needs
 

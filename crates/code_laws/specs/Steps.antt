@@ -17,10 +17,12 @@ use Rattle.machine_terms.specs.Machine.{Machine, Stepped, goes, prints, stops}
 use Rattle.machine_terms.specs.Orders.{Runner, resume_in, until_over}
 use Rattle.machine_terms.specs.Segments.{frame_after, step}
 
--- a task that may have regions among its parameters: how many these are, and what it needs of them
+-- a task that may have regions among its parameters: how many parameters there are, what it needs of them, and which
+-- of them have regions that lie within those of which others
 pub record Taking : Type 0 where
   pub params : ℕ
   pub needs : List NeedCode
+  pub within : List (ℕ × ℕ)
 
 -- which forms a body may have beside those of numbers and truths: roots that are made, calls, and regions that are
 -- handed over

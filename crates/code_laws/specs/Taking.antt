@@ -1,12 +1,16 @@
 -- Regions that a task takes: what it may do with them, by what it needs.
-use Rattle.std.specs.Prelude.{◌≡◌, ℕ, ◌<◌, ◌≤◌, List, [], true, false, Bool, ◌==◌, ◌&&◌, ◌||◌, ◌⊎◌, Option, Some, None, length, get_or}
-use Rattle.std.specs.List.{list_any}
+use Rattle.std.specs.Prelude.{◌≡◌, ℕ, ◌<◌, ◌≤◌, List, [], ◌∷◌, map, true, false, Bool, ◌==◌, ◌&&◌, ◌||◌, ◌⊎◌, Option, Some, None, length, get_or}
+use Rattle.std.specs.List.{Contains, list_any}
+use Rattle.fact_laws.specs.Regions.{LiesWithin}
 use Rattle.plain_values.specs.Points.{has}
 use Rattle.lane_kernels.specs.declared.numbers.Mode.{Mode}
 use Rattle.lane_kernels.specs.declared.numbers.Mode.TheVariants as mode
 use Rattle.region_tree.specs.Requirements.{same_mode}
 use Rattle.regent_tree.specs.Store.{Touch}
 use Rattle.regent_tree.specs.Values.{Region, Value, a_truth, region_of}
+use Rattle.regent_tree.specs.Facts.{is_subregion}
+use Rattle.regent_tree.specs.declared.facts.Known.{Known}
+use Rattle.regent_tree.specs.declared.facts.Known.TheVariants.{Within}
 use Rattle.regent_tree.specs.declared.facts.Term.{Term}
 use Rattle.regent_tree.specs.declared.facts.Term.TheVariants as term
 use Rattle.task_code.specs.declared.code.NeedCode.{NeedCode}
@@ -17,20 +21,39 @@ abbrev pub needs_taken : Option Taking → List NeedCode
 needs_taken None = []
 needs_taken (Some y) = y.needs
 
+-- which lie within which
+abbrev pub pairs_taken : Option Taking → List (ℕ × ℕ)
+pairs_taken None = []
+pairs_taken (Some y) = y.within
+
+-- by what is known of them
+abbrev pub pairs_in : List Known → List (ℕ × ℕ)
+pairs_in [] = []
+pairs_in (Within (term.Name a) (term.Name b) ∷ ks) = (a, b) ∷ pairs_in ks
+pairs_in (k ∷ ks) = pairs_in ks
+
+abbrev pub known_of_pairs : List (ℕ × ℕ) → List Known
+known_of_pairs ps = map (λ (p : ℕ × ℕ). Within (term.Name p.0) (term.Name p.1)) ps
+
 -- ---- what may be done
 
 -- a need in a mode allows an access: it is the same, or for writing
 abbrev pub allows : Mode → Mode → Bool
 allows m a = same_mode m a || same_mode m mode.Write
 
--- whether a need allows an access to a field of a parameter's region
-abbrev pub is_need : ℕ → ℕ → Mode → NeedCode → Bool
-is_need param field a n = (n.param == param) && ((n.field == field) && allows n.mode a)
+-- whether it follows that a parameter's region lies within another's
+abbrev pub is_part : Taking → ℕ → ℕ → Bool
+is_part y i j = is_subregion (known_of_pairs y.within) (term.Name i) (term.Name j)
 
--- An access to a field of a region may be made: a parameter's is needed so. What the task made itself it has whole.
+-- whether a need allows an access to a field of a parameter's region, which lies within that of the need's
+abbrev pub is_need : Taking → ℕ → ℕ → Mode → NeedCode → Bool
+is_need y param field a n = is_part y param n.param && ((n.field == field) && allows n.mode a)
+
+-- An access to a field of a region may be made: a parameter's is needed so, or that of one within which it lies. What
+-- the task made itself it has whole.
 abbrev pub MayDo : Option Taking → Term → ℕ → Mode → Type 0
 MayDo None r field a = Unit {0}
-MayDo (Some y) (term.Name i) field a = i < y.params → list_any (is_need i field a) y.needs ≡ true
+MayDo (Some y) (term.Name i) field a = i < y.params → list_any (is_need y i field a) y.needs ≡ true
 MayDo (Some y) (term.Child p c) field a = ⊥
 
 -- ---- what was given
@@ -44,6 +67,16 @@ abbrev pub is_asked : List Value → NeedCode → Touch → Bool
 is_asked args n t = (n.field == t.field) && (allows n.mode t.access
     && (((given_region args n.param).root == t.root) && has (given_region args n.param).points t.point))
 
+-- regions of parameters lie within others
+abbrev pub AreParts : List Value → List (ℕ × ℕ) → Type 0
+AreParts args ps = (p : ℕ × ℕ) → Contains ps p → LiesWithin (given_region args p.0) (given_region args p.1)
+
+-- what names a new region names no parameter
+abbrev pub IsFresh : Option Taking → Term → Type 0
+IsFresh None r = Unit {0}
+IsFresh (Some y) (term.Name i) = y.params ≤ i
+IsFresh (Some y) (term.Child p c) = ⊥
+
 -- a region is that of a parameter, which names it
 pub record IsGivenAs (args : List Value) (params : ℕ) (r : Term) (q : Region) : Type 0 where
   pub place : ℕ
@@ -54,7 +87,7 @@ pub record IsGivenAs (args : List Value) (params : ℕ) (r : Term) (q : Region) 
 -- A region is of a root that the task made itself, behind those that were there before it; or it was given.
 abbrev pub IsHadBy : Option Taking → Setting → Term → Region → Type 0
 IsHadBy None x r q = length x.before ≤ q.root
-IsHadBy (Some y) x r q = (length x.before ≤ q.root) ⊎ IsGivenAs x.args y.params r q
+IsHadBy (Some y) x r q = ((length x.before ≤ q.root) × IsFresh (Some y) r) ⊎ IsGivenAs x.args y.params r q
 
 abbrev pub IsHad : Setting → Term → Region → Type 0
 IsHad x r q = IsHadBy x.forms.takes x r q

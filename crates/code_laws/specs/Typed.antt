@@ -13,6 +13,9 @@ use Rattle.regent_tree.specs.declared.typing.StaticType.TheVariants.{Truth as tr
 use Rattle.regent_tree.specs.Accesses.{args_in, space_in}
 use Rattle.regent_tree.specs.StaticTypes.{field_kind, field_place, field_type, place_of_space, space_at, spaces_of, task_named}
 use Rattle.regent_tree.specs.Lookup.{is_bound}
+use Rattle.regent_tree.specs.Scopes.{scope_of}
+use Rattle.regent_tree.specs.declared.facts.Term.{Term}
+use Rattle.regent_tree.specs.declared.facts.Term.TheVariants as term
 use Rattle.regent_tree.specs.Numbers.{distance}
 use Rattle.regent_tree.specs.Syntax.{a_statement, Form, var_form, if_form, while_form, for_in_form, for_to_form, do_form, assert_form, print_form, assign_form, return_form, Block, no_statement, then_statement, Arms, no_arm, an_arm, Otherwise, no_else, else_block, plain_initializer, region_initializer, Name, Tree, fill_form, call_form, call_expr, Expression, number_expr, truth_expr, chain_expr, prefix_expr, access_expr, convert_expr, Expressions, no_expr, an_expr, Links, no_link, a_link, no_step, field_step, at_step, space_expr}
 use Rattle.regent_tree.specs.Typing.{arithmetic_type, operated, param_types, params_at, result_type, taken_from, type_of_element, type_of_field, var_type}
@@ -20,7 +23,7 @@ use Rattle.code_laws.specs.Simple.{AreComparable, IsInteger, IsTruth, IsScalar, 
 use Rattle.code_rules.specs.Instructions.{place_of_task, tasks_of}
 use Rattle.code_rules.specs.Programs.{task_code}
 use Rattle.code_laws.specs.Steps.{Forms, Taking}
-use Rattle.code_laws.specs.Taking.{MayDo}
+use Rattle.code_laws.specs.Taking.{IsFresh, MayDo, is_part, pairs_in}
 use Rattle.code_rules.specs.Slots.{Where, typed, bound, slot_named, slots_of}
 use Rattle.code_rules.specs.Expressions.{count}
 use Rattle.code_rules.specs.Statements.{on_line, after_form, after_arm, after_arms, looping}
@@ -90,11 +93,29 @@ abbrev pub AreMet : Option Taking → Where → Expressions → List NeedCode �
 AreMet takes w args [] = Unit {0}
 AreMet takes w args (n ∷ ns) = IsMet takes w n (name_at args n.param) × AreMet takes w args ns
 
--- a task of the program, whose needs are met
+-- a region lies within another: they have one name, or are parameters' of which that follows
+abbrev pub IsPart : Taking → Term → Term → Type 0
+IsPart y (term.Name i) (term.Name j) = (i < y.params) × (j < y.params) × (is_part y i j ≡ true)
+IsPart y _ _ = ⊥
+
+abbrev pub IsParted : Taking → Where → Option Name → Option Name → Type 0
+IsParted y w (Some m) (Some n) = (is_bound w.scope.names m ≡ true) × (is_bound w.scope.names n ≡ true)
+    × IsRegion (bound w m).static_type × IsRegion (bound w n).static_type
+    × ((m ≡ n) ⊎ IsPart y (term_in (bound w m).static_type) (term_in (bound w n).static_type))
+IsParted y w _ _ = ⊥
+
+-- the called task's constraints hold of the regions that are handed over
+abbrev pub AreParted : Option Taking → Where → Expressions → List (ℕ × ℕ) → Type 0
+AreParted None w args ps = Unit {0}
+AreParted (Some y) w args [] = Unit {0}
+AreParted (Some y) w args (p ∷ ps) = IsParted y w (name_at args p.0) (name_at args p.1) × AreParted (Some y) w args ps
+
+-- a task of the program, whose needs are met, and of whose parameters the constraints hold
 abbrev pub IsCallable : Forms → Where → Name → Expressions → Type 0
 IsCallable forms w task args =
     (slice_get (tasks_of w.tree) (place_of_task w.tree task) ≡ Some (task_named w.tree task))
     × AreMet forms.takes w args (task_code w.tree (task_named w.tree task)).needs
+    × AreParted forms.takes w args (pairs_in (scope_of w.tree (task_named w.tree task)).known)
 
 -- a number or truth, or a region, is given to a parameter
 abbrev pub IsPassed : Forms → Where → StaticType → StaticType → Expression → Type 0 → Type 0
@@ -160,7 +181,7 @@ abbrev mutual
   pub IsTypedForm : Forms → Where → Form → Type 0
   IsTypedForm forms w (var_form n None (Some (plain_initializer e))) = IsSimple (typed w e) × IsTyped forms w e
   IsTypedForm forms w (var_form n None (Some (region_initializer e u))) = (forms.makes ≡ true) × IsSpace (typed w e)
-      × IsTyped forms w e × IsMakable w.tree (place_of_space w.tree u.name)
+      × IsTyped forms w e × IsMakable w.tree (place_of_space w.tree u.name) × IsFresh forms.takes (term.Name w.scope.next)
   IsTypedForm forms w (var_form n (Some t) (Some (plain_initializer e))) =
       AreAlike (typed w e) (var_type w.tree w.scope (Some t) (Some (plain_initializer e))) × IsTyped forms w e
   IsTypedForm forms w (var_form n (Some t) None) = IsScalar (var_type w.tree w.scope (Some t) None)

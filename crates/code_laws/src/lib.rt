@@ -5,7 +5,7 @@
 
 ghost use Rattle.code_laws.specs.CallExample.{CallExampleHolds};
 ghost use Rattle.code_laws.specs.Example.{ExampleHolds};
-ghost use Rattle.code_laws.specs.Handing.{RegionsAreHandedAsMeant};
+ghost use Rattle.code_laws.specs.Handing.{HandingProgramsEndWell, RegionsAreHandedAsMeant};
 ghost use Rattle.code_laws.specs.HandingExample.{HandingExampleHolds};
 ghost use Rattle.code_laws.specs.LocalExample.{LocalExampleHolds};
 ghost use Rattle.code_laws.specs.RegionExample.{RegionExampleHolds};
@@ -35,10 +35,16 @@ pub fn calls_run_as_meant()
 {}
 
 /// So it is where tasks hand regions over to those that they call: roots that they made, or regions that they took.
-/// What the called task needs lies within what the caller has, and the called task finds each point that it may touch.
+/// What the called task needs lies within what the caller has, and the called task finds each point that it may touch,
+/// of a region that it needs or of one that lies within such a region.
 #[tactic(auto, using(crate::proofs::Top::regions_are_handed_as_meant))]
 pub fn regions_are_handed_as_meant()
     ensures { RegionsAreHandedAsMeant }
+{}
+
+/// What such a program means is never broken, and the roots that it leaves are of the code's field spaces.
+pub fn handing_programs_end_well()
+    ensures { HandingProgramsEndWell }
 {}
 
 /// So it is for each accepted program over scalars.

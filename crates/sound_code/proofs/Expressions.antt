@@ -28,7 +28,7 @@ use Rattle.code_rules.specs.Instructions.{converted_code, signs_code, standing_c
 use Rattle.code_rules.specs.Slots.{Where, bound, spare, typed, slot_named}
 use Rattle.code_laws.specs.Simple.{IsSimple, AreComparable, compare_numbers, compare_truths, simple_integer, simple_truth, simple_space, simple_index, IsInteger, an_integer, IsTruth, a_truth_type, AreAlike, two_integers, two_truths, IsScalar, scalar_integer, IsNumber, number_integer, number_index, SignsFit, of_a_truth, of_an_integer, not_before, minus_before, IsIntegerTerm, term_32, term_64}
 use Rattle.code_laws.specs.Standing.{Stands}
-use Rattle.code_laws.proofs.Handing.{given_either}
+use Rattle.code_laws.proofs.Arguments.{given_either}
 use Rattle.code_laws.specs.Steps.{Forms}
 use Rattle.std.proofs.lemmas.Option.{none-some}
 use Rattle.code_laws.specs.Typed.{ArePassed, IsTyped, AreTypedLinks}
