@@ -4,7 +4,6 @@ pub mod Standing
 pub mod Typed
 pub mod Programs
 pub mod ScalarPrograms
-pub mod LocalForm
 pub mod LocalPrograms
 pub mod LocalExample
 pub mod Example

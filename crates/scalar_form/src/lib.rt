@@ -7,3 +7,4 @@ mod statements;
 mod types;
 
 pub use program::is_scalar;
+pub use types::{is_scalar_if_said, is_scalar_number, is_scalar_term};

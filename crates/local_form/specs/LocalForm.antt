@@ -1,7 +1,7 @@
 -- Programs whose tasks keep their regions to themselves: each takes and gives numbers and truths, or nothing,
 -- declares no privilege, and names the regions that it makes. Which names stand for regions, and which may stand
 -- for an index or an index space, is read from the text of a task.
-use Rattle.std.specs.Prelude.{Bool, true, false, List, [], ◌∷◌, Some, None, bytes_eq, not, cond, ◌&&◌, ◌||◌}
+use Rattle.std.specs.Prelude.{Bool, true, false, List, [], ◌∷◌, ◌++◌, Some, None, bytes_eq, not, cond, ◌&&◌, ◌||◌}
 use Rattle.std.specs.List.{list_all, list_any}
 use Rattle.regent_tree.specs.Syntax.{Arms, Block, Expression, Expressions, Form, ItemForm, ItemTree, Links, Name, Otherwise, TaskTree, Tree, a_link, a_statement, access_expr, alias_item, an_arm, an_expr, assert_form, assign_form, at_step, call_expr, call_form, chain_expr, convert_expr, do_form, else_block, field_step, fill_form, for_in_form, for_to_form, if_form, import_item, no_arm, no_else, no_expr, no_link, no_statement, no_step, number_expr, plain_initializer, prefix_expr, print_form, region_initializer, return_form, space_expr, space_item, start_item, task_item, then_statement, truth_expr, var_form, while_form}
 use Rattle.regent_tree.specs.declared.expression.Operator.TheVariants.{Compute}
@@ -113,10 +113,10 @@ abbrev pub unmarked : Marked
 unmarked = record { regions = []; indices = [] }
 
 abbrev pub with_region : Name → Marked → Marked
-with_region n m = record m { regions = n ∷ m.regions }
+with_region n m = record m { regions = m.regions ++ n ∷ [] }
 
 abbrev pub with_index : Name → Marked → Marked
-with_index n m = record m { indices = n ∷ m.indices }
+with_index n m = record m { indices = m.indices ++ n ∷ [] }
 
 -- the names that statements bind, beside those that are marked before them
 abbrev mutual
