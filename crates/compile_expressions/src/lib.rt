@@ -5,8 +5,6 @@ mod body;
 mod expressions;
 mod reached;
 mod single;
-#[cfg(test)]
-mod tests;
 
 pub use body::Body;
 pub use expressions::{access, arguments, called, expression};

@@ -6,8 +6,6 @@ mod here;
 mod moving;
 mod static_type;
 mod symbols;
-#[cfg(test)]
-mod tests;
 mod typing;
 
 pub use calls::{params_at, result_of, result_type};

@@ -11,7 +11,7 @@ use std::test::Fail;
 use task_code::{Code, FieldCode, Instr, Job, Line, NeedCode, PrintPart, SpaceCode, TaskCode};
 
 /// The instructions, on the lines from 1.
-fn lines<const N: usize>(alloc: Global, body: [Instr; N]) -> Result<Sequence<Line>, AllocError>
+pub fn lines<const N: usize>(alloc: Global, body: [Instr; N]) -> Result<Sequence<Line>, AllocError>
     requires { N < 1000 }
 {
     let mut lines = Sequence::new(alloc);

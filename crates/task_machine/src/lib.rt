@@ -12,8 +12,6 @@ mod regions;
 mod running;
 mod segment;
 mod steps;
-#[cfg(test)]
-mod tests;
 mod touches;
 
 pub use machine_terms::{

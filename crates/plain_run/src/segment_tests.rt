@@ -1,10 +1,8 @@
-//! Segments of code by hand, with memory at hand.
+//! Segments of code by hand, which the machine runs with memory at hand.
 
 ghost use Rattle.std.specs.Prelude.{◌<◌};
 
-use crate::{
-    After, Before, Frame, PartitionValue, RegionValue, Stack, Value, Yield, run, run_segment,
-};
+use crate::tests::lines;
 use index_spaces::Ispace;
 use lane_kernels::{FieldKind, Mode, Width};
 use plain_values::{Sequence, Shared};
@@ -14,23 +12,13 @@ use region_tree::{Need, Needs, Node, Part, Piece, RootId};
 use std::alloc::{AllocError, Global};
 use std::test::Fail;
 use task_code::{Code, Instr, Line, PrintPart, TaskCode};
+use task_machine::{
+    After, Before, Frame, PartitionValue, RegionValue, Stack, Value, Yield, run, run_segment,
+};
 
 const ROOT: RootId = RootId(0);
 
 const NODE: Node = Node(0);
-
-/// The instructions, on the lines from 1.
-fn lines<const N: usize>(alloc: Global, body: [Instr; N]) -> Result<Sequence<Line>, AllocError>
-    requires { N < 1000 }
-{
-    let mut lines = Sequence::new(alloc);
-    let mut line: u32 = 0;
-    for instr in body {
-        line = line.saturating_add(1);
-        lines.push(Line { instr, line })?;
-    }
-    Ok(lines)
-}
 
 /// Code of one task.
 fn code(alloc: Global, slots: u32, body: Sequence<Line>) -> Result<Code, AllocError> {
