@@ -141,11 +141,10 @@ numerics (t ∷ ts) h = (scalar_numeric t h.0, numerics ts h.1)
 passed_scalars : (forms : Forms) (plain : forms.takes ≡ None) (w : Where) (ts ps : List StaticType) (es : Expressions) → ArePassed forms w ts ps es →
     Each IsScalar ps
 passed_scalars forms plain w [] [] no_expr h = tt
-passed_scalars forms plain w (t ∷ ts) (p ∷ ps) (an_expr e es) h =
-    (
-      ⊎_elim (λ a. subst IsScalar a.1 (alike_second _ t a.0)) (λ r. absurd (subst (λ o. IsHanded o w t p e) plain r)) h.0,
-      passed_scalars forms plain w ts ps es h.1,
-    )
+passed_scalars forms plain w (t ∷ ts) (p ∷ ps) (an_expr e es) h = (
+  ⊎_elim (λ a. subst IsScalar a.1 (alike_second _ t a.0)) (λ r. absurd (subst (λ o. IsHanded o w t p e) plain r)) h.0,
+  passed_scalars forms plain w ts ps es h.1,
+)
 passed_scalars forms plain w [] [] (an_expr e es) h = absurd h
 passed_scalars forms plain w [] (p ∷ ps) es h = absurd h
 passed_scalars forms plain w (t ∷ ts) [] es h = absurd h
