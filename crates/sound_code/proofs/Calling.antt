@@ -2,7 +2,7 @@
 -- mark in which the task's body begins.
 use Rattle.std.proofs.Common.{◌≡◌, inl, ℕ, zero, suc, ◌<◌, ◌-◌, ◌+◌, pos, List, [], ◌∷◌, ◌++◌, map, Some, refl, sym, ap, ◌∙◌, subst, arith, length-append}
 use Rattle.std.specs.Prelude.{slice_get, length, replicate}
-use Rattle.std.proofs.lemmas.List.{length-map}
+use Rattle.std.proofs.lemmas.List.{append-nil, length-map}
 use Rattle.regent_tree.specs.declared.typing.StaticType.{StaticType}
 use Rattle.regent_tree.specs.Scopes.{scope_of}
 use Rattle.regent_tree.specs.Syntax.{Name, TaskTree, Tree, Expressions, no_expr, an_expr}
@@ -54,10 +54,6 @@ abbrev pub onto : List Shape → List Shape → List Shape
 onto [] us = us
 onto (s ∷ ss) us = onto ss (s ∷ us)
 
-append_none : {A : Type 0} (xs : List A) → xs ++ [] ≡ xs
-append_none [] = refl
-append_none (x ∷ xs) = ap (λ l. x ∷ l) (append_none xs)
-
 takes_onto : (ss us acc args rest : List Shape) (n : ℕ) → Each Numeric ss → Takes n us (ss ++ acc) args rest →
     Takes (length ss + n) (onto ss us) acc args rest
 takes_onto [] us acc args rest n h t = subst (λ y. Takes y us acc args rest) (omega arith) t
@@ -70,7 +66,7 @@ pub takes_pushed : (ss us : List Shape) → Each Numeric ss → Takes (length ss
 takes_pushed ss us h =
     let same : length ss + 0 ≡ length ss = omega arith in
     subst (λ y. Takes y (onto ss us) [] ss us) same
-    (takes_onto ss us [] ss us 0 h (subst (λ l. Takes 0 us l ss us) (sym (append_none ss)) (takes_none us ss)))
+    (takes_onto ss us [] ss us 0 h (subst (λ l. Takes 0 us l ss us) (sym (append-nil ss)) (takes_none us ss)))
 
 -- ---- the frame that opens
 

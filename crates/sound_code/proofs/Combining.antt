@@ -10,21 +10,15 @@ use Rattle.task_code.specs.declared.instr.Instr.TheVariants as instr
 use Rattle.machine_terms.specs.declared.value.Value.{Value}
 use Rattle.machine_terms.specs.Pointers.{region_in}
 use Rattle.code_rules.specs.Pieces.{Piece, empty, op, ◌⨟◌}
-use Rattle.fit_rules.specs.Shapes.{Each, Shape, Numeric, numeric_integer, numeric_truth, numeric_index, numeric_pointer, World, Is, is_number, Are, are_more}
+use Rattle.fit_rules.specs.Shapes.{Each, Shape, Numeric, numeric_integer, numeric_truth, numeric_index, numeric_pointer, World, Is, is_number, Are}
 use Rattle.fit_rules.specs.Marks.{Holds, Mark, Into, stacked}
 use Rattle.fit_rules.specs.Fits.{Program}
 use Rattle.fit_rules.specs.Sound.{Effect}
-use Rattle.fit_laws.proofs.Lookup.{value_at, as_long, set_at}
+use Rattle.fit_laws.proofs.Keeping.{are_first, are_others, get_set, get_other, set_mark, stores_behind}
+use Rattle.fit_laws.proofs.Lookup.{value_at, as_long}
 use Rattle.marked_code.specs.Marked.{leads_on, leads_storing, Typed, typed_empty, typed_op, typed_both, typed_into}
 use Rattle.sound_code.specs.Named.{slot_at, Ready}
-use Rattle.sound_code.proofs.Narrowing.{get_set, get_other, set_kept, counts_kept, behind_counts, between_counts}
-
--- the first of two values, and the others
-pub are_first : (x : World) (a : Shape) (us : List Shape) (v : Value) (st : List Value) → Are x (a ∷ us) (v ∷ st) → Is x a v
-are_first x _ _ _ _ (are_more a v us st h b) = h
-
-pub are_others : (x : World) (a : Shape) (us : List Shape) (v : Value) (st : List Value) → Are x (a ∷ us) (v ∷ st) → Are x us st
-are_others x _ _ _ _ (are_more a v us st h b) = b
+use Rattle.sound_code.proofs.Narrowing.{set_kept, counts_kept, behind_counts, between_counts}
 
 -- a number is no region, so that regions stay where numbers are put for numbers
 no_region : (x : World) (a : Shape) (v : Value) → Numeric a → Is x a v → region_in (Some v) ≡ None
@@ -66,10 +60,6 @@ pub named_kept : (params : ℕ) (bs : List Bound) (m : Mark) (p : ℕ) → Ready
 named_kept params bs m p r vs v k = counts_kept params (length bs) m.facts vs (slot_at params p) v r.facts
     (between_counts params p (length bs)) k
 
--- the mark with another shape in a slot
-abbrev pub set_mark : Mark → ℕ → Shape → List Shape → Mark
-set_mark m s b us = record m { slots = slice_set m.slots s b; stack = us; top = [] }
-
 module _ (g : Program) (t : TaskCode) (k : ℕ) where
   -- a piece with some marks
   pub record Marked (m : Mark) (p : Piece) (n : Mark) : Type 0 where
@@ -95,13 +85,7 @@ module _ (g : Program) (t : TaskCode) (k : ℕ) where
   storing m s a b us line kept lo hi h = record {
     marks = _;
     is = typed_op _ _ _ line (leads_storing (stacked m (a ∷ us)) (set_mark m s b us) s a us refl hi
-        (λ x vs st v q. record {
-          slots = set_at x m.slots vs s b v q.slots (h x v (are_first x a us v st q.stack));
-          stack = are_others x a us v st q.stack;
-          facts = kept vs v q.facts;
-          top = tt;
-          args = λ i l. ap region_in (get_other vs s i v (λ e. omega (arith, e, l, lo))) ∙ q.args i l;
-        }) (length-set m.slots s b));
+        (stores_behind t.params (stacked m (a ∷ us)) s a b us refl lo kept h) (length-set m.slots s b));
   }
 
   -- a number in the place of a number

@@ -35,12 +35,13 @@ use Rattle.fit_rules.specs.Marks.{Mark, stacked}
 use Rattle.fit_rules.specs.Fits.{Program}
 use Rattle.fit_rules.specs.Sound.{Settled, settled_number, settled_space, does_num, does_load, does_compute, does_compare, does_negate, does_wrap, does_invert, does_space}
 use Rattle.marked_code.specs.Marked.{leads_waiting, typed_op, typed_and, typed_or}
+use Rattle.fit_laws.proofs.Keeping.{get_set, set_mark}
 use Rattle.sound_code.specs.Named.{shape_of, slot_at, AreNamed, HasSlots}
 use Rattle.sound_code.proofs.Asked.{Asked}
 use Rattle.sound_code.proofs.Calling.{onto, calls, scalar_numeric}
-use Rattle.sound_code.proofs.Combining.{Marked, nothing_done, both, does, into, behind_kept, set_mark, slot_high, storing}
+use Rattle.sound_code.proofs.Combining.{Marked, nothing_done, both, does, into, behind_kept, slot_high, storing}
 use Rattle.sound_code.proofs.Elements.{number_numeric, reads}
-use Rattle.sound_code.proofs.Narrowing.{counts_stand, get_set, narrow_itself, narrow_set, narrow_into, same_facts}
+use Rattle.sound_code.proofs.Narrowing.{counts_stand, narrow_itself, narrow_set, narrow_into, same_facts}
 use Rattle.fit_laws.proofs.Numbers.{truth_is}
 
 -- ---- types

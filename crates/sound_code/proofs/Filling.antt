@@ -17,13 +17,14 @@ use Rattle.code_laws.specs.Typed.{AreFilled, IsTyped}
 use Rattle.fit_rules.specs.Marks.{Mark, stacked}
 use Rattle.fit_rules.specs.Fits.{Program}
 use Rattle.fit_rules.specs.Sound.{does_load}
+use Rattle.fit_laws.proofs.Keeping.{get_set, set_mark}
 use Rattle.sound_code.specs.Named.{AreNamed, HasSlots, shape_of}
 use Rattle.sound_code.proofs.Asked.{Asked}
 use Rattle.sound_code.proofs.Calling.{alike_first}
-use Rattle.sound_code.proofs.Combining.{Marked, nothing_done, both, does, into, behind_kept, set_mark, slot_high, storing}
+use Rattle.sound_code.proofs.Combining.{Marked, nothing_done, both, does, into, behind_kept, slot_high, storing}
 use Rattle.sound_code.proofs.Elements.{fills}
 use Rattle.sound_code.proofs.Expressions.{converted_at, named_at, stored}
-use Rattle.sound_code.proofs.Narrowing.{get_set, narrow_itself, narrow_set, narrow_into, named_behind, same_facts}
+use Rattle.sound_code.proofs.Narrowing.{narrow_itself, narrow_set, narrow_into, named_behind, same_facts}
 use Rattle.sound_code.proofs.Statements.{Followed, scalar_settled, unchanged, value_marked}
 
 module _ (g : Program) (t : TaskCode) (k slots : ℕ) (have : HasSlots t slots) (forms : Forms) (w : Where) (m : Mark)

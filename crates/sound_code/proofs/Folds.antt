@@ -16,9 +16,10 @@ use Rattle.fit_rules.specs.Marks.{Mark, stacked}
 use Rattle.fit_rules.specs.Fits.{Program}
 use Rattle.fit_rules.specs.Sound.{settled_number, does_load, does_compute, does_compare, does_wrap}
 use Rattle.marked_code.specs.Marked.{typed_if}
+use Rattle.fit_laws.proofs.Keeping.{get_other, get_set, set_mark}
 use Rattle.sound_code.specs.Named.{Ready}
-use Rattle.sound_code.proofs.Narrowing.{narrow_itself, narrow_set, narrow_into, get_set, get_other, same_facts}
-use Rattle.sound_code.proofs.Combining.{Keeps, Marked, both, does, into, behind_kept, keeping, set_mark, slot_high, storing}
+use Rattle.sound_code.proofs.Narrowing.{narrow_itself, narrow_set, narrow_into, same_facts}
+use Rattle.sound_code.proofs.Combining.{Keeps, Marked, both, does, into, behind_kept, keeping, slot_high, storing}
 
 abbrev IsAny : Shape → Type 0
 IsAny anything = Unit {0}

@@ -17,11 +17,12 @@ use Rattle.fit_rules.specs.Marks.{Mark, stacked}
 use Rattle.fit_rules.specs.Fits.{Program}
 use Rattle.fit_rules.specs.Sound.{RoundNumber}
 use Rattle.marked_code.specs.Marked.{typed_rounds}
+use Rattle.fit_laws.proofs.Keeping.{get_other, set_mark}
 use Rattle.sound_code.specs.Named.{slot_at, Ready}
 use Rattle.fit_laws.proofs.Lookup.{value_at, set_at}
-use Rattle.sound_code.proofs.Narrowing.{get_other, narrow_into, same_facts}
+use Rattle.sound_code.proofs.Narrowing.{narrow_into, same_facts}
 use Rattle.sound_code.proofs.Rounds.{va, co, be, head_mark, round_mark, long_be, long_head, long_round, counter_there, limit_there, head_narrow}
-use Rattle.sound_code.proofs.Combining.{Marked, both, into, behind_kept, set_mark, slot_high, storing}
+use Rattle.sound_code.proofs.Combining.{Marked, both, into, behind_kept, slot_high, storing}
 
 -- one more than a number below another one fits
 raised_fits : (w : Width) (i e : ℤ) → FitsWidth w i → FitsWidth w e → int_lt i e ≡ true → FitsWidth w (i +ℤ pos 1)

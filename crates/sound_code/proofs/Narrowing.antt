@@ -6,22 +6,10 @@ use Rattle.regent_tree.specs.declared.typing.Bound.{Bound}
 use Rattle.machine_terms.specs.declared.value.Value.{Value}
 use Rattle.fit_rules.specs.Shapes.{Each, Shape, anything, World, Is, is_anything, Are, are_none, are_more}
 use Rattle.fit_rules.specs.Marks.{AtMost, ColoursStand, Fact, Holds, Mark, Into, size_in, stacked}
+use Rattle.fit_laws.proofs.Keeping.{get_other}
 use Rattle.sound_code.specs.Named.{slot_at, AreNamed, IsCount, is_count, Narrower, narrow_none, narrow_same, narrow_any}
 
 -- ---- slots that are set
-
-pub get_set : {A : Type 0} (xs : List A) (i : ℕ) (a : A) → i < length xs → slice_get (slice_set xs i a) i ≡ Some a
-get_set [] i a l = absurd (omega (arith, l))
-get_set (x ∷ xs) zero a l = refl
-get_set (x ∷ xs) (suc i) a l = get_set xs i a (omega (arith, l))
-
-pub get_other : {A : Type 0} (xs : List A) (i j : ℕ) (a : A) → (i ≡ j → ⊥) →
-    slice_get (slice_set xs i a) j ≡ slice_get xs j
-get_other [] i j a n = refl
-get_other (x ∷ xs) zero zero a n = absurd (n refl)
-get_other (x ∷ xs) zero (suc j) a n = refl
-get_other (x ∷ xs) (suc i) zero a n = refl
-get_other (x ∷ xs) (suc i) (suc j) a n = get_other xs i j a (λ e. n (ap suc e))
 
 -- a value of the shape that its slot has
 pub set_kept : (x : World) (ss : List Shape) (vs : List Value) (i : ℕ) (s : Shape) (v : Value) → Are x ss vs →

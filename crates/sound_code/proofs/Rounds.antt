@@ -6,9 +6,10 @@ use Rattle.std.proofs.lemmas.List.{length-set}
 use Rattle.regent_tree.specs.declared.typing.Bound.{Bound}
 use Rattle.fit_rules.specs.Shapes.{Each, Shape}
 use Rattle.fit_rules.specs.Marks.{Fact, Mark}
+use Rattle.fit_laws.proofs.Keeping.{get_other, get_set}
 use Rattle.sound_code.specs.Named.{IsCount, shape_of, slot_at, Ready, Narrower}
 use Rattle.sound_code.proofs.Combining.{slot_next}
-use Rattle.sound_code.proofs.Narrowing.{get_set, get_other, narrow_itself, narrow_set, named_behind}
+use Rattle.sound_code.proofs.Narrowing.{narrow_itself, narrow_set, named_behind}
 
 -- the shapes of the limit or domain, of the counter and of the variable, and what is known of them
 module _ (params : ℕ) (bs : List Bound) (m : Mark) (r : Ready params bs m) (B C V : Shape) (fs : List Fact) where

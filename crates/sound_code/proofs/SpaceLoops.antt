@@ -18,10 +18,11 @@ use Rattle.fit_rules.specs.Marks.{Stores, AtMost, counts, Fact, HoldsTop, Mark, 
 use Rattle.fit_rules.specs.Fits.{Program}
 use Rattle.fit_rules.specs.Sound.{RoundPoint}
 use Rattle.marked_code.specs.Marked.{leads_coloured, leads_storing, typed_op, typed_points}
+use Rattle.fit_laws.proofs.Keeping.{are_first, are_others, get_other, get_set, set_mark}
 use Rattle.sound_code.specs.Named.{IsCount, is_count, slot_at, Ready}
 use Rattle.fit_laws.proofs.Lookup.{as_long, value_at, set_at}
-use Rattle.sound_code.proofs.Combining.{are_first, are_others, Marked, both, into, behind_kept, set_mark, slot_high, storing}
-use Rattle.sound_code.proofs.Narrowing.{counts_below, get_set, get_other, narrow_into}
+use Rattle.sound_code.proofs.Combining.{Marked, both, into, behind_kept, slot_high, storing}
+use Rattle.sound_code.proofs.Narrowing.{counts_below, narrow_into}
 use Rattle.sound_code.proofs.Rounds.{va, co, be, head_mark, round_mark, long_be, long_head, long_round, limit_there, head_narrow}
 
 -- the domain of a point: an index space that has it

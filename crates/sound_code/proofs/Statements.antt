@@ -34,12 +34,13 @@ use Rattle.fit_rules.specs.Marks.{Mark, stacked}
 use Rattle.fit_rules.specs.Fits.{Program}
 use Rattle.fit_rules.specs.Sound.{Settled, settled_number, does_num, does_assert, does_drop}
 use Rattle.marked_code.specs.Marked.{leads_back, leads_making, typed_op, typed_branch, typed_loop}
+use Rattle.fit_laws.proofs.Keeping.{get_other, get_set, set_mark}
 use Rattle.sound_code.specs.Named.{shape_of, slot_at, HasSlots, Ready, Narrower}
 use Rattle.sound_code.proofs.Asked.{Asked}
 use Rattle.sound_code.proofs.Calling.{alike_second, calls, scalar_numeric}
-use Rattle.sound_code.proofs.Combining.{Marked, nothing_done, both, does, into, behind_kept, named_kept, keeping, set_mark, slot_high, slot_next, storing}
+use Rattle.sound_code.proofs.Combining.{Marked, nothing_done, both, does, into, behind_kept, named_kept, keeping, slot_high, slot_next, storing}
 use Rattle.sound_code.proofs.Expressions.{args_marked, converted_marked, expr_marked, named_at, truth_shape}
-use Rattle.sound_code.proofs.Narrowing.{counts_below, narrow_long, get_set, get_other, narrow_itself, narrow_set, narrow_into, named_behind, same_facts}
+use Rattle.sound_code.proofs.Narrowing.{counts_below, narrow_long, narrow_itself, narrow_set, narrow_into, named_behind, same_facts}
 
 pub owned_same : (n : ℕ) (u : StaticType) → IsSimple u → owned n u ≡ u
 owned_same n _ (simple_integer v) = refl

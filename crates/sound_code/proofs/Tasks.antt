@@ -1,7 +1,7 @@
 -- The code that tasks are compiled to is sound, with marks that are chosen task by task.
 use Rattle.std.proofs.Common.{◌≡◌, ◌⊎◌, ⊎_elim, ℕ, zero, suc, ◌<◌, ◌≤◌, ◌-◌, ◌^◌, List, [], ◌∷◌, ◌++◌, map, Option, Some, None, refl, sym, ap, ◌∙◌, subst, arith, append_assoc, length-append}
 use Rattle.std.specs.Prelude.{length, get_or, option_map, replicate, slice_get}
-use Rattle.std.proofs.lemmas.List.{length-map, length-replicate}
+use Rattle.std.proofs.lemmas.List.{append-nil, length-map, length-replicate}
 use Rattle.std.proofs.lemmas.Option.{get_or_from_slice_get, none-some, same_Some, slice_get-map}
 use Rattle.regent_tree.specs.declared.typing.Bound.{Bound}
 use Rattle.regent_tree.specs.declared.typing.StaticType.{StaticType}
@@ -62,10 +62,6 @@ free_behind [] (suc n) (suc s) h l = free_behind [] n s (omega arith) (omega (ar
 free_behind (x ∷ ss) n zero h l = absurd (omega (arith, h))
 free_behind (x ∷ ss) n (suc s) h l = free_behind ss n s (omega (arith, h)) (omega (arith, l))
 
-append_none : {A : Type 0} (xs : List A) → xs ++ [] ≡ xs
-append_none [] = refl
-append_none (x ∷ xs) = ap (λ l. x ∷ l) (append_none xs)
-
 module _ (tree : Tree) where
   names_many : (t : TaskTree) → length (scope_of tree t).names ≡ length t.params
   names_many t = params_length tree t.params 0 t.params
@@ -87,7 +83,7 @@ module _ (tree : Tree) where
       let blanks = (task_code tree t).slots - length t.params in
       record {
         named = subst (λ y. AreNamed (length t.params) (map shape_of y ++ replicate blanks anything) (scope_of tree t).names)
-            (append_none (param_types tree t)) (named_open (length t.params) (scope_of tree t).names [] (replicate blanks anything)
+            (append-nil (param_types tree t)) (named_open (length t.params) (scope_of tree t).names [] (replicate blanks anything)
             (params_from tree t.params 0 t.params) (omega (arith, names_many t)));
         free = λ s h l. free_behind (map shape_of (param_types tree t)) blanks s
             (omega (arith, h, names_many t, length-map (param_types tree t) shape_of, types_many tree t)) l;
