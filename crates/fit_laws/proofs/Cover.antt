@@ -141,7 +141,7 @@ in_map f [] a h = absurd h
 in_map f (x ∷ xs) a (inl e) = inl (ap f e)
 in_map f (x ∷ xs) a (inr h) = inr (in_map f xs a h)
 
-in_counted : (first n i : ℕ) → first ≤ i → i < first + n → Among (counted_from first n) i
+pub in_counted : (first n i : ℕ) → first ≤ i → i < first + n → Among (counted_from first n) i
 in_counted first zero i h l = absurd (omega (arith, h, l))
 in_counted first (suc n) i h l = ⊎_elim (λ e. inl e)
     (λ more. inr (in_counted (suc first) n i (omega (arith, more)) (omega (arith, l)))) (eq-or-lt_of_le h)
