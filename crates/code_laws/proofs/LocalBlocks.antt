@@ -25,7 +25,7 @@ use Rattle.check_rules.specs.rules.Types.{is_ill_typed_at_place}
 use Rattle.check_rules.specs.scopes.Sound.{IsSound}
 use Rattle.check_rules.specs.types.KnownTypes.{known_type}
 use Rattle.check_rules.specs.types.Parts.{tests_of}
-use Rattle.code_laws.specs.LocalForm.{Marked, are_local_arms, is_among, is_local_block, is_local_else, is_local_expression, is_local_form}
+use Rattle.local_form.specs.LocalForm.{Marked, are_local_arms, is_among, is_local_block, is_local_else, is_local_expression, is_local_form}
 use Rattle.code_laws.specs.Programs.{call_forms}
 use Rattle.code_laws.specs.Simple.{IsSimple, IsSpace, a_space_type, simple_index}
 use Rattle.code_laws.specs.Typed.{AreTypedArms, IsTypedBlock, IsTypedElse, IsTypedForm}

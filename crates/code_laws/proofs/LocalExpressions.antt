@@ -31,7 +31,7 @@ use Rattle.check_rules.specs.types.TypedForms.{calling, computing, element_of, f
 use Rattle.check_rules.specs.declared.rule.Rule.TheVariants as rule
 use Rattle.check_rules.proofs.Untold.{rule_none}
 use Rattle.code_rules.specs.Slots.{Where, bound, typed}
-use Rattle.code_laws.specs.LocalForm.{Marked, are_local_expressions, are_local_links, gives_scalar, is_local_expression, links_give}
+use Rattle.local_form.specs.LocalForm.{Marked, are_local_expressions, are_local_links, gives_scalar, is_local_expression, links_give}
 use Rattle.code_laws.specs.Programs.{call_forms}
 use Rattle.code_laws.specs.Simple.{AreAlike, IsNumber, IsScalar, IsSimple, scalar_integer, scalar_truth, simple_integer, simple_space, simple_truth}
 use Rattle.code_laws.specs.Typed.{AreNumbers, ArePassed, AreTypedLinks, IsTyped}

@@ -35,7 +35,7 @@ use Rattle.check_laws.proofs.Scopes.{found_by_number}
 use Rattle.check_laws.specs.SoundScopes.{IsSoundScope}
 use Rattle.code_rules.specs.Slots.{Where, bound, slot, slot_bound, slot_named, slots_of}
 use Rattle.scalar_form.specs.ScalarForm.{is_scalar_if_said, is_scalar_term}
-use Rattle.code_laws.specs.LocalForm.{Marked, is_among}
+use Rattle.local_form.specs.LocalForm.{Marked, is_among}
 use Rattle.code_laws.specs.Simple.{FieldFits, IsInteger, IsRegion, IsScalar, IsSimple, a_region_type, simple_index, simple_integer, simple_space, simple_truth}
 use Rattle.code_laws.specs.Typed.{GoesThrough, IsCalled, IsField, element_field}
 use Rattle.code_laws.proofs.LocalTypes.{simple_as_integer, simple_is_no_region, simple_no_partition, term_fits, term_scalar}

@@ -44,7 +44,7 @@ use Rattle.check_rules.specs.types.Lookup.{names_a, region_has}
 use Rattle.check_rules.specs.types.Sorts.{is_integer, is_region, is_truth, may_be}
 use Rattle.check_rules.specs.types.TypedForms.{calling, element_of, field_of}
 use Rattle.code_rules.specs.Slots.{Where}
-use Rattle.code_laws.specs.LocalForm.{Marked, are_local_expressions, gives_scalar, is_among, is_local_expression, is_local_form}
+use Rattle.local_form.specs.LocalForm.{Marked, are_local_expressions, gives_scalar, is_among, is_local_expression, is_local_form}
 use Rattle.code_laws.specs.Programs.{call_forms}
 use Rattle.code_laws.specs.Simple.{IsInteger, IsNumber, IsScalar, IsSimple, IsSpace, IsTruth, scalar_integer, scalar_truth}
 use Rattle.code_laws.specs.Typed.{AreFilled, GoesThrough, IsField, IsTyped, IsTypedForm, element_field}

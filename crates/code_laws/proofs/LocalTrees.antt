@@ -15,7 +15,7 @@ use Rattle.regent_tree.specs.declared.types.TypeTerm.TheVariants as term
 use Rattle.regent_tree.specs.declared.typing.Bound.{Bound}
 use Rattle.regent_tree.specs.declared.typing.StaticType.{StaticType}
 use Rattle.code_rules.specs.Instructions.{tasks_of}
-use Rattle.code_laws.specs.LocalForm.{Marked, are_scalar_params, is_local_block, is_local_item, is_local_program, is_local_task, marked_in, unmarked}
+use Rattle.local_form.specs.LocalForm.{Marked, are_scalar_params, is_local_block, is_local_item, is_local_program, is_local_task, marked_in, unmarked}
 use Rattle.code_laws.specs.Simple.{IsScalar}
 use Rattle.code_laws.proofs.LocalNames.{AllKept, AreScalars, IsLocalTree, kept_scalar}
 use Rattle.code_laws.proofs.LocalTypes.{term_scalar}

@@ -9,7 +9,7 @@ use Rattle.regent_tree.specs.declared.expression.Operator.TheVariants.{And, Comp
 use Rattle.regent_tree.specs.declared.statement.How.{How}
 use Rattle.regent_tree.specs.declared.statement.How.TheVariants as how
 use Rattle.regent_tree.specs.declared.types.TypeTerm.{TypeTerm}
-use Rattle.code_laws.specs.LocalForm.{are_local_arms, are_local_expressions, are_local_links, are_scalar_params, gives_scalar, is_local_block, is_local_else, is_local_expression, is_local_form, is_local_item, is_local_program, is_local_task, links_give, marked_by, marked_by_arms, marked_by_else, marked_in, unmarked, with_index}
+use Rattle.local_form.specs.LocalForm.{are_local_arms, are_local_expressions, are_local_links, are_scalar_params, gives_scalar, is_local_block, is_local_else, is_local_expression, is_local_form, is_local_item, is_local_program, is_local_task, links_give, marked_by, marked_by_arms, marked_by_else, marked_in, unmarked, with_index}
 use Rattle.code_laws.proofs.Typing.{no_way_back}
 use Rattle.scalar_form.specs.ScalarForm.{are_scalar_arms, are_scalar_expressions, are_scalar_links, is_empty, is_scalar_block, is_scalar_else, is_scalar_expression, is_scalar_form, is_scalar_if_said, is_scalar_item, is_scalar_number, is_scalar_program, is_scalar_task, is_scalar_term}
 

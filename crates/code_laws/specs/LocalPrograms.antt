@@ -9,7 +9,7 @@ use Rattle.code_rules.specs.Programs.{code_of}
 use Rattle.run_report.specs.Dumps.{fits_spaces}
 use Rattle.check_rules.specs.Acceptance.{input_widths}
 use Rattle.check_rules.specs.Breaches.{breaches}
-use Rattle.code_laws.specs.LocalForm.{is_local_program}
+use Rattle.local_form.specs.LocalForm.{is_local_program}
 use Rattle.code_laws.specs.Programs.{RunsAsMeant}
 use Rattle.code_laws.specs.ScalarPrograms.{AreInputs}
 

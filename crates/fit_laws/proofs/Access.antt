@@ -26,14 +26,14 @@ use Rattle.machine_terms.specs.Parts.{is_part_of, Cell, Found, refused, missing,
 use Rattle.machine_terms.specs.Pointers.{Aimed, aims, fails, aim, aim_in, aim_if, slot_at, region_slot, region_in, read_in, read_cell, read_at, read, written, set_found, set_cell, set_at, set, same_width}
 use Rattle.fit_rules.specs.Shapes.{Each, Shape, integer, pointer, region, Numeric, numeric_pointer, NumberIs, World, position_of, IsRegion, Is, is_number, is_region, Are}
 use Rattle.fit_rules.specs.Marks.{stacked}
-use Rattle.fit_rules.specs.Fits.{Program, kind_at, shape_at, claims, Covers, CellNumber, CellFits, PartFits, PartsFit, Beside, Fits}
+use Rattle.fit_rules.specs.Fits.{Program, kind_at, shape_at, claims, Covers, CellNumber, CellFits, PartFits, PartsFit, Fits}
 use Rattle.fit_rules.specs.Sound.{Allowed, Through, To}
 use Rattle.fit_rules.specs.Ends.{StopsWell, Safe, safe_goes, safe_stops}
 use Rattle.fit_laws.proofs.Lookup.{value_at}
 use Rattle.fit_laws.proofs.Numbers.{KeptAs, kept_int, kept_int64, kept_as_truth, kept_index, kept_pointer, is_kept, kept_is, kept_numeric}
 use Rattle.fit_laws.proofs.Cover.{Permits, read_reads, write_reads, write_writes, reduce_reduces, write_reduces, Joined, covered_granted, claimed_needed}
 use Rattle.fit_laws.proofs.Cells.{cell_same, cell_other, set_piece, origin, valued, same_root, same_field}
-use Rattle.fit_laws.proofs.Straight.{safe_number, safe_two, pushed}
+use Rattle.fit_laws.proofs.Straight.{beside_moved, pushed, safe_number, safe_two, suits_at}
 
 -- ---- the width of an integer field
 
@@ -229,15 +229,8 @@ module _ (g : Program) (x : World) (t : TaskCode) (k : ℕ) (m : Machine) (fit :
       λ q er ef h. record {
         inside = fit.inside;
         suits = fit.suits;
-        beside = record {
-          task = fit.beside.task;
-          needs = fit.beside.needs;
-          parts = λ r i p ep. part_added m.parts q root f er ef h none fit.beside.parts r i p ep;
-          children = fit.beside.children;
-          calls = fit.beside.calls;
-          own = fit.beside.own;
-          own_there = fit.beside.own_there;
-        };
+        beside = beside_moved g x t k m fit _ _ _ _ _ (omega arith)
+            (λ r i p ep. part_added m.parts q root f er ef h none fit.beside.parts r i p ep);
       },
     ),
   )
@@ -296,19 +289,6 @@ module _ (g : Program) (x : World) (t : TaskCode) (k : ℕ) (m : Machine) (fit :
   same_width_itself W32 = refl
   same_width_itself W64 = refl
 
-  pub beside_set : (root f p : ℕ) (z : ℤ) (pc : ℕ) (st : List Value) →
-      PartsFit g x t (set_part m.parts root f p z) →
-      Beside g x t k (at pc st (record m { parts = set_part m.parts root f p z }))
-  beside_set root f p z pc st h = record {
-    task = fit.beside.task;
-    needs = fit.beside.needs;
-    parts = h;
-    children = fit.beside.children;
-    calls = fit.beside.calls;
-    own = fit.beside.own;
-    own_there = fit.beside.own_there;
-  }
-
   set_safe_at : (root f p : ℕ) (z : ℤ) (q : Part) (c : Cell) (ss : List Shape) (st : List Value) →
       To g t k (stacked (g.marks k m.frame.pc) ss) (suc m.frame.pc) → Are x ss st →
       part_of m.parts root f ≡ Some q → cell_at q.pieces p ≡ Some c →
@@ -316,15 +296,8 @@ module _ (g : Program) (x : World) (t : TaskCode) (k : ℕ) (m : Machine) (fit :
       Safe g x t k (set_found root f p (Some z) st m)
   set_safe_at root f p z q c ss st h a ep ec n = safe_goes _ (record {
     inside = h.0;
-    suits = h.1 x _ st (record {
-      slots = fit.suits.slots;
-      stack = a;
-      facts = fit.suits.facts;
-      top = tt;
-      args = fit.suits.args;
-    });
-    beside = beside_set root f p z (suc m.frame.pc) st
-        (parts_set g x t m.parts root f p z q c ep ec n fit.beside.parts);
+    suits = suits_at g x t k m fit (suc m.frame.pc) ss st h a;
+    beside = beside_moved g x t k m fit _ _ _ _ _ (omega arith) (parts_set g x t m.parts root f p z q c ep ec n fit.beside.parts);
   })
 
   -- what an access writes is of the field's shape

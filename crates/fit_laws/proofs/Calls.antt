@@ -1,5 +1,5 @@
 -- Calls: the opening frame of a call fits, and its caller fits beside one child more.
-use Rattle.std.proofs.Common.{◌≡◌, ℕ, zero, suc, ◌<◌, ◌≤◌, ◌^◌, List, [], ◌∷◌, ◌++◌, Bool, true, false, cond, Option, Some, None, refl, sym, ap, subst, arith}
+use Rattle.std.proofs.Common.{◌≡◌, ℕ, suc, ◌<◌, ◌≤◌, ◌^◌, List, [], ◌∷◌, ◌++◌, Bool, true, false, cond, Option, Some, None, refl, sym, ap, subst, arith}
 use Rattle.std.proofs.lemmas.Option.{none-some}
 use Rattle.std.specs.Prelude.{slice_get, length, nat_lt, ◌==◌}
 use Rattle.std.proofs.lemmas.Bool.{lt-ltb, eq-eqb, ne_eqb}
@@ -13,7 +13,7 @@ use Rattle.machine_terms.specs.declared.outcome.Yield.TheVariants as yield
 use Rattle.machine_terms.specs.declared.value.RegionValue.{RegionValue}
 use Rattle.machine_terms.specs.declared.value.Value.{Value}
 use Rattle.machine_terms.specs.declared.value.Value.TheVariants as value
-use Rattle.machine_terms.specs.Machine.{Machine, Stepped, stops, when, with_turns, faults, broken, on_turn}
+use Rattle.machine_terms.specs.Machine.{Machine, Stepped, stops, when, with_turns, faults, broken}
 use Rattle.machine_terms.specs.Pointers.{region_in}
 use Rattle.machine_terms.specs.Calls.{take_values, yield_call, calling, call_task, call}
 use Rattle.machine_terms.specs.Opening.{with_points, need_on, needs_on, opening}
@@ -23,6 +23,7 @@ use Rattle.fit_rules.specs.Fits.{Program, requires, claim_on, declared_claims, r
 use Rattle.fit_rules.specs.Sound.{Takes, Opens, To}
 use Rattle.fit_rules.specs.Ends.{grown, called, opening_machine, without_parts, Safe, safe_stops}
 use Rattle.fit_laws.proofs.Taking.{takes_values}
+use Rattle.fit_laws.proofs.Straight.{turned}
 
 -- ---- one more child
 
@@ -107,11 +108,6 @@ opening_fits g x k t vs turns depth h l s = record {
 -- ---- calls
 
 module _ (g : Program) (x : World) (t : TaskCode) (k : ℕ) (m : Machine) (fit : Fits g x t k m) where
-  turned : (n line : ℕ) (more : Machine → Stepped) → m.frame.turns ≡ n →
-      ((p : ℕ) → suc p ≡ m.frame.turns → Safe g x t k (more (with_turns p m))) → Safe g x t k (on_turn n line m more)
-  turned zero line more e h = safe_stops _ _ (fit.beside.parts, tt)
-  turned (suc p) line more e h = h p (sym e)
-
   caller_fits : (task p : ℕ) (rest : List Shape) (st : List Value) → suc p ≡ m.frame.turns →
       To g t k (stacked (g.marks k m.frame.pc) (awaited (g.results task) ∷ rest)) (suc m.frame.pc) → Are x rest st →
       Fits g (grown x (g.results task)) t k (without_parts (record m {
@@ -195,7 +191,7 @@ module _ (g : Program) (x : World) (t : TaskCode) (k : ℕ) (m : Machine) (fit :
       (subst (λ b. Safe g x t k (when b (calling task line (take_values n m.frame.stack []) m) (broken m)))
       (sym (eq-eqb callee.params n ep))
       (subst (λ z. Safe g x t k (calling task line z m)) (sym w.is)
-      (turned m.frame.turns line _ refl (λ p e. deep (nat_lt m.frame.depth 64) p
+      (turned g x t k m fit m.frame.turns line _ refl (λ p e. deep (nat_lt m.frame.depth 64) p
       (issued task line p callee args rest w.values w.below short there some o e to w.args_are w.rest_are)))))
     where
       deep : (b : Bool) (p : ℕ) → {a : Stepped} → Safe g x t k a → Safe g x t k (when b a (faults Depth line (with_turns p m)))

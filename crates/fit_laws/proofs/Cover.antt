@@ -2,6 +2,7 @@
 use Rattle.std.proofs.Common.{◌≡◌, ◌⊎◌, inl, inr, ⊎_elim, ℕ, zero, suc, ◌+◌, ◌<◌, ◌≤◌, List, [], ◌∷◌, ◌++◌, map, Bool, true, false, ◌&&◌, ◌||◌, cond, Option, Some, None, refl, sym, ap, ◌∙◌, subst, arith}
 use Rattle.std.specs.Prelude.{slice_get, ◌==◌}
 use Rattle.std.proofs.lemmas.Bool.{eq-eqb, cases_Bool, false≢true}
+use Rattle.std.proofs.Math.Nat.{eq-or-lt_of_le}
 use Rattle.lane_kernels.specs.Modes.{joined, same_op}
 use Rattle.lane_kernels.specs.declared.numbers.Mode.{Mode}
 use Rattle.lane_kernels.specs.declared.numbers.Mode.TheVariants as mode
@@ -140,17 +141,10 @@ in_map f [] a h = absurd h
 in_map f (x ∷ xs) a (inl e) = inl (ap f e)
 in_map f (x ∷ xs) a (inr h) = inr (in_map f xs a h)
 
-in_counted : (first n i : ℕ) → first ≤ i → i < first + n → Among (counted_from first n) i
+pub in_counted : (first n i : ℕ) → first ≤ i → i < first + n → Among (counted_from first n) i
 in_counted first zero i h l = absurd (omega (arith, h, l))
 in_counted first (suc n) i h l = ⊎_elim (λ e. inl e)
-    (λ more. inr (in_counted (suc first) n i more (omega (arith, l)))) (same_or_more first i h)
-  where
-    same_or_more : (a b : ℕ) → a ≤ b → (a ≡ b) ⊎ (suc a ≤ b)
-    same_or_more zero zero h = inl refl
-    same_or_more zero (suc b) h = inr (omega arith)
-    same_or_more (suc a) zero h = absurd (omega (arith, h))
-    same_or_more (suc a) (suc b) h = ⊎_elim (λ e. inl (ap suc e)) (λ g. inr (omega (arith, g)))
-        (same_or_more a b (omega (arith, h)))
+    (λ more. inr (in_counted (suc first) n i (omega (arith, more)) (omega (arith, l)))) (eq-or-lt_of_le h)
 
 at_claim : (r : Requirement) (root f p : ℕ) → r.root ≡ root → r.field ≡ f → has r.points p ≡ true →
     is_at root f p r ≡ true

@@ -10,16 +10,14 @@ use Rattle.lane_kernels.specs.declared.numbers.Width.TheVariants.{W32}
 use Rattle.regent_tree.specs.declared.expression.Arithmetic.TheVariants.{Add}
 use Rattle.task_code.specs.declared.code.Line.{Line}
 use Rattle.task_code.specs.declared.instr.Instr.{Instr}
-use Rattle.machine_terms.specs.declared.value.Value.{Value}
 use Rattle.machine_terms.specs.Jumps.{fetch}
-use Rattle.machine_terms.specs.Pointers.{region_in}
 use Rattle.fit_rules.specs.Example.{program, task, body, known, mark, marks, later}
-use Rattle.fit_rules.specs.Shapes.{Each, Shape, anything, integer, index, pointer, region, numeric_integer, numeric_index, numeric_pointer, World, Is, Are, are_more}
-use Rattle.fit_rules.specs.Marks.{Holds, Mark, Stores}
+use Rattle.fit_rules.specs.Shapes.{Each, Shape, anything, integer, index, pointer, region, numeric_integer, numeric_index, numeric_pointer}
+use Rattle.fit_rules.specs.Marks.{Mark, Stores}
 use Rattle.fit_rules.specs.Sound.{Through, settled_number, does_num, does_load, does_compute, does_element, does_read, does_write, does_space, Sound, straight, stored, makes_root, returns}
 use Rattle.fit_laws.specs.Example.{ExampleIsSound, ExampleEnds}
 use Rattle.fit_laws.proofs.Allowing.{Under, allowed_under}
-use Rattle.fit_laws.proofs.Lookup.{as_long, set_at}
+use Rattle.fit_laws.proofs.Keeping.{OfSlots, set_each, stores_behind}
 
 -- ---- lines
 
@@ -52,67 +50,18 @@ five [] pc h = refl
 five (m ∷ ms) zero h = h.0
 five (m ∷ ms) (suc pc) h = five ms pc h.1
 
-is_first : (x : World) (s : Shape) (ss : List Shape) (v : Value) (vs : List Value) → Are x (s ∷ ss) (v ∷ vs) → Is x s v
-is_first x _ _ _ _ (are_more _ _ _ _ h a) = h
-
 -- what is known of the first three slots is so whatever stands behind them
-kept : (a b c : Value) (vs us : List Value) → Each (λ k. Holds k (a ∷ b ∷ c ∷ vs)) known →
-    Each (λ k. Holds k (a ∷ b ∷ c ∷ us)) known
-kept a b c vs us h = (
-  λ r e. let w = h.0 r e in record { other = w.other; at = w.at; inside = w.inside },
-  (λ q e. let w = h.1.0 q e in record { parent = w.parent; at = w.at; root = w.root; inside = w.inside }, tt),
-)
+known_before : (s : ℕ) → 2 < s → Each (OfSlots (λ i. s ≡ i → ⊥)) known
+known_before s l = ((λ e. omega (arith, e, l), λ e. omega (arith, e, l)), ((λ e. omega (arith, e, l), λ e. omega (arith, e, l)), tt))
 
 -- the fourth of five slots is another one, or the fifth
 stores_fourth : (element : Shape) (s : Shape) → Stores 3 (mark anything element (s ∷ [])) 3 (mark s element [])
-stores_fourth element s x (a ∷ b ∷ c ∷ d ∷ e ∷ []) st v q = record {
-  slots = set_at x _ (a ∷ b ∷ c ∷ d ∷ e ∷ []) 3 s v q.slots (is_first x s _ v st q.stack);
-  stack = rest q.stack;
-  facts = kept a b c (d ∷ e ∷ []) (v ∷ e ∷ []) q.facts;
-  top = tt;
-  args = args;
-}
-  where
-    rest : Are x (s ∷ []) (v ∷ st) → Are x [] st
-    rest (are_more _ _ _ _ h a) = a
-
-    args : (i : ℕ) → i < 3 → region_in (slice_get (a ∷ b ∷ c ∷ v ∷ e ∷ []) i) ≡ region_in (slice_get x.args i)
-    args zero l = q.args 0 l
-    args (suc zero) l = q.args 1 l
-    args (suc (suc zero)) l = q.args 2 l
-    args (suc (suc (suc i))) l = absurd (omega (arith, l))
-stores_fourth element s x [] st v q = let h = as_long x _ [] q.slots in absurd (omega (arith, h))
-stores_fourth element s x (a ∷ []) st v q = let h = as_long x _ (a ∷ []) q.slots in absurd (omega (arith, h))
-stores_fourth element s x (a ∷ b ∷ []) st v q = let h = as_long x _ (a ∷ b ∷ []) q.slots in absurd (omega (arith, h))
-stores_fourth element s x (a ∷ b ∷ c ∷ []) st v q = let h = as_long x _ (a ∷ b ∷ c ∷ []) q.slots in absurd (omega (arith, h))
-stores_fourth element s x (a ∷ b ∷ c ∷ d ∷ []) st v q = let h = as_long x _ (a ∷ b ∷ c ∷ d ∷ []) q.slots in absurd (omega (arith, h))
-stores_fourth element s x (a ∷ b ∷ c ∷ d ∷ e ∷ f ∷ vs) st v q =
-    let h = as_long x _ (a ∷ b ∷ c ∷ d ∷ e ∷ f ∷ vs) q.slots in absurd (omega (arith, h))
+stores_fourth element s = stores_behind 3 (mark anything element (s ∷ [])) 3 s s [] refl (omega arith)
+    (λ vs v h. set_each vs 3 v known (known_before 3 (omega arith)) h) (λ x v h. h)
 
 stores_fifth : (own : Shape) (s : Shape) → Stores 3 (mark own anything (s ∷ [])) 4 (mark own s [])
-stores_fifth own s x (a ∷ b ∷ c ∷ d ∷ e ∷ []) st v q = record {
-  slots = set_at x _ (a ∷ b ∷ c ∷ d ∷ e ∷ []) 4 s v q.slots (is_first x s _ v st q.stack);
-  stack = rest q.stack;
-  facts = kept a b c (d ∷ e ∷ []) (d ∷ v ∷ []) q.facts;
-  top = tt;
-  args = args;
-}
-  where
-    rest : Are x (s ∷ []) (v ∷ st) → Are x [] st
-    rest (are_more _ _ _ _ h a) = a
-
-    args : (i : ℕ) → i < 3 → region_in (slice_get (a ∷ b ∷ c ∷ d ∷ v ∷ []) i) ≡ region_in (slice_get x.args i)
-    args zero l = q.args 0 l
-    args (suc zero) l = q.args 1 l
-    args (suc (suc zero)) l = q.args 2 l
-    args (suc (suc (suc i))) l = absurd (omega (arith, l))
-stores_fifth own s x [] st v q = let h = as_long x _ [] q.slots in absurd (omega (arith, h))
-stores_fifth own s x (a ∷ []) st v q = let h = as_long x _ (a ∷ []) q.slots in absurd (omega (arith, h))
-stores_fifth own s x (a ∷ b ∷ []) st v q = let h = as_long x _ (a ∷ b ∷ []) q.slots in absurd (omega (arith, h))
-stores_fifth own s x (a ∷ b ∷ c ∷ []) st v q = let h = as_long x _ (a ∷ b ∷ c ∷ []) q.slots in absurd (omega (arith, h))
-stores_fifth own s x (a ∷ b ∷ c ∷ d ∷ []) st v q = let h = as_long x _ (a ∷ b ∷ c ∷ d ∷ []) q.slots in absurd (omega (arith, h))
-stores_fifth own s x (a ∷ b ∷ c ∷ d ∷ e ∷ f ∷ vs) st v q =
-    let h = as_long x _ (a ∷ b ∷ c ∷ d ∷ e ∷ f ∷ vs) q.slots in absurd (omega (arith, h))
+stores_fifth own s = stores_behind 3 (mark own anything (s ∷ [])) 4 s s [] refl (omega arith)
+    (λ vs v h. set_each vs 4 v known (known_before 4 (omega arith)) h) (λ x v h. h)
 
 -- ---- accesses
 

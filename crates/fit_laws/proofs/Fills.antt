@@ -1,5 +1,5 @@
 -- Fills: a number is written at each point of a region.
-use Rattle.std.proofs.Common.{◌≡◌, inl, inr, ℕ, suc, ℤ, List, [], ◌∷◌, Bool, true, false, ◌||◌, Some, refl, sym, ap, ◌∙◌, subst}
+use Rattle.std.proofs.Common.{◌≡◌, inl, inr, ℕ, suc, ℤ, List, [], ◌∷◌, Bool, true, false, ◌||◌, Some, refl, sym, ap, ◌∙◌, subst, arith}
 use Rattle.std.specs.Prelude.{◌==◌}
 use Rattle.std.specs.List.{list_any}
 use Rattle.std.proofs.lemmas.Bool.{eq-eqb}
@@ -22,7 +22,7 @@ use Rattle.fit_rules.specs.Sound.{Allowed, To}
 use Rattle.fit_rules.specs.Ends.{Safe, safe_stops}
 use Rattle.fit_laws.proofs.Numbers.{is_kept, kept_is, kept_numeric}
 use Rattle.fit_laws.proofs.Cover.{Permits, write_writes}
-use Rattle.fit_laws.proofs.Straight.{safe_next, safe_number}
+use Rattle.fit_laws.proofs.Straight.{beside_moved, safe_next, safe_number}
 use Rattle.fit_laws.proofs.Access.{wants_well, FoundWell, missing_well, found_well, find_well, needed, parts_set, same_width_itself, region_at}
 
 pub points_had : (xs : List ℕ) (p : ℕ) → Among xs p → has xs p ≡ true
@@ -48,17 +48,9 @@ module _ (g : Program) (x : World) (t : TaskCode) (k root f : ℕ) (z : ℤ) (ss
   new_fits m fit p q c ep ec em i = record {
     inside = fit.inside;
     suits = fit.suits;
-    beside = record {
-      task = fit.beside.task;
-      needs = fit.beside.needs;
-      parts = parts_set g x t m.parts root f p (wrapped width z) q c ep ec
-          (subst (λ y. CellNumber (kind_at g (x.spaces root) f) (shape_at g (x.spaces root) f) y (wrapped width z)) (sym em)
-          (kept_is _ _ z (is_kept g (x.spaces root) f) i)) fit.beside.parts;
-      children = fit.beside.children;
-      calls = fit.beside.calls;
-      own = fit.beside.own;
-      own_there = fit.beside.own_there;
-    };
+    beside = beside_moved g x t k m fit _ _ _ _ _ (omega arith) (parts_set g x t m.parts root f p (wrapped width z) q c ep ec
+        (subst (λ y. CellNumber (kind_at g (x.spaces root) f) (shape_at g (x.spaces root) f) y (wrapped width z)) (sym em)
+        (kept_is _ _ z (is_kept g (x.spaces root) f) i)) fit.beside.parts);
   }
 
   of_mode : (m n : Machine) (more : Machine → Stepped) (md : Mode) → Permits mode.Write md →

@@ -1,4 +1,5 @@
 pub mod Lookup
+pub mod Keeping
 pub mod Numbers
 pub mod Straight
 pub mod Cover

@@ -1,6 +1,7 @@
 -- Roots that are made: the frame fits beside a world with one root more, all of which it may write.
 use Rattle.std.proofs.Common.{◌≡◌, ◌⊎◌, inl, inr, ⊎_elim, ℕ, suc, ◌≤◌, ◌^◌, List, [], ◌∷◌, ◌++◌, map, Bool, true, false, cond, ◌&&◌, ◌||◌, Option, Some, None, refl, sym, ap, ◌∙◌, subst, arith, append_assoc}
 use Rattle.std.specs.Prelude.{slice_get, length, nat_lt, ◌==◌}
+use Rattle.std.proofs.lemmas.List.{append-nil}
 use Rattle.std.proofs.lemmas.Bool.{lt-ltb, le-leb, eq-eqb, ne_eqb, eqb-false, cases_Bool, false≢true}
 use Rattle.lane_kernels.specs.declared.numbers.Mode.TheVariants as mode
 use Rattle.plain_values.specs.Points.{IsPoints, has, points}
@@ -96,12 +97,8 @@ module _ (x : World) (root sp n : ℕ) (fresh : x.there root ≡ false) where
       (same_points r (h r (inl refl)))
       ∙ ap (λ s. root_claims g r s (x.points r) ++ own_claims g x rs) (same_space r (h r (inl refl)))
 
-  append_none : {A : Type 0} (xs : List A) → xs ++ [] ≡ xs
-  append_none [] = refl
-  append_none (y ∷ xs) = ap (λ l. y ∷ l) (append_none xs)
-
   own_new : (g : Program) → own_claims g (rooted x root sp n) (root ∷ []) ≡ root_claims g root sp (points n)
-  own_new g = append_none _
+  own_new g = append-nil _
       ∙ ap (λ b. root_claims g root (cond b sp (x.spaces root)) (cond b (points n) (x.points root)))
       (eq-eqb root root refl)
 

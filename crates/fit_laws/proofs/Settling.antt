@@ -40,29 +40,25 @@ module _ (i : ℕ) (z : ℤ) (vs : List Value) where
   at k = slice_get-map (settled i z) vs k
 
   -- regions and partitions stay
+  stays : {A : Type 0} (of : Value → Option A) → ((y : ℤ) → of (value.Number y) ≡ None) → ((j : ℕ) → of (value.Pending j) ≡ None) →
+      (v : Value) → of (settled i z v) ≡ of v
+  stays of num pend (value.Number y) = refl
+  stays of num pend (value.Space n) = refl
+  stays of num pend (value.Region r) = refl
+  stays of num pend (value.Partition q) = refl
+  stays of num pend (value.Pending j) = of_test (i == j)
+    where
+      of_test : (b : Bool) → of (cond b (value.Number z) (value.Pending j)) ≡ of (value.Pending j)
+      of_test true = num z ∙ sym (pend j)
+      of_test false = refl
+
   region_same : (o : Option Value) → region_in (option_map (settled i z) o) ≡ region_in o
   region_same None = refl
-  region_same (Some (value.Number y)) = refl
-  region_same (Some (value.Space n)) = refl
-  region_same (Some (value.Region r)) = refl
-  region_same (Some (value.Partition q)) = refl
-  region_same (Some (value.Pending j)) = of_test (i == j)
-    where
-      of_test : (b : Bool) → region_in (Some (cond b (value.Number z) (value.Pending j))) ≡ None
-      of_test true = refl
-      of_test false = refl
+  region_same (Some v) = stays (λ y. region_in (Some y)) (λ y. refl) (λ j. refl) v
 
   partition_same : (o : Option Value) → partition_in (option_map (settled i z) o) ≡ partition_in o
   partition_same None = refl
-  partition_same (Some (value.Number y)) = refl
-  partition_same (Some (value.Space n)) = refl
-  partition_same (Some (value.Region r)) = refl
-  partition_same (Some (value.Partition q)) = refl
-  partition_same (Some (value.Pending j)) = of_test (i == j)
-    where
-      of_test : (b : Bool) → partition_in (Some (cond b (value.Number z) (value.Pending j))) ≡ None
-      of_test true = refl
-      of_test false = refl
+  partition_same (Some v) = stays (λ y. partition_in (Some y)) (λ y. refl) (λ j. refl) v
 
   region_kept : (k : ℕ) → region_in (slice_get us k) ≡ region_in (slice_get vs k)
   region_kept k = ap region_in (at k) ∙ region_same (slice_get vs k)

@@ -1,9 +1,10 @@
 -- From a machine that fits valid code, a step leads to one that fits, or stops well.
-use Rattle.std.proofs.Common.{◌≡◌, ◌⊎◌, inl, inr, ⊎_elim, ℕ, zero, suc, ◌<◌, ◌≤◌, ◌^◌, ℤ, pos, ◌+ℤ◌, List, ◌∷◌, Bool, true, false, cond, Option, Some, None, refl, sym, ap, ◌∙◌, subst, arith}
+use Rattle.std.proofs.Common.{◌≡◌, ◌⊎◌, inl, inr, ⊎_elim, ℕ, suc, ◌<◌, ◌≤◌, ◌^◌, ℤ, pos, ◌+ℤ◌, List, ◌∷◌, Bool, true, false, cond, Option, Some, None, refl, sym, ap, ◌∙◌, subst, arith}
 use Rattle.std.specs.Prelude.{slice_get, slice_set, length, int_lt, ◌==◌}
 use Rattle.std.specs.Ordering.{int_eq}
 use Rattle.std.proofs.lemmas.Bool.{lt-ltb, eqb-false}
 use Rattle.std.proofs.lemmas.Option.{slice_get-get_or, none-some}
+use Rattle.std.proofs.Math.Nat.{eq-or-lt_of_le}
 use Rattle.task_code.specs.declared.code.Line.{Line}
 use Rattle.task_code.specs.declared.code.TaskCode.{TaskCode}
 use Rattle.task_code.specs.declared.instr.Instr.{Instr}
@@ -23,7 +24,7 @@ use Rattle.fit_rules.specs.Fits.{Program, Fits}
 use Rattle.fit_rules.specs.Sound.{HasPartition, To, ToStored, RoundNumber, RoundPoint, Sound, straight, colours, colours_by, takes_child, awaits, stored, jumps, jumps_if_not, jumps_and, jumps_or, counts_numbers, counts_points, makes_root, makes_equal, makes_by_field, makes_minus, makes_meet, makes_join, makes_image, makes_preimage, makes_call, takes_turn, returns, returns_value, Valid}
 use Rattle.fit_rules.specs.Ends.{Safe, safe_goes, safe_stops}
 use Rattle.fit_laws.proofs.Lookup.{each_among, value_at, as_long}
-use Rattle.fit_laws.proofs.Straight.{fits_at, fits_topped, safe_number}
+use Rattle.fit_laws.proofs.Straight.{beside_moved, fits_at, fits_topped, moved, safe_number, turned}
 use Rattle.fit_laws.proofs.Pointers.{partition_at, among_coloured}
 use Rattle.fit_laws.proofs.Calls.{call_safe}
 use Rattle.fit_laws.proofs.Columns.{by_field_safe, image_safe, preimage_safe}
@@ -31,13 +32,6 @@ use Rattle.fit_laws.proofs.Rooting.{new_root_safe}
 use Rattle.fit_laws.proofs.Making.{equal_safe, minus_safe, meet_safe, join_safe}
 use Rattle.fit_laws.proofs.Settling.{settles}
 use Rattle.fit_laws.proofs.Effects.{effect_safe}
-
-below_or_same : (a b : ℕ) → a ≤ b → (a < b) ⊎ (a ≡ b)
-below_or_same zero zero h = inr refl
-below_or_same zero (suc b) h = inl (omega arith)
-below_or_same (suc a) zero h = absurd (omega (arith, h))
-below_or_same (suc a) (suc b) h = ⊎_elim (λ g. inl (omega (arith, g))) (λ e. inr (ap suc e))
-    (below_or_same a b (omega (arith, h)))
 
 module _ (g : Program) (x : World) (t : TaskCode) (k : ℕ) (m : Machine) (fit : Fits g x t k m) where
   abbrev here : Mark
@@ -57,15 +51,7 @@ module _ (g : Program) (x : World) (t : TaskCode) (k : ℕ) (m : Machine) (fit :
       (safe_goes _ (record {
         inside = to.0;
         suits = to.1 x m.frame.slots st v (subst (λ y. Suits x t.params here m.frame.slots y) (sym e) fit.suits);
-        beside = record {
-          task = fit.beside.task;
-          needs = fit.beside.needs;
-          parts = fit.beside.parts;
-          children = fit.beside.children;
-          calls = fit.beside.calls;
-          own = fit.beside.own;
-          own_there = fit.beside.own_there;
-        };
+        beside = beside_moved g x t k m fit _ _ _ _ m.parts (omega arith) fit.beside.parts;
       }))
 
   -- ---- jumps
@@ -90,29 +76,12 @@ module _ (g : Program) (x : World) (t : TaskCode) (k : ℕ) (m : Machine) (fit :
 
   -- ---- turns
 
-  turned : (n line : ℕ) (more : Machine → Stepped) → m.frame.turns ≡ n →
-      ((p : ℕ) → suc p ≡ m.frame.turns → Safe g x t k (more (with_turns p m))) → Safe g x t k (on_turn n line m more)
-  turned zero line more e h = safe_stops _ _ (fit.beside.parts, tt)
-  turned (suc p) line more e h = h p (sym e)
-
-  -- with slots and a stack, at a place
-  abbrev pub moved : ℕ → ℕ → List Value → List Value → Machine
-  moved pc p vs st = record m { frame = record m.frame { pc = pc; stack = st; turns = p; slots = vs } }
-
   moved_fits : (pc p : ℕ) (vs st : List Value) → suc p ≡ m.frame.turns → pc < length t.body →
-      Suits x t.params (g.marks k pc) vs st → Fits g x t k (moved pc p vs st)
+      Suits x t.params (g.marks k pc) vs st → Fits g x t k (moved g x t k m fit pc p vs st m.parts)
   moved_fits pc p vs st e l s = record {
     inside = l;
     suits = s;
-    beside = record {
-      task = fit.beside.task;
-      needs = fit.beside.needs;
-      parts = fit.beside.parts;
-      children = fit.beside.children;
-      calls = omega (arith, e, fit.beside.calls);
-      own = fit.beside.own;
-      own_there = fit.beside.own_there;
-    };
+    beside = beside_moved g x t k m fit pc p vs st m.parts (omega (arith, e)) fit.beside.parts;
   }
 
   round_safe : (c v p : ℕ) (z i : ℤ) → suc p ≡ m.frame.turns → v < length here.slots → suc m.frame.pc < length t.body →
@@ -149,7 +118,7 @@ module _ (g : Program) (x : World) (t : TaskCode) (k : ℕ) (m : Machine) (fit :
         | true ↦ on_turn m.frame.turns line m (round c v i i)
         | false ↦ leave to m
       ])
-      tested true q = turned m.frame.turns line _ refl (λ p ep. round_safe c v p i i ep hv hs
+      tested true q = turned g x t k m fit m.frame.turns line _ refl (λ p ep. round_safe c v p i i ep hv hs
           (r x m.frame.slots m.frame.stack fit.suits i e ec el q))
       tested false q = leave_safe to ht h
 
@@ -239,15 +208,7 @@ module _ (g : Program) (x : World) (t : TaskCode) (k : ℕ) (m : Machine) (fit :
           λ z q. record {
             inside = fit.inside;
             suits = settles t.params here h x _ _ j z fit.suits q;
-            beside = record {
-              task = fit.beside.task;
-              needs = fit.beside.needs;
-              parts = fit.beside.parts;
-              children = fit.beside.children;
-              calls = fit.beside.calls;
-              own = fit.beside.own;
-              own_there = fit.beside.own_there;
-            };
+            beside = beside_moved g x t k m fit _ _ _ _ m.parts (omega arith) fit.beside.parts;
           },
         ),
       )
@@ -285,9 +246,9 @@ module _ (g : Program) (x : World) (t : TaskCode) (k : ℕ) (m : Machine) (fit :
           Safe g x t k (elim y [ true ↦ leave to m | false ↦ take_point c v ptr line i m (point_at d i) ])
       rounds_on i n true e l es ec = leave_safe to ht h
       rounds_on i n false e l es ec =
-          let p = point_there d i n es (⊎_elim (λ u. u) (λ u. absurd (eqb-false i n e u)) (below_or_same i n l)) in
+          let p = point_there d i n es (⊎_elim (λ u. absurd (eqb-false i n e u)) (λ u. u) (eq-or-lt_of_le l)) in
           subst (λ o. Safe g x t k (take_point c v ptr line i m o)) (sym p.there)
-          (turned m.frame.turns line _ refl (λ w ew. round_safe c v w _ (pos i) ew hv hs
+          (turned g x t k m fit m.frame.turns line _ refl (λ w ew. round_safe c v w _ (pos i) ew hv hs
           (r x m.frame.slots m.frame.stack fit.suits d i p.point ea ec p.there)))
 
       of_size : (b : Option Value) (o : Option ℕ) → size_of d ≡ o → slice_get m.frame.slots c ≡ b → AtMost o b →
@@ -352,7 +313,7 @@ module _ (g : Program) (x : World) (t : TaskCode) (k : ℕ) (m : Machine) (fit :
       (fact_at (lies (in_slot s) (in_slot r)) q) to
   sound_safe short _ line (makes_call task n callee args rest e p l tk o to) =
       call_safe g x t k m fit short task n line callee args rest e p l tk o to
-  sound_safe short _ line (takes_turn to) = turned m.frame.turns line _ refl (λ p e.
+  sound_safe short _ line (takes_turn to) = turned g x t k m fit m.frame.turns line _ refl (λ p e.
       safe_goes _ (moved_fits (suc m.frame.pc) p m.frame.slots m.frame.stack e to.0 (to.1 x _ _ fit.suits)))
   sound_safe short _ line returns = safe_stops _ _ (fit.beside.parts, tt)
   sound_safe short _ line (returns_value a ss e n h) =

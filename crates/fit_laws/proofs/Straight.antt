@@ -1,5 +1,5 @@
 -- Instructions that go on behind themselves and change no slot.
-use Rattle.std.proofs.Common.{ℕ, suc, ℤ, pos, negsuc, List, ◌∷◌, Bool, true, false, Some}
+use Rattle.std.proofs.Common.{◌≡◌, ℕ, zero, suc, ◌≤◌, sym, arith, ℤ, pos, negsuc, List, ◌∷◌, Bool, true, false, Some}
 use Rattle.std.specs.Ordering.{int_eq}
 use Rattle.lane_kernels.specs.declared.numbers.Width.{Width}
 use Rattle.lane_kernels.specs.Numbers.{wrapped}
@@ -7,15 +7,16 @@ use Rattle.regent_tree.specs.declared.expression.Arithmetic.{Arithmetic}
 use Rattle.regent_tree.specs.declared.expression.Arithmetic.TheVariants as arithmetic
 use Rattle.regent_tree.specs.Numbers.{computed, unless_zero}
 use Rattle.regent_tree.specs.Values.{target_kept}
+use Rattle.region_tree.specs.declared.piece.Part.{Part}
 use Rattle.task_code.specs.declared.code.TaskCode.{TaskCode}
 use Rattle.machine_terms.specs.declared.value.Value.{Value}
 use Rattle.machine_terms.specs.declared.value.Value.TheVariants.{Number}
-use Rattle.machine_terms.specs.Machine.{Machine, Stepped, at, next, on_number, on_two}
+use Rattle.machine_terms.specs.Machine.{Machine, Stepped, at, next, on_number, on_turn, on_two, with_turns}
 use Rattle.machine_terms.specs.Numbers.{load, divided}
 use Rattle.machine_terms.specs.Pointers.{point}
 use Rattle.fit_rules.specs.Shapes.{Shape, integer, index, Numeric, numeric_integer, numeric_truth, numeric_index, numeric_pointer, NumberIs, World, Is, is_number, is_space, is_region, is_partition, Are, are_more}
-use Rattle.fit_rules.specs.Marks.{TopFact, HoldsTop, Mark, stacked, topped}
-use Rattle.fit_rules.specs.Fits.{Program, Beside, Fits}
+use Rattle.fit_rules.specs.Marks.{TopFact, HoldsTop, Mark, Suits, stacked, topped}
+use Rattle.fit_rules.specs.Fits.{Program, Beside, Fits, PartsFit}
 use Rattle.fit_rules.specs.Sound.{Settled, settled_number, settled_space, settled_region, settled_partition, To}
 use Rattle.fit_rules.specs.Ends.{Safe, safe_goes, safe_stops}
 use Rattle.fit_laws.proofs.Numbers.{wrapped_fits, small_fits, point_below}
@@ -24,31 +25,41 @@ module _ (g : Program) (x : World) (t : TaskCode) (k : ℕ) (m : Machine) (fit :
   abbrev pub mark : Mark
   mark = g.marks k m.frame.pc
 
-  -- the machine at another place, with another stack
-  pub beside_at : (pc : ℕ) (st : List Value) → Beside g x t k (at pc st m)
-  beside_at pc st = record {
+  -- the machine at another place, with other turns, slots, stack and parts
+  abbrev pub moved : ℕ → ℕ → List Value → List Value → List Part → Machine
+  moved pc p vs st parts = record m {
+    frame = record m.frame { pc = pc; stack = st; turns = p; slots = vs };
+    parts = parts;
+  }
+
+  pub beside_moved : (pc p : ℕ) (vs st : List Value) (parts : List Part) → p ≤ m.frame.turns → PartsFit g x t parts →
+      Beside g x t k (moved pc p vs st parts)
+  beside_moved pc p vs st parts l h = record {
     task = fit.beside.task;
     needs = fit.beside.needs;
-    parts = fit.beside.parts;
+    parts = h;
     children = fit.beside.children;
-    calls = fit.beside.calls;
+    calls = omega (arith, l, fit.beside.calls);
     own = fit.beside.own;
     own_there = fit.beside.own_there;
   }
 
+  beside_at : (pc : ℕ) (st : List Value) → Beside g x t k (at pc st m)
+  beside_at pc st = beside_moved pc m.frame.turns m.frame.slots st m.parts (omega arith) fit.beside.parts
+
+  pub suits_at : (to : ℕ) (ss : List Shape) (st : List Value) → To g t k (stacked mark ss) to → Are x ss st →
+      Suits x t.params (g.marks k to) m.frame.slots st
+  suits_at to ss st h a = h.1 x _ st (record {
+    slots = fit.suits.slots;
+    stack = a;
+    facts = fit.suits.facts;
+    top = tt;
+    args = fit.suits.args;
+  })
+
   pub fits_at : (to : ℕ) (ss : List Shape) (st : List Value) → To g t k (stacked mark ss) to →
       Are x ss st → Fits g x t k (at to st m)
-  fits_at to ss st h a = record {
-    inside = h.0;
-    suits = h.1 x _ st (record {
-      slots = fit.suits.slots;
-      stack = a;
-      facts = fit.suits.facts;
-      top = tt;
-      args = fit.suits.args;
-    });
-    beside = beside_at to st;
-  }
+  fits_at to ss st h a = record { inside = h.0; suits = suits_at to ss st h a; beside = beside_at to st }
 
   pub fits_topped : (to : ℕ) (ss : List Shape) (st : List Value) (f : TopFact) → To g t k (topped mark ss f) to →
       Are x ss st → HoldsTop f m.frame.slots st → Fits g x t k (at to st m)
@@ -63,6 +74,12 @@ module _ (g : Program) (x : World) (t : TaskCode) (k : ℕ) (m : Machine) (fit :
     });
     beside = beside_at to st;
   }
+
+  -- a turn is taken, or the turns are used up
+  pub turned : (n line : ℕ) (more : Machine → Stepped) → m.frame.turns ≡ n →
+      ((p : ℕ) → suc p ≡ m.frame.turns → Safe g x t k (more (with_turns p m))) → Safe g x t k (on_turn n line m more)
+  turned zero line more e h = safe_stops _ _ (fit.beside.parts, tt)
+  turned (suc p) line more e h = h p (sym e)
 
   pub safe_next : (ss : List Shape) (st : List Value) → To g t k (stacked mark ss) (suc m.frame.pc) →
       Are x ss st → Safe g x t k (next st m)

@@ -6,6 +6,7 @@ use Rattle.code_rules.specs.Pieces.{Piece}
 use Rattle.fit_rules.specs.Marks.{Mark, Into, stacked}
 use Rattle.fit_rules.specs.Fits.{Program}
 use Rattle.marked_code.specs.Marked.{Typed, typed_empty, typed_op, typed_both, typed_into, typed_from, typed_and, typed_or, typed_if, typed_branch, typed_loop, typed_rounds, typed_points}
+use Rattle.marked_code.proofs.Placed.{into_then}
 
 module _ (g : Program) (t : TaskCode) (k : ℕ) (d : Mark) where
   -- the first of marks, and the one behind
@@ -15,16 +16,13 @@ module _ (g : Program) (t : TaskCode) (k : ℕ) (d : Mark) where
   same : (m : Mark) → Into t.params m m
   same m x vs st s = s
 
-  then : (l m n : Mark) → Into t.params l m → Into t.params m n → Into t.params l n
-  then l m n h i x vs st s = i x vs st (h x vs st s)
-
   first_of_both : (ms ns : List Mark) (m n o : Mark) → Into t.params m (first ms n) → Into t.params n (first ns o) →
       Into t.params m (first (ms ++ ns) o)
-  first_of_both [] ns m n o h i = then m n (first ns o) h i
+  first_of_both [] ns m n o h i = into_then g t k m n (first ns o) h i
   first_of_both (x ∷ ms) ns m n o h i = h
 
   first_into : (ms : List Mark) (m n o : Mark) → Into t.params m (first ms n) → Into t.params n o → Into t.params m (first ms o)
-  first_into [] m n o h i = then m n o h i
+  first_into [] m n o h i = into_then g t k m n o h i
   first_into (x ∷ ms) m n o h i = h
 
   pub begins_with : (m : Mark) (p : Piece) (ms : List Mark) (n : Mark) → Typed g t k m p ms n → Into t.params m (first ms n)
@@ -33,7 +31,7 @@ module _ (g : Program) (t : TaskCode) (k : ℕ) (d : Mark) where
   begins_with _ _ _ _ (typed_both m n o a b ms ns f h) =
       first_of_both ms ns m n o (begins_with m a ms n f) (begins_with n b ns o h)
   begins_with _ _ _ _ (typed_into m n o a ms f i lg) = first_into ms m n o (begins_with m a ms n f) i
-  begins_with _ _ _ _ (typed_from l m n a ms i f lg) = then l m (first ms n) i (begins_with m a ms n f)
+  begins_with _ _ _ _ (typed_from l m n a ms i f lg) = into_then g t k l m (first ms n) i (begins_with m a ms n f)
   begins_with _ _ _ _ (typed_and m a ss line p ms e n f) = same m
   begins_with _ _ _ _ (typed_or m a ss line p ms e n f) = same m
   begins_with _ _ _ _ (typed_if m a ss line p ms e n f) = same m

@@ -4,6 +4,7 @@ use Rattle.std.proofs.Common.{◌≡◌, ◌⊎◌, inl, inr, ⊎_elim, ℕ, zer
 use Rattle.std.specs.Prelude.{slice_get, length, nat_lt}
 use Rattle.std.proofs.lemmas.Bool.{lt-ltb}
 use Rattle.std.proofs.lemmas.Option.{same_Some}
+use Rattle.std.proofs.Math.Nat.{eq-or-lt_of_le}
 use Rattle.task_code.specs.declared.code.Line.{Line}
 use Rattle.task_code.specs.declared.code.TaskCode.{TaskCode}
 use Rattle.task_code.specs.declared.instr.Instr.{Instr}
@@ -140,7 +141,7 @@ module _ (g : Program) (t : TaskCode) (k : ℕ) where
   pub into_same : (m n : Mark) → n ≡ m → Into t.params m n
   into_same m n e x vs st s = subst (λ y. Suits x t.params y vs st) (sym e) s
 
-  into_then : (l m n : Mark) → Into t.params l m → Into t.params m n → Into t.params l n
+  pub into_then : (l m n : Mark) → Into t.params l m → Into t.params m n → Into t.params l n
   into_then l m n h i x vs st s = i x vs st (h x vs st s)
 
   -- what suits the first mark may go on where the piece begins
@@ -184,14 +185,7 @@ module _ (g : Program) (t : TaskCode) (k : ℕ) where
 
   -- one line, and those behind it
   one_more : (from to : ℕ) → IsSound from → AreSound (suc from) to → AreSound from to
-  one_more from to s more q l h = ⊎_elim (λ e. subst IsSound e s) (λ g. more q g h) (same_or_more from q l)
-    where
-      same_or_more : (a b : ℕ) → a ≤ b → (a ≡ b) ⊎ (suc a ≤ b)
-      same_or_more zero zero h = inl refl
-      same_or_more zero (suc b) h = inr (omega arith)
-      same_or_more (suc a) zero h = absurd (omega (arith, h))
-      same_or_more (suc a) (suc b) h = ⊎_elim (λ e. inl (ap suc e)) (λ g. inr (omega (arith, g)))
-          (same_or_more a b (omega (arith, h)))
+  one_more from to s more q l h = ⊎_elim (λ e. subst IsSound e s) (λ g. more q (omega (arith, g)) h) (eq-or-lt_of_le l)
 
   joined : (from mid to : ℕ) → AreSound from mid → AreSound mid to → AreSound from to
   joined from mid to a b q l h = ⊎_elim (λ y. a q l y) (λ y. b q y h) (below q mid)
@@ -235,28 +229,23 @@ module _ (g : Program) (t : TaskCode) (k : ℕ) where
 
   -- ---- jumps back
 
-  turn_back : (from to line : ℕ) → fetch t.body to ≡ Some (line_of instr.Turn line) → may_jump t.body from to ≡ true
-  turn_back from to line e = of_test (nat_lt from to)
+  goes_there : (from to : ℕ) → goes_back from (fetch t.body to) ≡ true → may_jump t.body from to ≡ true
+  goes_there from to e = of_test (nat_lt from to)
     where
       of_test : (b : Bool) → elim b [ true ↦ true | false ↦ goes_back from (fetch t.body to) ] ≡ true
       of_test true = refl
-      of_test false = ap (goes_back from) e
+      of_test false = e
+
+  turn_back : (from to line : ℕ) → fetch t.body to ≡ Some (line_of instr.Turn line) → may_jump t.body from to ≡ true
+  turn_back from to line e = goes_there from to (ap (goes_back from) e)
 
   head_back : (from to line c l v exit : ℕ) → fetch t.body to ≡ Some (line_of (instr.NextNumber c l v exit) line) →
       from < exit → may_jump t.body from to ≡ true
-  head_back from to line c l v exit e h = of_test (nat_lt from to)
-    where
-      of_test : (b : Bool) → elim b [ true ↦ true | false ↦ goes_back from (fetch t.body to) ] ≡ true
-      of_test true = refl
-      of_test false = ap (goes_back from) e ∙ lt-ltb from exit h
+  head_back from to line c l v exit e h = goes_there from to (ap (goes_back from) e ∙ lt-ltb from exit h)
 
   head_point_back : (from to line s c v : ℕ) (ptr : Bool) (exit : ℕ) →
       fetch t.body to ≡ Some (line_of (instr.NextPoint s c v ptr exit) line) → from < exit → may_jump t.body from to ≡ true
-  head_point_back from to line s c v ptr exit e h = of_test (nat_lt from to)
-    where
-      of_test : (b : Bool) → elim b [ true ↦ true | false ↦ goes_back from (fetch t.body to) ] ≡ true
-      of_test true = refl
-      of_test false = ap (goes_back from) e ∙ lt-ltb from exit h
+  head_point_back from to line s c v ptr exit e h = goes_there from to (ap (goes_back from) e ∙ lt-ltb from exit h)
 
   -- ---- pieces
 

@@ -6,7 +6,7 @@ use Rattle.regent_run.specs.declared.verdict.Verdict.{Verdict}
 use Rattle.regent_run.specs.declared.verdict.Verdict.TheVariants as verdict
 use Rattle.regent_run.specs.Answers.{NoneRose, UnlessUnread}
 use Rattle.regent_run.specs.Calls.{Call, SinkChange}
-use Rattle.regent_run.specs.Programs.{Comes, OfNextText, faults, finishes, has_a_breach, has_other_inputs, is_accepted, is_no_program, is_not_built, passes_a_limit}
+use Rattle.regent_run.specs.Programs.{Comes, IsFinished, OfNextText, faults, finishes, has_a_breach, has_other_inputs, is_accepted, is_no_program, is_not_built, passes_a_limit}
 use Rattle.regent_run.specs.Verdicts.{IsDelivered, Says, SaysOfText, status_of}
 use Rattle.command_words.specs.Commands.{Run}
 use Rattle.regent_run.specs.Words.{Deed, Request, request, runs}
@@ -15,6 +15,10 @@ use Rattle.regent_run.proofs.Statuses.{one_status}
 -- what a text comes to that is run
 says_run : (text : List ℕ) (deed : Deed) (r : Run) (n : ℕ) → deed ≡ runs r → Comes text (runs r) n → Comes text deed n
 says_run text deed r n is c = subst (λ (d : Deed). Comes text d n) (sym is) c
+
+-- a run that ends, whatever its output is
+run_finishes : {text : List ℕ} {r : Run} {output : List ℕ} → IsFinished text r output → Comes text (runs r) 0
+run_finishes p = finishes (record { tree = p.tree; reads = p.reads; sound = p.sound; means = p.finishes.means })
 
 -- the verdict's status is what the text comes to, but where it can't be read or memory ran out
 pub says_comes : (texts : List (List ℕ)) (deed : Deed) (before now : ℕ) (v : Verdict) → SaysOfText (Some texts) deed before now v →
@@ -27,7 +31,7 @@ says_comes texts deed before now (verdict.PastLimit l) h = inr (inr (passes_a_li
 says_comes texts deed before now (verdict.Refused m) h = inr (inr (has_a_breach h.3))
 says_comes texts deed before now verdict.NotBuilt h = inr (inr (says_run (next_left texts) deed h.0 10 h.1 (is_not_built h.2)))
 says_comes texts deed before now verdict.OtherInputs h = inr (inr (says_run (next_left texts) deed h.0 9 h.1 (has_other_inputs h.2)))
-says_comes texts deed before now (verdict.Finished p traces) h = inr (inr (says_run (next_left texts) deed h.0 0 h.1 (finishes h.3)))
+says_comes texts deed before now (verdict.Finished p traces) h = inr (inr (says_run (next_left texts) deed h.0 0 h.1 (run_finishes h.3)))
 says_comes texts deed before now (verdict.Faulted p message) h = inr (inr (says_run (next_left texts) deed h.0 1 h.1 (faults h.4)))
 says_comes texts deed before now verdict.Accepted h = inr (inr (subst (λ (d : Deed). Comes (next_left texts) d 0) (sym h.0) (is_accepted h.1)))
 

@@ -30,7 +30,7 @@ accepted_judges text tree (runs r) verdict.NotBuilt reads sound h = (r, refl, re
 accepted_judges text tree (runs r) verdict.OtherInputs reads sound h =
     (r, refl, record { tree = tree; reads = reads; sound = sound; takes = h })
 accepted_judges text tree (runs r) (verdict.Finished printed traces) reads sound h =
-    (r, refl, h.0, record { tree = tree; reads = reads; sound = sound; means = h.1 })
+    (r, refl, h.0, record { tree = tree; reads = reads; sound = sound; finishes = h.1 })
 accepted_judges text tree (runs r) (verdict.Faulted printed message) reads sound h =
     (r, refl, h.0, h.1, record { tree = tree; reads = reads; sound = sound; means = h.2 })
 accepted_judges text tree (runs r) verdict.Accepted reads sound h = absurd h
@@ -100,7 +100,7 @@ long_judges text read rest deed verdict.OtherInputs is long h =
     (h.0, h.1, record { tree = b.tree; reads = still_long text read rest _ is long b.reads; sound = b.sound; takes = b.takes })
 long_judges text read rest deed (verdict.Finished printed traces) is long h =
     let b = h.3 in
-    (h.0, h.1, h.2, record { tree = b.tree; reads = still_long text read rest _ is long b.reads; sound = b.sound; means = b.means })
+    (h.0, h.1, h.2, record { tree = b.tree; reads = still_long text read rest _ is long b.reads; sound = b.sound; finishes = b.finishes })
 long_judges text read rest deed (verdict.Faulted printed message) is long h =
     let b = h.4 in
     (h.0, h.1, h.2, h.3, record { tree = b.tree; reads = still_long text read rest _ is long b.reads; sound = b.sound; means = b.means })

@@ -19,7 +19,7 @@ use Rattle.regent_reader.specs.declared.fault.ReadFault.{ReadFault}
 use Rattle.regent_reader.specs.declared.fault.ReadFault.TheVariants as fault
 use Rattle.regent_reader.specs.Texts.{Outcome, Reads}
 use Rattle.regent_reader.proofs.TextLaws.{one_outcome}
-use Rattle.scalar_form.specs.ScalarForm.{is_scalar_program}
+use Rattle.local_form.specs.LocalForm.{is_local_program}
 use Rattle.regent_run.specs.declared.limit.Limit.{Limit}
 use Rattle.regent_run.specs.Inputs.{AreInputs}
 use Rattle.regent_run.specs.Programs.{Comes, HasBreach, HasOtherInputs, HasSyntaxError, IsRun, Means, PassesLimit, RunsComeToAnEnd, faulted_with, faults, finished_with, finishes, has_a_breach, has_other_inputs, is_accepted, is_no_program, is_not_built, limit_passed, passes_a_limit, syntax_line}
@@ -79,8 +79,8 @@ module _ (text : List ℕ) where
   breach_or_sound t reads sound b =
       none_there (breaches b.tree) _ (ap breaches (same_tree text b.tree t b.reads reads) ∙ sound) b.breach
 
-  other_form : (t u : Tree) → Reads text (Ok t) → Reads text (Ok u) → is_scalar_program t ≡ true → is_scalar_program u ≡ false → ⊥
-  other_form t u p q yes_form no_form = let e : true ≡ false = sym yes_form ∙ ap is_scalar_program (same_tree text t u p q) ∙ no_form in absurd cc
+  other_form : (t u : Tree) → Reads text (Ok t) → Reads text (Ok u) → is_local_program t ≡ true → is_local_program u ≡ false → ⊥
+  other_form t u p q yes_form no_form = let e : true ≡ false = sym yes_form ∙ ap is_local_program (same_tree text t u p q) ∙ no_form in absurd cc
 
   run_or_other : (r : Run) {o : RunOutcome} → IsRun text r o → HasOtherInputs text r.numbers → ⊥
   run_or_other r p q =

@@ -9,7 +9,7 @@ use Rattle.command_words.specs.Commands.{Run}
 use Rattle.regent_run.specs.Begins.{IsBegunBy, IsUnbegun}
 use Rattle.regent_run.specs.Calls.{Call}
 use Rattle.regent_run.specs.declared.limit.Limit.{Limit}
-use Rattle.regent_run.specs.Programs.{Comes, HasBreach, HasOtherInputs, HasSyntaxError, IsAccepted, IsNotBuilt, IsRun, OfNextText, PassesLimit, faulted_with, finished_with}
+use Rattle.regent_run.specs.Programs.{Comes, HasBreach, HasOtherInputs, HasSyntaxError, IsAccepted, IsFinished, IsNotBuilt, IsRun, OfNextText, PassesLimit, faulted_with}
 use Rattle.regent_run.specs.Reading.{TakesAtMost}
 use Rattle.regent_run.specs.Texts.{accepted_text, fault_message, trace_text, usage_message, read_message, memory_message, syntax_message, breach_message, limit_message, not_built_message, inputs_message}
 use Rattle.regent_run.specs.Verdicts.{HasFailed, HasGained, IsUntouched}
@@ -22,11 +22,11 @@ OfText call P = OfNextText call.source.later P
 -- ---- what a call comes to, and how it ends
 
 -- What a command prints, and what it tells besides, with its status. A run prints what the program prints,
--- by the meaning of its text, to its end or up to the first fault, and tells its trace where that is asked
--- for, and the fault; a check prints that the text is accepted. No root is left, so there is nothing to dump.
+-- by the meaning of its text, to its end or up to the first fault, and behind an end the dump that is asked for. It
+-- tells its trace where that is asked for, and the fault. A check prints that the text is accepted.
 pub data IsPrinted (call : Call) : ℕ → List ℕ → List ℕ → Type 0 where
   finished : (r : Run) {printed : List ℕ} → Asks call.words (runs r) →
-      OfText call (λ text. IsRun text r (finished_with printed [])) →
+      OfText call (λ text. IsFinished text r printed) →
       IsPrinted call 0 printed (trace_text r.traces)
   faulted : (r : Run) {printed : List ℕ} (f : Fault) → Asks call.words (runs r) →
       OfText call (λ text. IsRun text r (faulted_with printed f)) →

@@ -1,5 +1,5 @@
 -- What a text comes to, by what is to be done with it.
-use Rattle.std.specs.Prelude.{Contains, Err, IfSome, List, None, Ok, Option, Some, [], false, true, ℕ, ℤ, ◌≡◌, ◌⊎◌}
+use Rattle.std.specs.Prelude.{Contains, Err, IfSome, List, None, Ok, Option, Some, false, true, [], ℕ, ℤ, ◌≡◌, ◌++◌, ◌⊎◌}
 use Rattle.check_rules.specs.Acceptance.{input_widths}
 use Rattle.check_rules.specs.Breaches.{breaches, breaks}
 use Rattle.regent_lex.specs.declared.fault.LexKind.{LexKind}
@@ -16,11 +16,12 @@ use Rattle.regent_reader.specs.declared.fault.ReadFault.{ReadFault}
 use Rattle.regent_reader.specs.declared.fault.ReadFault.TheVariants.{TooLong, Lex, TooDeep, NoProgram, TooMany}
 use Rattle.regent_reader.specs.Texts.{Reads}
 use Rattle.run_io.specs.Source.{next_left}
-use Rattle.scalar_form.specs.ScalarForm.{is_scalar_program}
+use Rattle.local_form.specs.LocalForm.{is_local_program}
 use Rattle.regent_run.specs.declared.limit.Limit.{Limit}
 use Rattle.regent_run.specs.declared.limit.Limit.TheVariants as limit
 use Rattle.regent_run.specs.Inputs.{AreInputs}
 use Rattle.command_words.specs.Commands.{Run, turns_or_default}
+use Rattle.regent_run.specs.Texts.{dump_text}
 use Rattle.regent_run.specs.Words.{Deed, checks, runs}
 
 -- the line of a fault that is an error of syntax
@@ -80,16 +81,16 @@ pub record IsAccepted (text : List ℕ) : Type 0 where
   pub reads : Reads text (Ok tree)
   pub sound : breaches tree ≡ []
 
--- the text is an accepted program that can't be run yet: it isn't over scalars
+-- the text is an accepted program that can't be run yet: a task doesn't keep its regions to itself
 pub record IsNotBuilt (text : List ℕ) : Type 0 where
   pub tree : Tree
   pub reads : Reads text (Ok tree)
   pub sound : breaches tree ≡ []
-  pub form : is_scalar_program tree ≡ false
+  pub form : is_local_program tree ≡ false
 
--- the program is over scalars, and the words aren't the numbers that it takes
+-- the tasks keep their regions to themselves, and the words aren't the numbers that the program takes
 pub record TakesOthers (tree : Tree) (numbers : List (List ℕ)) : Type 0 where
-  pub form : is_scalar_program tree ≡ true
+  pub form : is_local_program tree ≡ true
   pub other : (inputs : List ℤ) → AreInputs (input_widths tree) numbers inputs → ⊥
 
 pub record HasOtherInputs (text : List ℕ) (numbers : List (List ℕ)) : Type 0 where
@@ -98,10 +99,10 @@ pub record HasOtherInputs (text : List ℕ) (numbers : List (List ℕ)) : Type 0
   pub sound : breaches tree ≡ []
   pub takes : TakesOthers tree numbers
 
--- the program is over scalars, the words are the numbers that it takes, and this is what it means, with these
--- numbers and turns
+-- the tasks keep their regions to themselves, the words are the numbers that the program takes, and this is what it
+-- means, with these numbers and turns
 pub record Means (tree : Tree) (r : Run) (o : Outcome) : Type 0 where
-  pub form : is_scalar_program tree ≡ true
+  pub form : is_local_program tree ≡ true
   pub inputs : List ℤ
   pub given : AreInputs (input_widths tree) r.numbers inputs
   pub means : meaning tree inputs (turns_or_default r.turns_named) ≡ o
@@ -119,6 +120,20 @@ finished_with printed roots = record { text = printed; ending = Finished roots }
 
 abbrev pub faulted_with : List ℕ → Fault → Outcome
 faulted_with printed f = record { text = printed; ending = Faulted f }
+
+-- a run that ends, and what goes to the output: what it printed, and behind it the dump that is asked for
+pub record Finishes (tree : Tree) (r : Run) (output : List ℕ) : Type 0 where
+  pub printed : List ℕ
+  pub roots : List RootImage
+  pub means : Means tree r (finished_with printed roots)
+  pub gives : output ≡ printed ++ dump_text r.dumps tree roots
+
+-- the text is an accepted program whose run does
+pub record IsFinished (text : List ℕ) (r : Run) (output : List ℕ) : Type 0 where
+  pub tree : Tree
+  pub reads : Reads text (Ok tree)
+  pub sound : breaches tree ≡ []
+  pub finishes : Finishes tree r output
 
 -- the status that a text comes to, where this is to be done with it
 pub data Comes (text : List ℕ) : Deed → ℕ → Type 0 where

@@ -1,5 +1,5 @@
 -- What a call comes to before it writes, and what it then writes.
-use Rattle.std.specs.Prelude.{◌≡◌, ◌<◌, ◌⊎◌, ℕ, Bool, false, Contains, List, [], Option, Some, None, length, string_bytes}
+use Rattle.std.specs.Prelude.{◌≡◌, ◌<◌, ◌⊎◌, ◌++◌, ℕ, Bool, false, Contains, List, [], Option, Some, None, length, string_bytes}
 use Rattle.run_io.specs.Faults.{Rose}
 use Rattle.run_io.specs.Sink.{Adds, AddsPrefix}
 use Rattle.regent_run.specs.Calls.{SinkChange}
@@ -7,14 +7,16 @@ use Rattle.regent_run.specs.declared.verdict.Verdict.{Verdict}
 use Rattle.regent_run.specs.declared.verdict.Verdict.TheVariants.{Usage, Unread, NoMemory, NoProgram, PastLimit, Refused, NotBuilt, OtherInputs, Finished, Faulted, Accepted}
 use Rattle.command_words.specs.Commands.{Run}
 use Rattle.regent_run.specs.Words.{Deed, Request, checks, runs}
-use Rattle.regent_run.specs.Texts.{accepted_text, fault_message, trace_text, usage_message, read_message, memory_message, syntax_message, breach_message, limit_message, not_built_message, inputs_message}
+use Rattle.regent_run.specs.Texts.{accepted_text, dump_text, fault_message, trace_text, usage_message, read_message, memory_message, syntax_message, breach_message, limit_message, not_built_message, inputs_message}
 use Rattle.check_rules.specs.Breaches.{breaches, breaks}
 use Rattle.regent_tree.specs.declared.outcome.Fault.{Fault}
 use Rattle.regent_tree.specs.declared.outcome.Outcome.{Outcome}
+use Rattle.regent_tree.specs.declared.outcome.RootImage.{RootImage}
+use Rattle.run_report.specs.Dumps.{roots_of}
 use Rattle.regent_tree.specs.Syntax.{Tree}
 use Rattle.regent_reader.specs.declared.fault.ReadFault.{ReadFault}
-use Rattle.scalar_form.specs.ScalarForm.{is_scalar_program}
-use Rattle.regent_run.specs.Programs.{HasBreach, HasOtherInputs, HasSyntaxError, IsAccepted, IsNotBuilt, IsRun, Means, OfNextText, PassesLimit, TakesOthers, faulted_with, finished_with, limit_passed, syntax_line}
+use Rattle.local_form.specs.LocalForm.{is_local_program}
+use Rattle.regent_run.specs.Programs.{Finishes, HasBreach, HasOtherInputs, HasSyntaxError, IsAccepted, IsFinished, IsNotBuilt, IsRun, Means, OfNextText, PassesLimit, TakesOthers, faulted_with, finished_with, limit_passed, syntax_line}
 
 abbrev pub status_of : Verdict → ℕ
 status_of Usage = 2
@@ -62,25 +64,30 @@ Judges text deed (Refused message) = (rule : ℕ) × (line : ℕ)
 Judges text deed NotBuilt = (r : Run) × (deed ≡ runs r) × IsNotBuilt text
 Judges text deed OtherInputs = (r : Run) × (deed ≡ runs r) × HasOtherInputs text r.numbers
 Judges text deed (Finished printed traces) = (r : Run) × (deed ≡ runs r) × (traces ≡ r.traces)
-    × IsRun text r (finished_with printed [])
+    × IsFinished text r printed
 Judges text deed (Faulted printed message) = (r : Run) × (deed ≡ runs r) × (f : Fault)
     × (message.items ≡ fault_message r.traces f) × IsRun text r (faulted_with printed f)
 Judges text deed Accepted = (deed ≡ checks) × IsAccepted text
 
--- what it says of the outcome of a run
-abbrev pub IsOfOutcome : Outcome → Bool → Verdict → Type 0
-IsOfOutcome o traces NoMemory = Unit {0}
-IsOfOutcome o traces (Finished printed said) = (said ≡ traces) × (o ≡ finished_with printed [])
-IsOfOutcome o traces (Faulted printed message) =
+-- what it says of the outcome of a run, where this is the dump
+abbrev pub IsOfOutcome : Outcome → List ℕ → Bool → Verdict → Type 0
+IsOfOutcome o dump traces NoMemory = Unit {0}
+IsOfOutcome o dump traces (Finished output said) = (said ≡ traces)
+    × (printed : List ℕ) × (roots : List RootImage) × (o ≡ finished_with printed roots) × (output ≡ printed ++ dump)
+IsOfOutcome o dump traces (Faulted printed message) =
     (f : Fault) × (message.items ≡ fault_message traces f) × (o ≡ faulted_with printed f)
-IsOfOutcome o traces _ = ⊥
+IsOfOutcome o dump traces _ = ⊥
+
+-- what it says of the outcome of a program's run
+abbrev pub TellsRun : Tree → Run → Outcome → Verdict → Type 0
+TellsRun tree r o v = IsOfOutcome o (dump_text r.dumps tree (roots_of o.ending)) r.traces v
 
 -- what it says of an accepted program that is run
 abbrev pub JudgesRun : Tree → Run → Verdict → Type 0
 JudgesRun tree r NoMemory = Unit {0}
-JudgesRun tree r NotBuilt = is_scalar_program tree ≡ false
+JudgesRun tree r NotBuilt = is_local_program tree ≡ false
 JudgesRun tree r OtherInputs = TakesOthers tree r.numbers
-JudgesRun tree r (Finished printed traces) = (traces ≡ r.traces) × Means tree r (finished_with printed [])
+JudgesRun tree r (Finished printed traces) = (traces ≡ r.traces) × Finishes tree r printed
 JudgesRun tree r (Faulted printed message) = (f : Fault)
     × (message.items ≡ fault_message r.traces f) × Means tree r (faulted_with printed f)
 JudgesRun tree r _ = ⊥
@@ -130,7 +137,7 @@ SaysOfText later deed before now NotBuilt =
 SaysOfText later deed before now OtherInputs = (r : Run) × (deed ≡ runs r)
     × OfNextText later (λ text. HasOtherInputs text r.numbers)
 SaysOfText later deed before now (Finished printed traces) = (r : Run) × (deed ≡ runs r)
-    × (traces ≡ r.traces) × OfNextText later (λ text. IsRun text r (finished_with printed []))
+    × (traces ≡ r.traces) × OfNextText later (λ text. IsFinished text r printed)
 SaysOfText later deed before now (Faulted printed message) = (r : Run) × (deed ≡ runs r) × (f : Fault)
     × (message.items ≡ fault_message r.traces f)
     × OfNextText later (λ text. IsRun text r (faulted_with printed f))

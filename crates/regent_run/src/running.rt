@@ -1,30 +1,33 @@
 //! What an accepted program comes to that is run: it is compiled, and its code is run in order.
 
-ghost use Rattle.std.specs.Prelude.{◌≡◌, [], IfOk};
+ghost use Rattle.std.specs.Prelude.{◌≡◌, ℕ, [], IfOk, List, true};
 ghost use Rattle.check_rules.specs.Breaches.{breaches};
-ghost use Rattle.code_laws.specs.Programs.{LeavesNoRoots, job_of};
-ghost use Rattle.code_laws.specs.ScalarPrograms.{IsScalarProgramRun};
+ghost use Rattle.code_laws.specs.LocalPrograms.{IsEnded, IsLocalProgramRun};
+ghost use Rattle.code_laws.specs.Programs.{job_of};
 ghost use Rattle.command_words.specs.Commands.{turns_or_default};
 ghost use Rattle.command_words.specs.Given.{run_given};
+ghost use Rattle.local_form.specs.LocalForm.{is_local_program};
+ghost use Rattle.regent_tree.specs.declared.outcome.RootImage.{RootImage};
 ghost use Rattle.regent_tree.specs.Limits.{WithinLimits};
 ghost use Rattle.regent_tree.specs.Meaning.{meaning};
 ghost use Rattle.regent_tree.specs.PlainProgram.{tree_of};
-ghost use Rattle.regent_run.specs.Programs.{faulted_with};
-ghost use Rattle.regent_run.specs.Texts.{fault_message};
-ghost use Rattle.regent_run.specs.Verdicts.{IsOfOutcome, JudgesRun};
+ghost use Rattle.run_report.specs.Dumps.{fits_spaces, roots_of};
+ghost use Rattle.regent_run.specs.Programs.{faulted_with, finished_with};
+ghost use Rattle.regent_run.specs.Texts.{dump_by, fault_message};
+ghost use Rattle.regent_run.specs.Verdicts.{IsOfOutcome, JudgesRun, TellsRun};
 
 use crate::inputs::numbers_of;
 use crate::verdict::{Verdict, trace_text};
 use check_rules::Accepted;
 use code_gen::compile;
 use command_words::{Run, turns_or_default};
+use local_form::is_local;
 use plain_run::run_in_order;
 use plain_values::{Sequence, Shared};
 use regent_tree::{Ending, Fault, Outcome};
-use run_report::fault_text;
-use scalar_form::is_scalar;
+use run_report::{dump_text, fault_text};
 use std::alloc::{AllocError, Global};
-use task_code::Job;
+use task_code::{Code, Job};
 
 /// The program's code, with these numbers and turns.
 fn job_of(
@@ -43,20 +46,22 @@ fn job_of(
     })
 }
 
-/// What the run of a program over scalars comes to.
-#[tactic(auto, using(code_laws::proofs::ScalarRuns::scalar_programs_run_as_meant, code_laws::proofs::ScalarRuns::scalar_programs_leave_no_roots))]
-fn outcome_of(
+/// The dump of the roots at the end of a run, where it is asked for.
+fn dump_by(
     alloc: Global,
-    program: &Accepted,
-    inputs: Sequence<i64>,
-    turns: u64,
-) -> Result<Outcome, AllocError>
-    requires { IsScalarProgramRun (tree_of program.now) inputs }
-    ensures means { IfOk result (λ o. o ≡ meaning (tree_of program.now) inputs turns) }
-    ensures roots { IfOk result (λ o. LeavesNoRoots o.ending) }
+    dumps: bool,
+    code: &Code,
+    outcome: &Outcome,
+) -> Result<Vec<u8>, AllocError>
+    requires { fits_spaces code.now outcome.now ≡ true }
+    ensures { IfOk result (λ dump.
+        dump.items ≡ dump_by dumps code.now.spaces (roots_of outcome.now.ending)) }
 {
-    let job = job_of(alloc, program, inputs, turns)?;
-    run_in_order(alloc, &job)
+    if dumps {
+        dump_text(alloc, code, outcome)
+    } else {
+        Ok(Vec::new(alloc))
+    }
 }
 
 /// The trace, where it is asked for, and the line of the fault.
@@ -70,7 +75,7 @@ fn fault_message(alloc: Global, fault: &Fault, traces: bool) -> Result<Vec<u8>, 
 
 /// What a program comes to that printed this and faulted.
 fn faulted(alloc: Global, text: Sequence<u8>, fault: &Fault, traces: bool) -> Verdict
-    ensures { IsOfOutcome (faulted_with text fault.now) traces result }
+    ensures { (dump : List ℕ) → IsOfOutcome (faulted_with text fault.now) dump traces result }
 {
     match fault_message(alloc, fault, traces) {
         Ok(message) => Verdict::Faulted { text, message },
@@ -78,35 +83,78 @@ fn faulted(alloc: Global, text: Sequence<u8>, fault: &Fault, traces: bool) -> Ve
     }
 }
 
-/// What a program comes to whose run has this outcome.
-fn ended(alloc: Global, outcome: Outcome, traces: bool) -> Verdict
-    requires { LeavesNoRoots outcome.ending }
-    ensures { IsOfOutcome outcome traces result }
+/// What a program comes to that printed this and ended, with this dump.
+fn finished(text: Sequence<u8>, dump: &[u8], traces: bool) -> Verdict
+    ensures { (roots : List RootImage) →
+        IsOfOutcome (finished_with text roots) dump.now traces result }
+{
+    let mut output = text;
+    match output.extend(dump) {
+        Ok(()) => Verdict::Finished {
+            text: output,
+            trace: traces,
+        },
+        Err(_) => Verdict::NoMemory,
+    }
+}
+
+/// What a program comes to whose run has this outcome and this dump.
+fn ended(alloc: Global, outcome: Outcome, dump: &[u8], traces: bool) -> Verdict
+    requires { IsEnded outcome.ending }
+    ensures { IsOfOutcome outcome dump.now traces result }
 {
     let Outcome { text, ending } = outcome;
     match ending {
-        Ending::Finished(_) => Verdict::Finished {
-            text,
-            trace: traces,
-        },
+        Ending::Finished(_) => finished(text, dump, traces),
         Ending::Faulted(fault) => faulted(alloc, text, &fault, traces),
         Ending::Broken => unreachable!(),
     }
 }
 
-/// What a program over scalars comes to that takes these numbers.
+/// What the run of a program comes to whose tasks keep their regions to themselves.
+fn run(
+    alloc: Global,
+    program: &Accepted,
+    inputs: Sequence<i64>,
+    asked: &Run<'_>,
+) -> Result<Verdict, AllocError>
+    requires { IsLocalProgramRun (tree_of program.now) inputs }
+    ensures { IfOk result (TellsRun (tree_of program.now) (run_given asked.now)
+        (meaning (tree_of program.now) inputs (turns_or_default asked.now.turns))) }
+{
+    let job = job_of(alloc, program, inputs, turns_or_default(asked.turns))?;
+    let outcome = run_in_order(alloc, &job)?;
+    let dump = dump_by(alloc, asked.dump, job.code.get(), &outcome)?;
+    Ok(ended(alloc, outcome, dump.as_slice(), asked.trace))
+}
+
+/// What such a program comes to that takes these numbers.
 fn judge_numbers(
     alloc: Global,
     program: &Accepted,
     inputs: Sequence<i64>,
     asked: &Run<'_>,
 ) -> Verdict
-    requires { IsScalarProgramRun (tree_of program.now) inputs }
-    ensures { IsOfOutcome (meaning (tree_of program.now) inputs (turns_or_default asked.now.turns))
-        asked.now.trace result }
+    requires { IsLocalProgramRun (tree_of program.now) inputs }
+    ensures { TellsRun (tree_of program.now) (run_given asked.now)
+        (meaning (tree_of program.now) inputs (turns_or_default asked.now.turns)) result }
 {
-    match outcome_of(alloc, program, inputs, turns_or_default(asked.turns)) {
-        Ok(outcome) => ended(alloc, outcome, asked.trace),
+    match run(alloc, program, inputs, asked) {
+        Ok(verdict) => verdict,
+        Err(_) => Verdict::NoMemory,
+    }
+}
+
+/// What an accepted program comes to that is run, where its tasks keep their regions to themselves.
+fn judge_local(alloc: Global, program: &Accepted, asked: &Run<'_>) -> Verdict
+    requires within { WithinLimits (tree_of program.now) }
+    requires sound { breaches (tree_of program.now) ≡ [] }
+    requires local { is_local_program (tree_of program.now) ≡ true }
+    ensures { JudgesRun (tree_of program.now) (run_given asked.now) result }
+{
+    match numbers_of(alloc, program.inputs(), asked.numbers.as_slice()) {
+        Ok(Some(inputs)) => judge_numbers(alloc, program, inputs, asked),
+        Ok(None) => Verdict::OtherInputs,
         Err(_) => Verdict::NoMemory,
     }
 }
@@ -117,12 +165,9 @@ pub fn judge_run(alloc: Global, program: &Accepted, asked: &Run<'_>) -> Verdict
     requires sound { breaches (tree_of program.now) ≡ [] }
     ensures { JudgesRun (tree_of program.now) (run_given asked.now) result }
 {
-    if !is_scalar(program.program()) {
-        return Verdict::NotBuilt;
-    }
-    match numbers_of(alloc, program.inputs(), asked.numbers.as_slice()) {
-        Ok(Some(inputs)) => judge_numbers(alloc, program, inputs, asked),
-        Ok(None) => Verdict::OtherInputs,
+    match is_local(alloc, program.program()) {
+        Ok(true) => judge_local(alloc, program, asked),
+        Ok(false) => Verdict::NotBuilt,
         Err(_) => Verdict::NoMemory,
     }
 }

@@ -31,7 +31,8 @@ pub enum Verdict {
     NotBuilt,
     /// The words aren't the numbers that the program takes.
     OtherInputs,
-    /// The program has printed this text. Its trace may have been asked for.
+    /// The program has printed this text, and behind it stands the dump that was asked for. Its trace may have been
+    /// asked for.
     Finished {
         text: Sequence<u8>,
         trace: bool,

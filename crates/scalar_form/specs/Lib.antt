@@ -1,2 +1,1 @@
 pub mod ScalarForm
-pub mod Seen

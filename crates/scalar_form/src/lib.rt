@@ -1,9 +1,6 @@
-//! Whether a program treats scalars alone: numbers and truths, in one task.
+//! Which types are those of scalars: numbers and truths.
 #![tactic(auto)]
 
-mod expressions;
-mod program;
-mod statements;
 mod types;
 
-pub use program::is_scalar;
+pub use types::{is_scalar_if_said, is_scalar_number, is_scalar_term};

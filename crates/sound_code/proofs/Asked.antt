@@ -10,28 +10,37 @@ use Rattle.code_rules.specs.Slots.{Where}
 use Rattle.fit_rules.specs.Shapes.{anything}
 use Rattle.fit_rules.specs.Marks.{Mark}
 use Rattle.fit_rules.specs.Fits.{Program}
-use Rattle.sound_code.specs.Named.{shape_of, Ready}
+use Rattle.sound_code.specs.Named.{Ready}
+use Rattle.sound_code.specs.Ways.{Way, all_made, by_rules, opening_facts, shape_in, shape_of}
+use Rattle.sound_code.proofs.Grounds.{Ground, HasFacts}
 
 -- The mark in which a task's body begins: of the slots behind those of the parameters nothing is known.
-abbrev pub opening_mark : Tree → TaskTree → Mark
-opening_mark tree t = record {
-  slots = map shape_of (param_types tree t) ++ replicate ((task_code tree t).slots - length t.params) anything;
-  facts = [];
+abbrev pub opening_mark : Way → Tree → TaskTree → Mark
+opening_mark way tree t = record {
+  slots = map (shape_in way (length t.params)) (param_types tree t) ++ replicate ((task_code tree t).slots - length t.params) anything;
+  facts = opening_facts way tree t;
   stack = [];
   top = [];
 }
 
+-- another task is looked at in the same way
+abbrev pub other : Way → TaskTree → Way
+other all_made u = all_made
+other (by_rules task) u = by_rules u
+
 -- the program is the tree's, and its tasks give results of their types and begin in these marks
-pub record Known (g : Program) (tree : Tree) : Type 0 where
+pub record Known (way : Way) (g : Program) (tree : Tree) : Type 0 where
   pub code : g.code ≡ code_of tree
   pub results : (k : ℕ) (u : TaskTree) → slice_get (tasks_of tree) k ≡ Some u →
       g.results k ≡ shape_of (result_type tree u.result)
-  pub begins : (k : ℕ) (u : TaskTree) → slice_get (tasks_of tree) k ≡ Some u → g.marks k 0 ≡ opening_mark tree u
+  pub begins : (k : ℕ) (u : TaskTree) → slice_get (tasks_of tree) k ≡ Some u → g.marks k 0 ≡ opening_mark (other way u) tree u
 
 module _ (g : Program) (t : TaskCode) (k n : ℕ) where
-  pub record Asked (w : Where) (m : Mark) : Type 0 where
-    pub ready : Ready w.params w.scope.names m
+  pub record Asked (way : Way) (w : Where) (m : Mark) : Type 0 where
+    pub ready : Ready way w.params w.scope.names m
     pub params : w.params ≡ t.params
     pub result : g.results k ≡ shape_of w.result
     pub room : length m.slots ≡ n
-    pub known : Known g w.tree
+    pub known : Known way g w.tree
+    pub ground : Ground t way w.tree w.params w.scope
+    pub facts : HasFacts way w.tree m.facts

@@ -1,6 +1,7 @@
 -- The code of blocks has marks.
+use Rattle.std.proofs.lemmas.Bool.{false≢true}
 use Rattle.std.proofs.Common.{◌≡◌, ℕ, ◌<◌, ℤ, pos, List, [], ◌∷◌, Bool, true, false, Some, None, refl, sym, ap, ◌∙◌, subst, arith}
-use Rattle.std.specs.Prelude.{length, slice_get}
+use Rattle.std.specs.Prelude.{length, map, slice_get}
 use Rattle.std.proofs.lemmas.Int.{ints}
 use Rattle.lane_kernels.specs.declared.numbers.Op.{Op}
 use Rattle.lane_kernels.specs.declared.numbers.Op.TheVariants.{Sum, Product, Least, Greatest}
@@ -16,7 +17,7 @@ use Rattle.regent_tree.specs.declared.typing.Bound.{Bound}
 use Rattle.regent_tree.specs.declared.typing.StaticType.{StaticType}
 use Rattle.regent_tree.specs.declared.typing.StaticType.TheVariants.{Integer as integer_type}
 use Rattle.regent_tree.specs.Syntax.{Expression, Name, no_step, field_step, at_step, plain_initializer, region_initializer, a_statement, Form, var_form, if_form, while_form, for_in_form, for_to_form, do_form, fill_form, call_form, assert_form, print_form, assign_form, return_form, Block, no_statement, then_statement, Arms, no_arm, an_arm, Otherwise, no_else, else_block}
-use Rattle.regent_tree.specs.Typing.{arithmetic_type, is_pointer, scope_after_block, owned, taken_from, var_type, width_of_type}
+use Rattle.regent_tree.specs.Typing.{kind_of_ispace, arithmetic_type, is_pointer, scope_after_block, owned, taken_from, var_type, width_of_type}
 use Rattle.task_code.specs.declared.code.TaskCode.{TaskCode}
 use Rattle.task_code.specs.declared.instr.Instr.TheVariants as instr
 use Rattle.machine_terms.specs.declared.value.Value.{Value}
@@ -36,102 +37,76 @@ use Rattle.fit_rules.specs.Fits.{Program}
 use Rattle.regent_tree.specs.StaticTypes.{place_of_space}
 use Rattle.code_rules.specs.Expressions.{expr_code}
 use Rattle.code_laws.specs.Simple.{IsSimple, simple_integer, simple_truth, simple_space, simple_index, IsInteger, an_integer, IsSpace, a_space_type}
-use Rattle.code_laws.specs.Steps.{Forms}
+use Rattle.code_laws.specs.Steps.{Forms, without_pointers}
 use Rattle.code_laws.specs.Typed.{element_field, IsTypedForm, AreTypedArms, IsTypedElse, IsTypedBlock}
 use Rattle.fit_rules.specs.Shapes.{index, space}
 use Rattle.marked_code.specs.Marked.{leads_nowhere, typed_op}
-use Rattle.sound_code.specs.Named.{shape_of, HasSlots, Ready}
+use Rattle.sound_code.specs.Named.{HasSlots, Ready}
+use Rattle.std.proofs.lemmas.Bool.{le-leb}
+use Rattle.regent_tree.specs.Scopes.{in_scope, past, Scope}
+use Rattle.regent_tree.specs.StaticTypes.{looked_up, Reach}
+use Rattle.regent_tree.specs.Syntax.{Tree}
+use Rattle.regent_tree.specs.Typing.{scope_after_arms}
+use Rattle.regent_tree.specs.declared.facts.Term.TheVariants as place
+use Rattle.regent_tree.specs.declared.rights.Access.TheVariants as access
+use Rattle.regent_tree.specs.declared.types.Kind.{Kind}
+use Rattle.regent_tree.specs.declared.typing.StaticType.TheVariants.{Region as region_type}
+use Rattle.check_rules.specs.types.Parts.{tests_of}
+use Rattle.check_laws.specs.MeantVisits.{meant_in_arms, meant_in_else, meant_within}
+use Rattle.fit_rules.specs.Shapes.{region}
+use Rattle.sound_code.specs.Ways.{Way, all_made, by_rules, shape_in, shape_of}
+use Rattle.sound_code.proofs.Bindings.{Widens, over_points, parts_told, plain_stands, root_shape, takes, widens}
+use Rattle.sound_code.proofs.Behind.{after_arms_ground, after_block_ground, after_form_ground, counted_simple}
+use Rattle.sound_code.proofs.Grounds.{Ground, HasFacts, facts_more, ground_looping, ground_past}
+use Rattle.sound_code.proofs.Steady.{steady_below}
+use Rattle.sound_code.proofs.Told.{ToldAll, ToldBlock, ToldForm, ToldList, told_arms, told_both, told_first, told_head, told_heads, told_listed, told_plain, told_statement}
+use Rattle.sound_code.proofs.Wanting.{may_reduce, may_write, told_index}
 use Rattle.sound_code.proofs.Asked.{Asked}
-use Rattle.sound_code.proofs.Calling.{scalar_numeric}
-use Rattle.sound_code.proofs.Combining.{Keeps, Marked, nothing_done, both, into, named_kept}
+use Rattle.sound_code.proofs.Calling.{alike_second, scalar_numeric}
+use Rattle.sound_code.proofs.Combining.{KeepsNumber, Marked, nothing_done, both, into, named_kept}
 use Rattle.sound_code.proofs.Elements.{reduces, writes}
-use Rattle.sound_code.proofs.Expressions.{converted_marked, integer_is_plain, named_at, stored}
+use Rattle.sound_code.proofs.Expressions.{converted_marked, integer_is_plain, named_at, region_named, simple_named, stored, touched}
 use Rattle.sound_code.proofs.Filling.{fill_marked}
 use Rattle.sound_code.proofs.Folds.{computed_marked, chosen_marked}
 use Rattle.sound_code.proofs.Loops as numbers
-use Rattle.sound_code.proofs.Narrowing.{counts_below, narrow_itself, narrow_then, narrow_long, narrow_into, same_facts}
+use Rattle.sound_code.proofs.Narrowing.{narrow_itself, narrow_then, narrow_long, narrow_into, same_facts}
 use Rattle.sound_code.proofs.Prints.{print_marked}
 use Rattle.sound_code.proofs.Rounds.{long_round, round_narrow, round_ready}
 use Rattle.sound_code.proofs.SpaceLoops as points
-use Rattle.sound_code.proofs.Statements.{Followed, unchanged, owned_same, plain_marked, value_marked, zero_marked, root_marked, bind_marked, assign_marked, return_marked, assert_marked, call_marked, closed_block, while_marked, branch_marked}
+use Rattle.sound_code.proofs.Statements.{alike_simple, Followed, unchanged, owned_same, plain_marked, value_marked, zero_marked, root_marked, bind_marked, assign_marked, return_marked, assert_marked, call_marked, closed_block, while_marked, branch_marked}
 
--- ---- widths
-
-widened : (a b : Width) (z : ℤ) → FitsWidth a z → FitsWidth (wider a b) z
-widened W32 W32 z h = h
-widened W32 W64 z h = omega (arith, ints, h)
-widened W64 b z h = h
-
-widened_right : (a b : Width) (z : ℤ) → FitsWidth b z → FitsWidth (wider a b) z
-widened_right W32 b z h = h
-widened_right W64 W32 z h = omega (arith, ints, h)
-widened_right W64 W64 z h = h
-
-pub record Widens (u v : StaticType) : Type 0 where
-  pub width : Width
-  pub is : arithmetic_type u v ≡ integer_type width
-  pub left : (x : World) (a : Value) → Is x (shape_of u) a → Is x (integer width) a
-  pub right : (x : World) (a : Value) → Is x (shape_of v) a → Is x (integer width) a
-
-of_width : (x : World) (a w : Width) (v : Value) → ((z : ℤ) → FitsWidth a z → FitsWidth w z) → Is x (integer a) v →
-    Is x (integer w) v
-of_width x a w _ h (is_number _ z i) = is_number (integer w) z (h z i)
-
-widens : (u v : StaticType) → IsInteger u → IsInteger v → Widens u v
-widens _ _ (an_integer a) (an_integer b) = record {
-  width = wider a b;
-  is = refl;
-  left = λ x v. of_width x a (wider a b) v (widened a b);
-  right = λ x v. of_width x b (wider a b) v (widened_right a b);
-}
-
--- ---- domains
-
--- what a loop over an index space takes is an index
-record Takes (u : StaticType) : Type 0 where
-  no_pointer : is_pointer (taken_from u) ≡ false
-  shape : shape_of (taken_from u) ≡ index
-  domain : shape_of u ≡ space
-
-takes : (u : StaticType) → IsSpace u → Takes u
-takes _ (a_space_type c) = record { no_pointer = refl; shape = refl; domain = refl }
-
--- the code of a loop over points, behind its domain
-abbrev over_points : Where → Name → StaticType → Block → Bool → Piece
-over_points w x u body p =
-    one w (instr.Store (beside w (new_place w)))
-    ⨟ one w (instr.Num (pos 0)) ⨟ one w (instr.Store (counter w (new_place w)))
-    ⨟ rounds (instr.NextPoint (beside w (new_place w)) (counter w (new_place w)) (slot w (new_place w)) p) w.line
-    (block_code (looping w x (taken_from u)) body)
-
--- the value of an initializer stands first in its code
-plain_stands : (body : List Line) (w : Where) (e : Expression) (i : ℕ) (u : StaticType) (pc : ℕ) → IsSimple u →
-    Stands body pc (plain_code w (owned i u) e) → Stands body pc (expr_code w 0 e)
-plain_stands body w e i _ pc (simple_integer v) st = st.0
-plain_stands body w e i _ pc simple_truth st = st.0
-plain_stands body w e i _ pc (simple_space c) st = st.0
-plain_stands body w e i _ pc (simple_index c) st = st.0
-
-module _ (g : Program) (t : TaskCode) (k slots : ℕ) (have : HasSlots t slots) (forms : Forms) (plain : forms.takes ≡ None) where
+module _ (g : Program) (t : TaskCode) (k slots : ℕ) (have : HasSlots t slots) (forms : Forms) (plain : forms.takes ≡ None) (way : Way) where
   -- what is asked of a place
   abbrev At : Where → Mark → Type 0
-  At w m = Asked g t k slots w m
+  At w m = Asked g t k slots way w m
 
   -- names that are the same
-  same_names : (params : ℕ) (bs cs : List Bound) (m : Mark) → bs ≡ cs → Ready params bs m → Ready params cs m
-  same_names params bs cs m e r = subst (λ y. Ready params y m) e r
+  same_names : (way : Way) (params : ℕ) (bs cs : List Bound) (m : Mark) → bs ≡ cs → Ready way params bs m → Ready way params cs m
+  same_names way params bs cs m e r = subst (λ y. Ready way params y m) e r
 
-  asked_after : (w : Where) (m : Mark) (arms : Arms) → At w m → At (after_arms w arms) m
-  asked_after w m arms a = record {
-    ready = same_names w.params _ _ m (sym (arms_names w.tree w.scope arms)) a.ready;
+  on_the_line : (w : Where) (m : Mark) (line : ℕ) → At w m → At (on_line w line) m
+  on_the_line w m line a = record {
+    ready = a.ready;
     params = a.params;
     result = a.result;
     room = a.room;
     known = a.known;
+    ground = a.ground;
+    facts = a.facts;
   }
 
-  on_the_line : (w : Where) (m : Mark) (line : ℕ) → At w m → At (on_line w line) m
-  on_the_line w m line a = record { ready = a.ready; params = a.params; result = a.result; room = a.room; known = a.known }
+  -- in a scope of the same names where no less is known
+  asked_in : (w : Where) (m : Mark) (s : Scope) → s.names ≡ w.scope.names → Ground t way w.tree w.params s → At w m →
+      At (record w { scope = s }) m
+  asked_in w m s e h a = record {
+    ready = same_names way w.params _ _ m (sym e) a.ready;
+    params = a.params;
+    result = a.result;
+    room = a.room;
+    known = a.known;
+    ground = h;
+    facts = a.facts;
+  }
 
   -- a slot from which something is loaded is there
   loaded : (pc s line : ℕ) → fetch t.body pc ≡ Some (line_of (instr.Load s) line) → s < slots
@@ -145,63 +120,73 @@ module _ (g : Program) (t : TaskCode) (k slots : ℕ) (have : HasSlots t slots) 
   folded w m x o s _ e ns (an_integer v) b a pc st = by o pc st
     where
       there : slice_get m.slots (slot_named w x) ≡ Some (integer v)
-      there = named_at w.params m.slots w.scope.names x a.ready.named b ∙ ap (λ y. Some (shape_of y)) e
+      there = named_at way w.params m.slots w.scope.names x a.ready.named b ∙ ap (λ y. Some (shape_in way w.params y)) e
 
-      kept : Keeps m (slot_named w x)
-      kept = named_kept w.params w.scope.names m (bound w x).place a.ready
+      kept : KeepsNumber m (slot_named w x)
+      kept = named_kept way w.params w.scope.names m (bound w x).place a.ready
 
       by : (o : Op) (pc : ℕ) → Stands t.body pc (fold_code w (slot_named w x) o v) →
           Marked g t k (stacked m (s ∷ [])) (fold_code w (slot_named w x) o v) (stacked m [])
       by Sum pc st = let l = loaded _ (slot_named w x) w.line st.1.0 in
-          computed_marked g t k w m a.ready a.params (slot_named w x) v there (omega (arith, l, a.room)) kept Add s ns
+          computed_marked g t k way w m a.ready a.params (slot_named w x) v there (omega (arith, l, a.room)) kept Add s ns
       by Product pc st = let l = loaded _ (slot_named w x) w.line st.1.0 in
-          computed_marked g t k w m a.ready a.params (slot_named w x) v there (omega (arith, l, a.room)) kept Multiply s ns
+          computed_marked g t k way w m a.ready a.params (slot_named w x) v there (omega (arith, l, a.room)) kept Multiply s ns
       by Least pc st = let l = loaded _ (slot_named w x) w.line st.1.1.1.0 in
-          chosen_marked g t k w m a.ready a.params (slot_named w x) v there (omega (arith, l, a.room)) kept
-          (stored g t k slots have forms plain w m a _ (spare w 0) st.1.0) Less s ns
+          chosen_marked g t k way w m a.ready a.params (slot_named w x) v there (omega (arith, l, a.room)) kept
+          (stored g t k slots have forms plain way w m a _ (spare w 0) st.1.0) Less s ns
       by Greatest pc st = let l = loaded _ (slot_named w x) w.line st.1.1.1.0 in
-          chosen_marked g t k w m a.ready a.params (slot_named w x) v there (omega (arith, l, a.room)) kept
-          (stored g t k slots have forms plain w m a _ (spare w 0) st.1.0) Greater s ns
+          chosen_marked g t k way w m a.ready a.params (slot_named w x) v there (omega (arith, l, a.room)) kept
+          (stored g t k slots have forms plain way w m a _ (spare w 0) st.1.0) Greater s ns
 
   mutual
-    pub form_marked : (w : Where) (m : Mark) (form : Form) → IsTypedForm forms w form → At w m → (pc : ℕ) →
-        Stands t.body pc (form_code w form) → Followed g t k w.params (after_form w form).scope.names m (form_code w form)
-    form_marked w m (var_form x None (Some (plain_initializer e))) f a pc st =
+    pub form_marked : (w : Where) (m : Mark) (form : Form) → IsTypedForm (without_pointers forms) w form → At w m → ToldForm way w.tree w.scope form →
+        ToldAll way w.tree (λ task. meant_within w.tree task w.scope form) → (pc : ℕ) →
+        Stands t.body pc (form_code w form) → Followed g t k way w.params (after_form w form).scope.names m (form_code w form)
+    form_marked w m (var_form x None (Some (plain_initializer e))) f a told within pc st =
         let u = owned w.scope.next (typed w e) in
         let same = owned_same w.scope.next (typed w e) f.0 in
-        bind_marked g t k slots have forms plain w m a x (shape_of (typed w e)) u _
-        (ap shape_of (sym same))
-        (plain_marked g t k slots have forms plain w m a (typed w e) e w.scope.next _ _ f.0
-        (value_marked g t k slots have forms plain w m a e [] f.1 pc (plain_stands t.body w e w.scope.next (typed w e) pc f.0 st.0)))
-        (stored g t k slots have forms plain w m a _ _ st.1)
-    form_marked w m (var_form x None (Some (region_initializer e u))) f a pc st =
+        bind_marked g t k slots have forms plain way w m a x (shape_of (typed w e)) u _
+        (sym (ap (shape_in way w.params) same ∙ simple_named way w.params _ f.0))
+        (plain_marked g t k slots have forms plain way w m a (typed w e) e w.scope.next _ _ f.0
+        (value_marked g t k slots have forms plain way w m a e [] f.1
+        (told_plain way forms w e f.1 (told_heads w.tree w.scope way (var_form x None (Some (plain_initializer e))) told)) pc
+        (plain_stands t.body w e w.scope.next (typed w e) pc f.0 st.0)))
+        (stored g t k slots have forms plain way w m a _ _ st.1)
+    form_marked w m (var_form x None (Some (region_initializer e u))) f a told within pc st =
         let sp = place_of_space w.tree u.name in
         let v = var_type w.tree w.scope None (Some (region_initializer e u)) in
-        bind_marked g t k slots have forms plain w m a x (shape_of v) v _ refl
-        (root_marked g t k slots have forms plain w m a e sp f.1 f.2 f.3 pc st.0.0) (stored g t k slots have forms plain w m a _ _ st.1)
-    form_marked w m (var_form x (Some term) (Some (plain_initializer e))) f a pc st =
+        bind_marked g t k slots have forms plain way w m a x (region (Some sp) true) v _ (root_shape t way w (kind_of_ispace (typed w e)) sp (map (looked_up (in_scope w.scope)) u.args) a.ground)
+        (root_marked g t k slots have forms plain way w m a e sp f.1 f.2
+        (told_head w.tree w.scope way (var_form x None (Some (region_initializer e u))) e refl told) f.3 pc st.0.0) (stored g t k slots have forms plain way w m a _ _ st.1)
+    form_marked w m (var_form x (Some term) (Some (plain_initializer e))) f a told within pc st =
         let u = var_type w.tree w.scope (Some term) (Some (plain_initializer e)) in
-        bind_marked g t k slots have forms plain w m a x (shape_of u) u _ refl
-        (both g t k (value_marked g t k slots have forms plain w m a e [] f.1 pc st.0.0)
-        (converted_marked g t k slots have forms plain w m a _ _ [] f.0))
-        (stored g t k slots have forms plain w m a _ _ st.1)
-    form_marked w m (var_form x (Some term) None) f a pc st =
+        bind_marked g t k slots have forms plain way w m a x (shape_of u) u _ (sym (simple_named way w.params u (alike_simple u (alike_second _ _ f.0))))
+        (both g t k (value_marked g t k slots have forms plain way w m a e [] f.1
+        (told_plain way forms w e f.1 (told_heads w.tree w.scope way (var_form x (Some term) (Some (plain_initializer e))) told)) pc st.0.0)
+        (converted_marked g t k slots have forms plain way w m a _ _ [] f.0))
+        (stored g t k slots have forms plain way w m a _ _ st.1)
+    form_marked w m (var_form x (Some term) None) f a told within pc st =
         let u = var_type w.tree w.scope (Some term) None in
-        bind_marked g t k slots have forms plain w m a x (shape_of u) u _ refl (zero_marked g t k slots have forms plain w m a u f)
-        (stored g t k slots have forms plain w m a _ _ st.1)
-    form_marked w m (if_form arms other) f a pc st = record {
+        bind_marked g t k slots have forms plain way w m a x (shape_of u) u _ (sym (simple_named way w.params u (alike_simple u f)))
+        (zero_marked g t k slots have forms plain way w m a u f)
+        (stored g t k slots have forms plain way w m a _ _ st.1)
+    form_marked w m (if_form arms other) f a told within pc st = record {
       next = m;
-      is = arms_marked w w m arms (else_code (after_arms w arms) other) f.0 a a pc st
-          (λ q s. else_marked (after_arms w arms) m other f.1 (asked_after w m arms a) q s);
-      ready = same_names w.params _ _ m
+      is = arms_marked w w m arms (else_code (after_arms w arms) other) f.0 a a (told_heads w.tree w.scope way (if_form arms other) told)
+          (parts_told w.tree way w.scope arms other within).0 pc st
+          (λ q s. else_marked (after_arms w arms) m other f.1
+          (asked_in w m (scope_after_arms w.tree w.scope arms) (arms_names w.tree w.scope arms)
+          (after_arms_ground forms t way w w arms f.0 a.ground) a) (parts_told w.tree way w.scope arms other within).1 q s);
+      ready = same_names way w.params _ _ m
           (sym (else_names w.tree (after_arms w arms).scope other ∙ arms_names w.tree w.scope arms)) a.ready;
       narrower = narrow_itself m.slots;
       facts = refl;
     }
-    form_marked w m (while_form test body) f a pc st = unchanged g t k _ _ m _ a.ready
-        (while_marked g t k slots have forms plain w m a test (block_code w body) f.0 f.1 _ st.3
-        (closed_block g t k _ _ m _ (block_marked w m body f.2 a _ st.2)))
-    form_marked w m (for_to_form demanded x from to body) f a pc st =
+    form_marked w m (while_form test body) f a told within pc st = unchanged g t k way _ _ m _ a.ready
+        (while_marked g t k slots have forms plain way w m a test (block_code w body) f.0 f.1
+        (told_head w.tree w.scope way (while_form test body) test refl told) _ st.3
+        (closed_block g t k way _ _ m _ (block_marked w m body f.2 a within _ st.2)))
+    form_marked w m (for_to_form demanded x from to body) f a told within pc st =
         let u = typed w from in
         let v = typed w to in
         let wd = widens u v f.0 f.1 in
@@ -214,26 +199,30 @@ module _ (g : Program) (t : TaskCode) (k slots : ℕ) (have : HasSlots t slots) 
           static_type = arithmetic_type u v;
           by_loop = true;
         } in
-        let hi : beside w (new_place w) < length m.slots = stored g t k slots have forms plain w m a _ _ st.1.1.0 in
+        let hi : beside w (new_place w) < length m.slots = stored g t k slots have forms plain way w m a _ _ st.1.1.0 in
         let lw = looping w x (arithmetic_type u v) in
-        let rm = numbers.round g t k w.params bs m a.ready a.params wd.width hi in
-        let hm = numbers.head g t k w.params bs m a.ready a.params wd.width hi in
+        let rm = numbers.round g t k way w.params bs m a.ready a.params wd.width hi in
+        let hm = numbers.head g t k way w.params bs m a.ready a.params wd.width hi in
         let inner = block_marked lw rm body f.4 (record {
-          ready = round_ready w.params bs m a.ready i i i m.facts hi b refl (ap shape_of wd.is)
-              (counts_below w.params (length bs) _ m.facts (omega arith) a.ready.facts);
+          ready = round_ready way w.params bs m a.ready i i i m.facts hi b refl (ap (shape_in way w.params) wd.is)
+              (steady_below w.params (length bs) _ m.facts (omega arith) a.ready.facts);
           params = a.params;
           result = a.result;
-          room = long_round w.params bs m a.ready i i i m.facts hi ∙ a.room;
+          room = long_round way w.params bs m a.ready i i i m.facts hi ∙ a.room;
           known = a.known;
-        }) _ st.1.1.1.1.1 in
-        let narrow = narrow_then _ _ _ inner.narrower (round_narrow w.params bs m a.ready i i i m.facts hi) in
-        unchanged g t k _ _ m _ a.ready
-        (both g t k (value_marked g t k slots have forms plain w m a from [] f.2 pc st.0)
-        (both g t k (value_marked g t k slots have forms plain w m a to (shape_of u ∷ []) f.3 _ st.1.0)
-        (numbers.counted g t k w.params bs m a.ready a.params wd.width hi (shape_of u) (shape_of v) w.line
+          ground = ground_looping t w.tree w.params way w.scope x (arithmetic_type u v) (counted_simple u v f.0 f.1) a.ground;
+          facts = a.facts;
+        }) within _ st.1.1.1.1.1 in
+        let first = told_first w.tree w.scope way from (to ∷ []) (told_heads w.tree w.scope way (for_to_form demanded x from to body) told) in
+        let second = told_first w.tree w.scope way to [] first.1 in
+        let narrow = narrow_then _ _ _ inner.narrower (round_narrow way w.params bs m a.ready i i i m.facts hi) in
+        unchanged g t k way _ _ m _ a.ready
+        (both g t k (value_marked g t k slots have forms plain way w m a from [] f.2 first.0 pc st.0)
+        (both g t k (value_marked g t k slots have forms plain way w m a to (shape_of u ∷ []) f.3 second.0 _ st.1.0)
+        (numbers.counted g t k way w.params bs m a.ready a.params wd.width hi (shape_of u) (shape_of v) w.line
         (block_code lw body) wd.left wd.right
         (into g t k inner.is (narrow_into t.params inner.next hm [] narrow (same_facts _ _ inner.facts)) (sym (narrow_long _ _ narrow))))))
-    form_marked w m (for_in_form demanded x domain body) f a pc st =
+    form_marked w m (for_in_form demanded x domain body) f a told within pc st =
         let u = typed w domain in
         let tk = takes u f.0 in
         let bs = w.scope.names in
@@ -244,84 +233,110 @@ module _ (g : Program) (t : TaskCode) (k slots : ℕ) (have : HasSlots t slots) 
           static_type = taken_from u;
           by_loop = true;
         } in
-        let hi : beside w (new_place w) < length m.slots = stored g t k slots have forms plain w m a _ _ st.1.0 in
+        let hi : beside w (new_place w) < length m.slots = stored g t k slots have forms plain way w m a _ _ st.1.0 in
         let lw = looping w x (taken_from u) in
-        let rm = points.round g t k w.params bs m a.ready a.params hi in
-        let hm = points.head g t k w.params bs m a.ready a.params hi in
-        let fs = points.counting g t k w.params bs m a.ready a.params hi in
+        let rm = points.round g t k way w.params bs m a.ready a.params hi in
+        let hm = points.head g t k way w.params bs m a.ready a.params hi in
+        let fs = points.counting g t k way w.params bs m a.ready a.params hi in
         let inner = block_marked lw rm body f.2 (record {
-          ready = round_ready w.params bs m a.ready space index index fs hi b refl tk.shape
-              (points.are_counts g t k w.params bs m a.ready a.params hi);
+          ready = round_ready way w.params bs m a.ready space index index fs hi b refl (tk.shape way w.params)
+              (points.are_counts g t k way w.params bs m a.ready a.params hi);
           params = a.params;
           result = a.result;
-          room = long_round w.params bs m a.ready space index index fs hi ∙ a.room;
+          room = long_round way w.params bs m a.ready space index index fs hi ∙ a.room;
           known = a.known;
-        }) _ st.1.1.1.1.1 in
-        let narrow = narrow_then _ _ _ inner.narrower (round_narrow w.params bs m a.ready space index index fs hi) in
-        unchanged g t k _ _ m _ a.ready
+          ground = ground_looping t w.tree w.params way w.scope x (taken_from u) tk.simple a.ground;
+          facts = facts_more way w.tree m.facts _ a.facts;
+        }) within _ st.1.1.1.1.1 in
+        let narrow = narrow_then _ _ _ inner.narrower (round_narrow way w.params bs m a.ready space index index fs hi) in
+        unchanged g t k way _ _ m _ a.ready
         (both g t k (subst (λ y. Marked g t k (stacked m []) (expr_code w 0 domain) (stacked m (y ∷ []))) tk.domain
-        (value_marked g t k slots have forms plain w m a domain [] f.1 pc st.0))
+        (value_marked g t k slots have forms plain way w m a domain [] f.1
+        (told_head w.tree w.scope way (for_in_form demanded x domain body) domain refl told) pc st.0))
         (subst (λ p. Marked g t k (stacked m (space ∷ [])) (over_points w x u body p) (stacked m [])) (sym tk.no_pointer)
-        (points.counted g t k w.params bs m a.ready a.params hi w.line (block_code lw body)
+        (points.counted g t k way w.params bs m a.ready a.params hi w.line (block_code lw body)
         (into g t k inner.is (narrow_into t.params inner.next hm [] narrow (same_facts _ _ inner.facts)) (sym (narrow_long _ _ narrow))))))
-    form_marked w m (do_form body) f a pc st = unchanged g t k _ _ m _ a.ready
-        (closed_block g t k _ _ m _ (block_marked w m body f a pc st))
-    form_marked w m (fill_form r fields e) f a pc st = fill_marked g t k slots have forms plain w m a r fields e f.0 f.1 f.2 f.3 pc st
-    form_marked w m (call_form task args) f a pc st = call_marked g t k slots have forms plain w m a task args f.1 f.2 pc st
-    form_marked w m (assert_form e) f a pc st = assert_marked g t k slots have forms plain w m a e f.0 f.1 pc st.0
-    form_marked w m (print_form alias format args) f a pc st = print_marked g t k slots have forms plain w m a alias format args f.0 f.1 pc st
-    form_marked w m (assign_form x no_step how.Set e) f a pc st =
-        assign_marked g t k slots have forms plain w m a x e f.0 f.1 f.2 (stored g t k slots have forms plain w m a _ _ st.1) pc st.0.0
-    form_marked w m (assign_form x no_step (how.Reduce o) e) f a pc st =
-        unchanged g t k _ _ m _ a.ready (both g t k (value_marked g t k slots have forms plain w m a e [] f.2 pc st.0)
+    form_marked w m (do_form body) f a told within pc st = unchanged g t k way _ _ m _ a.ready
+        (closed_block g t k way _ _ m _ (block_marked w m body f a within pc st))
+    form_marked w m (fill_form r fields e) f a told within pc st = fill_marked g t k slots have forms plain way w m a r fields e f.0 told f.1 f.2 f.3 pc st
+    form_marked w m (call_form task args) f a told within pc st = call_marked g t k slots have forms plain way w m a task args f.1 f.2
+        (told_listed w.tree w.scope way args (told_heads w.tree w.scope way (call_form task args) told)) pc st
+    form_marked w m (assert_form e) f a told within pc st = assert_marked g t k slots have forms plain way w m a e f.0 f.1
+        (told_head w.tree w.scope way (assert_form e) e refl told) pc st.0
+    form_marked w m (print_form alias format args) f a told within pc st = print_marked g t k slots have forms plain way w m a alias format args f.0
+        (told_listed w.tree w.scope way args (told_heads w.tree w.scope way (print_form alias format args) told)) f.1 pc st
+    form_marked w m (assign_form x no_step how.Set e) f a told within pc st =
+        assign_marked g t k slots have forms plain way w m a x e f.0 f.1 (told_head w.tree w.scope way (assign_form x no_step how.Set e) e refl told) f.2 (stored g t k slots have forms plain way w m a _ _ st.1) pc st.0.0
+    form_marked w m (assign_form x no_step (how.Reduce o) e) f a told within pc st =
+        unchanged g t k way _ _ m _ a.ready (both g t k (value_marked g t k slots have forms plain way w m a e [] f.2
+        (told_head w.tree w.scope way (assign_form x no_step (how.Reduce o) e) e refl told) pc st.0)
         (folded w m x o (shape_of (typed w e)) (bound w x).static_type refl (scalar_numeric _ (integer_is_plain _ f.0)) f.1 f.3 a _ st.1))
-    form_marked w m (assign_form x (at_step e (field_step l no_step)) how.Set y) f a pc st =
+    form_marked w m (assign_form x (at_step e (field_step l no_step)) how.Set y) f a told within pc st =
         let field = f.5 in
         let out = element_field w x e l in
-        unchanged g t k _ _ m _ a.ready
-        (both g t k (both g t k (value_marked g t k slots have forms plain w m a y [] f.1 pc st.0.0)
-        (converted_marked g t k slots have forms plain w m a _ _ [] f.0))
-        (writes g t k w m a.known (bound w x).static_type (bound w x).place e l out [] field.region
-        (named_at w.params m.slots w.scope.names x a.ready.named field.named) f.3 f.4 field.field field.keeps
-        (λ q s. value_marked g t k slots have forms plain w m a e (shape_of out ∷ []) f.2 q s) _ st.1))
-    form_marked w m (assign_form x (at_step e (field_step l no_step)) (how.Reduce o) y) f a pc st =
+        let u = (bound w x).static_type in
+        let here = named_at way w.params m.slots w.scope.names x a.ready.named field.named in
+        unchanged g t k way _ _ m _ a.ready
+        (both g t k (both g t k (value_marked g t k slots have forms plain way w m a y [] f.1
+        (told_head w.tree w.scope way (assign_form x (at_step e (field_step l no_step)) how.Set y) y refl told) pc st.0.0)
+        (converted_marked g t k slots have forms plain way w m a _ _ [] f.0))
+        (writes g t k way w m a.known u (bound w x).place e l out [] field.region (region_named way w.params m (slot_named w x) u field.region here) f.3 f.4 field.keeps
+        (touched g t k slots have forms plain way w m a x l _ access.Write field (may_write w x e l f.3 field.region t way a.ground y told))
+        (λ q s. value_marked g t k slots have forms plain way w m a e (shape_of out ∷ []) f.2
+        (told_index w x e l f.3 field.region t way a.ground how.Set y told) q s) _ st.1))
+    form_marked w m (assign_form x (at_step e (field_step l no_step)) (how.Reduce o) y) f a told within pc st =
         let field = f.6 in
         let out = element_field w x e l in
-        unchanged g t k _ _ m _ a.ready
-        (both g t k (value_marked g t k slots have forms plain w m a y [] f.2 pc st.0)
-        (reduces g t k w m a.known (bound w x).static_type (bound w x).place e l out [] field.region
-        (named_at w.params m.slots w.scope.names x a.ready.named field.named) f.4 f.5 field.field field.keeps
+        let u = (bound w x).static_type in
+        let here = named_at way w.params m.slots w.scope.names x a.ready.named field.named in
+        unchanged g t k way _ _ m _ a.ready
+        (both g t k (value_marked g t k slots have forms plain way w m a y [] f.2
+        (told_head w.tree w.scope way (assign_form x (at_step e (field_step l no_step)) (how.Reduce o) y) y refl told) pc st.0)
+        (reduces g t k way w m a.known u (bound w x).place e l out [] field.region (region_named way w.params m (slot_named w x) u field.region here) f.4 f.5 field.keeps
         o (shape_of (typed w y)) (scalar_numeric _ (integer_is_plain _ f.0)) f.1
-        (λ q s. value_marked g t k slots have forms plain w m a e (shape_of (typed w y) ∷ []) f.3 q s) _ st.1))
-    form_marked w m (return_form None) f a pc st = unchanged g t k _ _ m _ a.ready (record {
+        (touched g t k slots have forms plain way w m a x l _ (access.Reduce o) field (may_reduce w x e l f.4 field.region t way a.ground o y told))
+        (λ q s. value_marked g t k slots have forms plain way w m a e (shape_of (typed w y) ∷ []) f.3
+        (told_index w x e l f.4 field.region t way a.ground (how.Reduce o) y told) q s) _ st.1))
+    form_marked w m (return_form None) f a told within pc st = unchanged g t k way _ _ m _ a.ready (record {
       marks = _;
       is = typed_op (stacked m []) (stacked m []) instr.Return w.line (leads_nowhere _ _ refl);
     })
-    form_marked w m (return_form (Some e)) f a pc st = return_marked g t k slots have forms plain w m a e f.0 f.1 pc st.0
-    form_marked w m _ f a pc st = absurd f
+    form_marked w m (return_form (Some e)) f a told within pc st = return_marked g t k slots have forms plain way w m a e f.0 f.1
+        (told_head w.tree w.scope way (return_form (Some e)) e refl told) pc st.0
+    form_marked w m (assign_form x (field_step l no_step) how.Set y) f a told within pc st = absurd (false≢true f.0)
+    form_marked w m (assign_form x (field_step l no_step) (how.Reduce o) y) f a told within pc st = absurd (false≢true f.0)
+    form_marked w m _ f a told within pc st = absurd f
 
-    arms_marked : (own w : Where) (m : Mark) (arms : Arms) (other : Piece) → AreTypedArms forms own w arms → At own m →
-        At w m → (pc : ℕ) → Stands t.body pc (arms_code own w arms other) →
+    arms_marked : (own w : Where) (m : Mark) (arms : Arms) (other : Piece) → AreTypedArms (without_pointers forms) own w arms → At own m →
+        At w m → ToldList way own.tree own.scope (tests_of arms) → ToldAll way w.tree (λ task. meant_in_arms w.tree task w.scope arms) → (pc : ℕ) →
+        Stands t.body pc (arms_code own w arms other) →
         ((q : ℕ) → Stands t.body q other → Marked g t k (stacked m []) other (stacked m [])) →
         Marked g t k (stacked m []) (arms_code own w arms other) (stacked m [])
-    arms_marked own w m no_arm other f o a pc st more = more pc st
-    arms_marked own w m (an_arm test body rest) other f o a pc st more =
-        branch_marked g t k slots have forms plain own m o w.line test (block_code w body) (arms_code own (after_arm w body) rest other) f.0 f.1 pc st.0
-        (closed_block g t k _ _ m _ (block_marked w m body f.2 a _ st.1.1))
+    arms_marked own w m no_arm other f o a tests within pc st more = more pc st
+    arms_marked own w m (an_arm test body rest) other f o a tests within pc st more =
+        let first = told_first own.tree own.scope way test (tests_of rest) tests in
+        let parts = told_arms w.tree way w.scope test body rest within in
+        let inner = scope_after_block w.tree w.scope body in
+        branch_marked g t k slots have forms plain way own m o w.line test (block_code w body) (arms_code own (after_arm w body) rest other) f.0 f.1 first.0 pc st.0
+        (closed_block g t k way _ _ m _ (block_marked w m body f.2 a parts.0 _ st.1.1))
         (arms_marked own (after_arm w body) m rest other f.3 o
-        (record { ready = a.ready; params = a.params; result = a.result; room = a.room; known = a.known }) _ st.1.3 more)
+        (asked_in w m (past w.scope inner) refl
+        (ground_past t w.tree w.params way w.scope inner a.ground (after_block_ground forms t way w body f.2 a.ground)) a)
+        first.1 parts.1 _ st.1.3 more)
 
-    else_marked : (w : Where) (m : Mark) (other : Otherwise) → IsTypedElse forms w other → At w m → (pc : ℕ) →
+    else_marked : (w : Where) (m : Mark) (other : Otherwise) → IsTypedElse (without_pointers forms) w other → At w m →
+        ToldAll way w.tree (λ task. meant_in_else w.tree task w.scope other) → (pc : ℕ) →
         Stands t.body pc (else_code w other) → Marked g t k (stacked m []) (else_code w other) (stacked m [])
-    else_marked w m no_else f a pc st = nothing_done g t k _
-    else_marked w m (else_block body) f a pc st =
-        closed_block g t k _ _ m _ (block_marked w m body f a pc st)
+    else_marked w m no_else f a within pc st = nothing_done g t k _
+    else_marked w m (else_block body) f a within pc st =
+        closed_block g t k way _ _ m _ (block_marked w m body f a within pc st)
 
-    pub block_marked : (w : Where) (m : Mark) (b : Block) → IsTypedBlock forms w b → At w m → (pc : ℕ) →
-        Stands t.body pc (block_code w b) → Followed g t k w.params (scope_after_block w.tree w.scope b).names m (block_code w b)
-    block_marked w m no_statement f a pc st = unchanged g t k _ _ m _ a.ready (nothing_done g t k _)
-    block_marked w m (then_statement (a_statement line form) rest) f a pc st =
-        let one = form_marked (on_line w line) m form f.0 (on_the_line w m line a) pc st.0 in
+    pub block_marked : (w : Where) (m : Mark) (b : Block) → IsTypedBlock (without_pointers forms) w b → At w m → ToldBlock way w.tree w.scope b → (pc : ℕ) →
+        Stands t.body pc (block_code w b) → Followed g t k way w.params (scope_after_block w.tree w.scope b).names m (block_code w b)
+    block_marked w m no_statement f a told pc st = unchanged g t k way _ _ m _ a.ready (nothing_done g t k _)
+    block_marked w m (then_statement (a_statement line form) rest) f a told pc st =
+        let parts = told_statement w.tree way w.scope line form rest told in
+        let one = form_marked (on_line w line) m form f.0 (on_the_line w m line a) parts.0 parts.1 pc st.0 in
         let two = block_marked (after_form w form) one.next rest f.1
         (record {
           ready = one.ready;
@@ -329,7 +344,9 @@ module _ (g : Program) (t : TaskCode) (k slots : ℕ) (have : HasSlots t slots) 
           result = a.result;
           room = narrow_long _ _ one.narrower ∙ a.room;
           known = a.known;
-        }) _ st.1 in
+          ground = after_form_ground forms t way (on_line w line) form f.0 a.ground;
+          facts = subst (HasFacts way w.tree) (sym one.facts) a.facts;
+        }) parts.2 _ st.1 in
         record {
           next = two.next;
           is = both g t k one.is two.is;

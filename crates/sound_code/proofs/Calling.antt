@@ -1,8 +1,8 @@
 -- Code of calls has marks: the arguments are pushed one after the other, and the frame that a call opens suits the
 -- mark in which the task's body begins.
-use Rattle.std.proofs.Common.{◌≡◌, inl, ℕ, zero, suc, ◌<◌, ◌-◌, ◌+◌, pos, List, [], ◌∷◌, ◌++◌, map, Option, None, Some, ⊎_elim, refl, sym, ap, ◌∙◌, subst, arith, length-append}
-use Rattle.std.specs.Prelude.{slice_get, length, replicate}
-use Rattle.std.proofs.lemmas.List.{length-map}
+use Rattle.std.proofs.Common.{◌≡◌, inl, ℕ, zero, suc, ◌<◌, ◌-◌, ◌+◌, pos, List, [], ◌∷◌, ◌++◌, map, Bool, true, false, ◌&&◌, cond, None, Some, refl, sym, ap, ◌∙◌, subst, arith, length-append, Option, ⊎_elim}
+use Rattle.std.specs.Prelude.{flat_map, length, nat_lt, replicate, slice_get}
+use Rattle.std.proofs.lemmas.List.{append-nil, length-map}
 use Rattle.regent_tree.specs.declared.typing.StaticType.{StaticType}
 use Rattle.regent_tree.specs.Scopes.{scope_of}
 use Rattle.regent_tree.specs.Syntax.{Name, TaskTree, Tree, Expressions, no_expr, an_expr}
@@ -22,7 +22,7 @@ use Rattle.code_rules.specs.Statements.{block_code}
 use Rattle.code_rules.specs.Slots.{Where}
 use Rattle.code_laws.specs.Simple.{AreAlike, two_integers, two_truths, IsScalar, scalar_integer, scalar_truth, IsSimple, simple_integer, simple_truth, simple_index, simple_space}
 use Rattle.task_code.specs.declared.code.NeedCode.{NeedCode}
-use Rattle.code_laws.specs.Steps.{Forms, Taking}
+use Rattle.code_laws.specs.Steps.{Forms, Taking, without_pointers}
 use Rattle.code_laws.specs.Typed.{AreMet, ArePassed, IsCallable, IsHanded, IsMet, name_at}
 use Rattle.code_laws.proofs.Calling.{code_there}
 use Rattle.code_laws.proofs.Openings.{params_length, types_length}
@@ -33,8 +33,17 @@ use Rattle.fit_rules.specs.Ends.{called, IsNeeded}
 use Rattle.fit_rules.specs.Sound.{Opens, Takes, takes_none, takes_more, settled_number}
 use Rattle.fit_laws.proofs.Lookup.{as_long}
 use Rattle.marked_code.specs.Marked.{leads_calling, typed_op}
-use Rattle.sound_code.specs.Named.{shape_of}
-use Rattle.sound_code.proofs.Asked.{opening_mark, Known}
+use Rattle.sound_code.specs.Ways.{Way, all_made, by_rules, opening_facts, shape_in, shape_of, told_by}
+use Rattle.sound_code.specs.Named.{IsSteady, is_apart, is_count, is_within}
+use Rattle.sound_code.proofs.Steady.{steady_holds}
+use Rattle.fit_rules.specs.Marks.{apart, Fact, Holds, in_slot, lies}
+use Rattle.std.proofs.lemmas.Bool.{ltb-true}
+use Rattle.std.proofs.lemmas.Option.{none-some}
+use Rattle.regent_tree.specs.Scopes.{scope_of}
+use Rattle.regent_tree.specs.declared.facts.Known.{Known as RegionKnown}
+use Rattle.regent_tree.specs.declared.facts.Known.TheVariants.{Within, Apart}
+use Rattle.regent_tree.specs.declared.facts.Term.TheVariants.{Name as TermName}
+use Rattle.sound_code.proofs.Asked.{opening_mark, other, Known}
 use Rattle.sound_code.proofs.Combining.{Marked}
 
 pub scalar_numeric : (t : StaticType) → IsScalar t → Numeric (shape_of t)
@@ -55,10 +64,6 @@ abbrev pub onto : List Shape → List Shape → List Shape
 onto [] us = us
 onto (s ∷ ss) us = onto ss (s ∷ us)
 
-append_none : {A : Type 0} (xs : List A) → xs ++ [] ≡ xs
-append_none [] = refl
-append_none (x ∷ xs) = ap (λ l. x ∷ l) (append_none xs)
-
 takes_onto : (ss us acc args rest : List Shape) (n : ℕ) → Each Numeric ss → Takes n us (ss ++ acc) args rest →
     Takes (length ss + n) (onto ss us) acc args rest
 takes_onto [] us acc args rest n h t = subst (λ y. Takes y us acc args rest) (omega arith) t
@@ -71,7 +76,7 @@ pub takes_pushed : (ss us : List Shape) → Each Numeric ss → Takes (length ss
 takes_pushed ss us h =
     let same : length ss + 0 ≡ length ss = omega arith in
     subst (λ y. Takes y (onto ss us) [] ss us) same
-    (takes_onto ss us [] ss us 0 h (subst (λ l. Takes 0 us l ss us) (sym (append_none ss)) (takes_none us ss)))
+    (takes_onto ss us [] ss us 0 h (subst (λ l. Takes 0 us l ss us) (sym (append-nil ss)) (takes_none us ss)))
 
 -- ---- the frame that opens
 
@@ -92,20 +97,56 @@ get_front (v ∷ vs) ws (suc i) l = get_front vs ws i (omega (arith, l))
 pub types_many : (tree : Tree) (t : TaskTree) → length (param_types tree t) ≡ length t.params
 types_many tree t = types_length (scope_of tree t).names ∙ params_length tree t.params 0 t.params
 
+-- what clauses tell speaks of parameters alone
+told_steady : (params : ℕ) (k : RegionKnown) → Each (IsSteady params params) (told_by params k)
+told_steady params (Within (TermName a) (TermName b)) = chosen (nat_lt a params) refl (nat_lt b params) refl
+  where
+    chosen : (c : Bool) → nat_lt a params ≡ c → (d : Bool) → nat_lt b params ≡ d →
+        Each (IsSteady params params) (cond (c && d) (lies (in_slot a) (in_slot b) ∷ []) [])
+    chosen true p true q = (is_within a b (ltb-true a params p) (ltb-true b params q), tt)
+    chosen true p false q = tt
+    chosen false p d q = tt
+told_steady params (Apart (TermName a) (TermName b)) = chosen (nat_lt a params) refl (nat_lt b params) refl
+  where
+    chosen : (c : Bool) → nat_lt a params ≡ c → (d : Bool) → nat_lt b params ≡ d →
+        Each (IsSteady params params) (cond (c && d) (apart (in_slot a) (in_slot b) ∷ []) [])
+    chosen true p true q = (is_apart a b (ltb-true a params p) (ltb-true b params q), tt)
+    chosen true p false q = tt
+    chosen false p d q = tt
+told_steady params _ = tt
+
+each_both : (P : Fact → Type 0) (xs ys : List Fact) → Each P xs → Each P ys → Each P (xs ++ ys)
+each_both P [] ys a b = b
+each_both P (x ∷ xs) ys a b = (a.0, each_both P xs ys a.1 b)
+
+all_steady : (params : ℕ) (ks : List RegionKnown) → Each (IsSteady params params) (flat_map (told_by params) ks)
+all_steady params [] = tt
+all_steady params (k ∷ ks) = each_both (IsSteady params params) (told_by params k) (flat_map (told_by params) ks) (told_steady params k) (all_steady params ks)
+
+pub opening_steady : (way : Way) (tree : Tree) (t : TaskTree) → Each (IsSteady (length t.params) (length t.params)) (opening_facts way tree t)
+opening_steady all_made tree t = tt
+opening_steady (by_rules task) tree t = all_steady (length t.params) (scope_of tree t).known
+
+opening_kept : (way : Way) (tree : Tree) (t : TaskTree) (ws us : List Value) → length ws ≡ length t.params → Each (λ k. Holds k ws) (opening_facts way tree t) →
+    Each (λ k. Holds k (ws ++ us)) (opening_facts way tree t)
+opening_kept way tree t ws us long h = steady_holds (length t.params) (length t.params) ws (ws ++ us)
+    (λ p lo hi. absurd (omega (arith, lo, hi))) (λ i l. ap region_in (get_front ws us i (omega (arith, l, long))))
+    (opening_facts way tree t) (opening_steady way tree t) h
+
 -- what a frame has that opens with arguments of the parameters' shapes suits the mark
-pub opening_suits : (tree : Tree) (t : TaskTree) (x : World) (ws : List Value) →
-    Are (called x ws) (map shape_of (param_types tree t)) ws →
-    Suits (called x ws) (length t.params) (opening_mark tree t)
+pub opening_suits : (way : Way) (tree : Tree) (t : TaskTree) (x : World) (ws : List Value) →
+    Are (called x ws) (map (shape_in way (length t.params)) (param_types tree t)) ws → Each (λ k. Holds k ws) (opening_facts way tree t) →
+    Suits (called x ws) (length t.params) (opening_mark way tree t)
     (ws ++ replicate ((task_code tree t).slots - length ws) (Number (pos 0))) []
-opening_suits tree t x ws a =
-    let long : length ws ≡ length t.params = as_long (called x ws) _ ws a ∙ length-map (param_types tree t) shape_of ∙ types_many tree t in
+opening_suits way tree t x ws a told =
+    let long : length ws ≡ length t.params = as_long (called x ws) _ ws a ∙ length-map (param_types tree t) (shape_in way (length t.params)) ∙ types_many tree t in
     let same : (task_code tree t).slots - length t.params ≡ (task_code tree t).slots - length ws = omega (arith, long) in
-    subst (λ n. Suits (called x ws) (length t.params) (opening_mark tree t) (ws ++ replicate n (Number (pos 0))) [])
+    subst (λ n. Suits (called x ws) (length t.params) (opening_mark way tree t) (ws ++ replicate n (Number (pos 0))) [])
     same
     (record {
       slots = are_both (called x ws) _ _ ws _ a (blanks_are (called x ws) ((task_code tree t).slots - length t.params));
       stack = are_none;
-      facts = tt;
+      facts = opening_kept way tree t ws _ long told;
       top = tt;
       args = λ i l. ap region_in (get_front ws _ i (omega (arith, l, long)));
     })
@@ -138,7 +179,7 @@ numerics : (ts : List StaticType) → Each IsScalar ts → Each Numeric (map sha
 numerics [] h = tt
 numerics (t ∷ ts) h = (scalar_numeric t h.0, numerics ts h.1)
 
-passed_scalars : (forms : Forms) (plain : forms.takes ≡ None) (w : Where) (ts ps : List StaticType) (es : Expressions) → ArePassed forms w ts ps es →
+passed_scalars : (forms : Forms) (plain : forms.takes ≡ None) (w : Where) (ts ps : List StaticType) (es : Expressions) → ArePassed (without_pointers forms) w ts ps es →
     Each IsScalar ps
 passed_scalars forms plain w [] [] no_expr h = tt
 passed_scalars forms plain w (t ∷ ts) (p ∷ ps) (an_expr e es) h = (
@@ -150,7 +191,7 @@ passed_scalars forms plain w [] (p ∷ ps) es h = absurd h
 passed_scalars forms plain w (t ∷ ts) [] es h = absurd h
 passed_scalars forms plain w (t ∷ ts) (p ∷ ps) no_expr h = absurd h
 
-passed_many : (forms : Forms) (w : Where) (ts ps : List StaticType) (es : Expressions) → ArePassed forms w ts ps es →
+passed_many : (forms : Forms) (w : Where) (ts ps : List StaticType) (es : Expressions) → ArePassed (without_pointers forms) w ts ps es →
     length ps ≡ count es
 passed_many forms w [] [] no_expr h = refl
 passed_many forms w (t ∷ ts) (p ∷ ps) (an_expr e es) h = ap suc (passed_many forms w ts ps es h.1)
@@ -171,20 +212,63 @@ some_lines p line = let e = length-append (lines p 0) (lines (op instr.Return li
 pub some_body : (tree : Tree) (u : TaskTree) → 0 < length (task_code tree u).body
 some_body tree u = some_lines (block_code (place_of tree u) u.body) 0
 
-module _ (g : Program) (t : TaskCode) (k : ℕ) (w : Where) (known : Known g w.tree) where
+-- shapes of simple types are the same of names
+pub simples_named : (way : Way) (params : ℕ) (ts : List StaticType) → Each IsSimple ts → map (shape_in way params) ts ≡ map shape_of ts
+simples_named way params [] h = refl
+simples_named way params (t ∷ ts) h = ap (λ s. s ∷ map (shape_in way params) ts) (one t h.0) ∙ ap (λ l. shape_of t ∷ l) (simples_named way params ts h.1)
+  where
+    one : (t : StaticType) → IsSimple t → shape_in way params t ≡ shape_of t
+    one _ (simple_integer w) = refl
+    one _ simple_truth = refl
+    one _ (simple_index k) = refl
+    one _ (simple_space k) = refl
+
+-- of values that are no regions each fact of parameters holds
+no_regions : (x : World) (ts : List StaticType) (ws : List Value) → Each IsSimple ts → Are x (map shape_of ts) ws → (i : ℕ) → region_in (slice_get ws i) ≡ None
+no_regions x [] _ h are_none i = refl
+no_regions x (t ∷ ts) _ h (are_more _ v _ vs q a) zero = one t v h.0 q
+  where
+    one : (t : StaticType) (v : Value) → IsSimple t → Is x (shape_of t) v → region_in (Some v) ≡ None
+    one _ _ (simple_integer w) (is_number _ z p) = refl
+    one _ _ simple_truth (is_number _ z p) = refl
+    one _ _ (simple_index k) (is_number _ z p) = refl
+    one _ _ (simple_space k) (is_space n l) = refl
+    one _ _ (simple_space k) (is_number _ z p) = refl
+no_regions x (t ∷ ts) _ h (are_more _ v _ vs q a) (suc i) = no_regions x ts vs h.1 a i
+
+pub simples_told : (way : Way) (tree : Tree) (t : TaskTree) (x : World) (ts : List StaticType) (ws : List Value) → Each IsSimple ts → Are x (map shape_of ts) ws →
+    Each (λ k. Holds k ws) (opening_facts way tree t)
+simples_told way tree t x ts ws h a = each (opening_facts way tree t) (opening_steady way tree t)
+  where
+    none : (i : ℕ) → region_in (slice_get ws i) ≡ None
+    none = no_regions x ts ws h a
+
+    one : (k : Fact) → IsSteady (length t.params) (length t.params) k → Holds k ws
+    one _ (is_count p lo hi) = absurd (omega (arith, lo, hi))
+    one _ (is_within i j li lj) = λ r e. absurd (none-some r (sym (none i) ∙ e))
+    one _ (is_apart i j li lj) = λ r q e f. absurd (none-some r (sym (none i) ∙ e))
+
+    each : (ks : List Fact) → Each (IsSteady (length t.params) (length t.params)) ks → Each (λ k. Holds k ws) ks
+    each [] s = tt
+    each (k ∷ ks) s = (one k s.0, each ks s.1)
+
+module _ (g : Program) (t : TaskCode) (k : ℕ) (way : Way) (w : Where) (known : Known way g w.tree) where
   opens : (m : Mark) (task : ℕ) (u : TaskTree) → slice_get (tasks_of w.tree) task ≡ Some u → (task_code w.tree u).needs ≡ [] →
       Each IsScalar (param_types w.tree u) → Opens g t m task (task_code w.tree u) (map shape_of (param_types w.tree u))
   opens m task u there none scalars x vs st ws s a = (
     subst (λ y. Suits (called x ws) (length u.params) y (ws ++ replicate ((task_code w.tree u).slots - length ws) (Number (pos 0))) [])
         (sym (known.begins task u there))
-        (opening_suits w.tree u x ws (simples_are x (called x ws) (param_types w.tree u) ws (scalars_simple (param_types w.tree u) scalars) a)),
+        (opening_suits (other way u) w.tree u x ws
+        (subst (λ y. Are (called x ws) y ws) (sym (simples_named (other way u) (length u.params) (param_types w.tree u) (scalars_simple (param_types w.tree u) scalars)))
+        (simples_are x (called x ws) (param_types w.tree u) ws (scalars_simple (param_types w.tree u) scalars) a))
+        (simples_told (other way u) w.tree u x (param_types w.tree u) ws (scalars_simple (param_types w.tree u) scalars) a)),
     subst (λ ns. Each (IsNeeded g x ws) ns) (sym none) tt,
     subst (λ ns. IsWithin (declared_claims ns ws) (claims g x t)) (sym none) (λ root field point. inl refl),
   )
 
   -- a call with its arguments on the stack
   pub calls : (forms : Forms) (plain : forms.takes ≡ None) (m : Mark) (task : Name) (ts : List StaticType) (es : Expressions) (us : List Shape) → IsCallable forms w task es →
-      ArePassed forms w ts (param_types w.tree (task_named w.tree task)) es →
+      ArePassed (without_pointers forms) w ts (param_types w.tree (task_named w.tree task)) es →
       Marked g t k (stacked m (onto (map shape_of (param_types w.tree (task_named w.tree task))) us))
       (one w (instr.Call (place_of_task w.tree task) (count es)))
       (stacked m (awaited (g.results (place_of_task w.tree task)) ∷ us))

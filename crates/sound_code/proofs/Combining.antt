@@ -10,21 +10,17 @@ use Rattle.task_code.specs.declared.instr.Instr.TheVariants as instr
 use Rattle.machine_terms.specs.declared.value.Value.{Value}
 use Rattle.machine_terms.specs.Pointers.{region_in}
 use Rattle.code_rules.specs.Pieces.{Piece, empty, op, ◌⨟◌}
-use Rattle.fit_rules.specs.Shapes.{Each, Shape, Numeric, numeric_integer, numeric_truth, numeric_index, numeric_pointer, World, Is, is_number, Are, are_more}
+use Rattle.fit_rules.specs.Shapes.{Each, Shape, Numeric, numeric_integer, numeric_truth, numeric_index, numeric_pointer, World, Is, is_number, Are}
 use Rattle.fit_rules.specs.Marks.{Holds, Mark, Into, stacked}
 use Rattle.fit_rules.specs.Fits.{Program}
 use Rattle.fit_rules.specs.Sound.{Effect}
-use Rattle.fit_laws.proofs.Lookup.{value_at, as_long, set_at}
+use Rattle.fit_laws.proofs.Keeping.{are_first, are_others, get_set, get_other, set_mark, stores_behind}
+use Rattle.fit_laws.proofs.Lookup.{value_at, as_long}
 use Rattle.marked_code.specs.Marked.{leads_on, leads_storing, Typed, typed_empty, typed_op, typed_both, typed_into}
 use Rattle.sound_code.specs.Named.{slot_at, Ready}
-use Rattle.sound_code.proofs.Narrowing.{get_set, get_other, set_kept, counts_kept, behind_counts, between_counts}
-
--- the first of two values, and the others
-pub are_first : (x : World) (a : Shape) (us : List Shape) (v : Value) (st : List Value) → Are x (a ∷ us) (v ∷ st) → Is x a v
-are_first x _ _ _ _ (are_more a v us st h b) = h
-
-pub are_others : (x : World) (a : Shape) (us : List Shape) (v : Value) (st : List Value) → Are x (a ∷ us) (v ∷ st) → Are x us st
-are_others x _ _ _ _ (are_more a v us st h b) = b
+use Rattle.sound_code.specs.Ways.{Way}
+use Rattle.sound_code.proofs.Narrowing.{set_kept}
+use Rattle.sound_code.proofs.Steady.{behind_same, between_same, steady_holds}
 
 -- a number is no region, so that regions stay where numbers are put for numbers
 no_region : (x : World) (a : Shape) (v : Value) → Numeric a → Is x a v → region_in (Some v) ≡ None
@@ -53,22 +49,24 @@ slot_high params p h = omega (arith, h)
 pub slot_next : (params p : ℕ) → params ≤ p → slot_at params (suc p) ≡ slot_at params p + 3
 slot_next params p h = omega (arith, h)
 
--- a mark's facts stay where a slot is set
+-- a mark's facts stay where a slot is set behind those of the names
 abbrev pub Keeps : Mark → ℕ → Type 0
 Keeps m s = (vs : List Value) (v : Value) → Each (λ k. Holds k vs) m.facts → Each (λ k. Holds k (slice_set vs s v)) m.facts
 
--- that behind the names, and that of a name
-pub behind_kept : (params : ℕ) (bs : List Bound) (m : Mark) (s : ℕ) → Ready params bs m → slot_at params (length bs) ≤ s → Keeps m s
-behind_kept params bs m s r h vs v k = counts_kept params (length bs) m.facts vs s v r.facts
-    (behind_counts params (length bs) s h) k
+pub behind_kept : (way : Way) (params : ℕ) (bs : List Bound) (m : Mark) (s : ℕ) → Ready way params bs m → slot_at params (length bs) ≤ s → Keeps m s
+behind_kept way params bs m s r h vs v k =
+    let same = behind_same params (length bs) s vs v r.low h in
+    steady_holds params (length bs) vs (slice_set vs s v) same.0 same.1 m.facts r.facts k
 
-pub named_kept : (params : ℕ) (bs : List Bound) (m : Mark) (p : ℕ) → Ready params bs m → Keeps m (slot_at params p)
-named_kept params bs m p r vs v k = counts_kept params (length bs) m.facts vs (slot_at params p) v r.facts
-    (between_counts params p (length bs)) k
+-- and where a name's slot is set that holds no region before and after
+abbrev pub KeepsNumber : Mark → ℕ → Type 0
+KeepsNumber m s = (vs : List Value) (v : Value) →
+    ((i : ℕ) → region_in (slice_get (slice_set vs s v) i) ≡ region_in (slice_get vs i)) →
+    Each (λ k. Holds k vs) m.facts → Each (λ k. Holds k (slice_set vs s v)) m.facts
 
--- the mark with another shape in a slot
-abbrev pub set_mark : Mark → ℕ → Shape → List Shape → Mark
-set_mark m s b us = record m { slots = slice_set m.slots s b; stack = us; top = [] }
+pub named_kept : (way : Way) (params : ℕ) (bs : List Bound) (m : Mark) (p : ℕ) → Ready way params bs m → KeepsNumber m (slot_at params p)
+named_kept way params bs m p r vs v same k = steady_holds params (length bs) vs (slice_set vs (slot_at params p) v)
+    (between_same params p (length bs) vs v) (λ i l. same i) m.facts r.facts k
 
 module _ (g : Program) (t : TaskCode) (k : ℕ) where
   -- a piece with some marks
@@ -95,27 +93,22 @@ module _ (g : Program) (t : TaskCode) (k : ℕ) where
   storing m s a b us line kept lo hi h = record {
     marks = _;
     is = typed_op _ _ _ line (leads_storing (stacked m (a ∷ us)) (set_mark m s b us) s a us refl hi
-        (λ x vs st v q. record {
-          slots = set_at x m.slots vs s b v q.slots (h x v (are_first x a us v st q.stack));
-          stack = are_others x a us v st q.stack;
-          facts = kept vs v q.facts;
-          top = tt;
-          args = λ i l. ap region_in (get_other vs s i v (λ e. omega (arith, e, l, lo))) ∙ q.args i l;
-        }) (length-set m.slots s b));
+        (stores_behind t.params (stacked m (a ∷ us)) s a b us refl lo kept h) (length-set m.slots s b));
   }
 
   -- a number in the place of a number
-  pub keeping : (m : Mark) (s : ℕ) (a : Shape) (us : List Shape) (line : ℕ) → Keeps m s → Numeric a →
+  pub keeping : (m : Mark) (s : ℕ) (a : Shape) (us : List Shape) (line : ℕ) → KeepsNumber m s → Numeric a →
       s < length m.slots → slice_get m.slots s ≡ Some a →
       Marked (stacked m (a ∷ us)) (op (instr.Store s) line) (stacked m us)
   keeping m s a us line kept na hi e = record {
     marks = _;
     is = typed_op _ _ _ line (leads_storing (stacked m (a ∷ us)) (stacked m us) s a us refl hi
-        (λ x vs st v q. record {
+        (λ x vs st v q.
+        let same = same_regions x m.slots vs s a v na q.slots e (are_first x a us v st q.stack) hi in record {
           slots = set_kept x m.slots vs s a v q.slots e (are_first x a us v st q.stack);
           stack = are_others x a us v st q.stack;
-          facts = kept vs v q.facts;
+          facts = kept vs v same q.facts;
           top = tt;
-          args = λ i l. same_regions x m.slots vs s a v na q.slots e (are_first x a us v st q.stack) hi i ∙ q.args i l;
+          args = λ i l. same i ∙ q.args i l;
         }) refl);
   }

@@ -1,7 +1,7 @@
 -- Code that goes to a field of an element of a region that a name has, and reads, writes or reduces it, and code
 -- that fills fields, has marks: the task made the region.
-use Rattle.std.proofs.Common.{◌≡◌, ℕ, ◌<◌, List, [], ◌∷◌, map, true, Some, refl, sym, ap, ◌∙◌, subst, arith}
-use Rattle.std.specs.Prelude.{get_or, length, slice_get}
+use Rattle.std.proofs.Common.{◌≡◌, ℕ, ◌<◌, List, [], ◌∷◌, map, Some, refl, sym, ap, ◌∙◌, subst, arith}
+use Rattle.std.specs.Prelude.{get_or, length}
 use Rattle.std.proofs.lemmas.List.{length-map}
 use Rattle.std.proofs.lemmas.Simd.{map-map}
 use Rattle.std.proofs.Math.ListN.{get_or-map}
@@ -35,9 +35,8 @@ use Rattle.code_laws.proofs.Reaching.{kinds_are}
 use Rattle.fit_rules.specs.Shapes.{Shape, pointer, region, Numeric, numeric_integer, numeric_index}
 use Rattle.fit_rules.specs.Marks.{Mark, stacked}
 use Rattle.fit_rules.specs.Fits.{Program, count_at, kept_as, kind_at, shape_at}
-use Rattle.fit_rules.specs.Sound.{Allowed, Through, does_element, does_read, does_write, does_reduce, does_fill}
-use Rattle.fit_laws.proofs.Allowing.{allowed_made}
-use Rattle.sound_code.specs.Named.{shape_of}
+use Rattle.fit_rules.specs.Sound.{HasRegion, Allowed, Through, does_element, does_read, does_write, does_reduce, does_fill}
+use Rattle.sound_code.specs.Ways.{Way, shape_of}
 use Rattle.sound_code.proofs.Asked.{Known}
 use Rattle.sound_code.proofs.Combining.{Marked, nothing_done, both, does}
 
@@ -58,12 +57,12 @@ pub number_numeric : (u : StaticType) → IsNumber u → Numeric (shape_of u)
 number_numeric _ (number_integer w) = numeric_integer w
 number_numeric _ (number_index k) = numeric_index
 
-module _ (g : Program) (tree : Tree) (known : Known g tree) where
+module _ (g : Program) (tree : Tree) (way : Way) (known : Known way g tree) where
   kind_same : (sp place : ℕ) → kind_at g sp place ≡ field_kind tree sp place
   kind_same sp place = ap (λ c. get_or (kinds_of c sp) place kind.Truth) known.code
       ∙ ap (λ ks. get_or ks place kind.Truth) (kinds_are (code_of tree) tree sp refl) ∙ kind_in tree sp place
 
-  field_there : (sp place : ℕ) → place < length (space_at tree sp).fields → place < count_at g sp
+  pub field_there : (sp place : ℕ) → place < length (space_at tree sp).fields → place < count_at g sp
   field_there sp place l =
       let e = ap (λ c. length (kinds_of c sp)) known.code ∙ ap length (kinds_are (code_of tree) tree sp refl)
       ∙ length-map (space_at tree sp).fields (λ (p : Param). kind_said p.term) in
@@ -75,23 +74,21 @@ module _ (g : Program) (tree : Tree) (known : Known g tree) where
 
 -- ---- elements
 
-module _ (g : Program) (t : TaskCode) (k : ℕ) (w : Where) (m : Mark) (known : Known g w.tree) where
-  allowed : (sp place s : ℕ) (a : Mode) (us : List Shape) → slice_get m.slots s ≡ Some (region (Some sp) true) →
-      place < length (space_at w.tree sp).fields → Allowed g t (stacked m us) sp place a s
-  allowed sp place s a us e l = allowed_made g t (stacked m us) sp place s a e (field_there g w.tree known sp place l)
+module _ (g : Program) (t : TaskCode) (k : ℕ) (way : Way) (w : Where) (m : Mark) (known : Known way g w.tree) where
+  -- through the one slot of a pointer
+  through : (sp f s : ℕ) (a : Mode) (us : List Shape) → Allowed g t (stacked m us) sp f a s → Through g t (stacked m us) sp f a 1 (s ∷ [])
+  through sp f s a us h = (omega arith, (h, tt))
 
-  through : (sp place s : ℕ) (a : Mode) (us : List Shape) → slice_get m.slots s ≡ Some (region (Some sp) true) →
-      place < length (space_at w.tree sp).fields → Through g t (stacked m us) sp place a 1 (s ∷ [])
-  through sp place s a us e l = (omega arith, (allowed sp place s a us e l, tt))
+  abbrev pub MayTouch : StaticType → ℕ → Name → Mode → Type 0
+  MayTouch u s f a = (us : List Shape) → Allowed g t (stacked m us) (space_in u) (field_place w.tree (space_in u) f) a s
 
   standing_number : (u : StaticType) (us : List Shape) → IsNumber u → Marked g t k (stacked m us) (standing_code w u) (stacked m us)
   standing_number _ us (number_integer v) = nothing_done g t k _
   standing_number _ us (number_index v) = nothing_done g t k _
 
   pub reads : (u : StaticType) (place : ℕ) (e : Expression) (f : Name) (out : StaticType) (d : ℕ) (us : List Shape) → IsRegion u →
-      slice_get m.slots (slot w place) ≡ Some (shape_of u) → IsNumber (typed w e) →
-      slots_of w (slot w place) (type_of_element w.scope u e) ≡ slot w place ∷ [] →
-      field_place w.tree (space_in u) f < length (space_at w.tree (space_in u)).fields →
+      HasRegion m (Some (space_in u)) (slot w place) → IsNumber (typed w e) →
+      slots_of w (slot w place) (type_of_element w.scope u e) ≡ slot w place ∷ [] → MayTouch u (slot w place) f mode.Read →
       FieldFits (field_kind w.tree (space_in u) (field_place w.tree (space_in u) f)) out →
       ((pc : ℕ) → Stands t.body pc (expr_code w d e) →
       Marked g t k (stacked m us) (expr_code w d e) (stacked m (shape_of (typed w e) ∷ us))) → (pc : ℕ) →
@@ -101,27 +98,26 @@ module _ (g : Program) (t : TaskCode) (k : ℕ) (w : Where) (m : Mark) (known : 
       (load_code w u (slot w place) (at_step e (field_step f no_step))
       ⨟ steps_code w d u (own_slot w u place) (at_step e (field_step f no_step)))
       (stacked m (shape_of out ∷ us))
-  reads _ place e f out d us (a_region_type q sp args r) there h goes l fits marked pc st =
+  reads _ place e f out d us (a_region_type q sp args r) there h goes may fits marked pc st =
       let s = slot w place in
       let fp = field_place w.tree sp f in
       both g t k (nothing_done g t k _)
       (both g t k (marked pc st.1.0) (both g t k (standing_number (typed w e) _ h)
       (both g t k (does g t k _ (instr.At s) w.line (pointer 1 ∷ us)
-      (does_element s (Some sp) _ us (record { made = true; shape = there }) (number_numeric _ h)))
+      (does_element s (Some sp) _ us (record { made = there.made; shape = there.shape }) (number_numeric _ h)))
       (both g t k (nothing_done g t k _)
       (both g t k
       (subst (λ y. Marked g t k (stacked m (pointer 1 ∷ us)) (one w (instr.Read y fp)) (stacked m (shape_of out ∷ us))) (sym goes)
       (subst (λ y. Marked g t k (stacked m (pointer 1 ∷ us)) (one w (instr.Read (s ∷ []) fp)) (stacked m (y ∷ us)))
-      (field_shape g w.tree known sp fp out fits)
+      (field_shape g w.tree way known sp fp out fits)
       (does g t k (stacked m (pointer 1 ∷ us)) (instr.Read (s ∷ []) fp) w.line _
-      (does_read (s ∷ []) fp sp 1 us (through sp fp s mode.Read (pointer 1 ∷ us) there l)))))
+      (does_read (s ∷ []) fp sp 1 us (through sp fp s mode.Read (pointer 1 ∷ us) (may (pointer 1 ∷ us)))))))
       (nothing_done g t k _))))))
 
   -- a value goes into the field
   module _ (u : StaticType) (place : ℕ) (e : Expression) (f : Name) (out : StaticType) (us : List Shape) (is : IsRegion u)
-      (there : slice_get m.slots (slot w place) ≡ Some (shape_of u)) (h : IsNumber (typed w e))
+      (there : HasRegion m (Some (space_in u)) (slot w place)) (h : IsNumber (typed w e))
       (goes : slots_of w (slot w place) (type_of_element w.scope u e) ≡ slot w place ∷ [])
-      (l : field_place w.tree (space_in u) f < length (space_at w.tree (space_in u)).fields)
       (fits : FieldFits (field_kind w.tree (space_in u) (field_place w.tree (space_in u) f)) out) where
     -- the code of a target
     abbrev pub aimed : StaticType → How → Piece
@@ -129,69 +125,67 @@ module _ (g : Program) (t : TaskCode) (k : ℕ) (w : Where) (m : Mark) (known : 
         ⨟ steps_code w 0 v (own_slot w v place) (at_step e no_step))
         ⨟ put_code w (type_of_element w.scope v e) (slot_behind w 0 v (own_slot w v place) (at_step e no_step)) f o
 
-    pub writes : ((pc : ℕ) → Stands t.body pc (expr_code w 0 e) →
+    pub writes : MayTouch u (slot w place) f mode.Write → ((pc : ℕ) → Stands t.body pc (expr_code w 0 e) →
         Marked g t k (stacked m (shape_of out ∷ us)) (expr_code w 0 e) (stacked m (shape_of (typed w e) ∷ shape_of out ∷ us))) →
         (pc : ℕ) → Stands t.body pc (aimed u how.Set) → Marked g t k (stacked m (shape_of out ∷ us)) (aimed u how.Set) (stacked m us)
-    writes marked pc st = of_region u is there goes l fits st
+    writes may marked pc st = of_region u is there goes may fits st
       where
-        of_region : (v : StaticType) → IsRegion v → slice_get m.slots (slot w place) ≡ Some (shape_of v) →
-            slots_of w (slot w place) (type_of_element w.scope v e) ≡ slot w place ∷ [] →
-            field_place w.tree (space_in v) f < length (space_at w.tree (space_in v)).fields →
+        of_region : (v : StaticType) → IsRegion v → HasRegion m (Some (space_in v)) (slot w place) →
+            slots_of w (slot w place) (type_of_element w.scope v e) ≡ slot w place ∷ [] → MayTouch v (slot w place) f mode.Write →
             FieldFits (field_kind w.tree (space_in v) (field_place w.tree (space_in v) f)) out →
             Stands t.body pc (aimed v how.Set) → Marked g t k (stacked m (shape_of out ∷ us)) (aimed v how.Set) (stacked m us)
-        of_region _ (a_region_type q sp args r) there goes l fits st =
+        of_region _ (a_region_type q sp args r) there goes may fits st =
             let s = slot w place in
             let fp = field_place w.tree sp f in
             let us1 : List Shape = pointer 1 ∷ shape_of out ∷ us in
             both g t k
             (both g t k (nothing_done g t k _) (both g t k (marked _ st.0.1.0) (both g t k (standing_number (typed w e) _ h)
             (both g t k (does g t k _ (instr.At s) w.line us1
-            (does_element s (Some sp) _ _ (record { made = true; shape = there }) (number_numeric _ h)))
+            (does_element s (Some sp) _ _ (record { made = there.made; shape = there.shape }) (number_numeric _ h)))
             (both g t k (nothing_done g t k _) (nothing_done g t k _))))))
             (subst (λ y. Marked g t k (stacked m us1) (one w (instr.Write y fp (width_of (field_kind w.tree sp fp)))) (stacked m us)) (sym goes)
-            (subst (λ y. Marked g t k (stacked m us1) (one w (instr.Write (s ∷ []) fp (width_of y))) (stacked m us)) (kind_same g w.tree known sp fp)
+            (subst (λ y. Marked g t k (stacked m us1) (one w (instr.Write (s ∷ []) fp (width_of y))) (stacked m us)) (kind_same g w.tree way known sp fp)
             (subst (λ y. Marked g t k (stacked m (pointer 1 ∷ y ∷ us)) (one w (instr.Write (s ∷ []) fp (width_of (kind_at g sp fp)))) (stacked m us))
-            (field_shape g w.tree known sp fp out fits)
+            (field_shape g w.tree way known sp fp out fits)
             (does g t k (stacked m (pointer 1 ∷ shape_at g sp fp ∷ us)) (instr.Write (s ∷ []) fp (width_of (kind_at g sp fp))) w.line us
-            (does_write (s ∷ []) fp sp 1 us (through sp fp s mode.Write (pointer 1 ∷ shape_at g sp fp ∷ us) there l))))))
+            (does_write (s ∷ []) fp sp 1 us (through sp fp s mode.Write (pointer 1 ∷ shape_at g sp fp ∷ us) (may (pointer 1 ∷ shape_at g sp fp ∷ us))))))))
 
-    pub reduces : (o : Op) (a : Shape) → Numeric a → IsInteger out →
+    pub reduces : (o : Op) (a : Shape) → Numeric a → IsInteger out → MayTouch u (slot w place) f (mode.Reduce o) →
         ((pc : ℕ) → Stands t.body pc (expr_code w 0 e) →
         Marked g t k (stacked m (a ∷ us)) (expr_code w 0 e) (stacked m (shape_of (typed w e) ∷ a ∷ us))) →
         (pc : ℕ) → Stands t.body pc (aimed u (how.Reduce o)) → Marked g t k (stacked m (a ∷ us)) (aimed u (how.Reduce o)) (stacked m us)
-    reduces o a na io marked pc st = of_region u is there goes l out io fits st
+    reduces o a na io may marked pc st = of_region u is there goes may out io fits st
       where
-        of_region : (v : StaticType) → IsRegion v → slice_get m.slots (slot w place) ≡ Some (shape_of v) →
-            slots_of w (slot w place) (type_of_element w.scope v e) ≡ slot w place ∷ [] →
-            field_place w.tree (space_in v) f < length (space_at w.tree (space_in v)).fields → (out : StaticType) → IsInteger out →
+        of_region : (v : StaticType) → IsRegion v → HasRegion m (Some (space_in v)) (slot w place) →
+            slots_of w (slot w place) (type_of_element w.scope v e) ≡ slot w place ∷ [] → MayTouch v (slot w place) f (mode.Reduce o) →
+            (out : StaticType) → IsInteger out →
             FieldFits (field_kind w.tree (space_in v) (field_place w.tree (space_in v) f)) out →
             Stands t.body pc (aimed v (how.Reduce o)) → Marked g t k (stacked m (a ∷ us)) (aimed v (how.Reduce o)) (stacked m us)
-        of_region _ (a_region_type q sp args r) there goes l _ (an_integer wd) fits st =
+        of_region _ (a_region_type q sp args r) there goes may _ (an_integer wd) fits st =
             let s = slot w place in
             let fp = field_place w.tree sp f in
             let us1 : List Shape = pointer 1 ∷ a ∷ us in
             both g t k
             (both g t k (nothing_done g t k _) (both g t k (marked _ st.0.1.0) (both g t k (standing_number (typed w e) _ h)
             (both g t k (does g t k _ (instr.At s) w.line us1
-            (does_element s (Some sp) _ _ (record { made = true; shape = there }) (number_numeric _ h)))
+            (does_element s (Some sp) _ _ (record { made = there.made; shape = there.shape }) (number_numeric _ h)))
             (both g t k (nothing_done g t k _) (nothing_done g t k _))))))
             (subst (λ y. Marked g t k (stacked m us1) (one w (instr.Reduce y fp o (width_of (field_kind w.tree sp fp)))) (stacked m us)) (sym goes)
-            (subst (λ y. Marked g t k (stacked m us1) (one w (instr.Reduce (s ∷ []) fp o (width_of y))) (stacked m us)) (kind_same g w.tree known sp fp)
+            (subst (λ y. Marked g t k (stacked m us1) (one w (instr.Reduce (s ∷ []) fp o (width_of y))) (stacked m us)) (kind_same g w.tree way known sp fp)
             (does g t k (stacked m us1) (instr.Reduce (s ∷ []) fp o (width_of (kind_at g sp fp))) w.line us
-            (does_reduce (s ∷ []) fp sp 1 o wd a us (field_shape g w.tree known sp fp _ fits) na
-            (through sp fp s (mode.Reduce o) us1 there l)))))
+            (does_reduce (s ∷ []) fp sp 1 o wd a us (field_shape g w.tree way known sp fp _ fits) na
+            (through sp fp s (mode.Reduce o) us1 (may us1))))))
 
   -- a field of a whole region is filled
-  pub fills : (u : StaticType) (s : ℕ) (f : Name) (out : StaticType) (us : List Shape) → IsRegion u →
-      slice_get m.slots s ≡ Some (shape_of u) → field_place w.tree (space_in u) f < length (space_at w.tree (space_in u)).fields →
+  pub fills : (u : StaticType) (s : ℕ) (f : Name) (out : StaticType) (us : List Shape) → IsRegion u → MayTouch u s f mode.Write →
       FieldFits (field_kind w.tree (space_in u) (field_place w.tree (space_in u) f)) out →
       Marked g t k (stacked m (shape_of out ∷ us))
       (one w (instr.Fill s (field_place w.tree (space_in u) f) (width_of (field_kind w.tree (space_in u) (field_place w.tree (space_in u) f)))))
       (stacked m us)
-  fills _ s f out us (a_region_type q sp args r) there l fits =
+  fills _ s f out us (a_region_type q sp args r) may fits =
       let fp = field_place w.tree sp f in
-      subst (λ y. Marked g t k (stacked m (shape_of out ∷ us)) (one w (instr.Fill s fp (width_of y))) (stacked m us)) (kind_same g w.tree known sp fp)
+      subst (λ y. Marked g t k (stacked m (shape_of out ∷ us)) (one w (instr.Fill s fp (width_of y))) (stacked m us)) (kind_same g w.tree way known sp fp)
       (subst (λ y. Marked g t k (stacked m (y ∷ us)) (one w (instr.Fill s fp (width_of (kind_at g sp fp)))) (stacked m us))
-      (field_shape g w.tree known sp fp out fits)
+      (field_shape g w.tree way known sp fp out fits)
       (does g t k (stacked m (shape_at g sp fp ∷ us)) (instr.Fill s fp (width_of (kind_at g sp fp))) w.line us
-      (does_fill s fp sp us (allowed sp fp s mode.Write (shape_at g sp fp ∷ us) there l))))
+      (does_fill s fp sp us (may (shape_at g sp fp ∷ us)))))

@@ -1,5 +1,7 @@
 -- The code of expressions has marks: each leads from a mark to the same with a value on the stack.
-use Rattle.std.proofs.Common.{◌≡◌, inl, ℕ, ◌<◌, ◌≤◌, List, [], ◌∷◌, Bool, true, false, cond, map, None, Some, refl, ◌∙◌, sym, subst, arith}
+use Rattle.code_laws.proofs.Arguments.{given_either}
+use Rattle.std.proofs.lemmas.Option.{none-some}
+use Rattle.std.proofs.Common.{◌≡◌, inl, ℕ, ◌<◌, ◌≤◌, List, [], ◌∷◌, Bool, true, false, cond, map, Some, refl, sym, ap, ◌∙◌, subst, arith, None}
 use Rattle.std.specs.Prelude.{slice_get, bytes_eq, length, ◌||◌}
 use Rattle.std.proofs.lemmas.Bool.{false≢true}
 use Rattle.std.proofs.lemmas.List.{length-set}
@@ -15,7 +17,7 @@ use Rattle.regent_tree.specs.declared.types.NumberTerm.{NumberTerm}
 use Rattle.regent_tree.specs.StaticTypes.{number_type, task_named}
 use Rattle.regent_tree.specs.Lookup.{is_bound}
 use Rattle.regent_tree.specs.Scopes.{bound_to}
-use Rattle.regent_tree.specs.Syntax.{Name, Expression, number_expr, truth_expr, chain_expr, prefix_expr, access_expr, call_expr, convert_expr, space_expr, Expressions, no_expr, an_expr, Links, no_link, a_link, no_step, field_step, at_step}
+use Rattle.regent_tree.specs.Syntax.{Name, Expression, number_expr, truth_expr, chain_expr, prefix_expr, access_expr, call_expr, convert_expr, space_expr, Expressions, no_expr, an_expr, Links, no_link, a_link, no_step, field_step, at_step, is_null_expr, null_expr, cast_expr}
 use Rattle.regent_tree.specs.Typing.{operated, linked_type, param_types, params_at, signed_type}
 use Rattle.regent_tree.specs.Values.{kept_truth}
 use Rattle.task_code.specs.declared.code.TaskCode.{TaskCode}
@@ -28,21 +30,37 @@ use Rattle.code_rules.specs.Instructions.{converted_code, signs_code, standing_c
 use Rattle.code_rules.specs.Slots.{Where, bound, spare, typed, slot_named}
 use Rattle.code_laws.specs.Simple.{IsSimple, AreComparable, compare_numbers, compare_truths, simple_integer, simple_truth, simple_space, simple_index, IsInteger, an_integer, IsTruth, a_truth_type, AreAlike, two_integers, two_truths, IsScalar, scalar_integer, IsNumber, number_integer, number_index, SignsFit, of_a_truth, of_an_integer, not_before, minus_before, IsIntegerTerm, term_32, term_64}
 use Rattle.code_laws.specs.Standing.{Stands}
-use Rattle.code_laws.proofs.Arguments.{given_either}
-use Rattle.code_laws.specs.Steps.{Forms}
-use Rattle.std.proofs.lemmas.Option.{none-some}
+use Rattle.code_laws.specs.Steps.{Forms, without_pointers}
 use Rattle.code_laws.specs.Typed.{ArePassed, IsTyped, AreTypedLinks}
 use Rattle.fit_rules.specs.Shapes.{numeric_index, Are, are_more, index, is_number, World, Shape, awaited, integer, truth, space, Numeric, numeric_integer, numeric_truth}
 use Rattle.fit_rules.specs.Marks.{Mark, stacked}
 use Rattle.fit_rules.specs.Fits.{Program}
 use Rattle.fit_rules.specs.Sound.{Settled, settled_number, settled_space, does_num, does_load, does_compute, does_compare, does_negate, does_wrap, does_invert, does_space}
 use Rattle.marked_code.specs.Marked.{leads_waiting, typed_op, typed_and, typed_or}
-use Rattle.sound_code.specs.Named.{shape_of, slot_at, AreNamed, HasSlots}
+use Rattle.fit_laws.proofs.Keeping.{get_set, set_mark}
+use Rattle.sound_code.specs.Named.{slot_at, AreNamed, HasSlots}
+use Rattle.sound_code.specs.Ways.{Way, all_made, by_rules, is_own, shape_in, shape_of}
+use Rattle.sound_code.proofs.Granting.{allowed, InPlace, May}
+use Rattle.sound_code.proofs.Grounds.{Ground, IsPlaced, OfType}
+use Rattle.sound_code.proofs.Told.{Told, ToldArgs, ToldLinks, told_arg, told_call, told_chain, told_convert, told_element, told_link, told_prefix, told_space}
+use Rattle.sound_code.proofs.Wanting.{may_read}
+use Rattle.sound_code.proofs.Steady.{steady_stand}
+use Rattle.expression_laws.specs.Needs.{mode_of}
+use Rattle.regent_tree.specs.Accesses.{space_in}
+use Rattle.regent_tree.specs.Scopes.{Scope}
+use Rattle.regent_tree.specs.StaticTypes.{field_place}
+use Rattle.regent_tree.specs.Syntax.{Tree}
+use Rattle.regent_tree.specs.declared.rights.Access.{Access}
+use Rattle.regent_tree.specs.declared.rights.Access.TheVariants.{Read}
+use Rattle.fit_rules.specs.Shapes.{Each}
+use Rattle.fit_rules.specs.Sound.{Allowed, HasRegion}
+use Rattle.code_laws.specs.Simple.{IsRegion, a_region_type}
+use Rattle.code_laws.specs.Typed.{IsField}
 use Rattle.sound_code.proofs.Asked.{Asked}
 use Rattle.sound_code.proofs.Calling.{onto, calls, scalar_numeric}
-use Rattle.sound_code.proofs.Combining.{Marked, nothing_done, both, does, into, behind_kept, set_mark, slot_high, storing}
+use Rattle.sound_code.proofs.Combining.{Marked, nothing_done, both, does, into, behind_kept, slot_high, storing}
 use Rattle.sound_code.proofs.Elements.{number_numeric, reads}
-use Rattle.sound_code.proofs.Narrowing.{counts_stand, get_set, narrow_itself, narrow_set, narrow_into, same_facts}
+use Rattle.sound_code.proofs.Narrowing.{narrow_itself, narrow_set, narrow_into, same_facts}
 use Rattle.fit_laws.proofs.Numbers.{truth_is}
 
 -- ---- types
@@ -88,17 +106,44 @@ simple_settled _ (simple_space c) = settled_space
 simple_settled _ (simple_index c) = settled_number _ numeric_index
 
 -- a name in scope has its shape in its slot
-pub named_at : (params : ℕ) (ss : List Shape) (bs : List Bound) (n : Name) → AreNamed params ss bs → is_bound bs n ≡ true →
-    slice_get ss (slot_at params (bound_to bs n).place) ≡ Some (shape_of (bound_to bs n).static_type)
-named_at params ss [] n a h = absurd (false≢true h)
-named_at params ss (b ∷ bs) n a h = chosen (bytes_eq b.name n) (named_at params ss bs n a.2) h
+pub named_at : (way : Way) (params : ℕ) (ss : List Shape) (bs : List Bound) (n : Name) → AreNamed way params ss bs → is_bound bs n ≡ true →
+    slice_get ss (slot_at params (bound_to bs n).place) ≡ Some (shape_in way params (bound_to bs n).static_type)
+named_at way params ss [] n a h = absurd (false≢true h)
+named_at way params ss (b ∷ bs) n a h = chosen (bytes_eq b.name n) (named_at way params ss bs n a.2) h
   where
     chosen : (c : Bool) →
-        (is_bound bs n ≡ true → slice_get ss (slot_at params (bound_to bs n).place) ≡ Some (shape_of (bound_to bs n).static_type)) →
+        (is_bound bs n ≡ true → slice_get ss (slot_at params (bound_to bs n).place) ≡ Some (shape_in way params (bound_to bs n).static_type)) →
         (c || is_bound bs n) ≡ true →
-        slice_get ss (slot_at params (cond c b (bound_to bs n)).place) ≡ Some (shape_of (cond c b (bound_to bs n)).static_type)
+        slice_get ss (slot_at params (cond c b (bound_to bs n)).place) ≡ Some (shape_in way params (cond c b (bound_to bs n)).static_type)
     chosen true more e = a.1
     chosen false more e = more e
+
+-- a simple type's shape is the same of a name
+pub simple_named : (way : Way) (params : ℕ) (u : StaticType) → IsSimple u → shape_in way params u ≡ shape_of u
+simple_named way params _ (simple_integer w) = refl
+simple_named way params _ simple_truth = refl
+simple_named way params _ (simple_space c) = refl
+simple_named way params _ (simple_index c) = refl
+
+-- a name of a region has one in its slot
+pub region_named : (way : Way) (params : ℕ) (m : Mark) (s : ℕ) (u : StaticType) → IsRegion u → slice_get m.slots s ≡ Some (shape_in way params u) →
+    HasRegion m (Some (space_in u)) s
+region_named way params m s _ (a_region_type k sp args r) e = record { made = is_own way params r; shape = e }
+
+-- a region of a name that has a parameter's number stands in its place
+pub placed_at : (t : TaskCode) (way : Way) (tree : Tree) (params : ℕ) (s : Scope) (n : Name) → Ground t way tree params s → is_bound s.names n ≡ true →
+    InPlace way params (bound_to s.names n).place (bound_to s.names n).static_type
+placed_at t all_made tree params s n g h = tt
+placed_at t (by_rules task) tree params s n g h = among s.names g.placed h
+  where
+    among : (bs : List Bound) → Each (IsPlaced params) bs → is_bound bs n ≡ true → OfType params (bound_to bs n).place (bound_to bs n).static_type
+    among [] a h = absurd (false≢true h)
+    among (b ∷ bs) a h = chosen (bytes_eq b.name n) (among bs a.1) h
+      where
+        chosen : (c : Bool) → (is_bound bs n ≡ true → OfType params (bound_to bs n).place (bound_to bs n).static_type) → (c || is_bound bs n) ≡ true →
+            OfType params (cond c b (bound_to bs n)).place (cond c b (bound_to bs n)).static_type
+        chosen true more e = a.0
+        chosen false more e = more e
 
 -- ---- expressions
 
@@ -109,8 +154,8 @@ converted_at g t k w m _ _ us (two_integers a b) =
     does g t k (stacked m (integer a ∷ us)) (instr.Wrap b) w.line _ (does_wrap b (integer a) us (numeric_integer a))
 converted_at g t k w m _ _ us two_truths = nothing_done g t k _
 
-module _ (g : Program) (t : TaskCode) (k slots : ℕ) (have : HasSlots t slots) (forms : Forms) (plain : forms.takes ≡ None) (w : Where) (m : Mark)
-    (asked : Asked g t k slots w m) where
+module _ (g : Program) (t : TaskCode) (k slots : ℕ) (have : HasSlots t slots) (forms : Forms) (plain : forms.takes ≡ None) (way : Way) (w : Where) (m : Mark)
+    (asked : Asked g t k slots way w m) where
   -- code that leads from one stack to another
   abbrev Goes : List Shape → Piece → List Shape → Type 0
   Goes us p vs = Marked g t k (stacked m us) p (stacked m vs)
@@ -185,95 +230,117 @@ module _ (g : Program) (t : TaskCode) (k slots : ℕ) (have : HasSlots t slots) 
       let ready = asked.ready in
       let high = slot_high w.params (length w.scope.names) ready.low in
       into g t k (both g t k
-      (storing g t k m s (awaited r) (awaited r) us w.line (behind_kept w.params w.scope.names m s ready low)
+      (storing g t k m s (awaited r) (awaited r) us w.line (behind_kept way w.params w.scope.names m s ready low)
       (omega (arith, low, high, asked.params)) hi (λ x v h. h))
       (record {
         marks = _;
         is = typed_op _ _ _ w.line (leads_waiting (set_mark m s (awaited r) us) s r (get_set m.slots s (awaited r) hi) nr
-            (counts_stand w.params (length w.scope.names) _ m.facts ready.facts));
+            (steady_stand w.params (length w.scope.names) _ m.facts ready.facts));
       }))
       (narrow_into t.params (set_mark m s (awaited r) us) m (r ∷ us)
       (narrow_set m.slots m.slots s (awaited r) (narrow_itself m.slots) (inl (ready.free s low hi))) (same_facts _ _ refl))
       (sym (length-set m.slots s (awaited r)))
 
+  -- an access to a field through a name that the rules grant
+  pub touched : (n f : Name) (out : StaticType) (a : Access) → IsField w n f out →
+      May way w.tree w.scope (bound w n).static_type (field_place w.tree (space_in (bound w n).static_type) f) a → (us : List Shape) →
+      Allowed g t (stacked m us) (space_in (bound w n).static_type) (field_place w.tree (space_in (bound w n).static_type) f) (mode_of a) (slot_named w n)
+  touched n f out a field may us = allowed g t w.tree w.params w.scope m asked.params way asked.known asked.ground asked.facts
+      (bound w n).static_type (bound w n).place (field_place w.tree (space_in (bound w n).static_type) f) a us field.region
+      (named_at way w.params m.slots w.scope.names n asked.ready.named field.named) (placed_at t way w.tree w.params w.scope n asked.ground field.named)
+      field.field may
+
   mutual
-    pub expr_marked : (d : ℕ) (e : Expression) (us : List Shape) → IsTyped forms w e → (pc : ℕ) →
+    pub expr_marked : (d : ℕ) (e : Expression) (us : List Shape) → IsTyped (without_pointers forms) w e → Told way w.tree w.scope e → (pc : ℕ) →
         Stands t.body pc (expr_code w d e) → Goes us (expr_code w d e) (shape_of (typed w e) ∷ us)
-    expr_marked d (number_expr z v) us fine pc st = does g t k _ (instr.Num z) w.line _ (does_num z (integer v) us fine)
-    expr_marked d (truth_expr b) us fine pc st = does g t k _ (instr.Num (kept_truth b)) w.line _ (does_num _ truth us (truth_is b))
-    expr_marked d (access_expr x no_step) us fine pc st =
-        let h = named_at w.params m.slots w.scope.names x asked.ready.named fine.0 in
+    expr_marked d (number_expr z v) us fine told pc st = does g t k _ (instr.Num z) w.line _ (does_num z (integer v) us fine)
+    expr_marked d (truth_expr b) us fine told pc st = does g t k _ (instr.Num (kept_truth b)) w.line _ (does_num _ truth us (truth_is b))
+    expr_marked d (access_expr x no_step) us fine told pc st =
+        let h = named_at way w.params m.slots w.scope.names x asked.ready.named fine.0 ∙ ap Some (simple_named way w.params _ fine.1) in
         both g t k (does g t k _ (instr.Load (slot_named w x)) w.line _ (does_load _ _ us h (simple_settled _ fine.1))) (nothing_done g t k _)
-    expr_marked d (access_expr x (at_step e (field_step f no_step))) us fine pc st =
+    expr_marked d (access_expr x (at_step e (field_step f no_step))) us fine told pc st =
         let field = fine.3 in
-        let h = named_at w.params m.slots w.scope.names x asked.ready.named field.named in
-        reads g t k w m asked.known (bound w x).static_type (bound w x).place e f _ d us field.region h fine.1 fine.2
-        field.field field.keeps (λ q s. expr_marked d e us fine.0 q s) pc st
-    expr_marked d (prefix_expr signs e) us fine pc st =
-        both g t k (expr_marked d e us fine.0 pc st.0)
+        let h = named_at way w.params m.slots w.scope.names x asked.ready.named field.named in
+        reads g t k way w m asked.known (bound w x).static_type (bound w x).place e f _ d us field.region
+        (region_named way w.params m (slot_named w x) (bound w x).static_type field.region h) fine.1 fine.2
+        (touched x f _ Read field (may_read w x e f fine.1 field.region t way asked.ground told))
+        field.keeps (λ q s. expr_marked d e us fine.0 (told_element w.tree w.scope way x e f told) q s) pc st
+    expr_marked d (prefix_expr signs e) us fine told pc st =
+        both g t k (expr_marked d e us fine.0 (told_prefix w.tree w.scope way signs e told) pc st.0)
         (both g t k (standing_marked (typed w e) _ (signs_plain _ signs fine.1))
         (subst (λ y. Goes (shape_of (typed w e) ∷ us) (signs_code w (typed w e) signs) (shape_of y ∷ us))
         (sym (signs_keep (typed w e) signs fine.1)) (signs_marked (typed w e) signs us fine.1)))
-    expr_marked d (chain_expr first rest) us fine pc st =
-        both g t k (expr_marked d first us fine.0 pc st.0) (links_marked d (typed w first) rest us fine.1 _ st.1)
-    expr_marked d (call_expr task args) us fine pc st =
+    expr_marked d (chain_expr first rest) us fine told pc st =
+        let parts = told_chain w.tree w.scope way first rest told in
+        both g t k (expr_marked d first us fine.0 parts.0 pc st.0) (links_marked d (typed w first) rest us fine.1 parts.1 _ st.1)
+    expr_marked d (call_expr task args) us fine told pc st =
         let u = task_named w.tree task in
         let place = place_of_task w.tree task in
         let types = param_types w.tree u in
         let same = asked.known.results place u fine.2.0 in
         let nr : Numeric (g.results place) = subst Numeric (sym same) (scalar_numeric _ fine.1) in
         subst (λ y. Goes us (expr_code w d (call_expr task args)) (y ∷ us)) same
-        (both g t k (args_marked d (params_at w.tree w.scope u args) types args us fine.3 pc st.0)
-        (both g t k (calls g t k w asked.known forms plain m task (params_at w.tree w.scope u args) args us fine.2 fine.3)
+        (both g t k (args_marked d (params_at w.tree w.scope u args) types args us fine.3 (told_call w.tree w.scope way task args told) pc st.0)
+        (both g t k (calls g t k way w asked.known forms plain m task (params_at w.tree w.scope u args) args us fine.2 fine.3)
         (awaited_marked (spare w d) (g.results place) us nr (omega arith) (stored _ (spare w d) st.1.1.0))))
-    expr_marked d (convert_expr c e) us fine pc st = both g t k (expr_marked d e us fine.0 pc st.0)
+    expr_marked d (convert_expr c e) us fine told pc st = both g t k (expr_marked d e us fine.0 (told_convert w.tree w.scope way c e told) pc st.0)
         (both g t k (standing_marked (typed w e) _ (number_simple _ fine.1)) (number_marked c (typed w e) us fine.1 fine.2))
-    expr_marked d (space_expr c e) us fine pc st = both g t k (expr_marked d e us fine.0 pc st.0)
+    expr_marked d (space_expr c e) us fine told pc st = both g t k (expr_marked d e us fine.0 (told_space w.tree w.scope way c e told) pc st.0)
         (does g t k (stacked m (shape_of (typed w e) ∷ us)) instr.Space w.line (space ∷ us)
         (does_space _ us (scalar_numeric _ (integer_is_plain _ fine.1))))
-    expr_marked d _ us fine pc st = absurd fine
+    expr_marked d (access_expr x (field_step f no_step)) us fine told pc st = absurd (false≢true fine.0)
+    expr_marked d (access_expr x (at_step e no_step)) us fine told pc st = absurd (false≢true fine.0)
+    expr_marked d (is_null_expr e) us fine told pc st = absurd (false≢true fine.0)
+    expr_marked d (null_expr p) us fine told pc st = absurd (false≢true fine.0)
+    expr_marked d (cast_expr p e) us fine told pc st = absurd (false≢true fine.0)
+    expr_marked d _ us fine told pc st = absurd fine
 
-    pub links_marked : (d : ℕ) (u : StaticType) (ls : Links) (us : List Shape) → AreTypedLinks forms w u ls → (pc : ℕ) →
+    pub links_marked : (d : ℕ) (u : StaticType) (ls : Links) (us : List Shape) → AreTypedLinks (without_pointers forms) w u ls → ToldLinks way w.tree w.scope ls → (pc : ℕ) →
         Stands t.body pc (links_code w d u ls) →
         Goes (shape_of u ∷ us) (links_code w d u ls) (shape_of (linked_type w.tree w.scope u ls) ∷ us)
-    links_marked d u no_link us fine pc st = nothing_done g t k _
-    links_marked d u (a_link Or e rest) us fine pc st =
+    links_marked d u no_link us fine told pc st = nothing_done g t k _
+    links_marked d u (a_link Or e rest) us fine told pc st =
+        let parts = told_link w.tree w.scope way Or e rest told in
         subst (λ y. Goes (y ∷ us) (links_code w d u (a_link Or e rest)) (shape_of (linked_type w.tree w.scope truth_type rest) ∷ us))
         (sym (truth_shape u fine.0))
         (both g t k (or_marked us (expr_code w d e) (subst (λ y. Goes us (expr_code w d e) (y ∷ us))
-        (truth_shape _ fine.1) (expr_marked d e us fine.2 _ st.0.1)))
-        (links_marked d truth_type rest us fine.3 _ st.1))
-    links_marked d u (a_link And e rest) us fine pc st =
+        (truth_shape _ fine.1) (expr_marked d e us fine.2 parts.0 _ st.0.1)))
+        (links_marked d truth_type rest us fine.3 parts.1 _ st.1))
+    links_marked d u (a_link And e rest) us fine told pc st =
+        let parts = told_link w.tree w.scope way And e rest told in
         subst (λ y. Goes (y ∷ us) (links_code w d u (a_link And e rest)) (shape_of (linked_type w.tree w.scope truth_type rest) ∷ us))
         (sym (truth_shape u fine.0))
         (both g t k (and_marked us (expr_code w d e) (subst (λ y. Goes us (expr_code w d e) (y ∷ us))
-        (truth_shape _ fine.1) (expr_marked d e us fine.2 _ st.0.1)))
-        (links_marked d truth_type rest us fine.3 _ st.1))
-    links_marked d u (a_link (Compute c) e rest) us fine pc st =
+        (truth_shape _ fine.1) (expr_marked d e us fine.2 parts.0 _ st.0.1)))
+        (links_marked d truth_type rest us fine.3 parts.1 _ st.1))
+    links_marked d u (a_link (Compute c) e rest) us fine told pc st =
+        let parts = told_link w.tree w.scope way (Compute c) e rest told in
         both g t k (operand_marked false u _ (number_simple u fine.0))
-        (both g t k (expr_marked d e _ fine.2 _ st.1.0)
+        (both g t k (expr_marked d e _ fine.2 parts.0 _ st.1.0)
         (both g t k (operand_marked false (typed w e) _ (number_simple _ fine.1))
         (both g t k (compute_marked c u (typed w e) us fine.0 fine.1)
-        (links_marked d _ rest us fine.3 _ st.1.1.1.1))))
-    links_marked d u (a_link (Compare c) e rest) us fine pc st =
+        (links_marked d _ rest us fine.3 parts.1 _ st.1.1.1.1))))
+    links_marked d u (a_link (Compare c) e rest) us fine told pc st =
+        let parts = told_link w.tree w.scope way (Compare c) e rest told in
         both g t k (operand_marked _ u _ (comparable_first u _ fine.0))
-        (both g t k (expr_marked d e _ fine.1 _ st.1.0)
+        (both g t k (expr_marked d e _ fine.1 parts.0 _ st.1.0)
         (both g t k (operand_marked _ (typed w e) _ (comparable_second u _ fine.0))
         (both g t k (compare_marked c u (typed w e) us fine.0)
-        (links_marked d _ rest us fine.2 _ st.1.1.1.1))))
+        (links_marked d _ rest us fine.2 parts.1 _ st.1.1.1.1))))
 
     -- arguments of parameters of these types
-    pub args_marked : (d : ℕ) (ts ps : List StaticType) (es : Expressions) (us : List Shape) → ArePassed forms w ts ps es →
+    pub args_marked : (d : ℕ) (ts ps : List StaticType) (es : Expressions) (us : List Shape) → ArePassed (without_pointers forms) w ts ps es → ToldArgs way w.tree w.scope es →
         (pc : ℕ) → Stands t.body pc (exprs_code w d ts es) → Goes us (exprs_code w d ts es) (onto (map shape_of ps) us)
-    args_marked d [] [] no_expr us fine pc st = nothing_done g t k _
-    args_marked d (u ∷ ts) (p ∷ ps) (an_expr e es) us fine pc st =
-        given_either forms.takes w u p e (IsTyped forms w e) (Goes us (exprs_code w d (u ∷ ts) (an_expr e es)) (onto (map shape_of (p ∷ ps)) us))
-        (λ alike same is. both g t k (expr_marked d e us is pc st.0)
+    args_marked d [] [] no_expr us fine told pc st = nothing_done g t k _
+    args_marked d (u ∷ ts) (p ∷ ps) (an_expr e es) us fine told pc st =
+        let parts = told_arg w.tree w.scope way e es told in
+        given_either forms.takes w u p e (IsTyped (without_pointers forms) w e) (Goes us (exprs_code w d (u ∷ ts) (an_expr e es)) (onto (map shape_of (p ∷ ps)) us))
+        (λ alike same is. both g t k (expr_marked d e us is parts.0 pc st.0)
         (both g t k (subst (λ y. Goes (shape_of (typed w e) ∷ us) (converted_code w (typed w e) u) (shape_of y ∷ us)) same
         (converted_marked (typed w e) u us alike))
-        (args_marked d ts ps es (shape_of p ∷ us) fine.1 _ st.1.1)))
+        (args_marked d ts ps es (shape_of p ∷ us) fine.1 parts.1 _ st.1.1)))
         (λ y takes h. absurd (none-some y (sym plain ∙ takes))) fine.0
-    args_marked d [] [] (an_expr e es) us fine pc st = absurd fine
-    args_marked d [] (p ∷ ps) es us fine pc st = absurd fine
-    args_marked d (u ∷ ts) [] es us fine pc st = absurd fine
-    args_marked d (u ∷ ts) (p ∷ ps) no_expr us fine pc st = absurd fine
+    args_marked d [] [] (an_expr e es) us fine told pc st = absurd fine
+    args_marked d [] (p ∷ ps) es us fine told pc st = absurd fine
+    args_marked d (u ∷ ts) [] es us fine told pc st = absurd fine
+    args_marked d (u ∷ ts) (p ∷ ps) no_expr us fine told pc st = absurd fine

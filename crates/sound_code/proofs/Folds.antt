@@ -16,17 +16,19 @@ use Rattle.fit_rules.specs.Marks.{Mark, stacked}
 use Rattle.fit_rules.specs.Fits.{Program}
 use Rattle.fit_rules.specs.Sound.{settled_number, does_load, does_compute, does_compare, does_wrap}
 use Rattle.marked_code.specs.Marked.{typed_if}
+use Rattle.fit_laws.proofs.Keeping.{get_other, get_set, set_mark}
+use Rattle.sound_code.specs.Ways.{Way}
 use Rattle.sound_code.specs.Named.{Ready}
-use Rattle.sound_code.proofs.Narrowing.{narrow_itself, narrow_set, narrow_into, get_set, get_other, same_facts}
-use Rattle.sound_code.proofs.Combining.{Keeps, Marked, both, does, into, behind_kept, keeping, set_mark, slot_high, storing}
+use Rattle.sound_code.proofs.Narrowing.{narrow_itself, narrow_set, narrow_into, same_facts}
+use Rattle.sound_code.proofs.Combining.{KeepsNumber, Marked, both, does, into, behind_kept, keeping, slot_high, storing}
 
 abbrev IsAny : Shape → Type 0
 IsAny anything = Unit {0}
 IsAny _ = ⊥
 
-module _ (g : Program) (t : TaskCode) (k : ℕ) (w : Where) (m : Mark) (r : Ready w.params w.scope.names m)
+module _ (g : Program) (t : TaskCode) (k : ℕ) (way : Way) (w : Where) (m : Mark) (r : Ready way w.params w.scope.names m)
     (ep : w.params ≡ t.params) (s : ℕ) (v : Width) (there : slice_get m.slots s ≡ Some (integer v)) (hi : s < length m.slots)
-    (kept : Keeps m s) where
+    (kept : KeepsNumber m s) where
   abbrev V : Shape
   V = integer v
 
@@ -72,7 +74,7 @@ module _ (g : Program) (t : TaskCode) (k : ℕ) (w : Where) (m : Mark) (r : Read
         let taken = both g t k (does g t k (stacked aside []) (instr.Load u) w.line (V ∷ []) (does_load u V [] aside_there settled))
         (keeping g t k aside s V [] w.line kept (numeric_integer v) (omega (arith, hi, long)) kept_there) in
         into g t k (both g t k (wrap_marked a n)
-        (both g t k (storing g t k m u V V [] w.line (behind_kept w.params w.scope.names m u r (omega arith)) (omega (arith, slot_high w.params (length w.scope.names) r.low, ep)) low (λ x y h. h))
+        (both g t k (storing g t k m u V V [] w.line (behind_kept way w.params w.scope.names m u r (omega arith)) (omega (arith, slot_high w.params (length w.scope.names) r.low, ep)) low (λ x y h. h))
         (both g t k (does g t k (stacked aside []) (instr.Load u) w.line (V ∷ []) (does_load u V [] aside_there settled))
         (both g t k (does g t k (stacked aside (V ∷ [])) (instr.Load s) w.line (V ∷ V ∷ []) (does_load s V (V ∷ []) kept_there settled))
         (both g t k (does g t k (stacked aside (V ∷ V ∷ [])) (comparing c false) w.line (truth ∷ [])

@@ -1,8 +1,14 @@
+pub mod Told
+pub mod Grounds
+pub mod Steady
 pub mod Narrowing
 pub mod Combining
 pub mod Asked
 pub mod Elements
 pub mod Calling
+pub mod Declaring
+pub mod Granting
+pub mod Wanting
 pub mod Expressions
 pub mod Statements
 pub mod Rounds
@@ -11,8 +17,12 @@ pub mod SpaceLoops
 pub mod Folds
 pub mod Prints
 pub mod Filling
+pub mod Behind
+pub mod Bindings
 pub mod Blocks
 pub mod Tasks
 pub mod Entries
 pub mod Openings
+pub mod Accepted
+pub mod Rules
 pub mod Example

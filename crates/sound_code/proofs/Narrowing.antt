@@ -1,27 +1,16 @@
 -- Shapes of slots: another one in a slot, and what tells less.
-use Rattle.std.proofs.Common.{◌≡◌, ◌⊎◌, inl, inr, ℕ, zero, suc, ◌<◌, ◌≤◌, ◌+◌, List, [], ◌∷◌, Some, refl, sym, ap, ◌∙◌, subst, arith}
+use Rattle.std.proofs.Common.{◌≡◌, ◌⊎◌, inl, inr, ℕ, zero, suc, ◌<◌, ◌≤◌, List, [], ◌∷◌, Some, refl, sym, ap, ◌∙◌, subst, arith}
 use Rattle.std.specs.Prelude.{slice_get, slice_set, length}
 use Rattle.std.proofs.lemmas.Option.{same_Some}
 use Rattle.regent_tree.specs.declared.typing.Bound.{Bound}
 use Rattle.machine_terms.specs.declared.value.Value.{Value}
 use Rattle.fit_rules.specs.Shapes.{Each, Shape, anything, World, Is, is_anything, Are, are_none, are_more}
-use Rattle.fit_rules.specs.Marks.{AtMost, ColoursStand, Fact, Holds, Mark, Into, size_in, stacked}
-use Rattle.sound_code.specs.Named.{slot_at, AreNamed, IsCount, is_count, Narrower, narrow_none, narrow_same, narrow_any}
+use Rattle.fit_rules.specs.Marks.{Fact, Holds, Mark, Into, stacked}
+use Rattle.fit_laws.proofs.Keeping.{get_other}
+use Rattle.sound_code.specs.Ways.{Way}
+use Rattle.sound_code.specs.Named.{slot_at, AreNamed, Narrower, narrow_none, narrow_same, narrow_any}
 
 -- ---- slots that are set
-
-pub get_set : {A : Type 0} (xs : List A) (i : ℕ) (a : A) → i < length xs → slice_get (slice_set xs i a) i ≡ Some a
-get_set [] i a l = absurd (omega (arith, l))
-get_set (x ∷ xs) zero a l = refl
-get_set (x ∷ xs) (suc i) a l = get_set xs i a (omega (arith, l))
-
-pub get_other : {A : Type 0} (xs : List A) (i j : ℕ) (a : A) → (i ≡ j → ⊥) →
-    slice_get (slice_set xs i a) j ≡ slice_get xs j
-get_other [] i j a n = refl
-get_other (x ∷ xs) zero zero a n = absurd (n refl)
-get_other (x ∷ xs) zero (suc j) a n = refl
-get_other (x ∷ xs) (suc i) zero a n = refl
-get_other (x ∷ xs) (suc i) (suc j) a n = get_other xs i j a (λ e. n (ap suc e))
 
 -- a value of the shape that its slot has
 pub set_kept : (x : World) (ss : List Shape) (vs : List Value) (i : ℕ) (s : Shape) (v : Value) → Are x ss vs →
@@ -80,53 +69,18 @@ narrow_into params m n us h more x vs st s = record {
 pub same_facts : (ks ls : List Fact) → ks ≡ ls → (vs : List Value) → Each (λ k. Holds k vs) ks → Each (λ k. Holds k vs) ls
 same_facts ks ls e vs h = subst (λ y. Each (λ k. Holds k vs) y) e h
 
--- ---- facts of counters
-
--- they stay where another slot is set
-pub counts_kept : (params n : ℕ) (ks : List Fact) (vs : List Value) (s : ℕ) (v : Value) → Each (IsCount params n) ks →
-    ((p : ℕ) → params ≤ p → p < n → (s ≡ slot_at params p + 1 → ⊥) × (s ≡ slot_at params p + 2 → ⊥)) →
-    Each (λ k. Holds k vs) ks → Each (λ k. Holds k (slice_set vs s v)) ks
-counts_kept params n [] vs s v c other h = tt
-counts_kept params n (_ ∷ ks) vs s v (is_count p lo hi, more) other h =
-    let o = other p lo hi in
-    let count = sym (get_other vs s (slot_at params p + 1) v o.0) in
-    let size = sym (get_other vs s (slot_at params p + 2) v o.1) in (
-      subst (λ y. AtMost (size_in (slice_get (slice_set vs s v) (slot_at params p + 2))) y) count
-          (subst (λ y. AtMost (size_in y) (slice_get vs (slot_at params p + 1))) size h.0),
-      counts_kept params n ks vs s v more other h.1,
-    )
-
--- among more names
-pub counts_below : (params n o : ℕ) (ks : List Fact) → n ≤ o → Each (IsCount params n) ks → Each (IsCount params o) ks
-counts_below params n o [] l h = tt
-counts_below params n o (_ ∷ ks) l (is_count p lo hi, more) = (is_count p lo (omega (arith, hi, l)), counts_below params n o ks l more)
-
--- no colour is named by them
-pub counts_stand : (params n : ℕ) (ss : List Shape) (ks : List Fact) → Each (IsCount params n) ks → Each (ColoursStand ss) ks
-counts_stand params n ss [] h = tt
-counts_stand params n ss (_ ∷ ks) (is_count p lo hi, more) = (tt, counts_stand params n ss ks more)
-
--- slots behind those of the names, and those of names, are no counters and no domains
-pub behind_counts : (params n s : ℕ) → slot_at params n ≤ s → (p : ℕ) → params ≤ p → p < n →
-    (s ≡ slot_at params p + 1 → ⊥) × (s ≡ slot_at params p + 2 → ⊥)
-behind_counts params n s h p lo hi = (λ e. omega (arith, h, lo, hi, e), λ e. omega (arith, h, lo, hi, e))
-
-pub between_counts : (params q n : ℕ) → (p : ℕ) → params ≤ p → p < n →
-    (slot_at params q ≡ slot_at params p + 1 → ⊥) × (slot_at params q ≡ slot_at params p + 2 → ⊥)
-between_counts params q n p lo hi = (λ e. omega (arith, lo, e), λ e. omega (arith, lo, e))
-
 -- ---- names
 
 slot_below : (params p q : ℕ) → p < q → slot_at params p < slot_at params q
 slot_below params p q h = omega (arith, h)
 
 -- names keep their shapes where a slot behind theirs is set
-pub named_behind : (params : ℕ) (ss : List Shape) (bs : List Bound) (i : ℕ) (s : Shape) → AreNamed params ss bs →
-    slot_at params (length bs) ≤ i → AreNamed params (slice_set ss i s) bs
-named_behind params ss [] i s a l = tt
-named_behind params ss (b ∷ bs) i s a l =
+pub named_behind : (way : Way) (params : ℕ) (ss : List Shape) (bs : List Bound) (i : ℕ) (s : Shape) → AreNamed way params ss bs →
+    slot_at params (length bs) ≤ i → AreNamed way params (slice_set ss i s) bs
+named_behind way params ss [] i s a l = tt
+named_behind way params ss (b ∷ bs) i s a l =
     let low : slot_at params b.place < i = omega (arith, l, a.0, slot_below params b.place (length (b ∷ bs)) (omega (arith, a.0))) in (
       a.0,
       get_other ss i (slot_at params b.place) s (λ e. omega (arith, e, low)) ∙ a.1,
-      named_behind params ss bs i s a.2 (omega (arith, low, a.0)),
+      named_behind way params ss bs i s a.2 (omega (arith, low, a.0)),
     )

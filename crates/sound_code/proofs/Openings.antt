@@ -17,7 +17,7 @@ use Rattle.code_rules.specs.Instructions.{tasks_of}
 use Rattle.code_rules.specs.Programs.{task_code}
 use Rattle.code_laws.specs.Programs.{AreTypedTasks, IsTypedRun, call_forms, scalar_forms, region_forms}
 use Rattle.code_laws.specs.Standing.{AreTaken, IsOf, of_integer}
-use Rattle.code_laws.specs.Steps.{Forms}
+use Rattle.code_laws.specs.Steps.{Forms, without_pointers}
 use Rattle.code_laws.proofs.ScalarRuns.{scalar_run}
 use Rattle.fit_rules.specs.Shapes.{NumberIs, World, is_number, Are, are_none, are_more}
 use Rattle.fit_rules.specs.Marks.{Mark, Suits}
@@ -28,13 +28,16 @@ use Rattle.task_code.specs.declared.code.TaskCode.{TaskCode}
 use Rattle.fit_laws.proofs.Calls.{opening_fits}
 use Rattle.fit_laws.proofs.Passing.{children_pass}
 use Rattle.fit_laws.proofs.Segments.{children_are_within, no_segment_breaks, partitions_are_sound, segments_keep_fitting, touches_are_covered}
-use Rattle.sound_code.specs.Named.{shape_of}
+use Rattle.fit_rules.specs.Shapes.{Each}
+use Rattle.fit_rules.specs.Marks.{Holds}
+use Rattle.code_laws.specs.Simple.{IsSimple, simple_integer}
+use Rattle.sound_code.specs.Ways.{Way, all_made, opening_facts, shape_in, shape_of}
 use Rattle.sound_code.specs.Programs.{BeginsWell, CallsAreSound, NeverBreaks, entry_place, first_world, RegionTasksAreSound, RunsSoundly, ScalarTasksAreSound, ScalarProgramsAreSound, TasksRunSoundly}
-use Rattle.sound_code.proofs.Asked.{opening_mark}
-use Rattle.sound_code.proofs.Calling.{opening_suits, simples_are, some_body, types_many}
+use Rattle.sound_code.proofs.Asked.{other}
+use Rattle.sound_code.proofs.Calling.{opening_suits, simples_are, simples_named, simples_told, some_body, types_many}
 use Rattle.sound_code.proofs.Entries.{named_there}
 use Rattle.marked_code.proofs.Remarked.{remarked}
-use Rattle.sound_code.proofs.Tasks.{bare, begins, HasMarks, is_at, IsMarked, marks_of, sound_task, Treated, treat}
+use Rattle.sound_code.proofs.Tasks.{bare, begins, first_of, HasMarks, is_at, IsMarked, marks_of, sound_task, Treated, treat}
 
 number_of_type : (t : StaticType) (w : Width) (z : ℤ) → IsOf t (a_number w z) → NumberIs (shape_of t) z
 number_of_type _ _ _ (of_integer w z p) = p
@@ -47,8 +50,17 @@ inputs_are x (t ∷ ts) [] a e = absurd (omega (arith, e))
 inputs_are x (t ∷ ts) (z ∷ zs) a e =
     are_more _ _ _ _ (is_number (shape_of t) z (number_of_type t _ z a.0)) (inputs_are x ts zs a.1 (omega (arith, e)))
 
+-- parameters that are given numbers are simple
+number_simple : (t : StaticType) (w : Width) (z : ℤ) → IsOf t (a_number w z) → IsSimple t
+number_simple _ _ _ (of_integer w z p) = simple_integer w
+
+inputs_simple : (ts : List StaticType) (zs : List ℤ) → AreTaken IsOf ts (inputs_of ts zs) → length zs ≡ length ts → Each IsSimple ts
+inputs_simple [] zs a e = tt
+inputs_simple (t ∷ ts) [] a e = absurd (omega (arith, e))
+inputs_simple (t ∷ ts) (z ∷ zs) a e = (number_simple t _ z a.0, inputs_simple ts zs a.1 (omega (arith, e)))
+
 -- sound code never breaks
-never_breaks : (g : Program) (t : TaskCode) (k : ℕ) → IsSound g t k → NeverBreaks g t k
+pub never_breaks : (g : Program) (t : TaskCode) (k : ℕ) → IsSound g t k → NeverBreaks g t k
 never_breaks g t k sound x b fit = record {
   fits = segments_keep_fitting g x t k b sound fit;
   unbroken = no_segment_breaks g x t k b sound fit;
@@ -57,66 +69,78 @@ never_breaks g t k sound x b fit = record {
   partitions = partitions_are_sound g x t k b sound fit;
 }
 
-module _ (tree : Tree) (lists : ℕ → List Mark) (marked : IsMarked tree lists) where
-  -- a frame that opens with arguments of the parameters' shapes
-  opened : (k : ℕ) (t : TaskTree) → slice_get (tasks_of tree) k ≡ Some t → (x : World) (args : List Value) (turns depth : ℕ) →
-      turns < 2 ^ 64 → Are (called x args) (map shape_of (param_types tree t)) args →
-      Fits (remarked (bare tree) (marks_of tree lists)) (called x args) (task_code tree t) k
+module _ (tree : Tree) (way : Way) (lists : ℕ → List Mark) (marked : IsMarked tree way lists) where
+  -- a frame that opens with arguments of the parameters' shapes, of which holds what is told
+  pub opened : (k : ℕ) (t : TaskTree) → slice_get (tasks_of tree) k ≡ Some t → (x : World) (args : List Value) (turns depth : ℕ) →
+      turns < 2 ^ 64 → Are (called x args) (map (shape_in (other way t) (length t.params)) (param_types tree t)) args →
+      Each (λ c. Holds c args) (opening_facts (other way t) tree t) →
+      Fits (remarked (bare tree way) (marks_of tree way lists)) (called x args) (task_code tree t) k
       (opening_machine turns depth k (task_code tree t) args)
-  opened k t there x args turns depth few a =
-      opening_fits (remarked (bare tree) (marks_of tree lists)) x k (task_code tree t) args turns depth few (some_body tree t)
-      (begins tree lists marked k (task_code tree t) (slice_get-map (task_code tree) (tasks_of tree) k ∙ ap (option_map (task_code tree)) there) (called x args) _ []
-      (subst (λ y. Suits (called x args) (length t.params) (opening_mark tree y)
-      (args ++ replicate ((task_code tree t).slots - length args) (Number (pos 0))) []) (sym (is_at tree k t there))
-      (opening_suits tree t x args a)))
+  opened k t there x args turns depth few a told =
+      opening_fits (remarked (bare tree way) (marks_of tree way lists)) x k (task_code tree t) args turns depth few (some_body tree t)
+      (begins tree way lists marked k (task_code tree t) (slice_get-map (task_code tree) (tasks_of tree) k ∙ ap (option_map (task_code tree)) there) (called x args) _ []
+      (subst (λ y. Suits (called x args) (length t.params) (first_of tree way y)
+      (args ++ replicate ((task_code tree t).slots - length args) (Number (pos 0))) []) (sym (is_at tree way k t there))
+      (opening_suits (other way t) tree t x args a told)))
 
-  begins_well : (forms : Forms) → slice_get (tasks_of tree) (entry_place tree) ≡ Some (task_named tree (entry_name tree)) →
-      BeginsWell forms tree (remarked (bare tree) (marks_of tree lists))
+  -- with numbers, truths, indices and index spaces
+  pub simply_opened : (k : ℕ) (t : TaskTree) → slice_get (tasks_of tree) k ≡ Some t → Each IsSimple (param_types tree t) → (x : World) (args : List Value)
+      (turns depth : ℕ) → turns < 2 ^ 64 → Are x (map shape_of (param_types tree t)) args →
+      Fits (remarked (bare tree way) (marks_of tree way lists)) (called x args) (task_code tree t) k
+      (opening_machine turns depth k (task_code tree t) args)
+  simply_opened k t there simples x args turns depth few a = opened k t there x args turns depth few
+      (subst (λ y. Are (called x args) y args) (sym (simples_named (other way t) (length t.params) (param_types tree t) simples))
+      (simples_are x (called x args) (param_types tree t) args simples a))
+      (simples_told (other way t) tree t x (param_types tree t) args simples a)
+
+  pub begins_well : (forms : Forms) → slice_get (tasks_of tree) (entry_place tree) ≡ Some (task_named tree (entry_name tree)) →
+      BeginsWell forms tree (remarked (bare tree way) (marks_of tree way lists))
   begins_well forms there inputs turns p few =
       let t = task_named tree (entry_name tree) in
-      opened (entry_place tree) t there (first_world []) (map Number inputs) turns 1 few
-      (inputs_are (first_world inputs) (param_types tree t) inputs p.taken (p.count ∙ sym (types_many tree t)))
+      let count = p.count ∙ sym (types_many tree t) in
+      simply_opened (entry_place tree) t there (inputs_simple (param_types tree t) inputs p.taken count) (first_world inputs) (map Number inputs) turns 1 few
+      (inputs_are (first_world inputs) (param_types tree t) inputs p.taken count)
 
 -- ---- programs of one task
 
-module _ (forms : Forms) (plain : forms.takes ≡ None) (tree : Tree) (inputs : List ℤ) (p : IsTypedRun forms tree inputs) where
+module _ (forms : Forms) (plain : forms.takes ≡ None) (tree : Tree) (inputs : List ℤ) (p : IsTypedRun (without_pointers forms) tree inputs) where
   abbrev entry : TaskTree
   entry = task_named tree (entry_name tree)
 
   entry_there : slice_get (tasks_of tree) (entry_place tree) ≡ Some entry
   entry_there = named_there tree (entry_name tree) _ p.start
 
-  entry_marks : HasMarks tree (entry_place tree) entry
-  entry_marks = treat tree forms plain (entry_place tree) entry entry_there p.typed p.small
+  entry_marks : HasMarks tree all_made (entry_place tree) entry
+  entry_marks = treat tree all_made forms plain (entry_place tree) entry entry_there tt tt p.typed p.small
 
   -- the entry task alone has marks
   abbrev entry_alone : ℕ → List Mark
   entry_alone k = cond (k == entry_place tree) entry_marks.marks []
 
-  entry_marked : IsMarked tree entry_alone
+  entry_marked : IsMarked tree all_made entry_alone
   entry_marked k t there = of_test (k == entry_place tree) refl
     where
       of_test : (b : Bool) → k == entry_place tree ≡ b →
-          (cond b entry_marks.marks [] ≡ []) ⊎ Treated tree k t (cond b entry_marks.marks [])
+          (cond b entry_marks.marks [] ≡ []) ⊎ Treated tree all_made k t (cond b entry_marks.marks [])
       of_test false e = inl refl
       of_test true e =
           let same = eqb-true k (entry_place tree) e in
-          inr (subst (λ y. Treated tree k y entry_marks.marks)
+          inr (subst (λ y. Treated tree all_made k y entry_marks.marks)
           (same_Some entry t (sym entry_there ∙ ap (slice_get (tasks_of tree)) (sym same) ∙ there))
-          (subst (λ y. Treated tree y entry entry_marks.marks) (sym same) entry_marks.treated))
+          (subst (λ y. Treated tree all_made y entry entry_marks.marks) (sym same) entry_marks.treated))
 
-  entry_sound : IsSound (remarked (bare tree) (marks_of tree entry_alone)) (task_code tree entry) (entry_place tree)
-  entry_sound = sound_task tree entry_alone entry_marked (entry_place tree) entry entry_there
-      (subst (λ b. Treated tree (entry_place tree) entry (cond b entry_marks.marks [])) (sym (eq-eqb (entry_place tree) (entry_place tree) refl))
+  entry_sound : IsSound (remarked (bare tree all_made) (marks_of tree all_made entry_alone)) (task_code tree entry) (entry_place tree)
+  entry_sound = sound_task tree all_made entry_alone entry_marked (entry_place tree) entry entry_there
+      (subst (λ b. Treated tree all_made (entry_place tree) entry (cond b entry_marks.marks [])) (sym (eq-eqb (entry_place tree) (entry_place tree) refl))
       entry_marks.treated)
 
   one_task : RunsSoundly forms tree
   one_task = record {
-    program = remarked (bare tree) (marks_of tree entry_alone);
+    program = remarked (bare tree all_made) (marks_of tree all_made entry_alone);
     code = refl;
     sound = entry_sound;
     segments = never_breaks _ _ _ entry_sound;
-    begins = begins_well tree entry_alone entry_marked forms entry_there;
+    begins = begins_well tree all_made entry_alone entry_marked forms entry_there;
   }
 
 pub scalar_tasks_are_sound : ScalarTasksAreSound
@@ -130,39 +154,46 @@ scalar_programs_are_sound tree inputs p = scalar_tasks_are_sound tree inputs (sc
 
 -- ---- programs of more tasks
 
-module _ (tree : Tree) (typed : AreTypedTasks tree) where
-  marks_at : (k : ℕ) (t : TaskTree) → slice_get (tasks_of tree) k ≡ Some t → HasMarks tree k t
-  marks_at k t there = let h = typed k t there in treat tree call_forms refl k t there h.typed h.small
-
+module _ (tree : Tree) (way : Way) (marks_at : (k : ℕ) (t : TaskTree) → slice_get (tasks_of tree) k ≡ Some t → HasMarks tree way k t) where
   -- each task has marks
   abbrev chosen : (k : ℕ) (o : Option TaskTree) → slice_get (tasks_of tree) k ≡ o → List Mark
   chosen k None e = []
   chosen k (Some t) e = (marks_at k t e).marks
 
-  abbrev all : ℕ → List Mark
+  abbrev pub all : ℕ → List Mark
   all k = chosen k (slice_get (tasks_of tree) k) refl
 
   chosen_treated : (k : ℕ) (t : TaskTree) (o : Option TaskTree) (e : slice_get (tasks_of tree) k ≡ o) → o ≡ Some t →
-      Treated tree k t (chosen k o e)
+      Treated tree way k t (chosen k o e)
   chosen_treated k t None e q = absurd (none-some t q)
-  chosen_treated k t (Some u) e q = subst (λ y. Treated tree k y (marks_at k u e).marks) (same_Some u t q) (marks_at k u e).treated
+  chosen_treated k t (Some u) e q = subst (λ y. Treated tree way k y (marks_at k u e).marks) (same_Some u t q) (marks_at k u e).treated
 
-  all_treated : (k : ℕ) (t : TaskTree) → slice_get (tasks_of tree) k ≡ Some t → Treated tree k t (all k)
+  all_treated : (k : ℕ) (t : TaskTree) → slice_get (tasks_of tree) k ≡ Some t → Treated tree way k t (all k)
   all_treated k t there = chosen_treated k t (slice_get (tasks_of tree) k) refl there
 
-  all_marked : IsMarked tree all
+  pub all_marked : IsMarked tree way all
   all_marked k t there = inr (all_treated k t there)
+
+  pub all_sound : (k : ℕ) (t : TaskTree) → slice_get (tasks_of tree) k ≡ Some t →
+      IsSound (remarked (bare tree way) (marks_of tree way all)) (task_code tree t) k
+  all_sound k t there = sound_task tree way all all_marked k t there (all_treated k t there)
+
+module _ (tree : Tree) (typed : AreTypedTasks tree) where
+  made_at : (k : ℕ) (t : TaskTree) → slice_get (tasks_of tree) k ≡ Some t → HasMarks tree all_made k t
+  made_at k t there = let h = typed k t there in treat tree all_made call_forms refl k t there tt tt h.typed h.small
+
+  abbrev marks : ℕ → List Mark
+  marks = all tree all_made made_at
 
   all_tasks : TasksRunSoundly tree
   all_tasks = record {
-    program = remarked (bare tree) (marks_of tree all);
+    program = remarked (bare tree all_made) (marks_of tree all_made marks);
     code = refl;
-    sound = λ k t there. sound_task tree all all_marked k t there (all_treated k t there);
-    segments = λ k t there. never_breaks _ _ _ (sound_task tree all all_marked k t there (all_treated k t there));
-    opens = λ k t there simples x args turns depth few a.
-        opened tree all all_marked k t there x args turns depth few (simples_are x (called x args) (param_types tree t) args simples a);
+    sound = all_sound tree all_made made_at;
+    segments = λ k t there. never_breaks _ _ _ (all_sound tree all_made made_at k t there);
+    opens = simply_opened tree all_made marks (all_marked tree all_made made_at);
     begins = λ inputs turns p few.
-        begins_well tree all all_marked call_forms (named_there tree (entry_name tree) _ p.start) inputs turns p few;
+        begins_well tree all_made marks (all_marked tree all_made made_at) call_forms (named_there tree (entry_name tree) _ p.start) inputs turns p few;
   }
 
 pub calls_are_sound : CallsAreSound

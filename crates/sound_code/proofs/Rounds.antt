@@ -6,12 +6,14 @@ use Rattle.std.proofs.lemmas.List.{length-set}
 use Rattle.regent_tree.specs.declared.typing.Bound.{Bound}
 use Rattle.fit_rules.specs.Shapes.{Each, Shape}
 use Rattle.fit_rules.specs.Marks.{Fact, Mark}
-use Rattle.sound_code.specs.Named.{IsCount, shape_of, slot_at, Ready, Narrower}
+use Rattle.fit_laws.proofs.Keeping.{get_other, get_set}
+use Rattle.sound_code.specs.Ways.{Way, shape_in}
+use Rattle.sound_code.specs.Named.{IsSteady, slot_at, Ready, Narrower}
 use Rattle.sound_code.proofs.Combining.{slot_next}
-use Rattle.sound_code.proofs.Narrowing.{get_set, get_other, narrow_itself, narrow_set, named_behind}
+use Rattle.sound_code.proofs.Narrowing.{narrow_itself, narrow_set, named_behind}
 
 -- the shapes of the limit or domain, of the counter and of the variable, and what is known of them
-module _ (params : ℕ) (bs : List Bound) (m : Mark) (r : Ready params bs m) (B C V : Shape) (fs : List Fact) where
+module _ (way : Way) (params : ℕ) (bs : List Bound) (m : Mark) (r : Ready way params bs m) (B C V : Shape) (fs : List Fact) where
   abbrev pub va : ℕ
   va = slot_at params (length bs)
 
@@ -46,16 +48,16 @@ module _ (params : ℕ) (bs : List Bound) (m : Mark) (r : Ready params bs m) (B 
     pub limit_there : slice_get head_mark.slots be ≡ Some B
     limit_there = get_other (slice_set m.slots be B) co be C (λ e. omega (arith, e)) ∙ get_set m.slots be B hi
 
-    pub round_ready : (b : Bound) → b.place ≡ length bs → shape_of b.static_type ≡ V →
-        Each (IsCount params (suc (length bs))) fs → Ready params (b ∷ bs) round_mark
+    pub round_ready : (b : Bound) → b.place ≡ length bs → shape_in way params b.static_type ≡ V →
+        Each (IsSteady params (suc (length bs))) fs → Ready way params (b ∷ bs) round_mark
     round_ready b eb es counts = record {
       named = (
         eb,
         ap (λ y. slice_get round_mark.slots (slot_at params y)) eb
             ∙ get_other (slice_set head_mark.slots va V) co va C (λ e. omega (arith, e))
             ∙ get_set head_mark.slots va V (omega (arith, hi, long_head)) ∙ ap Some (sym es),
-        named_behind params _ bs co C (named_behind params _ bs va V
-            (named_behind params _ bs co C (named_behind params _ bs be B r.named (omega arith)) (omega arith)) (omega arith)) (omega arith),
+        named_behind way params _ bs co C (named_behind way params _ bs va V
+            (named_behind way params _ bs co C (named_behind way params _ bs be B r.named (omega arith)) (omega arith)) (omega arith)) (omega arith),
       );
       free = λ j l h.
           let next = slot_next params (length bs) r.low in

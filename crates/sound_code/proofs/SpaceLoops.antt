@@ -18,10 +18,13 @@ use Rattle.fit_rules.specs.Marks.{Stores, AtMost, counts, Fact, HoldsTop, Mark, 
 use Rattle.fit_rules.specs.Fits.{Program}
 use Rattle.fit_rules.specs.Sound.{RoundPoint}
 use Rattle.marked_code.specs.Marked.{leads_coloured, leads_storing, typed_op, typed_points}
-use Rattle.sound_code.specs.Named.{IsCount, is_count, slot_at, Ready}
+use Rattle.fit_laws.proofs.Keeping.{are_first, are_others, get_other, get_set, set_mark}
+use Rattle.sound_code.specs.Ways.{Way}
+use Rattle.sound_code.proofs.Steady.{steady_below}
+use Rattle.sound_code.specs.Named.{IsSteady, is_count, slot_at, Ready}
 use Rattle.fit_laws.proofs.Lookup.{as_long, value_at, set_at}
-use Rattle.sound_code.proofs.Combining.{are_first, are_others, Marked, both, into, behind_kept, set_mark, slot_high, storing}
-use Rattle.sound_code.proofs.Narrowing.{counts_below, get_set, get_other, narrow_into}
+use Rattle.sound_code.proofs.Combining.{Marked, both, into, behind_kept, slot_high, storing}
+use Rattle.sound_code.proofs.Narrowing.{narrow_into}
 use Rattle.sound_code.proofs.Rounds.{va, co, be, head_mark, round_mark, long_be, long_head, long_round, limit_there, head_narrow}
 
 -- the domain of a point: an index space that has it
@@ -50,7 +53,7 @@ none_yet x _ (value.Region i) vs st (is_space n h) q = absurd q
 none_yet x _ (value.Partition i) vs st (is_space n h) q = absurd q
 none_yet x _ (value.Pending i) vs st (is_space n h) q = absurd q
 
-module _ (g : Program) (t : TaskCode) (k : ℕ) (params : ℕ) (bs : List Bound) (m : Mark) (r : Ready params bs m)
+module _ (g : Program) (t : TaskCode) (k : ℕ) (way : Way) (params : ℕ) (bs : List Bound) (m : Mark) (r : Ready way params bs m)
     (ep : params ≡ t.params) (hi : slot_at params (length bs) + 2 < length m.slots) where
   -- what is known of the counter and the domain, and what was known
   abbrev pub counting : List Fact
@@ -58,32 +61,32 @@ module _ (g : Program) (t : TaskCode) (k : ℕ) (params : ℕ) (bs : List Bound)
 
   -- the slots of the variable, of its counter and of the domain
   abbrev v : ℕ
-  v = va params bs m r space index index counting
+  v = va way params bs m r space index index counting
 
   abbrev c : ℕ
-  c = co params bs m r space index index counting
+  c = co way params bs m r space index index counting
 
   abbrev d : ℕ
-  d = be params bs m r space index index counting
+  d = be way params bs m r space index index counting
 
   -- the marks at the head and in the body
   abbrev pub head : Mark
-  head = head_mark params bs m r space index index counting
+  head = head_mark way params bs m r space index index counting
 
   abbrev pub round : Mark
-  round = round_mark params bs m r space index index counting
+  round = round_mark way params bs m r space index index counting
 
-  pub are_counts : Each (IsCount params (suc (length bs))) counting
-  are_counts = (is_count (length bs) r.low (omega arith), counts_below params (length bs) (suc (length bs)) m.facts (omega arith) r.facts)
+  pub are_counts : Each (IsSteady params (suc (length bs))) counting
+  are_counts = (is_count (length bs) r.low (omega arith), steady_below params (length bs) (suc (length bs)) m.facts (omega arith) r.facts)
 
   rounds_on : RoundPoint g t d c v false (stacked head []) round
   rounds_on x vs st s u i p eu ei ep1 =
-      let o = value_at x head.slots vs d space s.slots (limit_there params bs m r space index index counting hi) in
+      let o = value_at x head.slots vs d space s.slots (limit_there way params bs m r space index index counting hi) in
       let h = has_point x u i p (subst (Is x space) (same_Some _ _ (sym o.at ∙ eu)) o.of) ep1 in
       let high = slot_high params (length bs) r.low in
       let ws = slice_set vs v (value.Number (pos p)) in
       let z = pos i +ℤ pos 1 in
-      let long : length vs ≡ length m.slots = as_long x head.slots vs s.slots ∙ long_head params bs m r space index index counting hi in
+      let long : length vs ≡ length m.slots = as_long x head.slots vs s.slots ∙ long_head way params bs m r space index index counting hi in
       let at_c : slice_get (slice_set ws c (value.Number z)) c ≡ Some (value.Number z) =
       get_set ws c _ (omega (arith, hi, long, length-set vs v (value.Number (pos p)))) in
       let at_d : size_in (slice_get (slice_set ws c (value.Number z)) d) ≡ Some h.size =
@@ -96,7 +99,7 @@ module _ (g : Program) (t : TaskCode) (k : ℕ) (params : ℕ) (bs : List Bound)
         facts = (
           subst (λ y. AtMost y (slice_get (slice_set ws c (value.Number z)) c)) (sym at_d)
               (subst (λ y. AtMost (Some h.size) y) (sym at_c) (suc i, omega (arith, ints), omega (arith, h.low))),
-          behind_kept params bs m c r (omega arith) _ _ (behind_kept params bs m v r (omega arith) vs _ s.facts.1),
+          behind_kept way params bs m c r (omega arith) _ _ (behind_kept way params bs m v r (omega arith) vs _ s.facts.1),
         );
         top = tt;
         args = λ j q. ap region_in (get_other ws c j _ (λ e. omega (arith, e, q, high, ep))
@@ -110,9 +113,9 @@ module _ (g : Program) (t : TaskCode) (k : ℕ) (params : ℕ) (bs : List Bound)
       (stacked m [])
   counted line body f =
       let high = slot_high params (length bs) r.low in
-      let long = long_head params bs m r space index index counting hi in
+      let long = long_head way params bs m r space index index counting hi in
       let o = set_mark m d space [] in
-      both g t k (storing g t k m d space space [] line (behind_kept params bs m d r (omega arith)) (omega (arith, high, ep)) hi (λ x y h. h))
+      both g t k (storing g t k m d space space [] line (behind_kept way params bs m d r (omega arith)) (omega (arith, high, ep)) hi (λ x y h. h))
       (both g t k (record {
         marks = _;
         is = typed_op o (topped o (index ∷ []) (top_colour (the_colour (pos 0)))) (instr.Num (pos 0)) line
@@ -121,14 +124,14 @@ module _ (g : Program) (t : TaskCode) (k : ℕ) (params : ℕ) (bs : List Bound)
       (both g t k (record {
         marks = _;
         is = typed_op (topped o (index ∷ []) (top_colour (the_colour (pos 0)))) head (instr.Store c) line
-            (leads_storing _ head c index [] refl (omega (arith, hi, long_be params bs m r space index index counting hi)) begun
+            (leads_storing _ head c index [] refl (omega (arith, hi, long_be way params bs m r space index index counting hi)) begun
             (length-set o.slots c index));
       })
       (into g t k (record {
         marks = _;
         is = typed_points (stacked head []) round d c v false line body _ (inl refl) (omega (arith, hi, long)) rounds_on
-            (long_round params bs m r space index index counting hi ∙ sym long) f.is;
-      }) (narrow_into t.params head m [] (head_narrow params bs m r space index index counting hi) (λ vs h. h.1)) (sym long))))
+            (long_round way params bs m r space index index counting hi ∙ sym long) f.is;
+      }) (narrow_into t.params head m [] (head_narrow way params bs m r space index index counting hi) (λ vs h. h.1)) (sym long))))
     where
       begun : Stores t.params (topped (set_mark m d space []) (index ∷ []) (top_colour (the_colour (pos 0)))) c head
       begun x vs st y q =
@@ -143,7 +146,7 @@ module _ (g : Program) (t : TaskCode) (k : ℕ) (params : ℕ) (bs : List Bound)
               subst (λ z. AtMost (size_in (slice_get (slice_set vs c y) d)) z) (sym (get_set vs c y (omega (arith, hi, long))))
                   (subst (λ z. AtMost z (Some y)) (sym (ap size_in (get_other vs c d y (λ e. omega (arith, e)) ∙ u.at)))
                   (none_yet x u.value y vs st u.of q.top.0)),
-              behind_kept params bs m c r (omega arith) vs y q.facts,
+              behind_kept way params bs m c r (omega arith) vs y q.facts,
             );
             top = tt;
             args = λ j h. ap region_in (get_other vs c j y (λ e. omega (arith, e, h, high, ep))) ∙ q.args j h;

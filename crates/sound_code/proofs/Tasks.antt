@@ -1,7 +1,7 @@
 -- The code that tasks are compiled to is sound, with marks that are chosen task by task.
 use Rattle.std.proofs.Common.{◌≡◌, ◌⊎◌, ⊎_elim, ℕ, zero, suc, ◌<◌, ◌≤◌, ◌-◌, ◌^◌, List, [], ◌∷◌, ◌++◌, map, Option, Some, None, refl, sym, ap, ◌∙◌, subst, arith, append_assoc, length-append}
 use Rattle.std.specs.Prelude.{length, get_or, option_map, replicate, slice_get}
-use Rattle.std.proofs.lemmas.List.{length-map, length-replicate}
+use Rattle.std.proofs.lemmas.List.{append-nil, length-map, length-replicate}
 use Rattle.std.proofs.lemmas.Option.{get_or_from_slice_get, none-some, same_Some, slice_get-map}
 use Rattle.regent_tree.specs.declared.typing.Bound.{Bound}
 use Rattle.regent_tree.specs.declared.typing.StaticType.{StaticType}
@@ -15,7 +15,7 @@ use Rattle.code_rules.specs.Pieces.{lines}
 use Rattle.code_rules.specs.Programs.{body_piece, code_of, task_code, place_of}
 use Rattle.code_rules.specs.Statements.{block_code}
 use Rattle.code_laws.specs.Programs.{task_setting}
-use Rattle.code_laws.specs.Steps.{Forms}
+use Rattle.code_laws.specs.Steps.{Forms, without_pointers}
 use Rattle.code_laws.specs.Typed.{IsTypedBlock}
 use Rattle.code_laws.proofs.Openings.{AreFrom, fits_slots, least_slots, params_from, params_length, types_in, types_cons, types_length}
 use Rattle.code_laws.proofs.Places.{stands_alone}
@@ -24,10 +24,14 @@ use Rattle.fit_rules.specs.Marks.{Into, Mark, stacked}
 use Rattle.fit_rules.specs.Fits.{Program}
 use Rattle.fit_rules.specs.Sound.{IsSound}
 use Rattle.marked_code.specs.Marked.{Typed}
-use Rattle.sound_code.specs.Named.{shape_of, slot_at, AreNamed, HasSlots, Ready}
-use Rattle.sound_code.proofs.Asked.{opening_mark, Known}
+use Rattle.sound_code.specs.Named.{slot_at, AreNamed, HasSlots, Ready}
+use Rattle.sound_code.specs.Ways.{Way, all_made, by_rules, opening_facts, shape_in, shape_of}
+use Rattle.sound_code.proofs.Grounds.{Ground, HasFacts}
+use Rattle.sound_code.proofs.Steady.{steady_below}
+use Rattle.sound_code.proofs.Told.{ToldBlock}
+use Rattle.sound_code.proofs.Asked.{opening_mark, other, Known}
 use Rattle.sound_code.proofs.Blocks.{block_marked}
-use Rattle.sound_code.proofs.Calling.{types_many}
+use Rattle.sound_code.proofs.Calling.{opening_steady, types_many}
 use Rattle.marked_code.proofs.Firsts.{begins_with}
 use Rattle.marked_code.specs.Bodies.{MarksAt}
 use Rattle.marked_code.proofs.Placed.{long_marks}
@@ -36,22 +40,23 @@ use Rattle.marked_code.proofs.Validity.{valid_of}
 
 -- ---- the mark in which a body begins
 
-at_seam : (xs ys : List StaticType) (y : StaticType) (zs : List Shape) →
-    slice_get (map shape_of (xs ++ y ∷ ys) ++ zs) (length xs) ≡ Some (shape_of y)
-at_seam [] ys y zs = refl
-at_seam (x ∷ xs) ys y zs = at_seam xs ys y zs
+at_seam : (f : StaticType → Shape) (xs ys : List StaticType) (y : StaticType) (zs : List Shape) →
+    slice_get (map f (xs ++ y ∷ ys) ++ zs) (length xs) ≡ Some (f y)
+at_seam f [] ys y zs = refl
+at_seam f (x ∷ xs) ys y zs = at_seam f xs ys y zs
 
-named_open : (params : ℕ) (bs : List Bound) (more : List StaticType) (blanks : List Shape) → AreFrom 0 bs →
-    length bs ≤ params → AreNamed params (map shape_of (types_in bs ++ more) ++ blanks) bs
-named_open params [] more blanks a l = tt
-named_open params (b ∷ bs) more blanks a l =
+named_open : (way : Way) (params : ℕ) (bs : List Bound) (more : List StaticType) (blanks : List Shape) → AreFrom 0 bs →
+    length bs ≤ params → AreNamed way params (map (shape_in way params) (types_in bs ++ more) ++ blanks) bs
+named_open way params [] more blanks a l = tt
+named_open way params (b ∷ bs) more blanks a l =
+    let f = shape_in way params in
     let eq : types_in (b ∷ bs) ++ more ≡ types_in bs ++ b.static_type ∷ more =
     ap (λ ts. ts ++ more) (types_cons b bs) ∙ append_assoc (types_in bs) (b.static_type ∷ []) more in
     let place : slot_at params b.place ≡ length (types_in bs) = omega (arith, a.0, l, types_length bs) in
-    subst (λ ts. AreNamed params (map shape_of ts ++ blanks) (b ∷ bs)) (sym eq) (
+    subst (λ ts. AreNamed way params (map f ts ++ blanks) (b ∷ bs)) (sym eq) (
       omega (arith, a.0),
-      ap (slice_get (map shape_of (types_in bs ++ b.static_type ∷ more) ++ blanks)) place ∙ at_seam (types_in bs) more b.static_type blanks,
-      named_open params bs (b.static_type ∷ more) blanks a.1 (omega (arith, l)),
+      ap (slice_get (map f (types_in bs ++ b.static_type ∷ more) ++ blanks)) place ∙ at_seam f (types_in bs) more b.static_type blanks,
+      named_open way params bs (b.static_type ∷ more) blanks a.1 (omega (arith, l)),
     )
 
 free_behind : (ss : List Shape) (n s : ℕ) → length ss ≤ s → s < length (ss ++ replicate n anything) →
@@ -62,40 +67,52 @@ free_behind [] (suc n) (suc s) h l = free_behind [] n s (omega arith) (omega (ar
 free_behind (x ∷ ss) n zero h l = absurd (omega (arith, h))
 free_behind (x ∷ ss) n (suc s) h l = free_behind ss n s (omega (arith, h)) (omega (arith, l))
 
-append_none : {A : Type 0} (xs : List A) → xs ++ [] ≡ xs
-append_none [] = refl
-append_none (x ∷ xs) = ap (λ l. x ∷ l) (append_none xs)
+-- tasks are looked at in the same way from each other
+other_same : (way : Way) (t u : TaskTree) → other (other way t) u ≡ other way u
+other_same all_made t u = refl
+other_same (by_rules task) t u = refl
 
 module _ (tree : Tree) where
   names_many : (t : TaskTree) → length (scope_of tree t).names ≡ length t.params
   names_many t = params_length tree t.params 0 t.params
 
-  slots_many : (t : TaskTree) → length (opening_mark tree t).slots ≡ (task_code tree t).slots
-  slots_many t =
+  slots_many : (way : Way) (t : TaskTree) → length (opening_mark way tree t).slots ≡ (task_code tree t).slots
+  slots_many way t =
       let blanks = (task_code tree t).slots - length t.params in
-      length-append (map shape_of (param_types tree t)) (replicate blanks anything)
+      length-append (map (shape_in way (length t.params)) (param_types tree t)) (replicate blanks anything)
       ∙ omega (
         arith,
-        length-map (param_types tree t) shape_of,
+        length-map (param_types tree t) (shape_in way (length t.params)),
         length-replicate blanks anything,
         types_many tree t,
         least_slots (length t.params) (task_code tree t).body,
       )
 
-  opening_ready : (t : TaskTree) → Ready (length t.params) (scope_of tree t).names (opening_mark tree t)
-  opening_ready t =
-      let blanks = (task_code tree t).slots - length t.params in
+  opening_ready : (way : Way) (t : TaskTree) → Ready way (length t.params) (scope_of tree t).names (opening_mark way tree t)
+  opening_ready way t =
+      let n = length t.params in
+      let blanks = (task_code tree t).slots - n in
+      let f = shape_in way n in
       record {
-        named = subst (λ y. AreNamed (length t.params) (map shape_of y ++ replicate blanks anything) (scope_of tree t).names)
-            (append_none (param_types tree t)) (named_open (length t.params) (scope_of tree t).names [] (replicate blanks anything)
+        named = subst (λ y. AreNamed way n (map f y ++ replicate blanks anything) (scope_of tree t).names)
+            (append-nil (param_types tree t)) (named_open way n (scope_of tree t).names [] (replicate blanks anything)
             (params_from tree t.params 0 t.params) (omega (arith, names_many t)));
-        free = λ s h l. free_behind (map shape_of (param_types tree t)) blanks s
-            (omega (arith, h, names_many t, length-map (param_types tree t) shape_of, types_many tree t)) l;
-        facts = tt;
+        free = λ s h l. free_behind (map f (param_types tree t)) blanks s
+            (omega (arith, h, names_many t, length-map (param_types tree t) f, types_many tree t)) l;
+        facts = steady_below n n (length (scope_of tree t).names) (opening_facts way tree t) (omega (arith, names_many t)) (opening_steady way tree t);
         low = omega (arith, names_many t);
       }
 
-  -- ---- the program before marks are chosen
+-- ---- the program before marks are chosen
+
+facts_open : (way : Way) (tree : Tree) (t : TaskTree) → HasFacts (other way t) tree (opening_facts (other way t) tree t)
+facts_open all_made tree t = tt
+facts_open (by_rules task) tree t = λ k a. a
+
+module _ (tree : Tree) (way : Way) where
+  -- the mark in which a task begins
+  abbrev pub first_of : TaskTree → Mark
+  first_of t = opening_mark (other way t) tree t
 
   abbrev pub task_at : ℕ → TaskTree
   task_at k = get_or (tasks_of tree) k no_task
@@ -105,17 +122,17 @@ module _ (tree : Tree) where
     code = code_of tree;
     positions = λ sp f. 0;
     results = λ k. shape_of (result_type tree (task_at k).result);
-    marks = λ k pc. opening_mark tree (task_at k);
+    marks = λ k pc. first_of (task_at k);
   }
 
   pub is_at : (k : ℕ) (t : TaskTree) → slice_get (tasks_of tree) k ≡ Some t → task_at k ≡ t
   is_at k t e = get_or_from_slice_get (tasks_of tree) k t no_task e
 
-  bare_known : Known bare tree
-  bare_known = record {
+  bare_known : (t : TaskTree) → Known (other way t) bare tree
+  bare_known t = record {
     code = refl;
     results = λ k t e. ap (λ y. shape_of (result_type tree y.result)) (is_at k t e);
-    begins = λ k t e. ap (opening_mark tree) (is_at k t e);
+    begins = λ k u e. ap first_of (is_at k u e) ∙ ap (λ y. opening_mark y tree u) (sym (other_same way t u));
   }
 
   -- marks of a task's body, and of the place behind it
@@ -123,7 +140,7 @@ module _ (tree : Tree) where
     pub front : List Mark
     pub last : Mark
     pub are : ms ≡ front ++ last ∷ []
-    pub typed : Typed bare (task_code tree t) k (opening_mark tree t) (block_code (place_of tree t) t.body) front last
+    pub typed : Typed bare (task_code tree t) k (first_of t) (block_code (place_of tree t) t.body) front last
     pub small : length (task_code tree t).body ≤ 2 ^ 32
 
   pub record HasMarks (k : ℕ) (t : TaskTree) : Type 0 where
@@ -131,19 +148,22 @@ module _ (tree : Tree) where
     pub treated : Treated k t marks
 
   pub treat : (forms : Forms) (plain : forms.takes ≡ None) (k : ℕ) (t : TaskTree) → slice_get (tasks_of tree) k ≡ Some t →
-      IsTypedBlock forms (place_of tree t) t.body → length (lines (body_piece tree t) 0) ≤ 2 ^ 32 → HasMarks k t
-  treat forms plain k t there typed small =
+      Ground (task_code tree t) (other way t) tree (length t.params) (scope_of tree t) → ToldBlock (other way t) tree (scope_of tree t) t.body →
+      IsTypedBlock (without_pointers forms) (place_of tree t) t.body → length (lines (body_piece tree t) 0) ≤ 2 ^ 32 → HasMarks k t
+  treat forms plain k t there ground told typed small =
       let code = task_code tree t in
-      let m = opening_mark tree t in
+      let m = first_of t in
       let have : HasSlots code code.slots = fits_slots (task_setting forms tree 0 0 0 [] t) tree t refl in
-      let f = block_marked bare code k code.slots have forms plain (place_of tree t) m t.body typed
+      let f = block_marked bare code k code.slots have forms plain (other way t) (place_of tree t) m t.body typed
       (record {
-        ready = opening_ready t;
+        ready = opening_ready tree (other way t) t;
         params = refl;
         result = ap (λ y. shape_of (result_type tree y.result)) (is_at k t there);
-        room = slots_many t;
-        known = bare_known;
-      }) 0 (stands_alone (body_piece tree t) small).0 in
+        room = slots_many tree (other way t) t;
+        known = bare_known t;
+        ground = ground;
+        facts = facts_open way tree t;
+      }) told 0 (stands_alone (body_piece tree t) small).0 in
       record {
         marks = f.is.marks ++ stacked f.next [] ∷ [];
         treated = record { front = f.is.marks; last = stacked f.next []; are = refl; typed = f.is.is; small = small };
@@ -153,7 +173,7 @@ module _ (tree : Tree) where
 
   -- the marks of each task: those of a list, and else the one in which it begins
   abbrev pub marks_of : (ℕ → List Mark) → ℕ → ℕ → Mark
-  marks_of lists k pc = get_or (lists k) pc (opening_mark tree (task_at k))
+  marks_of lists k pc = get_or (lists k) pc (first_of (task_at k))
 
   -- a task has marks, or none
   abbrev pub IsMarked : (ℕ → List Mark) → Type 0
@@ -176,13 +196,13 @@ module _ (tree : Tree) where
   begins lists marked k callee e =
       let o = task_of k callee e in
       ⊎_elim
-      (λ none. subst (λ ms. Into callee.params (opening_mark tree (task_at k)) (get_or ms 0 (opening_mark tree (task_at k)))) (sym none)
+      (λ none. subst (λ ms. Into callee.params (first_of (task_at k)) (get_or ms 0 (first_of (task_at k)))) (sym none)
       (λ x vs st s. s))
-      (λ (h : Treated k o.task (lists k)). subst (λ (c : TaskCode). Into c.params (opening_mark tree (task_at k)) (marks_of lists k 0)) o.is
-      (subst (λ ms. Into (task_code tree o.task).params (opening_mark tree (task_at k)) (get_or ms 0 (opening_mark tree (task_at k)))) (sym h.are)
-      (subst (λ y. Into (task_code tree o.task).params y (get_or (h.front ++ h.last ∷ []) 0 (opening_mark tree (task_at k))))
-      (ap (opening_mark tree) (sym (is_at k o.task o.there)))
-      (begins_with bare (task_code tree o.task) k (opening_mark tree (task_at k)) (opening_mark tree o.task) _ h.front h.last h.typed))))
+      (λ (h : Treated k o.task (lists k)). subst (λ (c : TaskCode). Into c.params (first_of (task_at k)) (marks_of lists k 0)) o.is
+      (subst (λ ms. Into (task_code tree o.task).params (first_of (task_at k)) (get_or ms 0 (first_of (task_at k)))) (sym h.are)
+      (subst (λ y. Into (task_code tree o.task).params y (get_or (h.front ++ h.last ∷ []) 0 (first_of (task_at k))))
+      (ap (first_of) (sym (is_at k o.task o.there)))
+      (begins_with bare (task_code tree o.task) k (first_of (task_at k)) (first_of o.task) _ h.front h.last h.typed))))
       (marked k o.task o.there)
 
   -- a mark of a list, or the other one
@@ -202,19 +222,19 @@ module _ (tree : Tree) where
   sound_task lists marked k t there h =
       let code = task_code tree t in
       let g = remarked bare (marks_of lists) in
-      let m = opening_mark tree t in
+      let m = first_of t in
       let p = block_code (place_of tree t) t.body in
       let typed = typed_remarked bare code k (marks_of lists) (begins lists marked) m p h.front h.last h.typed in
       let listed : MarksAt g k 0 (h.front ++ h.last ∷ []) =
-      marks_listed g code k (opening_mark tree (task_at k)) [] (h.front ++ h.last ∷ [])
-      (λ pc. ap (λ l. get_or l pc (opening_mark tree (task_at k))) h.are) in
-      let long = long_marks g code k code.slots m p h.front h.last typed (slots_many t) in
-      let first : length (opening_mark tree (task_at k)).slots ≡ code.slots =
-      ap (λ y. length (opening_mark tree y).slots) (is_at k t there) ∙ slots_many t in
+      marks_listed g code k (first_of (task_at k)) [] (h.front ++ h.last ∷ [])
+      (λ pc. ap (λ l. get_or l pc (first_of (task_at k))) h.are) in
+      let long = long_marks g code k code.slots m p h.front h.last typed (slots_many tree (other way t) t) in
+      let first : length (first_of (task_at k)).slots ≡ code.slots =
+      ap (λ y. length (first_of y).slots) (is_at k t there) ∙ slots_many tree (other way t) t in
       record {
         there = slice_get-map (task_code tree) (tasks_of tree) k ∙ ap (option_map (task_code tree)) there;
         short = h.small;
         valid = valid_of g code k m h.last p 0 h.front typed refl h.small listed;
-        slots = λ pc. long_at code.slots (lists k) (opening_mark tree (task_at k)) pc
+        slots = λ pc. long_at code.slots (lists k) (first_of (task_at k)) pc
             (subst (Each (λ y. length y.slots ≡ code.slots)) (sym h.are) (long_last code.slots h.front h.last long.each long.last)) first;
       }

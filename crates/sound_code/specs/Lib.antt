@@ -1,3 +1,4 @@
+pub mod Ways
 pub mod Named
 pub mod Programs
 pub mod Example

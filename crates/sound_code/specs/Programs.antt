@@ -1,5 +1,5 @@
 -- Compiled code is sound, and the frames that open in it fit.
-use Rattle.std.specs.Prelude.{◌≡◌, ◌≢◌, ℕ, ◌<◌, ◌^◌, ℤ, List, [], map, Bool, false, true, Some, slice_get}
+use Rattle.std.specs.Prelude.{◌≡◌, ◌≢◌, ℕ, ◌<◌, ◌^◌, ℤ, List, [], length, map, Bool, false, true, Some, slice_get}
 use Rattle.regent_tree.specs.StaticTypes.{entry_name, task_named}
 use Rattle.regent_tree.specs.Syntax.{TaskTree, Tree}
 use Rattle.regent_tree.specs.Typing.{param_types}
@@ -22,12 +22,14 @@ use Rattle.code_laws.specs.Programs.{AreTypedTasks, IsTypedRun, call_forms, job_
 use Rattle.code_laws.specs.ScalarPrograms.{IsScalarProgramRun}
 use Rattle.code_laws.specs.Simple.{IsSimple}
 use Rattle.code_laws.specs.Steps.{Forms}
-use Rattle.fit_rules.specs.Shapes.{anything, Are, Each, World}
+use Rattle.fit_rules.specs.Shapes.{anything, Are, Each, Shape, World}
 use Rattle.fit_rules.specs.Ends.{AfterFits, called, CallsWell, opening_machine}
 use Rattle.fit_rules.specs.Fits.{BeforeFits, Covers, Fits, Program}
 use Rattle.fit_rules.specs.Sound.{IsSound}
 use Rattle.fit_laws.specs.Segments.{PassesTest}
-use Rattle.sound_code.specs.Named.{shape_of}
+use Rattle.check_rules.specs.Breaches.{breaches}
+use Rattle.fit_rules.specs.Marks.{Holds}
+use Rattle.sound_code.specs.Ways.{by_rules, opening_facts, shape_in, shape_of}
 
 -- the entry task's code
 abbrev pub entry_code : Tree → TaskCode
@@ -106,3 +108,30 @@ pub record TasksRunSoundly (tree : Tree) : Type 0 where
 -- where each task is typed, and tasks call others that take and give numbers and truths
 abbrev pub CallsAreSound : Type 0
 CallsAreSound = (tree : Tree) → AreTypedTasks tree → TasksRunSoundly tree
+
+-- ---- by the rules
+
+-- the shapes of a task's arguments, where its regions are given to it
+abbrev pub argument_shapes : Tree → TaskTree → List Shape
+argument_shapes tree t = map (shape_in (by_rules t) (length t.params)) (param_types tree t)
+
+-- what a task's clauses tell of its arguments holds of them
+abbrev pub AreConstrained : Tree → TaskTree → List Value → Type 0
+AreConstrained tree t args = Each (λ f. Holds f args) (opening_facts (by_rules t) tree t)
+
+-- The code of each task is sound and so never breaks. The frame of a task fits when it opens with any values of its
+-- parameters' types, regions among them, of which its constraints hold, around any roots, at any depth and with any
+-- turns; and its run begins well.
+pub record TasksKeepRules (tree : Tree) : Type 0 where
+  pub program : Program
+  pub code : program.code ≡ code_of tree
+  pub sound : (k : ℕ) (t : TaskTree) → slice_get (tasks_of tree) k ≡ Some t → IsSound program (task_code tree t) k
+  pub segments : (k : ℕ) (t : TaskTree) → slice_get (tasks_of tree) k ≡ Some t → NeverBreaks program (task_code tree t) k
+  pub opens : (k : ℕ) (t : TaskTree) → slice_get (tasks_of tree) k ≡ Some t → (x : World) (args : List Value) (turns depth : ℕ) →
+      turns < 2 ^ 64 → Are (called x args) (argument_shapes tree t) args → AreConstrained tree t args →
+      Fits program (called x args) (task_code tree t) k (opening_machine turns depth k (task_code tree t) args)
+  pub begins : BeginsWell call_forms tree program
+
+-- where no rule is breached and each task is typed: tasks may take regions, with privileges and constraints on them
+abbrev pub AcceptedTasksAreSound : Type 0
+AcceptedTasksAreSound = (tree : Tree) → breaches tree ≡ [] → AreTypedTasks tree → TasksKeepRules tree

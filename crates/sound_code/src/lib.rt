@@ -4,7 +4,7 @@
 #![tactic(auto)]
 
 ghost use Rattle.sound_code.specs.Example.{CodeExampleHolds};
-ghost use Rattle.sound_code.specs.Programs.{CallsAreSound, RegionTasksAreSound, ScalarProgramsAreSound, ScalarTasksAreSound};
+ghost use Rattle.sound_code.specs.Programs.{AcceptedTasksAreSound, CallsAreSound, RegionTasksAreSound, ScalarProgramsAreSound, ScalarTasksAreSound};
 
 /// Where the entry task's body is typed and treats scalars alone, its code is sound, and the frame in which
 /// its run begins fits, whatever its inputs and turns; and so it is of each accepted program over scalars.
@@ -25,6 +25,13 @@ pub fn region_code_is_sound()
 #[tactic(auto, using(crate::proofs::Openings::calls_are_sound))]
 pub fn code_with_calls_is_sound()
     ensures { CallsAreSound }
+{}
+
+/// Where no rule is breached, tasks may also take regions, with privileges and constraints on them: the code of each is
+/// sound, and its frame fits when it opens with regions of which the constraints hold.
+#[tactic(auto, using(crate::proofs::Rules::accepted_tasks_are_sound))]
+pub fn accepted_code_is_sound()
+    ensures { AcceptedTasksAreSound }
 {}
 
 /// A program with roots and calls of which each premise holds, and a run that begins in it.

@@ -1,0 +1,99 @@
+-- Names in lists, steps of accesses, tests one after the other, and the arms of an `if`.
+use Rattle.std.proofs.Common.{◌≡◌, ℕ, ◌+◌, ◌≤◌, ◌<◌, Bool, true, false, List, [], ◌∷◌, refl, ap, sym, ◌∙◌, arith, length, drop, get_or, map}
+use Rattle.std.specs.Prelude.{◌&&◌, ◌||◌}
+use Rattle.std.specs.List.{list_any}
+use Rattle.std.proofs.Math.Bool.{and_assoc}
+use Rattle.std.proofs.lemmas.List.{drop_more}
+use Rattle.regent_tree.specs.declared.expression.Step.{Step, Field, At}
+use Rattle.regent_tree.specs.declared.statement.Arm.{Arm, out-Arm}
+use Rattle.regent_tree.specs.declared.statement.How.{How}
+use Rattle.regent_tree.specs.Plain.{expression_of, steps_in}
+use Rattle.regent_tree.specs.PlainProgram.{arms_in, block_in}
+use Rattle.regent_tree.specs.Syntax.{Expression, Name, access_expr, assign_form}
+use Rattle.regent_tree.proofs.Rows.{arm_read}
+use Rattle.local_form.specs.LocalForm.{Marked, are_local_arms, is_local_block, is_local_expression, is_local_form, marked_by_arms, marked_in}
+use Rattle.local_form.specs.Seen.{is_local_arm}
+
+pub list_any-map : {A B : Type 0} (p : B → Bool) (f : A → B) (xs : List A) → list_any p (map f xs) ≡ list_any (λ x. p (f x)) xs
+list_any-map p f [] = refl
+list_any-map p f (x ∷ xs) = ap (λ b. p (f x) || b) (list_any-map p f xs)
+
+-- ---- accesses that are no field at a point
+
+pub one_step : (m : Marked) (n : Name) (steps : List Step) → 1 ≤ length steps → length steps < 2 → false ≡ is_local_expression m (access_expr n (steps_in steps))
+one_step m n [] some few = absurd (omega (arith, some))
+one_step m n (Field f ∷ rest) some few = refl
+one_step m n (At e ∷ []) some few = refl
+one_step m n (At e ∷ step ∷ rest) some few = absurd (omega (arith, few))
+
+pub three_steps : (m : Marked) (n : Name) (steps : List Step) → 3 ≤ length steps → false ≡ is_local_expression m (access_expr n (steps_in steps))
+three_steps m n [] many = absurd (omega (arith, many))
+three_steps m n (Field f ∷ rest) many = refl
+three_steps m n (At e ∷ []) many = absurd (omega (arith, many))
+three_steps m n (At e ∷ At d ∷ rest) many = refl
+three_steps m n (At e ∷ Field f ∷ []) many = absurd (omega (arith, many))
+three_steps m n (At e ∷ Field f ∷ Field g ∷ rest) many = refl
+three_steps m n (At e ∷ Field f ∷ At d ∷ rest) many = refl
+
+-- the same of what is assigned to
+pub one_step_assigned : (m : Marked) (n : Name) (steps : List Step) (h : How) (e : Expression) → 1 ≤ length steps → length steps < 2 →
+    false ≡ is_local_form m (assign_form n (steps_in steps) h e)
+one_step_assigned m n [] h e some few = absurd (omega (arith, some))
+one_step_assigned m n (Field f ∷ rest) h e some few = refl
+one_step_assigned m n (At d ∷ []) h e some few = refl
+one_step_assigned m n (At d ∷ step ∷ rest) h e some few = absurd (omega (arith, few))
+
+pub three_steps_assigned : (m : Marked) (n : Name) (steps : List Step) (h : How) (e : Expression) → 3 ≤ length steps →
+    false ≡ is_local_form m (assign_form n (steps_in steps) h e)
+three_steps_assigned m n [] h e many = absurd (omega (arith, many))
+three_steps_assigned m n (Field f ∷ rest) h e many = refl
+three_steps_assigned m n (At d ∷ []) h e many = absurd (omega (arith, many))
+three_steps_assigned m n (At d ∷ At c ∷ rest) h e many = refl
+three_steps_assigned m n (At d ∷ Field f ∷ []) h e many = absurd (omega (arith, many))
+three_steps_assigned m n (At d ∷ Field f ∷ Field g ∷ rest) h e many = refl
+three_steps_assigned m n (At d ∷ Field f ∷ At c ∷ rest) h e many = refl
+
+-- ---- tests
+
+-- what the second of two tests tells where the first holds, and what the first tells alone
+pub second_tells : (a b r : Bool) → true ≡ a → r ≡ b → r ≡ (a && b)
+second_tells true b r h e = e
+second_tells false b r h e = absurd cc
+
+pub first_fails : (a b r : Bool) → r ≡ false → r ≡ a → r ≡ (a && b)
+first_fails true b r h e = absurd cc
+first_fails false b r h e = e
+
+pub first_alone : (a r : Bool) → r ≡ a → r ≡ (a && true)
+first_alone true r e = e
+first_alone false r e = e
+
+-- ---- arms
+
+opened : (arms : List Arm) (i : ℕ) (a : Arm) → i < length arms → a ≡ get_or arms i a → drop i arms ≡ a ∷ drop (i + 1) arms
+opened arms i a lt is = rw (drop_more arms i a lt, ← is) refl
+
+arms_from : (m : Marked) (arms : List Arm) (i : ℕ) (a : Arm) → i < length arms → a ≡ get_or arms i a →
+    are_local_arms m (arms_in (drop i arms)) ≡ (is_local_arm m a && are_local_arms m (arms_in (drop (i + 1) arms)))
+arms_from m arms i a lt is =
+    ap (λ xs. are_local_arms m (arms_in xs)) (opened arms i a lt is)
+    ∙ ap (are_local_arms m) (arm_read a (arms_in (drop (i + 1) arms)))
+    ∙ sym (and_assoc (is_local_expression m (expression_of (out-Arm a).test)) (is_local_block m (block_in (out-Arm a).body.items)) (are_local_arms m (arms_in (drop (i + 1) arms))))
+
+pub arm_fails : (m : Marked) (arms : List Arm) (i : ℕ) (a : Arm) (total : Bool) → i < length arms → a ≡ get_or arms i a → false ≡ is_local_arm m a →
+    are_local_arms m (arms_in (drop i arms)) ≡ total → false ≡ total
+arm_fails m arms i a total lt is fails so_far =
+    sym (arms_from m arms i a lt is ∙ ap (λ b. b && are_local_arms m (arms_in (drop (i + 1) arms))) (sym fails)) ∙ so_far
+
+pub arm_passes : (m : Marked) (arms : List Arm) (i : ℕ) (a : Arm) (total : Bool) → i < length arms → a ≡ get_or arms i a → true ≡ is_local_arm m a →
+    are_local_arms m (arms_in (drop i arms)) ≡ total → are_local_arms m (arms_in (drop (i + 1) arms)) ≡ total
+arm_passes m arms i a total lt is passes so_far =
+    sym (arms_from m arms i a lt is ∙ ap (λ b. b && are_local_arms m (arms_in (drop (i + 1) arms))) (sym passes)) ∙ so_far
+
+-- what is marked in one arm is marked before the next
+pub arm_marks : (m n total : Marked) (arms : List Arm) (i : ℕ) (a : Arm) → i < length arms → a ≡ get_or arms i a → n ≡ marked_in (block_in (out-Arm a).body.items) m →
+    marked_by_arms (arms_in (drop i arms)) m ≡ total → marked_by_arms (arms_in (drop (i + 1) arms)) n ≡ total
+arm_marks m n total arms i a lt is marks so_far =
+    ap (marked_by_arms (arms_in (drop (i + 1) arms))) marks
+    ∙ sym (ap (λ xs. marked_by_arms (arms_in xs) m) (opened arms i a lt is) ∙ ap (λ xs. marked_by_arms xs m) (arm_read a (arms_in (drop (i + 1) arms))))
+    ∙ so_far

@@ -1,0 +1,25 @@
+use Rattle.std.proofs.Common.{◌∙◌, sym}
+use Rattle.regent_tree.proofs.Rows.{expressions_of_vec, links_of_vec, steps_of_vec}
+use Rattle.local_form.proofs.Laws.{one_step, second_tells, three_steps}
+use Rattle.local_form.proofs.expressions.+expression.Goals as goal
+
+pub is_local_access-returns-in_default : goal.is_local_access-returns-in_default
+is_local_access-returns-in_default t c =
+    one_step c.args.marked.now c.args.name.now c.args.steps.now c.in_default.len_at_least c.in_default.len_below
+
+pub is_local_access-returns-in_default-4 : goal.is_local_access-returns-in_default-4
+is_local_access-returns-in_default-4 t c =
+    three_steps c.args.marked.now c.args.name.now c.args.steps.now c.in_default.len_at_least
+
+pub is_local_expression-returns-then-is_local_expression : goal.is_local_expression-returns-then-is_local_expression
+is_local_expression-returns-then-is_local_expression t c =
+    rw (c.in-Chain.is, links_of_vec c.in-Chain.rest, ← c.deref.ensures, ← c.as_slice.ensures.value)
+    (second_tells _ _ _ (sym c.if-is_local_expression.true ∙ c.is_local_expression.ensures) c.are_local_links.ensures)
+
+pub is_local_expression-returns-in-Access : goal.is_local_expression-returns-in-Access
+is_local_expression-returns-in-Access t c =
+    rw (c.in-Access.is, steps_of_vec c.in-Access.steps, ← c.as_slice-in-Access.ensures.value) c.is_local_access.ensures
+
+pub is_local_expression-returns-in-Call : goal.is_local_expression-returns-in-Call
+is_local_expression-returns-in-Call t c =
+    rw (c.in-Call.is, expressions_of_vec c.in-Call.args, ← c.as_slice-in-Call.ensures.value) c.are_local_expressions.ensures

@@ -1,0 +1,2 @@
+pub mod LocalForm
+pub mod Seen

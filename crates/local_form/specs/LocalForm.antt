@@ -1,0 +1,163 @@
+-- Programs whose tasks keep their regions to themselves: each takes and gives numbers and truths, or nothing,
+-- declares no privilege, and names the regions that it makes. Which names stand for regions, and which may stand
+-- for an index or an index space, is read from the text of a task.
+use Rattle.std.specs.Prelude.{Bool, true, false, List, [], ◌∷◌, ◌++◌, Some, None, bytes_eq, not, cond, ◌&&◌, ◌||◌}
+use Rattle.std.specs.List.{list_all, list_any}
+use Rattle.regent_tree.specs.Syntax.{Arms, Block, Expression, Expressions, Form, ItemForm, ItemTree, Links, Name, Otherwise, TaskTree, Tree, a_link, a_statement, access_expr, alias_item, an_arm, an_expr, assert_form, assign_form, at_step, call_expr, call_form, chain_expr, convert_expr, do_form, else_block, field_step, fill_form, for_in_form, for_to_form, if_form, import_item, no_arm, no_else, no_expr, no_link, no_statement, no_step, number_expr, plain_initializer, prefix_expr, print_form, region_initializer, return_form, space_expr, space_item, start_item, task_item, then_statement, truth_expr, var_form, while_form}
+use Rattle.regent_tree.specs.declared.expression.Operator.TheVariants.{Compute}
+use Rattle.regent_tree.specs.declared.statement.How.TheVariants as how
+use Rattle.regent_tree.specs.declared.types.Param.{Param}
+use Rattle.scalar_form.specs.ScalarForm.{is_empty, is_scalar_if_said, is_scalar_number, is_scalar_term}
+
+-- ---- names
+
+-- the names of regions in a task, and those that may stand for an index or an index space
+pub record Marked : Type 0 where
+  pub regions : List Name
+  pub indices : List Name
+
+abbrev pub is_among : List Name → Name → Bool
+is_among names n = list_any (λ m. bytes_eq m n) names
+
+-- ---- expressions
+
+-- Numbers and truths, indices and index spaces, calls, and fields at points of regions that have names. A region
+-- itself is no such expression, and a prefix stands before numbers and truths.
+abbrev mutual
+  pub gives_scalar : Marked → Expression → Bool
+  gives_scalar m (number_expr z w) = true
+  gives_scalar m (truth_expr b) = true
+  gives_scalar m (chain_expr first rest) = links_give m (gives_scalar m first) rest
+  gives_scalar m (prefix_expr signs e) = true
+  gives_scalar m (access_expr n no_step) = not (is_among m.indices n)
+  gives_scalar m (access_expr n (at_step e rest)) = true
+  gives_scalar m (call_expr task args) = true
+  gives_scalar m (convert_expr t e) = true
+  gives_scalar m e = false
+
+  -- of a chain, where what stands on the left gives a number or truth or may not
+  pub links_give : Marked → Bool → Links → Bool
+  links_give m left no_link = left
+  links_give m left (a_link (Compute o) e rest) = links_give m (left && gives_scalar m e) rest
+  links_give m left (a_link o e rest) = links_give m true rest
+
+abbrev mutual
+  pub is_local_expression : Marked → Expression → Bool
+  is_local_expression m (number_expr z w) = true
+  is_local_expression m (truth_expr b) = true
+  is_local_expression m (chain_expr first rest) = is_local_expression m first && are_local_links m rest
+  is_local_expression m (prefix_expr signs e) = gives_scalar m e && is_local_expression m e
+  is_local_expression m (access_expr n no_step) = not (is_among m.regions n)
+  is_local_expression m (access_expr n (at_step e (field_step f no_step))) = is_local_expression m e
+  is_local_expression m (call_expr task args) = are_local_expressions m args
+  is_local_expression m (convert_expr t e) = is_scalar_number t && is_local_expression m e
+  is_local_expression m (space_expr k e) = is_local_expression m e
+  is_local_expression m e = false
+
+  pub are_local_links : Marked → Links → Bool
+  are_local_links m no_link = true
+  are_local_links m (a_link o e rest) = is_local_expression m e && are_local_links m rest
+
+  pub are_local_expressions : Marked → Expressions → Bool
+  are_local_expressions m no_expr = true
+  are_local_expressions m (an_expr e es) = is_local_expression m e && are_local_expressions m es
+
+-- ---- statements
+
+-- A variable of a written type is a number or truth. One without it begins with region(..), and its name is a
+-- region's; or with an expression, and where that may give an index or index space, so may the name. None of these
+-- is assigned.
+abbrev mutual
+  pub is_local_form : Marked → Form → Bool
+  is_local_form m (var_form n t None) = is_scalar_if_said t
+  is_local_form m (var_form n (Some t) (Some (plain_initializer e))) = is_scalar_term t && is_local_expression m e
+  is_local_form m (var_form n None (Some (plain_initializer e))) =
+      (gives_scalar m e || is_among m.indices n) && is_local_expression m e
+  is_local_form m (var_form n None (Some (region_initializer e u))) = is_among m.regions n && is_local_expression m e
+  is_local_form m (if_form arms other) = are_local_arms m arms && is_local_else m other
+  is_local_form m (while_form test body) = is_local_expression m test && is_local_block m body
+  is_local_form m (for_in_form demanded n domain body) =
+      is_among m.indices n && (is_local_expression m domain && is_local_block m body)
+  is_local_form m (for_to_form demanded n from to body) =
+      is_local_expression m from && (is_local_expression m to && is_local_block m body)
+  is_local_form m (do_form body) = is_local_block m body
+  is_local_form m (fill_form r fields e) = is_local_expression m e
+  is_local_form m (assert_form e) = is_local_expression m e
+  is_local_form m (print_form alias format args) = are_local_expressions m args
+  is_local_form m (call_form task args) = are_local_expressions m args
+  is_local_form m (assign_form n no_step how.Set e) =
+      not (is_among m.regions n) && (not (is_among m.indices n) && is_local_expression m e)
+  is_local_form m (assign_form n no_step (how.Reduce o) e) = is_local_expression m e
+  is_local_form m (assign_form n (at_step e (field_step f no_step)) h y) =
+      is_local_expression m e && is_local_expression m y
+  is_local_form m (return_form None) = true
+  is_local_form m (return_form (Some e)) = is_local_expression m e
+  is_local_form m form = false
+
+  pub is_local_block : Marked → Block → Bool
+  is_local_block m no_statement = true
+  is_local_block m (then_statement (a_statement line form) rest) = is_local_form m form && is_local_block m rest
+
+  pub are_local_arms : Marked → Arms → Bool
+  are_local_arms m no_arm = true
+  are_local_arms m (an_arm test body rest) =
+      is_local_expression m test && (is_local_block m body && are_local_arms m rest)
+
+  pub is_local_else : Marked → Otherwise → Bool
+  is_local_else m no_else = true
+  is_local_else m (else_block body) = is_local_block m body
+
+-- ---- which names are marked
+
+abbrev pub unmarked : Marked
+unmarked = record { regions = []; indices = [] }
+
+abbrev pub with_region : Name → Marked → Marked
+with_region n m = record m { regions = m.regions ++ n ∷ [] }
+
+abbrev pub with_index : Name → Marked → Marked
+with_index n m = record m { indices = m.indices ++ n ∷ [] }
+
+-- the names that statements bind, beside those that are marked before them
+abbrev mutual
+  pub marked_by : Form → Marked → Marked
+  marked_by (var_form n None (Some (plain_initializer e))) m = cond (gives_scalar m e) m (with_index n m)
+  marked_by (var_form n None (Some (region_initializer e u))) m = with_region n m
+  marked_by (if_form arms other) m = marked_by_else other (marked_by_arms arms m)
+  marked_by (while_form test body) m = marked_in body m
+  marked_by (for_in_form demanded n domain body) m = marked_in body (with_index n m)
+  marked_by (for_to_form demanded n from to body) m = marked_in body m
+  marked_by (do_form body) m = marked_in body m
+  marked_by form m = m
+
+  pub marked_in : Block → Marked → Marked
+  marked_in no_statement m = m
+  marked_in (then_statement (a_statement line form) rest) m = marked_in rest (marked_by form m)
+
+  pub marked_by_arms : Arms → Marked → Marked
+  marked_by_arms no_arm m = m
+  marked_by_arms (an_arm test body rest) m = marked_by_arms rest (marked_in body m)
+
+  pub marked_by_else : Otherwise → Marked → Marked
+  marked_by_else no_else m = m
+  marked_by_else (else_block body) m = marked_in body m
+
+-- ---- programs
+
+-- parameters or fields that are numbers and truths
+abbrev pub are_scalar_params : List Param → Bool
+are_scalar_params ps = list_all (λ (p : Param). is_scalar_term p.term) ps
+
+abbrev pub is_local_task : TaskTree → Bool
+is_local_task t = are_scalar_params t.params
+    && (is_scalar_if_said t.result && (is_empty t.clauses && is_local_block (marked_in t.body unmarked) t.body))
+
+abbrev pub is_local_item : ItemForm → Bool
+is_local_item import_item = true
+is_local_item (alias_item n) = true
+is_local_item (start_item n) = true
+is_local_item (space_item s) = are_scalar_params s.fields
+is_local_item (task_item t) = is_local_task t
+
+abbrev pub is_local_program : Tree → Bool
+is_local_program tree = list_all (λ (i : ItemTree). is_local_item i.form) tree

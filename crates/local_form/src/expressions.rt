@@ -1,0 +1,73 @@
+//! Expressions of such tasks.
+
+ghost use Rattle.std.specs.Prelude.{◌≡◌};
+ghost use Rattle.regent_tree.specs.Plain.{expression_of, expressions_in, links_in, steps_in};
+ghost use Rattle.regent_tree.specs.Syntax.{access_expr};
+ghost use Rattle.local_form.specs.LocalForm.{are_local_expressions, are_local_links};
+ghost use Rattle.local_form.specs.LocalForm.{is_local_expression};
+
+use crate::giving::gives_scalar;
+use crate::marked::Marked;
+use regent_tree::{Expr, Link, Name, Step};
+use scalar_form::is_scalar_number;
+
+/// Whether a task may have an expression that keeps its regions to itself.
+#[cycle(expression)]
+pub fn is_local_expression(marked: &Marked<'_>, e: &Expr) -> bool
+    ensures { result ≡ is_local_expression marked.now (expression_of e.now) }
+{
+    match e {
+        Expr::Number { .. } | Expr::Truth(_) => true,
+        Expr::Chain { first, rest } => {
+            is_local_expression(marked, first) && are_local_links(marked, rest.as_slice())
+        }
+        Expr::Prefix { inner, .. } => {
+            gives_scalar(marked, inner) && is_local_expression(marked, inner)
+        }
+        Expr::Access { name, steps } => is_local_access(marked, name, steps.as_slice()),
+        Expr::Call { args, .. } => are_local_expressions(marked, args.as_slice()),
+        Expr::Convert { to, inner } => {
+            is_scalar_number(*to) && is_local_expression(marked, inner)
+        }
+        Expr::Space { size, .. } => is_local_expression(marked, size),
+        Expr::IsNull(_) | Expr::Null(_) | Expr::Cast { .. } => false,
+    }
+}
+
+/// A name that is no region's, or a field at a point of a region.
+#[cycle(expression)]
+fn is_local_access(marked: &Marked<'_>, name: &Name, steps: &[Step]) -> bool
+    ensures { result ≡ is_local_expression marked.now (access_expr name.now (steps_in steps.now)) }
+{
+    match steps {
+        [] => !marked.is_region(name),
+        [Step::At(place), Step::Field(_)] => is_local_expression(marked, place),
+        _ => false,
+    }
+}
+
+/// Whether such are the further members of a chain.
+#[cycle(expression)]
+fn are_local_links(marked: &Marked<'_>, links: &[Link]) -> bool
+    ensures { result ≡ are_local_links marked.now (links_in links.now) }
+{
+    for link in links {
+        if !is_local_expression(marked, &link.operand) {
+            return false;
+        }
+    }
+    true
+}
+
+/// Whether such are all arguments.
+#[cycle(expression)]
+pub fn are_local_expressions(marked: &Marked<'_>, args: &[Expr]) -> bool
+    ensures { result ≡ are_local_expressions marked.now (expressions_in args.now) }
+{
+    for arg in args {
+        if !is_local_expression(marked, arg) {
+            return false;
+        }
+    }
+    true
+}

@@ -1,0 +1,54 @@
+//! Which expressions give numbers and truths.
+
+ghost use Rattle.std.specs.Prelude.{◌≡◌};
+ghost use Rattle.regent_tree.specs.Plain.{expression_of, links_in, steps_in};
+ghost use Rattle.regent_tree.specs.Syntax.{access_expr};
+ghost use Rattle.local_form.specs.LocalForm.{gives_scalar, links_give};
+
+use crate::marked::Marked;
+use regent_tree::{Expr, Link, Name, Operator, Step};
+
+/// Whether an access gives a number or truth: a name that isn't marked, or a field at a point.
+fn access_gives(marked: &Marked<'_>, name: &Name, steps: &[Step]) -> bool
+    ensures { result ≡ gives_scalar marked.now (access_expr name.now (steps_in steps.now)) }
+{
+    match steps {
+        [] => !marked.is_index(name),
+        [Step::At(_), ..] => true,
+        [Step::Field(_), ..] => false,
+    }
+}
+
+/// Whether an expression gives a number or truth.
+#[cycle(giving)]
+pub fn gives_scalar(marked: &Marked<'_>, e: &Expr) -> bool
+    ensures { result ≡ gives_scalar marked.now (expression_of e.now) }
+{
+    match e {
+        Expr::Number { .. }
+        | Expr::Truth(_)
+        | Expr::Prefix { .. }
+        | Expr::Call { .. }
+        | Expr::Convert { .. } => true,
+        Expr::Chain { first, rest } => {
+            links_give(marked, gives_scalar(marked, first), rest.as_slice())
+        }
+        Expr::Access { name, steps } => access_gives(marked, name, steps.as_slice()),
+        Expr::IsNull(_) | Expr::Null(_) | Expr::Cast { .. } | Expr::Space { .. } => false,
+    }
+}
+
+/// Whether a chain does, where what stands on the left does or may not.
+#[cycle(giving)]
+fn links_give(marked: &Marked<'_>, left: bool, links: &[Link]) -> bool
+    ensures { result ≡ links_give marked.now left (links_in links.now) }
+{
+    let mut gives = left;
+    for link in links {
+        gives = match link.operator {
+            Operator::Compute(_) => gives && gives_scalar(marked, &link.operand),
+            Operator::Or | Operator::And | Operator::Compare(_) => true,
+        };
+    }
+    gives
+}

@@ -1,0 +1,71 @@
+//! The names that a task marks.
+
+ghost use Rattle.std.specs.Prelude.{◌≡◌, List, OnOk, bytes_eq, map, ℕ};
+ghost use Rattle.local_form.specs.LocalForm.{is_among, unmarked, with_index, with_region};
+
+use regent_tree::Name;
+use std::alloc::{AllocError, Global};
+use std::marker::Model;
+
+/// The names of regions in a task, and those that may stand for an index or an index space.
+#[derive(Drop)]
+pub struct Marked<'t> {
+    regions: Vec<&'t Name>,
+    indices: Vec<&'t Name>,
+}
+
+impl<'t> Model for Marked<'t> {
+    ghost use Rattle.std.specs.Prelude.{map};
+    ghost use Rattle.local_form.specs.LocalForm.{Marked as SeenMarked};
+
+    ghost Value = { SeenMarked };
+
+    ghost view = { λ s. record {
+      regions = map (λ n. n.now) s.regions.items;
+      indices = map (λ n. n.now) s.indices.items;
+    } };
+}
+
+fn is_among(names: &[&Name], name: &Name) -> bool
+    ensures { result ≡ is_among (map (λ n. n.now) names.now) name.now }
+{
+    names.iter().any(|known| **known == *name)
+}
+
+impl<'t> Marked<'t> {
+    /// No names; it takes no memory.
+    pub fn new(alloc: Global) -> Self
+        ensures { result ≡ unmarked }
+    {
+        Marked {
+            regions: Vec::new(alloc),
+            indices: Vec::new(alloc),
+        }
+    }
+
+    pub fn is_region(&self, name: &Name) -> bool
+        ensures { result ≡ is_among self.now.regions name.now }
+    {
+        is_among(self.regions.as_slice(), name)
+    }
+
+    pub fn is_index(&self, name: &Name) -> bool
+        ensures { result ≡ is_among self.now.indices name.now }
+    {
+        is_among(self.indices.as_slice(), name)
+    }
+
+    pub fn add_region(&mut self, name: &'t Name) -> Result<(), AllocError>
+        ensures { OnOk result (self.new ≡ with_region name.now self.old) }
+    {
+        self.regions.push(name)?;
+        Ok(())
+    }
+
+    pub fn add_index(&mut self, name: &'t Name) -> Result<(), AllocError>
+        ensures { OnOk result (self.new ≡ with_index name.now self.old) }
+    {
+        self.indices.push(name)?;
+        Ok(())
+    }
+}

@@ -1,0 +1,95 @@
+//! Which names the statements of a task mark.
+
+ghost use Rattle.std.specs.Prelude.{◌≡◌, OnOk};
+ghost use Rattle.std.specs.Option.{option_map};
+ghost use Rattle.regent_tree.specs.Plain.{expression_of, initializer_of};
+ghost use Rattle.regent_tree.specs.PlainProgram.{arms_in, block_in, form_of};
+ghost use Rattle.regent_tree.specs.Syntax.{var_form};
+ghost use Rattle.local_form.specs.LocalForm.{marked_by, marked_by_arms, marked_in};
+ghost use Rattle.local_form.specs.Seen.{marked_by_value};
+
+use crate::giving::gives_scalar;
+use crate::marked::Marked;
+use regent_tree::{Arm, Expr, Init, Name, Stmt, TypeTerm, What};
+use std::alloc::AllocError;
+
+/// Marks a variable that begins with an expression, where this may give an index or an index space.
+fn mark_value<'t>(marked: &mut Marked<'t>, name: &'t Name, value: &Expr) -> Result<(), AllocError>
+    ensures { OnOk result
+        (marked.new ≡ marked_by_value name.now (expression_of value.now) marked.old) }
+{
+    if gives_scalar(marked, value) {
+        Ok(())
+    } else {
+        marked.add_index(name)
+    }
+}
+
+/// Marks a variable.
+fn mark_variable<'t>(
+    marked: &mut Marked<'t>,
+    name: &'t Name,
+    term: &Option<TypeTerm>,
+    init: &Option<Init>,
+) -> Result<(), AllocError>
+    ensures { OnOk result (marked.new
+        ≡ marked_by (var_form name.now term.now (option_map initializer_of init.now)) marked.old) }
+{
+    match (term, init) {
+        (None, Some(Init::Plain(value))) => mark_value(marked, name, value),
+        (None, Some(Init::Region { .. })) => marked.add_region(name),
+        _ => Ok(()),
+    }
+}
+
+/// Marks the names that a statement binds.
+#[cycle(marking)]
+fn mark_form<'t>(marked: &mut Marked<'t>, what: &'t What) -> Result<(), AllocError>
+    ensures { OnOk result (marked.new ≡ marked_by (form_of what.now) marked.old) }
+{
+    match what {
+        What::Var { name, term, init } => mark_variable(marked, name, term, init),
+        What::If { arms, other } => {
+            mark_arms(marked, arms.as_slice())?;
+            match other {
+                None => Ok(()),
+                Some(body) => mark_block(marked, body.as_slice()),
+            }
+        }
+        What::ForIn { name, body, .. } => {
+            marked.add_index(name)?;
+            mark_block(marked, body.as_slice())
+        }
+        What::While { body, .. } => mark_block(marked, body.as_slice()),
+        What::ForTo { body, .. } => mark_block(marked, body.as_slice()),
+        What::Do { body } => mark_block(marked, body.as_slice()),
+        What::Fill { .. }
+        | What::Assert { .. }
+        | What::Print { .. }
+        | What::Call { .. }
+        | What::Assign { .. }
+        | What::Return { .. } => Ok(()),
+    }
+}
+
+/// Marks the names that statements bind.
+#[cycle(marking)]
+pub fn mark_block<'t>(marked: &mut Marked<'t>, body: &'t [Stmt]) -> Result<(), AllocError>
+    ensures { OnOk result (marked.new ≡ marked_in (block_in body.now) marked.old) }
+{
+    for statement in body {
+        mark_form(marked, &statement.what)?;
+    }
+    Ok(())
+}
+
+/// Marks the names that are bound in the blocks of an `if`.
+#[cycle(marking)]
+fn mark_arms<'t>(marked: &mut Marked<'t>, arms: &'t [Arm]) -> Result<(), AllocError>
+    ensures { OnOk result (marked.new ≡ marked_by_arms (arms_in arms.now) marked.old) }
+{
+    for arm in arms {
+        mark_block(marked, arm.body.as_slice())?;
+    }
+    Ok(())
+}

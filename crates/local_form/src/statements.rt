@@ -1,0 +1,157 @@
+//! Statements of such tasks.
+
+ghost use Rattle.std.specs.Prelude.{◌≡◌};
+ghost use Rattle.std.specs.Option.{option_map};
+ghost use Rattle.regent_tree.specs.Plain.{expression_of, initializer_of, steps_in};
+ghost use Rattle.regent_tree.specs.PlainProgram.{arms_in, block_in, form_of};
+ghost use Rattle.regent_tree.specs.Syntax.{assign_form, return_form, var_form};
+ghost use Rattle.local_form.specs.LocalForm.{are_local_arms, is_local_block, is_local_form};
+ghost use Rattle.local_form.specs.Seen.{is_local_arm};
+
+use crate::expressions::{are_local_expressions, is_local_expression};
+use crate::giving::gives_scalar;
+use crate::marked::Marked;
+use regent_tree::{Arm, Expr, How, Init, Name, Step, Stmt, TypeTerm, What};
+use scalar_form::{is_scalar_if_said, is_scalar_term};
+
+/// Whether a variable is a number or truth, an index, an index space or a region, each known as what it is.
+fn is_local_variable(
+    marked: &Marked<'_>,
+    name: &Name,
+    term: &Option<TypeTerm>,
+    init: &Option<Init>,
+) -> bool
+    ensures { result ≡ is_local_form marked.now
+        (var_form name.now term.now (option_map initializer_of init.now)) }
+{
+    match (term, init) {
+        (term, None) => is_scalar_if_said(term),
+        (Some(term), Some(Init::Plain(value))) => {
+            is_scalar_term(term) && is_local_expression(marked, value)
+        }
+        (None, Some(Init::Plain(value))) => {
+            (gives_scalar(marked, value) || marked.is_index(name))
+                && is_local_expression(marked, value)
+        }
+        (None, Some(Init::Region { space, .. })) => {
+            marked.is_region(name) && is_local_expression(marked, space)
+        }
+        _ => false,
+    }
+}
+
+/// Whether numbers and truths alone are assigned, to variables and to fields at points of regions.
+fn is_local_assignment(
+    marked: &Marked<'_>,
+    target: &Name,
+    steps: &[Step],
+    how: How,
+    value: &Expr,
+) -> bool
+    ensures { result ≡ is_local_form marked.now
+        (assign_form target.now (steps_in steps.now) how (expression_of value.now)) }
+{
+    match (steps, how) {
+        ([], How::Set) => {
+            !marked.is_region(target)
+                && !marked.is_index(target)
+                && is_local_expression(marked, value)
+        }
+        ([], How::Reduce(_)) => is_local_expression(marked, value),
+        ([Step::At(place), Step::Field(_)], _) => {
+            is_local_expression(marked, place) && is_local_expression(marked, value)
+        }
+        _ => false,
+    }
+}
+
+/// Whether a value that may be left out is such an expression.
+fn is_local_value(marked: &Marked<'_>, value: &Option<Expr>) -> bool
+    ensures { result ≡ is_local_form marked.now (return_form (option_map expression_of value.now)) }
+{
+    match value {
+        None => true,
+        Some(value) => is_local_expression(marked, value),
+    }
+}
+
+/// Whether a task may have a statement that keeps its regions to itself.
+#[cycle(statement)]
+fn is_local_form(marked: &Marked<'_>, what: &What) -> bool
+    ensures { result ≡ is_local_form marked.now (form_of what.now) }
+{
+    match what {
+        What::Var { name, term, init } => is_local_variable(marked, name, term, init),
+        What::If { arms, other } => {
+            let tests = are_local_arms(marked, arms.as_slice());
+            match other {
+                None => tests,
+                Some(body) => tests && is_local_block(marked, body.as_slice()),
+            }
+        }
+        What::While { test, body } => {
+            is_local_expression(marked, test) && is_local_block(marked, body.as_slice())
+        }
+        What::ForIn {
+            name,
+            domain,
+            body,
+            ..
+        } => {
+            marked.is_index(name)
+                && is_local_expression(marked, domain)
+                && is_local_block(marked, body.as_slice())
+        }
+        What::ForTo { from, to, body, .. } => {
+            is_local_expression(marked, from)
+                && is_local_expression(marked, to)
+                && is_local_block(marked, body.as_slice())
+        }
+        What::Do { body } => is_local_block(marked, body.as_slice()),
+        What::Fill { value, .. } => is_local_expression(marked, value),
+        What::Assert { test } => is_local_expression(marked, test),
+        What::Print { args, .. } => are_local_expressions(marked, args.as_slice()),
+        What::Call { args, .. } => are_local_expressions(marked, args.as_slice()),
+        What::Assign {
+            target,
+            steps,
+            how,
+            value,
+        } => is_local_assignment(marked, target, steps.as_slice(), *how, value),
+        What::Return { value } => is_local_value(marked, value),
+    }
+}
+
+/// Whether all statements of a block are such.
+#[cycle(statement)]
+pub fn is_local_block(marked: &Marked<'_>, body: &[Stmt]) -> bool
+    ensures { result ≡ is_local_block marked.now (block_in body.now) }
+{
+    for statement in body {
+        if !is_local_form(marked, &statement.what) {
+            return false;
+        }
+    }
+    true
+}
+
+/// Whether such are a test and its block.
+#[cycle(statement)]
+fn is_local_arm(marked: &Marked<'_>, arm: &Arm) -> bool
+    ensures { result ≡ is_local_arm marked.now arm.now }
+{
+    is_local_expression(marked, &arm.test) && is_local_block(marked, arm.body.as_slice())
+}
+
+/// Whether such are the tests of an `if` and their blocks.
+#[cycle(statement)]
+fn are_local_arms(marked: &Marked<'_>, arms: &[Arm]) -> bool
+    ensures { result ≡ are_local_arms marked.now (arms_in arms.now) }
+{
+    for arm in arms {
+        if !is_local_arm(marked, arm) {
+            return false;
+        }
+    }
+    true
+}

@@ -1,0 +1,181 @@
+-- Where a program is accepted each task may be looked at by the rules: what is known where it begins is what its clauses
+-- tell, and nothing is told of its body.
+use Rattle.std.proofs.Common.{◌≡◌, ◌⊎◌, inl, inr, ⊎_elim, ℕ, suc, ◌<◌, List, [], ◌∷◌, ◌++◌, map, Bool, true, false, ◌&&◌, ◌||◌, cond, Some, refl, sym, ap, ◌∙◌, subst, arith}
+use Rattle.std.specs.Prelude.{bytes_eq, length, nat_lt, slice_get}
+use Rattle.std.specs.List.{list_any}
+use Rattle.std.proofs.lemmas.Bool.{and_parts, lt-ltb, not-false, or_left, or_parts, or_right}
+use Rattle.std.proofs.Math.Bool.{or-false}
+use Rattle.regent_tree.specs.Lookup.{is_bound}
+use Rattle.regent_tree.specs.Scopes.{bound_params, known_of_clause, known_of_clauses, known_of_params, known_of_type, scope_of}
+use Rattle.regent_tree.specs.StaticTypes.{Looking, among_params, place_in, type_said}
+use Rattle.regent_tree.specs.Syntax.{ItemTree, Name, TaskTree, Tree, task_item}
+use Rattle.regent_tree.specs.declared.facts.Known.{Known}
+use Rattle.regent_tree.specs.declared.facts.Known.TheVariants.{Within, Apart}
+use Rattle.regent_tree.specs.declared.facts.Term.TheVariants as term
+use Rattle.regent_tree.specs.declared.program.Clause.{Clause}
+use Rattle.regent_tree.specs.declared.program.Clause.TheVariants as clause
+use Rattle.regent_tree.specs.declared.types.NumberTerm.TheVariants as number
+use Rattle.regent_tree.specs.declared.types.Param.{Param}
+use Rattle.regent_tree.specs.declared.types.TypeTerm.{TypeTerm}
+use Rattle.regent_tree.specs.declared.types.TypeTerm.TheVariants as typed
+use Rattle.regent_tree.specs.declared.typing.Bound.{Bound}
+use Rattle.regent_tree.specs.declared.typing.StaticType.{StaticType}
+use Rattle.regent_tree.specs.declared.typing.StaticType.TheVariants.{Integer as integer_type, Truth as truth_type, Index as index_type, Pointer as pointer_type, Ispace as ispace_type, Region as region_type, Partition as partition_type, Nothing as no_type, Unknown as unknown_type}
+use Rattle.regent_tree.proofs.Members.{Contains-from_Has, Has, Has-append_cases, Has-map}
+use Rattle.check_rules.specs.Breaches.{breaches}
+use Rattle.check_rules.specs.rules.Clauses.{is_no_region, misdeclares}
+use Rattle.check_rules.specs.scopes.Sound.{StandsIn}
+use Rattle.check_rules.specs.types.Declarations.{params_bound}
+use Rattle.check_rules.specs.types.Lookup.{names_a}
+use Rattle.check_rules.specs.types.Sorts.{is_region}
+use Rattle.check_laws.specs.MeantVisits.{meant_of_item}
+use Rattle.check_laws.proofs.Bodies.{IsToldNone}
+use Rattle.check_laws.proofs.Places.{places_are_without_breach}
+use Rattle.code_rules.specs.Instructions.{tasks_of}
+use Rattle.code_rules.specs.Programs.{task_code}
+use Rattle.code_laws.proofs.LocalNames.{first_below}
+use Rattle.code_laws.proofs.LocalTrees.{task_stands}
+use Rattle.fit_rules.specs.Shapes.{Among, Each}
+use Rattle.fit_rules.specs.Marks.{apart, Fact, in_slot, lies}
+use Rattle.sound_code.specs.Ways.{by_rules, opening_facts, told_by}
+use Rattle.sound_code.proofs.Declaring.{has_among}
+use Rattle.sound_code.proofs.Grounds.{IsPlaced, IsTold, Kept, OfType, tells_apart, tells_part, tells_within}
+use Rattle.sound_code.proofs.Told.{ToldBlock}
+use Rattle.sound_code.proofs.Wanting.{has_flatly}
+
+-- ---- parameters
+
+-- a name of the bindings, or of the one behind
+bound_or_last : (bs : List Bound) (b : Bound) (n : Name) → is_bound (bs ++ b ∷ []) n ≡ true → (is_bound bs n ≡ true) ⊎ (bytes_eq b.name n ≡ true)
+bound_or_last [] b n e = inr (sym (or-false (bytes_eq b.name n)) ∙ e)
+bound_or_last (c ∷ bs) b n e = chosen (bytes_eq c.name n) (bound_or_last bs b n) e
+  where
+    chosen : (d : Bool) → (is_bound (bs ++ b ∷ []) n ≡ true → (is_bound bs n ≡ true) ⊎ (bytes_eq b.name n ≡ true)) →
+        (d || is_bound (bs ++ b ∷ []) n) ≡ true → ((d || is_bound bs n) ≡ true) ⊎ (bytes_eq b.name n ≡ true)
+    chosen true more e = inl refl
+    chosen false more e = more e
+
+-- a name that is bound among parameters is one of them
+bound_there : (tree : Tree) (all : List Param) (i : ℕ) (ps : List Param) (n : Name) → is_bound (bound_params tree all i ps) n ≡ true →
+    list_any (λ (p : Param). bytes_eq p.name n) ps ≡ true
+bound_there tree all i [] n e = e
+bound_there tree all i (p ∷ ps) n e =
+    ⊎_elim (λ h. or_right (bytes_eq p.name n) _ (bound_there tree all (suc i) ps n h))
+    (λ h. or_left (bytes_eq p.name n) _ h) (bound_or_last (bound_params tree all (suc i) ps) _ n e)
+
+type_placed : (params i : ℕ) (tree : Tree) (look : Looking) (t : TypeTerm) → OfType params i (type_said tree look i t)
+type_placed params i tree look (typed.Number number.Int32) = tt
+type_placed params i tree look (typed.Number number.Int64) = tt
+type_placed params i tree look (typed.Number (number.Index k)) = tt
+type_placed params i tree look typed.Truth = tt
+type_placed params i tree look (typed.Pointer p) = tt
+type_placed params i tree look (typed.Ispace k) = tt
+type_placed params i tree look (typed.Region k u) = λ l. refl
+type_placed params i tree look (typed.Partition d r c) = tt
+
+placed_behind : (params : ℕ) (bs : List Bound) (b : Bound) → Each (IsPlaced params) bs → IsPlaced params b → Each (IsPlaced params) (bs ++ b ∷ [])
+placed_behind params [] b a h = (h, tt)
+placed_behind params (c ∷ bs) b a h = (a.0, placed_behind params bs b a.1 h)
+
+params_placed : (params : ℕ) (tree : Tree) (all : List Param) (i : ℕ) (ps : List Param) → Each (IsPlaced params) (bound_params tree all i ps)
+params_placed params tree all i [] = tt
+params_placed params tree all i (p ∷ ps) = placed_behind params (bound_params tree all (suc i) ps) _ (params_placed params tree all (suc i) ps)
+    (type_placed params i tree (among_params all) p.term)
+
+-- ---- what is known
+
+type_tells : (params : ℕ) (ks : List Fact) (t : StaticType) (k : Known) → Has (known_of_type t) k → IsTold params ks k
+type_tells params ks (partition_type d r p) k (inl e) = subst (IsTold params ks) e (tells_part p r d)
+type_tells params ks (partition_type d r p) k (inr h) = absurd h
+type_tells params ks (integer_type w) k h = absurd h
+type_tells params ks truth_type k h = absurd h
+type_tells params ks (index_type c) k h = absurd h
+type_tells params ks (pointer_type c sp args rs) k h = absurd h
+type_tells params ks (ispace_type c) k h = absurd h
+type_tells params ks (region_type c sp args r) k h = absurd h
+type_tells params ks no_type k h = absurd h
+type_tells params ks unknown_type k h = absurd h
+
+params_tell : (params : ℕ) (ks : List Fact) (bs : List Bound) (k : Known) → Has (known_of_params bs) k → IsTold params ks k
+params_tell params ks [] k h = absurd h
+params_tell params ks (b ∷ bs) k h = ⊎_elim (params_tell params ks bs k) (type_tells params ks b.static_type k)
+    (Has-append_cases (known_of_params bs) (known_of_type b.static_type) k h)
+
+module _ (tree : Tree) (t : TaskTree) (h : IsToldNone tree t) where
+  abbrev params : ℕ
+  params = length t.params
+
+  abbrev ks : List Fact
+  ks = opening_facts (by_rules t) tree t
+
+  -- a name of a clause is a parameter
+  param_low : (n : Name) → is_no_region (params_bound tree t.params) n ≡ false → place_in t.params n < params
+  param_low n e =
+      let named = and_parts _ _ (not-false (names_a is_region (params_bound tree t.params) n) e) in
+      first_below (λ (p : Param). bytes_eq p.name n) t.params
+      (bound_there tree t.params 0 t.params n (subst (λ bs. is_bound bs n ≡ true) h.sound_task.params named.0))
+
+  fact_among : (k : Known) (f : Fact) → Has (scope_of tree t).known k → Has (told_by params k) f → Among ks f
+  fact_among k f a b = has_among ks f (has_flatly (told_by params) (scope_of tree t).known k f a b)
+
+  -- what one clause tells
+  clause_tells : (c : Clause) → misdeclares tree (params_bound tree t.params) c ≡ false → (k : Known) → Has (known_of_clause t.params c) k →
+      Has (scope_of tree t).known k → IsTold params ks k
+  clause_tells (clause.Within a b) e k (inl same) there =
+      let parts = or_parts (is_no_region (params_bound tree t.params) a) (is_no_region (params_bound tree t.params) b) e in
+      let la = param_low a parts.0 in
+      let lb = param_low b parts.1 in
+      let i = place_in t.params a in
+      let j = place_in t.params b in
+      subst (IsTold params ks) same (tells_within i j la lb (fact_among (Within (term.Name i) (term.Name j)) (lies (in_slot i) (in_slot j))
+      (subst (Has (scope_of tree t).known) (sym same) there)
+      (subst (λ y. Has (cond y (lies (in_slot i) (in_slot j) ∷ []) []) (lies (in_slot i) (in_slot j)))
+      (sym (ap (λ y. y && nat_lt j params) (lt-ltb i params la) ∙ lt-ltb j params lb)) (inl refl))))
+  clause_tells (clause.Within a b) e k (inr i) there = absurd i
+  clause_tells (clause.Apart a b) e k (inl same) there =
+      let parts = or_parts (is_no_region (params_bound tree t.params) a) (is_no_region (params_bound tree t.params) b) e in
+      let la = param_low a parts.0 in
+      let lb = param_low b parts.1 in
+      let i = place_in t.params a in
+      let j = place_in t.params b in
+      subst (IsTold params ks) same (tells_apart i j la lb (fact_among (Apart (term.Name i) (term.Name j)) (apart (in_slot i) (in_slot j))
+      (subst (Has (scope_of tree t).known) (sym same) there)
+      (subst (λ y. Has (cond y (apart (in_slot i) (in_slot j) ∷ []) []) (apart (in_slot i) (in_slot j)))
+      (sym (ap (λ y. y && nat_lt j params) (lt-ltb i params la) ∙ lt-ltb j params lb)) (inl refl))))
+  clause_tells (clause.Apart a b) e k (inr i) there = absurd i
+  clause_tells (clause.Grants grants places) e k i there = absurd i
+
+  clauses_tell : (cs : List Clause) → list_any (misdeclares tree (params_bound tree t.params)) cs ≡ false → (k : Known) → Has (known_of_clauses t.params cs) k →
+      Has (scope_of tree t).known k → IsTold params ks k
+  clauses_tell [] e k i there = absurd i
+  clauses_tell (c ∷ cs) e k i there =
+      let parts = or_parts (misdeclares tree (params_bound tree t.params) c) _ e in
+      ⊎_elim (λ a. clause_tells c parts.0 k a there) (λ a. clauses_tell cs parts.1 k a there)
+      (Has-append_cases (known_of_clause t.params c) (known_of_clauses t.params cs) k i)
+
+  pub begins_kept : Kept (task_code tree t) t tree params (scope_of tree t)
+  begins_kept = record {
+    sound = h.sound;
+    sound_task = h.sound_task;
+    needs = refl;
+    many = refl;
+    known = λ k i. ⊎_elim (params_tell params ks (scope_of tree t).names k) (λ c. clauses_tell t.clauses h.sound_task.clauses k c i)
+        (Has-append_cases (known_of_params (scope_of tree t).names) (known_of_clauses t.params t.clauses) k i);
+    next = omega arith;
+    placed = params_placed params tree t.params 0 t.params;
+  }
+
+-- ---- bodies
+
+pub stands_in : (tree : Tree) (k : ℕ) (t : TaskTree) → slice_get (tasks_of tree) k ≡ Some t → StandsIn tree t
+stands_in tree k t at =
+    let s = task_stands tree k t at in
+    Contains-from_Has (map (λ (i : ItemTree). i.form) tree) (task_item t)
+    (subst (Has (map (λ (i : ItemTree). i.form) tree)) s.2 (Has-map (λ (i : ItemTree). i.form) tree s.0 s.1))
+
+pub body_without_breach : (tree : Tree) → breaches tree ≡ [] → (k : ℕ) (t : TaskTree) → slice_get (tasks_of tree) k ≡ Some t →
+    ToldBlock (by_rules t) tree (scope_of tree t) t.body
+body_without_breach tree none k t at v h =
+    let s = task_stands tree k t at in
+    places_are_without_breach tree v none (Contains-from_Has _ v
+    (has_flatly (λ (i : ItemTree). meant_of_item tree i.form) tree s.0 v s.1 (subst (λ form. Has (meant_of_item tree form) v) (sym s.2) h)))

@@ -1,0 +1,242 @@
+-- What the rules grant a task it may touch: through the slot of a region's name each access is allowed that is declared
+-- on a region within which it is known to lie, and any where the task made it.
+use Rattle.std.proofs.Common.{◌≡◌, ◌⊎◌, inl, inr, ℕ, ◌<◌, ◌≤◌, List, true, ◌&&◌, Some, refl, sym, ap, ◌∙◌, subst, arith}
+use Rattle.std.specs.Prelude.{length, nat_le, slice_get, ◌==◌}
+use Rattle.std.proofs.lemmas.Bool.{and_parts, eqb-true, le-leb, or_cases}
+use Rattle.lane_kernels.specs.declared.numbers.Mode.TheVariants as mode
+use Rattle.lane_kernels.specs.declared.numbers.Op.{Op}
+use Rattle.lane_kernels.specs.declared.numbers.Op.TheVariants.{Sum, Product, Least, Greatest}
+use Rattle.lane_kernels.specs.Modes.{same_op}
+use Rattle.plain_values.specs.Points.{has}
+use Rattle.regent_tree.specs.Accesses.{space_in}
+use Rattle.regent_tree.specs.Facts.{is_subregion}
+use Rattle.regent_tree.specs.Rights.{allows, gives, is_held, same_access}
+use Rattle.regent_tree.specs.Scopes.{Scope}
+use Rattle.regent_tree.specs.StaticTypes.{space_at}
+use Rattle.regent_tree.specs.Syntax.{TaskTree, Tree}
+use Rattle.regent_tree.specs.declared.facts.Known.{Known}
+use Rattle.regent_tree.specs.declared.facts.Known.TheVariants.{Within, Apart, PartOf, Made}
+use Rattle.regent_tree.specs.declared.facts.Term.{Term}
+use Rattle.regent_tree.specs.declared.facts.Term.TheVariants.{Name, Child}
+use Rattle.regent_tree.specs.declared.rights.Access.{Access}
+use Rattle.regent_tree.specs.declared.rights.Access.TheVariants.{Read, Write, Reduce}
+use Rattle.regent_tree.specs.declared.rights.Right.{Right}
+use Rattle.regent_tree.specs.declared.typing.StaticType.{StaticType}
+use Rattle.regent_tree.specs.declared.typing.StaticType.TheVariants.{Region as region_type}
+use Rattle.regent_tree.proofs.Members.{Has, Has-from_Contains, Has-from_list_any}
+use Rattle.task_code.specs.declared.code.TaskCode.{TaskCode}
+use Rattle.machine_terms.specs.declared.value.RegionValue.{RegionValue}
+use Rattle.machine_terms.specs.declared.value.Value.{Value}
+use Rattle.machine_terms.specs.Pointers.{region_in}
+use Rattle.constraint_check.specs.Derivations.{IsBelow, same, told_within, through, child, variable}
+use Rattle.constraint_check.proofs.Table.{is_subregion-derivable}
+use Rattle.check_rules.specs.rules.Privileges.{made_above, may_do, rights_declared, wanting}
+use Rattle.code_laws.specs.Simple.{IsRegion, a_region_type}
+use Rattle.expression_laws.specs.Needs.{mode_of}
+use Rattle.fit_rules.specs.Shapes.{Among, region, World}
+use Rattle.fit_rules.specs.Marks.{Holds, in_slot, lies, LiesAt, Mark, stacked, Suits}
+use Rattle.fit_rules.specs.Fits.{Covers, declares_it, Declares, Program, reads_and_writes}
+use Rattle.fit_rules.specs.Sound.{Allowed}
+use Rattle.fit_laws.proofs.Allowing.{allowed_made}
+use Rattle.fit_laws.proofs.Lookup.{each_among}
+use Rattle.sound_code.specs.Named.{slot_at}
+use Rattle.sound_code.specs.Ways.{Way, all_made, by_rules, opening_facts, shape_in}
+use Rattle.sound_code.proofs.Asked.{Known as KnownTasks}
+use Rattle.sound_code.proofs.Declaring.{is_need, need_of}
+use Rattle.sound_code.proofs.Elements.{field_there}
+use Rattle.sound_code.proofs.Grounds.{Ground, HasFacts, IsTold, Kept, OfType, tells_made, tells_within}
+
+-- the term of a region's type
+abbrev pub term_in : StaticType → Term
+term_in (region_type k sp args r) = r
+term_in t = Name 0
+
+-- by the rules a task may do an access on a field of a region of a type
+abbrev pub May : Way → Tree → Scope → StaticType → ℕ → Access → Type 0
+May all_made tree s u f a = Unit {0}
+May (by_rules task) tree s u f a = may_do (rights_declared tree task) s.known (wanting f a (term_in u)) ≡ true
+
+abbrev pub InPlace : Way → ℕ → ℕ → StaticType → Type 0
+InPlace all_made params place u = Unit {0}
+InPlace (by_rules task) params place u = OfType params place u
+
+abbrev number_of_name : Term → ℕ
+number_of_name (Name i) = i
+number_of_name (Child p c) = 0
+
+ops : (p q : Op) → same_op p q ≡ true → mode.Reduce p ≡ mode.Reduce q
+ops Sum Sum e = refl
+ops Product Product e = refl
+ops Least Least e = refl
+ops Greatest Greatest e = refl
+ops Sum Product e = absurd cc
+ops Sum Least e = absurd cc
+ops Sum Greatest e = absurd cc
+ops Product Sum e = absurd cc
+ops Product Least e = absurd cc
+ops Product Greatest e = absurd cc
+ops Least Sum e = absurd cc
+ops Least Product e = absurd cc
+ops Least Greatest e = absurd cc
+ops Greatest Sum e = absurd cc
+ops Greatest Product e = absurd cc
+ops Greatest Least e = absurd cc
+
+-- accesses that are told alike are of one mode
+same_modes : (a b : Access) → same_access a b ≡ true → mode_of a ≡ mode_of b
+same_modes Read Read e = refl
+same_modes Write Write e = refl
+same_modes (Reduce p) (Reduce q) e = ops p q e
+same_modes Read Write e = absurd cc
+same_modes Read (Reduce q) e = absurd cc
+same_modes Write Read e = absurd cc
+same_modes Write (Reduce q) e = absurd cc
+same_modes (Reduce p) Read e = absurd cc
+same_modes (Reduce p) Write e = absurd cc
+
+module _ (g : Program) (t : TaskCode) (task : TaskTree) (tree : Tree) (params : ℕ) (s : Scope) (m : Mark)
+    (ep : params ≡ t.params) (kept : Kept t task tree params s) (facts : HasFacts (by_rules task) tree m.facts) where
+  -- a parameter's region lies within that of another one
+  abbrev Inside : ℕ → ℕ → Type 0
+  Inside i j = (x : World) (vs st : List Value) → Suits x t.params m vs st → (r : RegionValue) →
+      region_in (slice_get vs i) ≡ Some r → LiesAt vs r (in_slot j)
+
+  pub record AreInside (i : ℕ) (b : Term) : Type 0 where
+    pub upper : ℕ
+    pub is : b ≡ Name upper
+    pub low : i < params
+    pub high : upper < params
+    pub inside : Inside i upper
+
+  -- what is derived of a name: it is the same, or both are parameters
+  abbrev Lower : Term → Term → Type 0
+  Lower (Name i) b = (Name i ≡ b) ⊎ AreInside i b
+  Lower (Child p c) b = Unit {0}
+
+  of_told : (a b : Term) → IsTold params (opening_facts (by_rules task) tree task) (Within a b) → Lower a b
+  of_told _ _ (tells_within i j li lj h) = inr (record {
+    upper = j;
+    is = refl;
+    low = li;
+    high = lj;
+    inside = λ x vs st q r e. each_among (λ y. Holds y vs) m.facts (lies (in_slot i) (in_slot j)) (facts _ h) q.facts r e;
+  })
+
+  -- by way of a third
+  by_third : (a b c : Term) → Lower a b → Lower b c → Lower a c
+  by_third (Child p d) b c h l = tt
+  by_third (Name i) b c (inl e) l = subst (λ y. Lower y c) (sym e) l
+  by_third (Name i) b c (inr h) l = elim (subst (λ y. Lower y c) h.is l) [
+    | inl e ↦ inr (record { upper = h.upper; is = sym e; low = h.low; high = h.high; inside = h.inside })
+    | inr k ↦ inr (record {
+      upper = k.upper;
+      is = k.is;
+      low = h.low;
+      high = k.high;
+      inside = λ x vs st q r e.
+          let one = h.inside x vs st q r e in
+          let two = k.inside x vs st q one.other one.at in record {
+            other = two.other;
+            at = two.at;
+            inside = (one.inside.0 ∙ two.inside.0, λ p y. two.inside.1 p (one.inside.1 p y));
+          };
+    })
+  ]
+
+  lower : {a b : Term} → IsBelow s.known a b → Lower a b
+  lower (same {a}) = itself a
+    where
+      itself : (a : Term) → Lower a a
+      itself (Name i) = inl refl
+      itself (Child p c) = tt
+  lower (told_within {a} {b} h) = of_told a b (kept.known (Within a b) (Has-from_Contains s.known (Within a b) h))
+  lower (through {a} {b} {c} h l) = by_third a b c (lower h) (lower l)
+  lower (child h) = tt
+  lower (variable {s = i} {p = p} {c = c} h) = of_told (Name i) (Child p c) (kept.known _ (Has-from_Contains s.known _ h))
+
+  is_lower : (a b : Term) → is_subregion s.known a b ≡ true → Lower a b
+  is_lower a b e = lower ((is_subregion-derivable s.known a b).0 e).below
+
+  module _ (i place : ℕ) (stands : i < params → place ≡ i) where
+    -- what is held on a region is declared at each of its points
+    declared : (f : ℕ) (a : Access) → is_held (rights_declared tree task) s.known (Name i) f a ≡ true → (x : World) (vs st : List Value) →
+        Suits x t.params m vs st → (r : RegionValue) → region_in (slice_get vs (slot_at params place)) ≡ Some r → (p : ℕ) →
+        has r.points p ≡ true → Declares x t r.root.0 f p (mode_of a)
+    declared f a e x vs st h r er p inp =
+        let found = Has-from_list_any (gives s.known (Name i) f a) (rights_declared tree task) e in
+        let right : Right = found.0 in
+        let last = and_parts ((right.field == f) && same_access right.access a) _ found.2 in
+        let first = and_parts (right.field == f) _ last.0 in
+        let need = is_need tree task kept.sound_task right found.1 in
+        let many = kept.many in
+        let high : right.region < params = omega (arith, need.low, many) in
+        let at = above right.region high (is_lower (Name i) (Name right.region) last.1) x vs st h r er in
+        record {
+          need = need_of tree task right;
+          is_there = subst (λ ns. Among ns (need_of tree task right)) (sym kept.needs) need.there;
+          its_field = eqb-true right.field f first.0;
+          its_mode = same_modes right.access a first.1;
+          region = at.other;
+          argument = sym (h.args right.region (omega (arith, high, ep))) ∙ at.at;
+          its_root = sym at.inside.0;
+          its_point = at.inside.1 p inp;
+        }
+      where
+        above : (j : ℕ) → j < params → Lower (Name i) (Name j) → (x : World) (vs st : List Value) → Suits x t.params m vs st →
+            (r : RegionValue) → region_in (slice_get vs (slot_at params place)) ≡ Some r → LiesAt vs r (in_slot j)
+        above j lj (inl e) x vs st h r er =
+            let same : i ≡ j = ap number_of_name e in
+            let at = stands (omega (arith, same, lj)) in
+            let slot : slot_at params place ≡ j = omega (arith, at, same, lj) in
+            record { other = r; at = ap (λ y. region_in (slice_get vs y)) (sym slot) ∙ er; inside = (refl, λ p y. y) }
+        above j lj (inr k) x vs st h r er =
+            let at = stands k.low in
+            let low = k.low in
+            let slot : slot_at params place ≡ i = omega (arith, at, low) in
+            let same : j ≡ k.upper = ap number_of_name k.is in
+            subst (λ y. LiesAt vs r (in_slot y)) (sym same) (k.inside x vs st h r (ap (λ y. region_in (slice_get vs y)) (sym slot) ∙ er))
+
+    covered : (f : ℕ) (a : Access) → allows (rights_declared tree task) s.known (Name i) f a ≡ true → (x : World) (vs st : List Value) →
+        Suits x t.params m vs st → (r : RegionValue) → region_in (slice_get vs (slot_at params place)) ≡ Some r → (p : ℕ) →
+        has r.points p ≡ true → Covers g x t r.root.0 f p (mode_of a)
+    covered f Read e x vs st h r er p ep = declares_it _ (declared f Read e x vs st h r er p ep)
+    covered f Write e x vs st h r er p ep = declares_it _ (declared f Write e x vs st h r er p ep)
+    covered f (Reduce o) e x vs st h r er p ep = elim (or_cases _ _ e) [
+      | inl d ↦ declares_it _ (declared f (Reduce o) d x vs st h r er p ep)
+      | inr d ↦
+          let both = and_parts _ _ d in
+          reads_and_writes o (declared f Read both.0 x vs st h r er p ep) (declared f Write both.1 x vs st h r er p ep)
+    ]
+
+    allowed_name : (sp f : ℕ) (a : Access) → slice_get m.slots (slot_at params place) ≡ Some (region (Some sp) (nat_le params i)) →
+        ((nat_le params i ≡ true) → Allowed g t m sp f (mode_of a) (slot_at params place)) →
+        may_do (rights_declared tree task) s.known (wanting f a (Name i)) ≡ true → Allowed g t m sp f (mode_of a) (slot_at params place)
+    allowed_name sp f a there made e = elim (or_cases _ _ e) [
+      | inl d ↦ record { made = nat_le params i; shape = there; covers = λ x vs st h r er p ep. covered f a d x vs st h r er p ep }
+      | inr d ↦ made (of_made (Has-from_list_any (made_above s.known (Name i)) s.known d))
+    ]
+      where
+        own : (j : ℕ) → params ≤ j → Lower (Name i) (Name j) → nat_le params i ≡ true
+        own j lj (inl q) = let same : i ≡ j = ap number_of_name q in le-leb params i (omega (arith, same, lj))
+        own j lj (inr k) = let same : j ≡ k.upper = ap number_of_name k.is in let high = k.high in absurd (omega (arith, same, high, lj))
+
+        behind : (j : ℕ) → IsTold params (opening_facts (by_rules task) tree task) (Made j) → params ≤ j
+        behind _ (tells_made j l) = l
+
+        of_made : ((k : Known) × Has s.known k × (made_above s.known (Name i) k ≡ true)) → nat_le params i ≡ true
+        of_made (Made j, h, above) = own j (behind j (kept.known (Made j) h)) (is_lower (Name i) (Name j) above)
+        of_made (Within a b, h, above) = absurd cc
+        of_made (Apart a b, h, above) = absurd cc
+        of_made (PartOf p r d, h, above) = absurd cc
+
+module _ (g : Program) (t : TaskCode) (w_tree : Tree) (params : ℕ) (s : Scope) (m : Mark) (ep : params ≡ t.params) where
+  pub allowed : (way : Way) → KnownTasks way g w_tree → Ground t way w_tree params s → HasFacts way w_tree m.facts → (u : StaticType) (place f : ℕ) (a : Access)
+      (us : List _) → IsRegion u → slice_get m.slots (slot_at params place) ≡ Some (shape_in way params u) → InPlace way params place u →
+      f < length (space_at w_tree (space_in u)).fields → May way w_tree s u f a → Allowed g t (stacked m us) (space_in u) f (mode_of a) (slot_at params place)
+  allowed all_made known ground facts _ place f a us (a_region_type k sp args r) there stands l may =
+      allowed_made g t (stacked m us) sp f (slot_at params place) (mode_of a) there (field_there g w_tree all_made known sp f l)
+  allowed (by_rules task) known ground facts _ place f a us (a_region_type k sp args (Name i)) there stands l may =
+      allowed_name g t task w_tree params s (stacked m us) ep ground facts i place stands sp f a there
+      (λ made. allowed_made g t (stacked m us) sp f (slot_at params place) (mode_of a) (there ∙ ap (λ b. Some (region (Some sp) b)) made)
+      (field_there g w_tree (by_rules task) known sp f l)) may
+  allowed (by_rules task) known ground facts _ place f a us (a_region_type k sp args (Child p c)) there stands l may = absurd stands

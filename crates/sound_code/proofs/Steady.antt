@@ -1,0 +1,71 @@
+-- Facts of counters and of parameters stay where other slots are set.
+use Rattle.std.proofs.Common.{◌≡◌, ℕ, ◌<◌, ◌≤◌, ◌+◌, List, [], ◌∷◌, sym, ap, ◌∙◌, subst, arith}
+use Rattle.std.specs.Prelude.{slice_get, slice_set}
+use Rattle.machine_terms.specs.declared.value.Value.{Value}
+use Rattle.machine_terms.specs.Pointers.{region_in}
+use Rattle.fit_rules.specs.Shapes.{Each, Shape}
+use Rattle.fit_rules.specs.Marks.{AtMost, ColoursStand, Fact, Holds, size_in}
+use Rattle.fit_laws.proofs.Keeping.{get_other}
+use Rattle.sound_code.specs.Named.{slot_at, IsSteady, is_apart, is_count, is_within}
+
+-- the same regions stand in the slots of parameters
+abbrev pub SameRegions : ℕ → List Value → List Value → Type 0
+SameRegions params vs us = (i : ℕ) → i < params → region_in (slice_get us i) ≡ region_in (slice_get vs i)
+
+-- the same counters and domains stand beside the slots of loops' variables
+abbrev pub SameCounts : ℕ → ℕ → List Value → List Value → Type 0
+SameCounts params n vs us = (p : ℕ) → params ≤ p → p < n →
+    (slice_get us (slot_at params p + 1) ≡ slice_get vs (slot_at params p + 1))
+    × (slice_get us (slot_at params p + 2) ≡ slice_get vs (slot_at params p + 2))
+
+module _ (params n : ℕ) (vs us : List Value) (counts : SameCounts params n vs us) (regions : SameRegions params vs us) where
+  one_holds : (k : Fact) → IsSteady params n k → Holds k vs → Holds k us
+  one_holds _ (is_count p lo hi) h =
+      let same = counts p lo hi in
+      subst (λ y. AtMost (size_in (slice_get us (slot_at params p + 2))) y) (sym same.0)
+      (subst (λ y. AtMost (size_in y) (slice_get vs (slot_at params p + 1))) (sym same.1) h)
+  one_holds _ (is_within i j li lj) h = λ r e.
+      let w = h r (sym (regions i li) ∙ e) in record { other = w.other; at = regions j lj ∙ w.at; inside = w.inside }
+  one_holds _ (is_apart i j li lj) h = λ r q e f. h r q (sym (regions i li) ∙ e) (sym (regions j lj) ∙ f)
+
+  pub steady_holds : (ks : List Fact) → Each (IsSteady params n) ks → Each (λ k. Holds k vs) ks → Each (λ k. Holds k us) ks
+  steady_holds [] a h = tt
+  steady_holds (k ∷ ks) a h = (one_holds k a.0 h.0, steady_holds ks a.1 h.1)
+
+-- among more names
+pub steady_below : (params n o : ℕ) (ks : List Fact) → n ≤ o → Each (IsSteady params n) ks → Each (IsSteady params o) ks
+steady_below params n o [] l h = tt
+steady_below params n o (k ∷ ks) l h = (one k h.0, steady_below params n o ks l h.1)
+  where
+    one : (k : Fact) → IsSteady params n k → IsSteady params o k
+    one _ (is_count p lo hi) = is_count p lo (omega (arith, hi, l))
+    one _ (is_within i j li lj) = is_within i j li lj
+    one _ (is_apart i j li lj) = is_apart i j li lj
+
+-- no colour is named by them
+pub steady_stand : (params n : ℕ) (ss : List Shape) (ks : List Fact) → Each (IsSteady params n) ks → Each (ColoursStand ss) ks
+steady_stand params n ss [] h = tt
+steady_stand params n ss (k ∷ ks) h = (one k h.0, steady_stand params n ss ks h.1)
+  where
+    one : (k : Fact) → IsSteady params n k → ColoursStand ss k
+    one _ (is_count p lo hi) = tt
+    one _ (is_within i j li lj) = tt
+    one _ (is_apart i j li lj) = (tt, tt)
+
+-- a slot behind those of the names is no parameter, no counter and no domain
+pub behind_same : (params n s : ℕ) (vs : List Value) (v : Value) → params ≤ n → slot_at params n ≤ s →
+    SameCounts params n vs (slice_set vs s v) × SameRegions params vs (slice_set vs s v)
+behind_same params n s vs v low h = (
+  λ p lo hi. (
+    get_other vs s (slot_at params p + 1) v (λ e. omega (arith, h, lo, hi, e)),
+    get_other vs s (slot_at params p + 2) v (λ e. omega (arith, h, lo, hi, e)),
+  ),
+  λ i l. ap region_in (get_other vs s i v (λ e. omega (arith, h, low, l, e))),
+)
+
+-- the slot of a name is no counter and no domain
+pub between_same : (params q n : ℕ) (vs : List Value) (v : Value) → SameCounts params n vs (slice_set vs (slot_at params q) v)
+between_same params q n vs v p lo hi = (
+  get_other vs (slot_at params q) (slot_at params p + 1) v (λ e. omega (arith, lo, e)),
+  get_other vs (slot_at params q) (slot_at params p + 2) v (λ e. omega (arith, lo, e)),
+)

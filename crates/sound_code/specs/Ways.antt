@@ -1,0 +1,51 @@
+-- How the regions that a task names are its own, and what its clauses tell of its parameters.
+use Rattle.std.specs.Prelude.{ℕ, List, [], ◌∷◌, Bool, true, false, ◌&&◌, cond, flat_map, length, nat_le, nat_lt, None, Some}
+use Rattle.regent_tree.specs.Scopes.{scope_of}
+use Rattle.regent_tree.specs.Syntax.{TaskTree, Tree}
+use Rattle.regent_tree.specs.declared.facts.Known.{Known}
+use Rattle.regent_tree.specs.declared.facts.Known.TheVariants.{Within, Apart}
+use Rattle.regent_tree.specs.declared.facts.Term.{Term}
+use Rattle.regent_tree.specs.declared.facts.Term.TheVariants.{Name, Child}
+use Rattle.regent_tree.specs.declared.typing.StaticType.{StaticType}
+use Rattle.regent_tree.specs.declared.typing.StaticType.TheVariants.{Integer as integer_type, Truth as truth_type, Index as index_type, Pointer as pointer_type, Ispace as ispace_type, Region as region_type, Partition as partition_type}
+use Rattle.fit_rules.specs.Shapes.{Shape, anything, integer, truth, index, pointer, space, region, partition}
+use Rattle.fit_rules.specs.Marks.{apart, Fact, in_slot, lies}
+
+-- A task is looked at in one of two ways: as one that made each region which it names, or by the rules on its
+-- privileges and constraints, where the regions of its parameters are given.
+pub data Way : Type 0 where
+  all_made : Way
+  by_rules : TaskTree → Way
+
+-- whether a region is known to be one that the task made: by the rules one that was bound behind its parameters
+abbrev pub is_own : Way → ℕ → Term → Bool
+is_own all_made params r = true
+is_own (by_rules task) params (Name i) = nat_le params i
+is_own (by_rules task) params (Child p c) = false
+
+-- the shape of a value of a type
+abbrev pub shape_of : StaticType → Shape
+shape_of (integer_type w) = integer w
+shape_of truth_type = truth
+shape_of (index_type k) = index
+shape_of (pointer_type k sp args rs) = pointer (length rs)
+shape_of (ispace_type k) = space
+shape_of (region_type k sp args r) = region (Some sp) true
+shape_of (partition_type d r p) = partition None d
+shape_of _ = anything
+
+-- the shape of what a name of a type stands for
+abbrev pub shape_in : Way → ℕ → StaticType → Shape
+shape_in way params (region_type k sp args r) = region (Some sp) (is_own way params r)
+shape_in way params t = shape_of t
+
+-- what a constraint tells of parameters in their slots
+abbrev pub told_by : ℕ → Known → List Fact
+told_by params (Within (Name a) (Name b)) = cond (nat_lt a params && nat_lt b params) (lies (in_slot a) (in_slot b) ∷ []) []
+told_by params (Apart (Name a) (Name b)) = cond (nat_lt a params && nat_lt b params) (apart (in_slot a) (in_slot b) ∷ []) []
+told_by params k = []
+
+-- what is known of a task's parameters where it begins
+abbrev pub opening_facts : Way → Tree → TaskTree → List Fact
+opening_facts all_made tree t = []
+opening_facts (by_rules task) tree t = flat_map (told_by (length t.params)) (scope_of tree t).known
