@@ -17,7 +17,7 @@ runs z fits = record {
   needs = refl;
   typed = (
     -- the root
-    (refl, a_space_type _, (omega (arith, ints), an_integer _), record { there = omega arith; few = omega arith }),
+    (refl, a_space_type _, (omega (arith, ints), an_integer _), record { there = omega arith; few = omega arith }, tt),
     -- the index
     (
       (into_plain _ _ (fills_index _ _ (number_integer _)), omega (arith, ints)),
