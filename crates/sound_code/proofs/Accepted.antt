@@ -41,7 +41,7 @@ use Rattle.sound_code.specs.Ways.{by_rules, opening_facts, told_by}
 use Rattle.sound_code.proofs.Declaring.{has_among}
 use Rattle.sound_code.proofs.Grounds.{IsPlaced, IsTold, Kept, OfType, tells_apart, tells_part, tells_within}
 use Rattle.sound_code.proofs.Told.{ToldBlock}
-use Rattle.sound_code.proofs.Wanting.{has_flatly}
+use Rattle.expression_laws.proofs.Calls.{flat_has}
 
 -- ---- parameters
 
@@ -116,7 +116,7 @@ module _ (tree : Tree) (t : TaskTree) (h : IsToldNone tree t) where
       (bound_there tree t.params 0 t.params n (subst (λ bs. is_bound bs n ≡ true) h.sound_task.params named.0))
 
   fact_among : (k : Known) (f : Fact) → Has (scope_of tree t).known k → Has (told_by params k) f → Among ks f
-  fact_among k f a b = has_among ks f (has_flatly (told_by params) (scope_of tree t).known k f a b)
+  fact_among k f a b = has_among ks f (flat_has (told_by params) (scope_of tree t).known k f a b)
 
   -- what one clause tells
   clause_tells : (c : Clause) → misdeclares tree (params_bound tree t.params) c ≡ false → (k : Known) → Has (known_of_clause t.params c) k →
@@ -178,4 +178,4 @@ pub body_without_breach : (tree : Tree) → breaches tree ≡ [] → (k : ℕ) (
 body_without_breach tree none k t at v h =
     let s = task_stands tree k t at in
     places_are_without_breach tree v none (Contains-from_Has _ v
-    (has_flatly (λ (i : ItemTree). meant_of_item tree i.form) tree s.0 v s.1 (subst (λ form. Has (meant_of_item tree form) v) (sym s.2) h)))
+    (flat_has (λ (i : ItemTree). meant_of_item tree i.form) tree s.0 v s.1 (subst (λ form. Has (meant_of_item tree form) v) (sym s.2) h)))

@@ -4,6 +4,7 @@
 #![tactic(auto)]
 
 ghost use Rattle.sound_code.specs.Example.{CodeExampleHolds};
+ghost use Rattle.sound_code.specs.RulesExample.{RulesExampleHolds};
 ghost use Rattle.sound_code.specs.Programs.{AcceptedTasksAreSound, CallsAreSound, RegionTasksAreSound, ScalarProgramsAreSound, ScalarTasksAreSound};
 
 /// Where the entry task's body is typed and treats scalars alone, its code is sound, and the frame in which
@@ -38,4 +39,10 @@ pub fn accepted_code_is_sound()
 #[tactic(auto, using(crate::proofs::Example::code_example_holds))]
 pub fn code_example_holds()
     ensures { CodeExampleHolds }
+{}
+
+/// An accepted program with a task that takes regions, of which each premise holds, and a frame that opens in it.
+#[tactic(auto, using(crate::proofs::RulesExample::rules_example_holds))]
+pub fn rules_example_holds()
+    ensures { RulesExampleHolds }
 {}
