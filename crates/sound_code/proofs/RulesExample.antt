@@ -7,13 +7,15 @@ use Rattle.lane_kernels.specs.declared.numbers.Width.TheVariants.{W64}
 use Rattle.machine_terms.specs.Makes.{region_with}
 use Rattle.code_laws.specs.Programs.{AreTypedTasks, IsTypedTask, gives_nothing}
 use Rattle.code_laws.specs.Simple.{number_integer, a_region_type, a_space_type, an_integer, fits_64, simple_integer, two_integers}
+use Rattle.code_laws.specs.LocalExample.{local_program}
+use Rattle.code_laws.proofs.LocalExample.{local_example_holds}
 use Rattle.fit_rules.specs.Shapes.{Are, are_more, are_none, integer, IsRegion, is_number, is_region}
 use Rattle.fit_rules.specs.Ends.{called}
 use Rattle.fit_rules.specs.Marks.{in_slot, LiesAt}
 use Rattle.fit_rules.proofs.Points.{counted_points}
 use Rattle.sound_code.specs.Programs.{argument_shapes, AreConstrained, TasksKeepRules}
-use Rattle.sound_code.specs.RulesExample.{one_root, raise, raise_args, rules_program, RulesExampleHolds}
-use Rattle.sound_code.proofs.Rules.{tasks_keep_rules}
+use Rattle.sound_code.specs.RulesExample.{HistogramIsSound, one_root, raise, raise_args, rules_program, RulesExampleHolds}
+use Rattle.sound_code.proofs.Rules.{local_programs_are_sound, tasks_keep_rules}
 
 tasks : AreTypedTasks rules_program
 tasks zero t e = subst (IsTypedTask rules_program) (same_Some _ t e) (record {
@@ -88,3 +90,6 @@ rules_example_holds = record {
   fits = record { code = sym sound.code; machine = sound.opens 0 raise refl one_root raise_args 6 2 (omega arith) args_are constrained };
   ends = refl;
 }
+
+pub histogram_is_sound : HistogramIsSound
+histogram_is_sound = local_programs_are_sound local_program (pos 5 ∷ []) local_example_holds.run

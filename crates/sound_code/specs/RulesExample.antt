@@ -16,11 +16,12 @@ use Rattle.machine_terms.specs.Segments.{segment}
 use Rattle.check_rules.specs.Breaches.{breaches}
 use Rattle.code_rules.specs.Programs.{code_of, task_code}
 use Rattle.worked_examples.specs.Words.{access, at, calc, dot, field_space, fields, get, grants, int, item, line, new_region, number, param, region, set, space, space_of, task, var_from}
+use Rattle.code_laws.specs.LocalExample.{local_program}
 use Rattle.code_laws.specs.Programs.{AreTypedTasks}
 use Rattle.fit_rules.specs.Shapes.{anything, World}
 use Rattle.fit_rules.specs.Ends.{called}
 use Rattle.fit_rules.specs.Fits.{BeforeFits}
-use Rattle.sound_code.specs.Programs.{TasksKeepRules}
+use Rattle.sound_code.specs.Programs.{LocalRunsSoundly, TasksKeepRules}
 
 --     fspace f { x : int64 }
 --     task raise(r : region(ispace(int1d), f), q : region(ispace(int1d), f), n : int64)
@@ -69,6 +70,10 @@ raise_before = record {
   frame = opening 6 2 0 (task_code rules_program raise) raise_args;
   parts = [];
 }
+
+-- a histogram whose tasks keep their regions to themselves runs soundly
+abbrev pub HistogramIsSound : Type 0
+HistogramIsSound = LocalRunsSoundly local_program (pos 5 ∷ [])
 
 -- No rule is breached and all tasks are typed, so that the code of each is sound. The frame of the task that takes
 -- regions fits when it opens, and its first segment ends where it wants the field that it reads.
