@@ -3,6 +3,7 @@ pub mod Keeping
 pub mod Numbers
 pub mod Straight
 pub mod Cover
+pub mod Within
 pub mod Cells
 pub mod Access
 pub mod Pointers

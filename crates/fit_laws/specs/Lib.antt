@@ -1,3 +1,4 @@
 pub mod Segments
 pub mod Makes
 pub mod Example
+pub mod Within

@@ -6,6 +6,7 @@
 ghost use Rattle.fit_laws.specs.Example.{ExampleEnds, ExampleIsSound};
 ghost use Rattle.fit_laws.specs.Makes.{PartitionsAreMade, RootsAreClaimed};
 ghost use Rattle.fit_laws.specs.Segments.{ChildrenAreWithin, ChildrenPass, NoSegmentBreaks, PartitionsAreSound, SegmentsKeepFitting, TouchesAreCovered};
+ghost use Rattle.fit_laws.specs.Within.{CoveredNeedsAreWithin};
 
 /// From every Before that fits sound code the After fits again, and the segment isn't a machine fault.
 pub fn segments_keep_fitting()
@@ -20,6 +21,12 @@ pub fn segments_keep_their_declarations()
     ensures children { ChildrenAreWithin }
     ensures tested { ChildrenPass }
     ensures partitions { PartitionsAreSound }
+{}
+
+/// What a call needs is within what its caller needs, where each need is covered at each point of its region.
+#[tactic(auto, using(crate::proofs::Within::covered_needs_are_within))]
+pub fn covered_needs_are_within()
+    ensures { CoveredNeedsAreWithin }
 {}
 
 /// What the run in order makes is what a state is asked to go on with: the needs on a new root, and a

@@ -41,7 +41,7 @@ use Rattle.sound_code.specs.Ways.{by_rules, opening_facts, told_by}
 use Rattle.sound_code.proofs.Declaring.{has_among}
 use Rattle.sound_code.proofs.Grounds.{IsPlaced, IsTold, Kept, OfType, tells_apart, tells_part, tells_within}
 use Rattle.sound_code.proofs.Told.{ToldBlock}
-use Rattle.sound_code.proofs.Wanting.{has_flatly}
+use Rattle.expression_laws.proofs.Calls.{flat_has}
 
 -- ---- parameters
 
@@ -115,33 +115,38 @@ module _ (tree : Tree) (t : TaskTree) (h : IsToldNone tree t) where
       first_below (λ (p : Param). bytes_eq p.name n) t.params
       (bound_there tree t.params 0 t.params n (subst (λ bs. is_bound bs n ≡ true) h.sound_task.params named.0))
 
+  names_low : (a b : Name) → (is_no_region (params_bound tree t.params) a || is_no_region (params_bound tree t.params) b) ≡ false →
+      (place_in t.params a < params) × (place_in t.params b < params)
+  names_low a b e =
+      let parts = or_parts (is_no_region (params_bound tree t.params) a) (is_no_region (params_bound tree t.params) b) e in
+      (param_low a parts.0, param_low b parts.1)
+
+  -- the fact of two parameters that a constraint tells
+  told_fact : (i j : ℕ) (f : Fact) → i < params → j < params → Has (cond (nat_lt i params && nat_lt j params) (f ∷ []) []) f
+  told_fact i j f li lj = subst (λ y. Has (cond y (f ∷ []) []) f)
+      (sym (ap (λ y. y && nat_lt j params) (lt-ltb i params li) ∙ lt-ltb j params lj)) (inl refl)
+
   fact_among : (k : Known) (f : Fact) → Has (scope_of tree t).known k → Has (told_by params k) f → Among ks f
-  fact_among k f a b = has_among ks f (has_flatly (told_by params) (scope_of tree t).known k f a b)
+  fact_among k f a b = has_among ks f (flat_has (told_by params) (scope_of tree t).known k f a b)
 
   -- what one clause tells
   clause_tells : (c : Clause) → misdeclares tree (params_bound tree t.params) c ≡ false → (k : Known) → Has (known_of_clause t.params c) k →
       Has (scope_of tree t).known k → IsTold params ks k
   clause_tells (clause.Within a b) e k (inl same) there =
-      let parts = or_parts (is_no_region (params_bound tree t.params) a) (is_no_region (params_bound tree t.params) b) e in
-      let la = param_low a parts.0 in
-      let lb = param_low b parts.1 in
+      let low = names_low a b e in
       let i = place_in t.params a in
       let j = place_in t.params b in
-      subst (IsTold params ks) same (tells_within i j la lb (fact_among (Within (term.Name i) (term.Name j)) (lies (in_slot i) (in_slot j))
-      (subst (Has (scope_of tree t).known) (sym same) there)
-      (subst (λ y. Has (cond y (lies (in_slot i) (in_slot j) ∷ []) []) (lies (in_slot i) (in_slot j)))
-      (sym (ap (λ y. y && nat_lt j params) (lt-ltb i params la) ∙ lt-ltb j params lb)) (inl refl))))
+      let f = lies (in_slot i) (in_slot j) in
+      subst (IsTold params ks) same (tells_within i j low.0 low.1 (fact_among (Within (term.Name i) (term.Name j)) f
+      (subst (Has (scope_of tree t).known) (sym same) there) (told_fact i j f low.0 low.1)))
   clause_tells (clause.Within a b) e k (inr i) there = absurd i
   clause_tells (clause.Apart a b) e k (inl same) there =
-      let parts = or_parts (is_no_region (params_bound tree t.params) a) (is_no_region (params_bound tree t.params) b) e in
-      let la = param_low a parts.0 in
-      let lb = param_low b parts.1 in
+      let low = names_low a b e in
       let i = place_in t.params a in
       let j = place_in t.params b in
-      subst (IsTold params ks) same (tells_apart i j la lb (fact_among (Apart (term.Name i) (term.Name j)) (apart (in_slot i) (in_slot j))
-      (subst (Has (scope_of tree t).known) (sym same) there)
-      (subst (λ y. Has (cond y (apart (in_slot i) (in_slot j) ∷ []) []) (apart (in_slot i) (in_slot j)))
-      (sym (ap (λ y. y && nat_lt j params) (lt-ltb i params la) ∙ lt-ltb j params lb)) (inl refl))))
+      let f = apart (in_slot i) (in_slot j) in
+      subst (IsTold params ks) same (tells_apart i j low.0 low.1 (fact_among (Apart (term.Name i) (term.Name j)) f
+      (subst (Has (scope_of tree t).known) (sym same) there) (told_fact i j f low.0 low.1)))
   clause_tells (clause.Apart a b) e k (inr i) there = absurd i
   clause_tells (clause.Grants grants places) e k i there = absurd i
 
@@ -178,4 +183,4 @@ pub body_without_breach : (tree : Tree) → breaches tree ≡ [] → (k : ℕ) (
 body_without_breach tree none k t at v h =
     let s = task_stands tree k t at in
     places_are_without_breach tree v none (Contains-from_Has _ v
-    (has_flatly (λ (i : ItemTree). meant_of_item tree i.form) tree s.0 v s.1 (subst (λ form. Has (meant_of_item tree form) v) (sym s.2) h)))
+    (flat_has (λ (i : ItemTree). meant_of_item tree i.form) tree s.0 v s.1 (subst (λ form. Has (meant_of_item tree form) v) (sym s.2) h)))

@@ -7,23 +7,13 @@ use Rattle.regent_tree.specs.Typing.{arithmetic_type, scope_after, scope_after_a
 use Rattle.task_code.specs.declared.code.TaskCode.{TaskCode}
 use Rattle.code_rules.specs.Slots.{Where, typed}
 use Rattle.code_rules.specs.Statements.{after_arm, after_arms, after_form, looping, on_line}
-use Rattle.code_laws.specs.Simple.{AreAlike, two_integers, two_truths, IsInteger, an_integer, IsScalar, scalar_integer, scalar_truth, IsSimple, simple_index, simple_integer, simple_truth, IsSpace, a_space_type}
+use Rattle.code_laws.specs.Simple.{IsInteger, an_integer, IsSimple, simple_index, simple_integer, IsSpace, a_space_type}
 use Rattle.code_laws.specs.Steps.{Forms, without_pointers}
 use Rattle.code_laws.specs.Typed.{IsTypedForm, AreTypedArms, IsTypedElse, IsTypedBlock}
+use Rattle.code_laws.proofs.Values.{scalar_simple}
 use Rattle.sound_code.specs.Ways.{Way}
+use Rattle.sound_code.proofs.Calling.{alike_first, alike_second}
 use Rattle.sound_code.proofs.Grounds.{Ground, ground_declared, ground_looping, ground_past, ground_plain, ground_root, ground_said}
-
-alike_from : (t u : StaticType) → AreAlike t u → IsSimple t
-alike_from _ _ (two_integers a b) = simple_integer a
-alike_from _ _ two_truths = simple_truth
-
-alike_to : (t u : StaticType) → AreAlike t u → IsSimple u
-alike_to _ _ (two_integers a b) = simple_integer b
-alike_to _ _ two_truths = simple_truth
-
-scalar_simple : (u : StaticType) → IsScalar u → IsSimple u
-scalar_simple _ (scalar_integer v) = simple_integer v
-scalar_simple _ scalar_truth = simple_truth
 
 -- what loops bind is simple
 pub counted_simple : (t u : StaticType) → IsInteger t → IsInteger u → IsSimple (arithmetic_type t u)
@@ -42,7 +32,7 @@ module _ (forms : Forms) (t : TaskCode) (way : Way) where
     after_form_ground w (var_form n None (Some (region_initializer e u))) f g = ground_root t w.tree w.params way w.scope n _ _ _ g
     after_form_ground w (var_form n (Some term) (Some (plain_initializer e))) f g =
         ground_said t w.tree w.params way w.scope n (typed w e) (var_type w.tree w.scope (Some term) (Some (plain_initializer e)))
-        (alike_from _ _ f.0) (alike_to _ _ f.0) g
+        (scalar_simple _ (alike_first _ _ f.0)) (scalar_simple _ (alike_second _ _ f.0)) g
     after_form_ground w (var_form n (Some term) None) f g =
         ground_declared t w.tree w.params way w.scope n (var_type w.tree w.scope (Some term) None) (scalar_simple _ f) g
     after_form_ground w (if_form arms other) f g = after_else_ground (after_arms w arms) other f.1 (after_arms_ground w w arms f.0 g)

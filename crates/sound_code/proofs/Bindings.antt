@@ -1,77 +1,41 @@
 -- What loops and variables bind: widths, domains, and the shapes of roots.
-use Rattle.std.proofs.Common.{◌≡◌, ℕ, ◌<◌, ℤ, pos, List, [], ◌∷◌, Bool, true, false, Some, None, refl, sym, ap, ◌∙◌, subst, arith}
-use Rattle.std.specs.Prelude.{length, map, slice_get}
+use Rattle.std.proofs.Common.{◌≡◌, ℕ, ℤ, pos, List, Bool, true, false, Some, refl, sym, ap, arith}
 use Rattle.std.proofs.lemmas.Int.{ints}
-use Rattle.lane_kernels.specs.declared.numbers.Op.{Op}
-use Rattle.lane_kernels.specs.declared.numbers.Op.TheVariants.{Sum, Product, Least, Greatest}
 use Rattle.lane_kernels.specs.declared.numbers.Width.{Width}
 use Rattle.lane_kernels.specs.declared.numbers.Width.TheVariants.{W32, W64}
 use Rattle.lane_kernels.specs.Numbers.{FitsWidth}
-use Rattle.regent_tree.specs.declared.expression.Arithmetic.TheVariants.{Add, Multiply}
-use Rattle.regent_tree.specs.declared.expression.Comparison.TheVariants.{Less, Greater}
-use Rattle.regent_tree.specs.Lookup.{is_bound}
 use Rattle.regent_tree.specs.Numbers.{wider}
-use Rattle.regent_tree.specs.declared.statement.How.TheVariants as how
-use Rattle.regent_tree.specs.declared.typing.Bound.{Bound}
 use Rattle.regent_tree.specs.declared.typing.StaticType.{StaticType}
 use Rattle.regent_tree.specs.declared.typing.StaticType.TheVariants.{Integer as integer_type}
-use Rattle.regent_tree.specs.Syntax.{Expression, Name, no_step, field_step, at_step, plain_initializer, region_initializer, a_statement, Form, var_form, if_form, while_form, for_in_form, for_to_form, do_form, fill_form, call_form, assert_form, print_form, assign_form, return_form, Block, no_statement, then_statement, Arms, no_arm, an_arm, Otherwise, no_else, else_block}
-use Rattle.regent_tree.specs.Typing.{kind_of_ispace, arithmetic_type, is_pointer, scope_after_block, owned, taken_from, var_type, width_of_type}
+use Rattle.regent_tree.specs.Syntax.{Expression, Name, if_form, Block, Arms, Otherwise}
+use Rattle.regent_tree.specs.Typing.{arithmetic_type, is_pointer, owned, taken_from}
 use Rattle.task_code.specs.declared.code.TaskCode.{TaskCode}
 use Rattle.task_code.specs.declared.instr.Instr.TheVariants as instr
 use Rattle.machine_terms.specs.declared.value.Value.{Value}
-use Rattle.machine_terms.specs.Jumps.{fetch}
-use Rattle.code_rules.specs.Assignments.{fold_code}
 use Rattle.code_rules.specs.Initializers.{new_place, plain_code}
 use Rattle.code_rules.specs.Instructions.{one}
 use Rattle.task_code.specs.declared.code.Line.{Line}
-use Rattle.code_rules.specs.Pieces.{Piece, ◌⨟◌, line_of, rounds}
-use Rattle.code_rules.specs.Slots.{Where, typed, bound, beside, counter, slot, slot_named, spare}
-use Rattle.code_rules.specs.Statements.{on_line, looping, after_form, after_arm, after_arms, form_code, arms_code, else_code, block_code}
+use Rattle.code_rules.specs.Pieces.{Piece, ◌⨟◌, rounds}
+use Rattle.code_rules.specs.Slots.{Where, beside, counter, slot}
+use Rattle.code_rules.specs.Statements.{looping, block_code}
 use Rattle.code_laws.specs.Standing.{Stands}
-use Rattle.code_laws.proofs.Names.{arms_names, else_names}
-use Rattle.fit_rules.specs.Shapes.{Shape, Numeric, integer, World, Is, is_number}
-use Rattle.fit_rules.specs.Marks.{Mark, stacked}
-use Rattle.fit_rules.specs.Fits.{Program}
-use Rattle.regent_tree.specs.StaticTypes.{place_of_space}
+use Rattle.fit_rules.specs.Shapes.{integer, World, Is, is_number}
 use Rattle.code_rules.specs.Expressions.{expr_code}
 use Rattle.code_laws.specs.Simple.{IsSimple, simple_integer, simple_truth, simple_space, simple_index, IsInteger, an_integer, IsSpace, a_space_type}
-use Rattle.code_laws.specs.Steps.{Forms}
-use Rattle.code_laws.specs.Typed.{element_field, IsTypedForm, AreTypedArms, IsTypedElse, IsTypedBlock}
 use Rattle.fit_rules.specs.Shapes.{index, space}
-use Rattle.marked_code.specs.Marked.{leads_nowhere, typed_op}
-use Rattle.sound_code.specs.Named.{HasSlots, Ready}
 use Rattle.std.proofs.lemmas.Bool.{le-leb}
-use Rattle.regent_tree.specs.Scopes.{in_scope, past, Scope}
-use Rattle.regent_tree.specs.StaticTypes.{looked_up, Reach}
+use Rattle.regent_tree.specs.Scopes.{Scope}
+use Rattle.regent_tree.specs.StaticTypes.{Reach}
 use Rattle.regent_tree.specs.Syntax.{Tree}
 use Rattle.regent_tree.specs.Typing.{scope_after_arms}
 use Rattle.regent_tree.specs.declared.facts.Term.TheVariants as place
-use Rattle.regent_tree.specs.declared.rights.Access.TheVariants as access
 use Rattle.regent_tree.specs.declared.types.Kind.{Kind}
 use Rattle.regent_tree.specs.declared.typing.StaticType.TheVariants.{Region as region_type}
-use Rattle.check_rules.specs.types.Parts.{tests_of}
 use Rattle.check_laws.specs.MeantVisits.{meant_in_arms, meant_in_else, meant_within}
 use Rattle.fit_rules.specs.Shapes.{region}
 use Rattle.sound_code.specs.Ways.{Way, all_made, by_rules, shape_in, shape_of}
-use Rattle.sound_code.proofs.Behind.{after_arms_ground, after_block_ground, after_form_ground, counted_simple}
-use Rattle.sound_code.proofs.Grounds.{Ground, HasFacts, facts_more, ground_looping, ground_past}
-use Rattle.sound_code.proofs.Steady.{steady_below}
-use Rattle.sound_code.proofs.Told.{ToldAll, ToldBlock, ToldForm, ToldList, told_arms, told_both, told_first, told_head, told_heads, told_listed, told_plain, told_statement}
-use Rattle.sound_code.proofs.Wanting.{may_reduce, may_write, told_index}
-use Rattle.sound_code.proofs.Asked.{Asked}
-use Rattle.sound_code.proofs.Calling.{alike_second, scalar_numeric}
-use Rattle.sound_code.proofs.Combining.{KeepsNumber, Marked, nothing_done, both, into, named_kept}
-use Rattle.sound_code.proofs.Elements.{reduces, writes}
-use Rattle.sound_code.proofs.Expressions.{converted_marked, integer_is_plain, named_at, region_named, simple_named, stored, touched}
-use Rattle.sound_code.proofs.Filling.{fill_marked}
-use Rattle.sound_code.proofs.Folds.{computed_marked, chosen_marked}
-use Rattle.sound_code.proofs.Loops as numbers
-use Rattle.sound_code.proofs.Narrowing.{narrow_itself, narrow_then, narrow_long, narrow_into, same_facts}
-use Rattle.sound_code.proofs.Prints.{print_marked}
-use Rattle.sound_code.proofs.Rounds.{long_round, round_narrow, round_ready}
-use Rattle.sound_code.proofs.SpaceLoops as points
-use Rattle.sound_code.proofs.Statements.{alike_simple, Followed, unchanged, owned_same, plain_marked, value_marked, zero_marked, root_marked, bind_marked, assign_marked, return_marked, assert_marked, call_marked, closed_block, while_marked, branch_marked}
+use Rattle.sound_code.proofs.Grounds.{Ground}
+use Rattle.sound_code.proofs.Told.{ToldAll, told_both}
 
 -- ---- widths
 

@@ -1,65 +1,53 @@
 -- The code of blocks has marks.
 use Rattle.std.proofs.lemmas.Bool.{false≢true}
-use Rattle.std.proofs.Common.{◌≡◌, ℕ, ◌<◌, ℤ, pos, List, [], ◌∷◌, Bool, true, false, Some, None, refl, sym, ap, ◌∙◌, subst, arith}
+use Rattle.std.proofs.Common.{false, ◌≡◌, ℕ, ◌<◌, List, [], ◌∷◌, true, Some, None, refl, sym, ap, ◌∙◌, subst, arith}
 use Rattle.std.specs.Prelude.{length, map, slice_get}
-use Rattle.std.proofs.lemmas.Int.{ints}
 use Rattle.lane_kernels.specs.declared.numbers.Op.{Op}
 use Rattle.lane_kernels.specs.declared.numbers.Op.TheVariants.{Sum, Product, Least, Greatest}
-use Rattle.lane_kernels.specs.declared.numbers.Width.{Width}
-use Rattle.lane_kernels.specs.declared.numbers.Width.TheVariants.{W32, W64}
-use Rattle.lane_kernels.specs.Numbers.{FitsWidth}
 use Rattle.regent_tree.specs.declared.expression.Arithmetic.TheVariants.{Add, Multiply}
 use Rattle.regent_tree.specs.declared.expression.Comparison.TheVariants.{Less, Greater}
 use Rattle.regent_tree.specs.Lookup.{is_bound}
-use Rattle.regent_tree.specs.Numbers.{wider}
 use Rattle.regent_tree.specs.declared.statement.How.TheVariants as how
 use Rattle.regent_tree.specs.declared.typing.Bound.{Bound}
 use Rattle.regent_tree.specs.declared.typing.StaticType.{StaticType}
-use Rattle.regent_tree.specs.declared.typing.StaticType.TheVariants.{Integer as integer_type}
-use Rattle.regent_tree.specs.Syntax.{Expression, Name, no_step, field_step, at_step, plain_initializer, region_initializer, a_statement, Form, var_form, if_form, while_form, for_in_form, for_to_form, do_form, fill_form, call_form, assert_form, print_form, assign_form, return_form, Block, no_statement, then_statement, Arms, no_arm, an_arm, Otherwise, no_else, else_block}
-use Rattle.regent_tree.specs.Typing.{kind_of_ispace, arithmetic_type, is_pointer, scope_after_block, owned, taken_from, var_type, width_of_type}
+use Rattle.regent_tree.specs.Syntax.{Name, no_step, field_step, at_step, plain_initializer, region_initializer, a_statement, Form, var_form, if_form, while_form, for_in_form, for_to_form, do_form, fill_form, call_form, assert_form, print_form, assign_form, return_form, Block, no_statement, then_statement, Arms, no_arm, an_arm, Otherwise, no_else, else_block}
+use Rattle.regent_tree.specs.Typing.{kind_of_ispace, arithmetic_type, scope_after_block, owned, taken_from, var_type, width_of_type}
 use Rattle.task_code.specs.declared.code.TaskCode.{TaskCode}
 use Rattle.task_code.specs.declared.instr.Instr.TheVariants as instr
-use Rattle.machine_terms.specs.declared.value.Value.{Value}
 use Rattle.machine_terms.specs.Jumps.{fetch}
 use Rattle.code_rules.specs.Assignments.{fold_code}
-use Rattle.code_rules.specs.Initializers.{new_place, plain_code}
+use Rattle.code_rules.specs.Initializers.{new_place}
 use Rattle.code_rules.specs.Instructions.{one}
-use Rattle.task_code.specs.declared.code.Line.{Line}
-use Rattle.code_rules.specs.Pieces.{Piece, ◌⨟◌, line_of, rounds}
-use Rattle.code_rules.specs.Slots.{Where, typed, bound, beside, counter, slot, slot_named, spare}
+use Rattle.code_rules.specs.Pieces.{Piece, line_of}
+use Rattle.code_rules.specs.Slots.{Where, typed, bound, beside, slot, slot_named, spare}
 use Rattle.code_rules.specs.Statements.{on_line, looping, after_form, after_arm, after_arms, form_code, arms_code, else_code, block_code}
 use Rattle.code_laws.specs.Standing.{Stands}
 use Rattle.code_laws.proofs.Names.{arms_names, else_names}
-use Rattle.fit_rules.specs.Shapes.{Shape, Numeric, integer, World, Is, is_number}
+use Rattle.fit_rules.specs.Shapes.{Shape, Numeric, integer}
 use Rattle.fit_rules.specs.Marks.{Mark, stacked}
 use Rattle.fit_rules.specs.Fits.{Program}
 use Rattle.regent_tree.specs.StaticTypes.{place_of_space}
 use Rattle.code_rules.specs.Expressions.{expr_code}
-use Rattle.code_laws.specs.Simple.{IsSimple, simple_integer, simple_truth, simple_space, simple_index, IsInteger, an_integer, IsSpace, a_space_type}
+use Rattle.code_laws.specs.Simple.{IsInteger, an_integer}
 use Rattle.code_laws.specs.Steps.{Forms, without_pointers}
 use Rattle.code_laws.specs.Typed.{element_field, IsTypedForm, AreTypedArms, IsTypedElse, IsTypedBlock}
 use Rattle.fit_rules.specs.Shapes.{index, space}
 use Rattle.marked_code.specs.Marked.{leads_nowhere, typed_op}
+use Rattle.code_laws.proofs.Values.{scalar_simple}
 use Rattle.sound_code.specs.Named.{HasSlots, Ready}
-use Rattle.std.proofs.lemmas.Bool.{le-leb}
 use Rattle.regent_tree.specs.Scopes.{in_scope, past, Scope}
-use Rattle.regent_tree.specs.StaticTypes.{looked_up, Reach}
-use Rattle.regent_tree.specs.Syntax.{Tree}
+use Rattle.regent_tree.specs.StaticTypes.{looked_up}
 use Rattle.regent_tree.specs.Typing.{scope_after_arms}
-use Rattle.regent_tree.specs.declared.facts.Term.TheVariants as place
 use Rattle.regent_tree.specs.declared.rights.Access.TheVariants as access
-use Rattle.regent_tree.specs.declared.types.Kind.{Kind}
-use Rattle.regent_tree.specs.declared.typing.StaticType.TheVariants.{Region as region_type}
 use Rattle.check_rules.specs.types.Parts.{tests_of}
 use Rattle.check_laws.specs.MeantVisits.{meant_in_arms, meant_in_else, meant_within}
 use Rattle.fit_rules.specs.Shapes.{region}
-use Rattle.sound_code.specs.Ways.{Way, all_made, by_rules, shape_in, shape_of}
-use Rattle.sound_code.proofs.Bindings.{Widens, over_points, parts_told, plain_stands, root_shape, takes, widens}
+use Rattle.sound_code.specs.Ways.{Way, shape_in, shape_of}
+use Rattle.sound_code.proofs.Bindings.{over_points, parts_told, plain_stands, root_shape, takes, widens}
 use Rattle.sound_code.proofs.Behind.{after_arms_ground, after_block_ground, after_form_ground, counted_simple}
 use Rattle.sound_code.proofs.Grounds.{Ground, HasFacts, facts_more, ground_looping, ground_past}
 use Rattle.sound_code.proofs.Steady.{steady_below}
-use Rattle.sound_code.proofs.Told.{ToldAll, ToldBlock, ToldForm, ToldList, told_arms, told_both, told_first, told_head, told_heads, told_listed, told_plain, told_statement}
+use Rattle.sound_code.proofs.Told.{ToldAll, ToldBlock, ToldForm, ToldList, told_arms, told_first, told_head, told_heads, told_listed, told_plain, told_statement}
 use Rattle.sound_code.proofs.Wanting.{may_reduce, may_write, told_index}
 use Rattle.sound_code.proofs.Asked.{Asked}
 use Rattle.sound_code.proofs.Calling.{alike_second, scalar_numeric}
@@ -73,7 +61,7 @@ use Rattle.sound_code.proofs.Narrowing.{narrow_itself, narrow_then, narrow_long,
 use Rattle.sound_code.proofs.Prints.{print_marked}
 use Rattle.sound_code.proofs.Rounds.{long_round, round_narrow, round_ready}
 use Rattle.sound_code.proofs.SpaceLoops as points
-use Rattle.sound_code.proofs.Statements.{alike_simple, Followed, unchanged, owned_same, plain_marked, value_marked, zero_marked, root_marked, bind_marked, assign_marked, return_marked, assert_marked, call_marked, closed_block, while_marked, branch_marked}
+use Rattle.sound_code.proofs.Statements.{Followed, unchanged, owned_same, plain_marked, value_marked, zero_marked, root_marked, bind_marked, assign_marked, return_marked, assert_marked, call_marked, closed_block, while_marked, branch_marked}
 
 module _ (g : Program) (t : TaskCode) (k slots : ℕ) (have : HasSlots t slots) (forms : Forms) (plain : forms.takes ≡ None) (way : Way) where
   -- what is asked of a place
@@ -160,14 +148,14 @@ module _ (g : Program) (t : TaskCode) (k slots : ℕ) (have : HasSlots t slots) 
         (told_head w.tree w.scope way (var_form x None (Some (region_initializer e u))) e refl told) f.3 pc st.0.0) (stored g t k slots have forms plain way w m a _ _ st.1)
     form_marked w m (var_form x (Some term) (Some (plain_initializer e))) f a told within pc st =
         let u = var_type w.tree w.scope (Some term) (Some (plain_initializer e)) in
-        bind_marked g t k slots have forms plain way w m a x (shape_of u) u _ (sym (simple_named way w.params u (alike_simple u (alike_second _ _ f.0))))
+        bind_marked g t k slots have forms plain way w m a x (shape_of u) u _ (sym (simple_named way w.params u (scalar_simple u (alike_second _ _ f.0))))
         (both g t k (value_marked g t k slots have forms plain way w m a e [] f.1
         (told_plain way forms w e f.1 (told_heads w.tree w.scope way (var_form x (Some term) (Some (plain_initializer e))) told)) pc st.0.0)
         (converted_marked g t k slots have forms plain way w m a _ _ [] f.0))
         (stored g t k slots have forms plain way w m a _ _ st.1)
     form_marked w m (var_form x (Some term) None) f a told within pc st =
         let u = var_type w.tree w.scope (Some term) None in
-        bind_marked g t k slots have forms plain way w m a x (shape_of u) u _ (sym (simple_named way w.params u (alike_simple u f)))
+        bind_marked g t k slots have forms plain way w m a x (shape_of u) u _ (sym (simple_named way w.params u (scalar_simple u f)))
         (zero_marked g t k slots have forms plain way w m a u f)
         (stored g t k slots have forms plain way w m a _ _ st.1)
     form_marked w m (if_form arms other) f a told within pc st = record {

@@ -98,21 +98,18 @@ pub types_many : (tree : Tree) (t : TaskTree) → length (param_types tree t) �
 types_many tree t = types_length (scope_of tree t).names ∙ params_length tree t.params 0 t.params
 
 -- what clauses tell speaks of parameters alone
+both_told : (params a b : ℕ) (f : Fact) → (a < params → b < params → IsSteady params params f) →
+    Each (IsSteady params params) (cond (nat_lt a params && nat_lt b params) (f ∷ []) [])
+both_told params a b f h = chosen (nat_lt a params) refl (nat_lt b params) refl
+  where
+    chosen : (c : Bool) → nat_lt a params ≡ c → (d : Bool) → nat_lt b params ≡ d → Each (IsSteady params params) (cond (c && d) (f ∷ []) [])
+    chosen true p true q = (h (ltb-true a params p) (ltb-true b params q), tt)
+    chosen true p false q = tt
+    chosen false p d q = tt
+
 told_steady : (params : ℕ) (k : RegionKnown) → Each (IsSteady params params) (told_by params k)
-told_steady params (Within (TermName a) (TermName b)) = chosen (nat_lt a params) refl (nat_lt b params) refl
-  where
-    chosen : (c : Bool) → nat_lt a params ≡ c → (d : Bool) → nat_lt b params ≡ d →
-        Each (IsSteady params params) (cond (c && d) (lies (in_slot a) (in_slot b) ∷ []) [])
-    chosen true p true q = (is_within a b (ltb-true a params p) (ltb-true b params q), tt)
-    chosen true p false q = tt
-    chosen false p d q = tt
-told_steady params (Apart (TermName a) (TermName b)) = chosen (nat_lt a params) refl (nat_lt b params) refl
-  where
-    chosen : (c : Bool) → nat_lt a params ≡ c → (d : Bool) → nat_lt b params ≡ d →
-        Each (IsSteady params params) (cond (c && d) (apart (in_slot a) (in_slot b) ∷ []) [])
-    chosen true p true q = (is_apart a b (ltb-true a params p) (ltb-true b params q), tt)
-    chosen true p false q = tt
-    chosen false p d q = tt
+told_steady params (Within (TermName a) (TermName b)) = both_told params a b (lies (in_slot a) (in_slot b)) (is_within a b)
+told_steady params (Apart (TermName a) (TermName b)) = both_told params a b (apart (in_slot a) (in_slot b)) (is_apart a b)
 told_steady params _ = tt
 
 each_both : (P : Fact → Type 0) (xs ys : List Fact) → Each P xs → Each P ys → Each P (xs ++ ys)

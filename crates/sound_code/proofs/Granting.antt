@@ -4,9 +4,6 @@ use Rattle.std.proofs.Common.{◌≡◌, ◌⊎◌, inl, inr, ℕ, ◌<◌, ◌�
 use Rattle.std.specs.Prelude.{length, nat_le, slice_get, ◌==◌}
 use Rattle.std.proofs.lemmas.Bool.{and_parts, eqb-true, le-leb, or_cases}
 use Rattle.lane_kernels.specs.declared.numbers.Mode.TheVariants as mode
-use Rattle.lane_kernels.specs.declared.numbers.Op.{Op}
-use Rattle.lane_kernels.specs.declared.numbers.Op.TheVariants.{Sum, Product, Least, Greatest}
-use Rattle.lane_kernels.specs.Modes.{same_op}
 use Rattle.plain_values.specs.Points.{has}
 use Rattle.regent_tree.specs.Accesses.{space_in}
 use Rattle.regent_tree.specs.Facts.{is_subregion}
@@ -33,6 +30,7 @@ use Rattle.constraint_check.proofs.Table.{is_subregion-derivable}
 use Rattle.check_rules.specs.rules.Privileges.{made_above, may_do, rights_declared, wanting}
 use Rattle.code_laws.specs.Simple.{IsRegion, a_region_type}
 use Rattle.expression_laws.specs.Needs.{mode_of}
+use Rattle.expression_laws.proofs.Joins.{same_ops}
 use Rattle.fit_rules.specs.Shapes.{Among, region, World}
 use Rattle.fit_rules.specs.Marks.{Holds, in_slot, lies, LiesAt, Mark, stacked, Suits}
 use Rattle.fit_rules.specs.Fits.{Covers, declares_it, Declares, Program, reads_and_writes}
@@ -64,29 +62,11 @@ abbrev number_of_name : Term → ℕ
 number_of_name (Name i) = i
 number_of_name (Child p c) = 0
 
-ops : (p q : Op) → same_op p q ≡ true → mode.Reduce p ≡ mode.Reduce q
-ops Sum Sum e = refl
-ops Product Product e = refl
-ops Least Least e = refl
-ops Greatest Greatest e = refl
-ops Sum Product e = absurd cc
-ops Sum Least e = absurd cc
-ops Sum Greatest e = absurd cc
-ops Product Sum e = absurd cc
-ops Product Least e = absurd cc
-ops Product Greatest e = absurd cc
-ops Least Sum e = absurd cc
-ops Least Product e = absurd cc
-ops Least Greatest e = absurd cc
-ops Greatest Sum e = absurd cc
-ops Greatest Product e = absurd cc
-ops Greatest Least e = absurd cc
-
 -- accesses that are told alike are of one mode
 same_modes : (a b : Access) → same_access a b ≡ true → mode_of a ≡ mode_of b
 same_modes Read Read e = refl
 same_modes Write Write e = refl
-same_modes (Reduce p) (Reduce q) e = ops p q e
+same_modes (Reduce p) (Reduce q) e = ap mode.Reduce (same_ops p q e)
 same_modes Read Write e = absurd cc
 same_modes Read (Reduce q) e = absurd cc
 same_modes Write Read e = absurd cc

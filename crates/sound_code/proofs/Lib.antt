@@ -26,3 +26,4 @@ pub mod Openings
 pub mod Accepted
 pub mod Rules
 pub mod Example
+pub mod RulesExample

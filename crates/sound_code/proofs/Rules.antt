@@ -9,7 +9,8 @@ use Rattle.code_rules.specs.Instructions.{tasks_of}
 use Rattle.code_laws.specs.Programs.{AreTypedTasks, call_forms}
 use Rattle.fit_rules.specs.Marks.{Mark}
 use Rattle.marked_code.proofs.Remarked.{remarked}
-use Rattle.sound_code.specs.Programs.{AcceptedTasksAreSound, TasksKeepRules}
+use Rattle.code_laws.proofs.LocalRuns.{local_run, local_tasks}
+use Rattle.sound_code.specs.Programs.{AcceptedTasksAreSound, LocalProgramsAreSound, TasksKeepRules}
 use Rattle.sound_code.specs.Ways.{Way, by_rules}
 use Rattle.sound_code.proofs.Accepted.{begins_kept, body_without_breach, stands_in}
 use Rattle.sound_code.proofs.Entries.{named_there}
@@ -42,3 +43,8 @@ module _ (tree : Tree) (none : breaches tree ≡ []) (typed : AreTypedTasks tree
 
 pub accepted_tasks_are_sound : AcceptedTasksAreSound
 accepted_tasks_are_sound tree none typed = tasks_keep_rules tree none typed
+
+pub local_programs_are_sound : LocalProgramsAreSound
+local_programs_are_sound tree inputs p =
+    let tasks = tasks_keep_rules tree p.accepted (local_tasks tree inputs p) in
+    record { tasks = tasks; first = λ turns few. tasks.begins inputs turns (local_run tree inputs p) few }

@@ -35,6 +35,7 @@ use Rattle.fit_rules.specs.Fits.{Program}
 use Rattle.fit_rules.specs.Sound.{Settled, settled_number, does_num, does_assert, does_drop}
 use Rattle.marked_code.specs.Marked.{leads_back, leads_making, typed_op, typed_branch, typed_loop}
 use Rattle.fit_laws.proofs.Keeping.{get_other, get_set, set_mark}
+use Rattle.code_laws.proofs.Values.{scalar_simple}
 use Rattle.sound_code.specs.Named.{slot_at, HasSlots, Ready, Narrower}
 use Rattle.sound_code.specs.Ways.{Way, shape_in, shape_of}
 use Rattle.sound_code.proofs.Steady.{steady_below}
@@ -50,10 +51,6 @@ owned_same n _ (simple_integer v) = refl
 owned_same n _ simple_truth = refl
 owned_same n _ (simple_space c) = refl
 owned_same n _ (simple_index c) = refl
-
-pub alike_simple : (u : StaticType) → IsScalar u → IsSimple u
-alike_simple _ (scalar_integer v) = simple_integer v
-alike_simple _ scalar_truth = simple_truth
 
 pub scalar_settled : (u : StaticType) → IsScalar u → Settled (shape_of u)
 scalar_settled u p = settled_number _ (scalar_numeric u p)
@@ -199,7 +196,7 @@ module _ (g : Program) (t : TaskCode) (k slots : ℕ) (have : HasSlots t slots) 
       Followed g t k way w.params w.scope.names m (form_code w (assign_form x no_step how.Set e))
   assign_marked x e al f told b hi pc st =
       let r = asked.ready in
-      let simple = alike_simple (bound w x).static_type (alike_second _ _ al) in
+      let simple = scalar_simple (bound w x).static_type (alike_second _ _ al) in
       let h = named_at way w.params m.slots w.scope.names x r.named b ∙ ap Some (simple_named way w.params _ simple) in
       unchanged g t k way _ _ m _ r (both g t k (both g t k (value_marked e [] f told pc st)
       (converted_marked g t k slots have forms plain way w m asked _ _ [] al))

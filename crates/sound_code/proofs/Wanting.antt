@@ -16,7 +16,7 @@ use Rattle.regent_tree.specs.declared.rights.Access.TheVariants as access
 use Rattle.regent_tree.specs.declared.statement.How.{How}
 use Rattle.regent_tree.specs.declared.statement.How.TheVariants as how
 use Rattle.regent_tree.specs.declared.typing.StaticType.{StaticType}
-use Rattle.regent_tree.proofs.Members.{Has, Has-append_left, Has-append_right}
+use Rattle.regent_tree.proofs.Members.{Has}
 use Rattle.check_rules.specs.Breaches.{has_no_type, wrong_initializer_at}
 use Rattle.check_rules.specs.rules.Names.{unbound_name_in_form}
 use Rattle.check_rules.specs.rules.Statements.{standing_in_form}
@@ -36,6 +36,7 @@ use Rattle.check_rules.proofs.Untold.{rule_none}
 use Rattle.check_laws.specs.SoundScopes.{IsSoundScope}
 use Rattle.check_laws.proofs.Blocks.{head_known}
 use Rattle.check_laws.proofs.Variables.{target_of_form}
+use Rattle.expression_laws.proofs.Calls.{flat_has}
 use Rattle.expression_laws.proofs.Steps.{all_has}
 use Rattle.code_rules.specs.Slots.{Where, bound, typed}
 use Rattle.code_laws.specs.Simple.{IsNumber, IsRegion, a_region_type}
@@ -52,11 +53,6 @@ use Rattle.sound_code.proofs.Granting.{May, term_in}
 use Rattle.sound_code.proofs.Told.{Told, ToldForm}
 
 -- ---- lists
-
-pub has_flatly : {A B : Type 0} (f : A → List B) (xs : List A) (x : A) (y : B) → Has xs x → Has (f x) y → Has (flat_map f xs) y
-has_flatly f [] x y h i = absurd h
-has_flatly f (z ∷ xs) x y (inl e) i = Has-append_left (f z) (flat_map f xs) y (subst (λ u. Has (f u) y) (sym e) i)
-has_flatly f (z ∷ xs) x y (inr h) i = Has-append_right (f z) (flat_map f xs) y (has_flatly f xs x y h i)
 
 -- what stands before the end of a list is there
 below_any : {A : Type 0} (p : A → Bool) (xs : List A) → position_or_len p xs < length xs → list_any p xs ≡ true
@@ -203,7 +199,7 @@ may_fill (by_rules task) w r fs e is h = each (bound w r).static_type is (not_la
         let u = region_type q sp args r in
         all_has (may_do (rights_declared w.tree task) w.scope.known) (flat_map (wanted_of_region w.tree access.Write u) fs)
         (wanting (field_place w.tree sp f) access.Write r) (not-false _ lacking)
-        (has_flatly (wanted_of_region w.tree access.Write u) fs f (wanting (field_place w.tree sp f) access.Write r) i
+        (flat_has (wanted_of_region w.tree access.Write u) fs f (wanting (field_place w.tree sp f) access.Write r) i
         (subst (λ b. Has (cond b (wanting (field_place w.tree sp f) access.Write r ∷ []) []) (wanting (field_place w.tree sp f) access.Write r)) (sym there) (inl refl)))
 
 pub may_fill_first : (way : Way) (tree : Tree) (s : Scope) (u : StaticType) (f : Name) (fs : List Name) → MayFill way tree s u (f ∷ fs) →

@@ -2,3 +2,4 @@ pub mod Ways
 pub mod Named
 pub mod Programs
 pub mod Example
+pub mod RulesExample

@@ -18,6 +18,7 @@ use Rattle.machine_terms.specs.declared.value.Value.TheVariants.{Number}
 use Rattle.machine_terms.specs.Jobs.{first_frame}
 use Rattle.code_rules.specs.Instructions.{place_of_task, tasks_of}
 use Rattle.code_rules.specs.Programs.{code_of, task_code}
+use Rattle.code_laws.specs.LocalPrograms.{IsLocalProgramRun}
 use Rattle.code_laws.specs.Programs.{AreTypedTasks, IsTypedRun, call_forms, job_of, region_forms, scalar_forms}
 use Rattle.code_laws.specs.ScalarPrograms.{IsScalarProgramRun}
 use Rattle.code_laws.specs.Simple.{IsSimple}
@@ -135,3 +136,13 @@ pub record TasksKeepRules (tree : Tree) : Type 0 where
 -- where no rule is breached and each task is typed: tasks may take regions, with privileges and constraints on them
 abbrev pub AcceptedTasksAreSound : Type 0
 AcceptedTasksAreSound = (tree : Tree) → breaches tree ≡ [] → AreTypedTasks tree → TasksKeepRules tree
+
+-- An accepted program whose tasks keep their regions to themselves, and numbers that fit its inputs: the code of each
+-- task is sound, frames of its tasks fit when they open, and so does the one in which its run begins.
+pub record LocalRunsSoundly (tree : Tree) (inputs : List ℤ) : Type 0 where
+  pub tasks : TasksKeepRules tree
+  pub first : (turns : ℕ) → turns < 2 ^ 64 → Fits tasks.program (first_world inputs) (entry_code tree) (entry_place tree)
+      (record { frame = first_frame (job_of tree inputs turns) (entry_code tree); parts = [] })
+
+abbrev pub LocalProgramsAreSound : Type 0
+LocalProgramsAreSound = (tree : Tree) (inputs : List ℤ) → IsLocalProgramRun tree inputs → LocalRunsSoundly tree inputs

@@ -4,7 +4,8 @@
 #![tactic(auto)]
 
 ghost use Rattle.sound_code.specs.Example.{CodeExampleHolds};
-ghost use Rattle.sound_code.specs.Programs.{AcceptedTasksAreSound, CallsAreSound, RegionTasksAreSound, ScalarProgramsAreSound, ScalarTasksAreSound};
+ghost use Rattle.sound_code.specs.RulesExample.{HistogramIsSound, RulesExampleHolds};
+ghost use Rattle.sound_code.specs.Programs.{AcceptedTasksAreSound, CallsAreSound, LocalProgramsAreSound, RegionTasksAreSound, ScalarProgramsAreSound, ScalarTasksAreSound};
 
 /// Where the entry task's body is typed and treats scalars alone, its code is sound, and the frame in which
 /// its run begins fits, whatever its inputs and turns; and so it is of each accepted program over scalars.
@@ -34,8 +35,23 @@ pub fn accepted_code_is_sound()
     ensures { AcceptedTasksAreSound }
 {}
 
+/// So is the code of each accepted program whose tasks keep their regions to themselves, and the frame in which its run
+/// begins fits, with any turns.
+#[tactic(auto, using(crate::proofs::Rules::local_programs_are_sound))]
+pub fn local_programs_are_sound()
+    ensures { LocalProgramsAreSound }
+{}
+
 /// A program with roots and calls of which each premise holds, and a run that begins in it.
 #[tactic(auto, using(crate::proofs::Example::code_example_holds))]
 pub fn code_example_holds()
     ensures { CodeExampleHolds }
+{}
+
+/// An accepted program with a task that takes regions, of which each premise holds, and a frame that opens in it; and a
+/// histogram whose tasks keep their regions to themselves.
+#[tactic(auto, using(crate::proofs::RulesExample::rules_example_holds, crate::proofs::RulesExample::histogram_is_sound))]
+pub fn rules_example_holds()
+    ensures rules { RulesExampleHolds }
+    ensures histogram { HistogramIsSound }
 {}
