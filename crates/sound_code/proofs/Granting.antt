@@ -30,7 +30,7 @@ use Rattle.constraint_check.proofs.Table.{is_subregion-derivable}
 use Rattle.check_rules.specs.rules.Privileges.{made_above, may_do, rights_declared, wanting}
 use Rattle.code_laws.specs.Simple.{IsRegion, a_region_type}
 use Rattle.expression_laws.specs.Needs.{mode_of}
-use Rattle.expression_laws.proofs.Joins.{same_ops}
+use Rattle.lane_kernels.proofs.SameOps.{same_op-tells}
 use Rattle.fit_rules.specs.Shapes.{Among, region, World}
 use Rattle.fit_rules.specs.Marks.{Holds, in_slot, lies, LiesAt, Mark, stacked, Suits}
 use Rattle.fit_rules.specs.Fits.{Covers, declares_it, Declares, Program, reads_and_writes}
@@ -66,7 +66,7 @@ number_of_name (Child p c) = 0
 same_modes : (a b : Access) → same_access a b ≡ true → mode_of a ≡ mode_of b
 same_modes Read Read e = refl
 same_modes Write Write e = refl
-same_modes (Reduce p) (Reduce q) e = ap mode.Reduce (same_ops p q e)
+same_modes (Reduce p) (Reduce q) e = ap mode.Reduce (same_op-tells p q e)
 same_modes Read Write e = absurd cc
 same_modes Read (Reduce q) e = absurd cc
 same_modes Write Read e = absurd cc

@@ -24,13 +24,14 @@ tasks zero t e = subst (IsTypedTask rules_program) (same_Some _ t e) (record {
     (
       two_integers _ _,
       (
-        (omega (arith, ints), number_integer _, refl, record { named = refl; region = a_region_type _ _ _ _; field = omega arith; keeps = fits_64 }),
+        (omega (arith, ints), number_integer _, refl, record { named = refl; region = a_region_type _ _ _ _; field = omega arith; keeps = fits_64 }, tt),
         (number_integer _, number_integer _, (refl, simple_integer _), tt),
       ),
       omega (arith, ints),
       number_integer _,
       refl,
       record { named = refl; region = a_region_type _ _ _ _; field = omega arith; keeps = fits_64 },
+      tt,
     ),
     tt,
   );
@@ -39,7 +40,7 @@ tasks zero t e = subst (IsTypedTask rules_program) (same_Some _ t e) (record {
 tasks (suc zero) t e = subst (IsTypedTask rules_program) (same_Some _ t e) (record {
   given = gives_nothing;
   typed = (
-    (refl, a_space_type _, (omega (arith, ints), an_integer _), record { there = omega arith; few = omega arith }),
+    (refl, a_space_type _, (omega (arith, ints), an_integer _), record { there = omega arith; few = omega arith }, tt),
     (
       (
         two_integers _ _,
@@ -48,6 +49,7 @@ tasks (suc zero) t e = subst (IsTypedTask rules_program) (same_Some _ t e) (reco
         number_integer _,
         refl,
         record { named = refl; region = a_region_type _ _ _ _; field = omega arith; keeps = fits_64 },
+        tt,
       ),
       tt,
     ),
