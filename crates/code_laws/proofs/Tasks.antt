@@ -1,5 +1,5 @@
 -- What a call of a task means, its child comes to: by induction on how many more calls may nest.
-use Rattle.std.proofs.Common.{◌≡◌, ℕ, zero, suc, ◌+◌, ◌^◌, ◌<◌, ◌≤◌, ℤ, pos, List, [], ◌∷◌, ◌++◌, Option, Some, None, refl, sym, ap, ◌∙◌, subst, arith}
+use Rattle.std.proofs.Common.{◌≡◌, ℕ, zero, suc, ◌+◌, ◌^◌, ◌<◌, ◌≤◌, ℤ, pos, List, [], ◌∷◌, ◌++◌, Option, Some, None, refl, sym, ap, ◌∙◌, subst, arith, true}
 use Rattle.std.specs.Prelude.{length, map, take}
 use Rattle.std.proofs.lemmas.Bool.{eq-eqb}
 use Rattle.std.proofs.lemmas.Int.{ints}
@@ -34,10 +34,10 @@ use Rattle.code_rules.specs.Statements.{block_code}
 use Rattle.memory_laws.specs.Memory.{Holds, memory_of}
 use Rattle.memory_laws.specs.Places.{numbers}
 use Rattle.memory_laws.proofs.Given.{given_keeps_numbers, given_stands}
-use Rattle.code_laws.specs.Programs.{AreTypedTasks, IsGiven, call_forms, gives_nothing, gives_scalar, task_setting}
+use Rattle.code_laws.specs.Programs.{AreTypedTasksOf, IsGiven, gives_nothing, gives_scalar, task_setting}
 use Rattle.code_laws.specs.Simple.{IsScalar, scalar_integer, scalar_truth}
 use Rattle.code_laws.specs.Standing.{Answering, AreTaken, Does, IsFramed, IsInside, IsOf, Matches, Returns, Stands, Takes, back, both_back, both_broke, called_with, of_integer, of_truth}
-use Rattle.code_laws.specs.Steps.{Ends, Setting, placed}
+use Rattle.code_laws.specs.Steps.{Ends, Forms, Setting, placed}
 use Rattle.code_laws.proofs.Calling.{code_there, room_for}
 use Rattle.code_laws.proofs.Counts.{counts_down}
 use Rattle.code_laws.proofs.Openings.{before_all, fits_slots, opens, params_length}
@@ -87,7 +87,7 @@ zero_given : (sc : Scope) (t : StaticType) → IsGiven t → kept_number (zero_o
 zero_given sc _ (gives_scalar t s) = zero_scalar sc t s
 zero_given sc _ gives_nothing = refl
 
-module _ (tree : Tree) (turns : ℕ) (few : turns < 2 ^ 64) (are : AreTypedTasks tree) where
+module _ (forms : Forms) (calls : forms.calls ≡ true) (tree : Tree) (turns : ℕ) (few : turns < 2 ^ 64) (are : AreTypedTasksOf forms tree) where
   -- a task's end, by the meaning and by the run
   matches_end : (x : Setting) (task : Name) (store : Store) (before : List ℕ) (v : Value) (s : State) (j : Instance) (result : Option ℤ) →
       x.code ≡ code_of tree → x.before ≡ before → Returns tree task v → result_of result ≡ kept_number v → j.text ≡ s.text →
@@ -101,7 +101,7 @@ module _ (tree : Tree) (turns : ℕ) (few : turns < 2 ^ 64) (are : AreTypedTasks
       ((given_keeps_numbers j.parts j.contents).0 ∙ framed.own_are ∙ ap (λ ns. ns ++ map (λ (id : RootId). id.0) j.frame.own) eb))
 
   abbrev setting : ℕ → ℕ → Contents → Name → Setting
-  setting more depth c task = task_setting call_forms tree turns more depth (numbers c) (task_named tree task)
+  setting more depth c task = task_setting forms tree turns more depth (numbers c) (task_named tree task)
 
   -- what a call of a task means where its body came to a result
   abbrev meant_by : Name → Store → Result Going → Called
@@ -133,7 +133,7 @@ module _ (tree : Tree) (turns : ℕ) (few : turns < 2 ^ 64) (are : AreTypedTasks
   by_end more depth task store c i (gives (returned v) s) given d f same = (
     back d.0 d.1,
     d.2,
-    matches_end (setting more depth c task) task store (numbers c) v s d.1 d.0 refl refl (d.7 refl) d.3 d.4 d.5 d.6 same,
+    matches_end (setting more depth c task) task store (numbers c) v s d.1 d.0 refl refl (d.7 calls) d.3 d.4 d.5 d.6 same,
   )
   by_end more depth task store c i (fails k s) given d f same = (Broke (Some k) s.text, d, both_broke k s.text)
 
@@ -153,7 +153,7 @@ module _ (tree : Tree) (turns : ℕ) (few : turns < 2 ^ 64) (are : AreTypedTasks
       let i = called_with tree turns depth task vs c in
       let r = run_task tree turns (calls_at tree turns more) t vs store in
       let room = (room_for h task vs takes).1 in
-      let g = opens tree turns more depth t (place_of_task tree task) vs store c call_forms (calls_at tree turns more) (λ e. answers)
+      let g = opens tree turns more depth t (place_of_task tree task) vs store c forms (calls_at tree turns more) (λ e. answers)
       (taken_typed (param_types tree t) vs takes.taken) (taken_inside x store (param_types tree t) vs takes.taken)
       (taken_plain (param_types tree t) vs takes.taken) room holds in
       let low : length t.params ≤ length h.scope.names = omega (arith, params_length tree t.params 0 t.params) in
@@ -173,7 +173,7 @@ module _ (tree : Tree) (turns : ℕ) (few : turns < 2 ^ 64) (are : AreTypedTasks
 
   -- calls are answered at each depth
   pub answering : (more depth : ℕ) (before : List ℕ) (t : TaskTree) → depth + more ≡ 64 →
-      Answering (task_setting call_forms tree turns more depth before t) tree (calls_at tree turns more)
+      Answering (task_setting forms tree turns more depth before t) tree (calls_at tree turns more)
   answering zero depth before t e = record {
     code_is = refl;
     few = few;

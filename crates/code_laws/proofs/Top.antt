@@ -34,7 +34,7 @@ use Rattle.regent_tree.specs.declared.outcome.RootImage.{RootImage}
 use Rattle.machine_terms.specs.declared.order.Instance.{Instance}
 use Rattle.code_laws.proofs.Tasks.{answering}
 use Rattle.code_laws.proofs.Values.{not_true, number_inside}
-use Rattle.code_laws.specs.Programs.{AreTypedTasks, CallsRunAsMeant, call_forms, IsTypedRun, LeavesNoRoots, PointersRunAsMeant, RegionsRunAsMeant, RunsAsMeant, ScalarsRunAsMeant, entry_setting, job_of, pointer_forms, region_forms, scalar_forms}
+use Rattle.code_laws.specs.Programs.{AreTypedTasks, AreTypedTasksOf, PointerCallsRunAsMeant, all_forms, CallsRunAsMeant, call_forms, IsTypedRun, LeavesNoRoots, PointersRunAsMeant, RegionsRunAsMeant, RunsAsMeant, ScalarsRunAsMeant, entry_setting, job_of, pointer_forms, region_forms, scalar_forms}
 use Rattle.code_laws.specs.Standing.{Answering, AreTaken, Does, IsFramed, IsInside, IsOf, Stands, machine_value}
 use Rattle.code_laws.specs.Steps.{Ends, Forms, Setting, placed}
 use Rattle.code_laws.proofs.Counts.{counts_down}
@@ -175,18 +175,22 @@ pub regions_run_as_meant : RegionsRunAsMeant
 regions_run_as_meant tree inputs turns p = (typed_run_ends region_forms tree inputs turns (λ e. absurd (not_true e)) p).0
 
 -- by what calls are answered
-calls_end : (tree : Tree) (inputs : List ℤ) (turns : ℕ) → turns < 2 ^ 64 → AreTypedTasks tree → IsTypedRun call_forms tree inputs →
-    RunsAsMeant tree inputs turns × (call_forms.makes ≡ false → LeavesNoRoots (meaning tree inputs turns).ending)
+calls_end : (forms : Forms) → forms.calls ≡ true → (tree : Tree) (inputs : List ℤ) (turns : ℕ) → turns < 2 ^ 64 → AreTypedTasksOf forms tree →
+    IsTypedRun forms tree inputs →
+    RunsAsMeant tree inputs turns × (forms.makes ≡ false → LeavesNoRoots (meaning tree inputs turns).ending)
     × (fits_spaces (code_of tree) (meaning tree inputs turns) ≡ true)
-calls_end tree inputs turns few are p =
-    typed_run_ends call_forms tree inputs turns (λ e. answering tree turns few are 63 1 [] (task_named tree (entry_name tree)) refl) p
+calls_end forms calls tree inputs turns few are p =
+    typed_run_ends forms tree inputs turns (λ e. answering forms calls tree turns few are 63 1 [] (task_named tree (entry_name tree)) refl) p
+
+pub pointer_calls_run_as_meant : PointerCallsRunAsMeant
+pointer_calls_run_as_meant tree inputs turns few are p = (calls_end all_forms refl tree inputs turns few are p).0
 
 pub calls_run_as_meant : CallsRunAsMeant
-calls_run_as_meant tree inputs turns few are p = (calls_end tree inputs turns few are p).0
+calls_run_as_meant tree inputs turns few are p = (calls_end call_forms refl tree inputs turns few are p).0
 
 pub calls_fit_spaces : (tree : Tree) (inputs : List ℤ) (turns : ℕ) → turns < 2 ^ 64 → AreTypedTasks tree → IsTypedRun call_forms tree inputs →
     fits_spaces (code_of tree) (meaning tree inputs turns) ≡ true
-calls_fit_spaces tree inputs turns few are p = (calls_end tree inputs turns few are p).2
+calls_fit_spaces tree inputs turns few are p = (calls_end call_forms refl tree inputs turns few are p).2
 
 pub scalars_leave_no_roots : (tree : Tree) (inputs : List ℤ) (turns : ℕ) → IsTypedRun scalar_forms tree inputs →
     LeavesNoRoots (meaning tree inputs turns).ending

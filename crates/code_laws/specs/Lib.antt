@@ -11,4 +11,5 @@ pub mod LocalExample
 pub mod Example
 pub mod RegionExample
 pub mod PointerExample
+pub mod PointerCallExample
 pub mod CallExample

@@ -15,7 +15,7 @@ use Rattle.regent_tree.specs.declared.types.NumberTerm.{NumberTerm}
 use Rattle.regent_tree.specs.StaticTypes.{number_type, task_named}
 use Rattle.regent_tree.specs.Lookup.{is_bound}
 use Rattle.regent_tree.specs.Scopes.{bound_to}
-use Rattle.regent_tree.specs.Syntax.{Name, Expression, number_expr, truth_expr, chain_expr, prefix_expr, access_expr, call_expr, convert_expr, space_expr, Expressions, no_expr, an_expr, Links, no_link, a_link, no_step, field_step, at_step}
+use Rattle.regent_tree.specs.Syntax.{Name, Expression, number_expr, truth_expr, chain_expr, prefix_expr, access_expr, call_expr, convert_expr, space_expr, Expressions, no_expr, an_expr, Links, no_link, a_link, no_step, field_step, at_step, is_null_expr, null_expr, cast_expr}
 use Rattle.regent_tree.specs.Typing.{operated, linked_type, param_types, params_at, signed_type}
 use Rattle.regent_tree.specs.Values.{kept_truth}
 use Rattle.task_code.specs.declared.code.TaskCode.{TaskCode}
@@ -230,6 +230,10 @@ module _ (g : Program) (t : TaskCode) (k slots : ℕ) (have : HasSlots t slots) 
         (does g t k (stacked m (shape_of (typed w e) ∷ us)) instr.Space w.line (space ∷ us)
         (does_space _ us (scalar_numeric _ (integer_is_plain _ fine.1))))
     expr_marked d (access_expr x (field_step f no_step)) us fine pc st = absurd (false≢true fine.0)
+    expr_marked d (access_expr x (at_step e no_step)) us fine pc st = absurd (false≢true fine.0)
+    expr_marked d (is_null_expr e) us fine pc st = absurd (false≢true fine.0)
+    expr_marked d (null_expr p) us fine pc st = absurd (false≢true fine.0)
+    expr_marked d (cast_expr p e) us fine pc st = absurd (false≢true fine.0)
     expr_marked d _ us fine pc st = absurd fine
 
     pub links_marked : (d : ℕ) (u : StaticType) (ls : Links) (us : List Shape) → AreTypedLinks (without_pointers forms) w u ls → (pc : ℕ) →
