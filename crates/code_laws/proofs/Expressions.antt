@@ -5,25 +5,28 @@ use Rattle.code_laws.proofs.Prints.{pushed_all}
 use Rattle.code_laws.proofs.Results.{results_run}
 use Rattle.code_laws.proofs.Calling.{HasResult, calls_run, pending}
 use Rattle.code_laws.proofs.Handing.{AreGivenBy, IsGivenBy, arguments_keep_names, call_takes, handed_run, value_stays}
-use Rattle.code_laws.proofs.Operations.{compared_left, compared_operand, compared_right, alike_right, and_runs, compare_runs, converted_runs, fetch_small, named_runs, or_runs, plain_signs, same_type, signs_run, signs_typed, space_runs, standing_runs, truth_of_type}
+use Rattle.code_laws.proofs.Operations.{alike_right, and_runs, converted_runs, fetch_small, named_runs, or_runs, space_runs, truth_of_type}
 use Rattle.code_laws.proofs.Arguments.{given_either}
 use Rattle.code_laws.proofs.Accesses.{access_reads}
 use Rattle.code_laws.proofs.Behind.{behind_reads}
+use Rattle.code_laws.proofs.Comparing.{compared_runs, left_fits, operand_runs, right_fits}
+use Rattle.code_laws.proofs.Signs.{prefixed_runs}
+use Rattle.code_laws.proofs.PointerValues.{cast_runs, element_runs, null_runs}
 use Rattle.code_laws.proofs.Counting.{counted_runs, number_runs, stands_runs}
-use Rattle.code_laws.proofs.Wider.{any_field, converting, counting}
+use Rattle.code_laws.proofs.Wider.{any_field, compared, converting, counting, signed_as}
 use Rattle.regent_tree.proofs.Laws.{expressions_keep_names}
-use Rattle.std.proofs.Common.{◌≡◌, ℕ, suc, ◌<◌, ◌≤◌, List, [], ◌∷◌, false, inl, inr, refl, sym, ap, subst, arith}
+use Rattle.std.proofs.Common.{◌≡◌, ℕ, suc, ◌<◌, ◌≤◌, negsuc, List, [], ◌∷◌, false, inl, inr, refl, sym, ap, subst, arith}
 use Rattle.std.specs.Prelude.{get_or, length}
 use Rattle.regent_tree.specs.declared.expression.Operator.TheVariants.{Or, And, Compare, Compute}
 use Rattle.regent_tree.specs.declared.typing.StaticType.{StaticType}
 use Rattle.regent_tree.specs.declared.typing.StaticType.TheVariants.{Truth as truth_type}
 use Rattle.regent_tree.specs.Scopes.{bound_to}
 use Rattle.regent_tree.specs.Syntax.{Expression, number_expr, truth_expr, chain_expr, prefix_expr, access_expr, call_expr, convert_expr, is_null_expr, null_expr, cast_expr, space_expr, Expressions, no_expr, an_expr, Links, no_link, a_link, no_step, field_step, at_step}
-use Rattle.regent_tree.specs.Values.{Value, a_number, a_truth, kept_truth}
-use Rattle.regent_tree.specs.Typing.{linked_type, signed_type, are_pointers, param_types, params_at, result_type}
+use Rattle.regent_tree.specs.Values.{Value, a_number, a_pointer, a_truth, kept_truth, null_target}
+use Rattle.regent_tree.specs.Typing.{reaches_of, linked_type, are_pointers, param_types, params_at, result_type}
 use Rattle.regent_tree.specs.Running.{State, Here, and_then, given}
-use Rattle.regent_tree.specs.Operators.{all_signed, combined, operand}
-use Rattle.regent_tree.specs.Accesses.{converted, standing}
+use Rattle.regent_tree.specs.Operators.{combined, operand}
+use Rattle.regent_tree.specs.Accesses.{converted, regions_reached, standing}
 use Rattle.regent_tree.specs.Evaluation.{called, value, values, linked}
 use Rattle.task_code.specs.declared.instr.Instr.TheVariants as instr
 use Rattle.machine_terms.specs.declared.value.Value.{Value as MachineValue}
@@ -33,7 +36,7 @@ use Rattle.code_rules.specs.Slots.{spare, typed}
 use Rattle.code_rules.specs.Expressions.{count, expr_code, exprs_code, links_code}
 use Rattle.code_rules.specs.Instructions.{converted_code, operand_code, place_of_task}
 use Rattle.code_laws.specs.Steps.{Leads, Setting, placed}
-use Rattle.code_laws.specs.Standing.{Comes, Stands, machine_value, IsInside, IsOf, of_integer, of_truth, nothing, Aside, SlotsFit, where_of, Agrees}
+use Rattle.code_laws.specs.Standing.{Comes, Stands, machine_value, IsInside, IsOf, of_integer, of_pointer, of_truth, nothing, Aside, SlotsFit, where_of, Agrees}
 use Rattle.code_laws.specs.Simple.{AreAlike}
 use Rattle.regent_tree.specs.StaticTypes.{task_named}
 use Rattle.code_laws.specs.Typed.{ArePassed, IsTyped, AreTypedLinks, element_field}
@@ -62,22 +65,9 @@ module _ (x : Setting) (params slots : ℕ) (fit : SlotsFit x slots) (aside : As
     value_runs h d low (access_expr n no_step) s pc st i fine g f =
         named_runs x params slots fit aside h n s pc st i fine.0 g f.0
     value_runs h d low (prefix_expr signs e) s pc st i fine g f =
-        let w = where_of params h in
-        let t = typed w e in
-        let said = comes_said x (valued (past (expr_code w d (prefix_expr signs e)) pc) st)
-        (Good x params slots fit aside h (signed_type signs t)) in
-        then x said _ _ _ (value h e s) _ (value_runs h d low e s pc st i fine.0 g f.0)
-        (λ v s1 j k. then x said _ _ _ (standing h v s1) _
-        (standing_runs x params slots fit aside h t v s1 _ st j (plain_signs x params slots fit aside t signs fine.1) k.0 k.1)
-        (λ u s2 j2 k2. (
-          j2,
-          signs_run x params slots fit aside h t signs u _ st j2 fine.1 k2.0 f.1.1,
-          (
-            subst (λ a. IsOf a (all_signed signs u)) (same_type x params slots fit aside t signs fine.1)
-                (signs_typed x params slots fit aside t signs u fine.1 k2.0),
-            k2.1,
-          ),
-        )))
+        let t = typed (where_of params h) e in
+        then x (comes_said x _ _) _ _ _ (value h e s) _ (value_runs h d low e s pc st i fine.0 g f.0)
+        (λ v s1 j k. prefixed_runs x params slots fit aside h t signs v s1 _ st j (signed_as x.forms.keeps t signs fine.1) k.0 k.1 f.1)
     value_runs h d low (chain_expr first rest) s pc st i fine g f =
         then x (comes_said x _ _) _ _ _ (value h first s) _
         (value_runs h d low first s pc st i fine.0 g f.0)
@@ -127,13 +117,28 @@ module _ (x : Setting) (params slots : ℕ) (fit : SlotsFit x slots) (aside : As
         (λ a f1. value_runs h d low e s a st i fine.0 g f1) (counting x.forms.keeps (typed w e) fine.1) (expressions_keep_names h e s)
         fine.2 field.field field.keeps
         (λ s1 j g1. (named (IsInside x s1.store) h.scope.names s1.names n g1.inside_store field.named).holding) fine.4 f
-    value_runs h d low (access_expr n (at_step _ no_step)) s pc st i fine g f = absurd fine
+    value_runs h d low (access_expr n (at_step e no_step)) s pc st i fine g f =
+        let b = bound_to h.scope.names n in
+        let m = named IsOf h.scope.names s.names n g.typed fine.3 in
+        element_runs x params slots fit aside h d b.static_type b.place (get_or s.names b.place nothing) e s pc st i
+        fine.4 m.holding refl (omega (arith, m.below, g.count)) (λ a f1. value_runs h d low e s a st i fine.1 g f1) fine.2
+        (expressions_keep_names h e s)
+        (λ s1 j g1. (named (IsInside x s1.store) h.scope.names s1.names n g1.inside_store fine.3).holding) f
     value_runs h d low (access_expr n (at_step _ (at_step _ _))) s pc st i fine g f = absurd fine
     value_runs h d low (access_expr n (at_step _ (field_step _ (field_step _ _)))) s pc st i fine g f = absurd fine
     value_runs h d low (access_expr n (at_step _ (field_step _ (at_step _ _)))) s pc st i fine g f = absurd fine
-    value_runs h d low (is_null_expr _) s pc st i fine g f = absurd fine
-    value_runs h d low (null_expr _) s pc st i fine g f = absurd fine
-    value_runs h d low (cast_expr _ _) s pc st i fine g f = absurd fine
+    value_runs h d low (is_null_expr e) s pc st i fine g f =
+        let w = where_of params h in
+        then x (comes_said x _ _) _ _ _ (value h e s) _ (value_runs h d low e s pc st i fine.2 g f.0)
+        (λ v s1 j k. null_runs x params slots fit aside h (typed w e) v s1 _ st j fine.1 k.0 k.1 f.1)
+    value_runs h d low (null_expr t) s pc st i fine g f =
+        let u = typed (where_of params h) (null_expr t) in
+        let v = a_pointer null_target (regions_reached h.scope s.names (reaches_of u)) in
+        pushes x params slots fit aside h u v s pc st st i (instr.Num (negsuc 0)) h.line f (of_pointer _ _ _ _ null_target _ tt) g refl
+    value_runs h d low (cast_expr t e) s pc st i fine g f =
+        let w = where_of params h in
+        then x (comes_said x _ _) _ _ _ (value h e s) _ (value_runs h d low e s pc st i fine.3 g f.0)
+        (λ v s1 j k. cast_runs x params slots fit aside h (typed w e) _ _ _ _ v s1 _ st j fine.2 k.0 fine.1.1 k.1 f.1)
     value_runs h d low (space_expr k e) s pc st i fine g f =
         let w = where_of params h in
         then x (comes_said x _ _) _ _ _ (value h e s) _ (value_runs h d low e s pc st i fine.0 g f.0)
@@ -221,13 +226,14 @@ module _ (x : Setting) (params slots : ℕ) (fit : SlotsFit x slots) (aside : As
         let w = where_of params h in
         let u = typed w e in
         let b = are_pointers t u in
+        let p = compared x.forms.keeps c t u fine.0 in
         let pc3 = past (operand_code w b u) (past (expr_code w d e) (past (operand_code w b t) pc)) in
         then x (comes_said x _ _) _ _ _ (operand h b v s) _
-        (compared_operand x params slots fit aside h b t v s pc st i (compared_left x params slots fit aside t u fine.0) o g)
+        (operand_runs x params slots fit aside h b t v s pc st i (left_fits c t u p) o g f.0)
         (λ v1 s1 j1 k1. then x (comes_said x _ _) _ _ _ (value h e s1) _
         (value_runs h d low e s1 _ (machine_value j1.contents v1 ∷ st) j1 fine.1 k1.1 f.1.0)
         (λ v2 s2 j2 k2. then x (comes_said x _ _) _ _ _ (operand h b v2 s2) _
-        (compared_operand x params slots fit aside h b u v2 s2 _ (machine_value j1.contents v1 ∷ st) j2 (compared_right x params slots fit aside t u fine.0) k2.0 k2.1)
+        (operand_runs x params slots fit aside h b u v2 s2 _ (machine_value j1.contents v1 ∷ st) j2 (right_fits c t u p) k2.0 k2.1 f.1.1.0)
         (λ v3 s3 j3 k3. then x (comes_said x _ _) (valued (suc pc3) st) (Good x params slots fit aside h truth_type) _
-        (combined h (Compare c) v1 v3 s3) _ (compare_runs x params slots fit aside j1.contents h c t u v1 v3 s3 pc3 st j3 fine.0 k1.0 k3.0 k3.1 f.1.1.1.0)
+        (combined h (Compare c) v1 v3 s3) _ (compared_runs x params slots fit aside j1.contents h c t u v1 v3 s3 pc3 st j3 p k1.0 k3.0 k3.1 f.1.1.1.0)
         (λ v4 s4 j4 k4. linked_runs h d low _ v4 rest s4 _ st j4 fine.2 k4.0 k4.1 f.1.1.1.1))))

@@ -27,6 +27,10 @@ pub mod Counting
 pub mod Through
 pub mod Going
 pub mod Behind
+pub mod PointerValues
+pub mod Comparing
+pub mod Signs
+pub mod Knowing
 pub mod Expressions
 pub mod Rows
 pub mod Loops
@@ -36,6 +40,7 @@ pub mod PrintRuns
 pub mod Elements
 pub mod Folds
 pub mod Variables
+pub mod Moving
 pub mod PointerForms
 pub mod Statements
 pub mod Segments
@@ -60,5 +65,6 @@ pub mod LocalExample
 pub mod Example
 pub mod RegionExample
 pub mod PointerExample
+pub mod PointerCallExample
 pub mod CallExample
 pub mod HandingExample

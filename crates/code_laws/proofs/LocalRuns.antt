@@ -16,7 +16,7 @@ use Rattle.check_rules.specs.scopes.Sound.{StandsIn}
 use Rattle.code_rules.specs.Instructions.{place_of_task, tasks_of}
 use Rattle.code_rules.specs.Programs.{task_code}
 use Rattle.local_form.specs.LocalForm.{marked_in, unmarked}
-use Rattle.code_laws.specs.LocalPrograms.{IsEnded, IsLocalProgramRun, LocalProgramsEndWell, LocalProgramsRunAsMeant}
+use Rattle.code_laws.specs.LocalPrograms.{IsLocalProgramRun, LocalProgramsEndWell, LocalProgramsRunAsMeant}
 use Rattle.code_laws.specs.Programs.{AreTypedTasks, IsGiven, IsTypedRun, call_forms, gives_nothing, gives_scalar}
 use Rattle.code_laws.proofs.LocalBlocks.{block_local}
 use Rattle.code_laws.proofs.LocalTrees.{item_local, local_tree, params_scalar, scalars_kept, task_stands}

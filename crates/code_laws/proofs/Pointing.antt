@@ -11,7 +11,7 @@ use Rattle.regent_tree.specs.Lookup.{is_bound}
 use Rattle.regent_tree.specs.Scopes.{bound_as, bound_to}
 use Rattle.regent_tree.specs.StaticTypes.{Reach}
 use Rattle.regent_tree.specs.Syntax.{Name}
-use Rattle.regent_tree.specs.Typing.{reaches_of}
+use Rattle.regent_tree.specs.Typing.{reaches_of, taken_from}
 use Rattle.regent_tree.specs.Values.{Region, Value, a_number, a_partition, a_pointer, a_region, a_space, a_truth, an_index}
 use Rattle.regent_tree.specs.declared.facts.Term.TheVariants as term
 use Rattle.regent_tree.specs.declared.typing.Bound.{Bound}
@@ -19,6 +19,8 @@ use Rattle.regent_tree.specs.declared.typing.StaticType.{StaticType}
 use Rattle.code_laws.specs.Pointers.{ArePointed, AreReached, IsOfName, IsPointed}
 use Rattle.code_laws.specs.Simple.{IsRegion, IsSimple, a_region_type, simple_index, simple_integer, simple_space, simple_truth}
 use Rattle.code_laws.specs.Standing.{AreOf, IsOf, RegionsStay, nothing, of_index, of_integer, of_region, of_space, of_truth}
+use Rattle.code_laws.specs.Typed.{IsOwnRegion}
+use Rattle.code_rules.specs.Slots.{Where}
 use Rattle.code_laws.proofs.Values.{not_true}
 
 -- ---- values that are no pointers
@@ -231,3 +233,17 @@ numbered Holding (b ∷ bs) names i a r = chosen (b.number == i) (numbered Holdi
         × ((cond c b (bound_as bs i)).place < length (b ∷ bs))
     chosen true more r = (a.1, omega (arith, a.0))
     chosen false more r = let m = more r in (m.0, omega (arith, m.1))
+
+-- a region's name goes to the region that it has
+pub own_reached : (w : Where) (b : Bound) (t : StaticType) (names : List Value) (q : Region) → IsOwnRegion w b t → AreOf IsOf w.scope.names names →
+    get_or names b.place nothing ≡ a_region q → AreReached w.scope.names names (space_in t) (reaches_of (taken_from t)) (q ∷ [])
+own_reached w b t names q own o e = subst (λ rs. AreReached w.scope.names names (space_in t) rs (q ∷ [])) (sym own.is) (
+  record {
+    numbered = own.numbered;
+    region = own.typed;
+    space = own.space;
+    below = (numbered IsOf w.scope.names names own.number o own.typed).1;
+    value = ap (λ k. get_or names k nothing) own.place ∙ e;
+  },
+  tt,
+)

@@ -1,17 +1,18 @@
 -- The code of a statement does what the statement means.
 use Rattle.code_laws.proofs.Behind.{folds_behind, sets_behind}
 use Rattle.code_laws.proofs.Counting.{into_runs}
-use Rattle.code_laws.proofs.PointerForms.{begins_run, points_run}
-use Rattle.code_laws.proofs.Pointing.{region_pointed, simple_pointed}
-use Rattle.code_laws.proofs.Wider.{any_field, counting, going, into_simple, keepable, loops_over, zero_simple, zeroed}
+use Rattle.code_laws.proofs.Moving.{assigned_runs, assigns}
+use Rattle.code_laws.proofs.PointerForms.{begins_run, declares_run, itself_run, points_run}
+use Rattle.code_laws.proofs.Pointing.{region_pointed}
+use Rattle.code_laws.proofs.Wider.{any_field, assigned, beginning, counting, going, keepable, loops_over, zeroed}
 use Rattle.code_laws.proofs.States.{ready_value}
-use Rattle.code_laws.proofs.Variables.{GoodInside, binds, fill_runs, region_runs, zero_runs}
+use Rattle.code_laws.proofs.Variables.{GoodInside, binds, fill_runs, region_runs}
 use Rattle.code_laws.proofs.Elements.{folds_element, sets_element}
 use Rattle.regent_tree.specs.Initializers.{initial_value, make_root}
 use Rattle.code_laws.proofs.Folds.{folds}
 use Rattle.code_laws.proofs.Loops.{counting_runs, integer_kept, loop_typed, turning_runs, from_fits, to_fits}
-use Rattle.code_rules.specs.Instructions.{converted_code, place_of_task}
-use Rattle.code_laws.proofs.Rows.{IsAlike, asserts, does_as, does_before, does_said, returns, same_scope, scoped_by, tests, then_going, then_leads, writes_name, relimit, jumps_later}
+use Rattle.code_rules.specs.Instructions.{place_of_task}
+use Rattle.code_laws.proofs.Rows.{IsAlike, asserts, does_as, does_before, does_said, returns, same_scope, scoped_by, tests, then_going, then_leads, relimit, jumps_later}
 use Rattle.std.proofs.Common.{◌≡◌, ℕ, suc, ◌<◌, ◌≤◌, [], ◌∷◌, ◌++◌, Some, None, refl, sym, ap, ◌∙◌, subst, arith, length-append}
 use Rattle.std.specs.Prelude.{length, slice_get}
 use Rattle.std.proofs.lemmas.Option.{slice_get-get_or}
@@ -19,10 +20,10 @@ use Rattle.std.proofs.lemmas.List.{get_or-set_same, get_or-set_other, append_ass
 use Rattle.regent_tree.specs.declared.statement.How.TheVariants as how
 use Rattle.regent_tree.specs.Scopes.{bound_to}
 use Rattle.regent_tree.specs.Syntax.{no_step, field_step, at_step, plain_initializer, a_statement, Form, var_form, if_form, while_form, for_to_form, do_form, assert_form, assign_form, return_form, call_form, fill_form, Block, no_statement, then_statement, Arms, no_arm, an_arm, Otherwise, no_else, else_block, both_initializer, by_field_initializer, either_initializer, equal_initializer, image_initializer, preimage_initializer, region_initializer, print_form, for_in_form}
-use Rattle.regent_tree.specs.Typing.{taken_from, param_types, params_at, scope_after_block, arithmetic_type, width_of_type, reaches_of, var_type}
+use Rattle.regent_tree.specs.Typing.{taken_from, param_types, params_at, scope_after_block, arithmetic_type, width_of_type, var_type}
 use Rattle.regent_tree.specs.Values.{number_of, size_of}
 use Rattle.regent_tree.specs.Running.{State, Here, Run}
-use Rattle.regent_tree.specs.Accesses.{converted, regions_reached}
+use Rattle.regent_tree.specs.Accesses.{converted}
 use Rattle.regent_tree.specs.Evaluation.{called, value, values}
 use Rattle.regent_tree.specs.Execution.{Going, scoped, right_side, bind, looping, exec, exec_arms, exec_else, exec_block, on_line, after_statement, after_arm, after_arms}
 use Rattle.task_code.specs.declared.instr.Instr.TheVariants as instr
@@ -39,7 +40,7 @@ use Rattle.code_laws.specs.Standing.{Stands, machine_value, blank, Aside, where_
 use Rattle.code_laws.specs.Simple.{IsScalar, a_region_type}
 use Rattle.code_laws.specs.Typed.{CountsDown, element_field, field_behind, AreTypedArms, IsTypedBlock, IsTypedElse, IsTypedForm}
 use Rattle.code_laws.proofs.Runs.{leads_by, leads_none, leads_twice, ends_by, then, comes_said}
-use Rattle.code_laws.proofs.Values.{past_later, simple_inside}
+use Rattle.code_laws.proofs.Values.{past_later}
 use Rattle.code_laws.proofs.Good.{valued, Good}
 use Rattle.code_laws.proofs.Operations.{converted_runs, fetch_small, alike_right, truth_of_type}
 use Rattle.code_laws.proofs.Expressions.{AreGiven, args_run, value_runs}
@@ -63,44 +64,21 @@ module _ (x : Setting) (params slots : ℕ) (fit : SlotsFit x slots) (counts : C
     form_runs aside h (var_form n None (Some (plain_initializer e))) s pc i low fine g f =
         begins_run x params slots fit counts aside h n e s pc i low (keepable x.forms.keeps (where_of params h) e fine.0) fine.1 g f
     form_runs aside h (var_form n (Some t) (Some (plain_initializer e))) s pc i low fine g f =
-        let w = where_of params h in
-        let from = typed w e in
-        let form = var_form n (Some t) (Some (plain_initializer e)) in
-        let u = var_type h.tree h.scope (Some t) (Some (plain_initializer e)) in
-        let a = past (expr_code w 0 e) pc in
-        let b = past (converted_code w from u) a in
-        let into = going x.forms.keeps from u fine.0 in
-        let simple = into_simple from u into in
-        let done = does_said x params slots fit counts aside (suc b) (after_statement h form) in
-        then x done (valued b []) (Good x params slots fit aside h u) _
-        (initial_value h (Some t) u (Some (plain_initializer e)) s) _
-        (then x (comes_said x _ _) _ _ _ (value h e s) _
-        (value_runs x params slots fit aside h 0 low e s pc [] i fine.1 g f.0.0)
-        (λ v s1 j k. into_runs x params slots fit aside h from u (regions_reached h.scope s1.names (reaches_of u)) v s1 a [] j
-        into k.0 k.1 f.0.1))
-        (λ v s1 j k. binds x params slots fit counts aside h n (Some t) (Some (plain_initializer e)) v s1 b j low k.0
-        (simple_inside x s1.store u v simple) (simple_pointed h.scope.names s1.names u v simple k.0) k.1 f.1)
+        declares_run x params slots fit counts aside h n t e s pc i low (beginning x.forms.keeps h.scope.names _ _ fine.0) fine.1 g f
     form_runs aside h (var_form n (Some t) None) s pc i low fine g f =
-        let form = var_form n (Some t) None in
-        let u = var_type h.tree h.scope (Some t) None in
-        let zero = zeroed x.forms.keeps u fine in
-        then x (does_said x params slots fit counts aside (suc (suc pc)) (after_statement h form)) (valued (suc pc) [])
-        (Good x params slots fit aside h u) _ (initial_value h (Some t) u None s) (λ v. bind v)
-        (zero_runs x params slots fit counts aside h u s pc i zero g f.0)
-        (λ v s1 j k. binds x params slots fit counts aside h n (Some t) None v s1 (suc pc) j low k.0
-        (simple_inside x s1.store u v (zero_simple u zero)) (simple_pointed h.scope.names s1.names u v (zero_simple u zero) k.0) k.1 f.1)
+        itself_run x params slots fit counts aside h n t s pc i low (zeroed x.forms.keeps h.scope.names _ fine) g f
     form_runs aside h (assign_form n no_step how.Set e) s pc i low fine g f =
         let w = where_of params h in
         let t = typed w e in
         let u = (bound_to h.scope.names n).static_type in
         let done = past (form_code w (assign_form n no_step how.Set e)) pc in
-        let into = going x.forms.keeps t u fine.0 in
+        let into = assigned x.forms.keeps t u fine.0 in
         then x (does_said x params slots fit counts aside done h) (valued (past (right_code w n no_step how.Set e) pc) [])
         (Good x params slots fit aside h u) _ (right_side h n no_step how.Set e s) _
         (then x (comes_said x _ _) _ _ _ (value h e s) _
         (value_runs x params slots fit aside h 0 low e s pc [] i fine.1 g f.0.0)
-        (λ v s1 j k. into_runs x params slots fit aside h t u [] v s1 _ [] j into k.0 k.1 f.0.1))
-        (λ v s1 j k. writes_name x params slots fit counts aside h n v s1 _ j (into_simple t u into) k.0 fine.2 k.1 f.1)
+        (λ v s1 j k. assigned_runs x params slots fit aside h t u [] v s1 _ [] j into k.0 k.1 f.0.1))
+        (λ v s1 j k. assigns x params slots fit counts aside h n t v s1 _ j into k.0 fine.2 k.1 f.1)
     form_runs aside h (assign_form n no_step (how.Reduce o) e) s pc i low fine g f =
         let w = where_of params h in
         let t = typed w e in

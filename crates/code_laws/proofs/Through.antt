@@ -10,7 +10,7 @@ use Rattle.lane_kernels.specs.declared.numbers.Mode.{Mode}
 use Rattle.lane_kernels.specs.declared.numbers.Mode.TheVariants as mode
 use Rattle.lane_kernels.specs.declared.numbers.Op.{Op}
 use Rattle.lane_kernels.specs.declared.numbers.Width.{Width}
-use Rattle.regent_tree.specs.Accesses.{Aim, misses, aimed_in, aimed_through, read_field, space_in}
+use Rattle.regent_tree.specs.Accesses.{Aim, misses, aimed_in, aimed_through, read_field}
 use Rattle.regent_tree.specs.Execution.{write_field}
 use Rattle.regent_tree.specs.Running.{Here, State}
 use Rattle.regent_tree.specs.Scopes.{bound_as}
@@ -24,7 +24,7 @@ use Rattle.regent_tree.specs.declared.outcome.FaultKind.TheVariants.{NullPointer
 use Rattle.regent_tree.specs.declared.statement.How.TheVariants as how
 use Rattle.regent_tree.specs.declared.types.Kind.{Kind}
 use Rattle.regent_tree.specs.declared.typing.StaticType.{StaticType}
-use Rattle.regent_tree.specs.declared.typing.StaticType.TheVariants.{Integer as integer_type, Pointer as pointer_type, Region as region_type}
+use Rattle.regent_tree.specs.declared.typing.StaticType.TheVariants.{Integer as integer_type, Pointer as pointer_type}
 use Rattle.task_code.specs.declared.instr.Instr.TheVariants as instr
 use Rattle.machine_terms.specs.declared.order.Ended.TheVariants.{Broke}
 use Rattle.machine_terms.specs.declared.order.Instance.{Instance}
@@ -41,12 +41,12 @@ use Rattle.code_laws.specs.Pointers.{AreNames, AreReached, FieldKeeps, IsOfName,
 use Rattle.code_laws.specs.Simple.{term_in}
 use Rattle.code_laws.specs.Taking.{MayDo}
 use Rattle.code_laws.specs.Typed.{MayReach}
-use Rattle.code_laws.specs.Standing.{Agrees, Aside, IsInside, SlotsFit, Stands, blank, machine_value, nothing, where_of, IsOf}
+use Rattle.code_laws.specs.Standing.{Agrees, Aside, IsInside, LiesIn, SlotsFit, Stands, blank, machine_value, where_of, IsOf}
 use Rattle.code_laws.specs.Steps.{Setting, machine_of, on_step, placed}
 use Rattle.code_laws.proofs.Accesses.{HasRegion, field_reads, kept_round}
 use Rattle.code_laws.proofs.Good.{Gives}
 use Rattle.code_laws.proofs.Pointing.{numbered}
-use Rattle.code_laws.proofs.Reaching.{Reached, reached}
+use Rattle.code_laws.proofs.Reaching.{Reached, reached, region_lies_in}
 use Rattle.code_laws.proofs.Runs.{ends_by}
 use Rattle.code_laws.proofs.Writes.{Written, field_folds, field_writes}
 
@@ -73,20 +73,34 @@ pub record PassesTo (x : Setting) (tree : Tree) (store : Store) (j : Instance) (
   pub touched : IsReached x tree j store q sp place a
 
 module _ (x : Setting) (params slots : ℕ) (fit : SlotsFit x slots) (aside : Aside) where
-  -- a region that has a name is in the name's slot, and its field is reached
-  name_there : (h : Here) (b sp place : ℕ) (a : Mode) (q : Region) (s : State) (j : Instance) →
+  -- what a region's name has lies in the store
+  name_inside : (h : Here) (b sp : ℕ) (q : Region) (s : State) (j : Instance) →
+      IsOfName (bound_as h.scope.names b) (length h.scope.names) s.names sp b q → Agrees x params slots aside h s j →
+      IsInside x s.store (bound_as h.scope.names b).static_type (a_region q)
+  name_inside h b sp q s j r g = subst (IsInside x s.store (bound_as h.scope.names b).static_type) r.value
+      (numbered (IsInside x s.store) h.scope.names s.names b g.inside_store r.region).0
+
+  -- a region that has a name is in the name's slot, and lies in the store
+  pub name_there : (h : Here) (b sp : ℕ) (q : Region) (s : State) (j : Instance) →
+      IsOfName (bound_as h.scope.names b) (length h.scope.names) s.names sp b q → Agrees x params slots aside h s j →
+      HasRegion j (slot_bound (where_of params h) b) q × LiesIn x.code s.store sp q
+  name_there h b sp q s j r g = (
+    region_slot_there j.frame.slots (slot_bound (where_of params h) b) (machine_value j.contents (a_region q)) q (number_at j.contents q.root) refl
+        (g.names (bound_as h.scope.names b).place (omega (arith, r.below, g.count)) ∙ ap (machine_value j.contents) r.value),
+    subst (λ k. LiesIn x.code s.store k q) r.space
+        (region_lies_in x s.store (bound_as h.scope.names b).static_type q r.region (name_inside h b sp q s j r g)),
+  )
+
+  -- its field is reached
+  name_reached : (h : Here) (b sp place : ℕ) (a : Mode) (q : Region) (s : State) (j : Instance) →
       IsOfName (bound_as h.scope.names b) (length h.scope.names) s.names sp b q →
       MayDo x.forms.takes (term_in (bound_as h.scope.names b).static_type) place a → place < length (space_at h.tree sp).fields →
-      Agrees x params slots aside h s j → HasRegion j (slot_bound (where_of params h) b) q × IsReached x h.tree j s.store q sp place a
-  name_there h b sp place a q s j r may field g =
+      Agrees x params slots aside h s j → IsReached x h.tree j s.store q sp place a
+  name_reached h b sp place a q s j r may field g n e =
       let t = (bound_as h.scope.names b).static_type in
-      let inside = (numbered (IsInside x s.store) h.scope.names s.names b g.inside_store r.region).0 in (
-        region_slot_there j.frame.slots (slot_bound (where_of params h) b) (machine_value j.contents (a_region q)) q (number_at j.contents q.root) refl
-            (g.names (bound_as h.scope.names b).place (omega (arith, r.below, g.count)) ∙ ap (machine_value j.contents) r.value),
-        λ n e. subst (λ k. Reached x h.tree j s.store q k place n a) r.space
-            (reached x params slots aside h s j q t r.region place n a g (subst (IsInside x s.store t) r.value inside) may
-            (subst (λ k. place < length (space_at h.tree k).fields) (sym r.space) field) e),
-      )
+      subst (λ k. Reached x h.tree j s.store q k place n a) r.space
+      (reached x params slots aside h s j q t r.region place n a g (name_inside h b sp q s j r g) may
+      (subst (λ k. place < length (space_at h.tree k).fields) (sym r.space) field) e)
 
   -- the slots of the regions that a pointer's type names have the pointer's regions
   passes : (h : Here) (k : Kind) (own sp : ℕ) (args rs : List Reach) (place : ℕ) (a : Mode) (qs : List Region) (s : State) (j : Instance) (i : ℕ) → AreNames rs →
@@ -95,8 +109,8 @@ module _ (x : Setting) (params slots : ℕ) (fit : SlotsFit x slots) (aside : As
       PassesTo x h.tree s.store j sp place a (slots_of (where_of params h) own (pointer_type k sp args rs)) (get_or qs i no_region) i
   passes h k own sp args [] place a qs s j i n r may l field g = absurd (omega (arith, l))
   passes h k own sp args (Some (term.Name b) ∷ rs) place a (q ∷ qs) s j zero n r may l field g =
-      let m = name_there h b sp place a q s j r.0 may.0 field g in
-      record { slot = slot_bound (where_of params h) b; at = refl; there = m.0; touched = m.1 }
+      let touched = name_reached h b sp place a q s j r.0 may.0 field g in
+      record { slot = slot_bound (where_of params h) b; at = refl; there = (name_there h b sp q s j r.0 g).0; touched = touched }
   passes h k own sp args (Some (term.Name b) ∷ rs) place a (q ∷ qs) s j (suc i) n r may l field g =
       let m = passes h k own sp args rs place a qs s j i n r.1 may.1 (omega (arith, l)) field g in
       record { slot = m.slot; at = m.at; there = m.there; touched = m.touched }

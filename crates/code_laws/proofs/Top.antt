@@ -39,7 +39,7 @@ use Rattle.regent_tree.specs.Store.{Touch}
 use Rattle.code_laws.specs.Handing.{AreTypedBy, HandingProgramsEndWell, RegionsAreHandedAsMeant, forms_by}
 use Rattle.code_laws.specs.LocalPrograms.{IsEnded}
 use Rattle.code_laws.specs.Taking.{allows, given_region, is_asked}
-use Rattle.code_laws.specs.Programs.{AreTypedTasks, CallsRunAsMeant, call_forms, IsTypedRun, LeavesNoRoots, PointersRunAsMeant, RegionsRunAsMeant, RunsAsMeant, ScalarsRunAsMeant, entry_setting, job_of, pointer_forms, region_forms, scalar_forms}
+use Rattle.code_laws.specs.Programs.{AreTypedTasks, PointerCallsRunAsMeant, CallsRunAsMeant, call_forms, IsTypedRun, LeavesNoRoots, PointersRunAsMeant, RegionsRunAsMeant, RunsAsMeant, ScalarsRunAsMeant, entry_setting, job_of, pointer_forms, region_forms, scalar_forms}
 use Rattle.code_laws.specs.Standing.{Answering, AreTaken, Does, IsFramed, IsInside, IsOf, Stands, machine_value}
 use Rattle.code_laws.specs.Steps.{Ends, Forms, Setting, placed}
 use Rattle.code_laws.proofs.Counts.{counts_down}
@@ -216,6 +216,10 @@ calls_end : (tree : Tree) (inputs : List ℤ) (turns : ℕ) → turns < 2 ^ 64 �
     × (fits_spaces (code_of tree) (meaning tree inputs turns) ≡ true)
 calls_end tree inputs turns few are p =
     handed_end false false tree inputs turns few (λ k t e. let a = are k t e in record { given = a.given; typed = a.typed; small = a.small }) p
+
+pub pointer_calls_run_as_meant : PointerCallsRunAsMeant
+pointer_calls_run_as_meant tree inputs turns few are p =
+    (handed_end false true tree inputs turns few (λ k t e. let a = are k t e in record { given = a.given; typed = a.typed; small = a.small }) p).0
 
 pub calls_run_as_meant : CallsRunAsMeant
 calls_run_as_meant tree inputs turns few are p = (calls_end tree inputs turns few are p).0

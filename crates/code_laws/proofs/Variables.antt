@@ -38,7 +38,7 @@ use Rattle.code_rules.specs.Initializers.{new_place, zero_kept}
 use Rattle.code_rules.specs.Assignments.{fill_code}
 use Rattle.code_laws.specs.Steps.{Setting, placed}
 use Rattle.code_laws.specs.Standing.{Stands, machine_value, Comes, IsInside, IsOf, nothing, of_index, of_integer, of_region, of_space, of_truth, blank, Aside, where_of, Agrees, SlotsFit, Does}
-use Rattle.code_laws.specs.Simple.{IsRegion, IsScalar, IsSpace, a_region_type, a_space_type, scalar_integer, scalar_truth}
+use Rattle.code_laws.specs.Simple.{IsRegion, IsSpace, a_region_type, a_space_type, scalar_integer, scalar_truth}
 use Rattle.code_laws.specs.Pointers.{HasZero, IsPointed, zero_index, zero_scalar}
 use Rattle.code_laws.specs.Taking.{IsFresh}
 use Rattle.code_laws.specs.Typed.{AreFilled, CountsDown, IsMakable, MayFill}

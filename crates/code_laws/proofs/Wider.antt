@@ -1,15 +1,18 @@
 -- What is asked where pointers aren't kept is asked where they are.
-use Rattle.std.proofs.Common.{◌⊎◌, Bool, true, false, inl}
+use Rattle.std.proofs.Common.{◌⊎◌, Bool, List, true, false, inl}
 use Rattle.regent_tree.specs.Syntax.{Name}
 use Rattle.regent_tree.specs.Typing.{counting_as}
+use Rattle.regent_tree.specs.declared.expression.Comparison.{Comparison}
+use Rattle.regent_tree.specs.declared.expression.Sign.{Sign}
+use Rattle.regent_tree.specs.declared.typing.Bound.{Bound}
 use Rattle.regent_tree.specs.declared.types.NumberTerm.{NumberTerm}
 use Rattle.regent_tree.specs.declared.typing.StaticType.{StaticType}
 use Rattle.code_rules.specs.Slots.{Where}
-use Rattle.code_laws.specs.Pointers.{BeginsAs, ConvertsTo, CountsAs, Fills, FillsInto, FitsInto, GoesInto, HasZero, IsCounting, IsNumberTerm, counts_number, counts_pointer, fills_alike, fills_index, into_index, into_plain, keeps_plain, term_integer, zero_index, zero_scalar}
+use Rattle.code_laws.specs.Pointers.{AreCompared, Assigned, Begins, BeginsAs, BeginsItself, BeginsWith, ConvertsTo, CountsAs, Fills, FillsInto, FitsInto, GoesInto, HasSigns, HasZero, SignedAs, signs_plain, IsAssigned, IsCompared, IsCounting, IsNumberTerm, IsPointer, assigned_plain, begins_plain, compared_plain, counts_number, counts_pointer, fills_alike, fills_index, into_index, into_plain, itself_plain, keeps_plain, term_integer, zero_index, zero_scalar}
 use Rattle.code_laws.specs.Simple.{IsNumber, IsSimple, IsSpace, number_index, number_integer, scalar_integer, scalar_truth, simple_index, simple_integer, simple_truth, two_integers, two_truths}
 use Rattle.regent_tree.specs.Syntax.{Expression}
 use Rattle.code_rules.specs.Slots.{typed}
-use Rattle.code_laws.specs.Typed.{IsAnyField, IsFieldOf, IsKeepable, IsNamedRegion, IsPointerName, LoopsOver}
+use Rattle.code_laws.specs.Typed.{IsAnyField, IsFieldOf, IsKeepable, IsNamedRegion, IsPointing, LoopsOver}
 
 pub counting : (b : Bool) (t : StaticType) → CountsAs b t → IsCounting t
 counting false t p = counts_number t p
@@ -23,9 +26,25 @@ pub going : (b : Bool) (t u : StaticType) → FitsInto b t u → GoesInto t u
 going false t u p = into_plain t u (fills_alike t u p)
 going true t u p = p
 
-pub zeroed : (b : Bool) (t : StaticType) → BeginsAs b t → HasZero t
-zeroed false t p = zero_scalar t p
-zeroed true t p = p
+pub zeroed : (b : Bool) (bs : List Bound) (t : StaticType) → BeginsAs b bs t → BeginsItself bs t
+zeroed false bs t p = itself_plain t (zero_scalar t p)
+zeroed true bs t p = p
+
+pub beginning : (b : Bool) (bs : List Bound) (t u : StaticType) → BeginsWith b bs t u → Begins bs t u
+beginning false bs t u p = begins_plain t u (into_plain t u (fills_alike t u p))
+beginning true bs t u p = p
+
+pub assigned : (b : Bool) (t u : StaticType) → IsAssigned b t u → Assigned t u
+assigned false t u p = assigned_plain t u (into_plain t u (fills_alike t u p))
+assigned true t u p = p
+
+pub signed_as : (b : Bool) (t : StaticType) (ss : List Sign) → SignedAs b t ss → HasSigns t ss
+signed_as false t ss p = signs_plain t ss p
+signed_as true t ss p = p
+
+pub compared : (b : Bool) (c : Comparison) (t u : StaticType) → IsCompared b c t u → AreCompared c t u
+compared false c t u p = compared_plain c t u p
+compared true c t u p = p
 
 pub converting : (b : Bool) (t : NumberTerm) → ConvertsTo b t → IsNumberTerm t
 converting false t p = term_integer t p
@@ -42,7 +61,7 @@ counted _ (counts_number _ (number_index k)) = number_index k
 counted _ (counts_pointer k sp args rs) = number_index k
 
 -- how a variable begins, and over what a loop goes
-pub keepable : (b : Bool) (w : Where) (e : Expression) → IsKeepable b w e → IsSimple (typed w e) ⊎ IsPointerName w e
+pub keepable : (b : Bool) (w : Where) (e : Expression) → IsKeepable b w e → IsSimple (typed w e) ⊎ (IsPointer (typed w e) × IsPointing w e)
 keepable false w e p = inl p
 keepable true w e p = p
 

@@ -12,6 +12,7 @@ pub mod LocalExample
 pub mod Example
 pub mod RegionExample
 pub mod PointerExample
+pub mod PointerCallExample
 pub mod CallExample
 pub mod HandingExample
 pub mod Privileges

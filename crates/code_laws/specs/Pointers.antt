@@ -2,6 +2,10 @@
 use Rattle.std.specs.Prelude.{◌≡◌, ℕ, ◌<◌, ◌≤◌, ◌^◌, Bool, true, false, List, [], ◌∷◌, length, get_or, Some, None}
 use Rattle.lane_kernels.specs.declared.numbers.FieldKind.{FieldKind}
 use Rattle.lane_kernels.specs.declared.numbers.FieldKind.TheVariants.{Index}
+use Rattle.regent_tree.specs.declared.expression.Comparison.{Comparison}
+use Rattle.regent_tree.specs.declared.expression.Comparison.TheVariants.{Equal, NotEqual}
+use Rattle.regent_tree.specs.declared.expression.Sign.{Sign}
+use Rattle.regent_tree.specs.declared.expression.Sign.TheVariants.{Minus, Not}
 use Rattle.regent_tree.specs.declared.facts.Term.TheVariants as term
 use Rattle.regent_tree.specs.declared.types.Kind.{Kind}
 use Rattle.regent_tree.specs.declared.types.NumberTerm.{NumberTerm}
@@ -14,7 +18,7 @@ use Rattle.regent_tree.specs.Scopes.{bound_as}
 use Rattle.regent_tree.specs.StaticTypes.{Reach}
 use Rattle.regent_tree.specs.Typing.{reaches_of}
 use Rattle.regent_tree.specs.Values.{Region, Target, Value, a_pointer, a_region, a_truth, null_target, point_target}
-use Rattle.code_laws.specs.Simple.{AreAlike, FieldFits, IsIntegerTerm, IsNumber, IsRegion, IsScalar, IsSimple}
+use Rattle.code_laws.specs.Simple.{AreAlike, AreComparable, FieldFits, IsIntegerTerm, IsNumber, IsRegion, IsScalar, IsSimple, SignsFit}
 
 -- ---- types
 
@@ -59,11 +63,63 @@ pub data IsNumberTerm : NumberTerm → Type 0 where
   term_integer : (t : NumberTerm) → IsIntegerTerm t → IsNumberTerm t
   term_index : (k : Kind) → IsNumberTerm (number.Index k)
 
+-- prefixes of a truth or an integer, and minus alone before what counts as a number
+abbrev pub AllMinus : List Sign → Type 0
+AllMinus [] = Unit {0}
+AllMinus (Minus ∷ ss) = AllMinus ss
+AllMinus (Not ∷ ss) = ⊥
+
+pub data HasSigns : StaticType → List Sign → Type 0 where
+  signs_plain : (t : StaticType) (ss : List Sign) → SignsFit t ss → HasSigns t ss
+  signs_counted : (t : StaticType) (ss : List Sign) → IsCounting t → AllMinus ss → HasSigns t (Minus ∷ ss)
+
+-- ---- types that are written
+
+-- the regions of a list are bound in scope, and of a field space
+abbrev pub AreThere : List Bound → ℕ → List Reach → Type 0
+AreThere bs sp [] = Unit {0}
+AreThere bs sp (Some (term.Name i) ∷ rs) = ((bound_as bs i).number ≡ i) × IsRegion (bound_as bs i).static_type
+    × (space_in (bound_as bs i).static_type ≡ sp) × AreThere bs sp rs
+AreThere bs sp (Some (term.Child p c) ∷ rs) = ⊥
+AreThere bs sp (None ∷ rs) = ⊥
+
+-- a pointer's type that is written in a scope
+abbrev pub IsWritten : List Bound → StaticType → Type 0
+IsWritten bs t = IsPointer t × AreThere bs (space_in t) (reaches_of t)
+
+-- what a variable of a written type begins with, by a value's type or by itself: 0, false or null
+pub data Begins (bs : List Bound) : StaticType → StaticType → Type 0 where
+  begins_plain : (t u : StaticType) → GoesInto t u → Begins bs t u
+  begins_pointer : (t u : StaticType) → IsPointer t → IsWritten bs u → Begins bs t u
+
+pub data BeginsItself (bs : List Bound) : StaticType → Type 0 where
+  itself_plain : (t : StaticType) → HasZero t → BeginsItself bs t
+  itself_null : (t : StaticType) → IsWritten bs t → BeginsItself bs t
+
+-- what is assigned to a variable
+pub data Assigned : StaticType → StaticType → Type 0 where
+  assigned_plain : (t u : StaticType) → GoesInto t u → Assigned t u
+  assigned_pointer : (t u : StaticType) → IsPointer t → IsPointer u → Assigned t u
+
+-- two values that are compared: pointers with each other, or with numbers by their points
+pub data AreCompared : Comparison → StaticType → StaticType → Type 0 where
+  compared_plain : (c : Comparison) (t u : StaticType) → AreComparable t u → AreCompared c t u
+  compared_left : (c : Comparison) (k : Kind) (sp : ℕ) (args rs : List Reach) (u : StaticType) → IsNumber u →
+      AreCompared c (pointer_type k sp args rs) u
+  compared_right : (c : Comparison) (t : StaticType) (k : Kind) (sp : ℕ) (args rs : List Reach) → IsNumber t →
+      AreCompared c t (pointer_type k sp args rs)
+  compared_equal : (t u : StaticType) → IsPointer t → IsPointer u → AreCompared Equal t u
+  compared_different : (t u : StaticType) → IsPointer t → IsPointer u → AreCompared NotEqual t u
+
 -- ---- the same where pointers aren't kept
 
 abbrev pub CountsAs : Bool → StaticType → Type 0
 CountsAs false t = IsNumber t
 CountsAs true t = IsCounting t
+
+abbrev pub SignedAs : Bool → StaticType → List Sign → Type 0
+SignedAs false t ss = SignsFit t ss
+SignedAs true t ss = HasSigns t ss
 
 abbrev pub FitsInto : Bool → StaticType → StaticType → Type 0
 FitsInto false t u = AreAlike t u
@@ -73,9 +129,21 @@ abbrev pub FillsInto : Bool → StaticType → StaticType → Type 0
 FillsInto false t u = AreAlike t u
 FillsInto true t u = Fills t u
 
-abbrev pub BeginsAs : Bool → StaticType → Type 0
-BeginsAs false t = IsScalar t
-BeginsAs true t = HasZero t
+abbrev pub BeginsAs : Bool → List Bound → StaticType → Type 0
+BeginsAs false bs t = IsScalar t
+BeginsAs true bs t = BeginsItself bs t
+
+abbrev pub BeginsWith : Bool → List Bound → StaticType → StaticType → Type 0
+BeginsWith false bs t u = AreAlike t u
+BeginsWith true bs t u = Begins bs t u
+
+abbrev pub IsAssigned : Bool → StaticType → StaticType → Type 0
+IsAssigned false t u = AreAlike t u
+IsAssigned true t u = Assigned t u
+
+abbrev pub IsCompared : Bool → Comparison → StaticType → StaticType → Type 0
+IsCompared false c t u = AreComparable t u
+IsCompared true c t u = AreCompared c t u
 
 abbrev pub ConvertsTo : Bool → NumberTerm → Type 0
 ConvertsTo false t = IsIntegerTerm t

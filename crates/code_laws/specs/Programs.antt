@@ -38,6 +38,10 @@ call_forms = record { makes = true; calls = true; takes = None; keeps = false }
 abbrev pub pointer_forms : Forms
 pointer_forms = record { makes = true; calls = false; takes = None; keeps = true }
 
+-- all of these
+abbrev pub all_forms : Forms
+all_forms = record { makes = true; calls = true; takes = None; keeps = true }
+
 -- a task at a depth, where so many more calls may nest, and these roots are there
 abbrev pub task_setting : Forms → Tree → ℕ → ℕ → ℕ → List ℕ → TaskTree → Setting
 task_setting forms tree turns more depth before t = record {
@@ -94,19 +98,30 @@ pub data IsGiven : StaticType → Type 0 where
   gives_scalar : (t : StaticType) → IsScalar t → IsGiven t
   gives_nothing : IsGiven no_type
 
--- Each task of the program gives such a result, is typed and not too long.
-pub record IsTypedTask (tree : Tree) (t : TaskTree) : Type 0 where
+-- Each task of the program gives such a result, is typed and not too long. Its body has these forms.
+pub record IsTypedTaskOf (forms : Forms) (tree : Tree) (t : TaskTree) : Type 0 where
   pub given : IsGiven (result_type tree t.result)
-  pub typed : IsTypedBlock call_forms (place_of tree t) t.body
+  pub typed : IsTypedBlock forms (place_of tree t) t.body
   pub small : length (lines (body_piece tree t) 0) ≤ 2 ^ 32
 
+abbrev pub AreTypedTasksOf : Forms → Tree → Type 0
+AreTypedTasksOf forms tree = (k : ℕ) (t : TaskTree) → slice_get (tasks_of tree) k ≡ Some t → IsTypedTaskOf forms tree t
+
+abbrev pub IsTypedTask : Tree → TaskTree → Type 0
+IsTypedTask tree t = IsTypedTaskOf call_forms tree t
+
 abbrev pub AreTypedTasks : Tree → Type 0
-AreTypedTasks tree = (k : ℕ) (t : TaskTree) → slice_get (tasks_of tree) k ≡ Some t → IsTypedTask tree t
+AreTypedTasks tree = AreTypedTasksOf call_forms tree
 
 -- Also where tasks call others that take and give numbers and truths: each may make roots of its own.
 abbrev pub CallsRunAsMeant : Type 0
 CallsRunAsMeant = (tree : Tree) (inputs : List ℤ) (turns : ℕ) → turns < 2 ^ 64 → AreTypedTasks tree →
     IsTypedRun call_forms tree inputs → RunsAsMeant tree inputs turns
+
+-- Also where such tasks loop over regions and keep pointers and indices.
+abbrev pub PointerCallsRunAsMeant : Type 0
+PointerCallsRunAsMeant = (tree : Tree) (inputs : List ℤ) (turns : ℕ) → turns < 2 ^ 64 → AreTypedTasksOf all_forms tree →
+    IsTypedRun all_forms tree inputs → RunsAsMeant tree inputs turns
 
 -- a run ends without roots, or with a fault
 abbrev pub LeavesNoRoots : Ending → Type 0

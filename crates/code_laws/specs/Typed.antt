@@ -19,11 +19,11 @@ use Rattle.regent_tree.specs.Scopes.{scope_of}
 use Rattle.regent_tree.specs.declared.facts.Term.{Term}
 use Rattle.regent_tree.specs.declared.facts.Term.TheVariants as term
 use Rattle.regent_tree.specs.Numbers.{distance}
-use Rattle.regent_tree.specs.Syntax.{a_statement, Form, var_form, if_form, while_form, for_in_form, for_to_form, do_form, assert_form, print_form, assign_form, return_form, Block, no_statement, then_statement, Arms, no_arm, an_arm, Otherwise, no_else, else_block, plain_initializer, region_initializer, Name, Tree, fill_form, call_form, call_expr, Expression, number_expr, truth_expr, chain_expr, prefix_expr, access_expr, convert_expr, Expressions, no_expr, an_expr, Links, no_link, a_link, no_step, field_step, at_step, space_expr}
+use Rattle.regent_tree.specs.Syntax.{a_statement, Form, var_form, if_form, while_form, for_in_form, for_to_form, do_form, assert_form, print_form, assign_form, return_form, Block, no_statement, then_statement, Arms, no_arm, an_arm, Otherwise, no_else, else_block, plain_initializer, region_initializer, Name, Tree, fill_form, call_form, call_expr, Expression, number_expr, truth_expr, chain_expr, prefix_expr, access_expr, convert_expr, Expressions, no_expr, an_expr, Links, no_link, a_link, no_step, field_step, at_step, space_expr, is_null_expr, null_expr, cast_expr}
 use Rattle.regent_tree.specs.Scopes.{bound_as}
 use Rattle.regent_tree.specs.Typing.{arithmetic_type, operated, param_types, params_at, reaches_of, result_type, taken_from, type_of_element, type_of_field, var_type}
-use Rattle.code_laws.specs.Pointers.{BeginsAs, ConvertsTo, CountsAs, FieldKeeps, FillsInto, FitsInto, GoesInto, IsPointer, IsRead}
-use Rattle.code_laws.specs.Simple.{AreComparable, IsInteger, IsTruth, IsScalar, IsSimple, IsSpace, IsRegion, AreAlike, SignsFit, FieldFits, AreRegions, term_in}
+use Rattle.code_laws.specs.Pointers.{BeginsAs, BeginsWith, ConvertsTo, CountsAs, FieldKeeps, FillsInto, FitsInto, GoesInto, IsAssigned, IsCompared, IsCounting, IsPointer, IsRead, IsWritten, SignedAs}
+use Rattle.code_laws.specs.Simple.{IsInteger, IsTruth, IsScalar, IsSimple, IsSpace, IsRegion, AreAlike, FieldFits, AreRegions, term_in}
 use Rattle.code_rules.specs.Instructions.{place_of_task, tasks_of}
 use Rattle.code_rules.specs.Programs.{task_code}
 use Rattle.code_laws.specs.Steps.{Forms, Taking}
@@ -89,15 +89,19 @@ abbrev pub LoopsOver : Bool → Where → Expression → Type 0
 LoopsOver false w e = IsSpace (typed w e)
 LoopsOver true w e = IsSpace (typed w e) ⊎ IsNamedRegion w e
 
--- how a variable begins: as a number, a truth or an index space, and where pointers are kept as one of these or a
--- name's pointer
-abbrev pub IsPointerName : Where → Expression → Type 0
-IsPointerName w (access_expr n no_step) = IsPointer (bound w n).static_type × Falls w.scope.next w.scope.names
-IsPointerName w e = ⊥
+-- an expression that gives a pointer of which the regions are known: a name, an element, null, or a cast
+abbrev pub IsPointing : Where → Expression → Type 0
+IsPointing w (access_expr n no_step) = Falls w.scope.next w.scope.names
+IsPointing w (access_expr n (at_step e no_step)) = Unit {0}
+IsPointing w (null_expr t) = Unit {0}
+IsPointing w (cast_expr t e) = Unit {0}
+IsPointing w e = ⊥
 
+-- how a variable begins: as a number, a truth or an index space, and where pointers are kept as one of these or such
+-- a pointer
 abbrev pub IsKeepable : Bool → Where → Expression → Type 0
 IsKeepable false w e = IsSimple (typed w e)
-IsKeepable true w e = IsSimple (typed w e) ⊎ IsPointerName w e
+IsKeepable true w e = IsSimple (typed w e) ⊎ (IsPointer (typed w e) × IsPointing w e)
 
 -- a pointer to an element of a region that has a name goes through the name's slot
 abbrev pub GoesThrough : Where → Name → Expression → Type 0
@@ -200,11 +204,18 @@ abbrev mutual
   IsTyped forms w (number_expr z v) = FitsWidth v z
   IsTyped forms w (truth_expr b) = Unit {0}
   IsTyped forms w (chain_expr first rest) = IsTyped forms w first × AreTypedLinks forms w (typed w first) rest
-  IsTyped forms w (prefix_expr signs e) = IsTyped forms w e × SignsFit (typed w e) signs
+  IsTyped forms w (prefix_expr signs e) = IsTyped forms w e × SignedAs forms.keeps (typed w e) signs
   IsTyped forms w (access_expr n no_step) =
       (is_bound w.scope.names n ≡ true) × IsRead forms.keeps (bound w n).static_type
   IsTyped forms w (access_expr n (field_step f no_step)) = (forms.keeps ≡ true) × IsBehind w n f (field_behind w n f)
       × MayGo forms w n f mode.Read
+  IsTyped forms w (access_expr n (at_step e no_step)) = (forms.keeps ≡ true) × IsTyped forms w e × IsCounting (typed w e)
+      × (is_bound w.scope.names n ≡ true) × IsRegion (bound w n).static_type
+      × IsOwnRegion w (bound w n) (bound w n).static_type
+  IsTyped forms w (is_null_expr e) = (forms.keeps ≡ true) × IsPointer (typed w e) × IsTyped forms w e
+  IsTyped forms w (null_expr t) = (forms.keeps ≡ true) × IsWritten w.scope.names (typed w (null_expr t))
+  IsTyped forms w (cast_expr t e) = (forms.keeps ≡ true) × IsWritten w.scope.names (typed w (cast_expr t e))
+      × IsCounting (typed w e) × IsTyped forms w e
   IsTyped forms w (access_expr n (at_step e (field_step f no_step))) = IsTyped forms w e × CountsAs forms.keeps (typed w e)
       × GoesThrough w n e × IsFieldOf forms.keeps w n f (element_field w n e f)
       × MayTouch forms w n (field_place w.tree (space_in (bound w n).static_type) f) mode.Read
@@ -222,7 +233,7 @@ abbrev mutual
       IsTruth t × IsTruth (typed w e) × IsTyped forms w e × AreTypedLinks forms w truth_type rest
   AreTypedLinks forms w t (a_link And e rest) =
       IsTruth t × IsTruth (typed w e) × IsTyped forms w e × AreTypedLinks forms w truth_type rest
-  AreTypedLinks forms w t (a_link (Compare c) e rest) = AreComparable t (typed w e) × IsTyped forms w e
+  AreTypedLinks forms w t (a_link (Compare c) e rest) = IsCompared forms.keeps c t (typed w e) × IsTyped forms w e
       × AreTypedLinks forms w (operated (Compare c) t (typed w e)) rest
   AreTypedLinks forms w t (a_link (Compute o) e rest) = CountsAs forms.keeps t × CountsAs forms.keeps (typed w e) × IsTyped forms w e
       × AreTypedLinks forms w (operated (Compute o) t (typed w e)) rest
@@ -259,8 +270,9 @@ abbrev mutual
   IsTypedForm forms w (var_form n None (Some (region_initializer e u))) = (forms.makes ≡ true) × IsSpace (typed w e)
       × IsTyped forms w e × IsMakable w.tree (place_of_space w.tree u.name) × IsFresh forms.takes (term.Name w.scope.next)
   IsTypedForm forms w (var_form n (Some t) (Some (plain_initializer e))) =
-      FitsInto forms.keeps (typed w e) (var_type w.tree w.scope (Some t) (Some (plain_initializer e))) × IsTyped forms w e
-  IsTypedForm forms w (var_form n (Some t) None) = BeginsAs forms.keeps (var_type w.tree w.scope (Some t) None)
+      BeginsWith forms.keeps w.scope.names (typed w e) (var_type w.tree w.scope (Some t) (Some (plain_initializer e)))
+      × IsTyped forms w e
+  IsTypedForm forms w (var_form n (Some t) None) = BeginsAs forms.keeps w.scope.names (var_type w.tree w.scope (Some t) None)
   IsTypedForm forms w (if_form arms other) = AreTypedArms forms w w arms × IsTypedElse forms (after_arms w arms) other
   IsTypedForm forms w (while_form test body) =
       IsTruth (typed w test) × IsTyped forms w test × IsTypedBlock forms w body
@@ -276,7 +288,7 @@ abbrev mutual
   IsTypedForm forms w (for_in_form demanded n domain body) = LoopsOver forms.keeps w domain × IsTyped forms w domain
       × IsTypedBlock forms (looping w n (taken_from (typed w domain))) body
   IsTypedForm forms w (assign_form n no_step how.Set e) =
-      FitsInto forms.keeps (typed w e) (bound w n).static_type × IsTyped forms w e × (is_bound w.scope.names n ≡ true)
+      IsAssigned forms.keeps (typed w e) (bound w n).static_type × IsTyped forms w e × (is_bound w.scope.names n ≡ true)
   IsTypedForm forms w (assign_form n no_step (how.Reduce o) e) = IsInteger (typed w e)
       × IsInteger (bound w n).static_type × IsTyped forms w e × (is_bound w.scope.names n ≡ true)
   IsTypedForm forms w (assign_form n (at_step e (field_step f no_step)) how.Set y) =

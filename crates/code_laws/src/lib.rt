@@ -8,10 +8,11 @@ ghost use Rattle.code_laws.specs.Example.{ExampleHolds};
 ghost use Rattle.code_laws.specs.Handing.{HandingProgramsEndWell, RegionsAreHandedAsMeant};
 ghost use Rattle.code_laws.specs.HandingExample.{HandingExampleHolds};
 ghost use Rattle.code_laws.specs.LocalExample.{LocalExampleHolds};
+ghost use Rattle.code_laws.specs.PointerCallExample.{PointerCallExampleHolds};
 ghost use Rattle.code_laws.specs.PointerExample.{PointerExampleHolds};
 ghost use Rattle.code_laws.specs.Privileges.{AllowedIsNeeded};
 ghost use Rattle.code_laws.specs.RegionExample.{RegionExampleHolds};
-ghost use Rattle.code_laws.specs.Programs.{CallsRunAsMeant, PointersRunAsMeant, RegionsRunAsMeant, ScalarsRunAsMeant};
+ghost use Rattle.code_laws.specs.Programs.{CallsRunAsMeant, PointerCallsRunAsMeant, PointersRunAsMeant, RegionsRunAsMeant, ScalarsRunAsMeant};
 ghost use Rattle.code_laws.specs.LocalPrograms.{LocalProgramsEndWell, LocalProgramsRunAsMeant};
 ghost use Rattle.code_laws.specs.ScalarPrograms.{ScalarProgramsLeaveNoRoots, ScalarProgramsRunAsMeant};
 
@@ -41,6 +42,12 @@ pub fn pointers_run_as_meant()
 #[tactic(auto, using(crate::proofs::Top::calls_run_as_meant))]
 pub fn calls_run_as_meant()
     ensures { CallsRunAsMeant }
+{}
+
+/// So it is where such tasks also loop over regions and keep pointers and indices.
+#[tactic(auto, using(crate::proofs::Top::pointer_calls_run_as_meant))]
+pub fn pointer_calls_run_as_meant()
+    ensures { PointerCallsRunAsMeant }
 {}
 
 /// So it is where tasks hand regions over to those that they call: roots that they made, or regions that they took.
@@ -99,6 +106,13 @@ pub fn region_example_holds()
 #[tactic(auto, using(crate::proofs::PointerExample::pointer_example_holds))]
 pub fn pointer_example_holds()
     ensures { PointerExampleHolds }
+{}
+
+/// A task that sums over a region of its own and is called: each premise of the law on calls and pointers holds of it,
+/// and with too few turns it means a fault.
+#[tactic(auto, using(crate::proofs::PointerCallExample::pointer_call_example_holds))]
+pub fn pointer_call_example_holds()
+    ensures { PointerCallExampleHolds }
 {}
 
 /// A program with calls of which each premise of the law on calls holds; it means an end, and with too few turns

@@ -289,6 +289,10 @@ module _ (g : Program) (t : TaskCode) (k slots : ℕ) (have : HasSlots t slots) 
         (does g t k (stacked m (shape_of (typed w e) ∷ us)) instr.Space w.line (space ∷ us)
         (does_space _ us (scalar_numeric _ (integer_is_plain _ fine.1))))
     expr_marked d (access_expr x (field_step f no_step)) us fine told pc st = absurd (false≢true fine.0)
+    expr_marked d (access_expr x (at_step e no_step)) us fine told pc st = absurd (false≢true fine.0)
+    expr_marked d (is_null_expr e) us fine told pc st = absurd (false≢true fine.0)
+    expr_marked d (null_expr p) us fine told pc st = absurd (false≢true fine.0)
+    expr_marked d (cast_expr p e) us fine told pc st = absurd (false≢true fine.0)
     expr_marked d _ us fine told pc st = absurd fine
 
     pub links_marked : (d : ℕ) (u : StaticType) (ls : Links) (us : List Shape) → AreTypedLinks (without_pointers forms) w u ls → ToldLinks way w.tree w.scope ls → (pc : ℕ) →

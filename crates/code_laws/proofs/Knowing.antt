@@ -1,0 +1,145 @@
+-- What is known of the value that an expression gives: the regions of a pointer are those that its type names.
+use Rattle.std.proofs.Common.{◌≡◌, ℕ, List, [], ◌∷◌, Bool, true, false, ℤ, pos, negsuc, Some, refl, sym, subst}
+use Rattle.std.specs.Prelude.{get_or, length}
+use Rattle.plain_values.specs.Points.{has}
+use Rattle.regent_tree.specs.Accesses.{converted, regions_reached, regions_written, space_in, standing, take_element}
+use Rattle.regent_tree.specs.Evaluation.{stepped, value}
+use Rattle.regent_tree.specs.Laws.{Leaves, SameNames}
+use Rattle.regent_tree.specs.Operators.{cast_to}
+use Rattle.regent_tree.specs.Running.{Here, Result, Run, State, and_then, fails, fault, given, gives, if_true}
+use Rattle.regent_tree.specs.Scopes.{bound_to}
+use Rattle.regent_tree.specs.Syntax.{Expression, number_expr, truth_expr, chain_expr, prefix_expr, call_expr, access_expr, convert_expr, is_null_expr, null_expr, cast_expr, space_expr, no_step, field_step, at_step}
+use Rattle.regent_tree.specs.Typing.{reaches_of, taken_from, type_of_element}
+use Rattle.regent_tree.specs.Values.{Region, Value, a_number, a_partition, a_pointer, a_region, a_space, a_truth, an_index, null_target, number_of, point_target}
+use Rattle.regent_tree.specs.declared.outcome.FaultKind.TheVariants.{OutOfRegion}
+use Rattle.regent_tree.specs.declared.typing.StaticType.{StaticType}
+use Rattle.regent_tree.specs.declared.typing.StaticType.TheVariants.{Pointer as pointer_type, Region as region_type}
+use Rattle.regent_tree.proofs.Laws.{expressions_keep_names}
+use Rattle.machine_terms.specs.declared.order.Instance.{Instance}
+use Rattle.code_rules.specs.Slots.{typed}
+use Rattle.code_laws.specs.Pointers.{ArePointed, AreReached, IsPointed, IsPointer, IsWritten, a_pointer_type}
+use Rattle.code_laws.specs.Simple.{IsRegion, a_region_type}
+use Rattle.code_laws.specs.Standing.{AreOf, Comes, IsOf, nothing, of_region, where_of}
+use Rattle.code_laws.specs.Steps.{Forms, Setting}
+use Rattle.code_laws.specs.Typed.{IsPointing, IsTyped}
+use Rattle.code_laws.proofs.Pointing.{named_pointed, own_reached}
+use Rattle.code_laws.proofs.PointerValues.{there_reached}
+use Rattle.code_laws.proofs.Runs.{Said}
+use Rattle.code_laws.proofs.Values.{named}
+
+-- what a result gives, if anything
+abbrev pub GivesOnly : {A : Type 0} → (A → State → Type 0) → Result A → Type 0
+GivesOnly P (gives a s) = P a s
+GivesOnly P (fails f s) = Unit {0}
+
+-- and it is known where the run goes on
+pub then_known : (x : Setting) {A B : Type 0} (T : Instance → Result B → Type 0) → Said x T → (P : A → State → Type 0)
+    (shape : A → Instance → Instance) (G : A → State → Instance → Type 0) (i : Instance) (r : Result A) (K : A → Run B) → GivesOnly P r →
+    Comes x i shape G r → ((a : A) (s : State) (j : Instance) → P a s → G a s j → T (shape a j) (K a s)) → T i (and_then r K)
+then_known x T said P shape G i (gives a s) K p c more = said.before i (shape a c.0) (K a s) c.1 (more a s c.0 p c.2)
+then_known x T said P shape G i (fails f s) K p c more = said.failing i f s c
+
+-- ---- elements
+
+module _ (h : Here) (P : Value → State → Type 0) (q : Region) where
+  taken : (z : ℤ) (s : State) → ((n : ℕ) → P (a_pointer (point_target n 1) (q ∷ [])) s) →
+      GivesOnly P (and_then (take_element h z (a_region q) s) (λ v. given v))
+  taken (negsuc n) s p = tt
+  taken (pos n) s p = by (has q.points n)
+    where
+      by : (b : Bool) → GivesOnly P (and_then (if_true b (given (a_pointer (point_target n 1) (q ∷ []))) (fault h OutOfRegion) s) (λ v. given v))
+      by true = p n
+      by false = tt
+
+  -- whatever stands for the index
+  element_only : (r : Result Value) (s : State) → Leaves SameNames s r → ((s1 : State) (n : ℕ) → s1.names ≡ s.names → P (a_pointer (point_target n 1) (q ∷ [])) s1) →
+      GivesOnly P (and_then r (λ w s1. and_then (standing h w s1) (λ z. λ s2. and_then (take_element h (number_of z) (a_region q) s2) (λ v. given v))))
+  element_only (fails f s1) s same p = tt
+  element_only (gives (a_number w z) s1) s same p = taken z s1 (λ n. p s1 n same)
+  element_only (gives (a_truth b) s1) s same p = taken (pos 0) s1 (λ n. p s1 n same)
+  element_only (gives (an_index z) s1) s same p = taken z s1 (λ n. p s1 n same)
+  element_only (gives (a_pointer null_target rs) s1) s same p = tt
+  element_only (gives (a_pointer (point_target m i) rs) s1) s same p = taken (pos m) s1 (λ n. p s1 n same)
+  element_only (gives (a_space n) s1) s same p = taken (pos 0) s1 (λ n. p s1 n same)
+  element_only (gives (a_region r) s1) s same p = taken (pos 0) s1 (λ n. p s1 n same)
+  element_only (gives (a_partition r) s1) s same p = taken (pos 0) s1 (λ n. p s1 n same)
+
+-- `r[e]`, for a name that has a region
+element_pointed : (h : Here) (t : StaticType) (v : Value) (e : Expression) (s : State) → IsRegion t → IsOf t v →
+    ((q : Region) → v ≡ a_region q → AreReached h.scope.names s.names (space_in t) (reaches_of (taken_from t)) (q ∷ [])) →
+    GivesOnly (λ u s1. IsPointed h.scope.names s1.names (type_of_element h.scope t e) u) (stepped h t v (at_step e no_step) s)
+element_pointed h _ _ e s (a_region_type k sp args r) (of_region _ _ _ _ q) reach =
+    element_only h (λ u s1. IsPointed h.scope.names s1.names (type_of_element h.scope (region_type k sp args r) e) u) q (value h e s) s
+    (expressions_keep_names h e s)
+    (λ s1 n names. subst (λ ns. AreReached h.scope.names ns sp (Some r ∷ []) (q ∷ [])) (sym names) (reach q refl))
+
+-- ---- written types
+
+cast_pointed : (h : Here) (names : List Value) (t : StaticType) (v : Value) (qs : List Region) →
+    AreReached h.scope.names names (space_in t) (reaches_of t) qs → IsPointed h.scope.names names t (cast_to qs v)
+cast_pointed h names t (a_number w z) qs a = a
+cast_pointed h names t (a_truth b) qs a = a
+cast_pointed h names t (an_index z) qs a = a
+cast_pointed h names t (a_pointer target rs) qs a = a
+cast_pointed h names t (a_space n) qs a = a
+cast_pointed h names t (a_region r) qs a = a
+cast_pointed h names t (a_partition r) qs a = a
+
+-- the regions that a written type names, in a state with the same names
+written_reached : (h : Here) (t : StaticType) (s s1 : State) → IsWritten h.scope.names t → AreOf IsOf h.scope.names s.names →
+    length s.names ≡ length h.scope.names → s1.names ≡ s.names →
+    AreReached h.scope.names s1.names (space_in t) (reaches_of t) (regions_reached h.scope s1.names (reaches_of t))
+written_reached h t s s1 w o long same =
+    subst (λ ns. AreReached h.scope.names ns (space_in t) (reaches_of t) (regions_reached h.scope ns (reaches_of t))) (sym same)
+    (there_reached h.scope s.names (space_in t) (reaches_of t) o long w.1)
+
+-- ---- expressions
+
+-- the regions of the pointer that such an expression gives
+pub pointing : (forms : Forms) (params : ℕ) (h : Here) (e : Expression) (s : State) → IsTyped forms (where_of params h) e →
+    IsPointing (where_of params h) e → ArePointed h.scope.names s.names → AreOf IsOf h.scope.names s.names →
+    length s.names ≡ length h.scope.names →
+    GivesOnly (λ v s1. IsPointed h.scope.names s1.names (typed (where_of params h) e) v) (value h e s)
+pointing forms params h (access_expr n no_step) s fine p a o long = named_pointed h.scope.next h.scope.names s.names n p a fine.0
+pointing forms params h (access_expr n (at_step e no_step)) s fine p a o long =
+    let b = bound_to h.scope.names n in
+    let m = named IsOf h.scope.names s.names n o fine.3 in
+    element_pointed h b.static_type (get_or s.names b.place nothing) e s fine.4 m.holding
+    (λ q d. own_reached (where_of params h) b b.static_type s.names q fine.5 o d)
+pointing forms params h (null_expr t) s fine p a o long =
+    written_reached h (typed (where_of params h) (null_expr t)) s s fine.1 o long refl
+pointing forms params h (cast_expr t e) s fine p a o long = by (value h e s) (expressions_keep_names h e s)
+  where
+    by : (r : Result Value) → Leaves SameNames s r →
+        GivesOnly (λ v s1. IsPointed h.scope.names s1.names (typed (where_of params h) (cast_expr t e)) v)
+        (and_then r (λ v. λ s1. and_then (regions_written h t s1) (λ qs. given (cast_to qs v))))
+    by (gives v s1) same = cast_pointed h s1.names (typed (where_of params h) (cast_expr t e)) v _
+        (written_reached h (typed (where_of params h) (cast_expr t e)) s s1 fine.1 o long same)
+    by (fails f s1) same = tt
+pointing forms params h (access_expr n (field_step _ _)) s fine p a o long = absurd p
+pointing forms params h (access_expr n (at_step _ (field_step _ _))) s fine p a o long = absurd p
+pointing forms params h (access_expr n (at_step _ (at_step _ _))) s fine p a o long = absurd p
+pointing forms params h (number_expr _ _) s fine p a o long = absurd p
+pointing forms params h (truth_expr _) s fine p a o long = absurd p
+pointing forms params h (chain_expr _ _) s fine p a o long = absurd p
+pointing forms params h (prefix_expr _ _) s fine p a o long = absurd p
+pointing forms params h (call_expr _ _) s fine p a o long = absurd p
+pointing forms params h (convert_expr _ _) s fine p a o long = absurd p
+pointing forms params h (is_null_expr _) s fine p a o long = absurd p
+pointing forms params h (space_expr _ _) s fine p a o long = absurd p
+
+-- a pointer that is put into a variable of a written type goes to the regions of that type
+pub declared_pointed : (h : Here) (from u : StaticType) (e : Expression) (s : State) → IsWritten h.scope.names u →
+    AreOf IsOf h.scope.names s.names → length s.names ≡ length h.scope.names →
+    GivesOnly (λ v s1. IsPointed h.scope.names s1.names u v)
+    (and_then (value h e s) (λ v. λ s1. converted h from u (regions_reached h.scope s1.names (reaches_of u)) v s1))
+declared_pointed h from u e s wr o long = by (value h e s) (expressions_keep_names h e s)
+  where
+    by_type : (u : StaticType) → IsPointer u → IsWritten h.scope.names u → (v : Value) (s1 : State) → s1.names ≡ s.names →
+        GivesOnly (λ v s1. IsPointed h.scope.names s1.names u v) (converted h from u (regions_reached h.scope s1.names (reaches_of u)) v s1)
+    by_type _ (a_pointer_type k sp args rs ns) w v s1 same = written_reached h (pointer_type k sp args rs) s s1 w o long same
+
+    by : (r : Result Value) → Leaves SameNames s r → GivesOnly (λ v s1. IsPointed h.scope.names s1.names u v)
+        (and_then r (λ v. λ s1. converted h from u (regions_reached h.scope s1.names (reaches_of u)) v s1))
+    by (gives v s1) same = by_type u wr.0 wr v s1 same
+    by (fails f s1) same = tt

@@ -1,0 +1,149 @@
+-- Pointers that go into variables: each position becomes that of its region in the other list.
+use Rattle.std.proofs.Common.{◌≡◌, ℕ, zero, suc, ◌+◌, ◌<◌, ◌≤◌, List, [], ◌∷◌, Bool, true, false, Some, None, refl, sym, ap, ◌∙◌, subst, arith}
+use Rattle.std.specs.Prelude.{cond, get_or, length}
+use Rattle.std.proofs.lemmas.List.{length-map}
+use Rattle.std.proofs.lemmas.Option.{slice_get-get_or}
+use Rattle.regent_tree.specs.Accesses.{converted}
+use Rattle.regent_tree.specs.Execution.{write_name}
+use Rattle.regent_tree.specs.Facts.{is_subregion}
+use Rattle.regent_tree.specs.Lookup.{is_bound}
+use Rattle.regent_tree.specs.Running.{Here, State, gives}
+use Rattle.regent_tree.specs.Scopes.{bound_to}
+use Rattle.regent_tree.specs.StaticTypes.{Reach}
+use Rattle.regent_tree.specs.Syntax.{Name}
+use Rattle.regent_tree.specs.Typing.{has_wild, least_above, position_of, positions}
+use Rattle.regent_tree.specs.Values.{Region, Target, Value, a_pointer, kept_target, moved, null_target, point_target, regions_of}
+use Rattle.regent_tree.specs.declared.facts.Known.{Known}
+use Rattle.regent_tree.specs.declared.facts.Term.{Term}
+use Rattle.regent_tree.specs.declared.statement.How.TheVariants as how
+use Rattle.regent_tree.specs.declared.types.Kind.{Kind}
+use Rattle.regent_tree.specs.declared.typing.StaticType.{StaticType}
+use Rattle.regent_tree.specs.declared.typing.StaticType.TheVariants.{Pointer as pointer_type}
+use Rattle.task_code.specs.declared.instr.Instr.TheVariants as instr
+use Rattle.machine_terms.specs.declared.order.Instance.{Instance}
+use Rattle.machine_terms.specs.declared.value.Value.{Value as MachineValue}
+use Rattle.machine_terms.specs.declared.value.Value.TheVariants as machine
+use Rattle.machine_terms.specs.Pointers.{move, moved_to}
+use Rattle.code_rules.specs.Instructions.{converted_code}
+use Rattle.code_rules.specs.Pieces.{op, past}
+use Rattle.code_rules.specs.Slots.{slot_named}
+use Rattle.code_laws.specs.Pointers.{Assigned, IsPointer, IsTarget, a_pointer_type, assigned_plain, assigned_pointer}
+use Rattle.code_laws.specs.Standing.{Agrees, Aside, Comes, Does, IsInside, IsOf, SlotsFit, Stands, nothing, of_pointer, where_of}
+use Rattle.code_laws.specs.Steps.{Setting, machine_of, on_step, placed}
+use Rattle.code_laws.specs.Typed.{CountsDown}
+use Rattle.code_laws.proofs.Accesses.{kept_round}
+use Rattle.code_laws.proofs.Counting.{into_runs}
+use Rattle.code_laws.proofs.Good.{Gives, Good, pushes, valued}
+use Rattle.code_laws.proofs.Pointing.{GoAlike, IsNoRegion}
+use Rattle.code_laws.proofs.Rows.{writes_name}
+use Rattle.code_laws.proofs.States.{changed, stored, stores}
+use Rattle.code_laws.proofs.Values.{named}
+use Rattle.code_laws.proofs.Wider.{into_simple}
+
+-- ---- positions
+
+least_small : (known : List Known) (a : Term) (j : ℕ) (bs : List Reach) → least_above known a j bs ≤ j + length bs
+least_small known a j [] = omega arith
+least_small known a j (None ∷ bs) = omega (arith, least_small known a (suc j) bs)
+least_small known a j (Some b ∷ bs) = by (is_subregion known a b) (least_small known a (suc j) bs)
+  where
+    by : (c : Bool) → least_above known a (suc j) bs ≤ suc j + length bs →
+        cond c (suc j) (least_above known a (suc j) bs) ≤ j + length (Some b ∷ bs)
+    by true more = omega arith
+    by false more = omega (arith, more)
+
+position_small : (known : List Known) (to : List Reach) (a : Reach) → cond (has_wild to) 0 (position_of known to a) ≤ length to
+position_small known to a = by (has_wild to) a
+  where
+    by : (c : Bool) (a : Reach) → cond c 0 (position_of known to a) ≤ length to
+    by true a = omega arith
+    by false None = omega arith
+    by false (Some a) = omega (arith, least_small known a 0 to)
+
+positions_small : (known : List Known) (from to : List Reach) (m : ℕ) → get_or (positions known from to) m 0 ≤ length to
+positions_small known [] to zero = omega arith
+positions_small known [] to (suc m) = omega arith
+positions_small known (a ∷ from) to zero = position_small known to a
+positions_small known (a ∷ from) to (suc m) = positions_small known from to m
+
+positions_many : (known : List Known) (from to : List Reach) → length (positions known from to) ≡ length from
+positions_many known from to = length-map from (λ a. cond (has_wild to) 0 (position_of known to a))
+
+module _ (x : Setting) (params slots : ℕ) (fit : SlotsFit x slots) (aside : Aside) where
+  -- a pointer's position is moved
+  move_runs : (h : Here) (js : List ℕ) (m : ℕ) (k : Kind) (sp : ℕ) (args qs : List Reach) (tg : Target) (regions : List Region) (s : State)
+      (pc : ℕ) (st : List MachineValue) (i : Instance) → length js ≡ m → ((n : ℕ) → get_or js n 0 ≤ length qs) → IsTarget m tg →
+      Agrees x params slots aside h s i → Stands x.body pc (op (instr.Move js) h.line) →
+      Gives x params slots fit aside h (pointer_type k sp args qs) (op (instr.Move js) h.line) pc (machine.Number (kept_target tg) ∷ st) st i
+      (gives (a_pointer (moved js tg) regions) s)
+  move_runs h js m k sp args qs null_target regions s pc st i many small o g f =
+      pushes x params slots fit aside h (pointer_type k sp args qs) (a_pointer null_target regions) s pc _ st i (instr.Move js) h.line f
+      (of_pointer k sp args qs null_target regions tt) g refl
+  move_runs h js m k sp args qs (point_target n zero) regions s pc st i many small o g f =
+      let z = kept_target (point_target n 0) in
+      let j = placed pc (machine.Number z ∷ st) i in
+      pushes x params slots fit aside h (pointer_type k sp args qs) (a_pointer (point_target n 0) regions) s pc (machine.Number z ∷ st) st i
+      (instr.Move js) h.line f (of_pointer k sp args qs (point_target n 0) regions (o.0, omega arith)) g
+      (ap (λ t. on_step x j (move js t st (machine_of j))) (kept_round n 0 o.0))
+  move_runs h js m k sp args qs (point_target n (suc c)) regions s pc st i many small o g f =
+      let z = kept_target (point_target n (suc c)) in
+      let j = placed pc (machine.Number z ∷ st) i in
+      pushes x params slots fit aside h (pointer_type k sp args qs) (a_pointer (point_target n (get_or js c 0)) regions) s pc
+      (machine.Number z ∷ st) st i (instr.Move js) h.line f
+      (of_pointer k sp args qs (point_target n (get_or js c 0)) regions (o.0, small c)) g
+      (ap (λ t. on_step x j (move js t st (machine_of j))) (kept_round n (suc c) o.0)
+      ∙ ap (λ u. on_step x j (moved_to n u st (machine_of j))) (slice_get-get_or js c 0 (omega (arith, many, o.1))))
+
+  -- a pointer goes into a variable of a pointer's type
+  pub pointer_into : (h : Here) (t u : StaticType) (regions : List Region) (v : Value) (s : State) (pc : ℕ) (st : List MachineValue)
+      (i : Instance) → IsPointer t → IsPointer u → IsOf t v → Agrees x params slots aside h s i →
+      Stands x.body pc (converted_code (where_of params h) t u) →
+      Comes x (valued pc st v i) (valued (past (converted_code (where_of params h) t u) pc) st)
+      (Good x params slots fit aside h u) (converted h t u regions v s)
+  pointer_into h _ _ regions _ s pc st i (a_pointer_type k sp args rs ns) (a_pointer_type k2 sp2 args2 qs ms) (of_pointer _ _ _ _ tg us o) g f =
+      move_runs h (positions h.scope.known rs qs) (length rs) k2 sp2 args2 qs tg regions s pc st i (positions_many h.scope.known rs qs)
+      (positions_small h.scope.known rs qs) o g f
+
+  -- what is assigned
+  pub assigned_runs : (h : Here) (t u : StaticType) (regions : List Region) (v : Value) (s : State) (pc : ℕ) (st : List MachineValue)
+      (i : Instance) → Assigned t u → IsOf t v → Agrees x params slots aside h s i →
+      Stands x.body pc (converted_code (where_of params h) t u) →
+      Comes x (valued pc st v i) (valued (past (converted_code (where_of params h) t u) pc) st)
+      (Good x params slots fit aside h u) (converted h t u regions v s)
+  assigned_runs h t u regions v s pc st i (assigned_plain _ _ p) o g f = into_runs x params slots fit aside h t u regions v s pc st i p o g f
+  assigned_runs h t u regions v s pc st i (assigned_pointer _ _ p q) o g f = pointer_into h t u regions v s pc st i p q o g f
+
+-- ---- variables
+
+-- a pointer's variable keeps its regions
+pointer_alike : (t : StaticType) (old : Value) (tg : Target) → IsPointer t → IsOf t old → IsNoRegion old × GoAlike old (a_pointer tg (regions_of old))
+pointer_alike _ _ tg (a_pointer_type k sp args rs n) (of_pointer _ _ _ _ tg0 us o) = (λ q e. absurd cc, λ bs names t p. p)
+
+module _ (x : Setting) (params slots : ℕ) (fit : SlotsFit x slots) (counts : CountsDown) where
+  writes_pointer : (aside : Aside) (h : Here) (n : Name) (t : StaticType) (v : Value) (s : State) (pc : ℕ) (i : Instance) →
+      (bound_to h.scope.names n).static_type ≡ t → IsPointer t → IsOf t v → is_bound h.scope.names n ≡ true → Agrees x params slots aside h s i →
+      Stands x.body pc (op (instr.Store (slot_named (where_of params h) n)) h.line) →
+      Does x params slots aside (valued pc [] v i) (suc pc) h (write_name h n how.Set v s)
+  writes_pointer aside h n _ _ s pc i e (a_pointer_type k sp args rs ns) (of_pointer _ _ _ _ tg us o) b g f =
+      let t = pointer_type k sp args rs in
+      let old = get_or s.names (bound_to h.scope.names n).place nothing in
+      let slot_at = slot_named (where_of params h) n in
+      let new = a_pointer tg (regions_of old) in
+      let room : slot_at < slots = omega (arith, fit pc _ f) in
+      let held = (named IsOf h.scope.names s.names n g.typed b).holding in
+      let alike = pointer_alike t old tg (a_pointer_type k sp args rs ns) (subst (λ u. IsOf u old) e held) in (
+        stored slot_at (machine.Number (kept_target tg)) i,
+        stores x params slots fit slot_at pc h.line (machine.Number (kept_target tg)) [] i g.slots_are f,
+        changed x params slots fit aside h s i n new b room
+            (subst (λ u. IsOf u new) (sym e) (of_pointer k sp args rs tg (regions_of old) o))
+            (subst (λ u. IsInside x s.store u new) (sym e) tt) alike.0 alike.1 g,
+      )
+
+  pub assigns : (aside : Aside) (h : Here) (n : Name) (from : StaticType) (v : Value) (s : State) (pc : ℕ) (i : Instance) →
+      Assigned from (bound_to h.scope.names n).static_type → IsOf (bound_to h.scope.names n).static_type v →
+      is_bound h.scope.names n ≡ true → Agrees x params slots aside h s i →
+      Stands x.body pc (op (instr.Store (slot_named (where_of params h) n)) h.line) →
+      Does x params slots aside (valued pc [] v i) (suc pc) h (write_name h n how.Set v s)
+  assigns aside h n from v s pc i (assigned_plain _ _ p) o b g f =
+      writes_name x params slots fit counts aside h n v s pc i (into_simple from _ p) o b g f
+  assigns aside h n from v s pc i (assigned_pointer _ _ p q) o b g f = writes_pointer aside h n _ v s pc i refl q o b g f
