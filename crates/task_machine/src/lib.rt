@@ -4,6 +4,7 @@
 mod calls;
 mod fills;
 mod frequent;
+mod heads;
 mod jumps;
 mod numbers;
 mod operations;

@@ -1,37 +1,21 @@
 use Rattle.std.proofs.Common.{rules, refl, ap, sym, ◌∙◌, length}
 use Rattle.std.proofs.lemmas.Option.{slice_get_read}
-use Rattle.task_machine.proofs.Operating.{operation_goes}
+use Rattle.task_machine.proofs.Operating.{advance_goes}
 use Rattle.task_machine.proofs.Coming.{next_goes, jump_goes, broken_ends, fault_ends, stop_ends, last_ends}
 use Rattle.task_machine.specs.Acts.{shown_after}
-use Rattle.task_machine.specs.declared.running.Act.TheVariants.{Jump}
 use Rattle.machine_terms.specs.Segments.{after}
 use Rattle.task_machine.proofs.running.Running.run.Goals as goal
 
-pub loop-line-smaller-in-Some-act_at_once : goal.loop-line-smaller-in-Some-act_at_once
-loop-line-smaller-in-Some-act_at_once c =
-    (jump_goes c.args.code.now c.args.body.now c.loop-line.self c.operate_at_once.new.self c.act_at_once.new.self c.loop-line.pc c.in-Some.line.now
-    (Jump c.in-Some-act_at_once.to) (search rules)
-    (slice_get_read c.args.body.now (length c.args.body.now) c.loop-line.pc c.in-Some.line.now refl (search rules) (search rules))
-    (search rules) (c.in-Some-act_at_once.ensures.done c.args.code.now) c.in-Some-act_at_once.to refl).fewer
-
-pub loop-line-preserved-in-Some-act_at_once : goal.loop-line-preserved-in-Some-act_at_once
-loop-line-preserved-in-Some-act_at_once c =
-    sym (jump_goes c.args.code.now c.args.body.now c.loop-line.self c.operate_at_once.new.self c.act_at_once.new.self c.loop-line.pc c.in-Some.line.now
-    (Jump c.in-Some-act_at_once.to) (search rules)
-    (slice_get_read c.args.body.now (length c.args.body.now) c.loop-line.pc c.in-Some.line.now refl (search rules) (search rules))
-    (search rules) (c.in-Some-act_at_once.ensures.done c.args.code.now) c.in-Some-act_at_once.to refl).same
-    ∙ c.loop-line.invariant
-
 pub loop-line-smaller-in-Some-checked_add : goal.loop-line-smaller-in-Some-checked_add
 loop-line-smaller-in-Some-checked_add c =
-    (next_goes c.args.code.now c.args.body.now c.loop-line.self c.operate_at_once.new.self c.act.new.self c.loop-line.pc c.in-Some.line.now
+    (next_goes c.args.code.now c.args.body.now c.loop-line.self c.advance.new.self c.act.new.self c.loop-line.pc c.in-Some.line.now
     c.in_ok-act.field-0 (search rules)
     (slice_get_read c.args.body.now (length c.args.body.now) c.loop-line.pc c.in-Some.line.now refl (search rules) (search rules))
     (search rules) (search rules) c.in-Next.is c.in-Some-checked_add.next (search rules)).fewer
 
 pub loop-line-preserved-in-Some-checked_add : goal.loop-line-preserved-in-Some-checked_add
 loop-line-preserved-in-Some-checked_add c =
-    sym (next_goes c.args.code.now c.args.body.now c.loop-line.self c.operate_at_once.new.self c.act.new.self c.loop-line.pc c.in-Some.line.now
+    sym (next_goes c.args.code.now c.args.body.now c.loop-line.self c.advance.new.self c.act.new.self c.loop-line.pc c.in-Some.line.now
     c.in_ok-act.field-0 (search rules)
     (slice_get_read c.args.body.now (length c.args.body.now) c.loop-line.pc c.in-Some.line.now refl (search rules) (search rules))
     (search rules) (search rules) c.in-Next.is c.in-Some-checked_add.next (search rules)).same
@@ -39,7 +23,7 @@ loop-line-preserved-in-Some-checked_add c =
 
 pub returns-in-None : goal.returns-in-None
 returns-in-None c =
-    last_ends c.args.code.now c.args.body.now c.loop-line.self c.operate_at_once.new.self c.act.new.self c.loop-line.pc c.in-Some.line.now
+    last_ends c.args.code.now c.args.body.now c.loop-line.self c.advance.new.self c.act.new.self c.loop-line.pc c.in-Some.line.now
     c.in_ok-act.field-0 (search rules)
     (slice_get_read c.args.body.now (length c.args.body.now) c.loop-line.pc c.in-Some.line.now refl (search rules) (search rules))
     (search rules) (search rules) c.in-Next.is (search rules)
@@ -47,14 +31,14 @@ returns-in-None c =
 
 pub loop-line-smaller : goal.loop-line-smaller
 loop-line-smaller c =
-    (jump_goes c.args.code.now c.args.body.now c.loop-line.self c.operate_at_once.new.self c.act.new.self c.loop-line.pc c.in-Some.line.now
+    (jump_goes c.args.code.now c.args.body.now c.loop-line.self c.advance.new.self c.act.new.self c.loop-line.pc c.in-Some.line.now
     c.in_ok-act.field-0 (search rules)
     (slice_get_read c.args.body.now (length c.args.body.now) c.loop-line.pc c.in-Some.line.now refl (search rules) (search rules))
     (search rules) (search rules) c.in-Jump.to c.in-Jump.is).fewer
 
 pub loop-line-preserved : goal.loop-line-preserved
 loop-line-preserved c =
-    sym (jump_goes c.args.code.now c.args.body.now c.loop-line.self c.operate_at_once.new.self c.act.new.self c.loop-line.pc c.in-Some.line.now
+    sym (jump_goes c.args.code.now c.args.body.now c.loop-line.self c.advance.new.self c.act.new.self c.loop-line.pc c.in-Some.line.now
     c.in_ok-act.field-0 (search rules)
     (slice_get_read c.args.body.now (length c.args.body.now) c.loop-line.pc c.in-Some.line.now refl (search rules) (search rules))
     (search rules) (search rules) c.in-Jump.to c.in-Jump.is).same
@@ -62,7 +46,7 @@ loop-line-preserved c =
 
 pub returns-in-Broken : goal.returns-in-Broken
 returns-in-Broken c =
-    broken_ends c.args.code.now c.args.body.now c.loop-line.self c.operate_at_once.new.self c.act.new.self c.loop-line.pc c.in-Some.line.now
+    broken_ends c.args.code.now c.args.body.now c.loop-line.self c.advance.new.self c.act.new.self c.loop-line.pc c.in-Some.line.now
     c.in_ok-act.field-0 (search rules)
     (slice_get_read c.args.body.now (length c.args.body.now) c.loop-line.pc c.in-Some.line.now refl (search rules) (search rules))
     (search rules) (search rules) c.in-Broken.is
@@ -70,7 +54,7 @@ returns-in-Broken c =
 
 pub returns-in-Fault : goal.returns-in-Fault
 returns-in-Fault c =
-    fault_ends c.args.code.now c.args.body.now c.loop-line.self c.operate_at_once.new.self c.act.new.self c.loop-line.pc c.in-Some.line.now
+    fault_ends c.args.code.now c.args.body.now c.loop-line.self c.advance.new.self c.act.new.self c.loop-line.pc c.in-Some.line.now
     c.in_ok-act.field-0 (search rules)
     (slice_get_read c.args.body.now (length c.args.body.now) c.loop-line.pc c.in-Some.line.now refl (search rules) (search rules))
     (search rules) (search rules) c.in-Fault.fault c.in-Fault.is
@@ -79,19 +63,19 @@ returns-in-Fault c =
 pub returns-in-Stop : goal.returns-in-Stop
 returns-in-Stop c =
     ap (shown_after c.take_ends.result) c.take_ends.ensures.state
-    ∙ stop_ends c.args.code.now c.args.body.now c.loop-line.self c.operate_at_once.new.self c.act.new.self c.loop-line.pc c.in-Some.line.now
+    ∙ stop_ends c.args.code.now c.args.body.now c.loop-line.self c.advance.new.self c.act.new.self c.loop-line.pc c.in-Some.line.now
     c.in_ok-act.field-0 (search rules)
     (slice_get_read c.args.body.now (length c.args.body.now) c.loop-line.pc c.in-Some.line.now refl (search rules) (search rules))
     (search rules) (search rules) c.in-Stop.is c.take_ends.result (search rules)
     ∙ ap after c.loop-line.invariant
 
-pub loop-line-smaller-in-Some-operate_at_once : goal.loop-line-smaller-in-Some-operate_at_once
-loop-line-smaller-in-Some-operate_at_once c =
-    (operation_goes c.args.code.now c.args.body.now c.loop-line.pc c.loop-line.self c.in-Some-operate_at_once.to c.operate_at_once.new.self
-    (c.in-Some-operate_at_once.ensures.done c.args.code.now)).fewer
+pub loop-line-smaller-in-Some-advance : goal.loop-line-smaller-in-Some-advance
+loop-line-smaller-in-Some-advance c =
+    (advance_goes c.args.code.now c.args.body.now c.loop-line.pc c.loop-line.self c.in-Some-advance.to c.advance.new.self
+    (c.in-Some-advance.ensures.done c.args.code.now)).fewer
 
-pub loop-line-preserved-in-Some-operate_at_once : goal.loop-line-preserved-in-Some-operate_at_once
-loop-line-preserved-in-Some-operate_at_once c =
-    sym (operation_goes c.args.code.now c.args.body.now c.loop-line.pc c.loop-line.self c.in-Some-operate_at_once.to c.operate_at_once.new.self
-    (c.in-Some-operate_at_once.ensures.done c.args.code.now)).same
+pub loop-line-preserved-in-Some-advance : goal.loop-line-preserved-in-Some-advance
+loop-line-preserved-in-Some-advance c =
+    sym (advance_goes c.args.code.now c.args.body.now c.loop-line.pc c.loop-line.self c.in-Some-advance.to c.advance.new.self
+    (c.in-Some-advance.ensures.done c.args.code.now)).same
     ∙ c.loop-line.invariant
