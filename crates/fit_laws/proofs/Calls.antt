@@ -17,7 +17,7 @@ use Rattle.machine_terms.specs.Machine.{Machine, Stepped, stops, when, with_turn
 use Rattle.machine_terms.specs.Pointers.{region_in}
 use Rattle.machine_terms.specs.Calls.{take_values, yield_call, calling, call_task, call}
 use Rattle.machine_terms.specs.Opening.{with_points, need_on, needs_on, opening}
-use Rattle.fit_rules.specs.Shapes.{Shape, awaited, NumberIs, World, IsRegion, Is, is_anything, is_number, is_space, is_region, is_partition, is_pending, Are, are_none, are_more}
+use Rattle.fit_rules.specs.Shapes.{Shape, awaited, NumberIs, World, IsRegion, Is, is_anything, is_number, is_space, is_region, is_given, is_partition, is_pending, Are, are_none, are_more}
 use Rattle.fit_rules.specs.Marks.{Suits, stacked}
 use Rattle.fit_rules.specs.Fits.{Program, requires, claim_on, declared_claims, root_claims, own_claims, claims, AreClaims, no_claims, a_claim, PartsFit, Fits}
 use Rattle.fit_rules.specs.Sound.{Takes, Opens, To}
@@ -39,6 +39,7 @@ module _ (x : World) (s : Shape) where
   value_grown _ _ (is_number u z h) = is_number u z h
   value_grown _ _ (is_space n h) = is_space n h
   value_grown _ _ (is_region sp made r i) = is_region sp made r (region_grown sp made r i)
+  value_grown _ _ (is_given sp i r q e) = is_given sp i r (region_grown sp false r q) e
   value_grown _ _ (is_partition sp d q i) = is_partition sp d q (record {
     flag = i.flag;
     apart = i.apart;

@@ -221,7 +221,7 @@ module _ (g : Program) (x : World) (t : TaskCode) (root f p : ℕ) where
     pub at : is_at root f p claim ≡ true
     pub joined : Joined a (mode_at (claims g x t) root f p)
 
-  by_writing : (a : Mode) → Joined mode.Write (mode_at (claims g x t) root f p) →
+  pub by_writing : (a : Mode) → Joined mode.Write (mode_at (claims g x t) root f p) →
       Joined a (mode_at (claims g x t) root f p)
   by_writing a j = record { held = mode.Write; is = j.is ∙ ap Some (only j.held j.permits); permits = write_permits a }
     where

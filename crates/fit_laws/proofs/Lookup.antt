@@ -1,15 +1,22 @@
 -- Values of shapes: the one at a place, and one put there.
-use Rattle.std.proofs.Common.{◌≡◌, inl, inr, ℕ, zero, suc, List, [], ◌∷◌, Some, refl, ap, subst}
+use Rattle.std.proofs.Common.{◌≡◌, inl, inr, ℕ, zero, suc, Bool, false, List, [], ◌∷◌, Option, Some, refl, ap, subst}
+use Rattle.std.proofs.lemmas.Bool.{false≢true}
 use Rattle.std.proofs.lemmas.Option.{none-some, same_Some}
 use Rattle.std.specs.Prelude.{slice_get, slice_set, length}
+use Rattle.machine_terms.specs.declared.value.RegionValue.{RegionValue}
 use Rattle.machine_terms.specs.declared.value.Value.{Value}
-use Rattle.fit_rules.specs.Shapes.{Among, Each, Shape, World, Is, Are, are_none, are_more}
+use Rattle.fit_rules.specs.Shapes.{Among, Each, Shape, World, Is, IsRegion, Are, are_none, are_more}
 
 -- each of some holds of one of them
 pub each_among : {A : Type 0} (P : A → Type 0) (xs : List A) (a : A) → Among xs a → Each P xs → P a
 each_among P [] a h e = absurd h
 each_among P (x ∷ xs) a (inl q) e = subst P q e.0
 each_among P (x ∷ xs) a (inr h) e = each_among P xs a h e.1
+
+-- a region is one, whether the task made it or not
+pub any_region : (x : World) (sp : Option ℕ) (made : Bool) (r : RegionValue) → IsRegion x sp made r → IsRegion x sp false r
+any_region x sp made r i =
+    record { there = i.there; space = i.space; set = i.set; points = i.points; whole = λ e. absurd (false≢true e) }
 
 pub record Found (x : World) (s : Shape) (vs : List Value) (i : ℕ) : Type 0 where
   pub value : Value

@@ -20,7 +20,7 @@ use Rattle.machine_terms.specs.declared.value.Value.TheVariants as value
 use Rattle.machine_terms.specs.Machine.{Machine, stops, when, at, broken}
 use Rattle.machine_terms.specs.Parts.{cell_at}
 use Rattle.machine_terms.specs.Regions.{on_space, root_of_space, new_root}
-use Rattle.fit_rules.specs.Shapes.{Among, OfSpace, Shape, space, region, World, IsRegion, Is, is_anything, is_number, is_space, is_region, is_partition, is_pending, Are, are_none, are_more}
+use Rattle.fit_rules.specs.Shapes.{Among, OfSpace, Shape, space, region, World, IsRegion, Is, is_anything, is_number, is_space, is_region, is_given, is_partition, is_pending, Are, are_none, are_more}
 use Rattle.fit_rules.specs.Marks.{stacked}
 use Rattle.fit_rules.specs.Fits.{Program, count_at, kind_at, shape_at, root_claims, requires, declared_claims, own_claims, claims, AreClaims, no_claims, a_claim, CellFits, PartsFit, Fits}
 use Rattle.fit_rules.specs.Sound.{To}
@@ -65,6 +65,7 @@ module _ (x : World) (root sp n : ℕ) (fresh : x.there root ≡ false) where
   value_rooted _ _ (is_number u z h) = is_number u z h
   value_rooted _ _ (is_space l h) = is_space l h
   value_rooted _ _ (is_region s made r i) = is_region s made r (region_rooted s made r i)
+  value_rooted _ _ (is_given s i r q e) = is_given s i r (region_rooted s false r q) e
   value_rooted _ _ (is_partition s d q i) = is_partition s d q (record {
     flag = i.flag;
     apart = i.apart;

@@ -8,10 +8,10 @@ use Rattle.task_code.specs.declared.instr.PrintPart.TheVariants as part
 use Rattle.machine_terms.specs.declared.value.Value.{Value}
 use Rattle.machine_terms.specs.Machine.{Machine}
 use Rattle.machine_terms.specs.Calls.{Taken, few, taken, is_pending, take_values, count_numbers, text_of, before_text, writing, printing, print}
-use Rattle.fit_rules.specs.Shapes.{Each, Shape, Numeric, numeric_integer, numeric_truth, numeric_index, numeric_pointer, World, Is, is_number, is_space, is_region, is_partition, Are, are_none, are_more}
+use Rattle.fit_rules.specs.Shapes.{Each, Shape, Numeric, numeric_integer, numeric_truth, numeric_index, numeric_pointer, World, Is, is_number, is_space, is_region, is_given, is_partition, Are, are_none, are_more}
 use Rattle.fit_rules.specs.Marks.{stacked}
 use Rattle.fit_rules.specs.Fits.{Program, Fits}
-use Rattle.fit_rules.specs.Sound.{Settled, settled_number, settled_space, settled_region, settled_partition, Takes, takes_none, takes_more, To}
+use Rattle.fit_rules.specs.Sound.{Settled, settled_number, settled_space, settled_region, settled_given, settled_partition, Takes, takes_none, takes_more, To}
 use Rattle.fit_rules.specs.Ends.{Safe, safe_prints}
 use Rattle.fit_laws.proofs.Straight.{fits_at}
 
@@ -26,6 +26,8 @@ module _ (x : World) where
   at_hand _ _ settled_space (is_space n h) = refl
   at_hand _ _ (settled_region sp made) (is_number _ z h) = refl
   at_hand _ _ (settled_region sp made) (is_region _ _ r h) = refl
+  at_hand _ _ (settled_given sp i) (is_number _ z h) = refl
+  at_hand _ _ (settled_given sp i) (is_given _ _ r h e) = refl
   at_hand _ _ (settled_partition sp d) (is_number _ z h) = refl
   at_hand _ _ (settled_partition sp d) (is_partition _ _ q h) = refl
 

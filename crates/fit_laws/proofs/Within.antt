@@ -13,9 +13,9 @@ use Rattle.machine_terms.specs.declared.value.Value.{Value}
 use Rattle.machine_terms.specs.Opening.{with_points}
 use Rattle.machine_terms.specs.Pointers.{region_in}
 use Rattle.fit_rules.specs.Shapes.{Among}
-use Rattle.fit_rules.specs.Fits.{requires, claim_on, declared_claims, claims, Covers}
-use Rattle.fit_laws.specs.Within.{CoveredNeedsAreWithin}
-use Rattle.fit_laws.proofs.Cover.{Claimed, Joined, Permits, read_reads, write_reads, write_writes, reduce_reduces, write_reduces, covered_granted}
+use Rattle.fit_rules.specs.Fits.{requires, claim_on, declared_claims, claims}
+use Rattle.fit_laws.specs.Within.{CoveredNeedsAreWithin, IsGranted}
+use Rattle.fit_laws.proofs.Cover.{Claimed, Joined, Permits, read_reads, write_reads, write_writes, reduce_reduces, write_reduces, by_writing, covered_granted}
 
 -- ---- joins
 
@@ -106,6 +106,10 @@ covered_needs_are_within g x t ns args h root f p =
     let of = and_parts (d.region.root.0 == root) _ parts.0 in
     let same : d.need.mode ≡ m = ap (λ (y : Requirement). y.mode) (sym d.is) ∙ c.in_mode in
     let covered = h d.need d.there d.region d.argument p parts.1 in
-    (covered_granted g x t root f p m (subst (λ y. Covers g x t root f p y) same
-    (subst (λ y. Covers g x t root y p d.need.mode) (eqb-true d.need.field f of.1)
-    (subst (λ y. Covers g x t y d.need.field p d.need.mode) (eqb-true d.region.root.0 root of.0) covered)))).joined)
+    joined_at m (subst (λ y. IsGranted g x t root f p y) same
+    (subst (λ y. IsGranted g x t root y p d.need.mode) (eqb-true d.need.field f of.1)
+    (subst (λ y. IsGranted g x t y d.need.field p d.need.mode) (eqb-true d.region.root.0 root of.0) covered))))
+  where
+    joined_at : (a : Mode) → IsGranted g x t root f p a → Joined a (mode_at (claims g x t) root f p)
+    joined_at a = ⊎_elim (λ c. (covered_granted g x t root f p a c).joined)
+        (λ c. by_writing g x t root f p a (covered_granted g x t root f p mode.Write c).joined)

@@ -4,7 +4,7 @@
 #![tactic(auto)]
 
 ghost use Rattle.fit_laws.specs.Example.{ExampleEnds, ExampleIsSound};
-ghost use Rattle.fit_laws.specs.Makes.{PartitionsAreMade, RootsAreClaimed};
+ghost use Rattle.fit_laws.specs.Makes.{PartitionsAreMade, PartsAreFetched, RootsAreClaimed};
 ghost use Rattle.fit_laws.specs.Segments.{ChildrenAreWithin, ChildrenPass, NoSegmentBreaks, PartitionsAreSound, SegmentsKeepFitting, TouchesAreCovered};
 ghost use Rattle.fit_laws.specs.Within.{CoveredNeedsAreWithin};
 
@@ -30,10 +30,11 @@ pub fn covered_needs_are_within()
 {}
 
 /// What the run in order makes is what a state is asked to go on with: the needs on a new root, and a
-/// partition of its sets.
+/// partition of its sets; and so is the part that it fetches, where the numbers that are kept fit.
 pub fn made_things_are_as_asked()
     ensures roots { RootsAreClaimed }
     ensures partitions { PartitionsAreMade }
+    ensures parts { PartsAreFetched }
 {}
 
 /// Code that makes a root, and reads and writes through a region that is known to lie within another; from a

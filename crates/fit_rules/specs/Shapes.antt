@@ -1,5 +1,5 @@
 -- The shapes of values at a place of compiled code, and what is of a shape.
-use Rattle.std.specs.Prelude.{◌≡◌, ◌⊎◌, ℕ, ℤ, pos, ◌<◌, ◌≤◌, List, [], ◌∷◌, Bool, true, false, Option, Some, None, length}
+use Rattle.std.specs.Prelude.{◌≡◌, ◌⊎◌, ℕ, ℤ, pos, ◌<◌, ◌≤◌, List, [], ◌∷◌, Bool, true, false, Option, Some, None, length, slice_get}
 use Rattle.lane_kernels.specs.declared.numbers.Width.{Width}
 use Rattle.lane_kernels.specs.declared.numbers.Width.TheVariants.{W64}
 use Rattle.lane_kernels.specs.Numbers.{FitsWidth}
@@ -10,6 +10,7 @@ use Rattle.machine_terms.specs.declared.value.PartitionValue.{PartitionValue}
 use Rattle.machine_terms.specs.declared.value.RegionValue.{RegionValue}
 use Rattle.machine_terms.specs.declared.value.Value.{Value}
 use Rattle.machine_terms.specs.declared.value.Value.TheVariants as value
+use Rattle.machine_terms.specs.Pointers.{region_in}
 use Rattle.machine_terms.specs.Regions.{sets_of}
 
 -- ---- lists
@@ -26,8 +27,8 @@ Each P (x ∷ xs) = P x × Each P xs
 
 -- The shape of a slot or of a cell of the stack: anything at all; a number of a width; a truth; an
 -- index; a pointer with so many positions; an index space; a region of a field space, or of any, that
--- the task made itself or not; a partition into such regions, known to be disjoint or not; and the
--- result of a child, which may be pending.
+-- the task made itself or not; the region of a field space that an argument of the task is; a partition into
+-- such regions, known to be disjoint or not; and the result of a child, which may be pending.
 pub data Shape : Type 0 where
   anything : Shape
   integer : Width → Shape
@@ -36,6 +37,7 @@ pub data Shape : Type 0 where
   pointer : ℕ → Shape
   space : Shape
   region : Option ℕ → Bool → Shape
+  given : Option ℕ → ℕ → Shape
   partition : Option ℕ → Bool → Shape
   awaited : Shape → Shape
 
@@ -108,6 +110,8 @@ pub data Is (x : World) : Shape → Value → Type 0 where
   is_space : (n : ℕ) → n ≤ 4194304 → Is x space (value.Space n)
   is_region : (sp : Option ℕ) (made : Bool) (r : RegionValue) → IsRegion x sp made r →
       Is x (region sp made) (value.Region r)
+  is_given : (sp : Option ℕ) (i : ℕ) (r : RegionValue) → IsRegion x sp false r → region_in (slice_get x.args i) ≡ Some r →
+      Is x (given sp i) (value.Region r)
   is_partition : (sp : Option ℕ) (d : Bool) (q : PartitionValue) → IsPartition x sp d q →
       Is x (partition sp d) (value.Partition q)
   is_pending : (s : Shape) (i : ℕ) → i < x.children →

@@ -23,7 +23,7 @@ use Rattle.machine_terms.specs.Jumps.{may_jump, fetch, taken, point_at}
 use Rattle.machine_terms.specs.Opening.{opening}
 use Rattle.machine_terms.specs.Pointers.{region_in}
 use Rattle.code_rules.specs.Instructions.{computing, comparing}
-use Rattle.fit_rules.specs.Shapes.{Among, Each, Shape, integer, truth, index, pointer, space, region, partition, awaited, Numeric, NumberIs, World, Are}
+use Rattle.fit_rules.specs.Shapes.{Among, Each, Shape, integer, truth, index, pointer, space, region, given, partition, awaited, Numeric, NumberIs, World, Are}
 use Rattle.fit_rules.specs.Marks.{counts, lies, in_slot, the_colour, colour_in, Colour, child_in, top_colour, top_lies, top_parted, parted, Mark, Suits, Into, Stores, ColoursStand, stacked, topped}
 use Rattle.fit_rules.specs.Fits.{Program, kind_at, shape_at, Covers, declared_claims, claims}
 use Rattle.fit_rules.specs.Ends.{IsNeeded, called}
@@ -33,6 +33,7 @@ pub data Settled : Shape → Type 0 where
   settled_number : (s : Shape) → Numeric s → Settled s
   settled_space : Settled space
   settled_region : (sp : Option ℕ) (made : Bool) → Settled (region sp made)
+  settled_given : (sp : Option ℕ) (i : ℕ) → Settled (given sp i)
   settled_partition : (sp : Option ℕ) (d : Bool) → Settled (partition sp d)
 
 -- so many values are taken from a stack, the lowest first, before those that were taken
@@ -71,6 +72,9 @@ module _ (g : Program) (t : TaskCode) where
         Effect m (instr.Num z) ss (s ∷ ss)
     does_load : (i : ℕ) (s : Shape) (ss : List Shape) → slice_get m.slots i ≡ Some s → Settled s →
         Effect m (instr.Load i) ss (s ∷ ss)
+    -- a region in the slot of a parameter is known to be the argument
+    does_hand : (i : ℕ) (sp : Option ℕ) (made : Bool) (ss : List Shape) → i < t.params →
+        slice_get m.slots i ≡ Some (region sp made) → Effect m (instr.Load i) ss (given sp i ∷ ss)
     does_drop : (s : Shape) (ss : List Shape) → Effect m instr.Drop (s ∷ ss) ss
     does_compute : (o : Arithmetic) (w : Width) (a b : Shape) (ss : List Shape) → Numeric a →
         Numeric b → Effect m (computing o w) (b ∷ a ∷ ss) (integer w ∷ ss)

@@ -1,6 +1,6 @@
 -- The code of blocks has marks.
 use Rattle.std.proofs.lemmas.Bool.{false≢true}
-use Rattle.std.proofs.Common.{false, ◌≡◌, ℕ, ◌<◌, List, [], ◌∷◌, true, Some, None, refl, sym, ap, ◌∙◌, subst, arith}
+use Rattle.std.proofs.Common.{◌≡◌, ℕ, ◌<◌, List, [], ◌∷◌, true, Some, None, refl, sym, ap, ◌∙◌, subst, arith}
 use Rattle.std.specs.Prelude.{length, map, slice_get}
 use Rattle.lane_kernels.specs.declared.numbers.Op.{Op}
 use Rattle.lane_kernels.specs.declared.numbers.Op.TheVariants.{Sum, Product, Least, Greatest}
@@ -17,9 +17,8 @@ use Rattle.task_code.specs.declared.instr.Instr.TheVariants as instr
 use Rattle.machine_terms.specs.Jumps.{fetch}
 use Rattle.code_rules.specs.Assignments.{fold_code}
 use Rattle.code_rules.specs.Initializers.{new_place}
-use Rattle.code_rules.specs.Instructions.{one}
 use Rattle.code_rules.specs.Pieces.{Piece, line_of}
-use Rattle.code_rules.specs.Slots.{Where, typed, bound, beside, slot, slot_named, spare}
+use Rattle.code_rules.specs.Slots.{Where, typed, bound, beside, slot_named, spare}
 use Rattle.code_rules.specs.Statements.{on_line, looping, after_form, after_arm, after_arms, form_code, arms_code, else_code, block_code}
 use Rattle.code_laws.specs.Standing.{Stands}
 use Rattle.code_laws.proofs.Names.{arms_names, else_names}
@@ -63,10 +62,10 @@ use Rattle.sound_code.proofs.Rounds.{long_round, round_narrow, round_ready}
 use Rattle.sound_code.proofs.SpaceLoops as points
 use Rattle.sound_code.proofs.Statements.{Followed, unchanged, owned_same, plain_marked, value_marked, zero_marked, root_marked, bind_marked, assign_marked, return_marked, assert_marked, call_marked, closed_block, while_marked, branch_marked}
 
-module _ (g : Program) (t : TaskCode) (k slots : ℕ) (have : HasSlots t slots) (forms : Forms) (plain : forms.takes ≡ None) (way : Way) where
+module _ (g : Program) (t : TaskCode) (k slots : ℕ) (have : HasSlots t slots) (forms : Forms) (way : Way) where
   -- what is asked of a place
   abbrev At : Where → Mark → Type 0
-  At w m = Asked g t k slots way w m
+  At w m = Asked g t k slots forms way w m
 
   -- names that are the same
   same_names : (way : Way) (params : ℕ) (bs cs : List Bound) (m : Mark) → bs ≡ cs → Ready way params bs m → Ready way params cs m
@@ -74,6 +73,7 @@ module _ (g : Program) (t : TaskCode) (k slots : ℕ) (have : HasSlots t slots) 
 
   on_the_line : (w : Where) (m : Mark) (line : ℕ) → At w m → At (on_line w line) m
   on_the_line w m line a = record {
+    hands = a.hands;
     ready = a.ready;
     params = a.params;
     result = a.result;
@@ -87,6 +87,7 @@ module _ (g : Program) (t : TaskCode) (k slots : ℕ) (have : HasSlots t slots) 
   asked_in : (w : Where) (m : Mark) (s : Scope) → s.names ≡ w.scope.names → Ground t way w.tree w.params s → At w m →
       At (record w { scope = s }) m
   asked_in w m s e h a = record {
+    hands = a.hands;
     ready = same_names way w.params _ _ m (sym e) a.ready;
     params = a.params;
     result = a.result;
@@ -121,10 +122,10 @@ module _ (g : Program) (t : TaskCode) (k slots : ℕ) (have : HasSlots t slots) 
           computed_marked g t k way w m a.ready a.params (slot_named w x) v there (omega (arith, l, a.room)) kept Multiply s ns
       by Least pc st = let l = loaded _ (slot_named w x) w.line st.1.1.1.0 in
           chosen_marked g t k way w m a.ready a.params (slot_named w x) v there (omega (arith, l, a.room)) kept
-          (stored g t k slots have forms plain way w m a _ (spare w 0) st.1.0) Less s ns
+          (stored g t k slots have forms way w m a _ (spare w 0) st.1.0) Less s ns
       by Greatest pc st = let l = loaded _ (slot_named w x) w.line st.1.1.1.0 in
           chosen_marked g t k way w m a.ready a.params (slot_named w x) v there (omega (arith, l, a.room)) kept
-          (stored g t k slots have forms plain way w m a _ (spare w 0) st.1.0) Greater s ns
+          (stored g t k slots have forms way w m a _ (spare w 0) st.1.0) Greater s ns
 
   mutual
     pub form_marked : (w : Where) (m : Mark) (form : Form) → IsTypedForm (without_pointers forms) w form → At w m → ToldForm way w.tree w.scope form →
@@ -133,31 +134,31 @@ module _ (g : Program) (t : TaskCode) (k slots : ℕ) (have : HasSlots t slots) 
     form_marked w m (var_form x None (Some (plain_initializer e))) f a told within pc st =
         let u = owned w.scope.next (typed w e) in
         let same = owned_same w.scope.next (typed w e) f.0 in
-        bind_marked g t k slots have forms plain way w m a x (shape_of (typed w e)) u _
+        bind_marked g t k slots have forms way w m a x (shape_of (typed w e)) u _
         (sym (ap (shape_in way w.params) same ∙ simple_named way w.params _ f.0))
-        (plain_marked g t k slots have forms plain way w m a (typed w e) e w.scope.next _ _ f.0
-        (value_marked g t k slots have forms plain way w m a e [] f.1
+        (plain_marked g t k slots have forms way w m a (typed w e) e w.scope.next _ _ f.0
+        (value_marked g t k slots have forms way w m a e [] f.1
         (told_plain way forms w e f.1 (told_heads w.tree w.scope way (var_form x None (Some (plain_initializer e))) told)) pc
         (plain_stands t.body w e w.scope.next (typed w e) pc f.0 st.0)))
-        (stored g t k slots have forms plain way w m a _ _ st.1)
+        (stored g t k slots have forms way w m a _ _ st.1)
     form_marked w m (var_form x None (Some (region_initializer e u))) f a told within pc st =
         let sp = place_of_space w.tree u.name in
         let v = var_type w.tree w.scope None (Some (region_initializer e u)) in
-        bind_marked g t k slots have forms plain way w m a x (region (Some sp) true) v _ (root_shape t way w (kind_of_ispace (typed w e)) sp (map (looked_up (in_scope w.scope)) u.args) a.ground)
-        (root_marked g t k slots have forms plain way w m a e sp f.1 f.2
-        (told_head w.tree w.scope way (var_form x None (Some (region_initializer e u))) e refl told) f.3 pc st.0.0) (stored g t k slots have forms plain way w m a _ _ st.1)
+        bind_marked g t k slots have forms way w m a x (region (Some sp) true) v _ (root_shape t way w (kind_of_ispace (typed w e)) sp (map (looked_up (in_scope w.scope)) u.args) a.ground)
+        (root_marked g t k slots have forms way w m a e sp f.1 f.2
+        (told_head w.tree w.scope way (var_form x None (Some (region_initializer e u))) e refl told) f.3 pc st.0.0) (stored g t k slots have forms way w m a _ _ st.1)
     form_marked w m (var_form x (Some term) (Some (plain_initializer e))) f a told within pc st =
         let u = var_type w.tree w.scope (Some term) (Some (plain_initializer e)) in
-        bind_marked g t k slots have forms plain way w m a x (shape_of u) u _ (sym (simple_named way w.params u (scalar_simple u (alike_second _ _ f.0))))
-        (both g t k (value_marked g t k slots have forms plain way w m a e [] f.1
+        bind_marked g t k slots have forms way w m a x (shape_of u) u _ (sym (simple_named way w.params u (scalar_simple u (alike_second _ _ f.0))))
+        (both g t k (value_marked g t k slots have forms way w m a e [] f.1
         (told_plain way forms w e f.1 (told_heads w.tree w.scope way (var_form x (Some term) (Some (plain_initializer e))) told)) pc st.0.0)
-        (converted_marked g t k slots have forms plain way w m a _ _ [] f.0))
-        (stored g t k slots have forms plain way w m a _ _ st.1)
+        (converted_marked g t k slots have forms way w m a _ _ [] f.0))
+        (stored g t k slots have forms way w m a _ _ st.1)
     form_marked w m (var_form x (Some term) None) f a told within pc st =
         let u = var_type w.tree w.scope (Some term) None in
-        bind_marked g t k slots have forms plain way w m a x (shape_of u) u _ (sym (simple_named way w.params u (scalar_simple u f)))
-        (zero_marked g t k slots have forms plain way w m a u f)
-        (stored g t k slots have forms plain way w m a _ _ st.1)
+        bind_marked g t k slots have forms way w m a x (shape_of u) u _ (sym (simple_named way w.params u (scalar_simple u f)))
+        (zero_marked g t k slots have forms way w m a u f)
+        (stored g t k slots have forms way w m a _ _ st.1)
     form_marked w m (if_form arms other) f a told within pc st = record {
       next = m;
       is = arms_marked w w m arms (else_code (after_arms w arms) other) f.0 a a (told_heads w.tree w.scope way (if_form arms other) told)
@@ -171,7 +172,7 @@ module _ (g : Program) (t : TaskCode) (k slots : ℕ) (have : HasSlots t slots) 
       facts = refl;
     }
     form_marked w m (while_form test body) f a told within pc st = unchanged g t k way _ _ m _ a.ready
-        (while_marked g t k slots have forms plain way w m a test (block_code w body) f.0 f.1
+        (while_marked g t k slots have forms way w m a test (block_code w body) f.0 f.1
         (told_head w.tree w.scope way (while_form test body) test refl told) _ st.3
         (closed_block g t k way _ _ m _ (block_marked w m body f.2 a within _ st.2)))
     form_marked w m (for_to_form demanded x from to body) f a told within pc st =
@@ -187,11 +188,12 @@ module _ (g : Program) (t : TaskCode) (k slots : ℕ) (have : HasSlots t slots) 
           static_type = arithmetic_type u v;
           by_loop = true;
         } in
-        let hi : beside w (new_place w) < length m.slots = stored g t k slots have forms plain way w m a _ _ st.1.1.0 in
+        let hi : beside w (new_place w) < length m.slots = stored g t k slots have forms way w m a _ _ st.1.1.0 in
         let lw = looping w x (arithmetic_type u v) in
         let rm = numbers.round g t k way w.params bs m a.ready a.params wd.width hi in
         let hm = numbers.head g t k way w.params bs m a.ready a.params wd.width hi in
         let inner = block_marked lw rm body f.4 (record {
+          hands = a.hands;
           ready = round_ready way w.params bs m a.ready i i i m.facts hi b refl (ap (shape_in way w.params) wd.is)
               (steady_below w.params (length bs) _ m.facts (omega arith) a.ready.facts);
           params = a.params;
@@ -205,8 +207,8 @@ module _ (g : Program) (t : TaskCode) (k slots : ℕ) (have : HasSlots t slots) 
         let second = told_first w.tree w.scope way to [] first.1 in
         let narrow = narrow_then _ _ _ inner.narrower (round_narrow way w.params bs m a.ready i i i m.facts hi) in
         unchanged g t k way _ _ m _ a.ready
-        (both g t k (value_marked g t k slots have forms plain way w m a from [] f.2 first.0 pc st.0)
-        (both g t k (value_marked g t k slots have forms plain way w m a to (shape_of u ∷ []) f.3 second.0 _ st.1.0)
+        (both g t k (value_marked g t k slots have forms way w m a from [] f.2 first.0 pc st.0)
+        (both g t k (value_marked g t k slots have forms way w m a to (shape_of u ∷ []) f.3 second.0 _ st.1.0)
         (numbers.counted g t k way w.params bs m a.ready a.params wd.width hi (shape_of u) (shape_of v) w.line
         (block_code lw body) wd.left wd.right
         (into g t k inner.is (narrow_into t.params inner.next hm [] narrow (same_facts _ _ inner.facts)) (sym (narrow_long _ _ narrow))))))
@@ -221,12 +223,13 @@ module _ (g : Program) (t : TaskCode) (k slots : ℕ) (have : HasSlots t slots) 
           static_type = taken_from u;
           by_loop = true;
         } in
-        let hi : beside w (new_place w) < length m.slots = stored g t k slots have forms plain way w m a _ _ st.1.0 in
+        let hi : beside w (new_place w) < length m.slots = stored g t k slots have forms way w m a _ _ st.1.0 in
         let lw = looping w x (taken_from u) in
         let rm = points.round g t k way w.params bs m a.ready a.params hi in
         let hm = points.head g t k way w.params bs m a.ready a.params hi in
         let fs = points.counting g t k way w.params bs m a.ready a.params hi in
         let inner = block_marked lw rm body f.2 (record {
+          hands = a.hands;
           ready = round_ready way w.params bs m a.ready space index index fs hi b refl (tk.shape way w.params)
               (points.are_counts g t k way w.params bs m a.ready a.params hi);
           params = a.params;
@@ -239,24 +242,24 @@ module _ (g : Program) (t : TaskCode) (k slots : ℕ) (have : HasSlots t slots) 
         let narrow = narrow_then _ _ _ inner.narrower (round_narrow way w.params bs m a.ready space index index fs hi) in
         unchanged g t k way _ _ m _ a.ready
         (both g t k (subst (λ y. Marked g t k (stacked m []) (expr_code w 0 domain) (stacked m (y ∷ []))) tk.domain
-        (value_marked g t k slots have forms plain way w m a domain [] f.1
+        (value_marked g t k slots have forms way w m a domain [] f.1
         (told_head w.tree w.scope way (for_in_form demanded x domain body) domain refl told) pc st.0))
         (subst (λ p. Marked g t k (stacked m (space ∷ [])) (over_points w x u body p) (stacked m [])) (sym tk.no_pointer)
         (points.counted g t k way w.params bs m a.ready a.params hi w.line (block_code lw body)
         (into g t k inner.is (narrow_into t.params inner.next hm [] narrow (same_facts _ _ inner.facts)) (sym (narrow_long _ _ narrow))))))
     form_marked w m (do_form body) f a told within pc st = unchanged g t k way _ _ m _ a.ready
         (closed_block g t k way _ _ m _ (block_marked w m body f a within pc st))
-    form_marked w m (fill_form r fields e) f a told within pc st = fill_marked g t k slots have forms plain way w m a r fields e f.0 told f.1 f.2 f.3 pc st
-    form_marked w m (call_form task args) f a told within pc st = call_marked g t k slots have forms plain way w m a task args f.1 f.2
+    form_marked w m (fill_form r fields e) f a told within pc st = fill_marked g t k slots have forms way w m a r fields e f.0 told f.1 f.2 f.3 pc st
+    form_marked w m (call_form task args) f a told within pc st = call_marked g t k slots have forms way w m a task args f.1 f.2
         (told_listed w.tree w.scope way args (told_heads w.tree w.scope way (call_form task args) told)) pc st
-    form_marked w m (assert_form e) f a told within pc st = assert_marked g t k slots have forms plain way w m a e f.0 f.1
+    form_marked w m (assert_form e) f a told within pc st = assert_marked g t k slots have forms way w m a e f.0 f.1
         (told_head w.tree w.scope way (assert_form e) e refl told) pc st.0
-    form_marked w m (print_form alias format args) f a told within pc st = print_marked g t k slots have forms plain way w m a alias format args f.0
+    form_marked w m (print_form alias format args) f a told within pc st = print_marked g t k slots have forms way w m a alias format args f.0
         (told_listed w.tree w.scope way args (told_heads w.tree w.scope way (print_form alias format args) told)) f.1 pc st
     form_marked w m (assign_form x no_step how.Set e) f a told within pc st =
-        assign_marked g t k slots have forms plain way w m a x e f.0 f.1 (told_head w.tree w.scope way (assign_form x no_step how.Set e) e refl told) f.2 (stored g t k slots have forms plain way w m a _ _ st.1) pc st.0.0
+        assign_marked g t k slots have forms way w m a x e f.0 f.1 (told_head w.tree w.scope way (assign_form x no_step how.Set e) e refl told) f.2 (stored g t k slots have forms way w m a _ _ st.1) pc st.0.0
     form_marked w m (assign_form x no_step (how.Reduce o) e) f a told within pc st =
-        unchanged g t k way _ _ m _ a.ready (both g t k (value_marked g t k slots have forms plain way w m a e [] f.2
+        unchanged g t k way _ _ m _ a.ready (both g t k (value_marked g t k slots have forms way w m a e [] f.2
         (told_head w.tree w.scope way (assign_form x no_step (how.Reduce o) e) e refl told) pc st.0)
         (folded w m x o (shape_of (typed w e)) (bound w x).static_type refl (scalar_numeric _ (integer_is_plain _ f.0)) f.1 f.3 a _ st.1))
     form_marked w m (assign_form x (at_step e (field_step l no_step)) how.Set y) f a told within pc st =
@@ -265,12 +268,12 @@ module _ (g : Program) (t : TaskCode) (k slots : ℕ) (have : HasSlots t slots) 
         let u = (bound w x).static_type in
         let here = named_at way w.params m.slots w.scope.names x a.ready.named field.named in
         unchanged g t k way _ _ m _ a.ready
-        (both g t k (both g t k (value_marked g t k slots have forms plain way w m a y [] f.1
+        (both g t k (both g t k (value_marked g t k slots have forms way w m a y [] f.1
         (told_head w.tree w.scope way (assign_form x (at_step e (field_step l no_step)) how.Set y) y refl told) pc st.0.0)
-        (converted_marked g t k slots have forms plain way w m a _ _ [] f.0))
+        (converted_marked g t k slots have forms way w m a _ _ [] f.0))
         (writes g t k way w m a.known u (bound w x).place e l out [] field.region (region_named way w.params m (slot_named w x) u field.region here) f.3 f.4 field.keeps
-        (touched g t k slots have forms plain way w m a x l _ access.Write field (may_write w x e l f.3 field.region t way a.ground y told))
-        (λ q s. value_marked g t k slots have forms plain way w m a e (shape_of out ∷ []) f.2
+        (touched g t k slots have forms way w m a x l _ access.Write field (may_write w x e l f.3 field.region t way a.ground y told))
+        (λ q s. value_marked g t k slots have forms way w m a e (shape_of out ∷ []) f.2
         (told_index w x e l f.3 field.region t way a.ground how.Set y told) q s) _ st.1))
     form_marked w m (assign_form x (at_step e (field_step l no_step)) (how.Reduce o) y) f a told within pc st =
         let field = f.6 in
@@ -278,18 +281,18 @@ module _ (g : Program) (t : TaskCode) (k slots : ℕ) (have : HasSlots t slots) 
         let u = (bound w x).static_type in
         let here = named_at way w.params m.slots w.scope.names x a.ready.named field.named in
         unchanged g t k way _ _ m _ a.ready
-        (both g t k (value_marked g t k slots have forms plain way w m a y [] f.2
+        (both g t k (value_marked g t k slots have forms way w m a y [] f.2
         (told_head w.tree w.scope way (assign_form x (at_step e (field_step l no_step)) (how.Reduce o) y) y refl told) pc st.0)
         (reduces g t k way w m a.known u (bound w x).place e l out [] field.region (region_named way w.params m (slot_named w x) u field.region here) f.4 f.5 field.keeps
         o (shape_of (typed w y)) (scalar_numeric _ (integer_is_plain _ f.0)) f.1
-        (touched g t k slots have forms plain way w m a x l _ (access.Reduce o) field (may_reduce w x e l f.4 field.region t way a.ground o y told))
-        (λ q s. value_marked g t k slots have forms plain way w m a e (shape_of (typed w y) ∷ []) f.3
+        (touched g t k slots have forms way w m a x l _ (access.Reduce o) field (may_reduce w x e l f.4 field.region t way a.ground o y told))
+        (λ q s. value_marked g t k slots have forms way w m a e (shape_of (typed w y) ∷ []) f.3
         (told_index w x e l f.4 field.region t way a.ground (how.Reduce o) y told) q s) _ st.1))
     form_marked w m (return_form None) f a told within pc st = unchanged g t k way _ _ m _ a.ready (record {
       marks = _;
       is = typed_op (stacked m []) (stacked m []) instr.Return w.line (leads_nowhere _ _ refl);
     })
-    form_marked w m (return_form (Some e)) f a told within pc st = return_marked g t k slots have forms plain way w m a e f.0 f.1
+    form_marked w m (return_form (Some e)) f a told within pc st = return_marked g t k slots have forms way w m a e f.0 f.1
         (told_head w.tree w.scope way (return_form (Some e)) e refl told) pc st.0
     form_marked w m (assign_form x (field_step l no_step) how.Set y) f a told within pc st = absurd (false≢true f.0)
     form_marked w m (assign_form x (field_step l no_step) (how.Reduce o) y) f a told within pc st = absurd (false≢true f.0)
@@ -305,7 +308,7 @@ module _ (g : Program) (t : TaskCode) (k slots : ℕ) (have : HasSlots t slots) 
         let first = told_first own.tree own.scope way test (tests_of rest) tests in
         let parts = told_arms w.tree way w.scope test body rest within in
         let inner = scope_after_block w.tree w.scope body in
-        branch_marked g t k slots have forms plain way own m o w.line test (block_code w body) (arms_code own (after_arm w body) rest other) f.0 f.1 first.0 pc st.0
+        branch_marked g t k slots have forms way own m o w.line test (block_code w body) (arms_code own (after_arm w body) rest other) f.0 f.1 first.0 pc st.0
         (closed_block g t k way _ _ m _ (block_marked w m body f.2 a parts.0 _ st.1.1))
         (arms_marked own (after_arm w body) m rest other f.3 o
         (asked_in w m (past w.scope inner) refl
@@ -327,6 +330,7 @@ module _ (g : Program) (t : TaskCode) (k slots : ℕ) (have : HasSlots t slots) 
         let one = form_marked (on_line w line) m form f.0 (on_the_line w m line a) parts.0 parts.1 pc st.0 in
         let two = block_marked (after_form w form) one.next rest f.1
         (record {
+          hands = a.hands;
           ready = one.ready;
           params = a.params;
           result = a.result;

@@ -5,8 +5,7 @@ use Rattle.std.specs.Prelude.{flat_map, length, nat_lt, replicate, slice_get}
 use Rattle.std.proofs.lemmas.List.{append-nil, length-map}
 use Rattle.regent_tree.specs.declared.typing.StaticType.{StaticType}
 use Rattle.regent_tree.specs.Scopes.{scope_of}
-use Rattle.regent_tree.specs.Syntax.{Name, TaskTree, Tree, Expressions, no_expr, an_expr}
-use Rattle.regent_tree.specs.StaticTypes.{task_named}
+use Rattle.regent_tree.specs.Syntax.{TaskTree, Tree, Expressions, no_expr, an_expr}
 use Rattle.regent_tree.specs.Typing.{param_types}
 use Rattle.region_tree.specs.Requirements.{IsWithin}
 use Rattle.task_code.specs.declared.code.TaskCode.{TaskCode}
@@ -15,7 +14,7 @@ use Rattle.machine_terms.specs.declared.value.Value.{Value}
 use Rattle.machine_terms.specs.declared.value.Value.TheVariants.{Number}
 use Rattle.machine_terms.specs.Pointers.{region_in}
 use Rattle.code_rules.specs.Expressions.{count}
-use Rattle.code_rules.specs.Instructions.{one, place_of_task, tasks_of}
+use Rattle.code_rules.specs.Instructions.{tasks_of}
 use Rattle.code_rules.specs.Pieces.{Piece, op, ◌⨟◌, past, lines}
 use Rattle.code_rules.specs.Programs.{place_of, task_code}
 use Rattle.code_rules.specs.Statements.{block_code}
@@ -23,16 +22,14 @@ use Rattle.code_rules.specs.Slots.{Where}
 use Rattle.code_laws.specs.Simple.{AreAlike, two_integers, two_truths, IsScalar, scalar_integer, scalar_truth, IsSimple, simple_integer, simple_truth, simple_index, simple_space}
 use Rattle.task_code.specs.declared.code.NeedCode.{NeedCode}
 use Rattle.code_laws.specs.Steps.{Forms, Taking, without_pointers}
-use Rattle.code_laws.specs.Typed.{AreMet, ArePassed, IsCallable, IsHanded, IsMet, name_at}
-use Rattle.code_laws.proofs.Calling.{code_there}
+use Rattle.code_laws.specs.Typed.{AreMet, ArePassed, IsHanded, IsMet, name_at}
 use Rattle.code_laws.proofs.Openings.{params_length, types_length}
-use Rattle.fit_rules.specs.Shapes.{Each, Shape, anything, awaited, Numeric, numeric_integer, numeric_truth, World, Is, is_anything, is_number, is_space, Are, are_none, are_more}
-use Rattle.fit_rules.specs.Marks.{Mark, Suits, stacked}
+use Rattle.fit_rules.specs.Shapes.{Each, Shape, anything, Numeric, numeric_integer, numeric_truth, World, Is, is_anything, is_number, is_space, Are, are_none, are_more}
+use Rattle.fit_rules.specs.Marks.{Mark, Suits}
 use Rattle.fit_rules.specs.Fits.{claims, declared_claims, Program}
 use Rattle.fit_rules.specs.Ends.{called, IsNeeded}
-use Rattle.fit_rules.specs.Sound.{Opens, Takes, takes_none, takes_more, settled_number}
+use Rattle.fit_rules.specs.Sound.{Opens, Settled, Takes, takes_none, takes_more, settled_number}
 use Rattle.fit_laws.proofs.Lookup.{as_long}
-use Rattle.marked_code.specs.Marked.{leads_calling, typed_op}
 use Rattle.sound_code.specs.Ways.{Way, all_made, by_rules, opening_facts, shape_in, shape_of, told_by}
 use Rattle.sound_code.specs.Named.{IsSteady, is_apart, is_count, is_within}
 use Rattle.sound_code.proofs.Steady.{steady_holds}
@@ -44,7 +41,6 @@ use Rattle.regent_tree.specs.declared.facts.Known.{Known as RegionKnown}
 use Rattle.regent_tree.specs.declared.facts.Known.TheVariants.{Within, Apart}
 use Rattle.regent_tree.specs.declared.facts.Term.TheVariants.{Name as TermName}
 use Rattle.sound_code.proofs.Asked.{opening_mark, other, Known}
-use Rattle.sound_code.proofs.Combining.{Marked}
 
 pub scalar_numeric : (t : StaticType) → IsScalar t → Numeric (shape_of t)
 scalar_numeric _ (scalar_integer w) = numeric_integer w
@@ -64,19 +60,26 @@ abbrev pub onto : List Shape → List Shape → List Shape
 onto [] us = us
 onto (s ∷ ss) us = onto ss (s ∷ us)
 
-takes_onto : (ss us acc args rest : List Shape) (n : ℕ) → Each Numeric ss → Takes n us (ss ++ acc) args rest →
+takes_onto : (ss us acc args rest : List Shape) (n : ℕ) → Each Settled ss → Takes n us (ss ++ acc) args rest →
     Takes (length ss + n) (onto ss us) acc args rest
 takes_onto [] us acc args rest n h t = subst (λ y. Takes y us acc args rest) (omega arith) t
 takes_onto (s ∷ ss) us acc args rest n h t =
     let same : length ss + suc n ≡ suc (length ss) + n = omega arith in
     subst (λ y. Takes y (onto ss (s ∷ us)) acc args rest) same
-    (takes_onto ss (s ∷ us) acc args rest (suc n) h.1 (takes_more n s us (ss ++ acc) args rest (settled_number s h.0) t))
+    (takes_onto ss (s ∷ us) acc args rest (suc n) h.1 (takes_more n s us (ss ++ acc) args rest h.0 t))
 
-pub takes_pushed : (ss us : List Shape) → Each Numeric ss → Takes (length ss) (onto ss us) [] ss us
-takes_pushed ss us h =
+pub takes_settled : (ss us : List Shape) → Each Settled ss → Takes (length ss) (onto ss us) [] ss us
+takes_settled ss us h =
     let same : length ss + 0 ≡ length ss = omega arith in
     subst (λ y. Takes y (onto ss us) [] ss us) same
     (takes_onto ss us [] ss us 0 h (subst (λ l. Takes 0 us l ss us) (sym (append-nil ss)) (takes_none us ss)))
+
+numbers_settled : (ss : List Shape) → Each Numeric ss → Each Settled ss
+numbers_settled [] h = tt
+numbers_settled (s ∷ ss) h = (settled_number s h.0, numbers_settled ss h.1)
+
+pub takes_pushed : (ss us : List Shape) → Each Numeric ss → Takes (length ss) (onto ss us) [] ss us
+takes_pushed ss us h = takes_settled ss us (numbers_settled ss h)
 
 -- ---- the frame that opens
 
@@ -172,11 +175,7 @@ scalars_simple (t ∷ ts) h = (one t h.0, scalars_simple ts h.1)
 
 -- ---- calls
 
-numerics : (ts : List StaticType) → Each IsScalar ts → Each Numeric (map shape_of ts)
-numerics [] h = tt
-numerics (t ∷ ts) h = (scalar_numeric t h.0, numerics ts h.1)
-
-passed_scalars : (forms : Forms) (plain : forms.takes ≡ None) (w : Where) (ts ps : List StaticType) (es : Expressions) → ArePassed (without_pointers forms) w ts ps es →
+pub passed_scalars : (forms : Forms) (plain : forms.takes ≡ None) (w : Where) (ts ps : List StaticType) (es : Expressions) → ArePassed (without_pointers forms) w ts ps es →
     Each IsScalar ps
 passed_scalars forms plain w [] [] no_expr h = tt
 passed_scalars forms plain w (t ∷ ts) (p ∷ ps) (an_expr e es) h = (
@@ -188,7 +187,7 @@ passed_scalars forms plain w [] (p ∷ ps) es h = absurd h
 passed_scalars forms plain w (t ∷ ts) [] es h = absurd h
 passed_scalars forms plain w (t ∷ ts) (p ∷ ps) no_expr h = absurd h
 
-passed_many : (forms : Forms) (w : Where) (ts ps : List StaticType) (es : Expressions) → ArePassed (without_pointers forms) w ts ps es →
+pub passed_many : (forms : Forms) (w : Where) (ts ps : List StaticType) (es : Expressions) → ArePassed (without_pointers forms) w ts ps es →
     length ps ≡ count es
 passed_many forms w [] [] no_expr h = refl
 passed_many forms w (t ∷ ts) (p ∷ ps) (an_expr e es) h = ap suc (passed_many forms w ts ps es h.1)
@@ -198,7 +197,7 @@ passed_many forms w (t ∷ ts) [] es h = absurd h
 passed_many forms w (t ∷ ts) (p ∷ ps) no_expr h = absurd h
 
 -- where no regions are handed over, a task that is called needs nothing
-nothing_needed : (o : Option Taking) → o ≡ None → (w : Where) (es : Expressions) (ns : List NeedCode) → AreMet o w es ns → ns ≡ []
+pub nothing_needed : (o : Option Taking) → o ≡ None → (w : Where) (es : Expressions) (ns : List NeedCode) → AreMet o w es ns → ns ≡ []
 nothing_needed o e w es [] a = refl
 nothing_needed o e w es (n ∷ ns) a = absurd (subst (λ o. IsMet o w n (name_at es n.param)) e a.0)
 
@@ -250,7 +249,7 @@ simples_told way tree t x ts ws h a = each (opening_facts way tree t) (opening_s
     each (k ∷ ks) s = (one k s.0, each ks s.1)
 
 module _ (g : Program) (t : TaskCode) (k : ℕ) (way : Way) (w : Where) (known : Known way g w.tree) where
-  opens : (m : Mark) (task : ℕ) (u : TaskTree) → slice_get (tasks_of w.tree) task ≡ Some u → (task_code w.tree u).needs ≡ [] →
+  pub opens : (m : Mark) (task : ℕ) (u : TaskTree) → slice_get (tasks_of w.tree) task ≡ Some u → (task_code w.tree u).needs ≡ [] →
       Each IsScalar (param_types w.tree u) → Opens g t m task (task_code w.tree u) (map shape_of (param_types w.tree u))
   opens m task u there none scalars x vs st ws s a = (
     subst (λ y. Suits (called x ws) (length u.params) y (ws ++ replicate ((task_code w.tree u).slots - length ws) (Number (pos 0))) [])
@@ -262,26 +261,3 @@ module _ (g : Program) (t : TaskCode) (k : ℕ) (way : Way) (w : Where) (known :
     subst (λ ns. Each (IsNeeded g x ws) ns) (sym none) tt,
     subst (λ ns. IsWithin (declared_claims ns ws) (claims g x t)) (sym none) (λ root field point. inl refl),
   )
-
-  -- a call with its arguments on the stack
-  pub calls : (forms : Forms) (plain : forms.takes ≡ None) (m : Mark) (task : Name) (ts : List StaticType) (es : Expressions) (us : List Shape) → IsCallable forms w task es →
-      ArePassed (without_pointers forms) w ts (param_types w.tree (task_named w.tree task)) es →
-      Marked g t k (stacked m (onto (map shape_of (param_types w.tree (task_named w.tree task))) us))
-      (one w (instr.Call (place_of_task w.tree task) (count es)))
-      (stacked m (awaited (g.results (place_of_task w.tree task)) ∷ us))
-  calls forms plain m task ts es us is passed =
-      let u = task_named w.tree task in
-      let types = param_types w.tree u in
-      let scalars = passed_scalars forms plain w ts types es passed in
-      let many : length types ≡ count es = passed_many forms w ts types es passed in
-      record {
-        marks = _;
-        is = typed_op _ _ _ w.line (leads_calling (stacked m (onto (map shape_of types) us)) (place_of_task w.tree task) (count es)
-            (task_code w.tree u) (map shape_of types) us
-            (ap (λ c. slice_get c.tasks (place_of_task w.tree task)) known.code ∙ code_there w.tree task is.0)
-            (sym (types_many w.tree u) ∙ many) (some_body w.tree u)
-            (subst (λ y. Takes y (onto (map shape_of types) us) [] (map shape_of types) us) (length-map types shape_of ∙ many)
-            (takes_pushed (map shape_of types) us (numerics types scalars)))
-            (opens (stacked m (onto (map shape_of types) us)) (place_of_task w.tree task) u is.0
-            (nothing_needed forms.takes plain w es (task_code w.tree u).needs is.1) scalars));
-      }

@@ -32,7 +32,7 @@ use Rattle.code_rules.specs.Slots.{Where, own_slot, slot, slots_of, typed}
 use Rattle.code_laws.specs.Simple.{FieldFits, fits_32, fits_64, fits_truth, IsInteger, an_integer, IsNumber, number_integer, number_index, IsRegion, a_region_type}
 use Rattle.code_laws.specs.Standing.{Stands}
 use Rattle.code_laws.proofs.Reaching.{kinds_are}
-use Rattle.fit_rules.specs.Shapes.{Shape, pointer, region, Numeric, numeric_integer, numeric_index}
+use Rattle.fit_rules.specs.Shapes.{Shape, pointer, Numeric, numeric_integer, numeric_index}
 use Rattle.fit_rules.specs.Marks.{Mark, stacked}
 use Rattle.fit_rules.specs.Fits.{Program, count_at, kept_as, kind_at, shape_at}
 use Rattle.fit_rules.specs.Sound.{HasRegion, Allowed, Through, does_element, does_read, does_write, does_reduce, does_fill}

@@ -1,22 +1,18 @@
 -- The code of expressions has marks: each leads from a mark to the same with a value on the stack.
 use Rattle.code_laws.proofs.Arguments.{given_either}
-use Rattle.std.proofs.lemmas.Option.{none-some}
-use Rattle.std.proofs.Common.{◌≡◌, inl, ℕ, ◌<◌, ◌≤◌, List, [], ◌∷◌, Bool, true, false, cond, map, Some, refl, sym, ap, ◌∙◌, subst, arith, None}
-use Rattle.std.specs.Prelude.{slice_get, bytes_eq, length, ◌||◌}
+use Rattle.std.proofs.Common.{◌≡◌, inl, ℕ, ◌<◌, ◌≤◌, List, [], ◌∷◌, Bool, true, false, Some, refl, sym, ap, ◌∙◌, subst, arith}
+use Rattle.std.specs.Prelude.{length}
 use Rattle.std.proofs.lemmas.Bool.{false≢true}
 use Rattle.std.proofs.lemmas.List.{length-set}
 use Rattle.regent_tree.specs.declared.expression.Arithmetic.{Arithmetic}
 use Rattle.regent_tree.specs.declared.expression.Comparison.{Comparison}
 use Rattle.regent_tree.specs.declared.expression.Operator.TheVariants.{Or, And, Compare, Compute}
 use Rattle.regent_tree.specs.declared.expression.Sign.{Sign}
-use Rattle.regent_tree.specs.declared.typing.Bound.{Bound}
 use Rattle.regent_tree.specs.declared.typing.StaticType.{StaticType}
 use Rattle.regent_tree.specs.declared.typing.StaticType.TheVariants.{Integer as integer_type, Truth as truth_type}
 use Rattle.lane_kernels.specs.declared.numbers.Width.TheVariants.{W32, W64}
 use Rattle.regent_tree.specs.declared.types.NumberTerm.{NumberTerm}
 use Rattle.regent_tree.specs.StaticTypes.{number_type, task_named}
-use Rattle.regent_tree.specs.Lookup.{is_bound}
-use Rattle.regent_tree.specs.Scopes.{bound_to}
 use Rattle.regent_tree.specs.Syntax.{Name, Expression, number_expr, truth_expr, chain_expr, prefix_expr, access_expr, call_expr, convert_expr, space_expr, Expressions, no_expr, an_expr, Links, no_link, a_link, no_step, field_step, at_step, is_null_expr, null_expr, cast_expr}
 use Rattle.regent_tree.specs.Typing.{operated, linked_type, param_types, params_at, signed_type}
 use Rattle.regent_tree.specs.Values.{kept_truth}
@@ -38,26 +34,23 @@ use Rattle.fit_rules.specs.Fits.{Program}
 use Rattle.fit_rules.specs.Sound.{Settled, settled_number, settled_space, does_num, does_load, does_compute, does_compare, does_negate, does_wrap, does_invert, does_space}
 use Rattle.marked_code.specs.Marked.{leads_waiting, typed_op, typed_and, typed_or}
 use Rattle.fit_laws.proofs.Keeping.{get_set, set_mark}
-use Rattle.sound_code.specs.Named.{slot_at, AreNamed, HasSlots}
-use Rattle.sound_code.specs.Ways.{Way, all_made, by_rules, is_own, shape_in, shape_of}
-use Rattle.sound_code.proofs.Granting.{allowed, InPlace, May}
-use Rattle.sound_code.proofs.Grounds.{Ground, IsPlaced, OfType}
+use Rattle.sound_code.specs.Named.{slot_at, HasSlots}
+use Rattle.sound_code.specs.Ways.{Way, shape_of}
+use Rattle.sound_code.proofs.Granting.{allowed, May}
+use Rattle.sound_code.proofs.Handing.{all_handed, calls, handed, handed_marked, handed_unconverted, scalar_handed}
+pub use Rattle.sound_code.proofs.Placing.{named_at, placed_at, region_named, simple_named}
 use Rattle.sound_code.proofs.Told.{Told, ToldArgs, ToldLinks, told_arg, told_call, told_chain, told_convert, told_element, told_link, told_prefix, told_space}
 use Rattle.sound_code.proofs.Wanting.{may_read}
 use Rattle.sound_code.proofs.Steady.{steady_stand}
 use Rattle.expression_laws.specs.Needs.{mode_of}
 use Rattle.regent_tree.specs.Accesses.{space_in}
-use Rattle.regent_tree.specs.Scopes.{Scope}
 use Rattle.regent_tree.specs.StaticTypes.{field_place}
-use Rattle.regent_tree.specs.Syntax.{Tree}
 use Rattle.regent_tree.specs.declared.rights.Access.{Access}
 use Rattle.regent_tree.specs.declared.rights.Access.TheVariants.{Read}
-use Rattle.fit_rules.specs.Shapes.{Each}
-use Rattle.fit_rules.specs.Sound.{Allowed, HasRegion}
-use Rattle.code_laws.specs.Simple.{IsRegion, a_region_type}
+use Rattle.fit_rules.specs.Sound.{Allowed}
 use Rattle.code_laws.specs.Typed.{IsField}
 use Rattle.sound_code.proofs.Asked.{Asked}
-use Rattle.sound_code.proofs.Calling.{onto, calls, scalar_numeric}
+use Rattle.sound_code.proofs.Calling.{alike_second, onto, scalar_numeric}
 use Rattle.sound_code.proofs.Combining.{Marked, nothing_done, both, does, into, behind_kept, slot_high, storing}
 use Rattle.sound_code.proofs.Elements.{number_numeric, reads}
 use Rattle.sound_code.proofs.Narrowing.{narrow_itself, narrow_set, narrow_into, same_facts}
@@ -105,46 +98,6 @@ simple_settled _ simple_truth = settled_number _ numeric_truth
 simple_settled _ (simple_space c) = settled_space
 simple_settled _ (simple_index c) = settled_number _ numeric_index
 
--- a name in scope has its shape in its slot
-pub named_at : (way : Way) (params : ℕ) (ss : List Shape) (bs : List Bound) (n : Name) → AreNamed way params ss bs → is_bound bs n ≡ true →
-    slice_get ss (slot_at params (bound_to bs n).place) ≡ Some (shape_in way params (bound_to bs n).static_type)
-named_at way params ss [] n a h = absurd (false≢true h)
-named_at way params ss (b ∷ bs) n a h = chosen (bytes_eq b.name n) (named_at way params ss bs n a.2) h
-  where
-    chosen : (c : Bool) →
-        (is_bound bs n ≡ true → slice_get ss (slot_at params (bound_to bs n).place) ≡ Some (shape_in way params (bound_to bs n).static_type)) →
-        (c || is_bound bs n) ≡ true →
-        slice_get ss (slot_at params (cond c b (bound_to bs n)).place) ≡ Some (shape_in way params (cond c b (bound_to bs n)).static_type)
-    chosen true more e = a.1
-    chosen false more e = more e
-
--- a simple type's shape is the same of a name
-pub simple_named : (way : Way) (params : ℕ) (u : StaticType) → IsSimple u → shape_in way params u ≡ shape_of u
-simple_named way params _ (simple_integer w) = refl
-simple_named way params _ simple_truth = refl
-simple_named way params _ (simple_space c) = refl
-simple_named way params _ (simple_index c) = refl
-
--- a name of a region has one in its slot
-pub region_named : (way : Way) (params : ℕ) (m : Mark) (s : ℕ) (u : StaticType) → IsRegion u → slice_get m.slots s ≡ Some (shape_in way params u) →
-    HasRegion m (Some (space_in u)) s
-region_named way params m s _ (a_region_type k sp args r) e = record { made = is_own way params r; shape = e }
-
--- a region of a name that has a parameter's number stands in its place
-pub placed_at : (t : TaskCode) (way : Way) (tree : Tree) (params : ℕ) (s : Scope) (n : Name) → Ground t way tree params s → is_bound s.names n ≡ true →
-    InPlace way params (bound_to s.names n).place (bound_to s.names n).static_type
-placed_at t all_made tree params s n g h = tt
-placed_at t (by_rules task) tree params s n g h = among s.names g.placed h
-  where
-    among : (bs : List Bound) → Each (IsPlaced params) bs → is_bound bs n ≡ true → OfType params (bound_to bs n).place (bound_to bs n).static_type
-    among [] a h = absurd (false≢true h)
-    among (b ∷ bs) a h = chosen (bytes_eq b.name n) (among bs a.1) h
-      where
-        chosen : (c : Bool) → (is_bound bs n ≡ true → OfType params (bound_to bs n).place (bound_to bs n).static_type) → (c || is_bound bs n) ≡ true →
-            OfType params (cond c b (bound_to bs n)).place (cond c b (bound_to bs n)).static_type
-        chosen true more e = a.0
-        chosen false more e = more e
-
 -- ---- expressions
 
 -- a value is converted to an alike type
@@ -154,8 +107,8 @@ converted_at g t k w m _ _ us (two_integers a b) =
     does g t k (stacked m (integer a ∷ us)) (instr.Wrap b) w.line _ (does_wrap b (integer a) us (numeric_integer a))
 converted_at g t k w m _ _ us two_truths = nothing_done g t k _
 
-module _ (g : Program) (t : TaskCode) (k slots : ℕ) (have : HasSlots t slots) (forms : Forms) (plain : forms.takes ≡ None) (way : Way) (w : Where) (m : Mark)
-    (asked : Asked g t k slots way w m) where
+module _ (g : Program) (t : TaskCode) (k slots : ℕ) (have : HasSlots t slots) (forms : Forms) (way : Way) (w : Where) (m : Mark)
+    (asked : Asked g t k slots forms way w m) where
   -- code that leads from one stack to another
   abbrev Goes : List Shape → Piece → List Shape → Type 0
   Goes us p vs = Marked g t k (stacked m us) p (stacked m vs)
@@ -281,7 +234,7 @@ module _ (g : Program) (t : TaskCode) (k slots : ℕ) (have : HasSlots t slots) 
         let nr : Numeric (g.results place) = subst Numeric (sym same) (scalar_numeric _ fine.1) in
         subst (λ y. Goes us (expr_code w d (call_expr task args)) (y ∷ us)) same
         (both g t k (args_marked d (params_at w.tree w.scope u args) types args us fine.3 (told_call w.tree w.scope way task args told) pc st.0)
-        (both g t k (calls g t k way w asked.known forms plain m task (params_at w.tree w.scope u args) args us fine.2 fine.3)
+        (both g t k (calls g t k slots forms way w m asked task (params_at w.tree w.scope u args) args us fine.2 fine.3)
         (awaited_marked (spare w d) (g.results place) us nr (omega arith) (stored _ (spare w d) st.1.1.0))))
     expr_marked d (convert_expr c e) us fine told pc st = both g t k (expr_marked d e us fine.0 (told_convert w.tree w.scope way c e told) pc st.0)
         (both g t k (standing_marked (typed w e) _ (number_simple _ fine.1)) (number_marked c (typed w e) us fine.1 fine.2))
@@ -330,16 +283,19 @@ module _ (g : Program) (t : TaskCode) (k slots : ℕ) (have : HasSlots t slots) 
 
     -- arguments of parameters of these types
     pub args_marked : (d : ℕ) (ts ps : List StaticType) (es : Expressions) (us : List Shape) → ArePassed (without_pointers forms) w ts ps es → ToldArgs way w.tree w.scope es →
-        (pc : ℕ) → Stands t.body pc (exprs_code w d ts es) → Goes us (exprs_code w d ts es) (onto (map shape_of ps) us)
+        (pc : ℕ) → Stands t.body pc (exprs_code w d ts es) → Goes us (exprs_code w d ts es) (onto (all_handed w ps es) us)
     args_marked d [] [] no_expr us fine told pc st = nothing_done g t k _
     args_marked d (u ∷ ts) (p ∷ ps) (an_expr e es) us fine told pc st =
         let parts = told_arg w.tree w.scope way e es told in
-        given_either forms.takes w u p e (IsTyped (without_pointers forms) w e) (Goes us (exprs_code w d (u ∷ ts) (an_expr e es)) (onto (map shape_of (p ∷ ps)) us))
+        given_either forms.takes w u p e (IsTyped (without_pointers forms) w e) (Goes us (exprs_code w d (u ∷ ts) (an_expr e es)) (onto (all_handed w (p ∷ ps) (an_expr e es)) us))
         (λ alike same is. both g t k (expr_marked d e us is parts.0 pc st.0)
-        (both g t k (subst (λ y. Goes (shape_of (typed w e) ∷ us) (converted_code w (typed w e) u) (shape_of y ∷ us)) same
+        (both g t k (subst (λ y. Goes (shape_of (typed w e) ∷ us) (converted_code w (typed w e) u) (y ∷ us))
+        (ap shape_of same ∙ sym (scalar_handed w p e (subst IsScalar same (alike_second _ u alike))))
         (converted_marked (typed w e) u us alike))
-        (args_marked d ts ps es (shape_of p ∷ us) fine.1 parts.1 _ st.1.1)))
-        (λ y takes h. absurd (none-some y (sym plain ∙ takes))) fine.0
+        (args_marked d ts ps es (handed w p e ∷ us) fine.1 parts.1 _ st.1.1)))
+        (λ y takes h. both g t k (handed_marked g t k slots forms way w m asked y takes d u p e us h)
+        (both g t k (subst (λ q. Goes (handed w p e ∷ us) q (handed w p e ∷ us)) (sym (handed_unconverted w y u p e h)) (nothing_done g t k _))
+        (args_marked d ts ps es (handed w p e ∷ us) fine.1 parts.1 _ st.1.1))) fine.0
     args_marked d [] [] (an_expr e es) us fine told pc st = absurd fine
     args_marked d [] (p ∷ ps) es us fine told pc st = absurd fine
     args_marked d (u ∷ ts) [] es us fine told pc st = absurd fine

@@ -1,5 +1,5 @@
 -- The code of fills has marks: the value is put aside, and each field is filled with it.
-use Rattle.std.proofs.Common.{◌≡◌, inl, ℕ, ◌<◌, List, [], ◌∷◌, true, Some, refl, sym, arith, None, false}
+use Rattle.std.proofs.Common.{◌≡◌, inl, ℕ, ◌<◌, List, [], ◌∷◌, true, Some, refl, sym, arith, false}
 use Rattle.std.specs.Prelude.{slice_get, length}
 use Rattle.std.proofs.lemmas.List.{length-set}
 use Rattle.regent_tree.specs.Lookup.{is_bound}
@@ -35,8 +35,8 @@ use Rattle.sound_code.proofs.Expressions.{converted_at, named_at, placed_at, sto
 use Rattle.sound_code.proofs.Narrowing.{narrow_itself, narrow_set, narrow_into, named_behind, same_facts}
 use Rattle.sound_code.proofs.Statements.{Followed, scalar_settled, unchanged, value_marked}
 
-module _ (g : Program) (t : TaskCode) (k slots : ℕ) (have : HasSlots t slots) (forms : Forms) (plain : forms.takes ≡ None) (way : Way) (w : Where) (m : Mark)
-    (asked : Asked g t k slots way w m) where
+module _ (g : Program) (t : TaskCode) (k slots : ℕ) (have : HasSlots t slots) (forms : Forms) (way : Way) (w : Where) (m : Mark)
+    (asked : Asked g t k slots forms way w m) where
   -- what is asked of a mark with a value put aside
   pub record At (o : Mark) : Type 0 where
     pub named : AreNamed way w.params o.slots w.scope.names
@@ -66,11 +66,11 @@ module _ (g : Program) (t : TaskCode) (k slots : ℕ) (have : HasSlots t slots) 
   fill_marked r fs e f told b is h pc st =
       let ready = asked.ready in
       let s = spare w 0 in
-      let hi : s < length m.slots = stored g t k slots have forms plain way w m asked _ s st.1.0 in
+      let hi : s < length m.slots = stored g t k slots have forms way w m asked _ s st.1.0 in
       let a = shape_of (typed w e) in
       let o = set_mark m s a [] in
       unchanged g t k way _ _ m _ ready
-      (both g t k (value_marked g t k slots have forms plain way w m asked e [] f (told_head w.tree w.scope way (fill_form r fs e) e refl told) pc st.0)
+      (both g t k (value_marked g t k slots have forms way w m asked e [] f (told_head w.tree w.scope way (fill_form r fs e) e refl told) pc st.0)
       (both g t k (storing g t k m s a a [] w.line (behind_kept way w.params w.scope.names m s ready (omega arith))
       (omega (arith, slot_high w.params (length w.scope.names) ready.low, asked.params)) hi (λ x v q. q))
       (into g t k (fields_marked o r (typed w e) fs (record {

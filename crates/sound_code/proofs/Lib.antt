@@ -8,6 +8,8 @@ pub mod Elements
 pub mod Calling
 pub mod Declaring
 pub mod Granting
+pub mod Placing
+pub mod Handing
 pub mod Wanting
 pub mod Expressions
 pub mod Statements
@@ -24,6 +26,8 @@ pub mod Tasks
 pub mod Entries
 pub mod Openings
 pub mod Accepted
+pub mod Constraints
 pub mod Rules
 pub mod Example
 pub mod RulesExample
+pub mod HandingExample

@@ -33,7 +33,7 @@ use Rattle.fit_rules.specs.Marks.{Holds}
 use Rattle.code_laws.specs.Simple.{IsSimple, simple_integer}
 use Rattle.sound_code.specs.Ways.{Way, all_made, opening_facts, shape_in, shape_of}
 use Rattle.sound_code.specs.Programs.{BeginsWell, CallsAreSound, NeverBreaks, entry_place, first_world, RegionTasksAreSound, RunsSoundly, ScalarTasksAreSound, ScalarProgramsAreSound, TasksRunSoundly}
-use Rattle.sound_code.proofs.Asked.{other}
+use Rattle.sound_code.proofs.Asked.{hands_none, other}
 use Rattle.sound_code.proofs.Calling.{opening_suits, simples_are, simples_named, simples_told, some_body, types_many}
 use Rattle.sound_code.proofs.Entries.{named_there}
 use Rattle.marked_code.proofs.Remarked.{remarked}
@@ -111,7 +111,7 @@ module _ (forms : Forms) (plain : forms.takes ≡ None) (tree : Tree) (inputs : 
   entry_there = named_there tree (entry_name tree) _ p.start
 
   entry_marks : HasMarks tree all_made (entry_place tree) entry
-  entry_marks = treat tree all_made forms plain (entry_place tree) entry entry_there tt tt p.typed p.small
+  entry_marks = treat tree all_made forms (entry_place tree) entry entry_there (hands_none plain) tt tt p.typed p.small
 
   -- the entry task alone has marks
   abbrev entry_alone : ℕ → List Mark
@@ -180,7 +180,7 @@ module _ (tree : Tree) (way : Way) (marks_at : (k : ℕ) (t : TaskTree) → slic
 
 module _ (tree : Tree) (typed : AreTypedTasks tree) where
   made_at : (k : ℕ) (t : TaskTree) → slice_get (tasks_of tree) k ≡ Some t → HasMarks tree all_made k t
-  made_at k t there = let h = typed k t there in treat tree all_made call_forms refl k t there tt tt h.typed h.small
+  made_at k t there = let h = typed k t there in treat tree all_made call_forms k t there (hands_none refl) tt tt h.typed h.small
 
   abbrev marks : ℕ → List Mark
   marks = all tree all_made made_at

@@ -1,5 +1,5 @@
 -- The code of prints has marks.
-use Rattle.std.proofs.Common.{◌≡◌, ℕ, suc, pos, List, [], ◌∷◌, Option, Some, refl, sym, ap, ◌∙◌, subst, None}
+use Rattle.std.proofs.Common.{◌≡◌, ℕ, suc, pos, List, [], ◌∷◌, Option, Some, refl, sym, ap, ◌∙◌, subst}
 use Rattle.std.specs.Prelude.{length, replicate}
 use Rattle.std.proofs.lemmas.List.{length-replicate}
 use Rattle.check_rules.specs.rules.Formats.{numbers_in}
@@ -34,8 +34,8 @@ printed_count format n e =
     let long = length-replicate n (pos 0) in
     (writes_format [] format (replicate n (pos 0)) (e ∙ ap Some (sym long))).count ∙ long
 
-module _ (g : Program) (t : TaskCode) (k slots : ℕ) (have : HasSlots t slots) (forms : Forms) (plain : forms.takes ≡ None) (way : Way) (w : Where) (m : Mark)
-    (asked : Asked g t k slots way w m) where
+module _ (g : Program) (t : TaskCode) (k slots : ℕ) (have : HasSlots t slots) (forms : Forms) (way : Way) (w : Where) (m : Mark)
+    (asked : Asked g t k slots forms way w m) where
   abbrev shapes : Expressions → List Shape
   shapes no_expr = []
   shapes (an_expr e es) = shape_of (typed w e) ∷ shapes es
@@ -54,7 +54,7 @@ module _ (g : Program) (t : TaskCode) (k slots : ℕ) (have : HasSlots t slots) 
   numbers_marked no_expr us h told pc st = nothing_done g t k _
   numbers_marked (an_expr e es) us h told pc st =
       let parts = told_arg w.tree w.scope way e es told in
-      both g t k (value_marked g t k slots have forms plain way w m asked e us h.1 parts.0 pc st.0)
+      both g t k (value_marked g t k slots have forms way w m asked e us h.1 parts.0 pc st.0)
       (both g t k (nothing_done g t k _) (numbers_marked es (shape_of (typed w e) ∷ us) h.2 parts.1 _ st.1.1))
 
   pub print_marked : (alias : Option Name) (format : List ℕ) (es : Expressions) → AreNumbers (without_pointers forms) w es → ToldArgs way w.tree w.scope es → numbers_in format ≡ Some (count es) →

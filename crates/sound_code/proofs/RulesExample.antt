@@ -1,5 +1,5 @@
 -- The code of an accepted program with a task that takes regions is sound, and the task's frame fits when it opens.
-use Rattle.std.proofs.Common.{zero, suc, pos, [], ◌∷◌, Some, true, false, refl, sym, subst, arith}
+use Rattle.std.proofs.Common.{zero, suc, pos, [], ◌∷◌, Some, false, refl, sym, subst, arith}
 use Rattle.std.proofs.lemmas.Bool.{false≢true}
 use Rattle.std.proofs.lemmas.Int.{ints}
 use Rattle.std.proofs.lemmas.Option.{none-some, same_Some}
@@ -15,7 +15,7 @@ use Rattle.fit_rules.specs.Marks.{in_slot, LiesAt}
 use Rattle.fit_rules.proofs.Points.{counted_points}
 use Rattle.sound_code.specs.Programs.{argument_shapes, AreConstrained, TasksKeepRules}
 use Rattle.sound_code.specs.RulesExample.{HistogramIsSound, one_root, raise, raise_args, rules_program, RulesExampleHolds}
-use Rattle.sound_code.proofs.Rules.{local_programs_are_sound, tasks_keep_rules}
+use Rattle.sound_code.proofs.Rules.{accepted_tasks_are_sound, local_programs_are_sound}
 
 tasks : AreTypedTasks rules_program
 tasks zero t e = subst (IsTypedTask rules_program) (same_Some _ t e) (record {
@@ -59,7 +59,7 @@ tasks (suc zero) t e = subst (IsTypedTask rules_program) (same_Some _ t e) (reco
 tasks (suc (suc k)) t e = absurd (none-some t e)
 
 sound : TasksKeepRules rules_program
-sound = tasks_keep_rules rules_program refl tasks
+sound = accepted_tasks_are_sound rules_program refl tasks
 
 whole : IsRegion (called one_root raise_args) (Some 0) false (region_with 3 (0 ∷ 1 ∷ []))
 whole = record {

@@ -1,5 +1,5 @@
 -- The code of statements without blocks has marks.
-use Rattle.std.proofs.Common.{◌≡◌, inl, ℕ, suc, ◌<◌, ◌≤◌, List, [], ◌∷◌, pos, true, false, Some, refl, sym, ap, ◌∙◌, subst, arith, None}
+use Rattle.std.proofs.Common.{◌≡◌, inl, ℕ, suc, ◌<◌, ◌≤◌, List, [], ◌∷◌, pos, true, false, Some, refl, sym, ap, ◌∙◌, subst, arith}
 use Rattle.std.specs.Prelude.{get_or, slice_get, slice_set, length}
 use Rattle.std.proofs.lemmas.List.{length-map, length-set}
 use Rattle.std.proofs.lemmas.Int.{ints}
@@ -41,7 +41,8 @@ use Rattle.sound_code.specs.Ways.{Way, shape_in, shape_of}
 use Rattle.sound_code.proofs.Steady.{steady_below}
 use Rattle.sound_code.proofs.Told.{Told, ToldArgs}
 use Rattle.sound_code.proofs.Asked.{Asked}
-use Rattle.sound_code.proofs.Calling.{alike_second, calls, scalar_numeric}
+use Rattle.sound_code.proofs.Calling.{alike_second, scalar_numeric}
+use Rattle.sound_code.proofs.Handing.{calls}
 use Rattle.sound_code.proofs.Combining.{Marked, nothing_done, both, does, into, behind_kept, named_kept, keeping, slot_high, slot_next, storing}
 use Rattle.sound_code.proofs.Expressions.{args_marked, converted_marked, expr_marked, named_at, simple_named, truth_shape}
 use Rattle.sound_code.proofs.Narrowing.{narrow_long, narrow_itself, narrow_set, narrow_into, named_behind, same_facts}
@@ -96,8 +97,8 @@ module _ (g : Program) (t : TaskCode) (k : ℕ) (way : Way) where
   closed_block params bs m p f = into g t k f.is (narrow_into t.params f.next m [] f.narrower (same_facts _ _ f.facts))
       (sym (narrow_long _ _ f.narrower))
 
-module _ (g : Program) (t : TaskCode) (k slots : ℕ) (have : HasSlots t slots) (forms : Forms) (plain : forms.takes ≡ None) (way : Way) (w : Where) (m : Mark)
-    (asked : Asked g t k slots way w m) where
+module _ (g : Program) (t : TaskCode) (k slots : ℕ) (have : HasSlots t slots) (forms : Forms) (way : Way) (w : Where) (m : Mark)
+    (asked : Asked g t k slots forms way w m) where
   -- a name that is bound next
   abbrev pub new_name : Name → StaticType → Bound
   new_name n u = record {
@@ -135,7 +136,7 @@ module _ (g : Program) (t : TaskCode) (k slots : ℕ) (have : HasSlots t slots) 
 
   pub value_marked : (e : Expression) (us : List Shape) → IsTyped (without_pointers forms) w e → Told way w.tree w.scope e → (pc : ℕ) → Stands t.body pc (expr_code w 0 e) →
       Marked g t k (stacked m us) (expr_code w 0 e) (stacked m (shape_of (typed w e) ∷ us))
-  value_marked e us f told pc st = expr_marked g t k slots have forms plain way w m asked 0 e us f told pc st
+  value_marked e us f told pc st = expr_marked g t k slots have forms way w m asked 0 e us f told pc st
 
   pub test_marked : (e : Expression) (us : List Shape) → IsTruth (typed w e) → IsTyped (without_pointers forms) w e → Told way w.tree w.scope e → (pc : ℕ) →
       Stands t.body pc (expr_code w 0 e) → Marked g t k (stacked m us) (expr_code w 0 e) (stacked m (truth ∷ us))
@@ -199,14 +200,14 @@ module _ (g : Program) (t : TaskCode) (k slots : ℕ) (have : HasSlots t slots) 
       let simple = scalar_simple (bound w x).static_type (alike_second _ _ al) in
       let h = named_at way w.params m.slots w.scope.names x r.named b ∙ ap Some (simple_named way w.params _ simple) in
       unchanged g t k way _ _ m _ r (both g t k (both g t k (value_marked e [] f told pc st)
-      (converted_marked g t k slots have forms plain way w m asked _ _ [] al))
+      (converted_marked g t k slots have forms way w m asked _ _ [] al))
       (keeping g t k m (slot_named w x) (shape_of (bound w x).static_type) [] w.line
       (named_kept way w.params w.scope.names m (bound w x).place r) (scalar_numeric _ (alike_second _ _ al)) hi h))
 
   pub return_marked : (e : Expression) → AreAlike (typed w e) w.result → IsTyped (without_pointers forms) w e → Told way w.tree w.scope e → (pc : ℕ) → Stands t.body pc (expr_code w 0 e) →
       Followed g t k way w.params w.scope.names m (form_code w (return_form (Some e)))
   return_marked e al f told pc st = unchanged g t k way _ _ m _ asked.ready (both g t k (value_marked e [] f told pc st)
-      (both g t k (converted_marked g t k slots have forms plain way w m asked _ _ [] al) (record {
+      (both g t k (converted_marked g t k slots have forms way w m asked _ _ [] al) (record {
         marks = _;
         is = typed_op _ _ _ w.line (leads_back (stacked m (shape_of w.result ∷ [])) (stacked m []) (shape_of w.result) []
             refl (scalar_numeric _ (alike_second _ _ al)) (λ z h. subst (λ y. NumberIs y z) (sym asked.result) h) refl);
@@ -226,8 +227,8 @@ module _ (g : Program) (t : TaskCode) (k slots : ℕ) (have : HasSlots t slots) 
       let u = task_named w.tree task in
       let ts = params_at w.tree w.scope u args in
       unchanged g t k way _ _ m _ asked.ready
-      (both g t k (args_marked g t k slots have forms plain way w m asked 0 ts (param_types w.tree u) args [] passed told pc st.0)
-      (both g t k (calls g t k way w asked.known forms plain m task ts args [] is passed)
+      (both g t k (args_marked g t k slots have forms way w m asked 0 ts (param_types w.tree u) args [] passed told pc st.0)
+      (both g t k (calls g t k slots forms way w m asked task ts args [] is passed)
       (does g t k _ instr.Drop w.line [] (does_drop _ []))))
 
   pub while_marked : (test : Expression) (p : Piece) → IsTruth (typed w test) → IsTyped (without_pointers forms) w test → Told way w.tree w.scope test → (pc : ℕ) →

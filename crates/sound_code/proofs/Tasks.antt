@@ -29,7 +29,7 @@ use Rattle.sound_code.specs.Ways.{Way, all_made, by_rules, opening_facts, shape_
 use Rattle.sound_code.proofs.Grounds.{Ground, HasFacts}
 use Rattle.sound_code.proofs.Steady.{steady_below}
 use Rattle.sound_code.proofs.Told.{ToldBlock}
-use Rattle.sound_code.proofs.Asked.{opening_mark, other, Known}
+use Rattle.sound_code.proofs.Asked.{Hands, opening_mark, other, Known}
 use Rattle.sound_code.proofs.Blocks.{block_marked}
 use Rattle.sound_code.proofs.Calling.{opening_steady, types_many}
 use Rattle.marked_code.proofs.Firsts.{begins_with}
@@ -147,15 +147,16 @@ module _ (tree : Tree) (way : Way) where
     pub marks : List Mark
     pub treated : Treated k t marks
 
-  pub treat : (forms : Forms) (plain : forms.takes ≡ None) (k : ℕ) (t : TaskTree) → slice_get (tasks_of tree) k ≡ Some t →
+  pub treat : (forms : Forms) (k : ℕ) (t : TaskTree) → slice_get (tasks_of tree) k ≡ Some t → Hands forms (task_code tree t) (other way t) tree →
       Ground (task_code tree t) (other way t) tree (length t.params) (scope_of tree t) → ToldBlock (other way t) tree (scope_of tree t) t.body →
       IsTypedBlock (without_pointers forms) (place_of tree t) t.body → length (lines (body_piece tree t) 0) ≤ 2 ^ 32 → HasMarks k t
-  treat forms plain k t there ground told typed small =
+  treat forms k t there hands ground told typed small =
       let code = task_code tree t in
       let m = first_of t in
       let have : HasSlots code code.slots = fits_slots (task_setting forms tree 0 0 0 [] t) tree t refl in
-      let f = block_marked bare code k code.slots have forms plain (other way t) (place_of tree t) m t.body typed
+      let f = block_marked bare code k code.slots have forms (other way t) (place_of tree t) m t.body typed
       (record {
+        hands = hands;
         ready = opening_ready tree (other way t) t;
         params = refl;
         result = ap (λ y. shape_of (result_type tree y.result)) (is_at k t there);

@@ -3,3 +3,4 @@ pub mod Named
 pub mod Programs
 pub mod Example
 pub mod RulesExample
+pub mod HandingExample

@@ -18,6 +18,9 @@ use Rattle.machine_terms.specs.declared.value.Value.TheVariants.{Number}
 use Rattle.machine_terms.specs.Jobs.{first_frame}
 use Rattle.code_rules.specs.Instructions.{place_of_task, tasks_of}
 use Rattle.code_rules.specs.Programs.{code_of, task_code}
+use Rattle.regent_tree.specs.declared.program.Clause.{Clause}
+use Rattle.regent_tree.specs.declared.program.Clause.TheVariants as clause
+use Rattle.code_laws.specs.Handing.{AreTypedBy}
 use Rattle.code_laws.specs.LocalPrograms.{IsLocalProgramRun}
 use Rattle.code_laws.specs.Programs.{AreTypedTasks, IsTypedRun, call_forms, job_of, region_forms, scalar_forms}
 use Rattle.code_laws.specs.ScalarPrograms.{IsScalarProgramRun}
@@ -131,11 +134,24 @@ pub record TasksKeepRules (tree : Tree) : Type 0 where
   pub opens : (k : ℕ) (t : TaskTree) → slice_get (tasks_of tree) k ≡ Some t → (x : World) (args : List Value) (turns depth : ℕ) →
       turns < 2 ^ 64 → Are (called x args) (argument_shapes tree t) args → AreConstrained tree t args →
       Fits program (called x args) (task_code tree t) k (opening_machine turns depth k (task_code tree t) args)
-  pub begins : BeginsWell call_forms tree program
+  pub begins : (forms : Forms) → BeginsWell forms tree program
 
 -- where no rule is breached and each task is typed: tasks may take regions, with privileges and constraints on them
 abbrev pub AcceptedTasksAreSound : Type 0
 AcceptedTasksAreSound = (tree : Tree) → breaches tree ≡ [] → AreTypedTasks tree → TasksKeepRules tree
+
+-- no task declares a constraint on its regions, but privileges alone
+abbrev pub IsGrant : Clause → Type 0
+IsGrant (clause.Grants grants places) = Unit {0}
+IsGrant c = ⊥
+
+abbrev pub AreUnconstrained : Tree → Type 0
+AreUnconstrained tree = (k : ℕ) (t : TaskTree) → slice_get (tasks_of tree) k ≡ Some t → Each IsGrant t.clauses
+
+-- Where tasks also hand regions to those that they call, roots that they made and regions that they took: the frame that a
+-- call opens fits, and what it needs is within what its caller needs.
+abbrev pub HandingTasksAreSound : Type 0
+HandingTasksAreSound = (tree : Tree) → breaches tree ≡ [] → AreTypedBy true false tree → AreUnconstrained tree → TasksKeepRules tree
 
 -- An accepted program whose tasks keep their regions to themselves, and numbers that fit its inputs: the code of each
 -- task is sound, frames of its tasks fit when they open, and so does the one in which its run begins.

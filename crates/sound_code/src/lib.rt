@@ -4,8 +4,9 @@
 #![tactic(auto)]
 
 ghost use Rattle.sound_code.specs.Example.{CodeExampleHolds};
+ghost use Rattle.sound_code.specs.HandingExample.{HandsExampleHolds};
 ghost use Rattle.sound_code.specs.RulesExample.{HistogramIsSound, RulesExampleHolds};
-ghost use Rattle.sound_code.specs.Programs.{AcceptedTasksAreSound, CallsAreSound, LocalProgramsAreSound, RegionTasksAreSound, ScalarProgramsAreSound, ScalarTasksAreSound};
+ghost use Rattle.sound_code.specs.Programs.{AcceptedTasksAreSound, CallsAreSound, HandingTasksAreSound, LocalProgramsAreSound, RegionTasksAreSound, ScalarProgramsAreSound, ScalarTasksAreSound};
 
 /// Where the entry task's body is typed and treats scalars alone, its code is sound, and the frame in which
 /// its run begins fits, whatever its inputs and turns; and so it is of each accepted program over scalars.
@@ -35,6 +36,14 @@ pub fn accepted_code_is_sound()
     ensures { AcceptedTasksAreSound }
 {}
 
+/// Where tasks also hand regions to those that they call, roots that they made and regions that they took, and no task
+/// declares a constraint: the code of each is sound, so that the frame which a call opens fits, and what it needs is
+/// within what its caller needs.
+#[tactic(auto, using(crate::proofs::Rules::handing_tasks_are_sound))]
+pub fn code_that_hands_regions_is_sound()
+    ensures { HandingTasksAreSound }
+{}
+
 /// So is the code of each accepted program whose tasks keep their regions to themselves, and the frame in which its run
 /// begins fits, with any turns.
 #[tactic(auto, using(crate::proofs::Rules::local_programs_are_sound))]
@@ -54,4 +63,11 @@ pub fn code_example_holds()
 pub fn rules_example_holds()
     ensures rules { RulesExampleHolds }
     ensures histogram { HistogramIsSound }
+{}
+
+/// An accepted program whose tasks hand a region on, of which each premise holds, and a frame of one that fits when it
+/// opens, whose first segment ends with such a call.
+#[tactic(auto, using(crate::proofs::HandingExample::hands_example_holds))]
+pub fn handing_example_holds()
+    ensures { HandsExampleHolds }
 {}
