@@ -10,7 +10,11 @@ use Rattle.regent_tree.specs.Syntax.{TaskTree}
 use Rattle.code_rules.specs.Programs.{place_of}
 use Rattle.code_laws.specs.Handing.{AreTypedBy, IsTypedBy, forms_by}
 use Rattle.code_laws.specs.HandingExample.{HandingExampleHolds, handing_program}
+use Rattle.regent_tree.specs.Limits.{WithinLimits, parts_of_program}
+use Rattle.code_laws.specs.LocalPrograms.{IsHandingProgramRun}
 use Rattle.code_laws.specs.Programs.{IsTypedRun, gives_nothing, gives_scalar}
+use Rattle.code_laws.proofs.LocalExample.{all_keep}
+use Rattle.code_laws.proofs.LocalRuns.{accepted_programs_run_as_meant}
 use Rattle.code_laws.specs.Simple.{a_region_type, a_space_type, an_integer, fits_64, number_integer, scalar_integer, simple_integer, two_integers, two_regions}
 use Rattle.code_laws.specs.Standing.{of_integer}
 use Rattle.code_laws.specs.Typed.{IsTypedBlock}
@@ -140,6 +144,20 @@ run = record {
   count = refl;
 }
 
+within : WithinLimits handing_program
+within = record { each = all_keep (parts_of_program handing_program) refl; nodes = omega (arith) }
+
+accepted : IsHandingProgramRun handing_program (pos 2 ∷ [])
+accepted = record { within = within; accepted = refl; handing = refl; numbers = (omega (arith, ints), tt) }
+
 pub handing_example_holds : HandingExampleHolds
 unfolding int_wrap digits
-handing_example_holds = record { accepted = refl; tasks = tasks; run = run; end_is = refl; fault_is = refl; turns_are = refl }
+handing_example_holds = record {
+  accepted = accepted;
+  runs = accepted_programs_run_as_meant handing_program (pos 2 ∷ []) 5 (omega (arith)) accepted;
+  tasks = tasks;
+  run = run;
+  end_is = refl;
+  fault_is = refl;
+  turns_are = refl;
+}

@@ -1,12 +1,12 @@
 -- Bodies of a text with marked names, of which no breach is told, are typed.
-use Rattle.std.proofs.Common.{◌≡◌, [], ◌∷◌, ◌++◌, None, Option, Some, false, true, sym, subst, ℕ, ◌∙◌}
+use Rattle.std.proofs.Common.{◌≡◌, Bool, [], ◌∷◌, ◌++◌, None, Option, Some, false, true, sym, subst, ℕ, ◌∙◌}
 use Rattle.std.specs.List.{list_any}
 use Rattle.std.proofs.lemmas.Bool.{and_parts}
 use Rattle.plain_values.proofs.Plain.{option_or_parts}
 use Rattle.regent_tree.specs.Limits.{node, nodes, parts_of_arms, parts_of_block, parts_of_expression, parts_of_form, parts_of_otherwise}
-use Rattle.regent_tree.specs.Scopes.{Scope, past, with_name}
+use Rattle.regent_tree.specs.Scopes.{Scope, known_of_type, past, with_name}
 use Rattle.regent_tree.specs.Syntax.{Arms, Block, Expression, Form, Initializer, Name, Otherwise, Steps, TaskTree, Tree, a_statement, an_arm, assert_form, assign_form, at_step, both_initializer, by_field_initializer, call_form, do_form, either_initializer, else_block, equal_initializer, field_step, fill_form, for_in_form, for_to_form, if_form, image_initializer, no_arm, no_else, no_statement, no_step, plain_initializer, preimage_initializer, print_form, region_initializer, return_form, then_statement, var_form, while_form}
-use Rattle.regent_tree.specs.Typing.{arithmetic_type, scope_after, scope_after_arms, scope_after_block, taken_from, type_of}
+use Rattle.regent_tree.specs.Typing.{arithmetic_type, scope_after, scope_after_arms, scope_after_block, scope_after_else, taken_from, type_of, var_type}
 use Rattle.regent_tree.specs.declared.statement.How.TheVariants as how
 use Rattle.regent_tree.specs.declared.types.TypeTerm.{TypeTerm}
 use Rattle.regent_tree.specs.declared.typing.StaticType.{StaticType}
@@ -22,18 +22,22 @@ use Rattle.check_rules.specs.first.Rules.{first_in}
 use Rattle.check_rules.specs.rules.Standing.{domain_spot, integer_spot, stands, truth_spot}
 use Rattle.check_rules.specs.rules.Statements.{all_stand}
 use Rattle.check_rules.specs.rules.Types.{is_ill_typed_at_place}
-use Rattle.check_rules.specs.scopes.Sound.{IsSound}
+use Rattle.check_rules.specs.scopes.Sound.{IsSound, IsSoundTask}
 use Rattle.check_rules.specs.types.KnownTypes.{known_type}
 use Rattle.check_rules.specs.types.Parts.{tests_of}
-use Rattle.local_form.specs.LocalForm.{Marked, are_local_arms, is_among, is_local_block, is_local_else, is_local_expression, is_local_form}
-use Rattle.code_laws.specs.Programs.{call_forms}
+use Rattle.local_form.specs.LocalForm.{Marked, is_among}
+use Rattle.code_laws.specs.HandingForm.{are_handing_arms, is_handing_block, is_handing_else, is_handing_expression, is_handing_form}
+use Rattle.code_laws.specs.Handing.{forms_by}
 use Rattle.code_laws.specs.Simple.{IsSimple, IsSpace, a_space_type, simple_index}
+use Rattle.code_laws.specs.Steps.{Forms}
 use Rattle.code_laws.specs.Typed.{AreTypedArms, IsTypedBlock, IsTypedElse, IsTypedForm}
+use Rattle.code_laws.proofs.KnownHeads.{IsReady, KnowsHead, head_looping, head_named, head_past, simple_tells}
 use Rattle.code_laws.proofs.LocalNames.{AllKept, IsLocalTree, kept_index, kept_scalar}
 use Rattle.code_laws.proofs.LocalStatements.{at, bound_local, call_local, domain_local, fill_local, plain_local, print_local, reduce_field_local, reduce_local, region_local, return_local, said_local, set_field_local, set_local, test_local}
 use Rattle.code_laws.proofs.LocalTypes.{term_scalar}
 use Rattle.code_laws.proofs.Names.{arms_names, else_names}
 use Rattle.code_laws.proofs.TypedStatements.{first_stands, sum_scalar}
+use Rattle.code_laws.proofs.Values.{scalar_simple}
 use Rattle.code_laws.proofs.Typing.{AreKept, kept_behind, kept_left, kept_right, no_way, no_way_back}
 use Rattle.regent_tree.specs.Scopes.{in_scope}
 use Rattle.scalar_form.specs.ScalarForm.{is_scalar_if_said}
@@ -42,26 +46,47 @@ use Rattle.scalar_form.specs.ScalarForm.{is_scalar_if_said}
 index_taken : (t : StaticType) → IsSpace t → IsSimple (taken_from t)
 index_taken _ (a_space_type k) = simple_index k
 
-module _ (tree : Tree) (task : TaskTree) (sound : IsSound tree) (local : IsLocalTree tree) (m : Marked) (params : ℕ)
-    (result : is_scalar_if_said task.result ≡ true) where
+module _ (handing : Bool) (tree : Tree) (task : TaskTree) (sound : IsSound tree) (sound_task : IsSoundTask tree task) (local : IsLocalTree handing tree)
+    (m : Marked) (params : ℕ) (result : is_scalar_if_said task.result ≡ true) where
+  abbrev forms : Forms
+  forms = forms_by handing false tree task
+
+  abbrev Ready : Scope → Type 0
+  Ready s = IsReady tree task m s
+
   abbrev here : Scope → ℕ → Where
-  here s line = at tree task sound local m params result s line
+  here s line = at handing tree task sound sound_task local m params result s line
 
-  -- a statement is typed, and what its names stand for
+  -- a statement is typed, and the place behind it is ready for the next
   abbrev FormTyped : Scope → ℕ → Form → Type 0
-  FormTyped s line form = IsTypedForm call_forms (here s line) form × AllKept m (scope_after tree s form).names
+  FormTyped s line form = IsTypedForm forms (here s line) form × Ready (scope_after tree s form)
 
-  var_local : (s : Scope) (line : ℕ) (n : Name) (t : Option TypeTerm) (i : Option Initializer) → is_local_form m (var_form n t i) ≡ true →
-      AreKept (parts_of_form (var_form n t i)) → IsSoundScope s → AllKept m s.names → first_of_form tree task s (var_form n t i) ≡ None →
+  -- a block is typed, and what is known behind it
+  abbrev BlockTyped : Scope → ℕ → Block → Type 0
+  BlockTyped s line body = IsTypedBlock forms (here s line) body × KnowsHead tree task (scope_after_block tree s body)
+
+  -- behind a block the names are those before it
+  behind : (s inner : Scope) → Ready s → KnowsHead tree task inner → Ready (past s inner)
+  behind s inner ready head = record { names = ready.names; head = head_past tree task s inner head }
+
+  var_local : (s : Scope) (line : ℕ) (n : Name) (t : Option TypeTerm) (i : Option Initializer) → is_handing_form m (var_form n t i) ≡ true →
+      AreKept (parts_of_form (var_form n t i)) → IsSoundScope s → Ready s → first_of_form tree task s (var_form n t i) ≡ None →
       FormTyped s line (var_form n t i)
   var_local s line n None (Some (plain_initializer y)) lo k scope names e =
-      let v = plain_local tree task sound local m params result s line n y lo k scope names e in (v.0, (v.1, names))
+      let v = plain_local handing tree task sound sound_task local m params result s line n y lo k scope names e in (v.0, record { names = (v.1, names.names); head = v.2 })
   var_local s line n None (Some (region_initializer y u)) lo k scope names e =
-      let v = region_local tree task sound local m params result s line n y u lo k scope names e in (v.0, (v.1, names))
+      let v = region_local handing tree task sound sound_task local m params result s line n y u lo k scope names e in (v.0, record { names = (v.1, names.names); head = v.2 })
   var_local s line n (Some t) (Some (plain_initializer y)) lo k scope names e =
-      let v = said_local tree task sound local m params result s line n t y lo k scope names e in (v.0, (v.1, names))
+      let v = said_local handing tree task sound sound_task local m params result s line n t y lo k scope names e in (v.0, record { names = (v.1, names.names); head = v.2 })
   var_local s line n (Some t) None lo k scope names e =
-      let q = term_scalar t lo tree (in_scope s) s.next in (q, (kept_scalar _ q, names))
+      let q = term_scalar t lo tree (in_scope s) s.next in
+      let wanted = var_type tree s (Some t) None in (
+        q,
+        record {
+          names = (kept_scalar wanted q, names.names);
+          head = head_named tree task s n wanted (known_of_type wanted) names.head (simple_tells s.next wanted (scalar_simple wanted q)).2;
+        },
+      )
   var_local s line n None None lo k scope names e = absurd (no_way (told_of_form tree task s sound scope (var_form n None None) e).1)
   var_local s line n None (Some (equal_initializer _ _)) lo k scope names e = absurd (no_way_back lo)
   var_local s line n None (Some (by_field_initializer _ _ _)) lo k scope names e = absurd (no_way_back lo)
@@ -86,19 +111,19 @@ module _ (tree : Tree) (task : TaskTree) (sound : IsSound tree) (local : IsLocal
         kept_right steps (parts_of_expression y) k,
       )
 
-  assign_local : (s : Scope) (line : ℕ) (n : Name) (steps : Steps) (h : How) (y : Expression) → is_local_form m (assign_form n steps h y) ≡ true →
-      AreKept (parts_of_form (assign_form n steps h y)) → IsSoundScope s → AllKept m s.names → first_of_form tree task s (assign_form n steps h y) ≡ None →
-      IsTypedForm call_forms (here s line) (assign_form n steps h y)
-  assign_local s line n no_step how.Set y lo k scope names e = set_local tree task sound local m params result s line n y lo k scope names e
-  assign_local s line n no_step (how.Reduce o) y lo k scope names e = reduce_local tree task sound local m params result s line n o y lo k scope names e
+  assign_local : (s : Scope) (line : ℕ) (n : Name) (steps : Steps) (h : How) (y : Expression) → is_handing_form m (assign_form n steps h y) ≡ true →
+      AreKept (parts_of_form (assign_form n steps h y)) → IsSoundScope s → Ready s → first_of_form tree task s (assign_form n steps h y) ≡ None →
+      IsTypedForm forms (here s line) (assign_form n steps h y)
+  assign_local s line n no_step how.Set y lo k scope names e = set_local handing tree task sound sound_task local m params result s line n y lo k scope names e
+  assign_local s line n no_step (how.Reduce o) y lo k scope names e = reduce_local handing tree task sound sound_task local m params result s line n o y lo k scope names e
   assign_local s line n (at_step x (field_step f no_step)) how.Set y lo k scope names e =
-      let both = and_parts (is_local_expression m x) (is_local_expression m y) lo in
+      let both = and_parts (is_handing_expression m x) (is_handing_expression m y) lo in
       let ks = kept_element x f y k in
-      set_field_local tree task sound local m params result s line n x f y both.0 both.1 ks.0 ks.1 scope names e
+      set_field_local handing tree task sound sound_task local m params result s line n x f y both.0 both.1 ks.0 ks.1 scope names e
   assign_local s line n (at_step x (field_step f no_step)) (how.Reduce o) y lo k scope names e =
-      let both = and_parts (is_local_expression m x) (is_local_expression m y) lo in
+      let both = and_parts (is_handing_expression m x) (is_handing_expression m y) lo in
       let ks = kept_element x f y k in
-      reduce_field_local tree task sound local m params result s line n x f o y both.0 both.1 ks.0 ks.1 scope names e
+      reduce_field_local handing tree task sound sound_task local m params result s line n x f o y both.0 both.1 ks.0 ks.1 scope names e
   assign_local s line n (field_step _ _) h y lo k scope names e = absurd (no_way_back lo)
   assign_local s line n (at_step _ no_step) h y lo k scope names e = absurd (no_way_back lo)
   assign_local s line n (at_step _ (at_step _ _)) h y lo k scope names e = absurd (no_way_back lo)
@@ -106,102 +131,114 @@ module _ (tree : Tree) (task : TaskTree) (sound : IsSound tree) (local : IsLocal
   assign_local s line n (at_step _ (field_step _ (at_step _ _))) h y lo k scope names e = absurd (no_way_back lo)
 
   mutual
-    pub form_local : (s : Scope) (line : ℕ) (form : Form) → is_local_form m form ≡ true → AreKept (parts_of_form form) → IsSoundScope s →
-        AllKept m s.names → first_of_form tree task s form ≡ None → first_within tree task s form ≡ None → FormTyped s line form
+    pub form_local : (s : Scope) (line : ℕ) (form : Form) → is_handing_form m form ≡ true → AreKept (parts_of_form form) → IsSoundScope s →
+        Ready s → first_of_form tree task s form ≡ None → first_within tree task s form ≡ None → FormTyped s line form
     form_local s line (var_form n t i) lo k scope names e w = var_local s line n t i lo k scope names e
     form_local s line (assign_form n steps h y) lo k scope names e w = (assign_local s line n steps h y lo k scope names e, names)
     form_local s line (print_form alias format args) lo k scope names e w =
-        (print_local tree task sound local m params result s line alias format args lo k scope names e, names)
-    form_local s line (call_form n args) lo k scope names e w = (call_local tree task sound local m params result s line n args lo k scope names e, names)
+        (print_local handing tree task sound sound_task local m params result s line alias format args lo k scope names e, names)
+    form_local s line (call_form n args) lo k scope names e w = (call_local handing tree task sound sound_task local m params result s line n args lo k scope names e, names)
     form_local s line (fill_form r fields y) lo k scope names e w =
-        (fill_local tree task sound local m params result s line r fields y lo (kept_right (nodes fields) (parts_of_expression y) k) scope names e, names)
-    form_local s line (return_form y) lo k scope names e w = (return_local tree task sound local m params result s line y lo k scope names e, names)
+        (fill_local handing tree task sound sound_task local m params result s line r fields y lo (kept_right (nodes fields) (parts_of_expression y) k) scope names e, names)
+    form_local s line (return_form y) lo k scope names e w = (return_local handing tree task sound sound_task local m params result s line y lo k scope names e, names)
     form_local s line (assert_form y) lo k scope names e w =
         let parts = told_of_form tree task s sound scope (assert_form y) e in
         let told = (option_or_parts (first_in_expression tree task s y) _ parts.2).0 in (
-          test_local tree task sound local m params result s line y lo k scope names told
+          test_local handing tree task sound sound_task local m params result s line y lo k scope names told
               (first_stands s.known (stands (known_type tree s y) truth_spot) [] parts.4).0,
           names,
         )
-    form_local s line (do_form body) lo k scope names e w = (block_local s line body lo k scope names w, names)
+    form_local s line (do_form body) lo k scope names e w = let b = block_local s line body lo k scope names w in (b.0, behind s (scope_after_block tree s body) names b.1)
     form_local s line (while_form test body) lo k scope names e w =
-        let both = and_parts (is_local_expression m test) (is_local_block m body) lo in
+        let both = and_parts (is_handing_expression m test) (is_handing_block m body) lo in
         let parts = told_of_form tree task s sound scope (while_form test body) e in
         let told = (option_or_parts (first_in_expression tree task s test) _ parts.2).0 in
-        let t = test_local tree task sound local m params result s line test both.0 (kept_left (parts_of_expression test) (parts_of_block body) k) scope names told
+        let t = test_local handing tree task sound sound_task local m params result s line test both.0 (kept_left (parts_of_expression test) (parts_of_block body) k) scope names told
         (first_stands s.known (stands (known_type tree s test) truth_spot) [] parts.4).0 in
-        ((t.0, t.1, block_local s line body both.1 (kept_right (parts_of_expression test) (parts_of_block body) k) scope names w), names)
+        let b = block_local s line body both.1 (kept_right (parts_of_expression test) (parts_of_block body) k) scope names w in
+        ((t.0, t.1, b.0), behind s (scope_after_block tree s body) names b.1)
     form_local s line (for_in_form demanded n domain body) lo k scope names e w =
         let one = and_parts (is_among m.indices n) _ lo in
-        let two = and_parts (is_local_expression m domain) (is_local_block m body) one.1 in
+        let two = and_parts (is_handing_expression m domain) (is_handing_block m body) one.1 in
         let parts = told_of_form tree task s sound scope (for_in_form demanded n domain body) e in
         let told = (option_or_parts (first_in_expression tree task s domain) _ parts.2).0 in
-        let d = domain_local tree task sound local m params result s line domain two.0 (kept_left (parts_of_expression domain) (parts_of_block body) k) scope names told
+        let d = domain_local handing tree task sound sound_task local m params result s line domain two.0 (kept_left (parts_of_expression domain) (parts_of_block body) k) scope names told
         (first_stands s.known (stands (known_type tree s domain) domain_spot) [] parts.4).0 in
         let inner = loop_scope tree task sound s demanded n domain body scope e in
         let ty = taken_from (type_of tree s domain) in
-        let block = block_local (with_name s n ty true) line body two.1 (kept_right (parts_of_expression domain) (parts_of_block body) k)
-        (subst IsSoundScope inner.0 inner.1) (kept_index ty (index_taken (type_of tree s domain) d.0) one.0, names)
+        let first = with_name s n ty true in
+        let block = block_local first line body two.1 (kept_right (parts_of_expression domain) (parts_of_block body) k)
+        (subst IsSoundScope inner.0 inner.1)
+        (record { names = (kept_index ty (index_taken (type_of tree s domain) d.0) one.0, names.names); head = head_looping tree task s n ty names.head })
         (subst (λ u. first_in_block tree task u body ≡ None) inner.0 w) in
-        ((d.0, d.1, block), names)
+        ((d.0, d.1, block.0), behind s (scope_after_block tree first body) names block.1)
     form_local s line (for_to_form demanded n from to body) lo k scope names e w =
-        let one = and_parts (is_local_expression m from) _ lo in
-        let two = and_parts (is_local_expression m to) (is_local_block m body) one.1 in
+        let one = and_parts (is_handing_expression m from) _ lo in
+        let two = and_parts (is_handing_expression m to) (is_handing_block m body) one.1 in
         let k2 = kept_right (parts_of_expression from) (parts_of_expression to ++ parts_of_block body) k in
         let parts = told_of_form tree task s sound scope (for_to_form demanded n from to body) e in
         let first = option_or_parts (first_in_expression tree task s from) _ parts.2 in
         let second = option_or_parts (first_in_expression tree task s to) _ first.1 in
         let standing = first_stands s.known (stands (known_type tree s from) integer_spot) (stands (known_type tree s to) integer_spot ∷ []) parts.4 in
-        let a = bound_local tree task sound local m params result s line from one.0
+        let a = bound_local handing tree task sound sound_task local m params result s line from one.0
         (kept_left (parts_of_expression from) (parts_of_expression to ++ parts_of_block body) k) scope names first.0 standing.0 in
-        let b = bound_local tree task sound local m params result s line to two.0 (kept_left (parts_of_expression to) (parts_of_block body) k2) scope names second.0
+        let b = bound_local handing tree task sound sound_task local m params result s line to two.0 (kept_left (parts_of_expression to) (parts_of_block body) k2) scope names second.0
         (first_stands s.known (stands (known_type tree s to) integer_spot) [] standing.1).0 in
         let inner = count_scope tree task sound s demanded n from to body scope e in
         let ty = arithmetic_type (type_of tree s from) (type_of tree s to) in
-        let block = block_local (with_name s n ty true) line body two.1 (kept_right (parts_of_expression to) (parts_of_block body) k2)
-        (subst IsSoundScope inner.0 inner.1) (kept_scalar ty (sum_scalar (type_of tree s from) (type_of tree s to) a.0 b.0), names)
+        let loop = with_name s n ty true in
+        let block = block_local loop line body two.1 (kept_right (parts_of_expression to) (parts_of_block body) k2)
+        (subst IsSoundScope inner.0 inner.1)
+        (record { names = (kept_scalar ty (sum_scalar (type_of tree s from) (type_of tree s to) a.0 b.0), names.names); head = head_looping tree task s n ty names.head })
         (subst (λ u. first_in_block tree task u body ≡ None) inner.0 w) in
-        ((a.0, b.0, a.1, b.1, block), names)
+        ((a.0, b.0, a.1, b.1, block.0), behind s (scope_after_block tree loop body) names block.1)
     form_local s line (if_form arms other) lo k scope names e w =
-        let both = and_parts (are_local_arms m arms) (is_local_else m other) lo in
+        let both = and_parts (are_handing_arms m arms) (is_handing_else m other) lo in
         let parts = told_of_form tree task s sound scope (if_form arms other) e in
         let next = else_next tree task sound s arms other scope w in
         let a = arms_local s s line arms both.0 (kept_left (parts_of_arms arms) (parts_of_otherwise other) k) scope names scope names next.0 parts.2 parts.4 in
         let o = else_local (scope_after_arms tree s arms) line other both.1 (kept_right (parts_of_arms arms) (parts_of_otherwise other) k)
-        next.1 a.1 next.2 in
-        ((a.0, o), subst (AllKept m) (sym (else_names tree (scope_after_arms tree s arms) other ∙ arms_names tree s arms)) names)
+        next.1 a.1 next.2 in (
+          (a.0, o.0),
+          record {
+            names = subst (AllKept m) (sym (else_names tree (scope_after_arms tree s arms) other ∙ arms_names tree s arms)) names.names;
+            head = o.1;
+          },
+        )
 
-    arms_local : (own s : Scope) (line : ℕ) (arms : Arms) → are_local_arms m arms ≡ true → AreKept (parts_of_arms arms) → IsSoundScope own →
-        AllKept m own.names → IsSoundScope s → AllKept m s.names → first_in_arms tree task s arms ≡ None →
+    arms_local : (own s : Scope) (line : ℕ) (arms : Arms) → are_handing_arms m arms ≡ true → AreKept (parts_of_arms arms) → IsSoundScope own →
+        Ready own → IsSoundScope s → Ready s → first_in_arms tree task s arms ≡ None →
         first_in (first_in_expression tree task own) (tests_of arms) ≡ None →
         list_any (is_ill_typed_at_place own.known) (all_stand tree own truth_spot (tests_of arms)) ≡ false →
-        AreTypedArms call_forms (here own line) (here s line) arms × AllKept m (scope_after_arms tree s arms).names
+        AreTypedArms forms (here own line) (here s line) arms × Ready (scope_after_arms tree s arms)
     arms_local own s line no_arm lo k oscope onames scope names e heads standing = (tt, names)
     arms_local own s line (an_arm test body rest) lo k oscope onames scope names e heads standing =
-        let one = and_parts (is_local_expression m test) _ lo in
-        let two = and_parts (is_local_block m body) (are_local_arms m rest) one.1 in
+        let one = and_parts (is_handing_expression m test) _ lo in
+        let two = and_parts (is_handing_block m body) (are_handing_arms m rest) one.1 in
         let k2 = kept_right (parts_of_expression test) (parts_of_block body ++ parts_of_arms rest) k in
         let tests = option_or_parts (first_in_expression tree task own test) _ heads in
         let stood = first_stands own.known (stands (known_type tree own test) truth_spot) (all_stand tree own truth_spot (tests_of rest)) standing in
         let next = arm_next tree task sound s test body rest scope e in
-        let t = test_local tree task sound local m params result own line test one.0
+        let t = test_local handing tree task sound sound_task local m params result own line test one.0
         (kept_left (parts_of_expression test) (parts_of_block body ++ parts_of_arms rest) k) oscope onames tests.0 stood.0 in
         let b = block_local s line body two.0 (kept_left (parts_of_block body) (parts_of_arms rest) k2) scope names next.0 in
         let r = arms_local own (past s (scope_after_block tree s body)) line rest two.1 (kept_right (parts_of_block body) (parts_of_arms rest) k2)
-        oscope onames next.1 names next.2 tests.1 stood.1 in
-        ((t.0, t.1, b, r.0), r.1)
+        oscope onames next.1 (behind s (scope_after_block tree s body) names b.1) next.2 tests.1 stood.1 in
+        ((t.0, t.1, b.0, r.0), r.1)
 
-    else_local : (s : Scope) (line : ℕ) (other : Otherwise) → is_local_else m other ≡ true → AreKept (parts_of_otherwise other) → IsSoundScope s →
-        AllKept m s.names → first_in_else tree task s other ≡ None → IsTypedElse call_forms (here s line) other
-    else_local s line no_else lo k scope names e = tt
-    else_local s line (else_block body) lo k scope names e = block_local s line body lo k scope names e
+    else_local : (s : Scope) (line : ℕ) (other : Otherwise) → is_handing_else m other ≡ true → AreKept (parts_of_otherwise other) → IsSoundScope s →
+        Ready s → first_in_else tree task s other ≡ None → IsTypedElse forms (here s line) other × KnowsHead tree task (scope_after_else tree s other)
+    else_local s line no_else lo k scope names e = (tt, names.head)
+    else_local s line (else_block body) lo k scope names e =
+        let b = block_local s line body lo k scope names e in (b.0, head_past tree task s (scope_after_block tree s body) b.1)
 
-    pub block_local : (s : Scope) (line : ℕ) (body : Block) → is_local_block m body ≡ true → AreKept (parts_of_block body) → IsSoundScope s →
-        AllKept m s.names → first_in_block tree task s body ≡ None → IsTypedBlock call_forms (here s line) body
-    block_local s line no_statement lo k scope names e = tt
+    pub block_local : (s : Scope) (line : ℕ) (body : Block) → is_handing_block m body ≡ true → AreKept (parts_of_block body) → IsSoundScope s →
+        Ready s → first_in_block tree task s body ≡ None → BlockTyped s line body
+    block_local s line no_statement lo k scope names e = (tt, names.head)
     block_local s line (then_statement (a_statement at_line form) rest) lo k scope names e =
-        let both = and_parts (is_local_form m form) (is_local_block m rest) lo in
+        let both = and_parts (is_handing_form m form) (is_handing_block m rest) lo in
         let k2 = kept_behind node (parts_of_form form ++ parts_of_block rest) k in
         let next = block_next tree task sound s at_line form rest scope e in
         let f = form_local s at_line form both.0 (kept_left (parts_of_form form) (parts_of_block rest) k2) scope names next.0 next.1 in
-        (f.0, block_local (scope_after tree s form) line rest both.1 (kept_right (parts_of_form form) (parts_of_block rest) k2) next.2 f.1 next.3)
+        let r = block_local (scope_after tree s form) line rest both.1 (kept_right (parts_of_form form) (parts_of_block rest) k2) next.2 f.1 next.3 in
+        ((f.0, r.0), r.1)

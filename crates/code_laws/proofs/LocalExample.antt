@@ -23,7 +23,7 @@ keeps_limit (literal (pos n) w) e = (n, refl, leb-true n (greatest_literal w) e)
 keeps_limit (literal (negsuc n) w) e = absurd cc
 keeps_limit (counted what n) e = leb-true n (most what) e
 
-all_keep : (ps : List Part) → list_all keeps ps ≡ true → All KeepsLimit ps
+pub all_keep : (ps : List Part) → list_all keeps ps ≡ true → All KeepsLimit ps
 all_keep ps e k d low = keeps_limit _ (AllPass-from_list_all keeps ps e k d low)
 
 within : WithinLimits local_program

@@ -1,15 +1,15 @@
 -- What names stand for in a text whose names of regions and indices are marked, and the fields of such regions.
-use Rattle.std.proofs.Common.{◌≡◌, Bool, List, [], ◌∷◌, None, false, true, refl, ap, sym, subst, ℕ, suc, ◌+◌, ◌<◌, ◌≤◌, ◌∙◌, cond, not, arith}
-use Rattle.std.specs.Prelude.{bytes_eq, length, ◌||◌}
-use Rattle.std.specs.List.{list_any, position_or_len}
+use Rattle.std.proofs.Common.{◌≡◌, Bool, List, [], ◌∷◌, None, false, true, refl, ap, sym, subst, ℕ, ◌<◌, ◌≤◌, ◌∙◌, cond, not}
+use Rattle.std.specs.Prelude.{Some, bytes_eq, length, slice_get, ◌||◌}
 use Rattle.std.proofs.lemmas.Bool.{not-false}
 use Rattle.std.proofs.lemmas.Slice.Eq.{bytes_eq-Decides}
 use Rattle.plain_values.proofs.Plain.{option_or_parts}
 use Rattle.regent_tree.specs.Accesses.{args_in, space_in}
 use Rattle.regent_tree.specs.Lookup.{has_field, has_task, is_bound}
 use Rattle.regent_tree.specs.Scopes.{bound_to}
+use Rattle.regent_tree.proofs.Members.{Has}
 use Rattle.regent_tree.specs.StaticTypes.{Reach, among_args, field_kind, field_place, field_term, field_type, space_at, task_named}
-use Rattle.regent_tree.specs.Syntax.{Expression, Name, Tree}
+use Rattle.regent_tree.specs.Syntax.{Expression, Name, TaskTree, Tree}
 use Rattle.regent_tree.specs.Typing.{param_types, type_of_element, type_of_field}
 use Rattle.regent_tree.specs.declared.facts.Term.TheVariants as place
 use Rattle.regent_tree.specs.declared.types.Kind.{Kind}
@@ -22,7 +22,8 @@ use Rattle.check_rules.specs.first.Rules.{first_in}
 use Rattle.check_rules.specs.rules.Names.{is_unknown_field}
 use Rattle.check_rules.specs.rules.Standing.{standing_in_step}
 use Rattle.check_rules.specs.rules.Types.{is_ill_typed_step}
-use Rattle.check_rules.specs.scopes.Sound.{IsSound}
+use Rattle.check_rules.specs.rules.Privileges.{fields_named}
+use Rattle.check_rules.specs.scopes.Sound.{IsSound, StandsIn}
 use Rattle.check_rules.specs.types.Declarations.{is_flawed_field, known_field}
 use Rattle.check_rules.specs.types.Lookup.{region_has}
 use Rattle.check_rules.specs.types.KnownTypes.{known_type_after_step}
@@ -37,9 +38,12 @@ use Rattle.code_rules.specs.Slots.{Where, bound, slot, slot_bound, slot_named, s
 use Rattle.scalar_form.specs.ScalarForm.{is_scalar_if_said, is_scalar_term}
 use Rattle.local_form.specs.LocalForm.{Marked, is_among}
 use Rattle.code_laws.specs.Simple.{FieldFits, IsInteger, IsRegion, IsScalar, IsSimple, a_region_type, simple_index, simple_integer, simple_space, simple_truth}
-use Rattle.code_laws.specs.Typed.{GoesThrough, IsCalled, IsField, element_field}
-use Rattle.code_laws.proofs.LocalTypes.{simple_as_integer, simple_is_no_region, simple_no_partition, term_fits, term_scalar}
+use Rattle.code_rules.specs.Instructions.{place_of_task, tasks_of}
+use Rattle.code_rules.specs.Programs.{task_code}
+use Rattle.code_laws.specs.Typed.{GoesThrough, IsField, element_field}
+use Rattle.code_laws.proofs.LocalTypes.{IsTakable, simple_as_integer, simple_is_no_region, simple_no_partition, term_fits, term_scalar}
 use Rattle.code_laws.proofs.Typing.{no_way, no_way_back}
+pub use Rattle.code_laws.proofs.Typing.{first_below}
 use Rattle.code_laws.proofs.Values.{scalar_simple}
 
 -- ---- what a program has
@@ -48,17 +52,29 @@ abbrev pub AreScalars : List StaticType → Type 0
 AreScalars [] = Unit {0}
 AreScalars (t ∷ ts) = IsScalar t × AreScalars ts
 
--- a task that is called takes and gives numbers and truths
-pub record IsLocalTask (tree : Tree) (n : Name) : Type 0 where
-  pub called : IsCalled tree n
-  pub params : AreScalars (param_types tree (task_named tree n))
-  pub result : is_scalar_if_said (task_named tree n).result ≡ true
+abbrev pub AreTakable : List StaticType → Type 0
+AreTakable [] = Unit {0}
+AreTakable (t ∷ ts) = IsTakable t × AreTakable ts
 
--- fields are numbers and truths, and few; and tasks are such
-pub record IsLocalTree (tree : Tree) : Type 0 where
+-- where no regions are handed over, a task takes numbers and truths, and needs nothing
+pub record IsAlone (tree : Tree) (t : TaskTree) : Type 0 where
+  pub needs : (task_code tree t).needs ≡ []
+  pub params : AreScalars (param_types tree t)
+
+-- a task that is called takes numbers, truths and regions, and gives numbers and truths
+pub record IsLocalTask (handing : Bool) (tree : Tree) (n : Name) : Type 0 where
+  pub stands : StandsIn tree (task_named tree n)
+  pub called : slice_get (tasks_of tree) (place_of_task tree n) ≡ Some (task_named tree n)
+  pub params : AreTakable (param_types tree (task_named tree n))
+  pub result : is_scalar_if_said (task_named tree n).result ≡ true
+  pub alone : handing ≡ false → IsAlone tree (task_named tree n)
+
+-- fields are numbers and truths, few, and each has a name of its own; and tasks are such
+pub record IsLocalTree (handing : Bool) (tree : Tree) : Type 0 where
   pub fields : (sp i : ℕ) → is_scalar_term (field_term tree sp i) ≡ true
   pub few : (sp : ℕ) → length (space_at tree sp).fields ≤ 256
-  pub tasks : (n : Name) → has_task tree n ≡ true → IsLocalTask tree n
+  pub named : (sp i : ℕ) → i < length (space_at tree sp).fields → Has (fields_named tree sp None) i
+  pub tasks : (n : Name) → has_task tree n ≡ true → IsLocalTask handing tree n
 
 -- ---- names
 
@@ -109,19 +125,10 @@ module _ (m : Marked) where
 
 -- ---- fields at points
 
--- the first that passes is one of them
-pub first_below : {A : Type 0} (p : A → Bool) (xs : List A) → list_any p xs ≡ true → position_or_len p xs < length xs
-first_below p [] e = absurd (no_way_back e)
-first_below p (x ∷ xs) e = chosen (p x) e (first_below p xs)
-  where
-    chosen : (b : Bool) → (b || list_any p xs) ≡ true → (list_any p xs ≡ true → position_or_len p xs < length xs) →
-        cond (not b) (1 + position_or_len p xs) 0 < suc (length xs)
-    chosen true e more = omega (arith)
-    chosen false e more = omega (arith, more e)
-
 -- a field at a point of something of a type that is bound with a number
 pub record IsPlace (w : Where) (i : ℕ) (t : StaticType) (e : Expression) (f : Name) : Type 0 where
   pub region : IsRegion t
+  pub there : has_field w.tree (space_in t) f ≡ true
   pub through : (own : ℕ) → slots_of w own (type_of_element w.scope t e) ≡ slot_bound w i ∷ []
   pub field : field_place w.tree (space_in t) f < length (space_at w.tree (space_in t)).fields
   pub keeps : FieldFits (field_kind w.tree (space_in t) (field_place w.tree (space_in t) f)) (type_of_field w.tree (type_of_element w.scope t e) f)
@@ -139,7 +146,7 @@ taking_told tree taking e =
     let c = option_or_parts _ _ b.1 in
     (rule_none (is_unknown_field tree taking) rule.Name a.0, rule_none (is_ill_typed_step taking) rule.Type b.0, c.0)
 
-module _ (w : Where) (sound : IsSound w.tree) (local : IsLocalTree w.tree) (m : Marked) where
+module _ (handing : Bool) (w : Where) (sound : IsSound w.tree) (local : IsLocalTree handing w.tree) (m : Marked) where
   -- an element is taken of a region
   taken : (n : Name) (i : ℕ) (t at : StaticType) → IsKept m n i t → first_of_taking w.tree (element_of t at) ≡ None →
       may_be (λ u. is_region u || is_partition u) t ≡ true
@@ -168,6 +175,7 @@ module _ (w : Where) (sound : IsSound w.tree) (local : IsLocalTree w.tree) (m : 
       let term = field_term w.tree sp (field_place w.tree sp f) in
       let says = local.fields sp (field_place w.tree sp f) in record {
         region = a_region_type k sp args (place.Name i);
+        there = there;
         through = λ own. refl;
         field = first_below (λ (p : Param). bytes_eq p.name f) (space_at w.tree sp).fields there;
         keeps = term_fits term says w.tree (among_args (space_at w.tree sp).params args) 0;
@@ -195,12 +203,13 @@ kept_integer m n i _ (kept_region k sp args h) e = absurd (no_way_back e)
 -- a field of a region of a type
 pub record IsFieldOf (tree : Tree) (t : StaticType) (f : Name) : Type 0 where
   pub region : IsRegion t
+  pub there : has_field tree (space_in t) f ≡ true
   pub field : field_place tree (space_in t) f < length (space_at tree (space_in t)).fields
   pub keeps : FieldFits (field_kind tree (space_in t) (field_place tree (space_in t) f)) (field_type tree (space_in t) (args_in t) f)
   pub scalar : IsScalar (field_type tree (space_in t) (args_in t) f)
   pub known : known_field tree t f ≡ field_type tree (space_in t) (args_in t) f
 
-module _ (tree : Tree) (sound : IsSound tree) (local : IsLocalTree tree) (m : Marked) (n : Name) (i : ℕ) where
+module _ (handing : Bool) (tree : Tree) (sound : IsSound tree) (local : IsLocalTree handing tree) (m : Marked) (n : Name) (i : ℕ) where
   pub region_is : (t : StaticType) → IsKept m n i t → may_be is_region t ≡ true → IsRegion t
   region_is t (kept_scalar _ a) e = absurd (no_way (sym e ∙ simple_is_no_region t (scalar_simple t a)))
   region_is t (kept_index _ a h) e = absurd (no_way (sym e ∙ simple_is_no_region t a))
@@ -213,6 +222,7 @@ module _ (tree : Tree) (sound : IsSound tree) (local : IsLocalTree tree) (m : Ma
       let term = field_term tree sp (field_place tree sp f) in
       let says = local.fields sp (field_place tree sp f) in record {
         region = a_region_type k sp args (place.Name i);
+        there = has;
         field = first_below (λ (p : Param). bytes_eq p.name f) (space_at tree sp).fields has;
         keeps = term_fits term says tree (among_args (space_at tree sp).params args) 0;
         scalar = term_scalar term says tree (among_args (space_at tree sp).params args) 0;

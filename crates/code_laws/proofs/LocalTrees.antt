@@ -1,27 +1,40 @@
--- What an accepted program has whose tasks keep their regions to themselves: its field spaces and its tasks.
-use Rattle.std.proofs.Common.{◌≡◌, List, [], ◌∷◌, ◌++◌, Some, true, refl, ap, sym, subst, ◌∙◌, ℕ, zero, suc, ◌≤◌, inl, inr, arith}
-use Rattle.std.specs.Prelude.{get_or, length, map, slice_get}
-use Rattle.std.proofs.lemmas.Bool.{and_parts}
+-- What an accepted program has whose tasks hand regions over by name: its field spaces and its tasks.
+use Rattle.std.proofs.Common.{◌≡◌, Bool, List, [], ◌∷◌, ◌++◌, Some, true, false, refl, ap, sym, subst, ◌∙◌, ℕ, zero, suc, ◌≤◌, ◌<◌, ◌+◌, inl, inr, arith, cond}
+use Rattle.std.specs.Prelude.{bytes_eq, get_or, length, map, slice_get, ◌||◌}
+use Rattle.std.specs.List.{list_any}
+use Rattle.std.proofs.lemmas.Bool.{and_parts, or_parts}
 use Rattle.std.proofs.lemmas.Option.{none-some, same_Some}
-use Rattle.regent_tree.proofs.Members.{Has}
+use Rattle.std.proofs.lemmas.Slice.Eq.{bytes_eq-Decides}
+use Rattle.plain_values.proofs.Plain.{option_or_parts}
+use Rattle.regent_tree.proofs.Members.{Contains-from_Has, Has, Has-append_left, Has-append_right, Has-from_list_any, Has-map, list_any-from_Has}
 use Rattle.regent_tree.specs.Limits.{WithinLimits, counted, parts_of_item, parts_of_program}
 use Rattle.regent_tree.specs.Scopes.{bound_params, scope_of}
-use Rattle.regent_tree.specs.StaticTypes.{spaces_of, task_named}
-use Rattle.regent_tree.specs.Syntax.{ItemForm, ItemTree, TaskTree, Tree, alias_item, import_item, space_item, start_item, task_item}
+use Rattle.regent_tree.specs.StaticTypes.{Looking, among_params, looked_up, place_in, place_of_space, space_at, spaces_of, task_named, type_said}
+use Rattle.regent_tree.specs.Syntax.{ItemForm, ItemTree, Name, TaskTree, Tree, alias_item, import_item, space_item, start_item, task_item}
 use Rattle.regent_tree.specs.declared.limits.Counted.TheVariants.{Fields}
 use Rattle.regent_tree.specs.declared.program.FieldSpace.{FieldSpace}
 use Rattle.regent_tree.specs.declared.types.Param.{Param}
+use Rattle.regent_tree.specs.declared.types.TypeTerm.{TypeTerm}
 use Rattle.regent_tree.specs.declared.types.TypeTerm.TheVariants as term
 use Rattle.regent_tree.specs.declared.typing.Bound.{Bound}
 use Rattle.regent_tree.specs.declared.typing.StaticType.{StaticType}
+use Rattle.check_laws.proofs.Entries.{no_line, none_left}
+use Rattle.check_laws.proofs.Parameters.{place_step}
+use Rattle.check_laws.proofs.Trees.{declared_none, none_of}
+use Rattle.check_rules.specs.Breaches.{breaches}
+use Rattle.check_rules.specs.declared.rule.Rule.TheVariants as rule
+use Rattle.check_rules.specs.first.FirstInItems.{first_declared, first_line}
+use Rattle.check_rules.specs.rules.Repeats.{Given, given_by, repeats, repeats_after, repeats_within, was_given}
+use Rattle.check_rules.specs.scopes.Sound.{StandsIn}
 use Rattle.code_rules.specs.Instructions.{tasks_of}
-use Rattle.local_form.specs.LocalForm.{Marked, are_scalar_params, is_local_block, is_local_item, is_local_program, is_local_task, marked_in, unmarked}
-use Rattle.code_laws.specs.Simple.{IsScalar}
-use Rattle.code_laws.proofs.LocalNames.{AllKept, AreScalars, IsLocalTree, kept_scalar}
-use Rattle.code_laws.proofs.LocalTypes.{term_scalar}
+use Rattle.local_form.specs.LocalForm.{Marked, are_scalar_params, is_among, marked_in, unmarked, with_region}
+use Rattle.code_laws.specs.HandingForm.{are_handing_params, is_handing_block, is_handing_item, is_handing_program, is_handing_task, is_region_term, marked_by_task, marked_params}
+use Rattle.code_laws.specs.Simple.{IsScalar, a_region_type, scalar_truth}
+use Rattle.code_laws.proofs.LocalNames.{AllKept, AreScalars, AreTakable, IsAlone, IsKept, IsLocalTree, kept_region, kept_scalar}
+use Rattle.code_laws.proofs.LocalTypes.{IsTakable, takable_region, takable_scalar, term_scalar}
 use Rattle.code_laws.proofs.Openings.{types_cons, types_in}
 use Rattle.code_laws.proofs.Entries.{all_of, found, kept_all, kept_item, no_clauses}
-use Rattle.code_laws.proofs.Typing.{AllScalar, AreKept}
+use Rattle.code_laws.proofs.Typing.{AllScalar, AreKept, no_way_back}
 use Rattle.scalar_form.specs.ScalarForm.{is_empty, is_scalar_if_said, is_scalar_term}
 
 -- ---- field spaces
@@ -71,31 +84,118 @@ task_stands (i ∷ items) k t e = by_form i.line i.form refl (task_stands items)
     by_form line (task_item u) same more zero e = (i, inl refl, same ∙ ap task_item (same_Some u t e))
     by_form line (task_item u) same more (suc k) e = let m = more k t e in (m.0, inr m.1, m.2)
 
--- the parts of a task that keeps its regions to itself
-pub record IsLocal (t : TaskTree) : Type 0 where
-  pub params : are_scalar_params t.params ≡ true
+-- a task that is an item stands in the program
+pub item_stands : (tree : Tree) (i : ItemTree) → Has tree i → (t : TaskTree) → i.form ≡ task_item t → StandsIn tree t
+item_stands tree i h t same = Contains-from_Has (map (λ (i : ItemTree). i.form) tree) (task_item t)
+    (subst (Has (map (λ (i : ItemTree). i.form) tree)) same (Has-map (λ (i : ItemTree). i.form) tree i h))
+
+-- the parts of a task that hands regions over
+pub record IsHandingTask (t : TaskTree) : Type 0 where
+  pub params : are_handing_params t.params ≡ true
   pub result : is_scalar_if_said t.result ≡ true
-  pub clauses : is_empty t.clauses ≡ true
-  pub body : is_local_block (marked_in t.body unmarked) t.body ≡ true
+  pub body : is_handing_block (marked_by_task t) t.body ≡ true
 
-pub task_local : (t : TaskTree) → is_local_task t ≡ true → IsLocal t
-task_local t e =
-    let one = and_parts (are_scalar_params t.params) _ e in
-    let two = and_parts (is_scalar_if_said t.result) _ one.1 in
-    let three = and_parts (is_empty t.clauses) (is_local_block (marked_in t.body unmarked) t.body) two.1 in
-    record { params = one.0; result = two.0; clauses = three.0; body = three.1 }
+task_handing : (t : TaskTree) → is_handing_task t ≡ true → IsHandingTask t
+task_handing t e =
+    let one = and_parts (are_handing_params t.params) _ e in
+    let two = and_parts (is_scalar_if_said t.result) (is_handing_block (marked_by_task t) t.body) one.1 in
+    record { params = one.0; result = two.0; body = two.1 }
 
-pub item_local : (tree : Tree) → is_local_program tree ≡ true → (i : ItemTree) → Has tree i → (t : TaskTree) → i.form ≡ task_item t → IsLocal t
-item_local tree e i h t same =
-    task_local t (subst (λ form. is_local_item form ≡ true) same (all_of (λ i. is_local_item i.form) tree e i h))
+pub item_handing : (tree : Tree) → is_handing_program tree ≡ true → (i : ItemTree) → Has tree i → (t : TaskTree) → i.form ≡ task_item t → IsHandingTask t
+item_handing tree e i h t same =
+    task_handing t (subst (λ form. is_handing_item form ≡ true) same (all_of (λ i. is_handing_item i.form) tree e i h))
 
 -- ---- parameters
+
+left_alone : (b : Bool) → (b || false) ≡ true → b ≡ true
+left_alone true e = refl
+left_alone false e = e
+
+-- what a parameter takes, by its type
+term_takable : (t : TypeTerm) → (is_scalar_term t || is_region_term t) ≡ true → (tree : Tree) (look : Looking) (own : ℕ) → IsTakable (type_said tree look own t)
+term_takable (term.Region k u) e tree look own = takable_region _ (a_region_type k _ _ _)
+term_takable (term.Number n) e tree look own = takable_scalar _ (term_scalar (term.Number n) (left_alone _ e) tree look own)
+term_takable term.Truth e tree look own = takable_scalar _ scalar_truth
+term_takable (term.Pointer p) e tree look own = absurd (no_way_back e)
+term_takable (term.Ispace k) e tree look own = absurd (no_way_back e)
+term_takable (term.Partition d r c) e tree look own = absurd (no_way_back e)
+
+-- the marks of parameters
+marked_later : (ps : List Param) (m : Marked) (n : Name) → is_among m.regions n ≡ true → is_among (marked_params ps m).regions n ≡ true
+marked_later [] m n h = h
+marked_later (p ∷ ps) m n h = marked_later ps (cond (is_region_term p.term) (with_region p.name m) m) n (chosen (is_region_term p.term))
+  where
+    chosen : (b : Bool) → is_among (cond b (with_region p.name m) m).regions n ≡ true
+    chosen true =
+        let found = Has-from_list_any (λ k. bytes_eq k n) m.regions h in
+        list_any-from_Has (λ k. bytes_eq k n) (m.regions ++ p.name ∷ []) found.0 (Has-append_left m.regions (p.name ∷ []) found.0 found.1) found.2
+    chosen false = h
+
+marked_region : (ps : List Param) (m : Marked) (p : Param) → Has ps p → is_region_term p.term ≡ true → is_among (marked_params ps m).regions p.name ≡ true
+marked_region [] m p h e = absurd h
+marked_region (q ∷ ps) m p (inr h) e = marked_region ps (cond (is_region_term q.term) (with_region q.name m) m) p h e
+marked_region (q ∷ ps) m p (inl same) e =
+    let here : is_region_term q.term ≡ true = ap (λ (x : Param). is_region_term x.term) same ∙ e in
+    marked_later ps (cond (is_region_term q.term) (with_region q.name m) m) p.name
+    (subst (λ b. is_among (cond b (with_region q.name m) m).regions p.name ≡ true) (sym here)
+    (list_any-from_Has (λ k. bytes_eq k p.name) (m.regions ++ q.name ∷ []) q.name (Has-append_right m.regions (q.name ∷ []) q.name (inl refl))
+    ((bytes_eq-Decides q.name p.name).1 (ap (λ (x : Param). x.name) same))))
+
+module _ (tree : Tree) (all : List Param) (m : Marked) where
+  -- a parameter is kept as what its mark says
+  param_kept : (p : Param) (i : ℕ) (t : TypeTerm) → p.term ≡ t → (is_scalar_term t || is_region_term t) ≡ true →
+      (is_region_term p.term ≡ true → is_among m.regions p.name ≡ true) → IsKept m p.name i (type_said tree (among_params all) i t)
+  param_kept p i (term.Region k u) same e marked =
+      kept_region k (place_of_space tree u.name) (map (looked_up (among_params all)) u.args) (marked (ap is_region_term same))
+  param_kept p i (term.Number n) same e marked = kept_scalar _ (term_scalar (term.Number n) (left_alone _ e) tree (among_params all) i)
+  param_kept p i term.Truth same e marked = kept_scalar _ scalar_truth
+  param_kept p i (term.Pointer q) same e marked = absurd (no_way_back e)
+  param_kept p i (term.Ispace k) same e marked = absurd (no_way_back e)
+  param_kept p i (term.Partition d r c) same e marked = absurd (no_way_back e)
+
+  kept_behind_all : (bs : List Bound) (b : Bound) → AllKept m bs → IsKept m b.name b.number b.static_type → AllKept m (bs ++ b ∷ [])
+  kept_behind_all [] b a k = (k, tt)
+  kept_behind_all (c ∷ bs) b a k = (a.0, kept_behind_all bs b a.1 k)
+
+  pub params_kept : (i : ℕ) (ps : List Param) → are_handing_params ps ≡ true →
+      ((p : Param) → Has ps p → is_region_term p.term ≡ true → is_among m.regions p.name ≡ true) → AllKept m (bound_params tree all i ps)
+  params_kept i [] e marked = tt
+  params_kept i (p ∷ ps) e marked =
+      let both = and_parts (is_scalar_term p.term || is_region_term p.term) (are_handing_params ps) e in
+      kept_behind_all (bound_params tree all (suc i) ps) _ (params_kept (suc i) ps both.1 (λ q h. marked q (inr h)))
+      (param_kept p i p.term refl both.0 (marked p (inl refl)))
+
+-- so where a task begins
+pub begins_kept : (tree : Tree) (t : TaskTree) → are_handing_params t.params ≡ true → AllKept (marked_by_task t) (scope_of tree t).names
+begins_kept tree t e = params_kept tree t.params (marked_by_task t) 0 t.params e (λ p h r. marked_region t.params (marked_in t.body unmarked) p h r)
+
+abbrev AllTakable : List Bound → Type 0
+AllTakable [] = Unit {0}
+AllTakable (b ∷ bs) = IsTakable b.static_type × AllTakable bs
+
+takable_behind : (bs : List Bound) (b : Bound) → AllTakable bs → IsTakable b.static_type → AllTakable (bs ++ b ∷ [])
+takable_behind [] b a i = (i, tt)
+takable_behind (c ∷ bs) b a i = (a.0, takable_behind bs b a.1 i)
+
+params_takable : (tree : Tree) (all : List Param) (i : ℕ) (ps : List Param) → are_handing_params ps ≡ true → AllTakable (bound_params tree all i ps)
+params_takable tree all i [] e = tt
+params_takable tree all i (p ∷ ps) e =
+    let both = and_parts (is_scalar_term p.term || is_region_term p.term) (are_handing_params ps) e in
+    takable_behind (bound_params tree all (suc i) ps) _ (params_takable tree all (suc i) ps both.1) (term_takable p.term both.0 tree (among_params all) i)
+
+takable_types_behind : (ts : List StaticType) (t : StaticType) → AreTakable ts → IsTakable t → AreTakable (ts ++ t ∷ [])
+takable_types_behind [] t a i = (i, tt)
+takable_types_behind (u ∷ ts) t a i = (a.0, takable_types_behind ts t a.1 i)
+
+types_takable : (bs : List Bound) → AllTakable bs → AreTakable (types_in bs)
+types_takable [] a = tt
+types_takable (b ∷ bs) a = subst AreTakable (sym (types_cons b bs)) (takable_types_behind (types_in bs) b.static_type (types_takable bs a.1) a.0)
 
 scalars_behind : (bs : List Bound) (b : Bound) → AllScalar bs → IsScalar b.static_type → AllScalar (bs ++ b ∷ [])
 scalars_behind [] b a i = (i, tt)
 scalars_behind (c ∷ bs) b a i = (a.0, scalars_behind bs b a.1 i)
 
-pub params_scalar : (tree : Tree) (all : List Param) (i : ℕ) (ps : List Param) → are_scalar_params ps ≡ true → AllScalar (bound_params tree all i ps)
+params_scalar : (tree : Tree) (all : List Param) (i : ℕ) (ps : List Param) → are_scalar_params ps ≡ true → AllScalar (bound_params tree all i ps)
 params_scalar tree all i [] e = tt
 params_scalar tree all i (p ∷ ps) e =
     let both = and_parts (is_scalar_term p.term) (are_scalar_params ps) e in
@@ -109,25 +209,76 @@ types_scalar : (bs : List Bound) → AllScalar bs → AreScalars (types_in bs)
 types_scalar [] a = tt
 types_scalar (b ∷ bs) a = subst AreScalars (sym (types_cons b bs)) (types_behind (types_in bs) b.static_type (types_scalar bs a.1) a.0)
 
-pub scalars_kept : (m : Marked) (bs : List Bound) → AllScalar bs → AllKept m bs
-scalars_kept m [] a = tt
-scalars_kept m (b ∷ bs) a = (kept_scalar b.static_type a.0, scalars_kept m bs a.1)
+-- a task that takes numbers and truths, and declares nothing
+pub record TakesScalars (t : TaskTree) : Type 0 where
+  pub params : are_scalar_params t.params ≡ true
+  pub clauses : is_empty t.clauses ≡ true
+
+pub task_alone : (tree : Tree) (t : TaskTree) → TakesScalars t → IsAlone tree t
+task_alone tree t s = record {
+  needs = no_clauses tree t s.clauses;
+  params = types_scalar (scope_of tree t).names (params_scalar tree t.params 0 t.params s.params);
+}
+
+-- ---- the names of fields
+
+abbrev given : Param → Given
+given p = record { name = p.name; line = p.line }
+
+-- a name that is given once is at its own place
+given_apart : (earlier : List Given) (ps : List Param) → repeats_after earlier (given_by ps) ≡ [] → (k : ℕ) (q : Param) → slice_get ps k ≡ Some q →
+    list_any (λ (e : Given). bytes_eq e.name q.name) earlier ≡ false
+given_apart earlier [] e k q at = absurd (none-some q at)
+given_apart earlier (p ∷ ps) e zero q at = chosen (was_given earlier (given p)) refl e
+  where
+    chosen : (b : Bool) → was_given earlier (given p) ≡ b → (cond b (p.line ∷ []) [] ++ repeats_after (given p ∷ earlier) (given_by ps)) ≡ [] →
+        list_any (λ (e : Given). bytes_eq e.name q.name) earlier ≡ false
+    chosen true w e = absurd cc
+    chosen false w e = subst (λ (x : Param). list_any (λ (e : Given). bytes_eq e.name x.name) earlier ≡ false) (same_Some p q at) w
+given_apart earlier (p ∷ ps) e (suc k) q at =
+    let g : Given = record { name = p.name; line = p.line } in
+    let rest = (none_left (cond (was_given earlier g) (p.line ∷ []) []) (repeats_after (g ∷ earlier) (given_by ps)) e).1 in
+    (or_parts (bytes_eq p.name q.name) _ (given_apart (g ∷ earlier) ps rest k q at)).1
+
+own_place : (earlier : List Given) (ps : List Param) → repeats_after earlier (given_by ps) ≡ [] → (k : ℕ) (q : Param) → slice_get ps k ≡ Some q →
+    place_in ps q.name ≡ k
+own_place earlier [] e k q at = absurd (none-some q at)
+own_place earlier (p ∷ ps) e zero q at = place_step p ps q.name true ((bytes_eq-Decides p.name q.name).1 (ap (λ (x : Param). x.name) (same_Some p q at)))
+own_place earlier (p ∷ ps) e (suc k) q at =
+    let g : Given = record { name = p.name; line = p.line } in
+    let rest = (none_left (cond (was_given earlier g) (p.line ∷ []) []) (repeats_after (g ∷ earlier) (given_by ps)) e).1 in
+    let other = (or_parts (bytes_eq p.name q.name) _ (given_apart (g ∷ earlier) ps rest k q at)).0 in
+    let next : 1 + place_in ps q.name ≡ suc (place_in ps q.name) = omega (arith) in
+    place_step p ps q.name false other ∙ next ∙ ap suc (own_place (g ∷ earlier) ps rest k q at)
+
+-- each place of a field is named
+place_named : (all : List Param) (ps : List Param) (k j : ℕ) → k < length ps → ((q : Param) → slice_get ps k ≡ Some q → place_in all q.name ≡ j) →
+    Has (map (λ (p : Param). place_in all p.name) ps) j
+place_named all [] k j low own = absurd (omega (arith, low))
+place_named all (p ∷ ps) zero j low own = inl (own p refl)
+place_named all (p ∷ ps) (suc k) j low own = inr (place_named all ps k j (omega (arith, low)) own)
 
 -- ---- the program
 
-pub local_tree : (tree : Tree) → WithinLimits tree → is_local_program tree ≡ true → IsLocalTree tree
-local_tree tree within e = record {
+pub handing_tree : (handing : Bool) (tree : Tree) → WithinLimits tree → breaches tree ≡ [] → is_handing_program tree ≡ true →
+    (handing ≡ false → (i : ItemTree) → Has tree i → (t : TaskTree) → i.form ≡ task_item t → TakesScalars t) → IsLocalTree handing tree
+handing_tree handing tree within none e alone = record {
   fields = λ sp. term_at_place (get_or (spaces_of tree) sp no_fields).fields
       (space_has (λ (s : FieldSpace). are_scalar_params s.fields ≡ true) refl tree
-      (λ i h s same. subst (λ form. is_local_item form ≡ true) same (all_of (λ i. is_local_item i.form) tree e i h)) sp);
+      (λ i h s same. subst (λ form. is_handing_item form ≡ true) same (all_of (λ i. is_handing_item i.form) tree e i h)) sp);
   few = space_has (λ (s : FieldSpace). length s.fields ≤ 256) (omega (arith)) tree few_in;
+  named = λ sp i low.
+      let once = space_has (λ (s : FieldSpace). repeats (given_by s.fields) ≡ []) refl tree once_in sp in
+      place_named (space_at tree sp).fields (space_at tree sp).fields i i low (own_place [] (space_at tree sp).fields once i);
   tasks = λ n there.
       let f = found n tree there in
-      let t = item_local tree e f.stands.0 f.stands.1 (task_named tree n) f.stands.2 in record {
-        called = (f.at, no_clauses tree (task_named tree n) t.clauses);
-        params = types_scalar (scope_of tree (task_named tree n)).names
-            (params_scalar tree (task_named tree n).params 0 (task_named tree n).params t.params);
+      let t = item_handing tree e f.stands.0 f.stands.1 (task_named tree n) f.stands.2 in record {
+        stands = item_stands tree f.stands.0 f.stands.1 (task_named tree n) f.stands.2;
+        called = f.at;
+        params = types_takable (scope_of tree (task_named tree n)).names
+            (params_takable tree (task_named tree n).params 0 (task_named tree n).params t.params);
         result = t.result;
+        alone = λ q. task_alone tree (task_named tree n) (alone q f.stands.0 f.stands.1 (task_named tree n) f.stands.2);
       };
 }
   where
@@ -137,3 +288,9 @@ local_tree tree within e = record {
         let least : length s.fields ≤ 16 = subst (λ form. AreKept (parts_of_item form)) same (kept_item tree (λ q h. every q (inr (inr h))) i h)
         (counted Fields (length s.fields)) (inl refl) in
         omega (arith, least)
+
+    once_in : (i : ItemTree) → Has tree i → (s : FieldSpace) → i.form ≡ space_item s → repeats (given_by s.fields) ≡ []
+    once_in i h s same =
+        let told = none_of (first_declared tree) tree i (declared_none tree none) h in
+        let twice = no_line rule.Twice (repeats_within i.form) (option_or_parts (first_line rule.Twice (repeats_within i.form)) _ told).0 in
+        (none_left (repeats (given_by s.params)) (repeats (given_by s.fields)) (ap repeats_within (sym same) ∙ twice)).1

@@ -1,10 +1,10 @@
 -- Numbers, truths, indices and index spaces where nothing is told of their types.
-use Rattle.std.proofs.Common.{◌≡◌, Bool, List, false, true, refl, ap, ℕ, ◌∙◌, cond, not, inl, inr, ◌⊎◌, ⊎_elim}
-use Rattle.std.specs.Prelude.{◌||◌, ◌&&◌}
-use Rattle.std.proofs.lemmas.Bool.{and_parts}
+use Rattle.std.proofs.Common.{◌≡◌, Bool, List, false, true, refl, ap, sym, subst, map, ℕ, ◌∙◌, cond, not, inl, inr, ◌⊎◌, ⊎_elim}
+use Rattle.std.specs.Prelude.{◌||◌, ◌&&◌, ◌==◌}
+use Rattle.std.proofs.lemmas.Bool.{and_parts, eqb-true, not-false}
 use Rattle.regent_tree.specs.StaticTypes.{Looking, kind_said, type_said}
 use Rattle.regent_tree.specs.Syntax.{Tree}
-use Rattle.regent_tree.specs.Typing.{are_pointers, counting_as, operated, owned}
+use Rattle.regent_tree.specs.Typing.{are_pointers, counting_as, operated, owned, put}
 use Rattle.regent_tree.specs.declared.expression.Arithmetic.{Arithmetic}
 use Rattle.regent_tree.specs.declared.expression.Comparison.{Comparison}
 use Rattle.regent_tree.specs.declared.expression.Comparison.TheVariants as comparison
@@ -15,16 +15,17 @@ use Rattle.regent_tree.specs.declared.types.NumberTerm.TheVariants as number
 use Rattle.regent_tree.specs.declared.types.TypeTerm.{TypeTerm}
 use Rattle.regent_tree.specs.declared.types.TypeTerm.TheVariants as term
 use Rattle.regent_tree.specs.declared.typing.StaticType.{StaticType}
-use Rattle.regent_tree.specs.declared.typing.StaticType.TheVariants.{Truth as truth_type, Unknown as unknown_type}
+use Rattle.regent_tree.specs.declared.typing.StaticType.TheVariants.{Region as region_type, Truth as truth_type, Unknown as unknown_type}
 use Rattle.check_rules.specs.rules.Standing.{param_spot, stands}
 use Rattle.check_rules.specs.rules.Types.{compares_with, computes_with, has_equality_with, has_order_with, may_stand, operates_on}
-use Rattle.check_rules.specs.types.Fitting.{fits}
+use Rattle.check_rules.specs.rules.Spaces.{differs}
+use Rattle.check_rules.specs.types.Fitting.{fits, is_region_like}
 use Rattle.check_rules.specs.types.KnownTypes.{known_type_after_operator}
-use Rattle.check_rules.specs.types.Sorts.{is_integer, is_number, is_partition, is_region, is_space, is_truth, is_unknown_type, may_be}
+use Rattle.check_rules.specs.types.Sorts.{is_integer, is_number, is_partition, is_region, is_space, is_truth, is_unknown_type, may_be, same_kind}
 use Rattle.check_rules.specs.types.TypedForms.{computing}
-use Rattle.code_laws.specs.Simple.{AreAlike, AreComparable, FieldFits, IsInteger, IsNumber, IsScalar, IsSimple, IsSpace, IsTruth, a_space_type, a_truth_type, an_integer, compare_numbers, compare_truths, fits_32, fits_64, fits_truth, number_index, number_integer, scalar_integer, scalar_truth, simple_index, simple_integer, simple_space, simple_truth, two_integers, two_truths}
+use Rattle.code_laws.specs.Simple.{AreAlike, AreComparable, AreRegions, FieldFits, IsInteger, IsNumber, IsRegion, IsScalar, IsSimple, IsSpace, IsTruth, a_region_type, a_space_type, a_truth_type, an_integer, compare_numbers, compare_truths, fits_32, fits_64, fits_truth, number_index, number_integer, scalar_integer, scalar_truth, simple_index, simple_integer, simple_space, simple_truth, two_integers, two_regions, two_truths}
 use Rattle.scalar_form.specs.ScalarForm.{is_scalar_term}
-use Rattle.code_laws.proofs.Typing.{no_way_back}
+use Rattle.code_laws.proofs.Typing.{no_way, no_way_back}
 
 -- ---- what may be of a sort is of it
 
@@ -86,6 +87,10 @@ simple_is_no_region _ simple_truth = refl
 simple_is_no_region _ (simple_space k) = refl
 simple_is_no_region _ (simple_index k) = refl
 
+-- none of these is a region
+pub simple_other : (t : StaticType) → IsSimple t → IsRegion t → ⊥
+simple_other _ a (a_region_type k sp args r) = no_way (simple_is_no_region _ a)
+
 -- ---- what fits a number or truth
 
 pub simple_fitting : (known : List Known) (t wanted : StaticType) → IsSimple t → IsScalar wanted → fits known t wanted ≡ true → AreAlike t wanted
@@ -108,6 +113,32 @@ param_fitting known _ _ (simple_space k) (scalar_integer w) e = absurd (no_way_b
 param_fitting known _ _ (simple_space k) scalar_truth e = absurd (no_way_back e)
 param_fitting known _ _ (simple_index k) (scalar_integer w) e = absurd (no_way_back e)
 param_fitting known _ _ (simple_index k) scalar_truth e = absurd (no_way_back e)
+
+-- a number or truth, or a region, is taken by a parameter
+pub data IsTakable : StaticType → Type 0 where
+  takable_scalar : (t : StaticType) → IsScalar t → IsTakable t
+  takable_region : (t : StaticType) → IsRegion t → IsTakable t
+
+-- neither fits where the other is wanted
+pub simple_for_region : (known : List Known) (t wanted : StaticType) → IsSimple t → IsRegion wanted →
+    may_stand known (stands t (param_spot wanted)) ≡ true → ⊥
+simple_for_region known _ _ (simple_integer v) (a_region_type k sp args r) e = no_way_back e
+simple_for_region known _ _ simple_truth (a_region_type k sp args r) e = no_way_back e
+simple_for_region known _ _ (simple_space j) (a_region_type k sp args r) e = no_way_back e
+simple_for_region known _ _ (simple_index j) (a_region_type k sp args r) e = no_way_back e
+
+pub region_for_scalar : (known : List Known) (t wanted : StaticType) → IsRegion t → IsScalar wanted →
+    may_stand known (stands t (param_spot wanted)) ≡ true → ⊥
+region_for_scalar known _ _ (a_region_type k sp args r) (scalar_integer w) e = no_way_back e
+region_for_scalar known _ _ (a_region_type k sp args r) scalar_truth e = no_way_back e
+
+-- a region of a parameter's kind and field space
+pub regions_alike : (types : List StaticType) (p t : StaticType) → IsRegion p → IsRegion t → (is_region p && differs types p t) ≡ false →
+    AreRegions t p
+regions_alike types _ _ (a_region_type k sp args r) (a_region_type j u others q) e =
+    let same = and_parts (same_kind k j && (sp == u)) _ (not-false (is_region_like k sp (map (put types) args) (region_type j u others q)) e) in
+    let space : sp ≡ u = eqb-true sp u (and_parts (same_kind k j) (sp == u) same.0).1 in
+    subst (λ n. AreRegions (region_type j u others q) (region_type k n args r)) (sym space) (two_regions j k u others args q r)
 
 -- ---- written numbers and truths
 

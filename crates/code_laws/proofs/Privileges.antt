@@ -49,18 +49,18 @@ use Rattle.code_rules.specs.Needs.{fields_said, mode_of, needs_of_clause, needs_
 use Rattle.code_laws.specs.Privileges.{AllowedIsNeeded, IsKnownBehind}
 use Rattle.code_laws.specs.Steps.{Taking}
 use Rattle.code_laws.specs.Taking.{allows, is_need, is_part, known_of_pairs, pairs_in}
-use Rattle.code_laws.proofs.LocalNames.{first_below}
+use Rattle.code_laws.proofs.Typing.{first_below}
 use Rattle.code_laws.proofs.Values.{not_true}
 
 -- ---- declared privileges are needs
 
 -- the mode of an access
-abbrev mode_in : Access → Mode
+abbrev pub mode_in : Access → Mode
 mode_in access.Read = mode.Read
 mode_in access.Write = mode.Write
 mode_in (access.Reduce o) = mode.Reduce o
 
-granted_mode : (g : Grant) → mode_of g ≡ mode_in (access_of_grant g)
+pub granted_mode : (g : Grant) → mode_of g ≡ mode_in (access_of_grant g)
 granted_mode Reads = refl
 granted_mode Writes = refl
 granted_mode (Reduces o) = refl
@@ -208,7 +208,7 @@ module _ (tree : Tree) (t : TaskTree) (sound : IsSoundTask tree t) where
     restricted a b (variable c) i e l =
         let w = head.within i b l (subst (λ a. Contains known (Within a b)) e c) in absurd (subst IsName (sym w.1) tt)
 
-    part_of : (i j : ℕ) → i < length t.params → is_subregion known (term.Name i) (term.Name j) ≡ true →
+    pub part_of : (i j : ℕ) → i < length t.params → is_subregion known (term.Name i) (term.Name j) ≡ true →
         (j < length t.params) × (is_subregion (known_of_pairs pairs) (term.Name i) (term.Name j) ≡ true)
     part_of i j l e =
         let s = (is_subregion-derivable known (term.Name i) (term.Name j)).0 e in

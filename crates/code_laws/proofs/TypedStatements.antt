@@ -83,10 +83,11 @@ module _ (tree : Tree) (task : TaskTree) (s : Scope) where
       let t = option_or_parts (told e) _ none in
       ap (λ o. option_or o (first_in_args tree task s es)) t.0 ∙ listed_told es t.1
 
-  -- the target and the format of a statement
-  pub told_later : (form : Form) → first_of_form tree task s form ≡ None →
+  -- the target and the format of a statement, what it returns, and what it writes and reduces
+  told_last : (form : Form) → first_of_form tree task s form ≡ None →
       (mistargets_form tree task s form ≡ false) × (misprints_form tree s form ≡ false) × (misreturns task form ≡ false)
-  told_later form e =
+      × (lacks tree task s (writes_by tree s form) ≡ false) × (lacks tree task s (reductions_by tree s form) ≡ false)
+  told_last form e =
       let a = option_or_parts (first_in (first_in_type tree s.names) (declared_at form)) _ e in
       let b = option_or_parts (rule_if (has_no_type form) rule.Type) _ a.1 in
       let c = option_or_parts (first_in told (heads_of s.names form)) _ b.1 in
@@ -104,7 +105,17 @@ module _ (tree : Tree) (task : TaskTree) (s : Scope) where
         rule_none (mistargets_form tree task s form) rule.Target l.0,
         rule_none (misprints_form tree s form) rule.Format m.0,
         rule_none (misreturns task form) rule.Return p.0,
+        rule_none (lacks tree task s (writes_by tree s form)) rule.Write n.0,
+        rule_none (lacks tree task s (reductions_by tree s form)) rule.Reduce o.0,
       )
+
+  pub told_later : (form : Form) → first_of_form tree task s form ≡ None →
+      (mistargets_form tree task s form ≡ false) × (misprints_form tree s form ≡ false) × (misreturns task form ≡ false)
+  told_later form e = let t = told_last form e in (t.0, t.1, t.2)
+
+  pub told_privileges : (form : Form) → first_of_form tree task s form ≡ None →
+      (lacks tree task s (writes_by tree s form) ≡ false) × (lacks tree task s (reductions_by tree s form) ≡ false)
+  told_privileges form e = let t = told_last form e in (t.3, t.4)
 
   -- the names of a statement, and the call that it is
   pub told_names : (form : Form) → first_of_form tree task s form ≡ None →

@@ -1,5 +1,7 @@
 -- What is told of no breach of literals, prefixes and operators, and the limits of parts.
-use Rattle.std.proofs.Common.{◌≡◌, List, [], ◌∷◌, ◌++◌, None, false, true, refl, ap, subst, inr}
+use Rattle.std.proofs.Common.{◌≡◌, Bool, List, [], ◌∷◌, ◌++◌, None, false, true, refl, ap, subst, inr, not, cond, suc, ◌+◌, ◌<◌, length, arith}
+use Rattle.std.specs.Prelude.{◌||◌}
+use Rattle.std.specs.List.{list_any, position_or_len}
 use Rattle.regent_tree.specs.StaticTypes.{number_type}
 use Rattle.regent_tree.specs.declared.expression.Operator.{Operator}
 use Rattle.regent_tree.specs.declared.facts.Known.{Known}
@@ -112,3 +114,15 @@ operates o t u e =
     let told = option_or_parts _ _ e in
     let ill = rule_none (is_ill_typed_operation (computing o t u)) rule.Type (option_or_parts _ _ told.1).0 in
     not-false (operates_on o t u) ill
+
+-- ---- lists
+
+-- the first that passes is one of them
+pub first_below : {A : Type 0} (p : A → Bool) (xs : List A) → list_any p xs ≡ true → position_or_len p xs < length xs
+first_below p [] e = absurd (no_way_back e)
+first_below p (x ∷ xs) e = chosen (p x) e (first_below p xs)
+  where
+    chosen : (b : Bool) → (b || list_any p xs) ≡ true → (list_any p xs ≡ true → position_or_len p xs < length xs) →
+        cond (not b) (1 + position_or_len p xs) 0 < suc (length xs)
+    chosen true e more = omega (arith)
+    chosen false e more = omega (arith, more e)

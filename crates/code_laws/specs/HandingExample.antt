@@ -10,10 +10,11 @@ use Rattle.regent_tree.specs.declared.outcome.FaultKind.TheVariants.{OutOfRegion
 use Rattle.regent_tree.specs.declared.program.Clause.TheVariants.{Within}
 use Rattle.regent_tree.specs.declared.program.Grant.TheVariants.{Reads, Writes}
 use Rattle.regent_tree.specs.declared.types.NumberTerm.TheVariants.{Int64}
-use Rattle.check_rules.specs.Breaches.{breaches}
+use Rattle.machine_terms.specs.Jobs.{order_run}
 use Rattle.worked_examples.specs.Words.{access, at, calc, call, call_of, dot, faults, field_space, fields, get, give, grants, int, item, line, naturals, new_region, number, param, print, prints, reduce, region, root, set, space, space_of, task, task_giving, var_from}
 use Rattle.code_laws.specs.Handing.{AreTypedBy, forms_by}
-use Rattle.code_laws.specs.Programs.{IsTypedRun}
+use Rattle.code_laws.specs.LocalPrograms.{IsHandingProgramRun}
+use Rattle.code_laws.specs.Programs.{IsTypedRun, job_of}
 
 --     fspace f { x : int64 }
 --     task total(r : region(ispace(int1d), f), s : region(ispace(int1d), f)) : int64
@@ -54,10 +55,12 @@ handing_program =
     ∷ []))
     ∷ []
 
--- It is accepted, and the premises of the law hold of it. With two points it ends; with one point the task that is
--- called by a called task faults; and with two turns the third call is a fault.
+-- It is accepted, and the premises of the laws hold of it, of accepted and of typed programs. With two points it ends, and
+-- so does its code, run in order; with one point the task that is called by a called task faults; and with two turns the
+-- third call is a fault.
 pub record HandingExampleHolds : Type 0 where
-  pub accepted : breaches handing_program ≡ []
+  pub accepted : IsHandingProgramRun handing_program (pos 2 ∷ [])
+  pub runs : order_run (job_of handing_program (pos 2 ∷ []) 5) ≡ prints "20\n" (root 0 2 (naturals (10 ∷ 20 ∷ []) ∷ []) ∷ [])
   pub tasks : AreTypedBy true false handing_program
   pub run : IsTypedRun (forms_by true false handing_program (task_named handing_program (entry_name handing_program))) handing_program (pos 2 ∷ [])
   pub end_is : meaning handing_program (pos 2 ∷ []) 5 ≡ prints "20\n" (root 0 2 (naturals (10 ∷ 20 ∷ []) ∷ []) ∷ [])

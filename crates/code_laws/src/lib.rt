@@ -13,7 +13,7 @@ ghost use Rattle.code_laws.specs.PointerExample.{PointerExampleHolds};
 ghost use Rattle.code_laws.specs.Privileges.{AllowedIsNeeded};
 ghost use Rattle.code_laws.specs.RegionExample.{RegionExampleHolds};
 ghost use Rattle.code_laws.specs.Programs.{CallsRunAsMeant, PointerCallsRunAsMeant, PointersRunAsMeant, RegionsRunAsMeant, ScalarsRunAsMeant};
-ghost use Rattle.code_laws.specs.LocalPrograms.{LocalProgramsEndWell, LocalProgramsRunAsMeant};
+ghost use Rattle.code_laws.specs.LocalPrograms.{AcceptedProgramsEndWell, AcceptedProgramsRunAsMeant, LocalProgramsEndWell, LocalProgramsRunAsMeant};
 ghost use Rattle.code_laws.specs.ScalarPrograms.{ScalarProgramsLeaveNoRoots, ScalarProgramsRunAsMeant};
 
 /// Where the entry task's body is typed and treats scalars alone, the run in order of its code is what the
@@ -80,6 +80,20 @@ pub fn scalar_programs_leave_no_roots()
     ensures { ScalarProgramsLeaveNoRoots }
 {}
 
+/// So it is for each accepted program whose tasks hand regions over by name: each takes numbers, truths and regions, with
+/// privileges and constraints on them, and gives a number or truth, or nothing. Nothing is supposed of types.
+#[tactic(auto, using(crate::proofs::LocalRuns::accepted_programs_run_as_meant))]
+pub fn accepted_programs_run_as_meant()
+    ensures { AcceptedProgramsRunAsMeant }
+{}
+
+/// Such a run is never broken, and the roots that it leaves are of the code's field spaces, so that they can be
+/// dumped.
+#[tactic(auto, using(crate::proofs::LocalRuns::accepted_programs_end_well))]
+pub fn accepted_programs_end_well()
+    ensures { AcceptedProgramsEndWell }
+{}
+
 /// So it is for each accepted program whose tasks keep their regions to themselves: each takes and gives numbers
 /// and truths, or nothing, and declares no privilege.
 #[tactic(auto, using(crate::proofs::LocalRuns::local_programs_run_as_meant))]
@@ -87,8 +101,7 @@ pub fn local_programs_run_as_meant()
     ensures { LocalProgramsRunAsMeant }
 {}
 
-/// Such a run is never broken, and the roots that it leaves are of the code's field spaces, so that they can be
-/// dumped.
+/// Such a run ends well too.
 #[tactic(auto, using(crate::proofs::LocalRuns::local_programs_end_well))]
 pub fn local_programs_end_well()
     ensures { LocalProgramsEndWell }

@@ -1,0 +1,210 @@
+-- What is known at a place of a task's body, where each region in it has a name: what the task's head tells of its
+-- parameters, and what was made behind them. So what the rules allow may be done.
+use Rattle.std.proofs.Common.{◌≡◌, Bool, List, [], ◌∷◌, false, true, refl, ap, sym, subst, ℕ, ◌<◌, ◌≤◌, ◌∙◌, cond, arith, ◌⊎◌, inl, inr, ⊎_elim}
+use Rattle.std.specs.Prelude.{length, ◌&&◌}
+use Rattle.std.specs.List.{Contains}
+use Rattle.std.proofs.lemmas.Bool.{and_parts, not-false, or_parts}
+use Rattle.regent_tree.proofs.Members.{Contains-from_Has, Has, Has-append_cases, Has-from_Contains}
+use Rattle.regent_tree.specs.Accesses.{space_in}
+use Rattle.regent_tree.specs.Lookup.{has_field}
+use Rattle.regent_tree.specs.Scopes.{Scope, knowing, known_of_clause, known_of_clauses, known_of_params, known_of_type, past, scope_of, with_name}
+use Rattle.regent_tree.specs.StaticTypes.{field_place, place_in}
+use Rattle.regent_tree.specs.Syntax.{Expression, Name, TaskTree, Tree}
+use Rattle.regent_tree.specs.Typing.{known_of_child, owned, type_of_element}
+use Rattle.regent_tree.specs.declared.facts.Known.{Known}
+use Rattle.regent_tree.specs.declared.facts.Known.TheVariants.{Apart, Made, PartOf, Within}
+use Rattle.regent_tree.specs.declared.facts.Term.{Term}
+use Rattle.regent_tree.specs.declared.facts.Term.TheVariants as place
+use Rattle.regent_tree.specs.declared.program.Clause.{Clause}
+use Rattle.regent_tree.specs.declared.program.Clause.TheVariants as clause
+use Rattle.regent_tree.specs.declared.rights.Access.{Access}
+use Rattle.regent_tree.specs.declared.rights.Access.TheVariants as access
+use Rattle.regent_tree.specs.declared.typing.StaticType.{StaticType}
+use Rattle.check_rules.specs.rules.Clauses.{is_no_region, misdeclares}
+use Rattle.check_rules.specs.rules.Privileges.{lacks, may_do, rights_declared, wanted_of_step, wanting}
+use Rattle.check_rules.specs.scopes.Sound.{IsSoundTask}
+use Rattle.check_rules.specs.types.Declarations.{params_bound}
+use Rattle.check_rules.specs.types.TypedForms.{field_of}
+use Rattle.expression_laws.proofs.Params.{known_clause, known_param, none_has}
+use Rattle.local_form.specs.LocalForm.{Marked}
+use Rattle.code_laws.specs.Handing.{takes_by}
+use Rattle.code_laws.specs.Privileges.{IsKnownBehind}
+use Rattle.code_laws.specs.Simple.{IsRegion, IsSimple, a_region_type, simple_index, simple_integer, simple_space, simple_truth, term_in}
+use Rattle.code_laws.specs.Taking.{MayDo, pairs_in}
+use Rattle.code_laws.proofs.DeclaredNeeds.{none_made, none_within, pair_listed, region_param}
+use Rattle.code_laws.proofs.LocalNames.{AllKept, IsKept, kept_index, kept_region, kept_scalar}
+use Rattle.code_laws.proofs.Privileges.{allowed_is_needed, mode_in}
+use Rattle.code_laws.proofs.LocalTypes.{simple_other}
+use Rattle.code_laws.proofs.Values.{scalar_simple}
+
+-- parameters, of which the head of a task tells that one lies within another
+pub record IsPair (tree : Tree) (task : TaskTree) (a b : Term) : Type 0 where
+  pub lower : ℕ
+  pub upper : ℕ
+  pub is_lower : a ≡ place.Name lower
+  pub is_upper : b ≡ place.Name upper
+  pub low : lower < length task.params
+  pub high : upper < length task.params
+  pub among : Contains (pairs_in (scope_of tree task).known) (lower, upper)
+
+-- At a place of a task's body nothing is known but what its head tells of its parameters, and which regions were made
+-- behind them. Names that are bound there are behind them too.
+pub record KnowsHead (tree : Tree) (task : TaskTree) (s : Scope) : Type 0 where
+  pub within : (a b : Term) → Contains s.known (Within a b) → IsPair tree task a b
+  pub made : (i : ℕ) → Contains s.known (Made i) → length task.params ≤ i
+  pub next : length task.params ≤ s.next
+
+abbrev number_in : Term → ℕ
+number_in (place.Name i) = i
+number_in (place.Child p c) = 0
+
+pub known_behind : (tree : Tree) (task : TaskTree) (s : Scope) → KnowsHead tree task s → IsKnownBehind tree task s.known
+known_behind tree task s h = record {
+  within = λ i b low c.
+      let p = h.within (place.Name i) b c in
+      let same : p.lower ≡ i = sym (ap number_in p.is_lower) in
+      (p.upper, p.is_upper, p.high, subst (λ k. Contains (pairs_in (scope_of tree task).known) (k, p.upper)) same p.among);
+  made = h.made;
+}
+
+-- what the rules allow of a region with a number may be done with it
+pub may_touch : (handing : Bool) (tree : Tree) (task : TaskTree) (s : Scope) → IsSoundTask tree task → KnowsHead tree task s → (i field : ℕ) (a : Access) →
+    may_do (rights_declared tree task) s.known (wanting field a (place.Name i)) ≡ true → MayDo (takes_by handing tree task) (place.Name i) field (mode_in a)
+may_touch false tree task s sound h i field a e = tt
+may_touch true tree task s sound h i field access.Read e = (allowed_is_needed tree task s.known sound (known_behind tree task s h) i field).reads e
+may_touch true tree task s sound h i field access.Write e = (allowed_is_needed tree task s.known sound (known_behind tree task s h) i field).writes e
+may_touch true tree task s sound h i field (access.Reduce o) e = (allowed_is_needed tree task s.known sound (known_behind tree task s h) i field).reduces o e
+
+-- so of a region that a name has
+pub kept_may : (handing : Bool) (tree : Tree) (task : TaskTree) (s : Scope) → IsSoundTask tree task → KnowsHead tree task s → (m : Marked) (n : Name) (i : ℕ) (t : StaticType) →
+    IsKept m n i t → IsRegion t → (field : ℕ) (a : Access) → may_do (rights_declared tree task) s.known (wanting field a (term_in t)) ≡ true →
+    MayDo (takes_by handing tree task) (term_in t) field (mode_in a)
+kept_may handing tree task s sound h m n i t (kept_scalar _ k) r field a e = absurd (simple_other t (scalar_simple t k) r)
+kept_may handing tree task s sound h m n i t (kept_index _ k _) r field a e = absurd (simple_other t k r)
+kept_may handing tree task s sound h m n i _ (kept_region k sp args _) r field a e = may_touch handing tree task s sound h i field a e
+
+-- what is wanted of a field of an element is allowed where nothing is told
+pub granted_at : (tree : Tree) (task : TaskTree) (s : Scope) (t : StaticType) (e : Expression) (f : Name) (a : Access) → IsRegion t →
+    has_field tree (space_in t) f ≡ true → lacks tree task s (wanted_of_step tree a (field_of (type_of_element s t e) f)) ≡ false →
+    may_do (rights_declared tree task) s.known (wanting (field_place tree (space_in t) f) a (term_in t)) ≡ true
+granted_at tree task s _ e f a (a_region_type k sp args r) there lacking =
+    let want = wanting (field_place tree sp f) a r in
+    let all : lacks tree task s (want ∷ []) ≡ false = ap (λ b. lacks tree task s (cond (b && true) (want ∷ []) [])) (sym there) ∙ lacking in
+    (and_parts (may_do (rights_declared tree task) s.known want) true (not-false _ all)).0
+
+abbrev IsMade : Known → Type 0
+IsMade (Made i) = Unit {0}
+IsMade (Within a b) = ⊥
+IsMade (Apart a b) = ⊥
+IsMade (PartOf p r d) = ⊥
+
+abbrev made_in : Known → ℕ
+made_in (Made i) = i
+made_in (Within a b) = 0
+made_in (Apart a b) = 0
+made_in (PartOf p r d) = 0
+
+abbrev IsApart : Known → Type 0
+IsApart (Apart a b) = Unit {0}
+IsApart (Within a b) = ⊥
+IsApart (Made i) = ⊥
+IsApart (PartOf p r d) = ⊥
+
+abbrev lower_term : Known → Term
+lower_term (Within a b) = a
+lower_term (Apart a b) = a
+lower_term (Made i) = place.Name i
+lower_term (PartOf p r d) = place.Name p
+
+abbrev upper_term : Known → Term
+upper_term (Within a b) = b
+upper_term (Apart a b) = b
+upper_term (Made i) = place.Name i
+upper_term (PartOf p r d) = place.Name r
+
+-- where a body begins
+pub head_begins : (tree : Tree) (t : TaskTree) → IsSoundTask tree t → KnowsHead tree t (scope_of tree t)
+head_begins tree t sound = record {
+  within = λ a b c. ⊎_elim
+      (λ p. let d = known_param (scope_of tree t).names (Within a b) p in absurd (none_within d.0.static_type (Within a b) d.2 a b refl))
+      (λ p. let d = known_clause t.params t.clauses (Within a b) p in
+      by_clause a b d.0 (none_has (misdeclares tree (params_bound tree t.params)) t.clauses d.0 sound.clauses d.1) d.2 (Has-from_Contains (scope_of tree t).known (Within a b) c))
+      (Has-append_cases (known_of_params (scope_of tree t).names) (known_of_clauses t.params t.clauses) (Within a b) (Has-from_Contains (scope_of tree t).known (Within a b) c));
+  made = λ i c. ⊎_elim
+      (λ p. let d = known_param (scope_of tree t).names (Made i) p in absurd (none_made d.0.static_type (Made i) d.2 i refl))
+      (λ p. let d = known_clause t.params t.clauses (Made i) p in absurd (none_told i d.0 d.2))
+      (Has-append_cases (known_of_params (scope_of tree t).names) (known_of_clauses t.params t.clauses) (Made i) (Has-from_Contains (scope_of tree t).known (Made i) c));
+  next = omega (arith);
+}
+  where
+    none_told : (i : ℕ) (c : Clause) → Has (known_of_clause t.params c) (Made i) → ⊥
+    none_told i (clause.Within a b) (inl same) = absurd (subst IsMade (sym same) tt)
+    none_told i (clause.Within a b) (inr g) = g
+    none_told i (clause.Apart a b) (inl same) = absurd (subst IsMade (sym same) tt)
+    none_told i (clause.Apart a b) (inr g) = g
+    none_told i (clause.Grants grants places) g = g
+
+    by_clause : (a b : Term) (c : Clause) → misdeclares tree (params_bound tree t.params) c ≡ false → Has (known_of_clause t.params c) (Within a b) →
+        Has (scope_of tree t).known (Within a b) → IsPair tree t a b
+    by_clause a b (clause.Within x y) e (inl same) there =
+        let parts = or_parts (is_no_region (params_bound tree t.params) x) _ e in
+        let one = region_param tree t sound x parts.0 in
+        let two = region_param tree t sound y parts.1 in
+        let i = place_in t.params x in
+        let j = place_in t.params y in record {
+          lower = i;
+          upper = j;
+          is_lower = sym (ap lower_term same);
+          is_upper = sym (ap upper_term same);
+          low = one.low;
+          high = two.low;
+          among = Contains-from_Has (pairs_in (scope_of tree t).known) (i, j) (pair_listed (scope_of tree t).known i j (subst (Has (scope_of tree t).known) (sym same) there));
+        }
+    by_clause a b (clause.Within x y) e (inr g) there = absurd g
+    by_clause a b (clause.Apart x y) e (inl same) there = absurd (subst IsApart same tt)
+    by_clause a b (clause.Apart x y) e (inr g) there = absurd g
+    by_clause a b (clause.Grants grants places) e g there = absurd g
+
+-- ---- from place to place
+
+-- the names at a place stand for what their marks say, and no more is known there
+pub record IsReady (tree : Tree) (task : TaskTree) (m : Marked) (s : Scope) : Type 0 where
+  pub names : AllKept m s.names
+  pub head : KnowsHead tree task s
+
+-- behind a place nothing more is known but that a region was made there
+pub head_behind : (tree : Tree) (task : TaskTree) (s u : Scope) → KnowsHead tree task s → s.next ≤ u.next →
+    ((k : Known) → Has u.known k → Has s.known k ⊎ (k ≡ Made s.next)) → KnowsHead tree task u
+head_behind tree task s u h less known = record {
+  within = λ a b c. ⊎_elim
+      (λ old. h.within a b (Contains-from_Has s.known (Within a b) old))
+      (λ new. absurd (subst IsMade (sym new) tt)) (known (Within a b) (Has-from_Contains u.known (Within a b) c));
+  made = λ i c. ⊎_elim
+      (λ old. h.made i (Contains-from_Has s.known (Made i) old))
+      (λ new. let l = h.next in let same : i ≡ s.next = ap made_in new in omega (arith, l, same)) (known (Made i) (Has-from_Contains u.known (Made i) c));
+  next = let l = h.next in omega (arith, l, less);
+}
+
+pub head_past : (tree : Tree) (task : TaskTree) (s inner : Scope) → KnowsHead tree task inner → KnowsHead tree task (past s inner)
+head_past tree task s inner h = record { within = h.within; made = h.made; next = h.next }
+
+pub head_looping : (tree : Tree) (task : TaskTree) (s : Scope) (n : Name) (t : StaticType) → KnowsHead tree task s → KnowsHead tree task (with_name s n t true)
+head_looping tree task s n t h = head_behind tree task s (with_name s n t true) h (omega (arith)) (λ k a. inl a)
+
+-- one more name, with which nothing is known, or that a region was made
+pub head_named : (tree : Tree) (task : TaskTree) (s : Scope) (n : Name) (t : StaticType) (more : List Known) → KnowsHead tree task s → more ≡ [] →
+    KnowsHead tree task (knowing (with_name s n t false) more)
+head_named tree task s n t more h none = head_behind tree task s (knowing (with_name s n t false) more) h (omega (arith))
+    (λ k a. ⊎_elim (λ old. inl old) (λ new. absurd (subst (λ ks. Has ks k) none new)) (Has-append_cases s.known more k a))
+
+pub head_made : (tree : Tree) (task : TaskTree) (s : Scope) (n : Name) (t : StaticType) → KnowsHead tree task s →
+    KnowsHead tree task (knowing (with_name s n t false) (Made s.next ∷ []))
+head_made tree task s n t h = head_behind tree task s (knowing (with_name s n t false) (Made s.next ∷ [])) h (omega (arith))
+    (λ k a. ⊎_elim (λ old. inl old) (λ new. ⊎_elim (λ same. inr (sym same)) (λ none. absurd none) new) (Has-append_cases s.known (Made s.next ∷ []) k a))
+
+-- a number, a truth, an index or an index space tells nothing
+pub simple_tells : (i : ℕ) (u : StaticType) → IsSimple u → (known_of_child i u ≡ []) × (known_of_type (owned i u) ≡ []) × (known_of_type u ≡ [])
+simple_tells i _ (simple_integer w) = (refl, refl, refl)
+simple_tells i _ simple_truth = (refl, refl, refl)
+simple_tells i _ (simple_index k) = (refl, refl, refl)
+simple_tells i _ (simple_space k) = (refl, refl, refl)
