@@ -21,7 +21,7 @@ use Rattle.task_code.specs.declared.code.TaskCode.{TaskCode}
 use Rattle.machine_terms.specs.declared.outcome.Yield.TheVariants as yield
 use Rattle.machine_terms.specs.declared.value.RegionValue.{RegionValue}
 use Rattle.machine_terms.specs.declared.value.Value.{Value}
-use Rattle.machine_terms.specs.Machine.{Machine, at, when, broken}
+use Rattle.machine_terms.specs.Machine.{Machine, when, broken}
 use Rattle.machine_terms.specs.Parts.{is_part_of, Cell, Found, refused, missing, found, found_cell, found_in, find, cell_at, part_of, set_part, is_needed}
 use Rattle.machine_terms.specs.Pointers.{Aimed, aims, fails, aim, aim_in, aim_if, slot_at, region_slot, region_in, read_in, read_cell, read_at, read, written, set_found, set_cell, set_at, set, same_width}
 use Rattle.fit_rules.specs.Shapes.{Each, Shape, integer, pointer, region, Numeric, numeric_pointer, NumberIs, World, position_of, IsRegion, Is, is_number, is_region, Are}

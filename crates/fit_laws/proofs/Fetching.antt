@@ -17,7 +17,7 @@ use Rattle.region_tree.proofs.Joins.{same_mode-tells}
 use Rattle.region_tree.specs.Pieces.{Held}
 use Rattle.region_tree.specs.Requirements.{Requirement, all_modes, is_mode, mode_at, part_of_mode, parts_of_modes, points_joined}
 use Rattle.machine_terms.specs.declared.order.Contents.{Contents}
-use Rattle.machine_terms.specs.Contents.{image_of, kept_at, kind_of, kinds_of}
+use Rattle.machine_terms.specs.Contents.{kept_at, kind_of, kinds_of}
 use Rattle.machine_terms.specs.Copies.{piece_of}
 use Rattle.machine_terms.specs.Parts.{Cell, cell_at, cell_of, value_beside}
 use Rattle.fit_rules.specs.Shapes.{Among, NumberIs, Shape}
