@@ -37,7 +37,8 @@ use Rattle.fit_laws.proofs.Keeping.{get_set, set_mark}
 use Rattle.sound_code.specs.Named.{slot_at, HasSlots}
 use Rattle.sound_code.specs.Ways.{Way, shape_of}
 use Rattle.sound_code.proofs.Granting.{allowed, May}
-use Rattle.sound_code.proofs.Handing.{all_handed, calls, handed, handed_marked, handed_unconverted, scalar_handed}
+use Rattle.sound_code.proofs.Handed.{all_handed, handed, handed_unconverted, scalar_handed}
+use Rattle.sound_code.proofs.Handing.{calls, handed_marked}
 pub use Rattle.sound_code.proofs.Placing.{named_at, placed_at, region_named, simple_named}
 use Rattle.sound_code.proofs.Told.{Told, ToldArgs, ToldLinks, told_arg, told_call, told_chain, told_convert, told_element, told_link, told_prefix, told_space}
 use Rattle.sound_code.proofs.Wanting.{may_read}

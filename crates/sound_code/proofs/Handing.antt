@@ -1,9 +1,9 @@
--- Calls, also those that hand regions over: what is handed, that it is what the called task needs, and that the frame
--- which the call opens suits the mark in which the task's body begins.
-use Rattle.std.proofs.Common.{◌≡◌, inl, inr, ℕ, zero, suc, ◌+◌, ◌<◌, ◌≤◌, ◌-◌, pos, List, [], ◌∷◌, ◌++◌, map, Bool, true, false, cond, Option, None, Some, refl, sym, ap, ◌∙◌, subst, arith}
-use Rattle.std.specs.Prelude.{length, nat_le, replicate, slice_get, ◌==◌, ◌&&◌}
+-- Calls, also those that hand regions over: what is handed is what the called task needs, and the frame which the call
+-- opens suits the mark in which the task's body begins.
+use Rattle.std.proofs.Common.{◌≡◌, inl, inr, ℕ, suc, ◌+◌, ◌<◌, ◌≤◌, ◌-◌, pos, List, [], ◌∷◌, ◌++◌, map, true, false, Option, None, Some, refl, sym, ap, ◌∙◌, subst, arith}
+use Rattle.std.specs.Prelude.{length, replicate, slice_get, ◌==◌, ◌&&◌}
 use Rattle.std.specs.List.{list_any}
-use Rattle.std.proofs.lemmas.Bool.{and_parts, eqb-true, false≢true, le-leb, leb-true, or_cases}
+use Rattle.std.proofs.lemmas.Bool.{and_parts, eqb-true, false≢true, or_cases}
 use Rattle.std.proofs.lemmas.Option.{none-some, same_Some}
 use Rattle.lane_kernels.specs.declared.numbers.Mode.{Mode}
 use Rattle.lane_kernels.specs.declared.numbers.Mode.TheVariants as mode
@@ -17,7 +17,7 @@ use Rattle.regent_tree.specs.Accesses.{space_in}
 use Rattle.regent_tree.specs.Facts.{is_subregion}
 use Rattle.regent_tree.specs.Scopes.{bound_params, scope_of}
 use Rattle.regent_tree.specs.StaticTypes.{Looking, among_params, space_at, task_named, type_said}
-use Rattle.regent_tree.specs.Syntax.{Expression, Expressions, Name, TaskTree, Tree, access_expr, an_expr, no_expr, no_step}
+use Rattle.regent_tree.specs.Syntax.{Expression, Expressions, Name, TaskTree, Tree, an_expr, no_expr}
 use Rattle.regent_tree.specs.Typing.{param_types}
 use Rattle.regent_tree.specs.declared.facts.Known.TheVariants.{PartOf, Within}
 use Rattle.regent_tree.specs.declared.facts.Term.{Term}
@@ -37,226 +37,33 @@ use Rattle.machine_terms.specs.declared.value.Value.{Value}
 use Rattle.machine_terms.specs.declared.value.Value.TheVariants as value
 use Rattle.machine_terms.specs.Pointers.{region_in}
 use Rattle.code_rules.specs.Expressions.{count, expr_code}
-use Rattle.code_rules.specs.Instructions.{converted_code, one, place_of_task}
-use Rattle.code_rules.specs.Pieces.{empty, op}
+use Rattle.code_rules.specs.Instructions.{one, place_of_task}
 use Rattle.code_rules.specs.Programs.{task_code}
-use Rattle.code_rules.specs.Slots.{Where, bound, slot_named, typed}
+use Rattle.code_rules.specs.Slots.{Where, bound, slot_named}
 use Rattle.code_laws.specs.Simple.{AreRegions, IsRegion, IsScalar, a_region_type, scalar_integer, scalar_truth, term_in, two_regions}
 use Rattle.code_laws.specs.Steps.{Forms, Taking, without_pointers}
 use Rattle.code_laws.specs.Taking.{MayDo, allows, is_need, is_part, known_of_pairs}
-use Rattle.code_laws.specs.Typed.{AreMet, ArePassed, IsCallable, IsHanded, IsMet, IsTyped, name_at, name_of}
-use Rattle.code_laws.proofs.Arguments.{IsNoRegion, alike_other, first_region, given_either, handed_name, named_typed, region_other}
+use Rattle.code_laws.specs.Typed.{AreMet, ArePassed, IsCallable, IsHanded, IsMet, IsTyped, name_at}
+use Rattle.code_laws.proofs.Arguments.{given_either, handed_name}
 use Rattle.code_laws.proofs.Calling.{code_there}
 use Rattle.code_laws.proofs.Openings.{types_cons, types_in}
-use Rattle.fit_rules.specs.Shapes.{Among, Are, are_more, are_none, awaited, Each, given, Is, is_given, is_number, is_region, IsRegion as IsRegionValue, region, Shape, World}
+use Rattle.fit_rules.specs.Shapes.{Among, Are, are_more, are_none, awaited, Each, Is, is_number, is_region, IsRegion as IsRegionValue, region, Shape, World}
 use Rattle.fit_rules.specs.Marks.{Holds, Mark, stacked, Suits}
 use Rattle.fit_rules.specs.Fits.{count_at, Declares, declares_it, made_it, Program}
 use Rattle.fit_rules.specs.Ends.{called, IsNeeded}
-use Rattle.fit_rules.specs.Sound.{does_hand, does_load, Effect, Opens, Settled, settled_given, settled_number, settled_region, Takes}
+use Rattle.fit_rules.specs.Sound.{Opens, Takes}
 use Rattle.fit_laws.specs.Within.{IsGranted}
-use Rattle.fit_laws.proofs.Lookup.{any_region}
 use Rattle.fit_laws.proofs.Within.{covered_needs_are_within}
 use Rattle.marked_code.proofs.Placed.{below}
 use Rattle.marked_code.specs.Marked.{leads_calling, typed_op}
-use Rattle.sound_code.specs.Named.{slot_at}
 use Rattle.sound_code.specs.Ways.{by_rules, shape_in, shape_of, Way}
 use Rattle.sound_code.proofs.Asked.{AreFree, Asked, Hands, hands_none, hands_taken, Known}
-use Rattle.sound_code.proofs.Calling.{alike_second, nothing_needed, onto, opening_suits, opens, passed_many, passed_scalars, scalar_numeric, some_body, takes_settled, types_many}
-use Rattle.sound_code.proofs.Combining.{both, does, Marked, nothing_done}
+use Rattle.sound_code.proofs.Calling.{alike_second, nothing_needed, onto, opening_suits, opens, passed_many, passed_scalars, some_body, takes_settled, types_many}
+use Rattle.sound_code.proofs.Combining.{both, Marked, nothing_done}
 use Rattle.sound_code.proofs.Elements.{field_there}
 use Rattle.sound_code.proofs.Granting.{InPlace}
-use Rattle.sound_code.proofs.Grounds.{OfType}
 use Rattle.sound_code.proofs.Placing.{named_at, placed_at}
-
--- ---- numbers
-
-not_below : (a b : ℕ) → b < a → nat_le a b ≡ false
-not_below a b l = of (nat_le a b) refl
-  where
-    of : (c : Bool) → nat_le a b ≡ c → nat_le a b ≡ false
-    of true e = absurd (omega (arith, l, leb-true a b e))
-    of false e = e
-
-is_below : (a b : ℕ) → nat_le a b ≡ false → b < a
-is_below a b e = elim (below b a) [
-  | inl l ↦ l
-  | inr h ↦ absurd (false≢true (sym e ∙ le-leb a b h))
-]
-
--- ---- what is handed over
-
--- a region that the task took is known to be the argument; any other the task made
-abbrev pub given_in : ℕ → StaticType → Shape
-given_in params (region_type k sp args (term.Name i)) = cond (nat_le params i) (region (Some sp) true) (given (Some sp) i)
-given_in params u = shape_of u
-
--- the shape of an argument for a parameter of a type
-abbrev pub handed : Where → StaticType → Expression → Shape
-handed w (region_type k sp args r) (access_expr n no_step) = given_in w.params (bound w n).static_type
-handed w p e = shape_of p
-
-abbrev pub all_handed : Where → List StaticType → Expressions → List Shape
-all_handed w (p ∷ ps) (an_expr e es) = handed w p e ∷ all_handed w ps es
-all_handed w ps es = []
-
-pub scalar_handed : (w : Where) (p : StaticType) (e : Expression) → IsScalar p → handed w p e ≡ shape_of p
-scalar_handed w _ e (scalar_integer v) = refl
-scalar_handed w _ e scalar_truth = refl
-
-region_handed : (w : Where) (n : Name) (u p : StaticType) → AreRegions u p →
-    handed w p (access_expr n no_step) ≡ given_in w.params (bound w n).static_type
-region_handed w n _ _ (two_regions c d sp args brgs r q) = refl
-
--- a region isn't converted
-same_code : (w : Where) (u p : StaticType) → AreRegions u p → converted_code w u p ≡ empty
-same_code w _ _ (two_regions c d sp args brgs r q) = refl
-
-pub handed_unconverted : (w : Where) (y : Taking) (u p : StaticType) (e : Expression) → IsHanded (Some y) w u p e →
-    converted_code w (typed w e) u ≡ empty
-handed_unconverted w y u p e h =
-    let q = handed_name y w u p e h in
-    subst (λ a. converted_code w (typed w a) u ≡ empty) (sym q.1)
-    (subst (λ v. converted_code w (bound w q.0).static_type v ≡ empty) (sym q.3) (same_code w (bound w q.0).static_type p q.4))
-
--- it may be taken from the stack
-given_settled : (params : ℕ) (u : StaticType) → IsRegion u → Settled (given_in params u)
-given_settled params _ (a_region_type c sp args (term.Name i)) = of (nat_le params i)
-  where
-    of : (b : Bool) → Settled (cond b (region (Some sp) true) (given (Some sp) i))
-    of true = settled_region (Some sp) true
-    of false = settled_given (Some sp) i
-given_settled params _ (a_region_type c sp args (term.Child p q)) = settled_region (Some sp) true
-
-module _ (forms : Forms) (w : Where) where
-  all_settled : (ts ps : List StaticType) (es : Expressions) → ArePassed (without_pointers forms) w ts ps es → Each Settled (all_handed w ps es)
-  all_settled [] [] no_expr h = tt
-  all_settled (t ∷ ts) (p ∷ ps) (an_expr e es) h = (
-    given_either forms.takes w t p e (IsTyped (without_pointers forms) w e) (Settled (handed w p e))
-        (λ alike same is. subst Settled (sym (scalar_handed w p e (subst IsScalar same (alike_second _ t alike))))
-        (settled_number _ (scalar_numeric p (subst IsScalar same (alike_second _ t alike)))))
-        (λ y takes q.
-        let n = handed_name y w t p e q in
-        subst (λ a. Settled (handed w p a)) (sym n.1)
-        (subst Settled (sym (region_handed w n.0 _ p n.4)) (given_settled w.params _ (first_region _ p n.4)))) h.0,
-    all_settled ts ps es h.1,
-  )
-  all_settled [] [] (an_expr e es) h = absurd h
-  all_settled [] (p ∷ ps) es h = absurd h
-  all_settled (t ∷ ts) [] es h = absurd h
-  all_settled (t ∷ ts) (p ∷ ps) no_expr h = absurd h
-
-  all_long : (ts ps : List StaticType) (es : Expressions) → ArePassed (without_pointers forms) w ts ps es → length (all_handed w ps es) ≡ count es
-  all_long [] [] no_expr h = refl
-  all_long (t ∷ ts) (p ∷ ps) (an_expr e es) h = ap suc (all_long ts ps es h.1)
-  all_long [] [] (an_expr e es) h = absurd h
-  all_long [] (p ∷ ps) es h = absurd h
-  all_long (t ∷ ts) [] es h = absurd h
-  all_long (t ∷ ts) (p ∷ ps) no_expr h = absurd h
-
-  scalars_handed : (ps : List StaticType) (es : Expressions) → Each IsScalar ps → length ps ≡ count es → all_handed w ps es ≡ map shape_of ps
-  scalars_handed [] no_expr h l = refl
-  scalars_handed (p ∷ ps) (an_expr e es) h l =
-      ap (λ s. s ∷ all_handed w ps es) (scalar_handed w p e h.0)
-      ∙ ap (λ ss. shape_of p ∷ ss) (scalars_handed ps es h.1 (omega (arith, l)))
-  scalars_handed [] (an_expr e es) h l = absurd (omega (arith, l))
-  scalars_handed (p ∷ ps) no_expr h l = absurd (omega (arith, l))
-
--- ---- a region is loaded
-
-module _ (g : Program) (t : TaskCode) (k line params : ℕ) (m : Mark) (ep : params ≡ t.params) where
-  region_loaded : (task : TaskTree) (place : ℕ) (u p : StaticType) (us : List Shape) → AreRegions u p → OfType params place u →
-      slice_get m.slots (slot_at params place) ≡ Some (shape_in (by_rules task) params u) →
-      Marked g t k (stacked m us) (op (instr.Load (slot_at params place)) line) (stacked m (given_in params u ∷ us))
-  region_loaded task place _ _ us (two_regions c d sp args brgs (term.Name i) q) o there = of (nat_le params i) refl
-    where
-      of : (b : Bool) → nat_le params i ≡ b → Marked g t k (stacked m us) (op (instr.Load (slot_at params place)) line)
-          (stacked m (cond b (region (Some sp) true) (given (Some sp) i) ∷ us))
-      of true e = does g t k (stacked m us) (instr.Load (slot_at params place)) line (region (Some sp) true ∷ us)
-          (does_load (slot_at params place) (region (Some sp) true) us (there ∙ ap (λ b. Some (region (Some sp) b)) e) (settled_region (Some sp) true))
-      of false e =
-          let low = is_below params i e in
-          let at : slot_at params place ≡ i = omega (arith, o low, low) in
-          does g t k (stacked m us) (instr.Load (slot_at params place)) line (given (Some sp) i ∷ us)
-          (subst (λ s. Effect g t (stacked m us) (instr.Load s) us (given (Some sp) i ∷ us)) (sym at)
-          (does_hand i (Some sp) (nat_le params i) us (omega (arith, low, ep))
-          (subst (λ s. slice_get m.slots s ≡ Some (region (Some sp) (nat_le params i))) at there)))
-  region_loaded task place _ _ us (two_regions c d sp args brgs (term.Child p a) q) o there = absurd o
-
--- ---- what a handed value is
-
--- It is a region of the field space: a root that the task made, or that of an argument.
-pub record IsGiven (x : World) (params sp i : ℕ) (v : Value) : Type 0 where
-  pub it : RegionValue
-  pub is : v ≡ value.Region it
-  pub of_space : IsRegionValue x (Some sp) false it
-  pub mine : params ≤ i → Among x.own it.root.0 × (it.points ≡ x.points it.root.0)
-  pub taken : i < params → region_in (slice_get x.args i) ≡ Some it
-
-is_given_region : (x : World) (params sp i : ℕ) (v : Value) → Is x (cond (nat_le params i) (region (Some sp) true) (given (Some sp) i)) v →
-    IsGiven x params sp i v
-is_given_region x params sp i = of (nat_le params i) refl
-  where
-    of : (b : Bool) → nat_le params i ≡ b → (v : Value) → Is x (cond b (region (Some sp) true) (given (Some sp) i)) v → IsGiven x params sp i v
-    of true e _ (is_region _ _ r q) = record {
-      it = r;
-      is = refl;
-      of_space = any_region x (Some sp) true r q;
-      mine = λ l. q.whole refl;
-      taken = λ l. absurd (omega (arith, l, leb-true params i e));
-    }
-    of true e _ (is_number _ z h) = absurd h
-    of false e _ (is_given _ _ r q a) = record {
-      it = r;
-      is = refl;
-      of_space = q;
-      mine = λ l. absurd (omega (arith, l, is_below params i e));
-      taken = λ l. a;
-    }
-    of false e _ (is_number _ z h) = absurd h
-
--- a region of the field space
-pub record IsAny (x : World) (sp : ℕ) (v : Value) : Type 0 where
-  pub it : RegionValue
-  pub is : v ≡ value.Region it
-  pub of_space : IsRegionValue x (Some sp) false it
-
-any_given : (x : World) (params : ℕ) (u p : StaticType) (v : Value) → AreRegions u p → Is x (given_in params u) v → IsAny x (space_in p) v
-any_given x params _ _ v (two_regions c d sp args brgs (term.Name i) q) h =
-    let r = is_given_region x params sp i v h in record { it = r.it; is = r.is; of_space = r.of_space }
-any_given x params _ _ v (two_regions c d sp args brgs (term.Child p a) q) h = of v h
-  where
-    of : (v : Value) → Is x (region (Some sp) true) v → IsAny x sp v
-    of _ (is_region _ _ r i) = record { it = r; is = refl; of_space = any_region x (Some sp) true r i }
-    of _ (is_number _ z i) = absurd i
-
--- ---- the argument at a place
-
-pub record IsArgument (x : World) (ws : List Value) (k : ℕ) (s : Shape) : Type 0 where
-  pub it : Value
-  pub at : slice_get ws k ≡ Some it
-  pub of : Is x s it
-
-module _ (forms : Forms) (w : Where) (x : World) where
-  argument_at : (ts ps : List StaticType) (es : Expressions) (ws : List Value) (k : ℕ) (n : Name) → ArePassed (without_pointers forms) w ts ps es →
-      Are x (all_handed w ps es) ws → name_at es k ≡ Some n → IsRegion (bound w n).static_type →
-      IsArgument x ws k (given_in w.params (bound w n).static_type)
-  argument_at (t ∷ ts) (p ∷ ps) (an_expr e es) _ zero n h (are_more _ v _ vs i a) en r =
-      given_either forms.takes w t p e (IsTyped (without_pointers forms) w e) (IsArgument x (v ∷ vs) 0 (given_in w.params (bound w n).static_type))
-      (λ alike eq is. absurd (region_other _ r (subst IsNoRegion (named_typed w e n en) (alike_other _ t alike))))
-      (λ y takes q.
-      let b = handed_name y w t p e q in
-      let one : b.0 ≡ n = same_Some b.0 n (ap name_of (sym b.1) ∙ en) in
-      record {
-        it = v;
-        at = refl;
-        of = subst (λ s. Is x s v) (ap (handed w p) b.1 ∙ region_handed w b.0 _ p b.4 ∙ ap (λ a. given_in w.params (bound w a).static_type) one) i;
-      }) h.0
-  argument_at (t ∷ ts) (p ∷ ps) (an_expr e es) _ (suc k) n h (are_more _ v _ vs i a) en r =
-      let more = argument_at ts ps es vs k n h.1 a en r in record { it = more.it; at = more.at; of = more.of }
-  argument_at ts ps no_expr ws k n h a en r = absurd (none-some n en)
-  argument_at [] [] (an_expr e es) ws k n h a en r = absurd h
-  argument_at [] (p ∷ ps) (an_expr e es) ws k n h a en r = absurd h
-  argument_at (t ∷ ts) [] (an_expr e es) ws k n h a en r = absurd h
+use Rattle.sound_code.proofs.Handed.{IsAny, IsArgument, all_handed, all_long, all_settled, any_given, argument_at, given_in, handed, is_given_region, not_below, region_handed, region_loaded, scalar_handed, scalars_handed}
 
 -- ---- what the called task needs
 

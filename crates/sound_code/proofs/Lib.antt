@@ -9,6 +9,7 @@ pub mod Calling
 pub mod Declaring
 pub mod Granting
 pub mod Placing
+pub mod Handed
 pub mod Handing
 pub mod Wanting
 pub mod Expressions
