@@ -1,0 +1,4 @@
+pub mod Fills
+pub mod Gives
+pub mod Laws
+pub mod Maps
