@@ -1,6 +1,5 @@
 -- Columns that agree at each point, and roots that come and go.
-use Rattle.std.proofs.Common.{◌≡◌, ◌≢◌, ◌⊎◌, ◌∙◌, ◌<◌, ◌==◌, ◌++◌, ◌||◌, inl, inr, Bool, true, false, cond, eqb, not, List, [], ◌∷◌, ap, arith, filter, get_or, length, map, refl, replicate, Some, suc, sym, zero, ℕ, ℤ}
-use Rattle.std.specs.List.{list_any}
+use Rattle.std.proofs.Common.{◌≡◌, ◌⊎◌, ◌∙◌, ◌<◌, ◌==◌, ◌++◌, ◌||◌, inl, inr, Bool, true, false, cond, eqb, not, List, [], ◌∷◌, ap, arith, get_or, length, map, refl, replicate, Some, suc, sym, zero, ℕ, ℤ}
 use Rattle.std.specs.List.Sorted.{IsStrictlyIncreasing}
 use Rattle.std.proofs.lemmas.Bool.{cases_Bool, eqb-false, eqb-true, false≢true, ne_eqb, true≢false}
 use Rattle.lane_kernels.specs.declared.numbers.FieldKind.{FieldKind}
@@ -9,7 +8,7 @@ use Rattle.point_sets.proofs.Rising.{absent, has_other, rising_head, rising_tail
 use Rattle.logical_map.proofs.Beside.{beside_more}
 use Rattle.logical_map.proofs.Reading.{lacked}
 use Rattle.logical_map.specs.Laws.{ClosedIsGone, ClosedKeepsOthers, OpenedHoldsZeros, OpenedKeepsOthers, PointsDecide}
-use Rattle.logical_map.specs.Maps.{Column, LiveRoot, LogicalMap, closed, columns_of, is_live, is_root, new_column, no_column, number_beside, number_in_column, number_or_zero, zero_of}
+use Rattle.logical_map.specs.Maps.{Column, LiveRoot, LogicalMap, closed, columns_of, is_live, new_column, no_column, number_beside, number_in_column, number_or_zero, zero_of}
 
 eqb-same : (n : ℕ) → eqb n n ≡ true
 eqb-same n = by_case (cases_Bool (eqb n n))

@@ -1,5 +1,5 @@
 -- What a few calls do to a small map, by computing.
-use Rattle.std.proofs.Common.{◌≡◌, List, [], ◌∷◌, negsuc, pos, refl, true, false, ℕ, ℤ}
+use Rattle.std.proofs.Common.{◌≡◌, List, [], ◌∷◌, negsuc, pos, refl, false, ℕ, ℤ}
 use Rattle.std.specs.Int.{int_wrap}
 use Rattle.lane_kernels.specs.declared.numbers.FieldKind.TheVariants.{Int32, Int64, Pointer}
 use Rattle.lane_kernels.specs.declared.numbers.Mode.TheVariants.{Read, Write, Reduce}

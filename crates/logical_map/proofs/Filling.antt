@@ -1,5 +1,5 @@
 -- Elements that are moved a chunk at a time.
-use Rattle.std.proofs.Common.{◌≡◌, ◌∙◌, ◌+◌, ◌-◌, ◌≤◌, List, [], ◌∷◌, ap, arith, length, map, pos, refl, replicate, subst, suc, sum_by, sym, zero, ℕ, ℤ}
+use Rattle.std.proofs.Common.{◌≡◌, ◌∙◌, ◌+◌, ◌-◌, ◌≤◌, List, [], ◌∷◌, ap, arith, length, map, pos, refl, replicate, suc, sym, zero, ℕ, ℤ}
 use Rattle.std.proofs.lemmas.List.Sums.{sum_by-cons}
 use Rattle.lane_kernels.specs.declared.numbers.Mode.{Mode}
 use Rattle.region_tree.specs.Pieces.{Held}

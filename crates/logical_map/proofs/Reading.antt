@@ -1,6 +1,6 @@
 -- What is read behind a give, and what stays.
-use Rattle.std.proofs.Common.{◌≡◌, ◌≢◌, ◌⊎◌, ◌∙◌, ◌+◌, ◌<◌, ◌==◌, inl, inr, Bool, true, false, cond, eqb, List, [], ◌∷◌, None, Option, Some, ap, arith, get_or, length, refl, suc, sym, zero, ℕ, ℤ}
-use Rattle.std.proofs.lemmas.Bool.{cases_Bool, eqb-false, eqb-true, false≢true, ne_eqb, true≢false}
+use Rattle.std.proofs.Common.{◌≡◌, ◌≢◌, ◌⊎◌, ◌∙◌, ◌<◌, ◌==◌, inl, inr, Bool, true, false, cond, eqb, List, [], ◌∷◌, None, Some, ap, arith, get_or, length, refl, suc, sym, zero, ℕ, ℤ}
+use Rattle.std.proofs.lemmas.Bool.{cases_Bool, eqb-false, eqb-true, false≢true, ne_eqb}
 use Rattle.lane_kernels.specs.Numbers.{width_of}
 use Rattle.lane_kernels.specs.declared.numbers.Mode.{Mode}
 use Rattle.lane_kernels.specs.declared.numbers.Mode.TheVariants.{Read, Write, Reduce}
@@ -10,8 +10,8 @@ use Rattle.point_sets.proofs.Rising.{has_head, has_other}
 use Rattle.region_tree.specs.Pieces.{Held}
 use Rattle.logical_map.proofs.Beside.{beside_more, beside_no_number, beside_no_point}
 use Rattle.logical_map.specs.Gives.{all_given_at, given, given_at, given_beside, give_pieces, with_pieces}
-use Rattle.logical_map.specs.Laws.{GivenIsRead, IsWhole, LackedPointStays, OthersStay}
-use Rattle.logical_map.specs.Maps.{Column, LiveRoot, LogicalMap, column_of, columns_of, is_root, no_column, number_beside, number_in_column, number_or_zero, on_column, on_field, on_root}
+use Rattle.logical_map.specs.Laws.{GivenIsRead, LackedPointStays, OthersStay}
+use Rattle.logical_map.specs.Maps.{Column, LogicalMap, column_of, columns_of, no_column, number_beside, number_in_column, number_or_zero, on_column, on_field, on_root}
 
 -- ---- at a column
 

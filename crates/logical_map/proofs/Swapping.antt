@@ -1,9 +1,9 @@
 -- Gives that swap.
-use Rattle.std.proofs.Common.{◌≡◌, ◌≢◌, ◌⊎◌, ◌∙◌, ◌<◌, ◌==◌, ◌&&◌, inl, inr, All, Bool, true, false, cond, eqb, List, [], ◌∷◌, None, Option, Some, ap, arith, length, refl, subst, suc, sym, zero, ℕ, ℤ}
+use Rattle.std.proofs.Common.{◌≡◌, ◌≢◌, ◌⊎◌, ◌∙◌, ◌==◌, ◌&&◌, inl, inr, All, Bool, true, false, cond, eqb, List, [], ◌∷◌, None, Option, Some, ap, arith, refl, subst, suc, sym, zero, ℕ, ℤ}
 use Rattle.std.specs.Prelude.{slice_get}
 use Rattle.std.specs.List.{position}
-use Rattle.std.proofs.lemmas.Bool.{cases_Bool, eqb-false, eqb-true, false≢true, ne_eqb, true≢false}
-use Rattle.lane_kernels.proofs.Operators.{associative, closed, commutative}
+use Rattle.std.proofs.lemmas.Bool.{cases_Bool, eqb-false, eqb-true, false≢true}
+use Rattle.lane_kernels.proofs.Operators.{associative, commutative}
 use Rattle.lane_kernels.specs.Numbers.{FitsWidth, applied, width_of}
 use Rattle.lane_kernels.specs.declared.numbers.Mode.{Mode}
 use Rattle.lane_kernels.specs.declared.numbers.Mode.TheVariants.{Reduce}

@@ -1,5 +1,5 @@
 -- Laws of the logical map.
-use Rattle.std.specs.Prelude.{◌≡◌, ◌≢◌, ◌⊎◌, ◌+◌, ◌<◌, All, List, [], ◌∷◌, false, filter, length, map, pos, true, ℕ, ℤ}
+use Rattle.std.specs.Prelude.{◌≡◌, ◌≢◌, ◌⊎◌, ◌+◌, ◌<◌, All, List, [], ◌∷◌, false, length, map, true, ℕ, ℤ}
 use Rattle.std.specs.List.Sorted.{IsStrictlyIncreasing}
 use Rattle.lane_kernels.specs.Numbers.{FitsWidth, width_of}
 use Rattle.lane_kernels.specs.declared.numbers.FieldKind.{FieldKind}
@@ -8,7 +8,7 @@ use Rattle.lane_kernels.specs.declared.numbers.Mode.TheVariants.{Reduce}
 use Rattle.lane_kernels.specs.declared.numbers.Op.{Op}
 use Rattle.plain_values.specs.Points.{has, meets}
 use Rattle.region_tree.specs.Pieces.{Held}
-use Rattle.logical_map.specs.Fills.{blank, elements_of, moved_beside, moved_pieces, number_for}
+use Rattle.logical_map.specs.Fills.{blank, elements_of, moved_pieces, number_for}
 use Rattle.logical_map.specs.Gives.{all_given_at, give_pieces, given_at, with_pieces}
 use Rattle.logical_map.specs.Maps.{Column, IsThere, LogicalMap, closed, column_of, columns_of, is_live, number_at, number_in_column, on_column, opened, zero_of}
 
