@@ -1,6 +1,7 @@
 -- Columns that agree at each point, and roots that come and go.
-use Rattle.std.proofs.Common.{◌≡◌, ◌⊎◌, ◌∙◌, ◌<◌, ◌==◌, ◌++◌, ◌||◌, inl, inr, Bool, true, false, cond, eqb, not, List, [], ◌∷◌, ap, arith, get_or, length, map, refl, replicate, Some, suc, sym, zero, ℕ, ℤ}
+use Rattle.std.proofs.Common.{◌≡◌, ◌⊎◌, ◌∙◌, ◌<◌, ◌==◌, ◌++◌, ◌||◌, inl, inr, Bool, true, false, cond, eqb, not, List, [], ◌∷◌, ap, arith, get_or, length, map, refl, replicate, Some, slice_get, suc, sym, zero, ℕ, ℤ}
 use Rattle.std.specs.List.Sorted.{IsStrictlyIncreasing}
+use Rattle.std.proofs.lemmas.Option.{same_Some}
 use Rattle.std.proofs.lemmas.Bool.{cases_Bool, eqb-false, eqb-true, false≢true, ne_eqb, true≢false}
 use Rattle.lane_kernels.specs.declared.numbers.FieldKind.{FieldKind}
 use Rattle.plain_values.specs.Points.{has}
@@ -98,13 +99,23 @@ new_is_zero points [] field point l h = absurd (omega (arith, l))
 new_is_zero points (k ∷ ks) zero point l h = zeros_beside points (zero_of k) point h
 new_is_zero points (k ∷ ks) (suc field) point l h = new_is_zero points ks field point (omega (arith, l)) h
 
+field_kind : (points : List ℕ) (kinds : List FieldKind) (field : ℕ) (kind : FieldKind) → slice_get kinds field ≡ Some kind →
+    (field < length kinds) × ((get_or (map (new_column points) kinds) field no_column).kind ≡ kind)
+field_kind points [] field kind e = absurd cc
+field_kind points (k ∷ ks) zero kind e = (omega arith, same_Some k kind e)
+field_kind points (k ∷ ks) (suc field) kind e =
+    let rest = field_kind points ks field kind e in (omega (arith, rest.0), rest.1)
+
 pub opened_holds_zeros : OpenedHoldsZeros
-opened_holds_zeros root points kinds roots out field point l h =
+opened_holds_zeros root points kinds roots out field kind e =
     let made : LiveRoot = record { root = root; columns = map (new_column points) kinds } in
     let cs : columns_of (roots ++ made ∷ []) root ≡ map (new_column points) kinds = last_columns roots made root out refl in
-    ap (λ (ds : List Column). number_in_column (get_or ds field no_column) point) cs ∙
-    new_is_zero points kinds field point l h ∙
-    sym (ap (λ (ds : List Column). zero_of (get_or ds field no_column).kind) cs)
+    let known = field_kind points kinds field kind e in (
+      ap (λ (ds : List Column). (get_or ds field no_column).kind) cs ∙ known.1,
+      λ point h.
+          ap (λ (ds : List Column). number_in_column (get_or ds field no_column) point) cs
+          ∙ new_is_zero points kinds field point known.0 h ∙ ap zero_of known.1,
+    )
 
 kept_behind : (roots : LogicalMap) (r : LiveRoot) (other : ℕ) → (r.root == other) ≡ false →
     columns_of (roots ++ r ∷ []) other ≡ columns_of roots other

@@ -1,5 +1,5 @@
 -- Laws of the logical map.
-use Rattle.std.specs.Prelude.{◌≡◌, ◌≢◌, ◌⊎◌, ◌+◌, ◌<◌, All, List, [], ◌∷◌, false, length, map, true, ℕ, ℤ}
+use Rattle.std.specs.Prelude.{◌≡◌, ◌≢◌, ◌⊎◌, ◌+◌, All, List, [], ◌∷◌, Some, false, length, map, slice_get, true, ℕ, ℤ}
 use Rattle.std.specs.List.Sorted.{IsStrictlyIncreasing}
 use Rattle.lane_kernels.specs.Numbers.{FitsWidth, width_of}
 use Rattle.lane_kernels.specs.declared.numbers.FieldKind.{FieldKind}
@@ -64,12 +64,12 @@ PointsDecide = (c d : Column) → IsWhole c → IsWhole d → IsStrictlyIncreasi
 
 -- ---- roots that come and go
 
--- a new root holds zeros
+-- a new root has fields of the given kinds, and holds their zeros
 abbrev pub OpenedHoldsZeros : Type 0
 OpenedHoldsZeros = (root : ℕ) (points : List ℕ) (kinds : List FieldKind) (roots : LogicalMap) →
-    is_live roots root ≡ false → (field point : ℕ) → field < length kinds →
-    has points point ≡ true → number_at (opened root points kinds roots) root field point
-    ≡ zero_of (column_of (opened root points kinds roots) root field).kind
+    is_live roots root ≡ false → (field : ℕ) (kind : FieldKind) → slice_get kinds field ≡ Some kind →
+    ((column_of (opened root points kinds roots) root field).kind ≡ kind)
+    × ((point : ℕ) → has points point ≡ true → number_at (opened root points kinds roots) root field point ≡ zero_of kind)
 
 abbrev pub OpenedKeepsOthers : Type 0
 OpenedKeepsOthers = (root : ℕ) (points : List ℕ) (kinds : List FieldKind) (roots : LogicalMap) (other : ℕ) →

@@ -31,7 +31,7 @@ pub fn points_decide()
     ensures { PointsDecide }
 {}
 
-/// A new root holds zeros, a closed one isn't live, and the others stay.
+/// A new root has fields of the given kinds and holds their zeros, a closed one isn't live, and the others stay.
 #[tactic(auto, using(crate::proofs::Deciding::opened_holds_zeros, crate::proofs::Deciding::opened_keeps_others, crate::proofs::Deciding::closed_is_gone, crate::proofs::Deciding::closed_keeps_others))]
 pub fn roots_come_and_go()
     ensures zeros { OpenedHoldsZeros }
