@@ -1,6 +1,6 @@
 //! The slots of a frame that runs.
 
-ghost use Rattle.std.specs.Prelude.{◌≡◌, ◌<◌, IfSome, Some, length, slice_get, slice_set};
+ghost use Rattle.std.specs.Prelude.{◌≡◌, ◌<◌, IfSome, Some, false, length, slice_get, slice_set, true};
 ghost use Rattle.machine_terms.specs.declared.value.Value.TheVariants.{Number};
 
 use machine_terms::Value;
@@ -75,6 +75,26 @@ impl Slots {
         ensures { self.new ≡ slice_set self.old slot (Number z) }
     {
         self.values[slot as usize].set_number(z);
+    }
+
+    /// Puts a number into a slot that holds one, and says whether it did.
+    #[inline(always)]
+    pub fn put_number(&mut self, slot: u32, z: i64) -> bool
+        ensures done { result ≡ true → self.new ≡ slice_set self.old slot (Number z) }
+        ensures there { result ≡ true → slot < length self.old }
+        ensures kept { result ≡ false → self.new ≡ self.old }
+    {
+        let place = slot as usize;
+        if place >= self.values.len() {
+            return false;
+        }
+        match &mut self.values[place] {
+            Value::Number(old) => {
+                *old = z;
+                true
+            }
+            _ => false,
+        }
     }
 
     /// Puts a value into a slot.

@@ -19,13 +19,9 @@ use task_code::{Instr, Line};
 fn turns_back(from: u32, instr: &Instr) -> bool
     ensures { result ≡ turns_back from instr.now }
 {
-    // a loop over numbers first, since most are
-    if let Instr::NextNumber(_, _, _, exit) = instr {
-        return from < *exit;
-    }
     match instr {
         Instr::Turn => true,
-        Instr::NextPoint(_, _, _, _, exit) => from < *exit,
+        Instr::NextNumber(_, _, _, exit) | Instr::NextPoint(_, _, _, _, exit) => from < *exit,
         _ => false,
     }
 }
