@@ -1,0 +1,6 @@
+mod Alike
+mod Instructions
+mod Openings
+mod Operations
+mod Segments
+mod Words
