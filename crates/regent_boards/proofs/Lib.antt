@@ -1,0 +1,5 @@
+pub mod Boards
+pub mod ByNumber
+pub mod Folds
+pub mod NeedLaws
+pub mod RootRenaming

@@ -1,0 +1,77 @@
+-- Frames and what stands in them, as the board's definitions see them: no node numbers, points alone.
+use Rattle.std.specs.Prelude.{Bool, List, Option, ℕ, ℤ}
+use Rattle.lane_kernels.specs.declared.numbers.FieldKind.{FieldKind}
+use Rattle.lane_kernels.specs.declared.numbers.Mode.{Mode}
+use Rattle.lane_kernels.specs.declared.numbers.Op.{Op}
+use Rattle.lane_kernels.specs.declared.numbers.Width.{Width}
+use Rattle.region_tree.specs.Requirements.{Requirement}
+use Rattle.regent_tree.specs.declared.outcome.Fault.{Fault}
+
+-- of the code what the board looks at; the bodies are the segment's
+pub record NeedCode : Type 0 where
+  pub param : ℕ
+  pub field : ℕ
+  pub mode : Mode
+
+pub record TaskCode : Type 0 where
+  pub params : ℕ
+  pub needs : List NeedCode
+  pub slots : ℕ
+
+pub record Code : Type 0 where
+  pub tasks : List TaskCode
+  pub spaces : List (List FieldKind)
+  pub start : ℕ
+
+pub record Region : Type 0 where
+  pub root : ℕ
+  pub points : List ℕ
+
+pub record Partition : Type 0 where
+  pub root : ℕ
+  pub disjoint : Bool
+  pub sets : List (List ℕ)
+
+pub data Value : Type 0 where
+  a_number : ℤ → Value
+  a_space : ℕ → Value
+  a_region : Region → Value
+  a_partition : Partition → Value
+  pending : ℕ → Value
+
+-- how a run breaks off: at a fault, or broken
+pub data Stop : Type 0 where
+  faults_at : Fault → Stop
+  broken : Stop
+
+pub record Frame : Type 0 where
+  pub task : ℕ
+  pub pc : ℕ
+  pub slots : List Value
+  pub stack : List Value
+  pub turns : ℕ
+  pub depth : ℕ
+  pub needs : List Requirement
+  pub own : List ℕ
+  pub children : ℕ
+  pub later : Option Fault
+
+pub data Made : Type 0 where
+  new_root : ℕ → ℕ → Made
+  new_partition : Region → List (List ℕ) → Bool → Made
+
+-- a field of a root
+pub record Key : Type 0 where
+  pub root : ℕ
+  pub field : ℕ
+
+-- a point of a field of a root
+pub record Location : Type 0 where
+  pub root : ℕ
+  pub field : ℕ
+  pub point : ℕ
+
+-- an operator at a width
+pub record OpAt : Type 0 where
+  pub op : Op
+  pub width : Width

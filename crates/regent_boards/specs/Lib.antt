@@ -1,0 +1,5 @@
+pub mod Folds
+pub mod Frames
+pub mod Laws
+pub mod RegentMachine
+pub mod RootRenaming
