@@ -9,10 +9,10 @@ use Rattle.regent_boards.specs.RegentMachine.{name_of, regent_ground, regent_mac
 use Rattle.regent_boards.proofs.NeedLaws.{regent_laws}
 
 pub regent_boards : RegentBoards
-regent_boards program segment keeps =
-    let laws = regent_laws program segment keeps in
-    let G = regent_ground program in
-    let M = regent_machine program name_of segment in
+regent_boards spaces segment keeps =
+    let laws = regent_laws spaces segment keeps in
+    let G = regent_ground spaces in
+    let M = regent_machine spaces name_of segment in
     record {
       finished = finished_as_ordered G M laws;
       in_progress = in_progress_apart G M laws;

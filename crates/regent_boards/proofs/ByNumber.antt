@@ -6,7 +6,7 @@ use Rattle.board_rules.specs.Running.{After, Element}
 use Rattle.number_laws.proofs.ByNumber.{finished_by_number}
 use Rattle.number_codes.specs.Lists.{decoded_list}
 use Rattle.number_codes.proofs.Lists.{lists_tell}
-use Rattle.regent_boards.specs.Frames.{Code, Frame}
+use Rattle.regent_boards.specs.Frames.{Frame, Spaces}
 use Rattle.regent_boards.specs.Laws.{IsMain, KeepsParts, RegentByNumber, RunsRenamed, by_maker, by_number, to_makers}
 use Rattle.regent_boards.specs.RegentMachine.{base, behind_first, name_of, regent_ground, regent_roots}
 use Rattle.regent_boards.specs.RootRenaming.{requirement_to}
@@ -34,11 +34,11 @@ module _ (maker : ℕ → List ℕ) (making : ℕ → ℕ) (differ : Differ make
     ]
   ]
 
-module _ (program : Code) (segment : Frame → List (Element (regent_ground program)) → After (regent_ground program)) (keeps : KeepsParts program segment) (runs : RunsRenamed program segment) where
-  can_rename : (job : Job (regent_ground program)) → IsMain program segment job → (twin : Job (regent_ground program))
-      × Renamable base (regent_roots program) (regent_roots program) (by_number program segment) (by_maker program segment) (to_makers program segment) job twin
+module _ (spaces : Spaces) (segment : Frame → List (Element (regent_ground spaces)) → After (regent_ground spaces)) (keeps : KeepsParts spaces segment) (runs : RunsRenamed spaces segment) where
+  can_rename : (job : Job (regent_ground spaces)) → IsMain spaces segment job → (twin : Job (regent_ground spaces))
+      × Renamable base (regent_roots spaces) (regent_roots spaces) (by_number spaces segment) (by_maker spaces segment) (to_makers spaces segment) job twin
   can_rename job is = (record { frame = job.frame; needs = []; map = λ l. pos 0; needs_nothing = λ l. refl }, record {
-    renamed = λ maker making differ. regent_renamed program maker making (names_differ maker making differ) segment
+    renamed = λ maker making differ. regent_renamed spaces maker making (names_differ maker making differ) segment
         (runs (λ n. name_of (maker n) (making n)) (names_differ maker making differ));
     frame = λ maker making. is.frame (λ n. name_of (maker n) (making n));
     needs = λ maker making. ap (map (requirement_to (λ n. name_of (maker n) (making n)))) (sym is.needs);
@@ -46,6 +46,6 @@ module _ (program : Code) (segment : Frame → List (Element (regent_ground prog
   })
 
 pub regent_by_number : RegentByNumber
-regent_by_number program segment keeps runs =
-    finished_by_number base (regent_roots program) (regent_roots program) (by_number program segment) (by_maker program segment) (to_makers program segment)
-    (regent_laws program segment keeps) (IsMain program segment) (can_rename program segment keeps runs)
+regent_by_number spaces segment keeps runs =
+    finished_by_number base (regent_roots spaces) (regent_roots spaces) (by_number spaces segment) (by_maker spaces segment) (to_makers spaces segment)
+    (regent_laws spaces segment keeps) (IsMain spaces segment) (can_rename spaces segment keeps runs)

@@ -24,7 +24,7 @@ use Rattle.regent_boards.specs.RegentMachine.{as_held, behind_first, fields_of, 
 use Rattle.number_codes.specs.Lists.{decoded_list}
 use Rattle.number_codes.specs.Pairs.{pair_code, second_of}
 use Rattle.number_codes.proofs.Pairs.{pairs_tell}
-use Rattle.regent_boards.specs.Frames.{Code, Frame, Made, OpAt, Location, new_partition, new_root}
+use Rattle.regent_boards.specs.Frames.{Frame, Location, Made, OpAt, Spaces, new_partition, new_root}
 
 -- ---- modes that all commute join to modes that commute
 
@@ -83,11 +83,11 @@ commuting_with (Reduce p) (Reduce q) h = by_test (same_op p q) (λ b. same_op p 
     same : (o : Op) → Reduce p ≡ Reduce o → Reduce q ≡ Reduce o → q ≡ p
     same o a b = ap (op_in q) b ∙ sym (ap (op_in p) a)
 
-module _ (program : Code) where
+module _ (spaces : Spaces) where
   abbrev G : Ground
-  G = regent_ground program
+  G = regent_ground spaces
 
-  held_together : (root field : ℕ) (m n : FieldMode) → Commute m n → Together G (as_held program root field m) (as_held program root field n)
+  held_together : (root field : ℕ) (m n : FieldMode) → Commute m n → Together G (as_held spaces root field m) (as_held spaces root field n)
   held_together root field Read Read c = tt
   held_together root field Read Write (inl e) = absurd cc
   held_together root field Read Write (inr e) = absurd cc
@@ -103,22 +103,22 @@ module _ (program : Code) where
   held_together root field (Reduce p) (Reduce q) (inr e) = ap (λ m. width_in m) (e.1 ∙ sym e.2)
     where
       width_in : FieldMode → OpAt
-      width_in (Reduce o) = record { op = o; width = Rattle.lane_kernels.specs.Numbers.width_of (Rattle.regent_boards.specs.RegentMachine.kind_of program root field) }
-      width_in Read = record { op = p; width = Rattle.lane_kernels.specs.Numbers.width_of (Rattle.regent_boards.specs.RegentMachine.kind_of program root field) }
-      width_in Write = record { op = p; width = Rattle.lane_kernels.specs.Numbers.width_of (Rattle.regent_boards.specs.RegentMachine.kind_of program root field) }
+      width_in (Reduce o) = record { op = o; width = Rattle.lane_kernels.specs.Numbers.width_of (Rattle.regent_boards.specs.RegentMachine.kind_of spaces root field) }
+      width_in Read = record { op = p; width = Rattle.lane_kernels.specs.Numbers.width_of (Rattle.regent_boards.specs.RegentMachine.kind_of spaces root field) }
+      width_in Write = record { op = p; width = Rattle.lane_kernels.specs.Numbers.width_of (Rattle.regent_boards.specs.RegentMachine.kind_of spaces root field) }
 
   -- lists of modes that commute pairwise
   lists_apart : (root field : ℕ) (ms ns : List FieldMode) → ((m n : FieldMode) → Contains ms m → Contains ns n → Commute m n) →
-      Apart G (option_map (as_held program root field) (join_from None ms)) (option_map (as_held program root field) (join_from None ns))
+      Apart G (option_map (as_held spaces root field) (join_from None ms)) (option_map (as_held spaces root field) (join_from None ns))
   lists_apart root field [] ns h = tt
-  lists_apart root field (m ∷ ms) [] h = none (option_map (as_held program root field) (join_from (Some m) ms))
+  lists_apart root field (m ∷ ms) [] h = none (option_map (as_held spaces root field) (join_from (Some m) ms))
     where
       none : (x : Option (Mode OpAt)) → Apart G x None
       none None = tt
       none (Some x) = tt
   lists_apart root field (m ∷ ms) (n ∷ ns) h =
-      subst (λ o. Apart G (option_map (as_held program root field) o) (option_map (as_held program root field) (join_from (Some n) ns))) (sym (join_same m ms (from_each m ms (λ k c. same_mode_of m n both k (h k n (later ms k m c) (first n ns))))))
-      (subst (λ o. Apart G (Some (as_held program root field m)) (option_map (as_held program root field) o)) (sym (join_same n ns (from_each n ns (λ k c. same_mode_of n m (turned m n both) k (turned m k (h m k (first m ms) (later ns k n c)))))))
+      subst (λ o. Apart G (option_map (as_held spaces root field) o) (option_map (as_held spaces root field) (join_from (Some n) ns))) (sym (join_same m ms (from_each m ms (λ k c. same_mode_of m n both k (h k n (later ms k m c) (first n ns))))))
+      (subst (λ o. Apart G (Some (as_held spaces root field m)) (option_map (as_held spaces root field) o)) (sym (join_same n ns (from_each n ns (λ k c. same_mode_of n m (turned m n both) k (turned m k (h m k (first m ms) (later ns k n c)))))))
       (held_together root field m n both))
     where
       first : (m : FieldMode) (ms : List FieldMode) → Contains (m ∷ ms) m
@@ -141,11 +141,11 @@ module _ (program : Code) where
   pub needs_inside : (a b : List Requirement) → is_within a b ≡ true → (l : Location) → Inside G (G.at a l) (G.at b l)
   needs_inside a b e l = by_case (mode_at a l.root l.field l.point) (mode_at b l.root l.field l.point) ((within_tells a b).0 e l.root l.field l.point)
     where
-      by_case : (x y : Option FieldMode) → (x ≡ None) ⊎ ((x ≡ y) ⊎ (y ≡ Some Write)) → Inside G (option_map (as_held program l.root l.field) x) (option_map (as_held program l.root l.field) y)
+      by_case : (x y : Option FieldMode) → (x ≡ None) ⊎ ((x ≡ y) ⊎ (y ≡ Some Write)) → Inside G (option_map (as_held spaces l.root l.field) x) (option_map (as_held spaces l.root l.field) y)
       by_case None y h = tt
       by_case (Some m) y (inl h) = absurd cc
-      by_case (Some m) y (inr (inl h)) = inl (ap (option_map (as_held program l.root l.field)) (sym h))
-      by_case (Some m) y (inr (inr h)) = inr (ap (option_map (as_held program l.root l.field)) h)
+      by_case (Some m) y (inr (inl h)) = inl (ap (option_map (as_held spaces l.root l.field)) (sym h))
+      by_case (Some m) y (inr (inr h)) = inr (ap (option_map (as_held spaces l.root l.field)) h)
 
   -- ---- parts
 
@@ -154,8 +154,8 @@ module _ (program : Code) where
   held_append f (x ∷ xs) ys h k = (h.0, held_append f xs ys h.1 k)
 
   spots_held : (f : Location → Option (Mode OpAt)) (root field : ℕ) (m : FieldMode) (ps : List ℕ) →
-      ((p : ℕ) → has ps p ≡ true → f (record { root = root; field = field; point = p }) ≡ Some (as_held program root field m)) →
-      Held G f (map (λ p. record { location = record { root = root; field = field; point = p }; mode = as_held program root field m }) ps)
+      ((p : ℕ) → has ps p ≡ true → f (record { root = root; field = field; point = p }) ≡ Some (as_held spaces root field m)) →
+      Held G f (map (λ p. record { location = record { root = root; field = field; point = p }; mode = as_held spaces root field m }) ps)
   spots_held f root field m [] h = tt
   spots_held f root field m (p ∷ ps) h = (inl (h p (or_left _ _ (eq-eqb p p refl))), spots_held f root field m ps (λ q e. h q (or_right _ _ e)))
 
@@ -163,13 +163,13 @@ module _ (program : Code) where
   is_mode_some m None e = absurd cc
   is_mode_some m (Some n) e = ap (λ k. Some k) (sym (same_mode-tells m n e))
 
-  pieces_held : (N : List Requirement) (root field : ℕ) (qs : List (List ℕ × FieldMode)) → All (IsPartOf N root field) qs → Held G (G.at N) (spots_of program root field qs)
+  pieces_held : (N : List Requirement) (root field : ℕ) (qs : List (List ℕ × FieldMode)) → All (IsPartOf N root field) qs → Held G (G.at N) (spots_of spaces root field qs)
   pieces_held N root field [] h = tt
   pieces_held N root field (q ∷ qs) h = held_append (G.at N) _ _
-      (spots_held (G.at N) root field q.1 q.0 (λ p e. ap (option_map (as_held program root field)) (is_mode_some q.1 (mode_at N root field p) (sym ((All-head (IsPartOf N root field) q qs h).exact p) ∙ e))))
+      (spots_held (G.at N) root field q.1 q.0 (λ p e. ap (option_map (as_held spaces root field)) (is_mode_some q.1 (mode_at N root field p) (sym ((All-head (IsPartOf N root field) q qs h).exact p) ∙ e))))
       (pieces_held N root field qs (All-tail (IsPartOf N root field) q qs h))
 
-  pub wants_held : (N : List Requirement) (root field : ℕ) → Held G (G.at N) (spots_of program root field (part_of N root field))
+  pub wants_held : (N : List Requirement) (root field : ℕ) → Held G (G.at N) (spots_of spaces root field (part_of N root field))
   wants_held N root field = pieces_held N root field (part_of N root field) (parts_exact N root field)
 
   -- ---- the needs on one field of a root
@@ -184,13 +184,13 @@ module _ (program : Code) where
   mode_narrowed : (root field p : ℕ) (N : List Requirement) → mode_at (filter (is_of root field) N) root field p ≡ mode_at N root field p
   mode_narrowed root field p N = ap (λ rs. join_from None (map (λ (r : Requirement). r.mode) rs)) (filter_twice root field p N)
 
-  narrowed_pieces : (N O : List Requirement) (root field : ℕ) → ((p : ℕ) → mode_at O root field p ≡ mode_at N root field p) → (qs : List (List ℕ × FieldMode)) → All (IsPartOf N root field) qs → Held G (G.at O) (spots_of program root field qs)
+  narrowed_pieces : (N O : List Requirement) (root field : ℕ) → ((p : ℕ) → mode_at O root field p ≡ mode_at N root field p) → (qs : List (List ℕ × FieldMode)) → All (IsPartOf N root field) qs → Held G (G.at O) (spots_of spaces root field qs)
   narrowed_pieces N O root field same [] h = tt
   narrowed_pieces N O root field same (q ∷ qs) h = held_append (G.at O) _ _
-      (spots_held (G.at O) root field q.1 q.0 (λ p e. ap (option_map (as_held program root field)) (same p ∙ is_mode_some q.1 (mode_at N root field p) (sym ((All-head (IsPartOf N root field) q qs h).exact p) ∙ e))))
+      (spots_held (G.at O) root field q.1 q.0 (λ p e. ap (option_map (as_held spaces root field)) (same p ∙ is_mode_some q.1 (mode_at N root field p) (sym ((All-head (IsPartOf N root field) q qs h).exact p) ∙ e))))
       (narrowed_pieces N O root field same qs (All-tail (IsPartOf N root field) q qs h))
 
-  pub narrowed_held : (N : List Requirement) (root field : ℕ) → Held G (G.at (filter (is_of root field) N)) (spots_of program root field (part_of N root field))
+  pub narrowed_held : (N : List Requirement) (root field : ℕ) → Held G (G.at (filter (is_of root field) N)) (spots_of spaces root field (part_of N root field))
   narrowed_held N root field = narrowed_pieces N (filter (is_of root field) N) root field (λ p. mode_narrowed root field p N) (part_of N root field) (parts_exact N root field)
 
   -- ---- makings
@@ -215,40 +215,40 @@ module _ (program : Code) where
       onto (Some Write) = refl
       onto (Some (Reduce q)) = refl
 
-  new_writes : (r size root field p : ℕ) (fs : List ℕ) → AllAre Write (modes_at (needs_of_root program r size fs) root field p)
+  new_writes : (r size root field p : ℕ) (fs : List ℕ) → AllAre Write (modes_at (needs_of_root spaces r size fs) root field p)
   new_writes r size root field p [] = tt
   new_writes r size root field p (f ∷ fs) = by_test (is_at root field p (record { root = r; points = points size; field = f; mode = Write }))
-      (λ b. AllAre Write (map (λ (x : Requirement). x.mode) (cond b (record { root = r; points = points size; field = f; mode = Write } ∷ filter (is_at root field p) (needs_of_root program r size fs)) (filter (is_at root field p) (needs_of_root program r size fs)))))
+      (λ b. AllAre Write (map (λ (x : Requirement). x.mode) (cond b (record { root = r; points = points size; field = f; mode = Write } ∷ filter (is_at root field p) (needs_of_root spaces r size fs)) (filter (is_at root field p) (needs_of_root spaces r size fs)))))
       (λ e. (refl, new_writes r size root field p fs)) (λ e. new_writes r size root field p fs)
 
-  new_elsewhere : (r size root field p : ℕ) (fs : List ℕ) → (r == root) ≡ false → modes_at (needs_of_root program r size fs) root field p ≡ []
+  new_elsewhere : (r size root field p : ℕ) (fs : List ℕ) → (r == root) ≡ false → modes_at (needs_of_root spaces r size fs) root field p ≡ []
   new_elsewhere r size root field p [] e = refl
-  new_elsewhere r size root field p (f ∷ fs) e = ap (λ b. map (λ (x : Requirement). x.mode) (cond (b && (f == field) && has (points size) p) (record { root = r; points = points size; field = f; mode = Write } ∷ filter (is_at root field p) (needs_of_root program r size fs)) (filter (is_at root field p) (needs_of_root program r size fs)))) e
+  new_elsewhere r size root field p (f ∷ fs) e = ap (λ b. map (λ (x : Requirement). x.mode) (cond (b && (f == field) && has (points size) p) (record { root = r; points = points size; field = f; mode = Write } ∷ filter (is_at root field p) (needs_of_root spaces r size fs)) (filter (is_at root field p) (needs_of_root spaces r size fs)))) e
       ∙ new_elsewhere r size root field p fs e
 
   self : (a : Option (Mode OpAt)) → Inside G a a
   self None = tt
   self (Some a) = inl refl
 
-  pub grown_more : (p : List ℕ) (i : ℕ) (d : Made) (N : List Requirement) (l : Location) → Inside G (G.at N l) (G.at (grown_by program (name_of p i) d N) l)
+  pub grown_more : (p : List ℕ) (i : ℕ) (d : Made) (N : List Requirement) (l : Location) → Inside G (G.at N l) (G.at (grown_by spaces (name_of p i) d N) l)
   grown_more p i (new_partition r sets disjoint) N l = self (G.at N l)
   grown_more p i (new_root space size) N l =
-      subst (λ o. Inside G (G.at N l) (option_map (as_held program l.root l.field) o)) (sym whole)
-      (by_writes (mode_at N l.root l.field l.point) (writes_join (mode_at N l.root l.field l.point) new (new_writes (root_of space size (name_of p i)) size l.root l.field l.point (fields_of program space))))
+      subst (λ o. Inside G (G.at N l) (option_map (as_held spaces l.root l.field) o)) (sym whole)
+      (by_writes (mode_at N l.root l.field l.point) (writes_join (mode_at N l.root l.field l.point) new (new_writes (root_of space size (name_of p i)) size l.root l.field l.point (fields_of spaces space))))
     where
       new : List FieldMode
-      new = modes_at (needs_of_root program (root_of space size (name_of p i)) size (fields_of program space)) l.root l.field l.point
+      new = modes_at (needs_of_root spaces (root_of space size (name_of p i)) size (fields_of spaces space)) l.root l.field l.point
 
-      whole : mode_at (grown_by program (name_of p i) (new_root space size) N) l.root l.field l.point ≡ join_from (mode_at N l.root l.field l.point) new
-      whole = ap (join_from None) (modes_append l.root l.field l.point N (needs_of_root program (root_of space size (name_of p i)) size (fields_of program space))) ∙ join_append None (modes_at N l.root l.field l.point) new
+      whole : mode_at (grown_by spaces (name_of p i) (new_root space size) N) l.root l.field l.point ≡ join_from (mode_at N l.root l.field l.point) new
+      whole = ap (join_from None) (modes_append l.root l.field l.point N (needs_of_root spaces (root_of space size (name_of p i)) size (fields_of spaces space))) ∙ join_append None (modes_at N l.root l.field l.point) new
 
       writes_in : (a : Option (Mode OpAt)) → Inside G a (Some writes)
       writes_in None = tt
       writes_in (Some a) = inr refl
 
-      by_writes : (o : Option FieldMode) → (join_from o new ≡ o) ⊎ (join_from o new ≡ Some Write) → Inside G (option_map (as_held program l.root l.field) o) (option_map (as_held program l.root l.field) (join_from o new))
-      by_writes o (inl e) = subst (λ x. Inside G (option_map (as_held program l.root l.field) o) (option_map (as_held program l.root l.field) x)) (sym e) (self (option_map (as_held program l.root l.field) o))
-      by_writes o (inr e) = subst (λ x. Inside G (option_map (as_held program l.root l.field) o) (option_map (as_held program l.root l.field) x)) (sym e) (writes_in (option_map (as_held program l.root l.field) o))
+      by_writes : (o : Option FieldMode) → (join_from o new ≡ o) ⊎ (join_from o new ≡ Some Write) → Inside G (option_map (as_held spaces l.root l.field) o) (option_map (as_held spaces l.root l.field) (join_from o new))
+      by_writes o (inl e) = subst (λ x. Inside G (option_map (as_held spaces l.root l.field) o) (option_map (as_held spaces l.root l.field) x)) (sym e) (self (option_map (as_held spaces l.root l.field) o))
+      by_writes o (inr e) = subst (λ x. Inside G (option_map (as_held spaces l.root l.field) o) (option_map (as_held spaces l.root l.field) x)) (sym e) (writes_in (option_map (as_held spaces l.root l.field) o))
 
   who_told : (space size who : ℕ) → who_of (root_of space size who) ≡ who
   who_told space size who = ap second_of (pairs_tell space (pair_code size who)).1 ∙ (pairs_tell size who).1
@@ -262,17 +262,17 @@ module _ (program : Code) where
   making_told : (p : List ℕ) (i space size : ℕ) → making_of (root_of space size (name_of p i)) ≡ i
   making_told p i space size = ap (λ xs. get_or xs 0 0) (list_told p i space size)
 
-  pub grown_at : (p : List ℕ) (i : ℕ) (d : Made) (N : List Requirement) (l : Location) → (G.at (grown_by program (name_of p i) d N) l ≡ G.at N l) ⊎ ((maker_of l.root ≡ p) × (making_of l.root ≡ i))
+  pub grown_at : (p : List ℕ) (i : ℕ) (d : Made) (N : List Requirement) (l : Location) → (G.at (grown_by spaces (name_of p i) d N) l ≡ G.at N l) ⊎ ((maker_of l.root ≡ p) × (making_of l.root ≡ i))
   grown_at p i (new_partition r sets disjoint) N l = inl refl
   grown_at p i (new_root space size) N l = by_root (root_of space size (name_of p i) == l.root) refl
     where
       r : ℕ
       r = root_of space size (name_of p i)
 
-      by_root : (b : Bool) → (r == l.root) ≡ b → (G.at (grown_by program (name_of p i) (new_root space size) N) l ≡ G.at N l) ⊎ ((maker_of l.root ≡ p) × (making_of l.root ≡ i))
+      by_root : (b : Bool) → (r == l.root) ≡ b → (G.at (grown_by spaces (name_of p i) (new_root space size) N) l ≡ G.at N l) ⊎ ((maker_of l.root ≡ p) × (making_of l.root ≡ i))
       by_root true e = inr (ap maker_of (sym (eqb-true r l.root e)) ∙ maker_told p i space size, ap making_of (sym (eqb-true r l.root e)) ∙ making_told p i space size)
-      by_root false e = inl (ap (option_map (as_held program l.root l.field)) (ap (join_from None) (modes_append l.root l.field l.point N (needs_of_root program r size (fields_of program space))
-          ∙ ap (λ ms. modes_at N l.root l.field l.point ++ ms) (new_elsewhere r size l.root l.field l.point (fields_of program space) e) ∙ append-nil (modes_at N l.root l.field l.point))))
+      by_root false e = inl (ap (option_map (as_held spaces l.root l.field)) (ap (join_from None) (modes_append l.root l.field l.point N (needs_of_root spaces r size (fields_of spaces space))
+          ∙ ap (λ ms. modes_at N l.root l.field l.point ++ ms) (new_elsewhere r size l.root l.field l.point (fields_of spaces space) e) ∙ append-nil (modes_at N l.root l.field l.point))))
 
   mine_append : (p : List ℕ) (i : ℕ) (es ds : List (Effect G)) → MadeAt G p i es → MadeAt G p i ds → MadeAt G p i (es ++ ds)
   mine_append p i [] ds h g = g
@@ -283,12 +283,12 @@ module _ (program : Code) where
   points_mine p i space size f z [] = tt
   points_mine p i space size f z (x ∷ xs) = (maker_told p i space size, making_told p i space size, points_mine p i space size f z xs)
 
-  fields_mine : (p : List ℕ) (i space size : ℕ) (fs : List ℕ) → MadeAt G p i (zeros_of program (root_of space size (name_of p i)) size fs)
+  fields_mine : (p : List ℕ) (i space size : ℕ) (fs : List ℕ) → MadeAt G p i (zeros_of spaces (root_of space size (name_of p i)) size fs)
   fields_mine p i space size [] = tt
   fields_mine p i space size (f ∷ fs) = mine_append p i _ _ (points_mine p i space size f _ (points size)) (fields_mine p i space size fs)
 
-  pub zeros_mine : (p : List ℕ) (i : ℕ) (d : Made) → MadeAt G p i (zeros_for program (name_of p i) d)
-  zeros_mine p i (new_root space size) = fields_mine p i space size (fields_of program space)
+  pub zeros_mine : (p : List ℕ) (i : ℕ) (d : Made) → MadeAt G p i (zeros_for spaces (name_of p i) d)
+  zeros_mine p i (new_root space size) = fields_mine p i space size (fields_of spaces space)
   zeros_mine p i (new_partition r sets disjoint) = tt
 
   -- ---- places and operators
@@ -301,7 +301,7 @@ module _ (program : Code) where
   same_self a = and_from _ _ (eq-eqb a.root a.root refl) (and_from _ _ (eq-eqb a.field a.field refl) (eq-eqb a.point a.point refl))
 
   -- all that the board asks of the machine, where its segment gives back the parts that it was given
-  pub regent_laws : (segment : Frame → List (Element G) → After G) → ((f : Frame) (ps : List (Element G)) → spots G (segment f ps).parts ≡ spots G ps) → Laws G (regent_machine program name_of segment)
+  pub regent_laws : (segment : Frame → List (Element G) → After G) → ((f : Frame) (ps : List (Element G)) → spots G (segment f ps).parts ≡ spots G ps) → Laws G (regent_machine spaces name_of segment)
   regent_laws segment keeps = record {
     terms = record { same_is = same_is; same_self = same_self; swaps = λ o a b c. folds_swap o.op o.width a b c };
     segment_keeps = keeps;

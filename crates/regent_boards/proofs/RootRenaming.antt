@@ -13,10 +13,10 @@ use Rattle.board_rules.specs.Running.{After, Element, Spot}
 use Rattle.board_rules.specs.Renaming.{Renamed, Renames, after_to, effects_to, elements, spots_to}
 use Rattle.board_laws.proofs.Reaching.{by_test}
 use Rattle.regent_boards.specs.RegentMachine.{apart_all, as_held, base, fields_of, is_sound, kind_of, met_frame, met_value, name_of, needs_of_root, pushed_on, regent_ground, regent_machine, regent_roots, root_of, size_of, space_of, spots_of, who_of, zero_of, zeros_of}
-use Rattle.regent_boards.specs.Frames.{Code, Frame, Made, Value, a_number, a_partition, a_region, a_space, new_partition, new_root, pending}
+use Rattle.regent_boards.specs.Frames.{Frame, Made, Spaces, Value, a_number, a_partition, a_region, a_space, new_partition, new_root, pending}
 
 -- a naming of numbers, no two alike
-module _ (program : Code) (name : ℕ → ℕ) (one : (a b : ℕ) → name a ≡ name b → a ≡ b) where
+module _ (spaces : Spaces) (name : ℕ → ℕ) (one : (a b : ℕ) → name a ≡ name b → a ≡ b) where
   abbrev pub to : ℕ → ℕ
   to r = root_of (space_of r) (size_of r) (name (who_of r))
 
@@ -103,13 +103,13 @@ module _ (program : Code) (name : ℕ → ℕ) (one : (a b : ℕ) → name a ≡
       ∙ by_test (is_of root field r) (λ b. cond b (need_to r ∷ map need_to (filter (is_of root field) N)) (map need_to (filter (is_of root field) N)) ≡ map need_to (cond b (r ∷ filter (is_of root field) N) (filter (is_of root field) N)))
       (λ e. refl) (λ e. refl)
 
-  pub held_to : (root field : ℕ) (m : FieldMode) → as_held program (to root) field m ≡ as_held program root field m
+  pub held_to : (root field : ℕ) (m : FieldMode) → as_held spaces (to root) field m ≡ as_held spaces root field m
   held_to root field Read = refl
   held_to root field Write = refl
-  held_to root field (Reduce o) = λ i. Rattle.board_rules.specs.Ground.reduces (record { op = o; width = Rattle.lane_kernels.specs.Numbers.width_of (Rattle.std.proofs.Common.get_or (Rattle.std.proofs.Common.get_or program.spaces (space_to root i) []) field Rattle.lane_kernels.specs.declared.numbers.FieldKind.TheVariants.Int64) })
+  held_to root field (Reduce o) = λ i. Rattle.board_rules.specs.Ground.reduces (record { op = o; width = Rattle.lane_kernels.specs.Numbers.width_of (Rattle.std.proofs.Common.get_or (Rattle.std.proofs.Common.get_or spaces (space_to root i) []) field Rattle.lane_kernels.specs.declared.numbers.FieldKind.TheVariants.Int64) })
 
-  pub kind_to : (root field : ℕ) → kind_of program (to root) field ≡ kind_of program root field
-  kind_to root field = λ i. Rattle.std.proofs.Common.get_or (Rattle.std.proofs.Common.get_or program.spaces (space_to root i) []) field Rattle.lane_kernels.specs.declared.numbers.FieldKind.TheVariants.Int64
+  pub kind_to : (root field : ℕ) → kind_of spaces (to root) field ≡ kind_of spaces root field
+  kind_to root field = λ i. Rattle.std.proofs.Common.get_or (Rattle.std.proofs.Common.get_or spaces (space_to root i) []) field Rattle.lane_kernels.specs.declared.numbers.FieldKind.TheVariants.Int64
 
   -- ---- frames
 
@@ -138,7 +138,7 @@ module _ (program : Code) (name : ℕ → ℕ) (one : (a b : ℕ) → name a ≡
   made_to (new_root space size) = new_root space size
   made_to (new_partition r sets disjoint) = new_partition (record { root = to r.root; points = r.points }) sets disjoint
 
-  abbrev pub root_renames : Renames base (regent_roots program) (regent_roots program)
+  abbrev pub root_renames : Renames base (regent_roots spaces) (regent_roots spaces)
   root_renames = record {
     loc = λ l. record { root = to l.root; field = l.field; point = l.point };
     needs = map need_to;
@@ -147,7 +147,7 @@ module _ (program : Code) (name : ℕ → ℕ) (one : (a b : ℕ) → name a ≡
     made = made_to;
   }
 
-  met_to : (c : ℕ) (o : Option ℤ) (v : Value) → met_value program c o (value_to v) ≡ value_to (met_value program c o v)
+  met_to : (c : ℕ) (o : Option ℤ) (v : Value) → met_value spaces c o (value_to v) ≡ value_to (met_value spaces c o v)
   met_to c (Some z) (pending d) = by_test (nat_eq c d) (λ b. cond b (a_number z) (pending d) ≡ value_to (cond b (a_number z) (pending d))) (λ e. refl) (λ e. refl)
   met_to c None (pending d) = by_test (nat_eq c d) (λ b. cond b (a_number (Rattle.std.proofs.Common.pos 0)) (pending d) ≡ value_to (cond b (a_number (Rattle.std.proofs.Common.pos 0)) (pending d))) (λ e. refl) (λ e. refl)
   met_to c (Some z) (a_number x) = refl
@@ -159,20 +159,20 @@ module _ (program : Code) (name : ℕ → ℕ) (one : (a b : ℕ) → name a ≡
   met_to c (Some z) (a_partition q) = refl
   met_to c None (a_partition q) = refl
 
-  slots_to : (c : ℕ) (o : Option ℤ) (vs : List Value) → map (met_value program c o) (map value_to vs) ≡ map value_to (map (met_value program c o) vs)
+  slots_to : (c : ℕ) (o : Option ℤ) (vs : List Value) → map (met_value spaces c o) (map value_to vs) ≡ map value_to (map (met_value spaces c o) vs)
   slots_to c o [] = refl
   slots_to c o (v ∷ vs) = λ i. met_to c o v i ∷ slots_to c o vs i
 
-  points_to : (root field : ℕ) (m : FieldMode) (ps : List ℕ) (rest : List (Spot (regent_ground program))) →
-      map (λ p. record { location = record { root = to root; field = field; point = p }; mode = as_held program (to root) field m }) ps ++ spots_to base (regent_roots program) (regent_roots program) root_renames rest
-      ≡ spots_to base (regent_roots program) (regent_roots program) root_renames (map (λ p. record { location = record { root = root; field = field; point = p }; mode = as_held program root field m }) ps ++ rest)
+  points_to : (root field : ℕ) (m : FieldMode) (ps : List ℕ) (rest : List (Spot (regent_ground spaces))) →
+      map (λ p. record { location = record { root = to root; field = field; point = p }; mode = as_held spaces (to root) field m }) ps ++ spots_to base (regent_roots spaces) (regent_roots spaces) root_renames rest
+      ≡ spots_to base (regent_roots spaces) (regent_roots spaces) root_renames (map (λ p. record { location = record { root = root; field = field; point = p }; mode = as_held spaces root field m }) ps ++ rest)
   points_to root field m [] rest = refl
   points_to root field m (p ∷ ps) rest = λ i. record { location = record { root = to root; field = field; point = p }; mode = held_to root field m i } ∷ points_to root field m ps rest i
 
-  pieces_to : (root field : ℕ) (qs : List (List ℕ × FieldMode)) → spots_of program (to root) field qs ≡ spots_to base (regent_roots program) (regent_roots program) root_renames (spots_of program root field qs)
+  pieces_to : (root field : ℕ) (qs : List (List ℕ × FieldMode)) → spots_of spaces (to root) field qs ≡ spots_to base (regent_roots spaces) (regent_roots spaces) root_renames (spots_of spaces root field qs)
   pieces_to root field [] = refl
-  pieces_to root field (q ∷ qs) = ap (λ xs. map (λ p. record { location = record { root = to root; field = field; point = p }; mode = as_held program (to root) field q.1 }) q.0 ++ xs) (pieces_to root field qs)
-      ∙ points_to root field q.1 q.0 (spots_of program root field qs)
+  pieces_to root field (q ∷ qs) = ap (λ xs. map (λ p. record { location = record { root = to root; field = field; point = p }; mode = as_held spaces (to root) field q.1 }) q.0 ++ xs) (pieces_to root field qs)
+      ∙ points_to root field q.1 q.0 (spots_of spaces root field qs)
 
   append_to : (N O : List Requirement) → map need_to N ++ map need_to O ≡ map need_to (N ++ O)
   append_to [] O = refl
@@ -182,46 +182,46 @@ module _ (program : Code) (name : ℕ → ℕ) (one : (a b : ℕ) → name a ≡
   own_to [] r = refl
   own_to (x ∷ xs) r = ap (λ ys. to x ∷ ys) (own_to xs r)
 
-  new_needs_to : (r size : ℕ) (fs : List ℕ) → needs_of_root program (to r) size fs ≡ map need_to (needs_of_root program r size fs)
+  new_needs_to : (r size : ℕ) (fs : List ℕ) → needs_of_root spaces (to r) size fs ≡ map need_to (needs_of_root spaces r size fs)
   new_needs_to r size [] = refl
   new_needs_to r size (f ∷ fs) = ap (λ xs. record { root = to r; points = points size; field = f; mode = Write } ∷ xs) (new_needs_to r size fs)
 
-  zero_points_to : (r field : ℕ) (ps : List ℕ) (rest : List (Effect (regent_ground program))) →
-      map (λ p. put (record { root = to r; field = field; point = p }) (zero_of program (kind_of program (to r) field))) ps ++ effects_to base (regent_roots program) (regent_roots program) root_renames rest
-      ≡ effects_to base (regent_roots program) (regent_roots program) root_renames (map (λ p. put (record { root = r; field = field; point = p }) (zero_of program (kind_of program r field))) ps ++ rest)
+  zero_points_to : (r field : ℕ) (ps : List ℕ) (rest : List (Effect (regent_ground spaces))) →
+      map (λ p. put (record { root = to r; field = field; point = p }) (zero_of spaces (kind_of spaces (to r) field))) ps ++ effects_to base (regent_roots spaces) (regent_roots spaces) root_renames rest
+      ≡ effects_to base (regent_roots spaces) (regent_roots spaces) root_renames (map (λ p. put (record { root = r; field = field; point = p }) (zero_of spaces (kind_of spaces r field))) ps ++ rest)
   zero_points_to r field [] rest = refl
-  zero_points_to r field (p ∷ ps) rest = λ i. put (record { root = to r; field = field; point = p }) (zero_of program (kind_to r field i)) ∷ zero_points_to r field ps rest i
+  zero_points_to r field (p ∷ ps) rest = λ i. put (record { root = to r; field = field; point = p }) (zero_of spaces (kind_to r field i)) ∷ zero_points_to r field ps rest i
 
-  zeros_to : (r size : ℕ) (fs : List ℕ) → zeros_of program (to r) size fs ≡ effects_to base (regent_roots program) (regent_roots program) root_renames (zeros_of program r size fs)
+  zeros_to : (r size : ℕ) (fs : List ℕ) → zeros_of spaces (to r) size fs ≡ effects_to base (regent_roots spaces) (regent_roots spaces) root_renames (zeros_of spaces r size fs)
   zeros_to r size [] = refl
-  zeros_to r size (f ∷ fs) = ap (λ xs. map (λ p. put (record { root = to r; field = f; point = p }) (zero_of program (kind_of program (to r) f))) (points size) ++ xs) (zeros_to r size fs)
-      ∙ zero_points_to r f (points size) (zeros_of program r size fs)
+  zeros_to r size (f ∷ fs) = ap (λ xs. map (λ p. put (record { root = to r; field = f; point = p }) (zero_of spaces (kind_of spaces (to r) f))) (points size) ++ xs) (zeros_to r size fs)
+      ∙ zero_points_to r f (points size) (zeros_of spaces r size fs)
 
 -- What the board asks of the machine over names is what it asks over numbers, renamed, where the segment is.
-module _ (program : Code) (maker : ℕ → List ℕ) (making : ℕ → ℕ) (one : (a b : ℕ) → name_of (maker a) (making a) ≡ name_of (maker b) (making b) → a ≡ b) where
+module _ (spaces : Spaces) (maker : ℕ → List ℕ) (making : ℕ → ℕ) (one : (a b : ℕ) → name_of (maker a) (making a) ≡ name_of (maker b) (making b) → a ≡ b) where
   abbrev name : ℕ → ℕ
   name n = name_of (maker n) (making n)
 
-  named : (space size n i : ℕ) (p : List ℕ) → maker n ≡ p → making n ≡ i → to program name one (root_of space size n) ≡ root_of space size (name_of p i)
-  named space size n i p a b = to_named program name one space size n ∙ (λ j. root_of space size (name_of (a j) (b j)))
+  named : (space size n i : ℕ) (p : List ℕ) → maker n ≡ p → making n ≡ i → to spaces name one (root_of space size n) ≡ root_of space size (name_of p i)
+  named space size n i p a b = to_named spaces name one space size n ∙ (λ j. root_of space size (name_of (a j) (b j)))
 
-  sound_to : (d : Made) → is_sound program (made_to program name one d) ≡ is_sound program d
+  sound_to : (d : Made) → is_sound spaces (made_to spaces name one d) ≡ is_sound spaces d
   sound_to (new_root space size) = refl
   sound_to (new_partition r sets disjoint) = refl
 
   pushed_to : (n i : ℕ) (p : List ℕ) (d : Made) (f : Frame) → maker n ≡ p → making n ≡ i →
-      pushed_on program (name_of p i) (made_to program name one d) (frame_to program name one f) ≡ frame_to program name one (pushed_on program n d f)
+      pushed_on spaces (name_of p i) (made_to spaces name one d) (frame_to spaces name one f) ≡ frame_to spaces name one (pushed_on spaces n d f)
   pushed_to n i p (new_partition r sets disjoint) f a b = refl
   pushed_to n i p (new_root space size) f a b =
       (λ j. pushed_with (sym (named space size n i p a b) j)) ∙ (λ j. record {
         task = f.task;
         pc = f.pc;
-        slots = map (value_to program name one) f.slots;
-        stack = a_region (record { root = to program name one (root_of space size n); points = points size }) ∷ map (value_to program name one) f.stack;
+        slots = map (value_to spaces name one) f.slots;
+        stack = a_region (record { root = to spaces name one (root_of space size n); points = points size }) ∷ map (value_to spaces name one) f.stack;
         turns = f.turns;
         depth = f.depth;
-        needs = (ap (λ xs. map (need_to program name one) f.needs ++ xs) (new_needs_to program name one (root_of space size n) size (fields_of program space)) ∙ append_to program name one f.needs (needs_of_root program (root_of space size n) size (fields_of program space))) j;
-        own = own_to program name one f.own (root_of space size n) j;
+        needs = (ap (λ xs. map (need_to spaces name one) f.needs ++ xs) (new_needs_to spaces name one (root_of space size n) size (fields_of spaces space)) ∙ append_to spaces name one f.needs (needs_of_root spaces (root_of space size n) size (fields_of spaces space))) j;
+        own = own_to spaces name one f.own (root_of space size n) j;
         children = f.children;
         later = f.later;
       })
@@ -230,53 +230,53 @@ module _ (program : Code) (maker : ℕ → List ℕ) (making : ℕ → ℕ) (one
       pushed_with r = record {
         task = f.task;
         pc = f.pc;
-        slots = map (value_to program name one) f.slots;
-        stack = a_region (record { root = r; points = points size }) ∷ map (value_to program name one) f.stack;
+        slots = map (value_to spaces name one) f.slots;
+        stack = a_region (record { root = r; points = points size }) ∷ map (value_to spaces name one) f.stack;
         turns = f.turns;
         depth = f.depth;
-        needs = map (need_to program name one) f.needs ++ needs_of_root program r size (fields_of program space);
-        own = map (to program name one) f.own ++ r ∷ [];
+        needs = map (need_to spaces name one) f.needs ++ needs_of_root spaces r size (fields_of spaces space);
+        own = map (to spaces name one) f.own ++ r ∷ [];
         children = f.children;
         later = f.later;
       }
 
   grown_to : (n i : ℕ) (p : List ℕ) (d : Made) (N : List Requirement) → maker n ≡ p → making n ≡ i →
-      Rattle.regent_boards.specs.RegentMachine.grown_by program (name_of p i) (made_to program name one d) (map (need_to program name one) N) ≡ map (need_to program name one) (Rattle.regent_boards.specs.RegentMachine.grown_by program n d N)
+      Rattle.regent_boards.specs.RegentMachine.grown_by spaces (name_of p i) (made_to spaces name one d) (map (need_to spaces name one) N) ≡ map (need_to spaces name one) (Rattle.regent_boards.specs.RegentMachine.grown_by spaces n d N)
   grown_to n i p (new_partition r sets disjoint) N a b = refl
   grown_to n i p (new_root space size) N a b =
-      (λ j. map (need_to program name one) N ++ needs_of_root program (sym (named space size n i p a b) j) size (fields_of program space))
-      ∙ ap (λ xs. map (need_to program name one) N ++ xs) (new_needs_to program name one (root_of space size n) size (fields_of program space))
-      ∙ append_to program name one N (needs_of_root program (root_of space size n) size (fields_of program space))
+      (λ j. map (need_to spaces name one) N ++ needs_of_root spaces (sym (named space size n i p a b) j) size (fields_of spaces space))
+      ∙ ap (λ xs. map (need_to spaces name one) N ++ xs) (new_needs_to spaces name one (root_of space size n) size (fields_of spaces space))
+      ∙ append_to spaces name one N (needs_of_root spaces (root_of space size n) size (fields_of spaces space))
 
   made_zeros_to : (n i : ℕ) (p : List ℕ) (d : Made) → maker n ≡ p → making n ≡ i →
-      Rattle.regent_boards.specs.RegentMachine.zeros_for program (name_of p i) (made_to program name one d) ≡ effects_to base (regent_roots program) (regent_roots program) (root_renames program name one) (Rattle.regent_boards.specs.RegentMachine.zeros_for program n d)
+      Rattle.regent_boards.specs.RegentMachine.zeros_for spaces (name_of p i) (made_to spaces name one d) ≡ effects_to base (regent_roots spaces) (regent_roots spaces) (root_renames spaces name one) (Rattle.regent_boards.specs.RegentMachine.zeros_for spaces n d)
   made_zeros_to n i p (new_partition r sets disjoint) a b = refl
   made_zeros_to n i p (new_root space size) a b =
-      (λ j. zeros_of program (sym (named space size n i p a b) j) size (fields_of program space)) ∙ zeros_to program name one (root_of space size n) size (fields_of program space)
+      (λ j. zeros_of spaces (sym (named space size n i p a b) j) size (fields_of spaces space)) ∙ zeros_to spaces name one (root_of space size n) size (fields_of spaces space)
 
-  pub regent_renamed : (segment : Frame → List (Element (regent_ground program)) → After (regent_ground program)) →
-      ((f : Frame) (ps : List (Element (regent_ground program))) → segment (frame_to program name one f) (elements base (regent_roots program) (regent_roots program) (root_renames program name one) ps) ≡ after_to base (regent_roots program) (regent_roots program) (root_renames program name one) (segment f ps)) →
-      Renamed base (regent_roots program) (regent_roots program) (λ n. regent_machine program (λ p i. n) segment) (regent_machine program name_of segment) (root_renames program name one) maker making
+  pub regent_renamed : (segment : Frame → List (Element (regent_ground spaces)) → After (regent_ground spaces)) →
+      ((f : Frame) (ps : List (Element (regent_ground spaces))) → segment (frame_to spaces name one f) (elements base (regent_roots spaces) (regent_roots spaces) (root_renames spaces name one) ps) ≡ after_to base (regent_roots spaces) (regent_roots spaces) (root_renames spaces name one) (segment f ps)) →
+      Renamed base (regent_roots spaces) (regent_roots spaces) (λ n. regent_machine spaces (λ p i. n) segment) (regent_machine spaces name_of segment) (root_renames spaces name one) maker making
   regent_renamed segment runs = record {
-    same = λ a b i. to_same program name one a.root b.root i && (nat_eq a.field b.field && nat_eq a.point b.point);
+    same = λ a b i. to_same spaces name one a.root b.root i && (nat_eq a.field b.field && nat_eq a.point b.point);
     segment = λ n f ps. runs f ps;
     met = λ n f c v i. record {
       task = f.task;
       pc = f.pc;
-      slots = slots_to program name one c v f.slots i;
-      stack = map (value_to program name one) f.stack;
+      slots = slots_to spaces name one c v f.slots i;
+      stack = map (value_to spaces name one) f.stack;
       turns = f.turns;
       depth = f.depth;
-      needs = map (need_to program name one) f.needs;
-      own = map (to program name one) f.own;
+      needs = map (need_to spaces name one) f.needs;
+      own = map (to spaces name one) f.own;
       children = f.children;
       later = f.later;
     };
     no_answer = λ n. refl;
-    meets = λ n a b. interfere_to program name one a b;
-    inside = λ n a b. within_to program name one a b;
-    wanted = λ n N k. ap (spots_of program (to program name one k.root) k.field) (part_to program name one k.root k.field N) ∙ pieces_to program name one k.root k.field (part_of N k.root k.field);
-    narrowed = λ n N k. filter_to program name one k.root k.field N;
+    meets = λ n a b. interfere_to spaces name one a b;
+    inside = λ n a b. within_to spaces name one a b;
+    wanted = λ n N k. ap (spots_of spaces (to spaces name one k.root) k.field) (part_to spaces name one k.root k.field N) ∙ pieces_to spaces name one k.root k.field (part_of N k.root k.field);
+    narrowed = λ n N k. filter_to spaces name one k.root k.field N;
     chunk = λ n. refl;
     sound = λ n d. sound_to d;
     pushed = λ n i p d f a b. pushed_to n i p d f a b;

@@ -1,27 +1,14 @@
--- Frames and what stands in them, as the board's definitions see them: no node numbers, points alone.
+-- Frames and what stands in them, as the laws of boards see them: regions have points and no node.
 use Rattle.std.specs.Prelude.{Bool, List, Option, ℕ, ℤ}
 use Rattle.lane_kernels.specs.declared.numbers.FieldKind.{FieldKind}
-use Rattle.lane_kernels.specs.declared.numbers.Mode.{Mode}
 use Rattle.lane_kernels.specs.declared.numbers.Op.{Op}
 use Rattle.lane_kernels.specs.declared.numbers.Width.{Width}
 use Rattle.region_tree.specs.Requirements.{Requirement}
 use Rattle.regent_tree.specs.declared.outcome.Fault.{Fault}
 
--- of the code what the board looks at; the bodies are the segment's
-pub record NeedCode : Type 0 where
-  pub param : ℕ
-  pub field : ℕ
-  pub mode : Mode
-
-pub record TaskCode : Type 0 where
-  pub params : ℕ
-  pub needs : List NeedCode
-  pub slots : ℕ
-
-pub record Code : Type 0 where
-  pub tasks : List TaskCode
-  pub spaces : List (List FieldKind)
-  pub start : ℕ
+-- the field spaces of a code: the kinds of the fields of each
+abbrev pub Spaces : Type 0
+Spaces = List (List FieldKind)
 
 pub record Region : Type 0 where
   pub root : ℕ

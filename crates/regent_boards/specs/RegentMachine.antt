@@ -15,7 +15,7 @@ use Rattle.board_rules.specs.Ground.{Ground, Mode, reads, reduces, writes}
 use Rattle.board_rules.specs.Processes.{Effect, put}
 use Rattle.board_rules.specs.Running.{After, Element, Machine, Spot}
 use Rattle.board_rules.specs.Renaming.{Base, Roots, ground_over}
-use Rattle.regent_boards.specs.Frames.{Code, Frame, Key, Made, OpAt, Location, Stop, Value, a_number, a_partition, a_region, broken, new_partition, new_root, pending}
+use Rattle.regent_boards.specs.Frames.{Frame, Key, Location, Made, OpAt, Spaces, Stop, Value, a_number, a_partition, a_region, broken, new_partition, new_root, pending}
 
 abbrev pub base : Base
 base = record {
@@ -58,9 +58,9 @@ making_of root = get_or (decoded_list (who_of root)) 0 0
 abbrev pub maker_of : ℕ → List ℕ
 maker_of root = behind_first (decoded_list (who_of root))
 
-module _ (program : Code) where
+module _ (spaces : Spaces) where
   abbrev pub kinds_of : ℕ → List FieldKind
-  kinds_of root = get_or program.spaces (space_of root) []
+  kinds_of root = get_or spaces (space_of root) []
 
   abbrev pub kind_of : ℕ → ℕ → FieldKind
   kind_of root field = get_or (kinds_of root) field Int64
@@ -107,7 +107,7 @@ module _ (program : Code) where
   needs_of_root root size (f ∷ fs) = record { root = root; points = points size; field = f; mode = Write } ∷ needs_of_root root size fs
 
   abbrev pub fields_of : ℕ → List ℕ
-  fields_of space = points (length (get_or program.spaces space []))
+  fields_of space = points (length (get_or spaces space []))
 
   abbrev pub zero_of : FieldKind → ℤ
   zero_of Pointer = Rattle.std.specs.Prelude.negsuc 0

@@ -3,7 +3,7 @@ use Rattle.std.specs.Prelude.{◌≡◌, map, ℕ}
 use Rattle.region_tree.specs.Requirements.{Requirement}
 use Rattle.board_rules.specs.Renaming.{Renames}
 use Rattle.regent_boards.specs.RegentMachine.{base, regent_roots, root_of, size_of, space_of, who_of}
-use Rattle.regent_boards.specs.Frames.{Code, Frame, Made, Value, a_number, a_partition, a_region, a_space, new_partition, new_root, pending}
+use Rattle.regent_boards.specs.Frames.{Frame, Made, Spaces, Value, a_number, a_partition, a_region, a_space, new_partition, new_root, pending}
 
 module _ (name : ℕ → ℕ) where
   abbrev pub IsOneToOne : Type 0
@@ -40,8 +40,8 @@ module _ (name : ℕ → ℕ) where
   renamed_made (new_root space size) = new_root space size
   renamed_made (new_partition r sets disjoint) = new_partition (record { root = root_to r.root; points = r.points }) sets disjoint
 
-  abbrev pub renaming : (program : Code) → Renames base (regent_roots program) (regent_roots program)
-  renaming program = record {
+  abbrev pub renaming : (spaces : Spaces) → Renames base (regent_roots spaces) (regent_roots spaces)
+  renaming spaces = record {
     loc = λ l. record { root = root_to l.root; field = l.field; point = l.point };
     needs = map requirement_to;
     frame = renamed_frame;
