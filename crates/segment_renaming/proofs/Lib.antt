@@ -1,6 +1,6 @@
-mod Alike
+pub mod Alike
 mod Instructions
-mod Openings
+pub mod Openings
 mod Operations
-mod Segments
+pub mod Segments
 mod Words

@@ -1,0 +1,4 @@
+pub mod Boards
+pub mod Elements
+pub mod Regrouping
+pub mod Views

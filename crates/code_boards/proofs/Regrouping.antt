@@ -1,0 +1,96 @@
+-- The elements of a part come back together to its pieces.
+use Rattle.std.proofs.Common.{◌≡◌, ℕ, ℤ, List, [], ◌∷◌, ◌++◌, Bool, true, false, cond, refl, ap, ◌∙◌, eq-eqb}
+use Rattle.std.proofs.lemmas.Bool.{and_from}
+use Rattle.lane_kernels.specs.declared.numbers.Mode.{Mode}
+use Rattle.lane_kernels.specs.declared.numbers.Mode.TheVariants.{Read, Reduce, Write}
+use Rattle.region_tree.specs.declared.piece.Part.{Part}
+use Rattle.region_tree.specs.Pieces.{Held}
+use Rattle.region_tree.specs.Requirements.{same_mode}
+use Rattle.region_tree.proofs.Joins.{same_mode-itself}
+use Rattle.task_code.specs.declared.code.Code.{Code}
+use Rattle.machine_terms.specs.Parts.{is_part_of}
+use Rattle.board_rules.specs.Running.{Element}
+use Rattle.regent_boards.specs.RegentMachine.{as_held, regent_ground}
+use Rattle.code_boards.specs.Views.{mode_in, onto_parts, onto_pieces, part_with, parts_in, piece_with, spaces_of}
+
+module _ (code : Code) (root field : ℕ) where
+  abbrev pub elements : Mode → List ℕ → List ℤ → List (Element (regent_ground (spaces_of code)))
+  elements m (p ∷ ps) (z ∷ zs) = record {
+    location = record { root = root; field = field; point = p };
+    mode = as_held (spaces_of code) root field m;
+    number = z;
+  } ∷ elements m ps zs
+  elements m _ _ = []
+
+  abbrev pub all_elements : List Held → List (Element (regent_ground (spaces_of code)))
+  all_elements [] = []
+  all_elements (h ∷ hs) = elements h.mode h.points h.values ++ all_elements hs
+
+  -- pieces that follow one another are in different modes, and have points, each with a number
+  abbrev Differs : Mode → List Held → Type 0
+  Differs m [] = Unit {0}
+  Differs m (h ∷ hs) = same_mode m h.mode ≡ false
+
+  abbrev AreNumbered : List ℕ → List ℤ → Type 0
+  AreNumbered [] [] = Unit {0}
+  AreNumbered (p ∷ ps) (z ∷ zs) = AreNumbered ps zs
+  AreNumbered _ _ = ⊥
+
+  abbrev IsPiece : List ℕ → List ℤ → Type 0
+  IsPiece (p ∷ ps) (z ∷ zs) = AreNumbered ps zs
+  IsPiece _ _ = ⊥
+
+  abbrev pub ArePieces : List Held → Type 0
+  ArePieces [] = Unit {0}
+  ArePieces (h ∷ hs) = IsPiece h.points h.values × Differs h.mode hs × ArePieces hs
+
+  abbrev pub grouped : List Held → List Part
+  grouped [] = []
+  grouped (h ∷ hs) = part_with code root field (h ∷ hs) ∷ []
+
+  held_mode : (m : Mode) → mode_in code (as_held (spaces_of code) root field m) ≡ m
+  held_mode Read = refl
+  held_mode Write = refl
+  held_mode (Reduce o) = refl
+
+  onto_first : (m : Mode) (p : ℕ) (z : ℤ) (h : Held) (hs : List Held) →
+      onto_parts code root field m p z (grouped (h ∷ hs)) ≡ part_with code root field (onto_pieces code m p z (h ∷ hs)) ∷ []
+  onto_first m p z h hs = chosen (is_part_of root field (part_with code root field (h ∷ hs)))
+      (and_from _ _ (eq-eqb root root refl) (eq-eqb field field refl))
+    where
+      chosen : (b : Bool) → b ≡ true →
+          cond b (part_with code root field (onto_pieces code m p z (h ∷ hs)) ∷ [])
+          (part_with code root field (piece_with code m p z ∷ []) ∷ part_with code root field (h ∷ hs) ∷ [])
+          ≡ part_with code root field (onto_pieces code m p z (h ∷ hs)) ∷ []
+      chosen true e = refl
+      chosen false e = absurd cc
+
+  onto_new : (m : Mode) (p : ℕ) (z : ℤ) (hs : List Held) → Differs m hs →
+      onto_parts code root field m p z (grouped hs) ≡ grouped (piece_with code m p z ∷ hs)
+  onto_new m p z [] d = refl
+  onto_new m p z (h ∷ hs) d = onto_first m p z h hs ∙ ap (λ b. part_with code root field (cond b
+      (record { points = p ∷ h.points; mode = h.mode; values = z ∷ h.values } ∷ hs) (piece_with code m p z ∷ h ∷ hs)) ∷ []) d
+
+  onto_same : (m : Mode) (p : ℕ) (z : ℤ) (ps : List ℕ) (zs : List ℤ) (hs : List Held) →
+      onto_parts code root field m p z (grouped (record { points = ps; mode = m; values = zs } ∷ hs))
+      ≡ grouped (record { points = p ∷ ps; mode = m; values = z ∷ zs } ∷ hs)
+  onto_same m p z ps zs hs = onto_first m p z (record { points = ps; mode = m; values = zs }) hs
+      ∙ ap (λ b. part_with code root field (cond b (record { points = p ∷ ps; mode = m; values = z ∷ zs } ∷ hs)
+      (piece_with code m p z ∷ record { points = ps; mode = m; values = zs } ∷ hs)) ∷ []) (same_mode-itself m)
+
+  piece_grouped : (m : Mode) (ps : List ℕ) (zs : List ℤ) (hs : List Held) (rest : List (Element (regent_ground (spaces_of code)))) →
+      IsPiece ps zs → Differs m hs → parts_in code rest ≡ grouped hs →
+      parts_in code (elements m ps zs ++ rest) ≡ grouped (record { points = ps; mode = m; values = zs } ∷ hs)
+  piece_grouped m [] zs hs rest i d e = absurd i
+  piece_grouped m (p ∷ ps) [] hs rest i d e = absurd i
+  piece_grouped m (p ∷ []) (z ∷ []) hs rest i d e =
+      (λ j. onto_parts code root field (held_mode m j) p z (e j)) ∙ onto_new m p z hs d
+  piece_grouped m (p ∷ []) (z ∷ y ∷ zs) hs rest i d e = absurd i
+  piece_grouped m (p ∷ q ∷ ps) (z ∷ []) hs rest i d e = absurd i
+  piece_grouped m (p ∷ q ∷ ps) (z ∷ y ∷ zs) hs rest i d e =
+      (λ j. onto_parts code root field (held_mode m j) p z (piece_grouped m (q ∷ ps) (y ∷ zs) hs rest i d e j))
+      ∙ onto_same m p z (q ∷ ps) (y ∷ zs) hs
+
+  pub regrouped : (hs : List Held) → ArePieces hs → parts_in code (all_elements hs) ≡ grouped hs
+  regrouped [] a = refl
+  regrouped (h ∷ hs) a = piece_grouped h.mode h.points h.values hs (all_elements hs) a.0 a.1 (regrouped hs a.2)

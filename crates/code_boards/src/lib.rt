@@ -1,0 +1,23 @@
+//! Boards over the segments of a code: the machine, as the laws of boards see it, keeps what they ask of it. So
+//! whatever steps the seats of a board make, it keeps the order of the program.
+//!
+//! What is said stands under specs/. Each function has an empty body; its contract is a law.
+#![tactic(auto)]
+
+ghost use Rattle.code_boards.specs.Laws.{BoardsFinishInOrder, BoardsKeepOrder, ElementsAreParts};
+
+/// Of each code: a finished board has the outcome of the run in order, operations in progress don't interfere, a
+/// board without claims that isn't finished has a ready operation, and what is held and filled is as it should be.
+pub fn boards_keep_order()
+    ensures { BoardsKeepOrder }
+{}
+
+/// Of each code, with operations, seats and roots by numbers: a finished board has the outcome of the run in order.
+pub fn boards_finish_in_order()
+    ensures { BoardsFinishInOrder }
+{}
+
+/// What the board sees as elements, the machine has as parts, in order.
+pub fn elements_are_parts()
+    ensures { ElementsAreParts }
+{}
