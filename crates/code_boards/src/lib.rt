@@ -4,7 +4,7 @@
 //! What is said stands under specs/. Each function has an empty body; its contract is a law.
 #![tactic(auto)]
 
-ghost use Rattle.code_boards.specs.Laws.{BoardsFinishInOrder, BoardsKeepOrder, ElementsAreParts};
+ghost use Rattle.code_boards.specs.Laws.{BoardsFinishInOrder, BoardsKeepOrder, ElementsAreParts, JobsFinishInOrder, OrderRunsEnd};
 
 /// Of each code: a finished board has the outcome of the run in order, operations in progress don't interfere, a
 /// board without claims that isn't finished has a ready operation, and what is held and filled is as it should be.
@@ -20,4 +20,15 @@ pub fn boards_finish_in_order()
 /// What the board sees as elements, the machine has as parts, in order.
 pub fn elements_are_parts()
     ensures { ElementsAreParts }
+{}
+
+/// The run in order of a job ends within a number of segments that its code and its turns tell.
+pub fn order_runs_end()
+    ensures { OrderRunsEnd }
+{}
+
+/// Of each job, compiled or not, and whatever steps the seats make: a finished board has the outcome of the run in
+/// order.
+pub fn jobs_finish_in_order()
+    ensures { JobsFinishInOrder }
 {}
