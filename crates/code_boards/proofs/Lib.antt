@@ -1,6 +1,7 @@
 pub mod Boards
 pub mod Elements
 pub mod Ends
+mod Example
 pub mod Filled
 pub mod Lasting
 pub mod Regrouping

@@ -5,48 +5,33 @@ use Rattle.lane_kernels.specs.declared.numbers.Mode.{Mode}
 use Rattle.lane_kernels.specs.declared.numbers.Mode.TheVariants.{Read, Reduce, Write}
 use Rattle.region_tree.specs.declared.piece.Part.{Part}
 use Rattle.region_tree.specs.Pieces.{Held}
-use Rattle.region_tree.specs.Requirements.{same_mode}
 use Rattle.region_tree.proofs.Joins.{same_mode-itself}
 use Rattle.task_code.specs.declared.code.Code.{Code}
 use Rattle.machine_terms.specs.Parts.{is_part_of}
 use Rattle.board_rules.specs.Running.{Element}
 use Rattle.regent_boards.specs.RegentMachine.{as_held, regent_ground}
 use Rattle.code_boards.specs.Views.{mode_in, onto_parts, onto_pieces, part_with, parts_in, piece_with, spaces_of}
+use Rattle.code_boards.specs.Pieces as pieces
+use Rattle.code_boards.specs.Pieces.{PiecesRegroup}
 
 module _ (code : Code) (root field : ℕ) where
-  abbrev pub elements : Mode → List ℕ → List ℤ → List (Element (regent_ground (spaces_of code)))
-  elements m (p ∷ ps) (z ∷ zs) = record {
-    location = record { root = root; field = field; point = p };
-    mode = as_held (spaces_of code) root field m;
-    number = z;
-  } ∷ elements m ps zs
-  elements m _ _ = []
+  abbrev elements : Mode → List ℕ → List ℤ → List (Element (regent_ground (spaces_of code)))
+  elements = pieces.elements code root field
 
-  abbrev pub all_elements : List Held → List (Element (regent_ground (spaces_of code)))
-  all_elements [] = []
-  all_elements (h ∷ hs) = elements h.mode h.points h.values ++ all_elements hs
+  abbrev all_elements : List Held → List (Element (regent_ground (spaces_of code)))
+  all_elements = pieces.all_elements code root field
 
-  -- pieces that follow one another are in different modes, and have points, each with a number
   abbrev Differs : Mode → List Held → Type 0
-  Differs m [] = Unit {0}
-  Differs m (h ∷ hs) = same_mode m h.mode ≡ false
-
-  abbrev AreNumbered : List ℕ → List ℤ → Type 0
-  AreNumbered [] [] = Unit {0}
-  AreNumbered (p ∷ ps) (z ∷ zs) = AreNumbered ps zs
-  AreNumbered _ _ = ⊥
+  Differs = pieces.Differs code root field
 
   abbrev IsPiece : List ℕ → List ℤ → Type 0
-  IsPiece (p ∷ ps) (z ∷ zs) = AreNumbered ps zs
-  IsPiece _ _ = ⊥
+  IsPiece = pieces.IsPiece code root field
 
-  abbrev pub ArePieces : List Held → Type 0
-  ArePieces [] = Unit {0}
-  ArePieces (h ∷ hs) = IsPiece h.points h.values × Differs h.mode hs × ArePieces hs
+  abbrev ArePieces : List Held → Type 0
+  ArePieces = pieces.ArePieces code root field
 
-  abbrev pub grouped : List Held → List Part
-  grouped [] = []
-  grouped (h ∷ hs) = part_with code root field (h ∷ hs) ∷ []
+  abbrev grouped : List Held → List Part
+  grouped = pieces.grouped code root field
 
   held_mode : (m : Mode) → mode_in code (as_held (spaces_of code) root field m) ≡ m
   held_mode Read = refl
@@ -94,3 +79,6 @@ module _ (code : Code) (root field : ℕ) where
   pub regrouped : (hs : List Held) → ArePieces hs → parts_in code (all_elements hs) ≡ grouped hs
   regrouped [] a = refl
   regrouped (h ∷ hs) a = piece_grouped h.mode h.points h.values hs (all_elements hs) a.0 a.1 (regrouped hs a.2)
+
+pub pieces_regroup : PiecesRegroup
+pieces_regroup code root field hs a = regrouped code root field hs a

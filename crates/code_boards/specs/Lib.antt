@@ -1,2 +1,4 @@
+pub mod Example
 pub mod Laws
+pub mod Pieces
 pub mod Views

@@ -4,7 +4,9 @@
 //! What is said stands under specs/. Each function has an empty body; its contract is a law.
 #![tactic(auto)]
 
+ghost use Rattle.code_boards.specs.Example.{BoardPrints, EmptyNeedBreaks, OrderPrints};
 ghost use Rattle.code_boards.specs.Laws.{BoardsFinishInOrder, BoardsKeepOrder, ElementsAreParts, JobsFinishInOrder, OrderRunsEnd};
+ghost use Rattle.code_boards.specs.Pieces.{PiecesRegroup};
 
 /// Of each code: a finished board has the outcome of the run in order, operations in progress don't interfere, a
 /// board without claims that isn't finished has a ready operation, and what is held and filled is as it should be.
@@ -19,7 +21,8 @@ pub fn boards_finish_in_order()
 
 /// What the board sees as elements, the machine has as parts, in order.
 pub fn elements_are_parts()
-    ensures { ElementsAreParts }
+    ensures elements { ElementsAreParts }
+    ensures pieces { PiecesRegroup }
 {}
 
 /// The run in order of a job ends within a number of segments that its code and its turns tell.
@@ -31,4 +34,12 @@ pub fn order_runs_end()
 /// order.
 pub fn jobs_finish_in_order()
     ensures { JobsFinishInOrder }
+{}
+
+/// A job with a root and a child, run in order and on a board of three seats; and one whose child needs an empty
+/// region alone and reads another one of the same root.
+pub fn small_jobs()
+    ensures order { OrderPrints }
+    ensures board { BoardPrints }
+    ensures empty_need { EmptyNeedBreaks }
 {}

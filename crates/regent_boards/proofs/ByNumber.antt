@@ -37,13 +37,16 @@ module _ (maker : ℕ → List ℕ) (making : ℕ → ℕ) (differ : Differ make
 module _ (spaces : Spaces) (segment : Frame → List (Element (regent_ground spaces)) → After (regent_ground spaces)) (keeps : KeepsParts spaces segment) (runs : RunsRenamed spaces segment) where
   can_rename : (job : Job (regent_ground spaces)) → IsMain spaces segment job → (twin : Job (regent_ground spaces))
       × Renamable base (regent_roots spaces) (regent_roots spaces) (by_number spaces segment) (by_maker spaces segment) (to_makers spaces segment) job twin
-  can_rename job is = (record { frame = job.frame; needs = []; map = λ l. pos 0; needs_nothing = λ l. refl }, record {
-    renamed = λ maker making differ. regent_renamed spaces maker making (names_differ maker making differ) segment
-        (runs (λ n. name_of (maker n) (making n)) (names_differ maker making differ));
-    frame = λ maker making. is.frame (λ n. name_of (maker n) (making n));
-    needs = λ maker making. ap (map (requirement_to (λ n. name_of (maker n) (making n)))) (sym is.needs);
-    map = λ maker making l. sym (is.map l);
-  })
+  can_rename job is = (
+    record { frame = job.frame; needs = []; map = λ l. pos 0; needs_nothing = λ l. refl },
+    record {
+      renamed = λ maker making differ. regent_renamed spaces maker making (names_differ maker making differ) segment
+          (runs (λ n. name_of (maker n) (making n)) (names_differ maker making differ));
+      frame = λ maker making. is.frame (λ n. name_of (maker n) (making n));
+      needs = λ maker making. ap (map (requirement_to (λ n. name_of (maker n) (making n)))) (sym is.needs);
+      map = λ maker making l. sym (is.map l);
+    },
+  )
 
 pub regent_by_number : RegentByNumber
 regent_by_number spaces segment keeps runs =
