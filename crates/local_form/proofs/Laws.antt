@@ -1,8 +1,9 @@
 -- Names in lists, steps of accesses, tests one after the other, and the arms of an `if`.
-use Rattle.std.proofs.Common.{◌≡◌, ℕ, ◌+◌, ◌≤◌, ◌<◌, Bool, true, false, List, [], ◌∷◌, refl, ap, sym, ◌∙◌, arith, length, drop, get_or, map}
-use Rattle.std.specs.Prelude.{◌&&◌, ◌||◌}
+use Rattle.std.proofs.Common.{◌≡◌, ℕ, suc, ◌+◌, ◌≤◌, ◌<◌, Bool, true, false, List, [], ◌∷◌, refl, ap, sym, ◌∙◌, arith, length, drop, get_or, map}
+use Rattle.std.specs.Prelude.{◌&&◌, ◌==◌, ◌||◌}
 use Rattle.std.specs.List.{list_any}
 use Rattle.std.proofs.Math.Bool.{and_assoc}
+use Rattle.std.proofs.lemmas.Bool.{ne_eqb}
 use Rattle.std.proofs.lemmas.List.{drop_more}
 use Rattle.regent_tree.specs.declared.expression.Step.{Step, Field, At}
 use Rattle.regent_tree.specs.declared.statement.Arm.{Arm, out-Arm}
@@ -11,14 +12,25 @@ use Rattle.regent_tree.specs.Plain.{expression_of, steps_in}
 use Rattle.regent_tree.specs.PlainProgram.{arms_in, block_in}
 use Rattle.regent_tree.specs.Syntax.{Expression, Name, access_expr, assign_form}
 use Rattle.regent_tree.proofs.Rows.{arm_read}
-use Rattle.local_form.specs.LocalForm.{Marked, are_local_arms, is_local_block, is_local_expression, is_local_form, marked_by_arms, marked_in}
+use Rattle.local_form.specs.LocalForm.{Marked, are_local_arms, is_local_block, is_local_expression, is_local_form, is_name, marked_by_arms, marked_in}
 use Rattle.local_form.specs.Seen.{is_local_arm}
 
 pub list_any-map : {A B : Type 0} (p : B → Bool) (f : A → B) (xs : List A) → list_any p (map f xs) ≡ list_any (λ x. p (f x)) xs
 list_any-map p f [] = refl
 list_any-map p f (x ∷ xs) = ap (λ b. p (f x) || b) (list_any-map p f xs)
 
--- ---- accesses that are no field at a point
+-- ---- accesses
+
+not_none : (n : ℕ) → (suc n == 0) ≡ false
+not_none n = ne_eqb (suc n) 0 (λ e. omega (arith, e))
+
+-- a name stands alone where it has no steps
+pub alone_without_steps : (n : Name) (steps : List Step) → is_name (access_expr n (steps_in steps)) ≡ (length steps == 0)
+alone_without_steps n [] = refl
+alone_without_steps n (Field f ∷ rest) = sym (not_none (length rest))
+alone_without_steps n (At e ∷ rest) = sym (not_none (length rest))
+
+-- those that are no field at a point
 
 pub one_step : (m : Marked) (n : Name) (steps : List Step) → 1 ≤ length steps → length steps < 2 → false ≡ is_local_expression m (access_expr n (steps_in steps))
 one_step m n [] some few = absurd (omega (arith, some))

@@ -1,13 +1,16 @@
--- Programs whose tasks keep their regions to themselves: each takes and gives numbers and truths, or nothing,
--- declares no privilege, and names the regions that it makes. Which names stand for regions, and which may stand
--- for an index or an index space, is read from the text of a task.
+-- Programs whose tasks know each region by a local name, that of a parameter or of a variable that begins with
+-- region(..), and hand it over by that name: each task takes numbers, truths and regions, and gives a number or truth,
+-- or nothing. Which names stand for regions, and which may stand for an index or an index space, is read from the text
+-- of a task.
 use Rattle.std.specs.Prelude.{Bool, true, false, List, [], ◌∷◌, ◌++◌, Some, None, bytes_eq, not, cond, ◌&&◌, ◌||◌}
 use Rattle.std.specs.List.{list_all, list_any}
 use Rattle.regent_tree.specs.Syntax.{Arms, Block, Expression, Expressions, Form, ItemForm, ItemTree, Links, Name, Otherwise, TaskTree, Tree, a_link, a_statement, access_expr, alias_item, an_arm, an_expr, assert_form, assign_form, at_step, call_expr, call_form, chain_expr, convert_expr, do_form, else_block, field_step, fill_form, for_in_form, for_to_form, if_form, import_item, no_arm, no_else, no_expr, no_link, no_statement, no_step, number_expr, plain_initializer, prefix_expr, print_form, region_initializer, return_form, space_expr, space_item, start_item, task_item, then_statement, truth_expr, var_form, while_form}
 use Rattle.regent_tree.specs.declared.expression.Operator.TheVariants.{Compute}
 use Rattle.regent_tree.specs.declared.statement.How.TheVariants as how
 use Rattle.regent_tree.specs.declared.types.Param.{Param}
-use Rattle.scalar_form.specs.ScalarForm.{is_empty, is_scalar_if_said, is_scalar_number, is_scalar_term}
+use Rattle.regent_tree.specs.declared.types.TypeTerm.{TypeTerm}
+use Rattle.regent_tree.specs.declared.types.TypeTerm.TheVariants as term
+use Rattle.scalar_form.specs.ScalarForm.{is_scalar_if_said, is_scalar_number, is_scalar_term}
 
 -- ---- names
 
@@ -21,8 +24,7 @@ is_among names n = list_any (λ m. bytes_eq m n) names
 
 -- ---- expressions
 
--- Numbers and truths, indices and index spaces, calls, and fields at points of regions that have names. A region
--- itself is no such expression, and a prefix stands before numbers and truths.
+-- whether an expression gives a number or truth, and no index or index space
 abbrev mutual
   pub gives_scalar : Marked → Expression → Bool
   gives_scalar m (number_expr z w) = true
@@ -41,6 +43,13 @@ abbrev mutual
   links_give m left (a_link (Compute o) e rest) = links_give m (left && gives_scalar m e) rest
   links_give m left (a_link o e rest) = links_give m true rest
 
+-- a name that stands alone
+abbrev pub is_name : Expression → Bool
+is_name (access_expr n no_step) = true
+is_name e = false
+
+-- Numbers and truths, indices and index spaces, calls, and fields at points of regions that have names. A region
+-- itself stands in an argument alone, and a prefix before numbers and truths.
 abbrev mutual
   pub is_local_expression : Marked → Expression → Bool
   is_local_expression m (number_expr z w) = true
@@ -49,7 +58,7 @@ abbrev mutual
   is_local_expression m (prefix_expr signs e) = gives_scalar m e && is_local_expression m e
   is_local_expression m (access_expr n no_step) = not (is_among m.regions n)
   is_local_expression m (access_expr n (at_step e (field_step f no_step))) = is_local_expression m e
-  is_local_expression m (call_expr task args) = are_local_expressions m args
+  is_local_expression m (call_expr task args) = are_local_arguments m args
   is_local_expression m (convert_expr t e) = is_scalar_number t && is_local_expression m e
   is_local_expression m (space_expr k e) = is_local_expression m e
   is_local_expression m e = false
@@ -58,9 +67,14 @@ abbrev mutual
   are_local_links m no_link = true
   are_local_links m (a_link o e rest) = is_local_expression m e && are_local_links m rest
 
-  pub are_local_expressions : Marked → Expressions → Bool
-  are_local_expressions m no_expr = true
-  are_local_expressions m (an_expr e es) = is_local_expression m e && are_local_expressions m es
+  -- an argument is a name, of a region or of anything else, or such an expression
+  pub are_local_arguments : Marked → Expressions → Bool
+  are_local_arguments m no_expr = true
+  are_local_arguments m (an_expr e es) = (is_name e || is_local_expression m e) && are_local_arguments m es
+
+abbrev pub are_local_expressions : Marked → Expressions → Bool
+are_local_expressions m no_expr = true
+are_local_expressions m (an_expr e es) = is_local_expression m e && are_local_expressions m es
 
 -- ---- statements
 
@@ -84,7 +98,7 @@ abbrev mutual
   is_local_form m (fill_form r fields e) = is_local_expression m e
   is_local_form m (assert_form e) = is_local_expression m e
   is_local_form m (print_form alias format args) = are_local_expressions m args
-  is_local_form m (call_form task args) = are_local_expressions m args
+  is_local_form m (call_form task args) = are_local_arguments m args
   is_local_form m (assign_form n no_step how.Set e) =
       not (is_among m.regions n) && (not (is_among m.indices n) && is_local_expression m e)
   is_local_form m (assign_form n no_step (how.Reduce o) e) = is_local_expression m e
@@ -144,13 +158,29 @@ abbrev mutual
 
 -- ---- programs
 
--- parameters or fields that are numbers and truths
+abbrev pub is_region_term : TypeTerm → Bool
+is_region_term (term.Region k u) = true
+is_region_term t = false
+
+-- fields that are numbers and truths
 abbrev pub are_scalar_params : List Param → Bool
 are_scalar_params ps = list_all (λ (p : Param). is_scalar_term p.term) ps
 
+-- parameters that are numbers, truths and regions
+abbrev pub are_local_params : List Param → Bool
+are_local_params ps = list_all (λ (p : Param). is_scalar_term p.term || is_region_term p.term) ps
+
+-- the names of parameters that are regions, beside those that are marked before them
+abbrev pub marked_params : List Param → Marked → Marked
+marked_params [] m = m
+marked_params (p ∷ ps) m = marked_params ps (cond (is_region_term p.term) (with_region p.name m) m)
+
+-- all names that a task marks
+abbrev pub marked_by_task : TaskTree → Marked
+marked_by_task t = marked_params t.params (marked_in t.body unmarked)
+
 abbrev pub is_local_task : TaskTree → Bool
-is_local_task t = are_scalar_params t.params
-    && (is_scalar_if_said t.result && (is_empty t.clauses && is_local_block (marked_in t.body unmarked) t.body))
+is_local_task t = are_local_params t.params && (is_scalar_if_said t.result && is_local_block (marked_by_task t) t.body)
 
 abbrev pub is_local_item : ItemForm → Bool
 is_local_item import_item = true

@@ -3,15 +3,16 @@
 ghost use Rattle.std.specs.Prelude.{◌≡◌};
 ghost use Rattle.regent_tree.specs.Plain.{expression_of, expressions_in, links_in, steps_in};
 ghost use Rattle.regent_tree.specs.Syntax.{access_expr};
-ghost use Rattle.local_form.specs.LocalForm.{are_local_expressions, are_local_links};
-ghost use Rattle.local_form.specs.LocalForm.{is_local_expression};
+ghost use Rattle.local_form.specs.LocalForm.{are_local_arguments, are_local_expressions};
+ghost use Rattle.local_form.specs.LocalForm.{are_local_links, is_local_expression, is_name};
+ghost use Rattle.local_form.specs.Seen.{is_local_argument};
 
 use crate::giving::gives_scalar;
 use crate::marked::Marked;
 use regent_tree::{Expr, Link, Name, Step};
 use scalar_form::is_scalar_number;
 
-/// Whether a task may have an expression that keeps its regions to itself.
+/// Whether a task may have an expression: numbers, truths, indices and index spaces, and fields at points of regions.
 #[cycle(expression)]
 pub fn is_local_expression(marked: &Marked<'_>, e: &Expr) -> bool
     ensures { result ≡ is_local_expression marked.now (expression_of e.now) }
@@ -25,7 +26,7 @@ pub fn is_local_expression(marked: &Marked<'_>, e: &Expr) -> bool
             gives_scalar(marked, inner) && is_local_expression(marked, inner)
         }
         Expr::Access { name, steps } => is_local_access(marked, name, steps.as_slice()),
-        Expr::Call { args, .. } => are_local_expressions(marked, args.as_slice()),
+        Expr::Call { args, .. } => are_local_arguments(marked, args.as_slice()),
         Expr::Convert { to, inner } => {
             is_scalar_number(*to) && is_local_expression(marked, inner)
         }
@@ -59,13 +60,43 @@ fn are_local_links(marked: &Marked<'_>, links: &[Link]) -> bool
     true
 }
 
-/// Whether such are all arguments.
+/// Whether an expression is a name alone.
+fn is_name(e: &Expr) -> bool
+    ensures { result ≡ is_name (expression_of e.now) }
+{
+    match e {
+        Expr::Access { steps, .. } => steps.is_empty(),
+        _ => false,
+    }
+}
+
+/// Whether an argument is a name, a region's or any other, or such an expression.
 #[cycle(expression)]
+fn is_local_argument(marked: &Marked<'_>, arg: &Expr) -> bool
+    ensures { result ≡ is_local_argument marked.now (expression_of arg.now) }
+{
+    is_name(arg) || is_local_expression(marked, arg)
+}
+
+/// Whether such are all arguments of a call.
+#[cycle(expression)]
+pub fn are_local_arguments(marked: &Marked<'_>, args: &[Expr]) -> bool
+    ensures { result ≡ are_local_arguments marked.now (expressions_in args.now) }
+{
+    for arg in args {
+        if !is_local_argument(marked, arg) {
+            return false;
+        }
+    }
+    true
+}
+
+/// Whether a task may have all these expressions.
 pub fn are_local_expressions(marked: &Marked<'_>, args: &[Expr]) -> bool
     ensures { result ≡ are_local_expressions marked.now (expressions_in args.now) }
 {
-    for arg in args {
-        if !is_local_expression(marked, arg) {
+    for item in args {
+        if !is_local_expression(marked, item) {
             return false;
         }
     }

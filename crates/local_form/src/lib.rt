@@ -1,4 +1,4 @@
-//! Whether the tasks of a program keep their regions to themselves.
+//! Whether the tasks of a program know each region by a local name, and hand it over by that name.
 #![tactic(auto)]
 
 mod expressions;

@@ -1,43 +1,87 @@
 //! Programs.
 
-ghost use Rattle.std.specs.Prelude.{◌≡◌, IfOk, map};
+ghost use Rattle.std.specs.Prelude.{◌≡◌, IfOk, OnOk, map};
 ghost use Rattle.regent_tree.specs.PlainProgram.{item_of, item_tree_of, task_of, tree_of};
-ghost use Rattle.local_form.specs.LocalForm.{are_scalar_params, is_local_item, is_local_program};
-ghost use Rattle.local_form.specs.LocalForm.{is_local_task};
-ghost use Rattle.local_form.specs.Seen.{takes_scalars};
+ghost use Rattle.local_form.specs.LocalForm.{are_local_params, are_scalar_params};
+ghost use Rattle.local_form.specs.LocalForm.{is_local_item, is_local_program, is_local_task};
+ghost use Rattle.local_form.specs.LocalForm.{is_region_term, marked_params};
+ghost use Rattle.local_form.specs.Seen.{is_local_head, is_local_param, marked_param};
 
 use crate::marked::Marked;
 use crate::marking::mark_block;
 use crate::statements::is_local_block;
-use regent_tree::{Item, ItemKind, Param, Program, Task};
+use regent_tree::{Item, ItemKind, Param, Program, Task, TypeTerm};
 use scalar_form::{is_scalar_if_said, is_scalar_term};
 use std::alloc::{AllocError, Global};
 
-/// Whether parameters or fields are numbers and truths.
+fn is_region_term(term: &TypeTerm) -> bool
+    ensures { result ≡ is_region_term term.now }
+{
+    match term {
+        TypeTerm::Region { .. } => true,
+        _ => false,
+    }
+}
+
+/// Whether fields are numbers and truths.
 fn are_scalar_params(params: &[Param]) -> bool
     ensures { result ≡ are_scalar_params params.now }
 {
     params.iter().all(|param| is_scalar_term(&param.term))
 }
 
-/// Whether a task takes and gives numbers and truths, and declares nothing of regions.
-fn takes_scalars(task: &Task) -> bool
-    ensures { result ≡ takes_scalars (task_of task.now) }
+/// Whether a parameter is a number, a truth or a region.
+fn is_local_param(param: &Param) -> bool
+    ensures { result ≡ is_local_param param.now }
 {
-    are_scalar_params(task.params.as_slice())
-        && is_scalar_if_said(&task.result)
-        && task.clauses.is_empty()
+    is_scalar_term(&param.term) || is_region_term(&param.term)
 }
 
-/// Whether a task keeps its regions to itself.
+/// Whether all parameters are such.
+fn are_local_params(params: &[Param]) -> bool
+    ensures { result ≡ are_local_params params.now }
+{
+    params.iter().all(is_local_param)
+}
+
+/// Whether a task takes numbers, truths and regions, and gives a number or truth, or nothing.
+fn is_local_head(task: &Task) -> bool
+    ensures { result ≡ is_local_head (task_of task.now) }
+{
+    are_local_params(task.params.as_slice()) && is_scalar_if_said(&task.result)
+}
+
+/// Marks a parameter that is a region.
+fn mark_param<'t>(marked: &mut Marked<'t>, param: &'t Param) -> Result<(), AllocError>
+    ensures { OnOk result (marked.new ≡ marked_param param.now marked.old) }
+{
+    if is_region_term(&param.term) {
+        marked.add_region(&param.name)
+    } else {
+        Ok(())
+    }
+}
+
+/// Marks the parameters that are regions.
+fn mark_params<'t>(marked: &mut Marked<'t>, params: &'t [Param]) -> Result<(), AllocError>
+    ensures { OnOk result (marked.new ≡ marked_params params.now marked.old) }
+{
+    for param in params {
+        mark_param(marked, param)?;
+    }
+    Ok(())
+}
+
+/// Whether a task is of the form.
 fn is_local_task(alloc: Global, task: &Task) -> Result<bool, AllocError>
     ensures { IfOk result (λ is. is ≡ is_local_task (task_of task.now)) }
 {
-    if !takes_scalars(task) {
+    if !is_local_head(task) {
         return Ok(false);
     }
     let mut marked = Marked::new(alloc);
     mark_block(&mut marked, task.body.as_slice())?;
+    mark_params(&mut marked, task.params.as_slice())?;
     Ok(is_local_block(&marked, task.body.as_slice()))
 }
 
@@ -51,8 +95,8 @@ fn is_local_item(alloc: Global, item: &ItemKind) -> Result<bool, AllocError>
     }
 }
 
-/// Whether each task of a program takes and gives numbers and truths, or nothing, and keeps its regions to
-/// itself.
+/// Whether each task of a program takes numbers, truths and regions, gives a number or truth, or nothing, knows its
+/// regions by names, and hands them over by these.
 ///
 /// It asks nothing of the rules: a program that breaches one may be such. Memory is taken for the names that a
 /// task marks.

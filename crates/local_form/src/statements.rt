@@ -8,7 +8,7 @@ ghost use Rattle.regent_tree.specs.Syntax.{assign_form, return_form, var_form};
 ghost use Rattle.local_form.specs.LocalForm.{are_local_arms, is_local_block, is_local_form};
 ghost use Rattle.local_form.specs.Seen.{is_local_arm};
 
-use crate::expressions::{are_local_expressions, is_local_expression};
+use crate::expressions::{are_local_arguments, are_local_expressions, is_local_expression};
 use crate::giving::gives_scalar;
 use crate::marked::Marked;
 use regent_tree::{Arm, Expr, How, Init, Name, Step, Stmt, TypeTerm, What};
@@ -75,7 +75,7 @@ fn is_local_value(marked: &Marked<'_>, value: &Option<Expr>) -> bool
     }
 }
 
-/// Whether a task may have a statement that keeps its regions to itself.
+/// Whether a task may have a statement.
 #[cycle(statement)]
 fn is_local_form(marked: &Marked<'_>, what: &What) -> bool
     ensures { result ≡ is_local_form marked.now (form_of what.now) }
@@ -111,7 +111,7 @@ fn is_local_form(marked: &Marked<'_>, what: &What) -> bool
         What::Fill { value, .. } => is_local_expression(marked, value),
         What::Assert { test } => is_local_expression(marked, test),
         What::Print { args, .. } => are_local_expressions(marked, args.as_slice()),
-        What::Call { args, .. } => are_local_expressions(marked, args.as_slice()),
+        What::Call { args, .. } => are_local_arguments(marked, args.as_slice()),
         What::Assign {
             target,
             steps,

@@ -22,4 +22,4 @@ is_local_expression-returns-in-Access t c =
 
 pub is_local_expression-returns-in-Call : goal.is_local_expression-returns-in-Call
 is_local_expression-returns-in-Call t c =
-    rw (c.in-Call.is, expressions_of_vec c.in-Call.args, ← c.as_slice-in-Call.ensures.value) c.are_local_expressions.ensures
+    rw (c.in-Call.is, expressions_of_vec c.in-Call.args, ← c.as_slice-in-Call.ensures.value) c.are_local_arguments.ensures
