@@ -55,11 +55,12 @@ pub mod DeclaredNeeds
 pub mod LocalNames
 pub mod KnownHeads
 pub mod LocalCalls
+pub mod LocalParts
 pub mod LocalExpressions
 pub mod LocalStatements
+pub mod LocalAssignments
 pub mod LocalBlocks
 pub mod LocalTrees
-pub mod LocalHanding
 pub mod LocalRuns
 pub mod ScalarLocal
 pub mod ScalarTyped

@@ -25,15 +25,15 @@ use Rattle.check_rules.specs.rules.Types.{is_ill_typed_at_place}
 use Rattle.check_rules.specs.scopes.Sound.{IsSound, IsSoundTask}
 use Rattle.check_rules.specs.types.KnownTypes.{known_type}
 use Rattle.check_rules.specs.types.Parts.{tests_of}
-use Rattle.local_form.specs.LocalForm.{Marked, is_among}
-use Rattle.code_laws.specs.HandingForm.{are_handing_arms, is_handing_block, is_handing_else, is_handing_expression, is_handing_form}
+use Rattle.local_form.specs.LocalForm.{Marked, are_local_arms, is_among, is_local_block, is_local_else, is_local_expression, is_local_form}
 use Rattle.code_laws.specs.Handing.{forms_by}
 use Rattle.code_laws.specs.Simple.{IsSimple, IsSpace, a_space_type, simple_index}
 use Rattle.code_laws.specs.Steps.{Forms}
 use Rattle.code_laws.specs.Typed.{AreTypedArms, IsTypedBlock, IsTypedElse, IsTypedForm}
 use Rattle.code_laws.proofs.KnownHeads.{IsReady, KnowsHead, head_looping, head_named, head_past, simple_tells}
 use Rattle.code_laws.proofs.LocalNames.{AllKept, IsLocalTree, kept_index, kept_scalar}
-use Rattle.code_laws.proofs.LocalStatements.{at, bound_local, call_local, domain_local, fill_local, plain_local, print_local, reduce_field_local, reduce_local, region_local, return_local, said_local, set_field_local, set_local, test_local}
+use Rattle.code_laws.proofs.LocalAssignments.{reduce_field_local, reduce_local, set_field_local, set_local}
+use Rattle.code_laws.proofs.LocalStatements.{at, bound_local, call_local, domain_local, fill_local, plain_local, print_local, region_local, return_local, said_local, test_local}
 use Rattle.code_laws.proofs.LocalTypes.{term_scalar}
 use Rattle.code_laws.proofs.Names.{arms_names, else_names}
 use Rattle.code_laws.proofs.TypedStatements.{first_stands, sum_scalar}
@@ -69,7 +69,7 @@ module _ (handing : Bool) (tree : Tree) (task : TaskTree) (sound : IsSound tree)
   behind : (s inner : Scope) → Ready s → KnowsHead tree task inner → Ready (past s inner)
   behind s inner ready head = record { names = ready.names; head = head_past tree task s inner head }
 
-  var_local : (s : Scope) (line : ℕ) (n : Name) (t : Option TypeTerm) (i : Option Initializer) → is_handing_form m (var_form n t i) ≡ true →
+  var_local : (s : Scope) (line : ℕ) (n : Name) (t : Option TypeTerm) (i : Option Initializer) → is_local_form m (var_form n t i) ≡ true →
       AreKept (parts_of_form (var_form n t i)) → IsSoundScope s → Ready s → first_of_form tree task s (var_form n t i) ≡ None →
       FormTyped s line (var_form n t i)
   var_local s line n None (Some (plain_initializer y)) lo k scope names e =
@@ -111,17 +111,17 @@ module _ (handing : Bool) (tree : Tree) (task : TaskTree) (sound : IsSound tree)
         kept_right steps (parts_of_expression y) k,
       )
 
-  assign_local : (s : Scope) (line : ℕ) (n : Name) (steps : Steps) (h : How) (y : Expression) → is_handing_form m (assign_form n steps h y) ≡ true →
+  assign_local : (s : Scope) (line : ℕ) (n : Name) (steps : Steps) (h : How) (y : Expression) → is_local_form m (assign_form n steps h y) ≡ true →
       AreKept (parts_of_form (assign_form n steps h y)) → IsSoundScope s → Ready s → first_of_form tree task s (assign_form n steps h y) ≡ None →
       IsTypedForm forms (here s line) (assign_form n steps h y)
   assign_local s line n no_step how.Set y lo k scope names e = set_local handing tree task sound sound_task local m params result s line n y lo k scope names e
   assign_local s line n no_step (how.Reduce o) y lo k scope names e = reduce_local handing tree task sound sound_task local m params result s line n o y lo k scope names e
   assign_local s line n (at_step x (field_step f no_step)) how.Set y lo k scope names e =
-      let both = and_parts (is_handing_expression m x) (is_handing_expression m y) lo in
+      let both = and_parts (is_local_expression m x) (is_local_expression m y) lo in
       let ks = kept_element x f y k in
       set_field_local handing tree task sound sound_task local m params result s line n x f y both.0 both.1 ks.0 ks.1 scope names e
   assign_local s line n (at_step x (field_step f no_step)) (how.Reduce o) y lo k scope names e =
-      let both = and_parts (is_handing_expression m x) (is_handing_expression m y) lo in
+      let both = and_parts (is_local_expression m x) (is_local_expression m y) lo in
       let ks = kept_element x f y k in
       reduce_field_local handing tree task sound sound_task local m params result s line n x f o y both.0 both.1 ks.0 ks.1 scope names e
   assign_local s line n (field_step _ _) h y lo k scope names e = absurd (no_way_back lo)
@@ -131,7 +131,7 @@ module _ (handing : Bool) (tree : Tree) (task : TaskTree) (sound : IsSound tree)
   assign_local s line n (at_step _ (field_step _ (at_step _ _))) h y lo k scope names e = absurd (no_way_back lo)
 
   mutual
-    pub form_local : (s : Scope) (line : ℕ) (form : Form) → is_handing_form m form ≡ true → AreKept (parts_of_form form) → IsSoundScope s →
+    pub form_local : (s : Scope) (line : ℕ) (form : Form) → is_local_form m form ≡ true → AreKept (parts_of_form form) → IsSoundScope s →
         Ready s → first_of_form tree task s form ≡ None → first_within tree task s form ≡ None → FormTyped s line form
     form_local s line (var_form n t i) lo k scope names e w = var_local s line n t i lo k scope names e
     form_local s line (assign_form n steps h y) lo k scope names e w = (assign_local s line n steps h y lo k scope names e, names)
@@ -150,7 +150,7 @@ module _ (handing : Bool) (tree : Tree) (task : TaskTree) (sound : IsSound tree)
         )
     form_local s line (do_form body) lo k scope names e w = let b = block_local s line body lo k scope names w in (b.0, behind s (scope_after_block tree s body) names b.1)
     form_local s line (while_form test body) lo k scope names e w =
-        let both = and_parts (is_handing_expression m test) (is_handing_block m body) lo in
+        let both = and_parts (is_local_expression m test) (is_local_block m body) lo in
         let parts = told_of_form tree task s sound scope (while_form test body) e in
         let told = (option_or_parts (first_in_expression tree task s test) _ parts.2).0 in
         let t = test_local handing tree task sound sound_task local m params result s line test both.0 (kept_left (parts_of_expression test) (parts_of_block body) k) scope names told
@@ -159,7 +159,7 @@ module _ (handing : Bool) (tree : Tree) (task : TaskTree) (sound : IsSound tree)
         ((t.0, t.1, b.0), behind s (scope_after_block tree s body) names b.1)
     form_local s line (for_in_form demanded n domain body) lo k scope names e w =
         let one = and_parts (is_among m.indices n) _ lo in
-        let two = and_parts (is_handing_expression m domain) (is_handing_block m body) one.1 in
+        let two = and_parts (is_local_expression m domain) (is_local_block m body) one.1 in
         let parts = told_of_form tree task s sound scope (for_in_form demanded n domain body) e in
         let told = (option_or_parts (first_in_expression tree task s domain) _ parts.2).0 in
         let d = domain_local handing tree task sound sound_task local m params result s line domain two.0 (kept_left (parts_of_expression domain) (parts_of_block body) k) scope names told
@@ -173,8 +173,8 @@ module _ (handing : Bool) (tree : Tree) (task : TaskTree) (sound : IsSound tree)
         (subst (λ u. first_in_block tree task u body ≡ None) inner.0 w) in
         ((d.0, d.1, block.0), behind s (scope_after_block tree first body) names block.1)
     form_local s line (for_to_form demanded n from to body) lo k scope names e w =
-        let one = and_parts (is_handing_expression m from) _ lo in
-        let two = and_parts (is_handing_expression m to) (is_handing_block m body) one.1 in
+        let one = and_parts (is_local_expression m from) _ lo in
+        let two = and_parts (is_local_expression m to) (is_local_block m body) one.1 in
         let k2 = kept_right (parts_of_expression from) (parts_of_expression to ++ parts_of_block body) k in
         let parts = told_of_form tree task s sound scope (for_to_form demanded n from to body) e in
         let first = option_or_parts (first_in_expression tree task s from) _ parts.2 in
@@ -193,7 +193,7 @@ module _ (handing : Bool) (tree : Tree) (task : TaskTree) (sound : IsSound tree)
         (subst (λ u. first_in_block tree task u body ≡ None) inner.0 w) in
         ((a.0, b.0, a.1, b.1, block.0), behind s (scope_after_block tree loop body) names block.1)
     form_local s line (if_form arms other) lo k scope names e w =
-        let both = and_parts (are_handing_arms m arms) (is_handing_else m other) lo in
+        let both = and_parts (are_local_arms m arms) (is_local_else m other) lo in
         let parts = told_of_form tree task s sound scope (if_form arms other) e in
         let next = else_next tree task sound s arms other scope w in
         let a = arms_local s s line arms both.0 (kept_left (parts_of_arms arms) (parts_of_otherwise other) k) scope names scope names next.0 parts.2 parts.4 in
@@ -206,15 +206,15 @@ module _ (handing : Bool) (tree : Tree) (task : TaskTree) (sound : IsSound tree)
           },
         )
 
-    arms_local : (own s : Scope) (line : ℕ) (arms : Arms) → are_handing_arms m arms ≡ true → AreKept (parts_of_arms arms) → IsSoundScope own →
+    arms_local : (own s : Scope) (line : ℕ) (arms : Arms) → are_local_arms m arms ≡ true → AreKept (parts_of_arms arms) → IsSoundScope own →
         Ready own → IsSoundScope s → Ready s → first_in_arms tree task s arms ≡ None →
         first_in (first_in_expression tree task own) (tests_of arms) ≡ None →
         list_any (is_ill_typed_at_place own.known) (all_stand tree own truth_spot (tests_of arms)) ≡ false →
         AreTypedArms forms (here own line) (here s line) arms × Ready (scope_after_arms tree s arms)
     arms_local own s line no_arm lo k oscope onames scope names e heads standing = (tt, names)
     arms_local own s line (an_arm test body rest) lo k oscope onames scope names e heads standing =
-        let one = and_parts (is_handing_expression m test) _ lo in
-        let two = and_parts (is_handing_block m body) (are_handing_arms m rest) one.1 in
+        let one = and_parts (is_local_expression m test) _ lo in
+        let two = and_parts (is_local_block m body) (are_local_arms m rest) one.1 in
         let k2 = kept_right (parts_of_expression test) (parts_of_block body ++ parts_of_arms rest) k in
         let tests = option_or_parts (first_in_expression tree task own test) _ heads in
         let stood = first_stands own.known (stands (known_type tree own test) truth_spot) (all_stand tree own truth_spot (tests_of rest)) standing in
@@ -226,17 +226,17 @@ module _ (handing : Bool) (tree : Tree) (task : TaskTree) (sound : IsSound tree)
         oscope onames next.1 (behind s (scope_after_block tree s body) names b.1) next.2 tests.1 stood.1 in
         ((t.0, t.1, b.0, r.0), r.1)
 
-    else_local : (s : Scope) (line : ℕ) (other : Otherwise) → is_handing_else m other ≡ true → AreKept (parts_of_otherwise other) → IsSoundScope s →
+    else_local : (s : Scope) (line : ℕ) (other : Otherwise) → is_local_else m other ≡ true → AreKept (parts_of_otherwise other) → IsSoundScope s →
         Ready s → first_in_else tree task s other ≡ None → IsTypedElse forms (here s line) other × KnowsHead tree task (scope_after_else tree s other)
     else_local s line no_else lo k scope names e = (tt, names.head)
     else_local s line (else_block body) lo k scope names e =
         let b = block_local s line body lo k scope names e in (b.0, head_past tree task s (scope_after_block tree s body) b.1)
 
-    pub block_local : (s : Scope) (line : ℕ) (body : Block) → is_handing_block m body ≡ true → AreKept (parts_of_block body) → IsSoundScope s →
+    pub block_local : (s : Scope) (line : ℕ) (body : Block) → is_local_block m body ≡ true → AreKept (parts_of_block body) → IsSoundScope s →
         Ready s → first_in_block tree task s body ≡ None → BlockTyped s line body
     block_local s line no_statement lo k scope names e = (tt, names.head)
     block_local s line (then_statement (a_statement at_line form) rest) lo k scope names e =
-        let both = and_parts (is_handing_form m form) (is_handing_block m rest) lo in
+        let both = and_parts (is_local_form m form) (is_local_block m rest) lo in
         let k2 = kept_behind node (parts_of_form form ++ parts_of_block rest) k in
         let next = block_next tree task sound s at_line form rest scope e in
         let f = form_local s at_line form both.0 (kept_left (parts_of_form form) (parts_of_block rest) k2) scope names next.0 next.1 in

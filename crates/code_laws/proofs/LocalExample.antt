@@ -1,5 +1,5 @@
 -- The premises of the law hold of a program whose tasks keep their regions to themselves.
-use Rattle.std.proofs.Common.{◌≡◌, Bool, List, true, false, refl, pos, negsuc, arith}
+use Rattle.std.proofs.Common.{◌≡◌, Bool, List, [], ◌∷◌, true, false, refl, pos, negsuc, arith}
 use Rattle.std.proofs.lemmas.Bool.{leb-true}
 use Rattle.std.proofs.lemmas.Int.{ints}
 use Rattle.std.proofs.lemmas.List.Sums.{AllPass-from_list_all}
@@ -9,6 +9,7 @@ use Rattle.std.specs.List.{list_all}
 use Rattle.std.specs.Prelude.{All, nat_le}
 use Rattle.regent_tree.specs.Limits.{KeepsLimit, Part, WithinLimits, counted, greatest_literal, literal, most, node, parts_of_program}
 use Rattle.code_laws.specs.LocalExample.{LocalExampleHolds, local_program}
+use Rattle.code_laws.specs.LocalPrograms.{IsLocalProgramRun}
 
 -- whether a part keeps its limit, by computing
 abbrev keeps : Part → Bool
@@ -29,10 +30,14 @@ all_keep ps e k d low = keeps_limit _ (AllPass-from_list_all keeps ps e k d low)
 within : WithinLimits local_program
 within = record { each = all_keep (parts_of_program local_program) refl; nodes = omega (arith) }
 
+run : IsLocalProgramRun local_program (pos 5 ∷ [])
+run = record { within = within; accepted = refl; local = refl; numbers = (omega (arith, ints), tt) }
+
 pub local_example_holds : LocalExampleHolds
 unfolding int_wrap digits
 local_example_holds = record {
-  run = record { within = within; accepted = refl; local = refl; numbers = (omega (arith, ints), tt) };
+  run = run;
+  kept = record { run = run; kept = refl };
   end_is = refl;
   fault_run = record { within = within; accepted = refl; local = refl; numbers = (omega (arith, ints), tt) };
   fault_is = refl;

@@ -1,5 +1,5 @@
 -- Expressions of a text with marked names, of which no breach is told, are typed.
-use Rattle.std.proofs.Common.{◌≡◌, Bool, List, [], ◌∷◌, ◌++◌, None, Option, Some, false, true, refl, ap, sym, subst, ◌∙◌, ◌⊎◌, inl, inr, not, arith, ⊎_elim}
+use Rattle.std.proofs.Common.{◌≡◌, Bool, List, [], ◌∷◌, ◌++◌, None, false, true, refl, ap, sym, subst, ◌∙◌, ◌⊎◌, inl, inr, not, arith, ⊎_elim}
 use Rattle.std.specs.Prelude.{is_none, length, map, ◌&&◌, ◌==◌, ◌||◌}
 use Rattle.std.specs.List.{list_any}
 use Rattle.std.proofs.lemmas.Bool.{and_parts, eqb-true, not-false, or_parts}
@@ -9,14 +9,13 @@ use Rattle.regent_tree.specs.Accesses.{space_in}
 use Rattle.regent_tree.specs.Lookup.{has_task, is_bound}
 use Rattle.regent_tree.specs.Scopes.{scope_of}
 use Rattle.regent_tree.specs.StaticTypes.{field_place, task_named}
-use Rattle.regent_tree.specs.Syntax.{Expression, Expressions, Links, Name, TaskTree, a_link, access_expr, an_expr, at_step, call_expr, Tree, cast_expr, chain_expr, convert_expr, field_step, is_null_expr, no_expr, no_link, no_step, null_expr, number_expr, prefix_expr, space_expr, truth_expr}
-use Rattle.regent_tree.specs.Typing.{linked_type, operated, param_types, params_at, put_in, result_type, type_of_element, types_of}
+use Rattle.regent_tree.specs.Syntax.{Expression, Expressions, Links, Name, TaskTree, a_link, access_expr, an_expr, at_step, call_expr, cast_expr, chain_expr, convert_expr, field_step, is_null_expr, no_expr, no_link, no_step, null_expr, number_expr, prefix_expr, space_expr, truth_expr}
+use Rattle.regent_tree.specs.Typing.{linked_type, operated, param_types, params_at, put_in, type_of_element, types_of}
 use Rattle.regent_tree.specs.declared.expression.Operator.{Operator}
 use Rattle.regent_tree.specs.declared.expression.Operator.TheVariants.{And, Compare, Compute, Or}
 use Rattle.regent_tree.specs.declared.facts.Term.TheVariants as term
 use Rattle.regent_tree.specs.declared.rights.Access.{Access}
 use Rattle.regent_tree.specs.declared.rights.Access.TheVariants as access
-use Rattle.regent_tree.specs.declared.types.TypeTerm.{TypeTerm}
 use Rattle.regent_tree.specs.declared.typing.StaticType.{StaticType}
 use Rattle.check_laws.proofs.Blocks.{head_known}
 use Rattle.check_laws.specs.SoundScopes.{IsSoundScope}
@@ -35,8 +34,7 @@ use Rattle.check_rules.specs.types.TypedForms.{calling, computing, element_of, f
 use Rattle.check_rules.specs.declared.rule.Rule.TheVariants as rule
 use Rattle.check_rules.proofs.Untold.{rule_none}
 use Rattle.code_rules.specs.Slots.{Where, bound, typed}
-use Rattle.local_form.specs.LocalForm.{Marked, gives_scalar, links_give}
-use Rattle.code_laws.specs.HandingForm.{are_handing_arguments, are_handing_expressions, are_handing_links, is_handing_expression, is_name}
+use Rattle.local_form.specs.LocalForm.{Marked, are_local_arguments, are_local_expressions, are_local_links, gives_scalar, is_local_expression, is_name, links_give}
 use Rattle.code_laws.specs.Handing.{forms_by, takes_by}
 use Rattle.code_laws.specs.Simple.{AreAlike, AreRegions, IsNumber, IsRegion, IsScalar, IsSimple, a_region_type, scalar_integer, scalar_truth, simple_integer, simple_space, simple_truth}
 use Rattle.code_laws.specs.Steps.{Forms}
@@ -44,49 +42,16 @@ use Rattle.code_laws.specs.Typed.{AreNumbers, ArePassed, AreTypedLinks, IsCallab
 use Rattle.expression_laws.proofs.Calls.{IsFlawless, call_parts}
 use Rattle.code_laws.proofs.KnownHeads.{KnowsHead, granted_at, kept_may}
 use Rattle.code_laws.proofs.LocalCalls.{may_call}
+use Rattle.code_laws.proofs.LocalParts.{and_then, given_result, named_alone, put_region, put_scalar}
 use Rattle.code_laws.proofs.LocalNames.{AllKept, AreScalars, AreTakable, IsKept, IsLocalTree, IsPlace, element_known, kept_index, kept_region, kept_scalar, kept_simple, named_kept, named_place, place_is, simple_kept, taking_told}
-use Rattle.code_laws.proofs.LocalTypes.{IsTakable, either, number_is, operated_number, operated_simple, param_fitting, region_for_scalar, regions_alike, simple_after, simple_as_integer, simple_as_number, simple_compared, simple_computed, simple_for_region, simple_other, simple_truths, takable_region, takable_scalar, term_scalar}
+use Rattle.code_laws.proofs.LocalTypes.{IsTakable, either, number_is, operated_number, operated_simple, param_fitting, region_for_scalar, regions_alike, simple_after, simple_as_integer, simple_as_number, simple_compared, simple_computed, simple_for_region, simple_other, simple_truths, takable_region, takable_scalar}
 use Rattle.code_laws.proofs.Privileges.{mode_in}
 use Rattle.code_laws.proofs.TypedStatements.{first_stands}
 use Rattle.code_laws.proofs.Openings.{params_length, types_length}
 use Rattle.check_laws.proofs.Widths.{literal_fits}
-use Rattle.code_laws.proofs.Typing.{AreKept, integer_term, kept_behind, kept_left, kept_right, no_way, no_way_back, number_scalar, operates, signed_scalar, signs_fit, stands_well}
+use Rattle.code_laws.proofs.Typing.{AreKept, integer_term, kept_behind, kept_left, kept_right, no_way_back, number_scalar, operates, signed_scalar, signs_fit, stands_well}
 use Rattle.code_laws.proofs.Values.{scalar_simple}
-use Rattle.scalar_form.specs.ScalarForm.{is_scalar_if_said, is_scalar_number}
-
--- a result that is there
-pub given_result : (tree : Tree) (r : Option TypeTerm) → is_scalar_if_said r ≡ true → is_none r ≡ false → IsScalar (result_type tree r)
-given_result tree None s e = absurd (no_way e)
-given_result tree (Some t) s e = term_scalar t s tree (λ n. None) 0
-
--- of two that aren't both so, the second where the first is
-and_then : (a b : Bool) → a ≡ true → (a && b) ≡ false → b ≡ false
-and_then a b h e = sym (ap (λ x. x && b) h) ∙ e
-
--- a number or truth parameter is the same with all arguments
-put_scalar : (types : List StaticType) (p : StaticType) → IsScalar p → put_in types p ≡ p
-put_scalar types _ (scalar_integer w) = refl
-put_scalar types _ scalar_truth = refl
-
--- a name that stands alone is one
-named_alone : (e : Expression) → is_name e ≡ true → (n : Name) × (e ≡ access_expr n no_step)
-named_alone (access_expr n no_step) h = (n, refl)
-named_alone (access_expr n (field_step _ _)) h = absurd (no_way_back h)
-named_alone (access_expr n (at_step _ _)) h = absurd (no_way_back h)
-named_alone (number_expr _ _) h = absurd (no_way_back h)
-named_alone (truth_expr _) h = absurd (no_way_back h)
-named_alone (chain_expr _ _) h = absurd (no_way_back h)
-named_alone (prefix_expr _ _) h = absurd (no_way_back h)
-named_alone (call_expr _ _) h = absurd (no_way_back h)
-named_alone (convert_expr _ _) h = absurd (no_way_back h)
-named_alone (is_null_expr _) h = absurd (no_way_back h)
-named_alone (null_expr _) h = absurd (no_way_back h)
-named_alone (cast_expr _ _) h = absurd (no_way_back h)
-named_alone (space_expr _ _) h = absurd (no_way_back h)
-
--- a region's type is the same with all arguments
-put_region : (types : List StaticType) (p : StaticType) → IsRegion p → put_in types p ≡ p
-put_region types _ (a_region_type k sp args r) = refl
+use Rattle.scalar_form.specs.ScalarForm.{is_scalar_number}
 
 module _ (handing : Bool) (task : TaskTree) (w : Where) (sound : IsSound w.tree) (sound_task : IsSoundTask w.tree task) (local : IsLocalTree handing w.tree)
     (m : Marked) (scope : IsSoundScope w.scope) (names : AllKept m w.scope.names) (head : KnowsHead w.tree task w.scope) where
@@ -229,8 +194,8 @@ module _ (handing : Bool) (task : TaskTree) (w : Where) (sound : IsSound w.tree)
       handed false q = absurd (simple_other p (scalar_simple p (alone q)) r)
       handed true q = (n.there, put_region types p r, regions)
 
-  argument_of : (e : Expression) → (is_name e || is_handing_expression m e) ≡ true → first_in_expression w.tree task w.scope e ≡ None →
-      (is_handing_expression m e ≡ true → IsWell e) → IsArgument e
+  argument_of : (e : Expression) → (is_name e || is_local_expression m e) ≡ true → first_in_expression w.tree task w.scope e ≡ None →
+      (is_local_expression m e ≡ true → IsWell e) → IsArgument e
   argument_of e lo told well = ⊎_elim
       (λ alone.
       let n = named_alone e alone in
@@ -238,7 +203,7 @@ module _ (handing : Bool) (task : TaskTree) (w : Where) (sound : IsSound w.tree)
       (subst (λ y. first_in_expression w.tree task w.scope y ≡ None) n.1 told) in
       let there = not-false (is_bound w.scope.names n.0) (rule_none (not (is_bound w.scope.names n.0)) rule.Name unbound.0) in
       subst IsArgument (sym n.1) (name_argument n.0 there (bound w n.0).static_type refl (named_kept m w.scope.names n.0 names there)))
-      (λ own. inl (well own)) (either (is_name e) (is_handing_expression m e) lo)
+      (λ own. inl (well own)) (either (is_name e) (is_local_expression m e) lo)
 
   -- a call that is given its arguments
   call_well : (n : Name) (args : Expressions) → first_in_args w.tree task w.scope args ≡ None →
@@ -276,13 +241,13 @@ module _ (handing : Bool) (task : TaskTree) (w : Where) (sound : IsSound w.tree)
       record { are = (both.0, both.1, a.is, r.are); simple = r.simple; scalar = r.scalar }
 
   mutual
-    pub local_well : (e : Expression) → is_handing_expression m e ≡ true → AreKept (parts_of_expression e) →
+    pub local_well : (e : Expression) → is_local_expression m e ≡ true → AreKept (parts_of_expression e) →
         first_in_expression w.tree task w.scope e ≡ None → IsWell e
     local_well (number_expr z v) lo k e =
         record { is = literal_fits z v (k (literal z v) (inr (inl refl))); simple = simple_integer v; scalar = λ q. scalar_integer v }
     local_well (truth_expr b) lo k e = record { is = tt; simple = simple_truth; scalar = λ q. scalar_truth }
     local_well (chain_expr first rest) lo k e =
-        let s = and_parts (is_handing_expression m first) (are_handing_links m rest) lo in
+        let s = and_parts (is_local_expression m first) (are_local_links m rest) lo in
         let told = option_or_parts (first_in_expression w.tree task w.scope first) _ e in
         let parts = kept_behind node (parts_of_expression first ++ parts_of_links rest) k in
         let a = local_well first s.0 (kept_left (parts_of_expression first) (parts_of_links rest) parts) told.0 in
@@ -290,7 +255,7 @@ module _ (handing : Bool) (task : TaskTree) (w : Where) (sound : IsSound w.tree)
         (subst (λ t. first_in_links w.tree task w.scope t rest ≡ None) (local_known first told.0) told.1) in
         record { is = (a.is, l.are); simple = l.simple; scalar = l.scalar }
     local_well (prefix_expr signs e) lo k none =
-        let s = and_parts (gives_scalar m e) (is_handing_expression m e) lo in
+        let s = and_parts (gives_scalar m e) (is_local_expression m e) lo in
         let told = option_or_parts (first_in_expression w.tree task w.scope e) _ none in
         let parts = kept_right (nodes signs) (parts_of_expression e) (kept_behind node (nodes signs ++ parts_of_expression e) k) in
         let a = local_well e s.1 parts told.0 in
@@ -318,7 +283,7 @@ module _ (handing : Bool) (task : TaskTree) (w : Where) (sound : IsSound w.tree)
         let may = touched n e f access.Read there p (rule_none _ rule.Read reading.1) in
         record { is = (a.is, p.number, is.0, is.1, may); simple = scalar_simple _ p.place.scalar; scalar = λ q. p.place.scalar }
     local_well (convert_expr t e) lo k none =
-        let s = and_parts (is_scalar_number t) (is_handing_expression m e) lo in
+        let s = and_parts (is_scalar_number t) (is_local_expression m e) lo in
         let told = option_or_parts (first_in_expression w.tree task w.scope e) _ none in
         let a = local_well e s.1 (kept_behind node (parts_of_expression e) k) told.0 in
         let may = stands_well [] (typed w e) number_spot
@@ -353,11 +318,11 @@ module _ (handing : Bool) (task : TaskTree) (w : Where) (sound : IsSound w.tree)
     local_well (null_expr _) lo k e = absurd (no_way_back lo)
     local_well (cast_expr _ _) lo k e = absurd (no_way_back lo)
 
-    local_links : (left : Bool) (t : StaticType) (ls : Links) → are_handing_links m ls ≡ true → AreKept (parts_of_links ls) → IsSimple t →
+    local_links : (left : Bool) (t : StaticType) (ls : Links) → are_local_links m ls ≡ true → AreKept (parts_of_links ls) → IsSimple t →
         (left ≡ true → IsScalar t) → first_in_links w.tree task w.scope t ls ≡ None → AreWellLinks left t ls
     local_links left t no_link lo k simple scalar e = record { are = tt; simple = simple; scalar = scalar }
     local_links left t (a_link o e rest) lo k simple scalar none =
-        let s = and_parts (is_handing_expression m e) (are_handing_links m rest) lo in
+        let s = and_parts (is_local_expression m e) (are_local_links m rest) lo in
         let told = option_or_parts (first_in_expression w.tree task w.scope e) _ none in
         let a = local_well e s.0 (kept_left (parts_of_expression e) (parts_of_links rest) k) told.0 in
         let u = typed w e in
@@ -369,7 +334,7 @@ module _ (handing : Bool) (task : TaskTree) (w : Where) (sound : IsSound w.tree)
         by_operator left o t e rest simple scalar a does
         (λ gives operand number. local_links gives (operated o t u) rest s.1 (kept_right (parts_of_expression e) (parts_of_links rest) k) operand number next)
 
-    local_given : (all types : List StaticType) (ps : List StaticType) (es : Expressions) → are_handing_arguments m es ≡ true → AreKept (parts_of_expressions es) →
+    local_given : (all types : List StaticType) (ps : List StaticType) (es : Expressions) → are_local_arguments m es ≡ true → AreKept (parts_of_expressions es) →
         AreTakable ps → (handing ≡ false → AreScalars ps) → first_in_args w.tree task w.scope es ≡ None →
         list_any (is_ill_typed_at_place w.scope.known) (stand_at all ps (known_types w.tree w.scope es)) ≡ false →
         misfit_in all ps (known_types w.tree w.scope es) ≡ false →
@@ -378,7 +343,7 @@ module _ (handing : Bool) (task : TaskTree) (w : Where) (sound : IsSound w.tree)
     local_given all types (p ∷ ps) no_expr lo k takable alone told standing fits many = absurd (omega (arith, many))
     local_given all types [] (an_expr e es) lo k takable alone told standing fits many = absurd (omega (arith, many))
     local_given all types (p ∷ ps) (an_expr e es) lo k takable alone told standing fits many =
-        let s = and_parts (is_name e || is_handing_expression m e) (are_handing_arguments m es) lo in
+        let s = and_parts (is_name e || is_local_expression m e) (are_local_arguments m es) lo in
         let parts = option_or_parts (first_in_expression w.tree task w.scope e) _ told in
         let a = argument_of e s.0 parts.0 (λ own. local_well e own (kept_left (parts_of_expression e) (parts_of_expressions es) k) parts.0) in
         let known = known_type w.tree w.scope e in
@@ -389,19 +354,19 @@ module _ (handing : Bool) (task : TaskTree) (w : Where) (sound : IsSound w.tree)
               (omega (arith, many)),
         )
 
-  pub local_call : (n : Name) (args : Expressions) → are_handing_arguments m args ≡ true → AreKept (parts_of_expressions args) →
+  pub local_call : (n : Name) (args : Expressions) → are_local_arguments m args ≡ true → AreKept (parts_of_expressions args) →
       first_in_args w.tree task w.scope args ≡ None → first_of_call w.tree task w.scope (calling n (known_types w.tree w.scope args)) ≡ None → IsCallWell n args
   local_call n args lo k told e = call_well n args told e
       (λ t. local_given (known_types w.tree w.scope args) (types_of w.tree w.scope args) (param_types w.tree (task_named w.tree n)) args lo k
       (local.tasks n t.there).params (λ q. ((local.tasks n t.there).alone q).params) told t.standing t.fits t.many)
 
   -- numbers that are printed
-  pub local_numbers : (es : Expressions) → are_handing_expressions m es ≡ true → AreKept (parts_of_expressions es) →
+  pub local_numbers : (es : Expressions) → are_local_expressions m es ≡ true → AreKept (parts_of_expressions es) →
       first_in_args w.tree task w.scope es ≡ None →
       list_any (λ t. not (may_be is_integer t)) (known_types w.tree w.scope es) ≡ false → AreNumbers forms w es
   local_numbers no_expr lo k e whole = tt
   local_numbers (an_expr e es) lo k none whole =
-      let s = and_parts (is_handing_expression m e) (are_handing_expressions m es) lo in
+      let s = and_parts (is_local_expression m e) (are_local_expressions m es) lo in
       let told = option_or_parts (first_in_expression w.tree task w.scope e) _ none in
       let a = local_well e s.0 (kept_left (parts_of_expression e) (parts_of_expressions es) k) told.0 in
       let both = or_parts (not (may_be is_integer (known_type w.tree w.scope e))) _ whole in

@@ -1,6 +1,8 @@
--- An accepted program whose tasks hand regions over by name, or keep them to themselves, runs as it means.
+-- An accepted program whose tasks hand regions over by name runs as it means.
 use Rattle.std.proofs.Common.{◌≡◌, ◌∙◌, Bool, List, [], ◌∷◌, None, Option, Some, true, false, ap, subst, refl, inr, ℕ, zero, suc, ℤ, length, arith}
 use Rattle.std.specs.Prelude.{option_map, ◌++◌}
+use Rattle.std.specs.List.{list_all}
+use Rattle.std.proofs.lemmas.Bool.{and_parts}
 use Rattle.std.proofs.lemmas.List.{length-map}
 use Rattle.std.proofs.lemmas.Option.{slice_get-map}
 use Rattle.regent_tree.proofs.Members.{Has}
@@ -17,22 +19,21 @@ use Rattle.check_rules.specs.types.Sorts.{is_region, type_at}
 use Rattle.code_rules.specs.Instructions.{place_of_task, tasks_of}
 use Rattle.code_rules.specs.Programs.{task_code}
 use Rattle.code_laws.specs.Handing.{AreTypedBy, forms_by}
-use Rattle.code_laws.specs.HandingForm.{marked_by_task}
+use Rattle.local_form.specs.LocalForm.{are_scalar_params, marked_by_task}
 use Rattle.code_laws.specs.Simple.{IsInteger, an_integer}
-use Rattle.code_laws.specs.LocalPrograms.{AcceptedProgramsEndWell, AcceptedProgramsRunAsMeant, IsHandingProgramRun, IsLocalProgramRun, LocalProgramsEndWell, LocalProgramsRunAsMeant}
+use Rattle.code_laws.specs.LocalPrograms.{AcceptedProgramsEndWell, AcceptedProgramsRunAsMeant, IsKeptProgramRun, IsLocalProgramRun, takes_scalars}
 use Rattle.code_laws.specs.Programs.{AreTypedTasks, IsGiven, IsTypedRun, call_forms, gives_nothing, gives_scalar}
 use Rattle.code_laws.proofs.LocalBlocks.{block_local}
 use Rattle.code_laws.proofs.DeclaredNeeds.{needs_none}
 use Rattle.code_laws.proofs.KnownHeads.{IsReady, head_begins}
-use Rattle.code_laws.proofs.LocalHanding.{local_alone, local_is_handing}
-use Rattle.code_laws.proofs.LocalTrees.{TakesScalars, begins_kept, handing_tree, item_handing, item_stands, task_stands}
+use Rattle.code_laws.proofs.LocalTrees.{TakesScalars, begins_kept, local_tree, item_of_form, item_stands, task_stands}
 use Rattle.code_laws.proofs.LocalTypes.{term_scalar}
 use Rattle.code_laws.proofs.Openings.{params_length, types_length}
 use Rattle.check_laws.proofs.Entries.{begins}
-use Rattle.code_laws.proofs.Entries.{AllIntegers, found, inputs_count, inputs_taken, kept_all, kept_item, params_integers, short_body, types_integers}
+use Rattle.code_laws.proofs.Entries.{AllIntegers, all_of, found, inputs_count, inputs_taken, kept_all, kept_item, params_integers, short_body, types_integers}
 use Rattle.code_laws.proofs.Top.{handing_programs_end_well, regions_are_handed_as_meant}
 use Rattle.code_laws.proofs.Typing.{AreKept, kept_right, no_way}
-use Rattle.scalar_form.specs.ScalarForm.{is_scalar_if_said}
+use Rattle.scalar_form.specs.ScalarForm.{is_empty, is_scalar_if_said}
 
 -- a result of numbers or truths, or none
 given_scalar : (tree : Tree) (r : Option TypeTerm) → is_scalar_if_said r ≡ true → IsGiven (result_type tree r)
@@ -49,13 +50,13 @@ integers_no_region (t ∷ ts) a zero = integer_no_region t a.0
 integers_no_region (t ∷ ts) a (suc i) = integers_no_region ts a.1 i
 
 -- a program of which nothing is told, whose tasks hand regions over or not
-module _ (handing : Bool) (tree : Tree) (inputs : List ℤ) (p : IsHandingProgramRun tree inputs)
+module _ (handing : Bool) (tree : Tree) (inputs : List ℤ) (p : IsLocalProgramRun tree inputs)
     (alone : handing ≡ false → (i : ItemTree) → Has tree i → (t : TaskTree) → i.form ≡ task_item t → TakesScalars t) where
   every_task : AreTypedBy handing false tree
   every_task k t at =
       let s = task_stands tree k t at in
       let item = s.0 in
-      let is = item_handing tree p.handing item s.1 t s.2 in
+      let is = item_of_form tree p.local item s.1 t s.2 in
       let told = body_told tree t p.accepted (item_stands tree item s.1 t s.2) in
       let every = kept_all (parts_of_program tree) p.within.each in
       let parts : AreKept (parts_of_item (task_item t)) = subst (λ form. AreKept (parts_of_item form)) s.2
@@ -63,7 +64,7 @@ module _ (handing : Bool) (tree : Tree) (inputs : List ℤ) (p : IsHandingProgra
       let body = kept_right (parts_of_type t.result) (parts_of_block t.body)
       (kept_right (parts_of_params t.params) (parts_of_type t.result ++ parts_of_block t.body) (λ q h. parts q (inr h))) in
       let short = short_body tree k t p.within at in
-      let local = handing_tree handing tree p.within p.accepted p.handing alone in
+      let local = local_tree handing tree p.within p.accepted p.local alone in
       let ready : IsReady tree t (marked_by_task t) (scope_of tree t) =
       record { names = begins_kept tree t is.params; head = head_begins tree t told.sound_task } in record {
         given = given_scalar tree t.result is.result;
@@ -83,7 +84,7 @@ module _ (handing : Bool) (tree : Tree) (inputs : List ℤ) (p : IsHandingProgra
       let bound = params_integers tree t.params 0 t.params b.integers in
       let ts = param_types tree t in
       let integers = types_integers (scope_of tree t).names bound in
-      let local = handing_tree handing tree p.within p.accepted p.handing alone in
+      let local = local_tree handing tree p.within p.accepted p.local alone in
       let long : length ts ≡ length t.params = types_length (scope_of tree t).names ∙ params_length tree t.params 0 t.params in record {
         start = slice_get-map (task_code tree) (tasks_of tree) (place_of_task tree main) ∙ ap (option_map (task_code tree)) f.at;
         needs = needs_none tree t told.sound_task local.named (integers_no_region ts integers);
@@ -108,21 +109,19 @@ accepted_programs_end_well tree inputs turns few p = handing_programs_end_well f
 
 -- ---- regions that are kept
 
-as_handing : (tree : Tree) (inputs : List ℤ) → IsLocalProgramRun tree inputs → IsHandingProgramRun tree inputs
-as_handing tree inputs p = record { within = p.within; accepted = p.accepted; handing = local_is_handing tree p.local; numbers = p.numbers }
-
-pub local_programs_run_as_meant : LocalProgramsRunAsMeant
-local_programs_run_as_meant tree inputs turns few p = accepted_programs_run_as_meant tree inputs turns few (as_handing tree inputs p)
-
-pub local_programs_end_well : LocalProgramsEndWell
-local_programs_end_well tree inputs turns few p = accepted_programs_end_well tree inputs turns few (as_handing tree inputs p)
+takes_alone : (tree : Tree) → list_all (λ (i : ItemTree). takes_scalars i.form) tree ≡ true → (i : ItemTree) → Has tree i → (t : TaskTree) → i.form ≡ task_item t →
+    TakesScalars t
+takes_alone tree e i h t same =
+    let is = and_parts (are_scalar_params t.params) (is_empty t.clauses)
+    (subst (λ form. takes_scalars form ≡ true) same (all_of (λ i. takes_scalars i.form) tree e i h)) in
+    record { params = is.0; clauses = is.1 }
 
 -- such programs are typed without regions that are handed over
-module _ (tree : Tree) (inputs : List ℤ) (p : IsLocalProgramRun tree inputs) where
-  pub local_tasks : AreTypedTasks tree
-  local_tasks k t at =
-      let task = every_task false tree inputs (as_handing tree inputs p) (λ q. local_alone tree p.local) k t at in
+module _ (tree : Tree) (inputs : List ℤ) (p : IsKeptProgramRun tree inputs) where
+  pub kept_tasks : AreTypedTasks tree
+  kept_tasks k t at =
+      let task = every_task false tree inputs p.run (λ q. takes_alone tree p.kept) k t at in
       record { given = task.given; typed = task.typed; small = task.small }
 
-  pub local_run : IsTypedRun call_forms tree inputs
-  local_run = the_run false tree inputs (as_handing tree inputs p) (λ q. local_alone tree p.local)
+  pub kept_run : IsTypedRun call_forms tree inputs
+  kept_run = the_run false tree inputs p.run (λ q. takes_alone tree p.kept)

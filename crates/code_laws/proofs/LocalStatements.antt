@@ -1,93 +1,65 @@
 -- Statements without blocks, of a text with marked names, of which no breach is told, are typed.
-use Rattle.std.proofs.Common.{◌≡◌, Bool, List, [], ◌∷◌, ◌++◌, None, Option, Some, false, true, ap, sym, subst, ℕ, ◌∙◌, inl, not, refl, ⊎_elim}
-use Rattle.std.specs.Prelude.{bytes_eq, cond, flat_map, is_some, length, map, ◌||◌}
+use Rattle.std.proofs.Common.{◌≡◌, Bool, List, [], ◌∷◌, ◌++◌, None, Option, Some, false, true, ap, sym, subst, ℕ, ◌∙◌, not, refl, ⊎_elim}
+use Rattle.std.specs.Prelude.{bytes_eq, flat_map, length, map, ◌||◌}
 use Rattle.std.specs.List.{list_all, list_any}
 use Rattle.std.proofs.lemmas.Bool.{and_parts, not-false, or_parts}
 use Rattle.plain_values.proofs.Plain.{option_or_parts}
-use Rattle.lane_kernels.specs.declared.numbers.Op.{Op}
-use Rattle.regent_tree.proofs.Members.{Has, Has-append_left}
+use Rattle.regent_tree.proofs.Members.{Has-append_left}
 use Rattle.regent_tree.specs.Accesses.{args_in, space_in}
 use Rattle.regent_tree.specs.Limits.{parts_of_expression, parts_of_expressions, parts_of_form, parts_of_type, parts_of_value}
 use Rattle.regent_tree.specs.Lookup.{has_space, is_bound, type_named}
 use Rattle.regent_tree.specs.Scopes.{Scope, bound_to, in_scope, known_of_type}
 use Rattle.regent_tree.specs.StaticTypes.{field_place, field_type, looked_up, place_of_space, spaces_of}
-use Rattle.regent_tree.specs.Syntax.{Expression, Expressions, Initializer, Name, TaskTree, Tree, access_expr, assign_form, at_step, call_form, field_step, fill_form, no_step, plain_initializer, print_form, region_initializer, return_form, var_form}
-use Rattle.regent_tree.specs.Typing.{kind_of_ispace, known_of_child, owned, result_type, scope_after, type_of, type_of_element, type_of_field, var_type}
+use Rattle.regent_tree.specs.Syntax.{Expression, Expressions, Initializer, Name, TaskTree, Tree, call_form, fill_form, plain_initializer, print_form, region_initializer, return_form, var_form}
+use Rattle.regent_tree.specs.Typing.{kind_of_ispace, known_of_child, owned, result_type, scope_after, type_of, var_type}
 use Rattle.regent_tree.specs.declared.facts.Term.TheVariants as place
-use Rattle.regent_tree.specs.declared.rights.Access.{Access}
 use Rattle.regent_tree.specs.declared.rights.Access.TheVariants as access
 use Rattle.regent_tree.specs.declared.program.FieldSpace.{FieldSpace}
-use Rattle.regent_tree.specs.declared.statement.How.TheVariants as how
 use Rattle.regent_tree.specs.declared.types.Kind.TheVariants.{Int1d}
 use Rattle.regent_tree.specs.declared.types.SpaceUse.{SpaceUse}
 use Rattle.regent_tree.specs.declared.types.TypeTerm.{TypeTerm}
 use Rattle.regent_tree.specs.declared.types.TypeTerm.TheVariants as term
 use Rattle.regent_tree.specs.declared.typing.StaticType.{StaticType}
-use Rattle.regent_tree.specs.declared.typing.StaticType.TheVariants.{Nothing as no_type, Unknown as unknown_type}
 use Rattle.check_laws.proofs.Blocks.{head_known}
 use Rattle.check_laws.proofs.Parts.{unless_false}
-use Rattle.check_laws.proofs.Variables.{begun_sound, target_of_form, parts_of_form as told_of_form}
+use Rattle.check_laws.proofs.Variables.{begun_sound, parts_of_form as told_of_form}
 use Rattle.check_laws.specs.SoundScopes.{IsSoundScope}
 use Rattle.check_rules.specs.declared.rule.Rule.TheVariants as rule
 use Rattle.check_rules.proofs.Untold.{rule_none}
-use Rattle.check_rules.specs.first.FirstInExpressions.{first_in_expression, first_in_target, first_in_type, first_of_call, first_of_step, first_of_taking}
+use Rattle.check_rules.specs.first.FirstInExpressions.{first_in_expression, first_in_type, first_of_call}
 use Rattle.check_rules.specs.first.FirstInStatements.{first_of_form, first_of_initializer}
 use Rattle.check_rules.specs.first.Rules.{first_in, rule_if}
 use Rattle.check_rules.specs.rules.Formats.{is_count, numbers_in}
 use Rattle.check_rules.specs.rules.Names.{is_unknown_region_field, unbound_name_in_type}
-use Rattle.check_rules.specs.rules.Privileges.{lacks, may_do, rights_declared, wanted_of_region, wanted_of_step, wanting}
+use Rattle.check_rules.specs.rules.Privileges.{may_do, rights_declared, wanted_of_region, wanting}
 use Rattle.check_rules.specs.rules.Standing.{Spot, domain_spot, integer_spot, space_spot, stands, truth_spot, typed_spot}
-use Rattle.check_rules.specs.rules.Statements.{known_result, spot_of_target}
-use Rattle.check_rules.specs.rules.Targets.{is_no_target, mistargets}
+use Rattle.check_rules.specs.rules.Statements.{known_result}
 use Rattle.check_rules.specs.rules.Types.{is_ill_typed_at_place, may_stand}
 use Rattle.check_rules.specs.scopes.Sound.{IsSound, IsSoundTask}
 use Rattle.check_rules.specs.scopes.Variables.{declared_type, is_flawed_initializer, known_initializer}
 use Rattle.check_rules.specs.types.Declarations.{known_field}
 use Rattle.check_rules.specs.types.Fitting.{fits}
-use Rattle.check_rules.specs.types.KnownTypes.{known_type, known_type_after_step, known_types}
+use Rattle.check_rules.specs.types.KnownTypes.{known_type, known_types}
 use Rattle.check_rules.specs.types.Lookup.{names_a, region_has}
-use Rattle.check_rules.specs.types.Sorts.{is_integer, is_region, is_truth, may_be}
-use Rattle.check_rules.specs.types.TypedForms.{calling, element_of, field_of}
+use Rattle.check_rules.specs.types.Sorts.{is_region, may_be}
+use Rattle.check_rules.specs.types.TypedForms.{calling}
 use Rattle.code_rules.specs.Slots.{Where}
-use Rattle.local_form.specs.LocalForm.{Marked, gives_scalar, is_among}
-use Rattle.code_laws.specs.HandingForm.{are_handing_arguments, are_handing_expressions, is_handing_expression, is_handing_form}
+use Rattle.local_form.specs.LocalForm.{Marked, are_local_arguments, are_local_expressions, gives_scalar, is_among, is_local_expression, is_local_form}
 use Rattle.code_laws.specs.Handing.{forms_by, takes_by}
-use Rattle.code_laws.specs.Simple.{IsInteger, IsNumber, IsRegion, IsScalar, IsSimple, IsSpace, IsTruth, a_region_type, scalar_integer, scalar_truth, term_in}
+use Rattle.code_laws.specs.Simple.{IsInteger, IsRegion, IsScalar, IsSimple, IsSpace, IsTruth, term_in}
 use Rattle.code_laws.specs.Steps.{Forms}
 use Rattle.code_laws.specs.Taking.{IsFresh}
-use Rattle.code_laws.specs.Typed.{AreFilled, GoesThrough, IsField, IsTyped, IsTypedForm, MayFill, MayTouch, element_field}
+use Rattle.code_laws.specs.Typed.{AreFilled, IsTyped, IsTypedForm, MayFill}
 use Rattle.expression_laws.proofs.Steps.{all_has}
 use Rattle.code_laws.proofs.KnownHeads.{IsReady, KnowsHead, head_made, head_named, kept_may, simple_tells}
-use Rattle.code_laws.proofs.LocalExpressions.{IsWell, at_point, local_call, local_numbers, local_well, touched}
-use Rattle.code_laws.proofs.Privileges.{mode_in}
-use Rattle.code_laws.proofs.LocalNames.{field_is, kept_integer, region_is, IsKept, IsLocalTree, first_below, kept_index, kept_region, kept_scalar, kept_simple, named_kept, named_place, no_kept_partition, simple_kept}
+use Rattle.code_laws.proofs.LocalParts.{all_behind, none_given, region_wants}
+use Rattle.code_laws.proofs.LocalExpressions.{IsWell, local_call, local_numbers, local_well}
+use Rattle.code_laws.proofs.LocalNames.{field_is, region_is, IsKept, IsLocalTree, first_below, kept_index, kept_region, kept_scalar, named_kept, no_kept_partition}
 use Rattle.code_laws.proofs.LocalTypes.{either, owned_simple, simple_as_domain, simple_as_integer, simple_as_space, simple_as_truth, simple_fitting, term_scalar}
 use Rattle.code_laws.proofs.TypedStatements.{HasNoPartition, count_types, counted, declared_fits, first_stands, initial_told, listed_told, result_fits, told_later, told_names, told_privileges}
-use Rattle.code_laws.proofs.Typing.{AreKept, kept_right, no_way, no_way_back}
+use Rattle.code_laws.proofs.Typing.{AreKept, kept_right}
 use Rattle.code_laws.proofs.Values.{scalar_simple}
 use Rattle.scalar_form.specs.ScalarForm.{is_scalar_if_said, is_scalar_term}
-
--- ---- results
-
--- a task without a result gives no number or truth
-scalar_there : (t : StaticType) → IsScalar t → (is_integer t || is_truth t) ≡ true
-scalar_there _ (scalar_integer w) = refl
-scalar_there _ scalar_truth = refl
-
-none_given : (tree : Tree) (r : Option TypeTerm) → is_some r ≡ false → IsScalar (result_type tree r) → ⊥
-none_given tree None e s = no_way_back (scalar_there no_type s)
-none_given tree (Some t) e s = no_way e
-
--- a region's field is wanted to be written
-region_wants : (tree : Tree) (u : StaticType) (f : Name) → IsRegion u → region_has tree u f ≡ true →
-    Has (wanted_of_region tree access.Write u f) (wanting (field_place tree (space_in u) f) access.Write (term_in u))
-region_wants tree _ f (a_region_type k sp args r) has =
-    subst (λ b. Has (cond b (wanting (field_place tree sp f) access.Write r ∷ []) []) (wanting (field_place tree sp f) access.Write r)) (sym has) (inl refl)
-
--- what holds of all of two lists holds of the second
-all_behind : {A : Type 0} (test : A → Bool) (xs ys : List A) → list_all test (xs ++ ys) ≡ true → list_all test ys ≡ true
-all_behind test [] ys e = e
-all_behind test (x ∷ xs) ys e = all_behind test xs ys (and_parts (test x) (list_all test (xs ++ ys)) e).1
 
 module _ (handing : Bool) (tree : Tree) (task : TaskTree) (sound : IsSound tree) (sound_task : IsSoundTask tree task) (local : IsLocalTree handing tree)
     (m : Marked) (params : ℕ) (result : is_scalar_if_said task.result ≡ true) where
@@ -102,13 +74,13 @@ module _ (handing : Bool) (tree : Tree) (task : TaskTree) (sound : IsSound tree)
   at s line = record { tree = tree; scope = s; result = result_type tree task.result; params = params; line = line }
 
   -- the head of a statement, told in a scope
-  headed : (s : Scope) (line : ℕ) (e : Expression) → is_handing_expression m e ≡ true → AreKept (parts_of_expression e) →
+  pub headed : (s : Scope) (line : ℕ) (e : Expression) → is_local_expression m e ≡ true → AreKept (parts_of_expression e) →
       (scope : IsSoundScope s) (ready : Ready s) → first_in_expression tree task s e ≡ None →
       IsWell handing task (at s line) sound sound_task local m scope ready.names ready.head e
   headed s line e lo k scope ready told = local_well handing task (at s line) sound sound_task local m scope ready.names ready.head e lo k told
 
   -- what stands somewhere, by the meaning's type
-  stands_as : (s : Scope) (e : Expression) (p : Spot) → IsSoundScope s → first_in_expression tree task s e ≡ None →
+  pub stands_as : (s : Scope) (e : Expression) (p : Spot) → IsSoundScope s → first_in_expression tree task s e ≡ None →
       may_stand s.known (stands (known_type tree s e) p) ≡ true → may_stand s.known (stands (type_of tree s e) p) ≡ true
   stands_as s e p scope told may = subst (λ t. may_stand s.known (stands t p) ≡ true) (head_known tree task sound s scope e told).1 may
 
@@ -122,11 +94,11 @@ module _ (handing : Bool) (tree : Tree) (task : TaskTree) (sound : IsSound tree)
   VarTyped s line n t i = IsTypedForm forms (at s line) (var_form n t i) × IsKept m n s.next (var_type tree s t i)
       × KnowsHead tree task (scope_after tree s (var_form n t i))
 
-  pub plain_local : (s : Scope) (line : ℕ) (n : Name) (y : Expression) → is_handing_form m (var_form n None (Some (plain_initializer y))) ≡ true →
+  pub plain_local : (s : Scope) (line : ℕ) (n : Name) (y : Expression) → is_local_form m (var_form n None (Some (plain_initializer y))) ≡ true →
       AreKept (parts_of_expression y) → IsSoundScope s → Ready s →
       first_of_form tree task s (var_form n None (Some (plain_initializer y))) ≡ None → VarTyped s line n None (Some (plain_initializer y))
   plain_local s line n y lo k scope names e =
-      let both = and_parts (gives_scalar m y || is_among m.indices n) (is_handing_expression m y) lo in
+      let both = and_parts (gives_scalar m y || is_among m.indices n) (is_local_expression m y) lo in
       let told = initial_told tree task s (no_partitions s names) y (told_of_form tree task s sound scope (var_form n None (Some (plain_initializer y))) e).2 in
       let a = headed s line y both.1 k scope names told in
       let kept : IsKept m n s.next (type_of tree s y) = ⊎_elim
@@ -138,11 +110,11 @@ module _ (handing : Bool) (tree : Tree) (task : TaskTree) (sound : IsSound tree)
             names.head (ap (λ ks. ks ++ known_of_type (owned s.next (type_of tree s y))) none.0 ∙ none.1),
       )
 
-  pub said_local : (s : Scope) (line : ℕ) (n : Name) (t : TypeTerm) (y : Expression) → is_handing_form m (var_form n (Some t) (Some (plain_initializer y))) ≡ true →
+  pub said_local : (s : Scope) (line : ℕ) (n : Name) (t : TypeTerm) (y : Expression) → is_local_form m (var_form n (Some t) (Some (plain_initializer y))) ≡ true →
       AreKept (parts_of_form (var_form n (Some t) (Some (plain_initializer y)))) → IsSoundScope s → Ready s →
       first_of_form tree task s (var_form n (Some t) (Some (plain_initializer y))) ≡ None → VarTyped s line n (Some t) (Some (plain_initializer y))
   said_local s line n t y lo k scope names e =
-      let both = and_parts (is_scalar_term t) (is_handing_expression m y) lo in
+      let both = and_parts (is_scalar_term t) (is_local_expression m y) lo in
       let parts = told_of_form tree task s sound scope (var_form n (Some t) (Some (plain_initializer y))) e in
       let told = initial_told tree task s (no_partitions s names) y parts.2 in
       let a = headed s line y both.1 (kept_right (parts_of_type (Some t)) (parts_of_expression y) k) scope names told in
@@ -166,11 +138,11 @@ module _ (handing : Bool) (tree : Tree) (task : TaskTree) (sound : IsSound tree)
   fresh false s h = tt
   fresh true s h = h.next
 
-  pub region_local : (s : Scope) (line : ℕ) (n : Name) (y : Expression) (u : SpaceUse) → is_handing_form m (var_form n None (Some (region_initializer y u))) ≡ true →
+  pub region_local : (s : Scope) (line : ℕ) (n : Name) (y : Expression) (u : SpaceUse) → is_local_form m (var_form n None (Some (region_initializer y u))) ≡ true →
       AreKept (parts_of_expression y) → IsSoundScope s → Ready s →
       first_of_form tree task s (var_form n None (Some (region_initializer y u))) ≡ None → VarTyped s line n None (Some (region_initializer y u))
   region_local s line n y u lo k scope names e =
-      let both = and_parts (is_among m.regions n) (is_handing_expression m y) lo in
+      let both = and_parts (is_among m.regions n) (is_local_expression m y) lo in
       let parts = told_of_form tree task s sound scope (var_form n None (Some (region_initializer y u))) e in
       let told = (option_or_parts (first_in_expression tree task s y) _ parts.2).0 in
       let a = headed s line y both.1 k scope names told in
@@ -232,7 +204,7 @@ module _ (handing : Bool) (tree : Tree) (task : TaskTree) (sound : IsSound tree)
         may_fill s line r kept is head fs a.1 rest,
       )
 
-  pub fill_local : (s : Scope) (line : ℕ) (r : Name) (fields : List Name) (y : Expression) → is_handing_expression m y ≡ true → AreKept (parts_of_expression y) →
+  pub fill_local : (s : Scope) (line : ℕ) (r : Name) (fields : List Name) (y : Expression) → is_local_expression m y ≡ true → AreKept (parts_of_expression y) →
       IsSoundScope s → Ready s → first_of_form tree task s (fill_form r fields y) ≡ None → IsTypedForm forms (at s line) (fill_form r fields y)
   fill_local s line r fields y lo k scope names e =
       let parts = told_of_form tree task s sound scope (fill_form r fields y) e in
@@ -250,133 +222,9 @@ module _ (handing : Bool) (tree : Tree) (task : TaskTree) (sound : IsSound tree)
             (not-false _ (told_privileges tree task s (fill_form r fields y) e).0),
       )
 
-  -- ---- assignments
-
-  pub set_local : (s : Scope) (line : ℕ) (n : Name) (y : Expression) → is_handing_form m (assign_form n no_step how.Set y) ≡ true → AreKept (parts_of_expression y) →
-      IsSoundScope s → Ready s → first_of_form tree task s (assign_form n no_step how.Set y) ≡ None →
-      IsTypedForm forms (at s line) (assign_form n no_step how.Set y)
-  set_local s line n y lo k scope names e =
-      let form = assign_form n no_step how.Set y in
-      let one = and_parts (not (is_among m.regions n)) _ lo in
-      let two = and_parts (not (is_among m.indices n)) (is_handing_expression m y) one.1 in
-      let parts = told_of_form tree task s sound scope form e in
-      let told = (option_or_parts (first_in_expression tree task s y) _ parts.2).0 in
-      let a = headed s line y two.1 k scope names told in
-      let target = option_or_parts (rule_if (not (is_bound s.names n)) rule.Name) _ (target_of_form tree task s sound scope form e) in
-      let there = not-false (is_bound s.names n) (rule_none (not (is_bound s.names n)) rule.Name target.0) in
-      let u = (bound_to s.names n).static_type in
-      let i = (bound_to s.names n).number in
-      let kept = named_kept m s.names n names.names there in
-      let scalar = simple_kept m n i u kept two.0 (kept_simple m n i u kept one.0) in
-      let spot = ap (λ b. typed_spot (cond b unknown_type u)) (told_later tree task s form e).0 in
-      let fit = stands_as s y (typed_spot u) scope told (subst (λ p. may_stand s.known (stands (known_type tree s y) p) ≡ true) spot
-      (first_stands s.known (stands (known_type tree s y) (spot_of_target (mistargets task s.names n no_step how.Set u) how.Set u)) [] parts.4).0) in
-      (simple_fitting s.known (type_of tree s y) u a.simple scalar fit, a.is, there)
-
-  pub reduce_local : (s : Scope) (line : ℕ) (n : Name) (o : Op) (y : Expression) → is_handing_expression m y ≡ true → AreKept (parts_of_expression y) →
-      IsSoundScope s → Ready s → first_of_form tree task s (assign_form n no_step (how.Reduce o) y) ≡ None →
-      IsTypedForm forms (at s line) (assign_form n no_step (how.Reduce o) y)
-  reduce_local s line n o y lo k scope names e =
-      let form = assign_form n no_step (how.Reduce o) y in
-      let parts = told_of_form tree task s sound scope form e in
-      let told = (option_or_parts (first_in_expression tree task s y) _ parts.2).0 in
-      let a = headed s line y lo k scope names told in
-      let target = option_or_parts (rule_if (not (is_bound s.names n)) rule.Name) _ (target_of_form tree task s sound scope form e) in
-      let there = not-false (is_bound s.names n) (rule_none (not (is_bound s.names n)) rule.Name target.0) in
-      let u = (bound_to s.names n).static_type in
-      let whole = not-false (may_be is_integer u) (or_parts (is_no_target task s.names n no_step u) (not (may_be is_integer u)) (told_later tree task s form e).0).1 in
-      let may = stands_as s y integer_spot scope told (first_stands s.known (stands (known_type tree s y) integer_spot) [] parts.4).0 in (
-        simple_as_integer (type_of tree s y) a.simple may,
-        kept_integer m n (bound_to s.names n).number u (named_kept m s.names n names.names there) whole,
-        a.is,
-        there,
-      )
-
-  -- a target at a point of a region: its parts are typed, and its type is known
-  record IsTarget (s : Scope) (line : ℕ) (n : Name) (e : Expression) (f : Name) : Type 0 where
-    index : IsTyped forms (at s line) e
-    number : IsNumber (type_of tree s e)
-    through : GoesThrough (at s line) n e
-    field : IsField (at s line) n f (element_field (at s line) n e f)
-    scalar : IsScalar (element_field (at s line) n e f)
-    known : known_type tree s (access_expr n (at_step e (field_step f no_step))) ≡ element_field (at s line) n e f
-    may : (a : Access) → lacks tree task s (wanted_of_step tree a (field_of (known_type_after_step tree (element_of (bound_to s.names n).static_type (known_type tree s e)) (type_of_element s (bound_to s.names n).static_type e)) f)) ≡ false →
-        MayTouch forms (at s line) n (field_place tree (space_in (bound_to s.names n).static_type) f) (mode_in a)
-
-  target_local : (s : Scope) (line : ℕ) (n : Name) (e : Expression) (f : Name) → is_handing_expression m e ≡ true → AreKept (parts_of_expression e) →
-      IsSoundScope s → Ready s → first_in_target tree task s n (at_step e (field_step f no_step)) ≡ None → IsTarget s line n e f
-  target_local s line n e f lo k scope names none =
-      let w = at s line in
-      let t = (bound_to s.names n).static_type in
-      let told = option_or_parts (rule_if (not (is_bound s.names n)) rule.Name) _ none in
-      let there = not-false (is_bound s.names n) (rule_none (not (is_bound s.names n)) rule.Name told.0) in
-      let index = option_or_parts (first_in_expression tree task s e) _ told.1 in
-      let taking = element_of t (known_type tree s e) in
-      let step = option_or_parts (first_of_step tree task s taking) _ index.1 in
-      let a = headed s line e lo k scope names index.0 in
-      let p = at_point handing task w sound sound_task local m scope names.names names.head n e f there index.0 a (option_or_parts (first_of_taking tree taking) _ step.0).0 step.1 in
-      let is = named_place handing w sound local m n e f scope there p.place in record {
-        index = a.is;
-        number = p.number;
-        through = is.0;
-        field = is.1;
-        scalar = p.place.scalar;
-        known = ap (λ q. known_type_after_step tree (field_of q f) (type_of_field tree q f)) p.element ∙ p.place.known;
-        may = λ a lacking. touched handing task w sound sound_task local m scope names.names names.head n e f a there p lacking;
-      }
-
-  pub set_field_local : (s : Scope) (line : ℕ) (n : Name) (e : Expression) (f : Name) (y : Expression) → is_handing_expression m e ≡ true → is_handing_expression m y ≡ true →
-      AreKept (parts_of_expression e) → AreKept (parts_of_expression y) → IsSoundScope s → Ready s →
-      first_of_form tree task s (assign_form n (at_step e (field_step f no_step)) how.Set y) ≡ None →
-      IsTypedForm forms (at s line) (assign_form n (at_step e (field_step f no_step)) how.Set y)
-  set_field_local s line n e f y lo_e lo k_e k scope names none =
-      let steps = at_step e (field_step f no_step) in
-      let form = assign_form n steps how.Set y in
-      let parts = told_of_form tree task s sound scope form none in
-      let told = (option_or_parts (first_in_expression tree task s y) _ parts.2).0 in
-      let a = headed s line y lo k scope names told in
-      let target = target_local s line n e f lo_e k_e scope names (target_of_form tree task s sound scope form none) in
-      let u = known_type tree s (access_expr n steps) in
-      let spot = ap (λ b. typed_spot (cond b unknown_type u)) (told_later tree task s form none).0 ∙ ap typed_spot target.known in
-      let fit = stands_as s y (typed_spot (element_field (at s line) n e f)) scope told (subst (λ p. may_stand s.known (stands (known_type tree s y) p) ≡ true) spot
-      (first_stands s.known (stands (known_type tree s y) (spot_of_target (mistargets task s.names n steps how.Set u) how.Set u)) [] parts.4).0) in (
-        simple_fitting s.known (type_of tree s y) (element_field (at s line) n e f) a.simple target.scalar fit,
-        a.is,
-        target.index,
-        target.number,
-        target.through,
-        target.field,
-        target.may access.Write (told_privileges tree task s form none).0,
-      )
-
-  pub reduce_field_local : (s : Scope) (line : ℕ) (n : Name) (e : Expression) (f : Name) (o : Op) (y : Expression) → is_handing_expression m e ≡ true →
-      is_handing_expression m y ≡ true → AreKept (parts_of_expression e) → AreKept (parts_of_expression y) → IsSoundScope s → Ready s →
-      first_of_form tree task s (assign_form n (at_step e (field_step f no_step)) (how.Reduce o) y) ≡ None →
-      IsTypedForm forms (at s line) (assign_form n (at_step e (field_step f no_step)) (how.Reduce o) y)
-  reduce_field_local s line n e f o y lo_e lo k_e k scope names none =
-      let steps = at_step e (field_step f no_step) in
-      let form = assign_form n steps (how.Reduce o) y in
-      let parts = told_of_form tree task s sound scope form none in
-      let told = (option_or_parts (first_in_expression tree task s y) _ parts.2).0 in
-      let a = headed s line y lo k scope names told in
-      let target = target_local s line n e f lo_e k_e scope names (target_of_form tree task s sound scope form none) in
-      let u = known_type tree s (access_expr n steps) in
-      let whole = subst (λ v. may_be is_integer v ≡ true) target.known
-      (not-false (may_be is_integer u) (or_parts (is_no_target task s.names n steps u) (not (may_be is_integer u)) (told_later tree task s form none).0).1) in
-      let may = stands_as s y integer_spot scope told (first_stands s.known (stands (known_type tree s y) integer_spot) [] parts.4).0 in (
-        simple_as_integer (type_of tree s y) a.simple may,
-        simple_as_integer (element_field (at s line) n e f) (scalar_simple _ target.scalar) whole,
-        a.is,
-        target.index,
-        target.number,
-        target.through,
-        target.field,
-        target.may (access.Reduce o) (told_privileges tree task s form none).1,
-      )
-
   -- ---- calls, prints, results and tests
 
-  pub call_local : (s : Scope) (line : ℕ) (n : Name) (args : Expressions) → are_handing_arguments m args ≡ true → AreKept (parts_of_expressions args) →
+  pub call_local : (s : Scope) (line : ℕ) (n : Name) (args : Expressions) → are_local_arguments m args ≡ true → AreKept (parts_of_expressions args) →
       IsSoundScope s → Ready s → first_of_form tree task s (call_form n args) ≡ None → IsTypedForm forms (at s line) (call_form n args)
   call_local s line n args lo k scope names e =
       let told = listed_told tree task s args (told_of_form tree task s sound scope (call_form n args) e).2 in
@@ -384,7 +232,7 @@ module _ (handing : Bool) (tree : Tree) (task : TaskTree) (sound : IsSound tree)
       let p = local_call handing task (at s line) sound sound_task local m scope names.names names.head n args lo k told call in
       (refl, p.callable, p.passed)
 
-  pub print_local : (s : Scope) (line : ℕ) (alias : Option Name) (format : List ℕ) (args : Expressions) → are_handing_expressions m args ≡ true →
+  pub print_local : (s : Scope) (line : ℕ) (alias : Option Name) (format : List ℕ) (args : Expressions) → are_local_expressions m args ≡ true →
       AreKept (parts_of_expressions args) → IsSoundScope s → Ready s →
       first_of_form tree task s (print_form alias format args) ≡ None → IsTypedForm forms (at s line) (print_form alias format args)
   print_local s line alias format args lo k scope names e =
@@ -395,7 +243,7 @@ module _ (handing : Bool) (tree : Tree) (task : TaskTree) (sound : IsSound tree)
       let many = counted (length types) (numbers_in format) (not-false (is_count (length types) (numbers_in format)) whole.0) in
       (local_numbers handing task (at s line) sound sound_task local m scope names.names names.head args lo k told whole.1, many ∙ ap Some (count_types tree s args))
 
-  pub return_local : (s : Scope) (line : ℕ) (y : Option Expression) → is_handing_form m (return_form y) ≡ true → AreKept (parts_of_value y) → IsSoundScope s →
+  pub return_local : (s : Scope) (line : ℕ) (y : Option Expression) → is_local_form m (return_form y) ≡ true → AreKept (parts_of_value y) → IsSoundScope s →
       Ready s → first_of_form tree task s (return_form y) ≡ None → IsTypedForm forms (at s line) (return_form y)
   return_local s line None lo k scope names e = λ c given. none_given tree task.result (told_later tree task s (return_form None) e).2 given
   return_local s line (Some y) lo k scope names e =
@@ -407,21 +255,21 @@ module _ (handing : Bool) (tree : Tree) (task : TaskTree) (sound : IsSound tree)
       (first_stands s.known (stands (known_type tree s y) (typed_spot (known_result tree task.result))) [] parts.4).0 in
       (result_fits tree s.known task.result (type_of tree s y) result (told_later tree task s form e).2 a.simple fit, a.is)
 
-  pub test_local : (s : Scope) (line : ℕ) (y : Expression) → is_handing_expression m y ≡ true → AreKept (parts_of_expression y) → IsSoundScope s →
+  pub test_local : (s : Scope) (line : ℕ) (y : Expression) → is_local_expression m y ≡ true → AreKept (parts_of_expression y) → IsSoundScope s →
       Ready s → first_in_expression tree task s y ≡ None → may_stand s.known (stands (known_type tree s y) truth_spot) ≡ true →
       IsTruth (type_of tree s y) × IsTyped forms (at s line) y
   test_local s line y lo k scope names told may =
       let a = headed s line y lo k scope names told in
       (simple_as_truth (type_of tree s y) a.simple (stands_as s y truth_spot scope told may), a.is)
 
-  pub bound_local : (s : Scope) (line : ℕ) (y : Expression) → is_handing_expression m y ≡ true → AreKept (parts_of_expression y) → IsSoundScope s →
+  pub bound_local : (s : Scope) (line : ℕ) (y : Expression) → is_local_expression m y ≡ true → AreKept (parts_of_expression y) → IsSoundScope s →
       Ready s → first_in_expression tree task s y ≡ None → may_stand s.known (stands (known_type tree s y) integer_spot) ≡ true →
       IsInteger (type_of tree s y) × IsTyped forms (at s line) y
   bound_local s line y lo k scope names told may =
       let a = headed s line y lo k scope names told in
       (simple_as_integer (type_of tree s y) a.simple (stands_as s y integer_spot scope told may), a.is)
 
-  pub domain_local : (s : Scope) (line : ℕ) (y : Expression) → is_handing_expression m y ≡ true → AreKept (parts_of_expression y) → IsSoundScope s →
+  pub domain_local : (s : Scope) (line : ℕ) (y : Expression) → is_local_expression m y ≡ true → AreKept (parts_of_expression y) → IsSoundScope s →
       Ready s → first_in_expression tree task s y ≡ None → may_stand s.known (stands (known_type tree s y) domain_spot) ≡ true →
       IsSpace (type_of tree s y) × IsTyped forms (at s line) y
   domain_local s line y lo k scope names told may =

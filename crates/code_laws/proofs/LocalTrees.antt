@@ -27,8 +27,7 @@ use Rattle.check_rules.specs.first.FirstInItems.{first_declared, first_line}
 use Rattle.check_rules.specs.rules.Repeats.{Given, given_by, repeats, repeats_after, repeats_within, was_given}
 use Rattle.check_rules.specs.scopes.Sound.{StandsIn}
 use Rattle.code_rules.specs.Instructions.{tasks_of}
-use Rattle.local_form.specs.LocalForm.{Marked, are_scalar_params, is_among, marked_in, unmarked, with_region}
-use Rattle.code_laws.specs.HandingForm.{are_handing_params, is_handing_block, is_handing_item, is_handing_program, is_handing_task, is_region_term, marked_by_task, marked_params}
+use Rattle.local_form.specs.LocalForm.{Marked, are_local_params, are_scalar_params, is_among, is_local_block, is_local_item, is_local_program, is_local_task, is_region_term, marked_by_task, marked_in, marked_params, unmarked, with_region}
 use Rattle.code_laws.specs.Simple.{IsScalar, a_region_type, scalar_truth}
 use Rattle.code_laws.proofs.LocalNames.{AllKept, AreScalars, AreTakable, IsAlone, IsKept, IsLocalTree, kept_region, kept_scalar}
 use Rattle.code_laws.proofs.LocalTypes.{IsTakable, takable_region, takable_scalar, term_scalar}
@@ -89,21 +88,21 @@ pub item_stands : (tree : Tree) (i : ItemTree) → Has tree i → (t : TaskTree)
 item_stands tree i h t same = Contains-from_Has (map (λ (i : ItemTree). i.form) tree) (task_item t)
     (subst (Has (map (λ (i : ItemTree). i.form) tree)) same (Has-map (λ (i : ItemTree). i.form) tree i h))
 
--- the parts of a task that hands regions over
-pub record IsHandingTask (t : TaskTree) : Type 0 where
-  pub params : are_handing_params t.params ≡ true
+-- the parts of a task of the form
+pub record IsOfForm (t : TaskTree) : Type 0 where
+  pub params : are_local_params t.params ≡ true
   pub result : is_scalar_if_said t.result ≡ true
-  pub body : is_handing_block (marked_by_task t) t.body ≡ true
+  pub body : is_local_block (marked_by_task t) t.body ≡ true
 
-task_handing : (t : TaskTree) → is_handing_task t ≡ true → IsHandingTask t
-task_handing t e =
-    let one = and_parts (are_handing_params t.params) _ e in
-    let two = and_parts (is_scalar_if_said t.result) (is_handing_block (marked_by_task t) t.body) one.1 in
+task_of_form : (t : TaskTree) → is_local_task t ≡ true → IsOfForm t
+task_of_form t e =
+    let one = and_parts (are_local_params t.params) _ e in
+    let two = and_parts (is_scalar_if_said t.result) (is_local_block (marked_by_task t) t.body) one.1 in
     record { params = one.0; result = two.0; body = two.1 }
 
-pub item_handing : (tree : Tree) → is_handing_program tree ≡ true → (i : ItemTree) → Has tree i → (t : TaskTree) → i.form ≡ task_item t → IsHandingTask t
-item_handing tree e i h t same =
-    task_handing t (subst (λ form. is_handing_item form ≡ true) same (all_of (λ i. is_handing_item i.form) tree e i h))
+pub item_of_form : (tree : Tree) → is_local_program tree ≡ true → (i : ItemTree) → Has tree i → (t : TaskTree) → i.form ≡ task_item t → IsOfForm t
+item_of_form tree e i h t same =
+    task_of_form t (subst (λ form. is_local_item form ≡ true) same (all_of (λ i. is_local_item i.form) tree e i h))
 
 -- ---- parameters
 
@@ -157,16 +156,16 @@ module _ (tree : Tree) (all : List Param) (m : Marked) where
   kept_behind_all [] b a k = (k, tt)
   kept_behind_all (c ∷ bs) b a k = (a.0, kept_behind_all bs b a.1 k)
 
-  pub params_kept : (i : ℕ) (ps : List Param) → are_handing_params ps ≡ true →
+  pub params_kept : (i : ℕ) (ps : List Param) → are_local_params ps ≡ true →
       ((p : Param) → Has ps p → is_region_term p.term ≡ true → is_among m.regions p.name ≡ true) → AllKept m (bound_params tree all i ps)
   params_kept i [] e marked = tt
   params_kept i (p ∷ ps) e marked =
-      let both = and_parts (is_scalar_term p.term || is_region_term p.term) (are_handing_params ps) e in
+      let both = and_parts (is_scalar_term p.term || is_region_term p.term) (are_local_params ps) e in
       kept_behind_all (bound_params tree all (suc i) ps) _ (params_kept (suc i) ps both.1 (λ q h. marked q (inr h)))
       (param_kept p i p.term refl both.0 (marked p (inl refl)))
 
 -- so where a task begins
-pub begins_kept : (tree : Tree) (t : TaskTree) → are_handing_params t.params ≡ true → AllKept (marked_by_task t) (scope_of tree t).names
+pub begins_kept : (tree : Tree) (t : TaskTree) → are_local_params t.params ≡ true → AllKept (marked_by_task t) (scope_of tree t).names
 begins_kept tree t e = params_kept tree t.params (marked_by_task t) 0 t.params e (λ p h r. marked_region t.params (marked_in t.body unmarked) p h r)
 
 abbrev AllTakable : List Bound → Type 0
@@ -177,10 +176,10 @@ takable_behind : (bs : List Bound) (b : Bound) → AllTakable bs → IsTakable b
 takable_behind [] b a i = (i, tt)
 takable_behind (c ∷ bs) b a i = (a.0, takable_behind bs b a.1 i)
 
-params_takable : (tree : Tree) (all : List Param) (i : ℕ) (ps : List Param) → are_handing_params ps ≡ true → AllTakable (bound_params tree all i ps)
+params_takable : (tree : Tree) (all : List Param) (i : ℕ) (ps : List Param) → are_local_params ps ≡ true → AllTakable (bound_params tree all i ps)
 params_takable tree all i [] e = tt
 params_takable tree all i (p ∷ ps) e =
-    let both = and_parts (is_scalar_term p.term || is_region_term p.term) (are_handing_params ps) e in
+    let both = and_parts (is_scalar_term p.term || is_region_term p.term) (are_local_params ps) e in
     takable_behind (bound_params tree all (suc i) ps) _ (params_takable tree all (suc i) ps both.1) (term_takable p.term both.0 tree (among_params all) i)
 
 takable_types_behind : (ts : List StaticType) (t : StaticType) → AreTakable ts → IsTakable t → AreTakable (ts ++ t ∷ [])
@@ -260,19 +259,19 @@ place_named all (p ∷ ps) (suc k) j low own = inr (place_named all ps k j (omeg
 
 -- ---- the program
 
-pub handing_tree : (handing : Bool) (tree : Tree) → WithinLimits tree → breaches tree ≡ [] → is_handing_program tree ≡ true →
+pub local_tree : (handing : Bool) (tree : Tree) → WithinLimits tree → breaches tree ≡ [] → is_local_program tree ≡ true →
     (handing ≡ false → (i : ItemTree) → Has tree i → (t : TaskTree) → i.form ≡ task_item t → TakesScalars t) → IsLocalTree handing tree
-handing_tree handing tree within none e alone = record {
+local_tree handing tree within none e alone = record {
   fields = λ sp. term_at_place (get_or (spaces_of tree) sp no_fields).fields
       (space_has (λ (s : FieldSpace). are_scalar_params s.fields ≡ true) refl tree
-      (λ i h s same. subst (λ form. is_handing_item form ≡ true) same (all_of (λ i. is_handing_item i.form) tree e i h)) sp);
+      (λ i h s same. subst (λ form. is_local_item form ≡ true) same (all_of (λ i. is_local_item i.form) tree e i h)) sp);
   few = space_has (λ (s : FieldSpace). length s.fields ≤ 256) (omega (arith)) tree few_in;
   named = λ sp i low.
       let once = space_has (λ (s : FieldSpace). repeats (given_by s.fields) ≡ []) refl tree once_in sp in
       place_named (space_at tree sp).fields (space_at tree sp).fields i i low (own_place [] (space_at tree sp).fields once i);
   tasks = λ n there.
       let f = found n tree there in
-      let t = item_handing tree e f.stands.0 f.stands.1 (task_named tree n) f.stands.2 in record {
+      let t = item_of_form tree e f.stands.0 f.stands.1 (task_named tree n) f.stands.2 in record {
         stands = item_stands tree f.stands.0 f.stands.1 (task_named tree n) f.stands.2;
         called = f.at;
         params = types_takable (scope_of tree (task_named tree n)).names

@@ -1,5 +1,5 @@
--- A program over scalars keeps its regions to itself, since it has none; no name in it is marked.
-use Rattle.std.proofs.Common.{◌≡◌, ◌∙◌, Bool, [], ◌∷◌, None, Option, Some, true, false, refl, ap, subst, sym}
+-- A program over scalars is of the form whose tasks hand regions over by name, since it has none; no name in it is marked.
+use Rattle.std.proofs.Common.{◌≡◌, ◌∙◌, Bool, List, [], ◌∷◌, None, Option, Some, true, false, refl, ap, subst, sym}
 use Rattle.std.specs.Prelude.{cond, ◌&&◌, ◌||◌, ◌==◌}
 use Rattle.std.specs.List.{list_all}
 use Rattle.std.proofs.lemmas.Bool.{and_parts}
@@ -8,8 +8,11 @@ use Rattle.regent_tree.specs.Syntax.{Arms, Block, Expression, Expressions, Form,
 use Rattle.regent_tree.specs.declared.expression.Operator.TheVariants.{And, Compare, Compute, Or}
 use Rattle.regent_tree.specs.declared.statement.How.{How}
 use Rattle.regent_tree.specs.declared.statement.How.TheVariants as how
+use Rattle.regent_tree.specs.declared.types.Param.{Param}
 use Rattle.regent_tree.specs.declared.types.TypeTerm.{TypeTerm}
-use Rattle.local_form.specs.LocalForm.{are_local_arms, are_local_expressions, are_local_links, are_scalar_params, gives_scalar, is_local_block, is_local_else, is_local_expression, is_local_form, is_local_item, is_local_program, is_local_task, links_give, marked_by, marked_by_arms, marked_by_else, marked_in, unmarked, with_index}
+use Rattle.regent_tree.specs.declared.types.TypeTerm.TheVariants as term
+use Rattle.local_form.specs.LocalForm.{Marked, are_local_arms, are_local_expressions, are_local_links, are_local_params, are_scalar_params, gives_scalar, is_local_block, is_local_else, is_local_expression, is_local_form, is_local_item, is_local_program, is_local_task, is_region_term, links_give, marked_by, marked_by_arms, marked_by_else, marked_by_task, marked_in, marked_params, unmarked, with_index, with_region}
+use Rattle.code_laws.specs.LocalPrograms.{takes_scalars}
 use Rattle.code_laws.proofs.Typing.{no_way_back}
 use Rattle.scalar_form.specs.ScalarForm.{are_scalar_arms, are_scalar_expressions, are_scalar_links, is_empty, is_scalar_block, is_scalar_else, is_scalar_expression, is_scalar_form, is_scalar_if_said, is_scalar_item, is_scalar_number, is_scalar_program, is_scalar_task, is_scalar_term}
 
@@ -171,12 +174,34 @@ scalar_task t e =
     let three = and_parts (is_empty t.clauses) (is_scalar_block t.body) two.1 in
     record { params = one.0; result = two.0; clauses = three.0; body = three.1 }
 
+-- scalar parameters are of the form, and mark nothing
+scalar_no_region : (t : TypeTerm) → is_scalar_term t ≡ true → is_region_term t ≡ false
+scalar_no_region (term.Number n) e = refl
+scalar_no_region term.Truth e = refl
+scalar_no_region (term.Pointer p) e = refl
+scalar_no_region (term.Ispace k) e = refl
+scalar_no_region (term.Region k u) e = absurd (no_way_back e)
+scalar_no_region (term.Partition d r c) e = refl
+
+none_marked : (ps : List Param) (m : Marked) → are_scalar_params ps ≡ true → marked_params ps m ≡ m
+none_marked [] m e = refl
+none_marked (p ∷ ps) m e =
+    let both = and_parts (is_scalar_term p.term) (are_scalar_params ps) e in
+    ap (λ b. marked_params ps (cond b (with_region p.name m) m)) (scalar_no_region p.term both.0) ∙ none_marked ps m both.1
+
+params_local : (ps : List Param) → are_scalar_params ps ≡ true → are_local_params ps ≡ true
+params_local [] e = refl
+params_local (p ∷ ps) e =
+    let both = and_parts (is_scalar_term p.term) (are_scalar_params ps) e in
+    both_true (is_scalar_term p.term || is_region_term p.term) (are_local_params ps) (ap (λ b. b || is_region_term p.term) both.0) (params_local ps both.1)
+
 task_is_local : (t : TaskTree) → is_scalar_task t ≡ true → is_local_task t ≡ true
 task_is_local t e =
     let s = scalar_task t e in
     let b = block_local t.body s.body in
-    both_true (are_scalar_params t.params) _ s.params (both_true (is_scalar_if_said t.result) _ s.result
-    (both_true (is_empty t.clauses) _ s.clauses (subst (λ m. is_local_block m t.body ≡ true) (sym b.1) b.0)))
+    let marks : marked_by_task t ≡ unmarked = ap (marked_params t.params) b.1 ∙ none_marked t.params unmarked s.params in
+    both_true (are_local_params t.params) _ (params_local t.params s.params) (both_true (is_scalar_if_said t.result) _ s.result
+    (subst (λ m. is_local_block m t.body ≡ true) (sym marks) b.0))
 
 item_is_local : (i : ItemForm) → is_scalar_item i ≡ true → is_local_item i ≡ true
 item_is_local import_item e = refl
@@ -190,6 +215,22 @@ items_local [] e = refl
 items_local (i ∷ items) e =
     let s = and_parts (is_scalar_item i.form) _ e in
     both_true (is_local_item i.form) (is_local_program items) (item_is_local i.form s.0) (items_local items s.1)
+
+-- and its tasks take numbers and truths alone
+item_takes : (i : ItemForm) → is_scalar_item i ≡ true → takes_scalars i ≡ true
+item_takes import_item e = refl
+item_takes (alias_item n) e = refl
+item_takes (start_item n) e = refl
+item_takes (space_item s) e = absurd (no_way_back e)
+item_takes (task_item t) e = let s = scalar_task t e in both_true (are_scalar_params t.params) (is_empty t.clauses) s.params s.clauses
+
+items_take : (tree : Tree) → list_all (λ (i : ItemTree). is_scalar_item i.form) tree ≡ true → list_all (λ (i : ItemTree). takes_scalars i.form) tree ≡ true
+items_take [] e = refl
+items_take (i ∷ items) e =
+    let s = and_parts (is_scalar_item i.form) _ e in both_true (takes_scalars i.form) _ (item_takes i.form s.0) (items_take items s.1)
+
+pub scalar_takes : (tree : Tree) → is_scalar_program tree ≡ true → list_all (λ (i : ItemTree). takes_scalars i.form) tree ≡ true
+scalar_takes tree e = items_take tree (and_parts (list_all (λ (i : ItemTree). is_scalar_item i.form) tree) (tasks_in tree == 1) e).0
 
 pub scalar_local : (tree : Tree) → is_scalar_program tree ≡ true → is_local_program tree ≡ true
 scalar_local tree e = items_local tree (and_parts (list_all (λ (i : ItemTree). is_scalar_item i.form) tree) (tasks_in tree == 1) e).0

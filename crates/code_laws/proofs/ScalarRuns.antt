@@ -11,8 +11,8 @@ use Rattle.code_laws.specs.Programs.{IsTypedRun, scalar_forms}
 use Rattle.code_laws.specs.ScalarPrograms.{IsScalarProgramRun, ScalarProgramsLeaveNoRoots, ScalarProgramsRunAsMeant}
 use Rattle.check_laws.proofs.Entries.{begins}
 use Rattle.code_laws.proofs.Entries.{all_of, found}
-use Rattle.code_laws.proofs.LocalRuns.{local_run}
-use Rattle.code_laws.proofs.ScalarLocal.{scalar_local, scalar_task}
+use Rattle.code_laws.proofs.LocalRuns.{kept_run}
+use Rattle.code_laws.proofs.ScalarLocal.{scalar_local, scalar_takes, scalar_task}
 use Rattle.code_laws.proofs.ScalarTyped.{scalar_block}
 use Rattle.code_laws.proofs.Top.{scalars_leave_no_roots, scalars_run_as_meant}
 use Rattle.scalar_form.specs.ScalarForm.{is_scalar_item}
@@ -26,8 +26,10 @@ scalar_run tree inputs p =
     let items = and_parts (list_all (λ (i : ItemTree). is_scalar_item i.form) tree) (tasks_in tree == 1) p.scalar in
     let is = scalar_task t
     (subst (λ form. is_scalar_item form ≡ true) f.stands.2 (all_of (λ i. is_scalar_item i.form) tree items.0 f.stands.0 f.stands.1)) in
-    let run = local_run tree inputs
-    (record { within = p.within; accepted = p.accepted; local = scalar_local tree p.scalar; numbers = p.numbers }) in record {
+    let run = kept_run tree inputs (record {
+      run = record { within = p.within; accepted = p.accepted; local = scalar_local tree p.scalar; numbers = p.numbers };
+      kept = scalar_takes tree p.scalar;
+    }) in record {
       start = run.start;
       needs = run.needs;
       typed = scalar_block (place_of tree t) t.body is.body run.typed;

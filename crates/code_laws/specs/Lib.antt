@@ -7,7 +7,6 @@ pub mod Typed
 pub mod Programs
 pub mod Handing
 pub mod ScalarPrograms
-pub mod HandingForm
 pub mod LocalPrograms
 pub mod LocalExample
 pub mod Example

@@ -1,40 +1,30 @@
--- Accepted programs whose tasks hand regions over by name, or keep them to themselves, and the law of them.
-use Rattle.std.specs.Prelude.{◌≡◌, ◌<◌, ◌^◌, ℕ, ℤ, true, List, []}
+-- Accepted programs whose tasks hand regions over by name, and the law of them.
+use Rattle.std.specs.Prelude.{◌≡◌, ◌<◌, ◌^◌, ◌&&◌, Bool, ℕ, ℤ, true, List, []}
+use Rattle.std.specs.List.{list_all}
 use Rattle.regent_tree.specs.Limits.{WithinLimits}
 use Rattle.regent_tree.specs.Meaning.{meaning}
-use Rattle.regent_tree.specs.Syntax.{Tree}
+use Rattle.regent_tree.specs.Syntax.{ItemForm, ItemTree, Tree, task_item}
 use Rattle.regent_tree.specs.declared.outcome.Ending.{Ending}
 use Rattle.regent_tree.specs.declared.outcome.Ending.TheVariants.{Broken, Faulted, Finished}
 use Rattle.code_rules.specs.Programs.{code_of}
 use Rattle.run_report.specs.Dumps.{fits_spaces}
 use Rattle.check_rules.specs.Acceptance.{input_widths}
 use Rattle.check_rules.specs.Breaches.{breaches}
-use Rattle.local_form.specs.LocalForm.{is_local_program}
-use Rattle.code_laws.specs.HandingForm.{is_handing_program}
+use Rattle.scalar_form.specs.ScalarForm.{is_empty}
+use Rattle.local_form.specs.LocalForm.{are_scalar_params, is_local_program}
 use Rattle.code_laws.specs.Programs.{RunsAsMeant}
 use Rattle.code_laws.specs.ScalarPrograms.{AreInputs}
 
--- an accepted program whose tasks hand regions over, and numbers that fit its inputs
-pub record IsHandingProgramRun (tree : Tree) (inputs : List ℤ) : Type 0 where
-  pub within : WithinLimits tree
-  pub accepted : breaches tree ≡ []
-  pub handing : is_handing_program tree ≡ true
-  pub numbers : AreInputs (input_widths tree) inputs
-
--- The run in order of its code, with fewer than 2^64 turns, is what it means.
-abbrev pub AcceptedProgramsRunAsMeant : Type 0
-AcceptedProgramsRunAsMeant = (tree : Tree) (inputs : List ℤ) (turns : ℕ) → turns < 2 ^ 64 → IsHandingProgramRun tree inputs →
-    RunsAsMeant tree inputs turns
-
--- one whose tasks keep their regions to themselves
+-- an accepted program whose tasks hand regions over by name, and numbers that fit its inputs
 pub record IsLocalProgramRun (tree : Tree) (inputs : List ℤ) : Type 0 where
   pub within : WithinLimits tree
   pub accepted : breaches tree ≡ []
   pub local : is_local_program tree ≡ true
   pub numbers : AreInputs (input_widths tree) inputs
 
-abbrev pub LocalProgramsRunAsMeant : Type 0
-LocalProgramsRunAsMeant = (tree : Tree) (inputs : List ℤ) (turns : ℕ) → turns < 2 ^ 64 → IsLocalProgramRun tree inputs →
+-- The run in order of its code, with fewer than 2^64 turns, is what it means.
+abbrev pub AcceptedProgramsRunAsMeant : Type 0
+AcceptedProgramsRunAsMeant = (tree : Tree) (inputs : List ℤ) (turns : ℕ) → turns < 2 ^ 64 → IsLocalProgramRun tree inputs →
     RunsAsMeant tree inputs turns
 
 -- a run that ends or faults
@@ -50,9 +40,15 @@ pub record EndsWell (tree : Tree) (inputs : List ℤ) (turns : ℕ) : Type 0 whe
   pub fits : fits_spaces (code_of tree) (meaning tree inputs turns) ≡ true
 
 abbrev pub AcceptedProgramsEndWell : Type 0
-AcceptedProgramsEndWell = (tree : Tree) (inputs : List ℤ) (turns : ℕ) → turns < 2 ^ 64 → IsHandingProgramRun tree inputs →
+AcceptedProgramsEndWell = (tree : Tree) (inputs : List ℤ) (turns : ℕ) → turns < 2 ^ 64 → IsLocalProgramRun tree inputs →
     EndsWell tree inputs turns
 
-abbrev pub LocalProgramsEndWell : Type 0
-LocalProgramsEndWell = (tree : Tree) (inputs : List ℤ) (turns : ℕ) → turns < 2 ^ 64 → IsLocalProgramRun tree inputs →
-    EndsWell tree inputs turns
+-- a task takes numbers and truths alone, and declares nothing
+abbrev pub takes_scalars : ItemForm → Bool
+takes_scalars (task_item t) = are_scalar_params t.params && is_empty t.clauses
+takes_scalars item = true
+
+-- such a program whose tasks keep their regions to themselves
+pub record IsKeptProgramRun (tree : Tree) (inputs : List ℤ) : Type 0 where
+  pub run : IsLocalProgramRun tree inputs
+  pub kept : list_all (λ (i : ItemTree). takes_scalars i.form) tree ≡ true

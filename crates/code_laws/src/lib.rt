@@ -13,7 +13,7 @@ ghost use Rattle.code_laws.specs.PointerExample.{PointerExampleHolds};
 ghost use Rattle.code_laws.specs.Privileges.{AllowedIsNeeded};
 ghost use Rattle.code_laws.specs.RegionExample.{RegionExampleHolds};
 ghost use Rattle.code_laws.specs.Programs.{CallsRunAsMeant, PointerCallsRunAsMeant, PointersRunAsMeant, RegionsRunAsMeant, ScalarsRunAsMeant};
-ghost use Rattle.code_laws.specs.LocalPrograms.{AcceptedProgramsEndWell, AcceptedProgramsRunAsMeant, LocalProgramsEndWell, LocalProgramsRunAsMeant};
+ghost use Rattle.code_laws.specs.LocalPrograms.{AcceptedProgramsEndWell, AcceptedProgramsRunAsMeant};
 ghost use Rattle.code_laws.specs.ScalarPrograms.{ScalarProgramsLeaveNoRoots, ScalarProgramsRunAsMeant};
 
 /// Where the entry task's body is typed and treats scalars alone, the run in order of its code is what the
@@ -92,19 +92,6 @@ pub fn accepted_programs_run_as_meant()
 #[tactic(auto, using(crate::proofs::LocalRuns::accepted_programs_end_well))]
 pub fn accepted_programs_end_well()
     ensures { AcceptedProgramsEndWell }
-{}
-
-/// So it is for each accepted program whose tasks keep their regions to themselves: each takes and gives numbers
-/// and truths, or nothing, and declares no privilege.
-#[tactic(auto, using(crate::proofs::LocalRuns::local_programs_run_as_meant))]
-pub fn local_programs_run_as_meant()
-    ensures { LocalProgramsRunAsMeant }
-{}
-
-/// Such a run ends well too.
-#[tactic(auto, using(crate::proofs::LocalRuns::local_programs_end_well))]
-pub fn local_programs_end_well()
-    ensures { LocalProgramsEndWell }
 {}
 
 /// A program that makes a root and has accesses of every kind: each premise of the law on regions holds of it,

@@ -1,0 +1,182 @@
+-- Assignments in a text with marked names, of which no breach is told, are typed.
+use Rattle.std.proofs.Common.{◌≡◌, Bool, [], None, false, true, ap, subst, ℕ, ◌∙◌, not}
+use Rattle.std.specs.Prelude.{cond}
+use Rattle.std.proofs.lemmas.Bool.{and_parts, not-false, or_parts}
+use Rattle.plain_values.proofs.Plain.{option_or_parts}
+use Rattle.lane_kernels.specs.declared.numbers.Op.{Op}
+use Rattle.regent_tree.specs.Accesses.{space_in}
+use Rattle.regent_tree.specs.Limits.{parts_of_expression}
+use Rattle.regent_tree.specs.Lookup.{is_bound}
+use Rattle.regent_tree.specs.Scopes.{Scope, bound_to}
+use Rattle.regent_tree.specs.StaticTypes.{field_place}
+use Rattle.regent_tree.specs.Syntax.{Expression, Name, TaskTree, Tree, access_expr, assign_form, at_step, field_step, no_step}
+use Rattle.regent_tree.specs.Typing.{type_of, type_of_element, type_of_field}
+use Rattle.regent_tree.specs.declared.rights.Access.{Access}
+use Rattle.regent_tree.specs.declared.rights.Access.TheVariants as access
+use Rattle.regent_tree.specs.declared.statement.How.TheVariants as how
+use Rattle.regent_tree.specs.declared.typing.StaticType.TheVariants.{Unknown as unknown_type}
+use Rattle.check_laws.proofs.Variables.{target_of_form, parts_of_form as told_of_form}
+use Rattle.check_laws.specs.SoundScopes.{IsSoundScope}
+use Rattle.check_rules.specs.declared.rule.Rule.TheVariants as rule
+use Rattle.check_rules.proofs.Untold.{rule_none}
+use Rattle.check_rules.specs.first.FirstInExpressions.{first_in_expression, first_in_target, first_of_step, first_of_taking}
+use Rattle.check_rules.specs.first.FirstInStatements.{first_of_form}
+use Rattle.check_rules.specs.first.Rules.{rule_if}
+use Rattle.check_rules.specs.rules.Privileges.{lacks, wanted_of_step}
+use Rattle.check_rules.specs.rules.Standing.{integer_spot, stands, typed_spot}
+use Rattle.check_rules.specs.rules.Statements.{spot_of_target}
+use Rattle.check_rules.specs.rules.Targets.{is_no_target, mistargets}
+use Rattle.check_rules.specs.rules.Types.{may_stand}
+use Rattle.check_rules.specs.scopes.Sound.{IsSound, IsSoundTask}
+use Rattle.check_rules.specs.types.KnownTypes.{known_type, known_type_after_step}
+use Rattle.check_rules.specs.types.Sorts.{is_integer, may_be}
+use Rattle.check_rules.specs.types.TypedForms.{element_of, field_of}
+use Rattle.code_rules.specs.Slots.{Where}
+use Rattle.local_form.specs.LocalForm.{Marked, is_among, is_local_expression, is_local_form}
+use Rattle.code_laws.specs.Handing.{forms_by}
+use Rattle.code_laws.specs.Simple.{IsNumber, IsScalar}
+use Rattle.code_laws.specs.Steps.{Forms}
+use Rattle.code_laws.specs.Typed.{GoesThrough, IsField, IsTyped, IsTypedForm, MayTouch, element_field}
+use Rattle.code_laws.proofs.KnownHeads.{IsReady}
+use Rattle.code_laws.proofs.LocalExpressions.{at_point, touched}
+use Rattle.code_laws.proofs.Privileges.{mode_in}
+use Rattle.code_laws.proofs.LocalNames.{kept_integer, IsLocalTree, kept_simple, named_kept, named_place, simple_kept}
+use Rattle.code_laws.proofs.LocalTypes.{simple_as_integer, simple_fitting}
+use Rattle.code_laws.proofs.TypedStatements.{first_stands, told_later, told_privileges}
+use Rattle.code_laws.proofs.Typing.{AreKept}
+use Rattle.code_laws.proofs.Values.{scalar_simple}
+use Rattle.scalar_form.specs.ScalarForm.{is_scalar_if_said}
+use Rattle.code_laws.proofs.LocalStatements.{at, headed, stands_as}
+
+module _ (handing : Bool) (tree : Tree) (task : TaskTree) (sound : IsSound tree) (sound_task : IsSoundTask tree task) (local : IsLocalTree handing tree)
+    (m : Marked) (params : ℕ) (result : is_scalar_if_said task.result ≡ true) where
+  abbrev forms : Forms
+  forms = forms_by handing false tree task
+
+  abbrev Ready : Scope → Type 0
+  Ready s = IsReady tree task m s
+
+  abbrev here : Scope → ℕ → Where
+  here s line = at handing tree task sound sound_task local m params result s line
+
+  pub set_local : (s : Scope) (line : ℕ) (n : Name) (y : Expression) → is_local_form m (assign_form n no_step how.Set y) ≡ true → AreKept (parts_of_expression y) →
+      IsSoundScope s → Ready s → first_of_form tree task s (assign_form n no_step how.Set y) ≡ None →
+      IsTypedForm forms (here s line) (assign_form n no_step how.Set y)
+  set_local s line n y lo k scope names e =
+      let form = assign_form n no_step how.Set y in
+      let one = and_parts (not (is_among m.regions n)) _ lo in
+      let two = and_parts (not (is_among m.indices n)) (is_local_expression m y) one.1 in
+      let parts = told_of_form tree task s sound scope form e in
+      let told = (option_or_parts (first_in_expression tree task s y) _ parts.2).0 in
+      let a = headed handing tree task sound sound_task local m params result s line y two.1 k scope names told in
+      let target = option_or_parts (rule_if (not (is_bound s.names n)) rule.Name) _ (target_of_form tree task s sound scope form e) in
+      let there = not-false (is_bound s.names n) (rule_none (not (is_bound s.names n)) rule.Name target.0) in
+      let u = (bound_to s.names n).static_type in
+      let i = (bound_to s.names n).number in
+      let kept = named_kept m s.names n names.names there in
+      let scalar = simple_kept m n i u kept two.0 (kept_simple m n i u kept one.0) in
+      let spot = ap (λ b. typed_spot (cond b unknown_type u)) (told_later tree task s form e).0 in
+      let fit = stands_as handing tree task sound sound_task local m params result s y (typed_spot u) scope told (subst (λ p. may_stand s.known (stands (known_type tree s y) p) ≡ true) spot
+      (first_stands s.known (stands (known_type tree s y) (spot_of_target (mistargets task s.names n no_step how.Set u) how.Set u)) [] parts.4).0) in
+      (simple_fitting s.known (type_of tree s y) u a.simple scalar fit, a.is, there)
+
+  pub reduce_local : (s : Scope) (line : ℕ) (n : Name) (o : Op) (y : Expression) → is_local_expression m y ≡ true → AreKept (parts_of_expression y) →
+      IsSoundScope s → Ready s → first_of_form tree task s (assign_form n no_step (how.Reduce o) y) ≡ None →
+      IsTypedForm forms (here s line) (assign_form n no_step (how.Reduce o) y)
+  reduce_local s line n o y lo k scope names e =
+      let form = assign_form n no_step (how.Reduce o) y in
+      let parts = told_of_form tree task s sound scope form e in
+      let told = (option_or_parts (first_in_expression tree task s y) _ parts.2).0 in
+      let a = headed handing tree task sound sound_task local m params result s line y lo k scope names told in
+      let target = option_or_parts (rule_if (not (is_bound s.names n)) rule.Name) _ (target_of_form tree task s sound scope form e) in
+      let there = not-false (is_bound s.names n) (rule_none (not (is_bound s.names n)) rule.Name target.0) in
+      let u = (bound_to s.names n).static_type in
+      let whole = not-false (may_be is_integer u) (or_parts (is_no_target task s.names n no_step u) (not (may_be is_integer u)) (told_later tree task s form e).0).1 in
+      let may = stands_as handing tree task sound sound_task local m params result s y integer_spot scope told (first_stands s.known (stands (known_type tree s y) integer_spot) [] parts.4).0 in (
+        simple_as_integer (type_of tree s y) a.simple may,
+        kept_integer m n (bound_to s.names n).number u (named_kept m s.names n names.names there) whole,
+        a.is,
+        there,
+      )
+
+  -- a target at a point of a region: its parts are typed, and its type is known
+  record IsTarget (s : Scope) (line : ℕ) (n : Name) (e : Expression) (f : Name) : Type 0 where
+    index : IsTyped forms (here s line) e
+    number : IsNumber (type_of tree s e)
+    through : GoesThrough (here s line) n e
+    field : IsField (here s line) n f (element_field (here s line) n e f)
+    scalar : IsScalar (element_field (here s line) n e f)
+    known : known_type tree s (access_expr n (at_step e (field_step f no_step))) ≡ element_field (here s line) n e f
+    may : (a : Access) → lacks tree task s (wanted_of_step tree a (field_of (known_type_after_step tree (element_of (bound_to s.names n).static_type (known_type tree s e)) (type_of_element s (bound_to s.names n).static_type e)) f)) ≡ false →
+        MayTouch forms (here s line) n (field_place tree (space_in (bound_to s.names n).static_type) f) (mode_in a)
+
+  target_local : (s : Scope) (line : ℕ) (n : Name) (e : Expression) (f : Name) → is_local_expression m e ≡ true → AreKept (parts_of_expression e) →
+      IsSoundScope s → Ready s → first_in_target tree task s n (at_step e (field_step f no_step)) ≡ None → IsTarget s line n e f
+  target_local s line n e f lo k scope names none =
+      let w = here s line in
+      let t = (bound_to s.names n).static_type in
+      let told = option_or_parts (rule_if (not (is_bound s.names n)) rule.Name) _ none in
+      let there = not-false (is_bound s.names n) (rule_none (not (is_bound s.names n)) rule.Name told.0) in
+      let index = option_or_parts (first_in_expression tree task s e) _ told.1 in
+      let taking = element_of t (known_type tree s e) in
+      let step = option_or_parts (first_of_step tree task s taking) _ index.1 in
+      let a = headed handing tree task sound sound_task local m params result s line e lo k scope names index.0 in
+      let p = at_point handing task w sound sound_task local m scope names.names names.head n e f there index.0 a (option_or_parts (first_of_taking tree taking) _ step.0).0 step.1 in
+      let is = named_place handing w sound local m n e f scope there p.place in record {
+        index = a.is;
+        number = p.number;
+        through = is.0;
+        field = is.1;
+        scalar = p.place.scalar;
+        known = ap (λ q. known_type_after_step tree (field_of q f) (type_of_field tree q f)) p.element ∙ p.place.known;
+        may = λ a lacking. touched handing task w sound sound_task local m scope names.names names.head n e f a there p lacking;
+      }
+
+  pub set_field_local : (s : Scope) (line : ℕ) (n : Name) (e : Expression) (f : Name) (y : Expression) → is_local_expression m e ≡ true → is_local_expression m y ≡ true →
+      AreKept (parts_of_expression e) → AreKept (parts_of_expression y) → IsSoundScope s → Ready s →
+      first_of_form tree task s (assign_form n (at_step e (field_step f no_step)) how.Set y) ≡ None →
+      IsTypedForm forms (here s line) (assign_form n (at_step e (field_step f no_step)) how.Set y)
+  set_field_local s line n e f y lo_e lo k_e k scope names none =
+      let steps = at_step e (field_step f no_step) in
+      let form = assign_form n steps how.Set y in
+      let parts = told_of_form tree task s sound scope form none in
+      let told = (option_or_parts (first_in_expression tree task s y) _ parts.2).0 in
+      let a = headed handing tree task sound sound_task local m params result s line y lo k scope names told in
+      let target = target_local s line n e f lo_e k_e scope names (target_of_form tree task s sound scope form none) in
+      let u = known_type tree s (access_expr n steps) in
+      let spot = ap (λ b. typed_spot (cond b unknown_type u)) (told_later tree task s form none).0 ∙ ap typed_spot target.known in
+      let fit = stands_as handing tree task sound sound_task local m params result s y (typed_spot (element_field (here s line) n e f)) scope told (subst (λ p. may_stand s.known (stands (known_type tree s y) p) ≡ true) spot
+      (first_stands s.known (stands (known_type tree s y) (spot_of_target (mistargets task s.names n steps how.Set u) how.Set u)) [] parts.4).0) in (
+        simple_fitting s.known (type_of tree s y) (element_field (here s line) n e f) a.simple target.scalar fit,
+        a.is,
+        target.index,
+        target.number,
+        target.through,
+        target.field,
+        target.may access.Write (told_privileges tree task s form none).0,
+      )
+
+  pub reduce_field_local : (s : Scope) (line : ℕ) (n : Name) (e : Expression) (f : Name) (o : Op) (y : Expression) → is_local_expression m e ≡ true →
+      is_local_expression m y ≡ true → AreKept (parts_of_expression e) → AreKept (parts_of_expression y) → IsSoundScope s → Ready s →
+      first_of_form tree task s (assign_form n (at_step e (field_step f no_step)) (how.Reduce o) y) ≡ None →
+      IsTypedForm forms (here s line) (assign_form n (at_step e (field_step f no_step)) (how.Reduce o) y)
+  reduce_field_local s line n e f o y lo_e lo k_e k scope names none =
+      let steps = at_step e (field_step f no_step) in
+      let form = assign_form n steps (how.Reduce o) y in
+      let parts = told_of_form tree task s sound scope form none in
+      let told = (option_or_parts (first_in_expression tree task s y) _ parts.2).0 in
+      let a = headed handing tree task sound sound_task local m params result s line y lo k scope names told in
+      let target = target_local s line n e f lo_e k_e scope names (target_of_form tree task s sound scope form none) in
+      let u = known_type tree s (access_expr n steps) in
+      let whole = subst (λ v. may_be is_integer v ≡ true) target.known
+      (not-false (may_be is_integer u) (or_parts (is_no_target task s.names n steps u) (not (may_be is_integer u)) (told_later tree task s form none).0).1) in
+      let may = stands_as handing tree task sound sound_task local m params result s y integer_spot scope told (first_stands s.known (stands (known_type tree s y) integer_spot) [] parts.4).0 in (
+        simple_as_integer (type_of tree s y) a.simple may,
+        simple_as_integer (element_field (here s line) n e f) (scalar_simple _ target.scalar) whole,
+        a.is,
+        target.index,
+        target.number,
+        target.through,
+        target.field,
+        target.may (access.Reduce o) (told_privileges tree task s form none).1,
+      )

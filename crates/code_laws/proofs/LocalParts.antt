@@ -1,0 +1,76 @@
+-- Parts of expressions and statements in a text with marked names.
+use Rattle.std.proofs.Common.{◌≡◌, Bool, List, [], ◌∷◌, ◌++◌, None, Option, Some, false, true, ap, sym, subst, ◌∙◌, inl, refl}
+use Rattle.std.proofs.lemmas.Bool.{and_parts}
+use Rattle.std.specs.List.{list_all}
+use Rattle.std.specs.Prelude.{cond, is_some, ◌||◌, is_none, ◌&&◌}
+use Rattle.regent_tree.proofs.Members.{Has}
+use Rattle.regent_tree.specs.Accesses.{space_in}
+use Rattle.regent_tree.specs.StaticTypes.{field_place}
+use Rattle.regent_tree.specs.Syntax.{Expression, Name, Tree, access_expr, at_step, field_step, no_step, call_expr, cast_expr, chain_expr, convert_expr, is_null_expr, null_expr, number_expr, prefix_expr, space_expr, truth_expr}
+use Rattle.regent_tree.specs.Typing.{result_type, put_in}
+use Rattle.regent_tree.specs.declared.types.TypeTerm.{TypeTerm}
+use Rattle.regent_tree.specs.declared.typing.StaticType.TheVariants.{Nothing as no_type}
+use Rattle.regent_tree.specs.declared.typing.StaticType.{StaticType}
+use Rattle.regent_tree.specs.declared.rights.Access.TheVariants as access
+use Rattle.check_rules.specs.rules.Privileges.{wanted_of_region, wanting}
+use Rattle.check_rules.specs.types.Lookup.{region_has}
+use Rattle.check_rules.specs.types.Sorts.{is_integer, is_truth}
+use Rattle.local_form.specs.LocalForm.{is_name}
+use Rattle.code_laws.proofs.LocalTypes.{term_scalar}
+use Rattle.code_laws.proofs.Typing.{no_way, no_way_back}
+use Rattle.code_laws.specs.Simple.{IsRegion, IsScalar, a_region_type, scalar_integer, scalar_truth, term_in}
+use Rattle.scalar_form.specs.ScalarForm.{is_scalar_if_said}
+
+-- a result that is there
+pub given_result : (tree : Tree) (r : Option TypeTerm) → is_scalar_if_said r ≡ true → is_none r ≡ false → IsScalar (result_type tree r)
+given_result tree None s e = absurd (no_way e)
+given_result tree (Some t) s e = term_scalar t s tree (λ n. None) 0
+
+-- of two that aren't both so, the second where the first is
+pub and_then : (a b : Bool) → a ≡ true → (a && b) ≡ false → b ≡ false
+and_then a b h e = sym (ap (λ x. x && b) h) ∙ e
+
+-- a number or truth parameter is the same with all arguments
+pub put_scalar : (types : List StaticType) (p : StaticType) → IsScalar p → put_in types p ≡ p
+put_scalar types _ (scalar_integer w) = refl
+put_scalar types _ scalar_truth = refl
+
+-- a name that stands alone is one
+pub named_alone : (e : Expression) → is_name e ≡ true → (n : Name) × (e ≡ access_expr n no_step)
+named_alone (access_expr n no_step) h = (n, refl)
+named_alone (access_expr n (field_step _ _)) h = absurd (no_way_back h)
+named_alone (access_expr n (at_step _ _)) h = absurd (no_way_back h)
+named_alone (number_expr _ _) h = absurd (no_way_back h)
+named_alone (truth_expr _) h = absurd (no_way_back h)
+named_alone (chain_expr _ _) h = absurd (no_way_back h)
+named_alone (prefix_expr _ _) h = absurd (no_way_back h)
+named_alone (call_expr _ _) h = absurd (no_way_back h)
+named_alone (convert_expr _ _) h = absurd (no_way_back h)
+named_alone (is_null_expr _) h = absurd (no_way_back h)
+named_alone (null_expr _) h = absurd (no_way_back h)
+named_alone (cast_expr _ _) h = absurd (no_way_back h)
+named_alone (space_expr _ _) h = absurd (no_way_back h)
+
+-- a region's type is the same with all arguments
+pub put_region : (types : List StaticType) (p : StaticType) → IsRegion p → put_in types p ≡ p
+put_region types _ (a_region_type k sp args r) = refl
+
+-- a task without a result gives no number or truth
+pub scalar_there : (t : StaticType) → IsScalar t → (is_integer t || is_truth t) ≡ true
+scalar_there _ (scalar_integer w) = refl
+scalar_there _ scalar_truth = refl
+
+pub none_given : (tree : Tree) (r : Option TypeTerm) → is_some r ≡ false → IsScalar (result_type tree r) → ⊥
+none_given tree None e s = no_way_back (scalar_there no_type s)
+none_given tree (Some t) e s = no_way e
+
+-- a region's field is wanted to be written
+pub region_wants : (tree : Tree) (u : StaticType) (f : Name) → IsRegion u → region_has tree u f ≡ true →
+    Has (wanted_of_region tree access.Write u f) (wanting (field_place tree (space_in u) f) access.Write (term_in u))
+region_wants tree _ f (a_region_type k sp args r) has =
+    subst (λ b. Has (cond b (wanting (field_place tree sp f) access.Write r ∷ []) []) (wanting (field_place tree sp f) access.Write r)) (sym has) (inl refl)
+
+-- what holds of all of two lists holds of the second
+pub all_behind : {A : Type 0} (test : A → Bool) (xs ys : List A) → list_all test (xs ++ ys) ≡ true → list_all test ys ≡ true
+all_behind test [] ys e = e
+all_behind test (x ∷ xs) ys e = all_behind test xs ys (and_parts (test x) (list_all test (xs ++ ys)) e).1
