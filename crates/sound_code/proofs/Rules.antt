@@ -9,7 +9,7 @@ use Rattle.code_rules.specs.Instructions.{tasks_of}
 use Rattle.code_laws.specs.Programs.{call_forms}
 use Rattle.fit_rules.specs.Marks.{Mark}
 use Rattle.marked_code.proofs.Remarked.{remarked}
-use Rattle.code_laws.proofs.LocalRuns.{local_run, local_tasks}
+use Rattle.code_laws.proofs.LocalRuns.{kept_run, kept_tasks}
 use Rattle.regent_tree.specs.Scopes.{scope_of}
 use Rattle.code_rules.specs.Pieces.{lines}
 use Rattle.code_rules.specs.Programs.{body_piece, place_of, task_code}
@@ -65,5 +65,5 @@ handing_tasks_are_sound tree none typed free = tasks_keep_rules tree (λ k t the
 
 pub local_programs_are_sound : LocalProgramsAreSound
 local_programs_are_sound tree inputs p =
-    let tasks = accepted_tasks_are_sound tree p.accepted (local_tasks tree inputs p) in
-    record { tasks = tasks; first = λ turns few. tasks.begins call_forms inputs turns (local_run tree inputs p) few }
+    let tasks = accepted_tasks_are_sound tree p.run.accepted (kept_tasks tree inputs p) in
+    record { tasks = tasks; first = λ turns few. tasks.begins call_forms inputs turns (kept_run tree inputs p) few }

@@ -94,4 +94,4 @@ rules_example_holds = record {
 }
 
 pub histogram_is_sound : HistogramIsSound
-histogram_is_sound = local_programs_are_sound local_program (pos 5 ∷ []) local_example_holds.run
+histogram_is_sound = local_programs_are_sound local_program (pos 5 ∷ []) local_example_holds.kept

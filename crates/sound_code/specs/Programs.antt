@@ -21,7 +21,7 @@ use Rattle.code_rules.specs.Programs.{code_of, task_code}
 use Rattle.regent_tree.specs.declared.program.Clause.{Clause}
 use Rattle.regent_tree.specs.declared.program.Clause.TheVariants as clause
 use Rattle.code_laws.specs.Handing.{AreTypedBy}
-use Rattle.code_laws.specs.LocalPrograms.{IsLocalProgramRun}
+use Rattle.code_laws.specs.LocalPrograms.{IsKeptProgramRun}
 use Rattle.code_laws.specs.Programs.{AreTypedTasks, IsTypedRun, call_forms, job_of, region_forms, scalar_forms}
 use Rattle.code_laws.specs.ScalarPrograms.{IsScalarProgramRun}
 use Rattle.code_laws.specs.Simple.{IsSimple}
@@ -161,4 +161,4 @@ pub record LocalRunsSoundly (tree : Tree) (inputs : List ℤ) : Type 0 where
       (record { frame = first_frame (job_of tree inputs turns) (entry_code tree); parts = [] })
 
 abbrev pub LocalProgramsAreSound : Type 0
-LocalProgramsAreSound = (tree : Tree) (inputs : List ℤ) → IsLocalProgramRun tree inputs → LocalRunsSoundly tree inputs
+LocalProgramsAreSound = (tree : Tree) (inputs : List ℤ) → IsKeptProgramRun tree inputs → LocalRunsSoundly tree inputs
