@@ -2,7 +2,7 @@
 use Rattle.std.proofs.Common.{◌≡◌, ◌∙◌, ◌<◌, ◌^◌, ◌++◌, ℕ, ℤ, Bool, true, List, [], ◌∷◌, ap, subst, sym}
 use Rattle.check_rules.specs.Acceptance.{input_widths}
 use Rattle.check_rules.specs.Breaches.{breaches}
-use Rattle.code_laws.proofs.LocalRuns.{local_programs_end_well, local_programs_run_as_meant}
+use Rattle.code_laws.proofs.LocalRuns.{accepted_programs_end_well, accepted_programs_run_as_meant}
 use Rattle.code_laws.specs.LocalPrograms.{IsEnded, IsLocalProgramRun}
 use Rattle.code_laws.specs.Programs.{job_of}
 use Rattle.code_laws.specs.ScalarPrograms as fitting
@@ -39,8 +39,8 @@ pub runs_well : (tree : Tree) (inputs : List ℤ) (turns : ℕ) (job : Job) (o :
     job ≡ job_of tree inputs turns → o ≡ order_run job → RunsWell tree inputs turns job o
 runs_well tree inputs turns job o few run same is =
     let coded : job.code ≡ code_of tree = ap (λ (j : Job). j.code) same in
-    let means : o ≡ meaning tree inputs turns = is ∙ ap order_run same ∙ local_programs_run_as_meant tree inputs turns few run in
-    let well = local_programs_end_well tree inputs turns few run in record {
+    let means : o ≡ meaning tree inputs turns = is ∙ ap order_run same ∙ accepted_programs_run_as_meant tree inputs turns few run in
+    let well = accepted_programs_end_well tree inputs turns few run in record {
       coded = coded;
       means = means;
       ended = subst (λ (w : Outcome). IsEnded w.ending) (sym means) well.ended;
@@ -74,7 +74,7 @@ all_fit (w ∷ ws) [] zs h = absurd h
 all_fit (w ∷ ws) (word ∷ words) [] h = absurd h
 all_fit (w ∷ ws) (word ∷ words) (z ∷ zs) h = (h.0.2, all_fit ws words zs h.1)
 
--- an accepted program whose tasks keep their regions to themselves, with the numbers that it takes, can be run
+-- an accepted program whose tasks hand regions over by name, with the numbers that it takes, can be run
 pub is_local_run : (tree : Tree) (ws : List Width) (words : List (List ℕ)) (inputs : List ℤ) → WithinLimits tree → breaches tree ≡ [] → is_local_program tree ≡ true →
     ws ≡ input_widths tree → AreInputs ws words inputs → IsLocalProgramRun tree inputs
 is_local_run tree ws words inputs within sound local are given =

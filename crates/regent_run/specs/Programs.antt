@@ -81,14 +81,14 @@ pub record IsAccepted (text : List ℕ) : Type 0 where
   pub reads : Reads text (Ok tree)
   pub sound : breaches tree ≡ []
 
--- the text is an accepted program that can't be run yet: a task doesn't keep its regions to itself
+-- the text is an accepted program that can't be run yet: it isn't of the form whose tasks hand regions over by name
 pub record IsNotBuilt (text : List ℕ) : Type 0 where
   pub tree : Tree
   pub reads : Reads text (Ok tree)
   pub sound : breaches tree ≡ []
   pub form : is_local_program tree ≡ false
 
--- the tasks keep their regions to themselves, and the words aren't the numbers that the program takes
+-- the tasks hand regions over by name, and the words aren't the numbers that the program takes
 pub record TakesOthers (tree : Tree) (numbers : List (List ℕ)) : Type 0 where
   pub form : is_local_program tree ≡ true
   pub other : (inputs : List ℤ) → AreInputs (input_widths tree) numbers inputs → ⊥
@@ -99,8 +99,8 @@ pub record HasOtherInputs (text : List ℕ) (numbers : List (List ℕ)) : Type 0
   pub sound : breaches tree ≡ []
   pub takes : TakesOthers tree numbers
 
--- the tasks keep their regions to themselves, the words are the numbers that the program takes, and this is what it
--- means, with these numbers and turns
+-- the tasks hand regions over by name, the words are the numbers that the program takes, and this is what it means,
+-- with these numbers and turns
 pub record Means (tree : Tree) (r : Run) (o : Outcome) : Type 0 where
   pub form : is_local_program tree ≡ true
   pub inputs : List ℤ

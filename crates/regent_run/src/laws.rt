@@ -7,8 +7,8 @@ pub fn texts_have_one_status()
     ensures { ComesToOneStatus }
 {}
 
-/// Where a text is an accepted program whose tasks keep their regions to themselves, and the words are the
-/// numbers that it takes, its run comes to 0 or to 1.
+/// Where a text is an accepted program whose tasks hand regions over by name, and the words are the numbers that
+/// it takes, its run comes to 0 or to 1.
 pub fn runs_come_to_an_end()
     ensures { RunsComeToAnEnd }
 {}

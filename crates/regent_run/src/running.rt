@@ -111,7 +111,7 @@ fn ended(alloc: Global, outcome: Outcome, dump: &[u8], traces: bool) -> Verdict
     }
 }
 
-/// What the run of a program comes to whose tasks keep their regions to themselves.
+/// What the run of a program comes to whose tasks hand regions over by name.
 fn run(
     alloc: Global,
     program: &Accepted,
@@ -145,7 +145,7 @@ fn judge_numbers(
     }
 }
 
-/// What an accepted program comes to that is run, where its tasks keep their regions to themselves.
+/// What an accepted program comes to that is run, where its tasks hand regions over by name.
 fn judge_local(alloc: Global, program: &Accepted, asked: &Run<'_>) -> Verdict
     requires within { WithinLimits (tree_of program.now) }
     requires sound { breaches (tree_of program.now) ≡ [] }
