@@ -1,0 +1,4 @@
+mod Filling
+mod Giving
+mod Keeping
+mod Room

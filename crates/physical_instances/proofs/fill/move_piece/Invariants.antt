@@ -1,0 +1,12 @@
+use Rattle.std.proofs.Common.{◌≡◌, ◌≤◌, ◌-◌}
+use Rattle.logical_map.specs.Fills.{moved_beside, number_for}
+use Rattle.physical_instances.proofs.fill.move_piece.Given as goal
+
+abbrev pub invariant-loop-place : goal.invariant-loop-place
+invariant-loop-place l = record {
+  points : l.piece.points ≡ l.initial.piece.points;
+  mode : l.piece.mode ≡ l.initial.piece.mode;
+  above : l.first ≤ l.place;
+  within : l.place ≤ l.end;
+  values : l.piece.values ≡ moved_beside (number_for l.field.column l.initial.piece.mode) l.first (l.place - l.first) l.initial.piece.points l.initial.piece.values;
+}

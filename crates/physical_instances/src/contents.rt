@@ -1,0 +1,219 @@
+//! The contents of all live roots.
+
+ghost use Rattle.std.specs.Prelude.{◌≡◌, ◌≢◌, ◌↔◌, ◌≤◌, ◌+◌, ◌<◌, [], IfNone, IfOk, IfSome, IsOk, IsOkAnd, OnErr, OnOk};
+ghost use Rattle.std.specs.Prelude.{filter, length, ℕ};
+ghost use Rattle.logical_map.specs.Fills.{chunk_moved, started};
+ghost use Rattle.logical_map.specs.Gives.{add_reduction, is_reduction, put_back, reductions_in, reductions_on, without_reductions};
+ghost use Rattle.logical_map.specs.Maps.{IsThere, closed, column_of, no_column, number_at, opened};
+ghost use Rattle.physical_instances.specs.Chunks.{IsFull};
+ghost use Rattle.physical_instances.specs.Kept.{KeepsSpare, give_kind, is_kept, map_of, spare_of};
+ghost use Rattle.physical_instances.specs.declared.fill.Filled.TheVariants.{Full};
+ghost use Rattle.std.specs.List.{position};
+
+use crate::counts::count_on;
+use crate::fill::{Fill, Filled};
+use crate::instances::{FieldInstances, is_reduction};
+use crate::roots::RootInstances;
+use lane_kernels::{FieldKind, Mode};
+use plain_values::Sequence;
+use point_sets::PointSet;
+use region_tree::{Part, Piece, RootId};
+use std::alloc::{AllocError, Global};
+use std::marker::Model;
+use std::mem;
+
+/// The contents of the live roots: for each root, field and point a number (`map_of`), and for each root and
+/// field how many reductions more it takes for sure (`spare_of`).
+#[derive(Drop)]
+pub struct Contents {
+    roots: Vec<RootInstances>,
+}
+
+impl Model for Contents {
+    ghost use Rattle.std.specs.Prelude.{List};
+    ghost use Rattle.physical_instances.specs.Kept.{RootContents};
+
+    ghost Value = { List RootContents };
+
+    ghost view = { λ c. c.roots.items };
+}
+
+impl Contents {
+    /// No root is live. It takes no memory.
+    pub fn new(alloc: Global) -> Result<Contents, AllocError>
+        ensures { IsOkAnd result (λ c. c ≡ []) }
+    {
+        Ok(Contents {
+            roots: Vec::new(alloc),
+        })
+    }
+
+    /// Adds a root with fields of these kinds: null in pointers, 0 in the others.
+    #[tactic(auto, using(crate::proofs::Keeping::spare_behind))]
+    pub fn open_root(
+        &mut self,
+        root: RootId,
+        points: &PointSet,
+        kinds: &[FieldKind],
+    ) -> Result<(), AllocError>
+        ensures ok { OnOk result (map_of self.new ≡ opened root.0 points.now kinds.now (map_of self.old)) }
+        ensures err { OnErr result (self.new ≡ self.old) }
+        ensures spare { KeepsSpare self.old self.new }
+    {
+        let alloc = *self.roots.allocator();
+        let opened = RootInstances::new(alloc, root, points, kinds)?;
+        self.roots.push(opened)?;
+        Ok(())
+    }
+
+    /// Takes a root away. It takes no memory.
+    pub fn close_root(&mut self, root: RootId)
+        ensures map { map_of self.new ≡ closed root.0 (map_of self.old) }
+        ensures spare { (other field : ℕ) → other ≢ root.0 → spare_of self.old other field ≤ spare_of self.new other field }
+    {
+        self.roots.retain(|kept| kept.root() != root.0);
+    }
+
+    /// A part of these pieces that isn't filled yet.
+    pub fn start_fill(
+        &mut self,
+        root: RootId,
+        field: u8,
+        pieces: Vec<(PointSet, Mode)>,
+    ) -> Result<Fill, AllocError>
+        ensures fill { IfOk result (λ f. f ≡ started root.0 field pieces.items (map_of self.old)) }
+        ensures map { map_of self.new ≡ map_of self.old }
+        ensures spare { KeepsSpare self.old self.new }
+    {
+        let alloc = *self.roots.allocator();
+        let kind = self.kind_of(root, field);
+        Fill::new(alloc, root, field, kind, pieces)
+    }
+
+    /// Moves the next 4,096 elements, or all that are left. It takes no memory.
+    pub fn fill_chunk(&mut self, fill: &mut Fill) -> Filled
+        requires { IsThere (map_of self.old) fill.old.root fill.old.field }
+        ensures fill { fill.new ≡ chunk_moved (map_of self.old) fill.old }
+        ensures full { (result ≡ Full) ↔ IsFull fill.new }
+        ensures map { map_of self.new ≡ map_of self.old }
+        ensures spare { KeepsSpare self.old self.new }
+    {
+        let Some(field) = self.field_of(fill.root(), fill.field()) else {
+            unreachable!()
+        };
+        fill.advance(field)
+    }
+
+    /// Writes the pieces for writing. It takes no memory.
+    pub fn put_back(&mut self, part: Part)
+        ensures map { map_of self.new ≡ put_back part (map_of self.old) }
+        ensures spare { KeepsSpare self.old self.new }
+    {
+        self.give(part.root, part.field, part.pieces.as_slice(), false);
+    }
+
+    /// Makes room for the reductions of these parts. More of them on a field than a number counts count as a
+    /// want of memory.
+    pub fn reserve(&mut self, parts: &[Part]) -> Result<(), AllocError>
+        ensures map { map_of self.new ≡ map_of self.old }
+        ensures spare { KeepsSpare self.old self.new }
+        ensures room { OnOk result ((root field : ℕ) → IsThere (map_of self.old) root field
+            → reductions_on parts.now root field ≤ spare_of self.new root field) }
+    {
+        for part in parts {
+            let Some(count) = count_on(parts, part.root, part.field) else {
+                return Err(AllocError);
+            };
+            self.reserve_on(part.root, part.field, count);
+        }
+        Ok(())
+    }
+
+    /// Folds the reductions of a part in, and takes them out of it. With room for them it isn't refused, and takes
+    /// no memory.
+    pub fn add_reduction(&mut self, part: &mut Part) -> Result<(), AllocError>
+        ensures map { OnOk result (map_of self.new ≡ add_reduction part.old (map_of self.old)) }
+        ensures part { OnOk result (part.new ≡ without_reductions part.old) }
+        ensures err { OnErr result ((map_of self.new ≡ map_of self.old) × (part.new ≡ part.old)) }
+        ensures sure { length (filter is_reduction part.old.pieces) ≤ spare_of self.old part.old.root.0 part.old.field → IsOk result }
+        ensures spare { (root field : ℕ) → spare_of self.old root field ≤ spare_of self.new root field + reductions_in root field part.old }
+    {
+        self.give(part.root, part.field, part.pieces.as_slice(), true);
+        let alloc = *self.roots.allocator();
+        let mut pieces = mem::replace(&mut part.pieces, Sequence::new(alloc)).into_vec();
+        pieces.retain(|piece| !is_reduction(piece));
+        part.pieces = Sequence::from_vec(pieces);
+        Ok(())
+    }
+
+    /// The number at a point; 0 where there is none. It takes no memory.
+    pub fn value(&self, root: RootId, field: u8, point: u32) -> i64
+        ensures { result ≡ number_at (map_of self.now) root.0 field point }
+    {
+        match self.field_of(root, field) {
+            Some(found) => found.number(point),
+            None => 0,
+        }
+    }
+
+    /// Writes the numbers of a field into a slice with one place for each point of the root. It takes no memory.
+    pub fn image(&self, root: RootId, field: u8, into: &mut [i64])
+        requires { length into.old ≡ length (column_of (map_of self.now) root.0 field).points }
+        ensures { into.new ≡ (column_of (map_of self.now) root.0 field).numbers }
+    {
+        if let Some(found) = self.field_of(root, field) {
+            found.image(into);
+        }
+    }
+
+    /// The place of a live root.
+    fn place_of(&self, root: RootId) -> Option<usize>
+        ensures { result ≡ position (is_kept root.0) self.now }
+    {
+        self.roots.iter().position(|kept| kept.root() == root.0)
+    }
+
+    /// The kind of a field; that of a field that isn't there doesn't matter.
+    fn kind_of(&self, root: RootId, field: u8) -> FieldKind
+        ensures { result ≡ (column_of (map_of self.now) root.0 field).kind }
+    {
+        match self.field_of(root, field) {
+            Some(found) => found.kind(),
+            None => FieldKind::Truth,
+        }
+    }
+
+    fn field_of(&self, root: RootId, field: u8) -> Option<&FieldInstances>
+        ensures some { IfSome result (λ f. column_of (map_of self.now) root.0 field ≡ f.now.column) }
+        ensures there { IfNone result (IsThere (map_of self.now) root.0 field → ⊥) }
+        ensures none { IfNone result (column_of (map_of self.now) root.0 field ≡ no_column) }
+    {
+        match self.place_of(root) {
+            Some(place) => self.roots[place].field(field),
+            None => None,
+        }
+    }
+
+    /// Writes the numbers of a field's pieces for writing, or folds those of the reductions in.
+    fn give(&mut self, root: RootId, field: u8, pieces: &[Piece], reducing: bool)
+        ensures map { map_of self.new ≡ give_kind reducing root.0 field pieces.now (map_of self.old) }
+        ensures spare { KeepsSpare self.old self.new }
+    {
+        if let Some(place) = self.place_of(root) {
+            let kept = &mut self.roots[place];
+            kept.give(field, pieces, reducing);
+        }
+    }
+
+    /// Makes room for so many reductions more on a field.
+    fn reserve_on(&mut self, root: RootId, field: u8, more: usize)
+        ensures map { map_of self.new ≡ map_of self.old }
+        ensures spare { KeepsSpare self.old self.new }
+        ensures more { IsThere (map_of self.old) root.0 field → more ≤ spare_of self.new root.0 field }
+    {
+        if let Some(place) = self.place_of(root) {
+            let kept = &mut self.roots[place];
+            kept.reserve(field, more);
+        }
+    }
+}

@@ -1,0 +1,220 @@
+//! A part that is filled in chunks.
+
+ghost use Rattle.std.specs.Prelude.{◌≡◌, ◌↔◌, ◌<◌, ◌≤◌, ◌+◌, min, IfOk, IfSome, length, map};
+ghost use Rattle.logical_map.specs.Fills.{blank, chunk, elements_of, moved_piece, moved_pieces};
+ghost use Rattle.physical_instances.specs.Chunks.{IsFull};
+ghost use Rattle.physical_instances.specs.declared.fill.Filled.TheVariants.{Full};
+
+use crate::instances::FieldInstances;
+use lane_kernels::{FieldKind, Mode};
+use plain_values::Sequence;
+use point_sets::PointSet;
+use region_tree::{Part, Piece, RootId};
+use std::alloc::{AllocError, Global};
+use std::marker::Model;
+
+/// How many elements are moved at a time.
+const CHUNK: usize = 4096;
+
+/// A part of which the first elements have their numbers, piece by piece and point by point.
+#[derive(Drop)]
+pub struct Fill {
+    root: RootId,
+    field: u8,
+    kind: FieldKind,
+    pieces: Vec<Piece>,
+    moved: usize,
+    count: usize,
+}
+
+impl Model for Fill {
+    ghost use Rattle.std.specs.Prelude.{◌≡◌, ◌≤◌};
+    ghost use Rattle.logical_map.specs.Fills.{Filling, elements_of};
+
+    ghost Value = { Filling };
+
+    ghost view = { λ f. record {
+      root = f.root.0;
+      field = f.field;
+      kind = f.kind;
+      pieces = f.pieces.items;
+      moved = f.moved;
+    } };
+
+    ghost invariant = { λ f. (f.count ≡ elements_of f.pieces.items) × (f.moved ≤ f.count) };
+}
+
+/// Whether elements are left to be moved.
+#[derive(Clone, Copy, Debug, PartialEq, Eq)]
+pub enum Filled {
+    More,
+    Full,
+}
+
+impl Fill {
+    /// Before anything is moved. More elements than a number counts count as a want of memory.
+    pub(crate) fn new(
+        alloc: Global,
+        root: RootId,
+        field: u8,
+        kind: FieldKind,
+        wanted: Vec<(PointSet, Mode)>,
+    ) -> Result<Fill, AllocError>
+        ensures { IfOk result (λ f. f ≡ record {
+          root = root.0;
+          field = field;
+          kind = kind;
+          pieces = map blank wanted.items;
+          moved = 0;
+        }) }
+    {
+        let pieces = blank_pieces(alloc, wanted)?;
+        let Some(count) = count_elements(pieces.as_slice()) else {
+            return Err(AllocError);
+        };
+        Ok(Fill {
+            root,
+            field,
+            kind,
+            pieces,
+            moved: 0,
+            count,
+        })
+    }
+
+    pub(crate) fn root(&self) -> RootId
+        ensures { result.0 ≡ self.now.root }
+    {
+        self.root
+    }
+
+    pub(crate) fn field(&self) -> u8
+        ensures { result ≡ self.now.field }
+    {
+        self.field
+    }
+
+    /// The part. It takes no memory.
+    pub fn part(self) -> Part
+        ensures root { result.root.0 ≡ self.root }
+        ensures field { result.field ≡ self.field }
+        ensures kind { result.kind ≡ self.kind }
+        ensures pieces { result.pieces ≡ self.pieces }
+    {
+        let Fill {
+            root,
+            field,
+            kind,
+            pieces,
+            ..
+        } = self;
+        Part {
+            root,
+            field,
+            kind,
+            pieces: Sequence::from_vec(pieces),
+        }
+    }
+
+    /// Moves the next elements from a field.
+    #[tactic(auto, using(crate::proofs::Filling::same_elements))]
+    pub(crate) fn advance(&mut self, field: &FieldInstances) -> Filled
+        ensures fill { self.new ≡ record self.old {
+          pieces = moved_pieces field.now.column self.old.moved chunk self.old.pieces;
+          moved = min (self.old.moved + chunk) (elements_of self.old.pieces);
+        } }
+        ensures full { (result ≡ Full) ↔ IsFull self.new }
+    {
+        move_pieces(field, self.moved, &mut self.pieces);
+        self.moved = moved_behind(self.moved, self.count);
+        answer(self.moved, self.count)
+    }
+}
+
+/// How many elements are moved behind the next chunk.
+fn moved_behind(moved: usize, count: usize) -> usize
+    requires { moved ≤ count }
+    ensures { result ≡ min (moved + chunk) count }
+{
+    if count - moved <= CHUNK {
+        count
+    } else {
+        moved + CHUNK
+    }
+}
+
+/// Whether so many of a count are all.
+fn answer(moved: usize, count: usize) -> Filled
+    ensures { (result ≡ Full) ↔ (moved ≡ count) }
+{
+    if moved == count {
+        Filled::Full
+    } else {
+        Filled::More
+    }
+}
+
+fn blank_pieces(
+    alloc: Global,
+    wanted: Vec<(PointSet, Mode)>,
+) -> Result<Vec<Piece>, AllocError>
+    ensures { IfOk result (λ ps. ps.items ≡ map blank wanted.items) }
+{
+    let mut pieces = Vec::new(alloc);
+    for (points, mode) in wanted {
+        pieces.push(blank(alloc, points, mode)?)?;
+    }
+    Ok(pieces)
+}
+
+fn blank(alloc: Global, points: PointSet, mode: Mode) -> Result<Piece, AllocError>
+    ensures { IfOk result (λ p. p ≡ blank (points, mode)) }
+{
+    let values = vec![in alloc; 0_i64; points.len() as usize]?;
+    Ok(Piece {
+        points,
+        mode,
+        values: Sequence::from_vec(values),
+    })
+}
+
+/// How many elements pieces have, where a number counts them.
+fn count_elements(pieces: &[Piece]) -> Option<usize>
+    ensures { IfSome result (λ n. n ≡ elements_of pieces.now) }
+{
+    let mut count = 0_usize;
+    for piece in pieces {
+        count = count.checked_add(piece.len())?;
+    }
+    Some(count)
+}
+
+/// Moves the next chunk of the elements of pieces, where so many were moved before.
+fn move_pieces(field: &FieldInstances, moved: usize, pieces: &mut Vec<Piece>)
+    ensures { pieces.new.items ≡ moved_pieces field.now.column moved chunk pieces.old.items }
+{
+    let mut behind = moved;
+    let mut next = CHUNK;
+    for place in 0..pieces.len() {
+        let piece = &mut pieces[place];
+        let count = piece.len();
+        move_piece(field, behind, next, piece);
+        next = next.saturating_sub(count.saturating_sub(behind));
+        behind = behind.saturating_sub(count);
+    }
+}
+
+/// Moves so many elements of a piece, behind so many that were moved before.
+fn move_piece(field: &FieldInstances, behind: usize, next: usize, piece: &mut Piece)
+    ensures { piece.new ≡ moved_piece field.now.column behind next piece.old }
+{
+    let count = piece.points.len();
+    let first = behind.min(count as usize) as u32;
+    let end = behind.saturating_add(next).min(count as usize) as u32;
+    for place in first..end {
+        let Some(point) = piece.points.at(place) else {
+            unreachable!()
+        };
+        piece.set(place as usize, field.number_for(piece.mode, point));
+    }
+}

@@ -1,0 +1,100 @@
+//! One root with its fields.
+
+ghost use Rattle.std.specs.Prelude.{◌≡◌, ◌≤◌, ◌<◌, IfNone, IfOk, IfSome, None, Some, filter, length, map, slice_get};
+ghost use Rattle.logical_map.specs.Gives.{with_pieces};
+ghost use Rattle.logical_map.specs.Maps.{new_column};
+ghost use Rattle.physical_instances.specs.Kept.{KeepsRoom, column_in, is_given, live_root, no_field, with_field};
+ghost use Rattle.std.specs.Prelude.{get_or};
+
+use crate::instances::FieldInstances;
+use lane_kernels::FieldKind;
+use plain_values::Shared;
+use point_sets::PointSet;
+use region_tree::{Piece, RootId};
+use std::alloc::{AllocError, Global};
+use std::marker::Model;
+
+/// A live root, by its number, with its fields in order.
+#[derive(Drop)]
+pub(crate) struct RootInstances {
+    root: RootId,
+    fields: Vec<FieldInstances>,
+}
+
+impl Model for RootInstances {
+    ghost use Rattle.physical_instances.specs.Kept.{RootContents};
+
+    ghost Value = { RootContents };
+
+    ghost view = { λ r. record { root = r.root.0; fields = r.fields.items } };
+}
+
+impl RootInstances {
+    /// A field of each kind with its zeros.
+    pub(crate) fn new(
+        alloc: Global,
+        root: RootId,
+        points: &PointSet,
+        kinds: &[FieldKind],
+    ) -> Result<RootInstances, AllocError>
+        ensures root { IfOk result (λ r. r.root ≡ root.0) }
+        ensures columns { IfOk result (λ r. map column_in r.fields ≡ map (new_column points.now) kinds.now) }
+    {
+        let points = Shared::new(alloc, points.copy()?)?;
+        let fields = new_fields(alloc, &points, kinds)?;
+        Ok(RootInstances { root, fields })
+    }
+
+    pub(crate) fn root(&self) -> u64
+        ensures { result ≡ self.now.root }
+    {
+        self.root.0
+    }
+
+    pub(crate) fn field(&self, field: u8) -> Option<&FieldInstances>
+        ensures some { IfSome result (λ f. slice_get self.now.fields field ≡ Some f.now) }
+        ensures none { IfNone result (slice_get self.now.fields field ≡ None) }
+    {
+        self.fields.get(field as usize)
+    }
+
+    /// Writes the numbers of a field's pieces for writing, or folds those of the reductions in.
+    pub(crate) fn give(&mut self, field: u8, pieces: &[Piece], reducing: bool)
+        ensures root { live_root self.new
+            ≡ with_field field (with_pieces (filter (is_given reducing) pieces.now)) (live_root self.old) }
+        ensures spare { KeepsRoom self.old.fields self.new.fields }
+    {
+        let place = field as usize;
+        if place < self.fields.len() {
+            let found = &mut self.fields[place];
+            found.give(pieces, reducing);
+        }
+    }
+
+    /// Makes room for so many reductions more on a field.
+    pub(crate) fn reserve(&mut self, field: u8, more: usize)
+        ensures root { live_root self.new ≡ live_root self.old }
+        ensures spare { KeepsRoom self.old.fields self.new.fields }
+        ensures more { field < length self.new.fields → more ≤ (get_or self.new.fields field no_field).spare }
+    {
+        let place = field as usize;
+        if place < self.fields.len() {
+            let found = &mut self.fields[place];
+            found.reserve(more);
+        }
+    }
+}
+
+fn new_fields(
+    alloc: Global,
+    points: &Shared<PointSet>,
+    kinds: &[FieldKind],
+) -> Result<Vec<FieldInstances>, AllocError>
+    ensures { IfOk result (λ fs. map column_in fs.items ≡ map (new_column points.now) kinds.now) }
+{
+    let mut fields = Vec::new(alloc);
+    for kind in kinds {
+        fields.push(FieldInstances::new(alloc, points.share()?, *kind)?)?;
+    }
+    Ok(fields)
+}
