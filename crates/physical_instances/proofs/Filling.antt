@@ -1,5 +1,5 @@
 -- Elements that are moved in chunks.
-use Rattle.std.proofs.Common.{◌≡◌, ◌∙◌, ◌+◌, ◌-◌, ◌≤◌, List, [], ◌∷◌, ap, arith, length, min, refl, sym, ℕ, ℤ}
+use Rattle.std.proofs.Common.{◌≡◌, ◌∙◌, ◌+◌, ◌-◌, List, [], ◌∷◌, ap, arith, length, min, refl, sym, ℕ, ℤ}
 use Rattle.std.proofs.lemmas.List.Sums.{sum_by-cons}
 use Rattle.lane_kernels.specs.declared.numbers.Mode.{Mode}
 use Rattle.region_tree.specs.Pieces.{Held}

@@ -1,17 +1,18 @@
 -- Roots that are kept, and the logical map that they stand for.
-use Rattle.std.proofs.Common.{◌≡◌, ◌≢◌, ◌⊎◌, ◌∙◌, ◌≤◌, ◌<◌, ◌+◌, ◌==◌, ◌++◌, ◌||◌, inl, inr, Bool, true, false, cond, eqb, not, List, [], ◌∷◌, None, Option, Some, ap, arith, filter, get_or, length, map, refl, slice_get, suc, sym, zero, ℕ}
+use Rattle.std.proofs.Common.{◌≡◌, ◌≢◌, ◌∙◌, ◌≤◌, ◌<◌, ◌+◌, ◌==◌, ◌++◌, ◌||◌, Bool, true, false, cond, not, List, [], ◌∷◌, None, Option, Some, ap, arith, filter, get_or, length, map, refl, slice_get, suc, sym, zero, ℕ}
 use Rattle.std.specs.Prelude.{slice_set}
 use Rattle.std.specs.List.{list_any, position, position_from}
 use Rattle.std.specs.Option.{IfNone}
 use Rattle.std.proofs.Math.ListN.{get_or-map}
-use Rattle.std.proofs.lemmas.Bool.{cases_Bool, eqb-false, eqb-true, ne_eqb}
+use Rattle.std.proofs.lemmas.Bool.{eqb-true, ne_eqb}
 use Rattle.std.proofs.lemmas.Iterator.Adapters.{position_from-zero}
 use Rattle.std.proofs.lemmas.List.{length-map, map-append}
 use Rattle.std.proofs.lemmas.List.Quantifiers.{position-Some}
-use Rattle.std.proofs.lemmas.Option.{get_or_from_slice_get}
+use Rattle.std.proofs.lemmas.Option.{get_or_from_slice_get, slice_get_within}
 use Rattle.lane_kernels.specs.declared.numbers.FieldKind.{FieldKind}
-use Rattle.logical_map.specs.Maps.{Column, IsThere, LiveRoot, LogicalMap, closed, column_of, columns_of, new_column, no_column, on_column, on_field, on_root, opened}
-use Rattle.physical_instances.specs.Kept.{FieldContents, KeepsRoom, KeepsSpare, RootContents, column_in, field_of, fields_of, is_kept, live_root, map_of, no_field, spare_of, with_field}
+use Rattle.logical_map.specs.Maps.{Column, IsThere, LiveRoot, closed, column_of, columns_of, new_column, no_column, on_column, on_field, opened}
+use Rattle.physical_instances.specs.Fields.{KeepsRoom, with_field}
+use Rattle.physical_instances.specs.Kept.{FieldContents, KeepsSpare, RootContents, column_in, field_of, fields_of, is_kept, live_root, map_of, no_field, spare_of}
 
 -- ---- fields of a root
 
@@ -246,6 +247,16 @@ pub column_found : (roots : List RootContents) (root field place : ℕ) (r : Roo
 column_found roots root field place r f e here is =
     column_is roots root field ∙ ap (λ (x : FieldContents). x.column) (field_found roots root field place r f e here is)
 
+pub there_found : (roots : List RootContents) (root field place : ℕ) (r : RootContents) (f : FieldContents) →
+    position (is_kept root) roots ≡ Some place → r ≡ get_or roots place r → slice_get r.fields field ≡ Some f →
+    IsThere (map_of roots) root field
+there_found roots root field place r f e here is =
+    let count : length (columns_of (map_of roots) root) ≡ length r.fields =
+    ap length (columns_are roots root) ∙ length-map (fields_of roots root) column_in ∙
+    ap length (fields_found roots root place r (at_place roots root place r e here)) in
+    let below : field < length r.fields = slice_get_within r.fields field f is in
+    omega (arith, count, below)
+
 no_fields_there : (roots : List RootContents) (root field : ℕ) (fs : List FieldContents) → fields_of roots root ≡ fs →
     length fs ≤ field → (IsThere (map_of roots) root field → ⊥) × (column_of (map_of roots) root field ≡ no_column)
 no_fields_there roots root field fs is l =
@@ -253,8 +264,8 @@ no_fields_there roots root field fs is l =
     ap length (columns_are roots root) ∙ length-map (fields_of roots root) column_in ∙ ap length is in (
       λ below. let b : field < length (columns_of (map_of roots) root) = below in absurd (omega (arith, b, count, l)),
       column_is roots root field ∙
-      ap (λ (gs : List FieldContents). (get_or gs field no_field).column) is ∙
-      ap (λ (x : FieldContents). x.column) (get_or-past fs field no_field l),
+          ap (λ (gs : List FieldContents). (get_or gs field no_field).column) is ∙
+          ap (λ (x : FieldContents). x.column) (get_or-past fs field no_field l),
     )
 
 pub field_missing : (roots : List RootContents) (root field place : ℕ) (r : RootContents) →

@@ -1,3 +1,4 @@
+pub mod Examples
 mod Filling
 mod Giving
 mod Keeping

@@ -1,5 +1,5 @@
 -- Room for the reductions of parts.
-use Rattle.std.proofs.Common.{◌≡◌, ◌≢◌, ◌⊎◌, ◌∙◌, ◌≤◌, ◌<◌, ◌+◌, ◌==◌, ◌&&◌, inl, inr, Bool, true, false, cond, eqb, List, [], ◌∷◌, ap, arith, filter, get_or, length, refl, subst, suc, sym, take, zero, ℕ}
+use Rattle.std.proofs.Common.{◌≡◌, ◌⊎◌, ◌∙◌, ◌≤◌, ◌<◌, ◌==◌, ◌&&◌, inl, inr, true, false, cond, List, [], ◌∷◌, ap, arith, filter, get_or, length, refl, subst, suc, sym, take, zero, ℕ}
 use Rattle.std.proofs.lemmas.Bool.{cases_Bool, eqb-true}
 use Rattle.std.proofs.lemmas.List.Sums.{sum_by-cons}
 use Rattle.region_tree.specs.declared.piece.Part.{Part}
@@ -47,6 +47,7 @@ none_or_room all before now root field (p ∷ ps) there rooms =
         let first : reductions_in root field p ≡ 0 = ap (λ b. cond b (length (filter is_reduction p.pieces)) 0) e in
         inl (omega (arith, first, none, sum_by-cons (reductions_in root field) p ps))
     other e (inr room) = inr room
+
     by_case : ((p.root.0 == root) ≡ true) ⊎ ((p.root.0 == root) ≡ false) → ((p.field == field) ≡ true) ⊎ ((p.field == field) ≡ false) →
         (reductions_on ps root field ≡ 0) ⊎ (reductions_on all root field ≤ spare_of now root field) →
         (reductions_on (p ∷ ps) root field ≡ 0) ⊎ (reductions_on all root field ≤ spare_of now root field)

@@ -1,9 +1,8 @@
 -- What is kept of the live roots, as contracts see it: the fields of the logical map, and of each how many
 -- reductions more it takes for sure.
-use Rattle.std.specs.Prelude.{◌==◌, ◌≤◌, Bool, true, false, List, [], ◌∷◌, cond, filter, get_or, map, ℕ}
-use Rattle.region_tree.specs.Pieces.{Held}
-use Rattle.logical_map.specs.Gives.{give_pieces, is_reduction, is_write}
-use Rattle.logical_map.specs.Maps.{Column, LiveRoot, LogicalMap, no_column, on_field}
+use Rattle.std.specs.Prelude.{◌≡◌, ◌==◌, ◌≤◌, Bool, List, [], ◌∷◌, cond, get_or, map, ℕ}
+use Rattle.logical_map.specs.Fills.{Filling, elements_of}
+use Rattle.logical_map.specs.Maps.{Column, LiveRoot, LogicalMap, no_column}
 
 -- a field of a root
 pub record FieldContents : Type 0 where
@@ -50,21 +49,8 @@ spare_of roots root field = (field_of roots root field).spare
 abbrev pub KeepsSpare : List RootContents → List RootContents → Type 0
 KeepsSpare before after = (root field : ℕ) → spare_of before root field ≤ spare_of after root field
 
--- ---- pieces that are given
+-- ---- fills
 
--- those for writing, or the reductions
-abbrev pub is_given : Bool → Held → Bool
-is_given true h = is_reduction h
-is_given false h = is_write h
-
--- ---- fields of a root
-
--- no field of a root takes fewer reductions than before
-abbrev pub KeepsRoom : List FieldContents → List FieldContents → Type 0
-KeepsRoom before after = (field : ℕ) → (get_or before field no_field).spare ≤ (get_or after field no_field).spare
-
-abbrev pub with_field : ℕ → (Column → Column) → LiveRoot → LiveRoot
-with_field field f r = record r { columns = on_field field f r.columns }
-
-abbrev pub give_kind : Bool → ℕ → ℕ → List Held → LogicalMap → LogicalMap
-give_kind reducing root field pieces roots = give_pieces root field (filter (is_given reducing) pieces) roots
+-- no element is left
+abbrev pub IsFull : Filling → Type 0
+IsFull f = f.moved ≡ elements_of f.pieces

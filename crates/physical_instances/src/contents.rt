@@ -5,8 +5,9 @@ ghost use Rattle.std.specs.Prelude.{filter, length, ℕ};
 ghost use Rattle.logical_map.specs.Fills.{chunk_moved, started};
 ghost use Rattle.logical_map.specs.Gives.{add_reduction, is_reduction, put_back, reductions_in, reductions_on, without_reductions};
 ghost use Rattle.logical_map.specs.Maps.{IsThere, closed, column_of, no_column, number_at, opened};
-ghost use Rattle.physical_instances.specs.Chunks.{IsFull};
-ghost use Rattle.physical_instances.specs.Kept.{KeepsSpare, give_kind, is_kept, map_of, spare_of};
+ghost use Rattle.physical_instances.specs.Kept.{IsFull};
+ghost use Rattle.physical_instances.specs.Fields.{give_kind};
+ghost use Rattle.physical_instances.specs.Kept.{KeepsSpare, is_kept, map_of, spare_of};
 ghost use Rattle.physical_instances.specs.declared.fill.Filled.TheVariants.{Full};
 ghost use Rattle.std.specs.List.{position};
 
@@ -166,6 +167,18 @@ impl Contents {
         }
     }
 
+    /// How many points a field has; None where it isn't there.
+    pub fn count(&self, root: RootId, field: u8) -> Option<usize>
+        ensures there { IfSome result (λ _. IsThere (map_of self.now) root.0 field) }
+        ensures count { IfSome result (λ n. n ≡ length (column_of (map_of self.now) root.0 field).points) }
+        ensures none { IfNone result (IsThere (map_of self.now) root.0 field → ⊥) }
+    {
+        match self.field_of(root, field) {
+            Some(found) => Some(found.count()),
+            None => None,
+        }
+    }
+
     /// The place of a live root.
     fn place_of(&self, root: RootId) -> Option<usize>
         ensures { result ≡ position (is_kept root.0) self.now }
@@ -184,6 +197,7 @@ impl Contents {
     }
 
     fn field_of(&self, root: RootId, field: u8) -> Option<&FieldInstances>
+        ensures found { IfSome result (λ _. IsThere (map_of self.now) root.0 field) }
         ensures some { IfSome result (λ f. column_of (map_of self.now) root.0 field ≡ f.now.column) }
         ensures there { IfNone result (IsThere (map_of self.now) root.0 field → ⊥) }
         ensures none { IfNone result (column_of (map_of self.now) root.0 field ≡ no_column) }

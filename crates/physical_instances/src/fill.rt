@@ -2,7 +2,7 @@
 
 ghost use Rattle.std.specs.Prelude.{◌≡◌, ◌↔◌, ◌<◌, ◌≤◌, ◌+◌, min, IfOk, IfSome, length, map};
 ghost use Rattle.logical_map.specs.Fills.{blank, chunk, elements_of, moved_piece, moved_pieces};
-ghost use Rattle.physical_instances.specs.Chunks.{IsFull};
+ghost use Rattle.physical_instances.specs.Kept.{IsFull};
 ghost use Rattle.physical_instances.specs.declared.fill.Filled.TheVariants.{Full};
 
 use crate::instances::FieldInstances;
@@ -154,10 +154,7 @@ fn answer(moved: usize, count: usize) -> Filled
     }
 }
 
-fn blank_pieces(
-    alloc: Global,
-    wanted: Vec<(PointSet, Mode)>,
-) -> Result<Vec<Piece>, AllocError>
+fn blank_pieces(alloc: Global, wanted: Vec<(PointSet, Mode)>) -> Result<Vec<Piece>, AllocError>
     ensures { IfOk result (λ ps. ps.items ≡ map blank wanted.items) }
 {
     let mut pieces = Vec::new(alloc);

@@ -2,7 +2,7 @@
 
 ghost use Rattle.std.specs.Prelude.{◌≡◌, ◌≤◌, ◌∷◌, [], IfOk, Some, filter, length, slice_get};
 ghost use Rattle.logical_map.specs.Fills.{number_for};
-ghost use Rattle.physical_instances.specs.Kept.{is_given};
+ghost use Rattle.physical_instances.specs.Fields.{is_given};
 ghost use Rattle.logical_map.specs.Gives.{given, given_at, given_beside, is_reduction, is_write, with_pieces};
 ghost use Rattle.logical_map.specs.Maps.{new_column, number_beside, number_in_column, zero_of};
 
@@ -58,6 +58,13 @@ impl FieldInstances {
         ensures { result ≡ self.now.column.kind }
     {
         self.kind
+    }
+
+    /// How many points the root has.
+    pub(crate) fn count(&self) -> usize
+        ensures { result ≡ length self.now.column.points }
+    {
+        self.numbers.len()
     }
 
     /// The number at a point, or 0.
@@ -142,13 +149,7 @@ fn is_given(piece: &Piece, reducing: bool) -> bool
 }
 
 /// Writes or folds the numbers of the pieces of a kind into those beside some points.
-fn give_all(
-    width: Width,
-    pieces: &[Piece],
-    reducing: bool,
-    points: &PointSet,
-    numbers: &mut [i64],
-)
+fn give_all(width: Width, pieces: &[Piece], reducing: bool, points: &PointSet, numbers: &mut [i64])
     requires { length numbers.old ≡ length points.now }
     ensures { numbers.new ≡ given_beside width (filter (is_given reducing) pieces.now) points.now numbers.old }
 {

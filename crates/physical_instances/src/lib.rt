@@ -9,7 +9,8 @@ mod counts;
 mod fill;
 mod instances;
 mod roots;
+#[cfg(test)]
+mod tests;
 
 pub use contents::Contents;
 pub use fill::{Fill, Filled};
-

@@ -3,7 +3,8 @@
 ghost use Rattle.std.specs.Prelude.{◌≡◌, ◌≤◌, ◌<◌, IfNone, IfOk, IfSome, None, Some, filter, length, map, slice_get};
 ghost use Rattle.logical_map.specs.Gives.{with_pieces};
 ghost use Rattle.logical_map.specs.Maps.{new_column};
-ghost use Rattle.physical_instances.specs.Kept.{KeepsRoom, column_in, is_given, live_root, no_field, with_field};
+ghost use Rattle.physical_instances.specs.Fields.{KeepsRoom, is_given, with_field};
+ghost use Rattle.physical_instances.specs.Kept.{column_in, live_root, no_field};
 ghost use Rattle.std.specs.Prelude.{get_or};
 
 use crate::instances::FieldInstances;

@@ -1,4 +1,4 @@
-use Rattle.std.proofs.Common.{rules, ◌≡◌, ◌∙◌, ◌≤◌, ◌<◌, ◌-◌, ◌+◌, Some, ap, arith, get_or, length, min, refl, suc, sym, of_z, to_z, w64, ℕ}
+use Rattle.std.proofs.Common.{rules, ◌≡◌, ◌∙◌, ◌<◌, ◌-◌, ◌+◌, Some, ap, arith, get_or, length, min, refl, suc, sym, of_z, to_z, w64, ℕ}
 use Rattle.std.specs.Prelude.{slice_get, slice_set}
 use Rattle.std.proofs.lemmas.Option.{get_or_from_slice_get}
 use Rattle.logical_map.proofs.Moving.{moved_nothing, one_more}

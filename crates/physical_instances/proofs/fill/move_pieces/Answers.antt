@@ -1,4 +1,4 @@
-use Rattle.std.proofs.Common.{rules, ◌≡◌, ◌∙◌, ◌<◌, ◌-◌, ◌++◌, ap, arith, drop, get_or, length, suc, sym, take, ℕ}
+use Rattle.std.proofs.Common.{rules, ◌≡◌, ◌∙◌, ◌<◌, ◌-◌, ◌++◌, ap, drop, get_or, length, suc, sym, take, ℕ}
 use Rattle.std.specs.Prelude.{slice_set}
 use Rattle.std.proofs.Math.Numerals.{suc-eq-add-one}
 use Rattle.region_tree.specs.Pieces.{Held}

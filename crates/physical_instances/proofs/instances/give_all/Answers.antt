@@ -1,5 +1,5 @@
 use Rattle.std.proofs.Common.{rules, ◌≡◌, ◌≤◌, ◌<◌, get_or, length}
-use Rattle.physical_instances.specs.Kept.{is_given}
+use Rattle.physical_instances.specs.Fields.{is_given}
 use Rattle.physical_instances.proofs.Giving.{give_next, give_none}
 use Rattle.physical_instances.proofs.instances.give_all.Goals as goal
 

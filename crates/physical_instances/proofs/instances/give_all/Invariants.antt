@@ -1,6 +1,6 @@
 use Rattle.std.proofs.Common.{◌≡◌, drop, filter, length}
 use Rattle.logical_map.specs.Gives.{given_beside}
-use Rattle.physical_instances.specs.Kept.{is_given}
+use Rattle.physical_instances.specs.Fields.{is_given}
 use Rattle.physical_instances.proofs.instances.give_all.Given as goal
 
 abbrev pub invariant-loop-piece : goal.invariant-loop-piece

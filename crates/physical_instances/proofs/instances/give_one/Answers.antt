@@ -1,7 +1,7 @@
 use Rattle.std.proofs.Common.{◌≡◌, ◌∙◌, ◌∷◌, [], ap, cond, false, sym}
 use Rattle.logical_map.proofs.Giving.{given_nothing}
 use Rattle.logical_map.specs.Gives.{given_beside}
-use Rattle.physical_instances.specs.Kept.{is_given}
+use Rattle.physical_instances.specs.Fields.{is_given}
 use Rattle.physical_instances.proofs.instances.give_one.Goals as goal
 
 pub returns-else-is_given-clause-numbers : goal.returns-else-is_given-clause-numbers

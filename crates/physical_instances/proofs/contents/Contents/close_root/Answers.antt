@@ -1,4 +1,4 @@
-use Rattle.std.proofs.Common.{rules, ◌≡◌, ◌∙◌, ◌≤◌, ap, arith, filter, get_or, not, subst, sym}
+use Rattle.std.proofs.Common.{rules, ◌≡◌, ◌∙◌, ap, arith, filter, get_or, not}
 use Rattle.std.proofs.lemmas.Fn.{filter_same}
 use Rattle.physical_instances.specs.Kept.{RootContents, is_kept, map_of, no_field, spare_of}
 use Rattle.physical_instances.proofs.Keeping.{others_stay, root_closed}

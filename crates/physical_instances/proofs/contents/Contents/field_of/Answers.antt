@@ -2,7 +2,7 @@ use Rattle.std.proofs.Common.{rules, ◌≡◌, Some, None, get_or}
 use Rattle.std.specs.List.{position}
 use Rattle.std.proofs.lemmas.Option.{IfSome_then}
 use Rattle.physical_instances.specs.Kept.{is_kept}
-use Rattle.physical_instances.proofs.Keeping.{IfNone_then, column_found, field_missing, root_missing}
+use Rattle.physical_instances.proofs.Keeping.{IfNone_then, column_found, field_missing, root_missing, there_found}
 use Rattle.physical_instances.proofs.contents.Contents.field_of.Goals as goal
 
 pub returns-in-Some-clause-some : goal.returns-in-Some-clause-some
@@ -13,6 +13,15 @@ returns-in-Some-clause-some c =
     let here : r ≡ get_or roots c.in-Some.place r = search (rules) in
     IfSome_then c.field.result c.field.ensures.some
     (λ f is. column_found roots c.args.root.0 c.args.field c.in-Some.place r f.now place here is)
+
+pub returns-in-Some-clause-found : goal.returns-in-Some-clause-found
+returns-in-Some-clause-found c =
+    let roots = c.args.self.now in
+    let r = c.index.result.now in
+    let place : position (is_kept c.args.root.0) roots ≡ Some c.in-Some.place = search (rules) in
+    let here : r ≡ get_or roots c.in-Some.place r = search (rules) in
+    IfSome_then c.field.result c.field.ensures.some
+    (λ f is. there_found roots c.args.root.0 c.args.field c.in-Some.place r f.now place here is)
 
 pub returns-in-Some-clause-there : goal.returns-in-Some-clause-there
 returns-in-Some-clause-there c =

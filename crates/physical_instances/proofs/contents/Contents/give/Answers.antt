@@ -1,9 +1,10 @@
-use Rattle.std.proofs.Common.{rules, ◌≡◌, ◌∙◌, ◌≤◌, ◌<◌, None, Some, ap, arith, filter, get_or, length, subst, sym, List}
+use Rattle.std.proofs.Common.{rules, ◌≡◌, ◌∙◌, ◌<◌, None, Some, ap, filter, get_or, length, subst, sym, List}
 use Rattle.std.specs.Prelude.{slice_set}
 use Rattle.std.specs.List.{position}
 use Rattle.logical_map.specs.Gives.{with_pieces}
 use Rattle.logical_map.specs.Maps.{LiveRoot}
-use Rattle.physical_instances.specs.Kept.{KeepsSpare, RootContents, is_given, is_kept, map_of}
+use Rattle.physical_instances.specs.Fields.{is_given}
+use Rattle.physical_instances.specs.Kept.{KeepsSpare, RootContents, is_kept, map_of}
 use Rattle.physical_instances.proofs.Keeping.{given_at_place, given_nowhere, spare_kept}
 use Rattle.physical_instances.proofs.contents.Contents.give.Goals as goal
 

@@ -1,9 +1,9 @@
-use Rattle.std.proofs.Common.{rules, ◌≡◌, ◌∙◌, ◌≤◌, ◌<◌, ap, arith, get_or, length, subst, suc, sym, take, ℕ}
+use Rattle.std.proofs.Common.{rules, ◌≡◌, ◌∙◌, ◌≤◌, ◌<◌, arith, get_or, length, subst, sym, take, ℕ}
 use Rattle.std.proofs.Math.Numerals.{suc-eq-add-one}
 use Rattle.std.proofs.lemmas.List.{take_all}
 use Rattle.logical_map.specs.Gives.{reductions_on}
 use Rattle.logical_map.specs.Maps.{IsThere, LogicalMap}
-use Rattle.physical_instances.specs.Kept.{map_of, spare_of}
+use Rattle.physical_instances.specs.Kept.{spare_of}
 use Rattle.physical_instances.proofs.Room.{HasRoom, HaveRoom, all_room, more_room}
 use Rattle.physical_instances.proofs.contents.Contents.reserve.Goals as goal
 

@@ -1,7 +1,8 @@
 use Rattle.std.proofs.Common.{rules, ◌≡◌, ◌∙◌, ◌≤◌, ◌<◌, ap, filter, get_or, length, sym}
 use Rattle.logical_map.specs.Gives.{with_pieces}
 use Rattle.logical_map.specs.Maps.{LiveRoot}
-use Rattle.physical_instances.specs.Kept.{RootContents, is_given, live_root, with_field}
+use Rattle.physical_instances.specs.Fields.{is_given, with_field}
+use Rattle.physical_instances.specs.Kept.{RootContents, live_root}
 use Rattle.physical_instances.proofs.Keeping.{field_given, field_lacked}
 use Rattle.physical_instances.proofs.roots.RootInstances.give.Goals as goal
 
