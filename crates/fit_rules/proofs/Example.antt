@@ -3,7 +3,7 @@ use Rattle.std.proofs.Common.{◌≡◌, inl, inr, ℕ, zero, suc, ◌<◌, pos,
 use Rattle.std.specs.Prelude.{slice_get, ◌==◌}
 use Rattle.std.proofs.lemmas.Bool.{and_parts, eqb-true, eqb-false, ne_eqb, false≢true}
 use Rattle.std.proofs.lemmas.Int.{ints}
-use Rattle.std.proofs.lemmas.Option.{same_Some}
+use Rattle.std.proofs.lemmas.Option.{same_Some, none-some}
 use Rattle.lane_kernels.specs.Numbers.{FitsWidth}
 use Rattle.lane_kernels.specs.declared.numbers.FieldKind.TheVariants.{Int32, Int64}
 use Rattle.lane_kernels.specs.declared.numbers.Mode.TheVariants.{Read, Write}
@@ -21,7 +21,7 @@ use Rattle.machine_terms.specs.declared.value.Value.TheVariants as value
 use Rattle.machine_terms.specs.Makes.{region_with}
 use Rattle.machine_terms.specs.Parts.{cell_of, cell_at, is_part_of}
 use Rattle.machine_terms.specs.Pointers.{region_in}
-use Rattle.fit_rules.specs.Shapes.{Among, Shape, integer, region, partition, World, IsRegion, IsPartition, Is, is_number, is_region, is_partition, Are, are_none, are_more}
+use Rattle.fit_rules.specs.Shapes.{Among, Shape, integer, region, partition, World, IsRegion, IsPartition, Is, is_number, is_region, is_partition, Are, are_none, are_more, Origin, unknown, own_as, argument, ComesFrom, KnowsRoots}
 use Rattle.fit_rules.specs.Marks.{Holds, lies, in_slot, parted, LiesAt, LiesIn, IsParted, Suits}
 use Rattle.fit_rules.specs.Fits.{requires, claims, AreClaims, no_claims, a_claim, CellFits, PartFits, PartsFit}
 use Rattle.fit_rules.specs.Example.{task, program, whole, part, args_of, world_of, held, halves, numbers, made, machine, later, ExampleFits, FailsEachPoint}
@@ -33,22 +33,22 @@ module _ (args : List Value) where
   abbrev x : World
   x = world_of args
 
-  root_is : (root : ℕ) → x.there root ≡ true → IsRegion x (Some 0) false (region_with root (0 ∷ 1 ∷ []))
-  root_is root h = record {
-    there = h;
+  root_is : (o : Origin) → ComesFrom x o whole → IsRegion x (Some 0) o whole
+  root_is o h = record {
+    there = refl;
     space = refl;
     set = counted_points 4194304 0 2 (omega arith);
     points = λ p e. e;
-    whole = λ e. absurd (false≢true e);
+    origin = h;
   }
 
-  first_half : IsRegion x (Some 0) false (region_with 3 (0 ∷ []))
+  first_half : IsRegion x (Some 0) unknown (region_with 3 (0 ∷ []))
   first_half = record {
     there = refl;
     space = refl;
     set = counted_points 4194304 0 1 (omega arith);
     points = λ p e. first_of p e;
-    whole = λ e. absurd (false≢true e);
+    origin = tt;
   }
     where
       first_of : (p : ℕ) → has (0 ∷ []) p ≡ true → has (0 ∷ 1 ∷ []) p ≡ true
@@ -58,13 +58,13 @@ module _ (args : List Value) where
           of_test true t e = subst (λ y. has (0 ∷ 1 ∷ []) y ≡ true) (sym (eqb-true p 0 t)) refl
           of_test false t e = absurd cc
 
-  second_half : IsRegion x (Some 0) false part
-  second_half = record {
+  second_half : (o : Origin) → ComesFrom x o part → IsRegion x (Some 0) o part
+  second_half o h = record {
     there = refl;
     space = refl;
     set = counted_points 4194304 1 1 (omega arith);
     points = λ p e. has_tail p 0 (1 ∷ []) e;
-    whole = λ e. absurd (false≢true e);
+    origin = h;
   }
 
   halves_apart : NoneShared ((0 ∷ []) ∷ (1 ∷ []) ∷ [])
@@ -96,16 +96,16 @@ module _ (args : List Value) where
     there = refl;
     space = refl;
     count = omega arith;
-    regions = each_half (λ r. (r.root.0 ≡ 3) × IsRegion x (Some 0) false r) (refl, first_half) (refl, second_half);
+    regions = each_half (λ r. (r.root.0 ≡ 3) × IsRegion x (Some 0) unknown r) (refl, first_half) (refl, second_half unknown tt);
   }
 
-  own_is : IsRegion x (Some 0) true made
+  own_is : IsRegion x (Some 0) (own_as 3) made
   own_is = record {
     there = refl;
     space = refl;
     set = counted_points 4194304 0 2 (omega arith);
     points = λ p e. e;
-    whole = λ e. (inl refl, refl);
+    origin = ((inl refl, refl), refl);
   }
 
 -- ---- the part
@@ -173,7 +173,7 @@ halves_parted q e = subst (λ y. IsParted slots y 0) (same_Some _ _ e)
       at = refl;
       root = refl;
       inside = each_half (args_of part halves) (λ r. LiesIn r whole)
-          (refl, (first_half (args_of part halves)).points) (refl, (second_half (args_of part halves)).points);
+          (refl, (first_half (args_of part halves)).points) (refl, (second_half (args_of part halves) unknown tt).points);
     })
 
 args_stand : (i : ℕ) → i < 3 → region_in (slice_get slots i) ≡ region_in (slice_get (args_of part halves) i)
@@ -187,10 +187,10 @@ given = args_of part halves
 
 suits : Suits (world_of (args_of part halves)) 3 (later (integer W32 ∷ integer W32 ∷ [])) slots numbers
 suits = record {
-  slots = are_more _ _ _ _ (is_region (Some 0) false whole (root_is given 3 refl))
-      (are_more _ _ _ _ (is_region (Some 0) false part (second_half given))
+  slots = are_more _ _ _ _ (is_region (Some 0) (argument 0) whole (root_is given (argument 0) refl))
+      (are_more _ _ _ _ (is_region (Some 0) (argument 1) part (second_half given (argument 1) refl))
       (are_more _ _ _ _ (is_partition (Some 0) true (cut given) (halves_are given))
-      (are_more _ _ _ _ (is_region (Some 0) true made (own_is given))
+      (are_more _ _ _ _ (is_region (Some 0) (own_as 3) made (own_is given))
       (are_more _ _ _ _ (is_number _ _ (omega (arith, ints), omega arith)) are_none))));
   stack = are_more _ _ _ _ (is_number _ _ (omega (arith, ints))) (are_more _ _ _ _ (is_number _ _ (omega (arith, ints))) are_none);
   facts = (part_lies, (halves_parted, tt));
@@ -211,14 +211,38 @@ example_fits = record {
       children = refl;
       calls = omega arith;
       own = refl;
-      own_there = own_there;
+      roots = roots_known;
     };
   };
 }
   where
-    own_there : (r : ℕ) → Among (5 ∷ []) r → (world_of (args_of part halves)).there r ≡ true
-    own_there r (inl e) = subst (λ y. (world_of (args_of part halves)).there y ≡ true) e refl
-    own_there r (inr h) = absurd h
+    -- one root was made, under the number 3
+    only : (i r : ℕ) → cond (i == 3) (Some 5) None ≡ Some r → (i ≡ 3) × (r ≡ 5)
+    only i r e = of (i == 3) refl e
+      where
+        of : (b : Bool) → i == 3 ≡ b → cond b (Some 5) None ≡ Some r → (i ≡ 3) × (r ≡ 5)
+        of true q e = (eqb-true i 3 q, sym (same_Some 5 r e))
+        of false q e = absurd (none-some r e)
+
+    -- the arguments' regions are of root 3
+    of_args : (i : ℕ) (r : RegionValue) → region_in (slice_get (args_of part halves) i) ≡ Some r → r.root.0 ≡ 3
+    of_args zero r e = ap (λ (y : RegionValue). y.root.0) (sym (same_Some whole r e))
+    of_args (suc zero) r e = ap (λ (y : RegionValue). y.root.0) (sym (same_Some part r e))
+    of_args (suc (suc zero)) r e = absurd (none-some r e)
+    of_args (suc (suc (suc i))) r e = absurd (none-some r e)
+
+    roots_known : KnowsRoots (world_of (args_of part halves))
+    roots_known = record {
+      own_there = own_there;
+      args_there = λ i r e. subst (λ y. (world_of (args_of part halves)).there y ≡ true) (sym (of_args i r e)) refl;
+      last_own = λ i r e. inl (sym (only i r e).1);
+      one_number = λ i j r e f. (only i r e).0 ∙ sym (only j r f).0;
+      args_other = λ i j r e f. let five = (only j r.root.0 f).1 in let three = of_args i r e in omega (arith, five, three);
+    }
+      where
+        own_there : (r : ℕ) → Among (5 ∷ []) r → (world_of (args_of part halves)).there r ≡ true
+        own_there r (inl e) = subst (λ y. (world_of (args_of part halves)).there y ≡ true) e refl
+        own_there r (inr h) = absurd h
 
 -- ---- states that fail
 
@@ -229,7 +253,7 @@ IsNumber _ = ⊥
 top_number : (x : World) (ss : List Shape) (v : Value) (vs : List Value) → Are x (integer W32 ∷ ss) (v ∷ vs) → IsNumber v
 top_number x ss _ vs (are_more _ _ _ _ (is_number _ z h) a) = h
 
-region_is : (x : World) (sp : Option ℕ) (c : Bool) (r : RegionValue) → Is x (region sp c) (value.Region r) → IsRegion x sp c r
+region_is : (x : World) (sp : Option ℕ) (c : Origin) (r : RegionValue) → Is x (region sp c) (value.Region r) → IsRegion x sp c r
 region_is x sp c _ (is_region _ _ r i) = i
 
 partition_is : (x : World) (sp : Option ℕ) (d : Bool) (q : PartitionValue) → Is x (partition sp d) (value.Partition q) →
@@ -263,7 +287,7 @@ fails_each_point = (
       false≢true (i.points 2 refl),
   λ f. let w = f.suits.facts.0 (region_with 5 (1 ∷ [])) refl in
       let h : 5 ≡ 3 = w.inside.0 ∙ sym (ap (λ (y : RegionValue). y.root.0) (same_Some _ _ w.at)) in absurd (omega (arith, h)),
-  λ f. let h = ap length ((region_is _ _ _ _ (fourth _ _ _ _ _ _ _ _ _ _ _ f.suits.slots)).whole refl).1 in absurd (omega (arith, h)),
+  λ f. let h = ap length ((region_is _ _ _ _ (fourth _ _ _ _ _ _ _ _ _ _ _ f.suits.slots)).origin.0).1 in absurd (omega (arith, h)),
   λ f. let h : 5 ≡ 3 = second_claim _ _ _ _ _ _ f.beside.needs in absurd (omega (arith, h)),
   λ f. let h : Read ≡ Write = ((f.beside.parts 3 0 _ refl).cells 1).0 in absurd cc,
   λ f. absurd (omega (arith, f.beside.calls)),

@@ -55,7 +55,7 @@ grown_by g x (c ∷ cs) = grown_by g (grown x (g.results c.task)) cs
 
 -- what stands around a frame that opens with arguments
 abbrev pub called : World → List Value → World
-called x vs = record x { results = λ i. anything; children = 0; own = []; args = vs }
+called x vs = record x { results = λ i. anything; children = 0; own = []; last = λ i. None; args = vs }
 
 abbrev pub opening_machine : ℕ → ℕ → ℕ → TaskCode → List Value → Machine
 opening_machine turns depth k t vs = record { frame = opening turns depth k t vs; parts = [] }
@@ -79,13 +79,14 @@ pub record CallsWell (g : Program) (x : World) (t : TaskCode) (c : CallOut) : Ty
 
 -- ---- roots
 
--- one more root, with a field space and so many points, which the task made
-abbrev pub rooted : World → ℕ → ℕ → ℕ → World
-rooted x root sp n = record x {
+-- one more root, with a field space and so many points, which the task made under a number
+abbrev pub rooted : World → ℕ → ℕ → ℕ → ℕ → World
+rooted x i root sp n = record x {
   there = λ r. (r == root) || x.there r;
   spaces = λ r. cond (r == root) sp (x.spaces r);
   points = λ r. cond (r == root) (points n) (x.points r);
   own = x.own ++ root ∷ [];
+  last = λ j. cond (j == i) (Some root) (x.last j);
 }
 
 -- its region, and its needs, are added
@@ -123,7 +124,7 @@ without_parts m = record m { parts = [] }
 
 -- What a machine stops for may be waited for, and the machine fits once it has come: a part that is
 -- needed, and a child's value of its task's result type. After calls it fits beside the new
--- children, and no part is held. A new root is none that was there. A partition is within its region
+-- children, and no part is held. A new root is none that was there, and is made under some number. A partition is within its region
 -- and keeps its flag. The value of an end is of the task's result type.
 abbrev pub IsMet : Program → World → TaskCode → ℕ → Yield → Machine → Type 0
 IsMet g x t k (yield.Want root f) m = Fits g x t k m
@@ -135,9 +136,9 @@ IsMet g x t k (yield.Await i) m = Fits g x t k m × (i < x.children)
 IsMet g x t k (yield.Calls cs) m =
     Each (CallsWell g x t) cs × Fits g (grown_by g x cs) t k (without_parts m)
 IsMet g x t k (yield.Make (made.Root n sp)) m = (n ≤ 4194304)
-    × ((r : RegionValue) (ns : List Need) → x.there r.root.0 ≡ false → r.points ≡ points n →
+    × ((i : ℕ) × ((r : RegionValue) (ns : List Need) → x.there r.root.0 ≡ false → r.points ≡ points n →
     AreClaims ns (root_claims g r.root.0 sp (points n)) →
-    Fits g (rooted x r.root.0 sp n) t k (with_root r ns r.root m))
+    Fits g (rooted x i r.root.0 sp n) t k (with_root r ns r.root m)))
 IsMet g x t k (yield.Make (made.Partition r sets flag)) m = SetsFit r.points flag sets
     × ((q : PartitionValue) → IsMadeOf r.root.0 flag sets q →
     Fits g x t k (with_value (value.Partition q) m))

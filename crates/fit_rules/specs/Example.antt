@@ -2,7 +2,7 @@
 --
 -- The task takes a region, a region within it and a disjoint partition of it, and reads and writes a field
 -- of the first. It has made a root of its own, and adds 1 to the field at an element of the second region.
-use Rattle.std.specs.Prelude.{ℕ, ◌^◌, ◌+◌, pos, List, [], ◌∷◌, Bool, true, false, None, Some, get_or, ◌==◌, ◌||◌}
+use Rattle.std.specs.Prelude.{ℕ, ◌^◌, ◌+◌, pos, List, [], ◌∷◌, Bool, true, false, None, Some, get_or, cond, ◌==◌, ◌||◌}
 use Rattle.lane_kernels.specs.declared.numbers.FieldKind.TheVariants.{Int32, Int64}
 use Rattle.lane_kernels.specs.declared.numbers.Mode.{Mode}
 use Rattle.lane_kernels.specs.declared.numbers.Mode.TheVariants.{Read, Write}
@@ -19,7 +19,7 @@ use Rattle.machine_terms.specs.declared.value.Value.{Value}
 use Rattle.machine_terms.specs.declared.value.Value.TheVariants as value
 use Rattle.machine_terms.specs.Machine.{Machine}
 use Rattle.machine_terms.specs.Makes.{region_with}
-use Rattle.fit_rules.specs.Shapes.{Shape, anything, integer, index, pointer, space, region, partition, World}
+use Rattle.fit_rules.specs.Shapes.{Shape, anything, integer, index, pointer, space, region, partition, argument, own_as, World}
 use Rattle.fit_rules.specs.Marks.{Fact, lies, in_slot, parted, Mark}
 use Rattle.fit_rules.specs.Fits.{Program, Fits, BeforeFits}
 
@@ -54,7 +54,7 @@ known = lies (in_slot 1) (in_slot 0) ∷ parted 2 0 ∷ []
 
 abbrev pub mark : Shape → Shape → List Shape → Mark
 mark own element stack = record {
-  slots = region (Some 0) false ∷ region (Some 0) false ∷ partition (Some 0) true ∷ own ∷ element ∷ [];
+  slots = region (Some 0) (argument 0) ∷ region (Some 0) (argument 1) ∷ partition (Some 0) true ∷ own ∷ element ∷ [];
   facts = known;
   stack = stack;
   top = [];
@@ -65,13 +65,13 @@ abbrev pub first : List Shape → Mark
 first stack = mark anything anything stack
 
 abbrev pub rooted : List Shape → Mark
-rooted stack = mark (region (Some 0) true) anything stack
+rooted stack = mark (region (Some 0) (own_as 3)) anything stack
 
 abbrev pub later : List Shape → Mark
-later stack = mark (region (Some 0) true) (pointer 1) stack
+later stack = mark (region (Some 0) (own_as 3)) (pointer 1) stack
 
 abbrev pub marks : List Mark
-marks = first [] ∷ first (index ∷ []) ∷ first (space ∷ []) ∷ first (region (Some 0) true ∷ [])
+marks = first [] ∷ first (index ∷ []) ∷ first (space ∷ []) ∷ first (region (Some 0) (own_as 3) ∷ [])
     ∷ rooted [] ∷ rooted (index ∷ []) ∷ rooted (pointer 1 ∷ [])
     ∷ later [] ∷ later (pointer 1 ∷ []) ∷ later (integer W32 ∷ [])
     ∷ later (integer W32 ∷ integer W32 ∷ []) ∷ later (integer W32 ∷ [])
@@ -117,6 +117,7 @@ world_of args = record {
   results = λ i. anything;
   children = 0;
   own = 5 ∷ [];
+  last = λ i. cond (i == 3) (Some 5) None;
   args = args;
 }
 

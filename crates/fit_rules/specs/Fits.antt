@@ -23,7 +23,7 @@ use Rattle.machine_terms.specs.Opening.{with_points}
 use Rattle.machine_terms.specs.Parts.{Cell, cell_at, part_of}
 use Rattle.machine_terms.specs.Pointers.{region_in}
 use Rattle.machine_terms.specs.Segments.{opened}
-use Rattle.fit_rules.specs.Shapes.{Among, Shape, integer, truth, index, pointer, NumberIs, World}
+use Rattle.fit_rules.specs.Shapes.{Among, Shape, integer, truth, index, pointer, NumberIs, World, KnowsRoots}
 use Rattle.fit_rules.specs.Marks.{Mark, Suits}
 
 -- Code, with how many regions the type of each pointer field names, the shape of what each task gives,
@@ -138,8 +138,8 @@ PartsFit g x t parts = (root f : ℕ) (q : Part) → part_of parts root f ≡ So
 -- ---- machines
 
 -- What fits beside slots and stack: the frame is of the task, its needs are those claims, the parts are
--- of them, and it knows its children and its own roots. Each call takes a turn, so that the count of
--- children stays a number of 64 bits.
+-- of them, and it knows its children, and the roots of its own and of its arguments. Each call takes a turn, so that
+-- the count of children stays a number of 64 bits.
 pub record Beside (g : Program) (x : World) (t : TaskCode) (k : ℕ) (m : Machine) : Type 0 where
   pub task : m.frame.task ≡ k
   pub needs : AreClaims m.frame.needs.items (claims g x t)
@@ -147,7 +147,7 @@ pub record Beside (g : Program) (x : World) (t : TaskCode) (k : ℕ) (m : Machin
   pub children : m.frame.children ≡ x.children
   pub calls : m.frame.children + m.frame.turns < 2 ^ 64
   pub own : map (λ r. r.0) m.frame.own ≡ x.own
-  pub own_there : (r : ℕ) → Among x.own r → x.there r ≡ true
+  pub roots : KnowsRoots x
 
 -- A machine at a place of a task's code fits beside a world: what stands in slots and on the stack
 -- suits the place's mark.

@@ -1,5 +1,5 @@
 -- The shapes of values at a place of compiled code, and what is of a shape.
-use Rattle.std.specs.Prelude.{◌≡◌, ◌⊎◌, ℕ, ℤ, pos, ◌<◌, ◌≤◌, List, [], ◌∷◌, Bool, true, false, Option, Some, None, length, slice_get}
+use Rattle.std.specs.Prelude.{◌≡◌, ◌≢◌, ◌⊎◌, ℕ, ℤ, pos, ◌<◌, ◌≤◌, List, [], ◌∷◌, Bool, true, false, Option, Some, None, length, slice_get}
 use Rattle.lane_kernels.specs.declared.numbers.Width.{Width}
 use Rattle.lane_kernels.specs.declared.numbers.Width.TheVariants.{W64}
 use Rattle.lane_kernels.specs.Numbers.{FitsWidth}
@@ -25,10 +25,18 @@ Each P (x ∷ xs) = P x × Each P xs
 
 -- ---- shapes
 
+-- Where a region comes from: nothing is known of it, it is that of an argument of the task, it is the whole of a root
+-- that the task made, or of the one that it made last under a number.
+pub data Origin : Type 0 where
+  unknown : Origin
+  argument : ℕ → Origin
+  own_root : Origin
+  own_as : ℕ → Origin
+
 -- The shape of a slot or of a cell of the stack: anything at all; a number of a width; a truth; an
--- index; a pointer with so many positions; an index space; a region of a field space, or of any, that
--- the task made itself or not; the region of a field space that an argument of the task is; a partition into
--- such regions, known to be disjoint or not; and the result of a child, which may be pending.
+-- index; a pointer with so many positions; an index space; a region of a field space, or of any, with its
+-- origin; a partition into regions, known to be disjoint or not; and the result of a child, which may be
+-- pending.
 pub data Shape : Type 0 where
   anything : Shape
   integer : Width → Shape
@@ -36,8 +44,7 @@ pub data Shape : Type 0 where
   index : Shape
   pointer : ℕ → Shape
   space : Shape
-  region : Option ℕ → Bool → Shape
-  given : Option ℕ → ℕ → Shape
+  region : Option ℕ → Origin → Shape
   partition : Option ℕ → Bool → Shape
   awaited : Shape → Shape
 
@@ -67,7 +74,8 @@ NumberIs _ z = ⊥
 -- ---- what stands around a frame
 
 -- The roots that are there; the field space and the points of each root; the shape of each child's
--- result, and how many children there are; the roots that the task made; and its arguments.
+-- result, and how many children there are; the roots that the task made, and which it made last under each
+-- number; and its arguments.
 pub record World : Type 0 where
   pub there : ℕ → Bool
   pub spaces : ℕ → ℕ
@@ -75,6 +83,7 @@ pub record World : Type 0 where
   pub results : ℕ → Shape
   pub children : ℕ
   pub own : List ℕ
+  pub last : ℕ → Option ℕ
   pub args : List Value
 
 -- ---- regions and partitions
@@ -83,13 +92,32 @@ abbrev pub OfSpace : Option ℕ → ℕ → Type 0
 OfSpace None n = Unit {0}
 OfSpace (Some sp) n = n ≡ sp
 
--- a region is a set of points of a root that is there; one that the task made is the whole root
-pub record IsRegion (x : World) (sp : Option ℕ) (made : Bool) (r : RegionValue) : Type 0 where
+-- a region is the whole of a root that the task made
+abbrev pub IsWhole : World → RegionValue → Type 0
+IsWhole x r = Among x.own r.root.0 × (r.points ≡ x.points r.root.0)
+
+abbrev pub ComesFrom : World → Origin → RegionValue → Type 0
+ComesFrom x unknown r = Unit {0}
+ComesFrom x (argument i) r = region_in (slice_get x.args i) ≡ Some r
+ComesFrom x own_root r = IsWhole x r
+ComesFrom x (own_as i) r = IsWhole x r × (x.last i ≡ Some r.root.0)
+
+-- a region is a set of points of a root that is there
+pub record IsRegion (x : World) (sp : Option ℕ) (o : Origin) (r : RegionValue) : Type 0 where
   pub there : x.there r.root.0 ≡ true
   pub space : OfSpace sp (x.spaces r.root.0)
   pub set : IsPoints 4194304 r.points
   pub points : (p : ℕ) → has r.points p ≡ true → has (x.points r.root.0) p ≡ true
-  pub whole : made ≡ true → Among x.own r.root.0 × (r.points ≡ x.points r.root.0)
+  pub origin : ComesFrom x o r
+
+-- The task's own roots are there, and so are those of its arguments' regions. A root that it made last under a
+-- number is its own, under one number alone, and no argument's region is of it.
+pub record KnowsRoots (x : World) : Type 0 where
+  pub own_there : (r : ℕ) → Among x.own r → x.there r ≡ true
+  pub args_there : (i : ℕ) (r : RegionValue) → region_in (slice_get x.args i) ≡ Some r → x.there r.root.0 ≡ true
+  pub last_own : (i r : ℕ) → x.last i ≡ Some r → Among x.own r
+  pub one_number : (i j r : ℕ) → x.last i ≡ Some r → x.last j ≡ Some r → i ≡ j
+  pub args_other : (i j : ℕ) (r : RegionValue) → region_in (slice_get x.args i) ≡ Some r → x.last j ≢ Some r.root.0
 
 -- a partition's children are regions of its root, and share no point where its flag says so
 pub record IsPartition (x : World) (sp : Option ℕ) (d : Bool) (q : PartitionValue) : Type 0 where
@@ -99,7 +127,7 @@ pub record IsPartition (x : World) (sp : Option ℕ) (d : Bool) (q : PartitionVa
   pub space : OfSpace sp (x.spaces q.root.0)
   pub count : length q.children ≤ 4194304
   pub regions : (r : RegionValue) → Among q.children r →
-      (r.root.0 ≡ q.root.0) × IsRegion x sp false r
+      (r.root.0 ≡ q.root.0) × IsRegion x sp unknown r
 
 -- ---- values
 
@@ -108,10 +136,8 @@ pub data Is (x : World) : Shape → Value → Type 0 where
   is_anything : (v : Value) → Is x anything v
   is_number : (s : Shape) (z : ℤ) → NumberIs s z → Is x s (value.Number z)
   is_space : (n : ℕ) → n ≤ 4194304 → Is x space (value.Space n)
-  is_region : (sp : Option ℕ) (made : Bool) (r : RegionValue) → IsRegion x sp made r →
-      Is x (region sp made) (value.Region r)
-  is_given : (sp : Option ℕ) (i : ℕ) (r : RegionValue) → IsRegion x sp false r → region_in (slice_get x.args i) ≡ Some r →
-      Is x (given sp i) (value.Region r)
+  is_region : (sp : Option ℕ) (o : Origin) (r : RegionValue) → IsRegion x sp o r →
+      Is x (region sp o) (value.Region r)
   is_partition : (sp : Option ℕ) (d : Bool) (q : PartitionValue) → IsPartition x sp d q →
       Is x (partition sp d) (value.Partition q)
   is_pending : (s : Shape) (i : ℕ) → i < x.children →

@@ -1,5 +1,5 @@
 -- Sound code: what each instruction makes of the mark at its place.
-use Rattle.std.specs.Prelude.{◌≡◌, ℕ, suc, ℤ, pos, ◌+ℤ◌, int_lt, ◌<◌, ◌≤◌, ◌^◌, List, [], ◌∷◌, Bool, true, false, ◌||◌, Option, Some, slice_get, slice_set, length}
+use Rattle.std.specs.Prelude.{◌≡◌, ◌≢◌, ℕ, suc, ℤ, pos, ◌+ℤ◌, int_lt, ◌<◌, ◌≤◌, ◌^◌, List, [], ◌∷◌, Bool, true, false, ◌||◌, Option, Some, slice_get, slice_set, length}
 use Rattle.lane_kernels.specs.declared.numbers.Mode.{Mode}
 use Rattle.lane_kernels.specs.declared.numbers.Mode.TheVariants as mode
 use Rattle.lane_kernels.specs.declared.numbers.Op.{Op}
@@ -23,7 +23,7 @@ use Rattle.machine_terms.specs.Jumps.{may_jump, fetch, taken, point_at}
 use Rattle.machine_terms.specs.Opening.{opening}
 use Rattle.machine_terms.specs.Pointers.{region_in}
 use Rattle.code_rules.specs.Instructions.{computing, comparing}
-use Rattle.fit_rules.specs.Shapes.{Among, Each, Shape, integer, truth, index, pointer, space, region, given, partition, awaited, Numeric, NumberIs, World, Are}
+use Rattle.fit_rules.specs.Shapes.{Among, Each, Shape, integer, truth, index, pointer, space, region, partition, awaited, Numeric, NumberIs, Origin, own_as, unknown, World, KnowsRoots, Are}
 use Rattle.fit_rules.specs.Marks.{counts, lies, in_slot, the_colour, colour_in, Colour, child_in, top_colour, top_lies, top_parted, parted, Mark, Suits, Into, Stores, ColoursStand, stacked, topped}
 use Rattle.fit_rules.specs.Fits.{Program, kind_at, shape_at, Covers, declared_claims, claims}
 use Rattle.fit_rules.specs.Ends.{IsNeeded, called}
@@ -32,9 +32,13 @@ use Rattle.fit_rules.specs.Ends.{IsNeeded, called}
 pub data Settled : Shape → Type 0 where
   settled_number : (s : Shape) → Numeric s → Settled s
   settled_space : Settled space
-  settled_region : (sp : Option ℕ) (made : Bool) → Settled (region sp made)
-  settled_given : (sp : Option ℕ) (i : ℕ) → Settled (given sp i)
+  settled_region : (sp : Option ℕ) (o : Origin) → Settled (region sp o)
   settled_partition : (sp : Option ℕ) (d : Bool) → Settled (partition sp d)
+
+-- what has a shape isn't known to be the root that the task made last under a number
+abbrev pub IsOther : ℕ → Shape → Type 0
+IsOther i (region sp (own_as j)) = i ≢ j
+IsOther i s = Unit {0}
 
 -- so many values are taken from a stack, the lowest first, before those that were taken
 pub data Takes : ℕ → List Shape → List Shape → List Shape → List Shape → Type 0 where
@@ -44,8 +48,8 @@ pub data Takes : ℕ → List Shape → List Shape → List Shape → List Shape
 
 -- a region is in a slot, and a partition
 pub record HasRegion (m : Mark) (sp : Option ℕ) (s : ℕ) : Type 0 where
-  pub made : Bool
-  pub shape : slice_get m.slots s ≡ Some (region sp made)
+  pub origin : Origin
+  pub shape : slice_get m.slots s ≡ Some (region sp origin)
 
 pub record HasPartition (m : Mark) (sp : Option ℕ) (s : ℕ) : Type 0 where
   pub disjoint : Bool
@@ -55,8 +59,8 @@ module _ (g : Program) (t : TaskCode) where
   -- An access to a field through the region in a slot is allowed at a mark: it is a region of the
   -- field space, and the task may touch the field at each of its points.
   pub record Allowed (m : Mark) (sp f : ℕ) (a : Mode) (s : ℕ) : Type 0 where
-    pub made : Bool
-    pub shape : slice_get m.slots s ≡ Some (region (Some sp) made)
+    pub origin : Origin
+    pub shape : slice_get m.slots s ≡ Some (region (Some sp) origin)
     pub covers : (x : World) (vs st : List Value) → Suits x t.params m vs st → (r : RegionValue) →
         region_in (slice_get vs s) ≡ Some r → (p : ℕ) → has r.points p ≡ true →
         Covers g x t r.root.0 f p a
@@ -72,9 +76,6 @@ module _ (g : Program) (t : TaskCode) where
         Effect m (instr.Num z) ss (s ∷ ss)
     does_load : (i : ℕ) (s : Shape) (ss : List Shape) → slice_get m.slots i ≡ Some s → Settled s →
         Effect m (instr.Load i) ss (s ∷ ss)
-    -- a region in the slot of a parameter is known to be the argument
-    does_hand : (i : ℕ) (sp : Option ℕ) (made : Bool) (ss : List Shape) → i < t.params →
-        slice_get m.slots i ≡ Some (region sp made) → Effect m (instr.Load i) ss (given sp i ∷ ss)
     does_drop : (s : Shape) (ss : List Shape) → Effect m instr.Drop (s ∷ ss) ss
     does_compute : (o : Arithmetic) (w : Width) (a b : Shape) (ss : List Shape) → Numeric a →
         Numeric b → Effect m (computing o w) (b ∷ a ∷ ss) (integer w ∷ ss)
@@ -121,7 +122,7 @@ module _ (g : Program) (t : TaskCode) where
     does_colors : (i : ℕ) (sp : Option ℕ) (ss : List Shape) → HasPartition m sp i →
         Effect m (instr.Colors i) ss (space ∷ ss)
     does_child : (i : ℕ) (sp : Option ℕ) (a : Shape) (ss : List Shape) → HasPartition m sp i →
-        Numeric a → Effect m (instr.Child i) (a ∷ ss) (region sp false ∷ ss)
+        Numeric a → Effect m (instr.Child i) (a ∷ ss) (region sp unknown ∷ ss)
     does_print : (ps : List PrintPart) (ss args rest : List Shape) →
         Takes (count_numbers ps) ss [] args rest → Each Numeric args →
         length args ≡ count_numbers ps → Effect m (instr.Print ps) ss rest
@@ -143,7 +144,7 @@ module _ (g : Program) (t : TaskCode) where
   -- What a call needs to know: with arguments of these shapes the slots of the called task's opening
   -- frame suit its first mark, its declared needs are on regions, and what it needs is within what the caller needs.
   abbrev pub Opens : Mark → ℕ → TaskCode → List Shape → Type 0
-  Opens m task callee args = (x : World) (vs st ws : List Value) → Suits x t.params m vs st →
+  Opens m task callee args = (x : World) (vs st ws : List Value) → KnowsRoots x → Suits x t.params m vs st →
       Are x args ws →
       Suits (called x ws) callee.params (g.marks task 0) (opening 0 0 task callee ws).slots []
       × Each (IsNeeded g x ws) callee.needs × IsWithin (declared_claims callee.needs ws) (claims g x t)
@@ -175,7 +176,7 @@ module _ (g : Program) (t : TaskCode) where
       takes_child : (i : ℕ) (sp : Option ℕ) (a : Shape) (ss : List Shape) (c : Colour) →
           (g.marks k pc).stack ≡ a ∷ ss → Numeric a → HasPartition (g.marks k pc) sp i →
           Among (g.marks k pc).top (top_colour c) →
-          To (topped (g.marks k pc) (region sp false ∷ ss) (top_lies (child_in i c))) (suc pc) →
+          To (topped (g.marks k pc) (region sp unknown ∷ ss) (top_lies (child_in i c))) (suc pc) →
           Sound pc (instr.Child i)
       -- the slot may hold a child that is pending
       awaits : (i : ℕ) (s : Shape) → slice_get (g.marks k pc).slots i ≡ Some (awaited s) → Numeric s →
@@ -203,9 +204,10 @@ module _ (g : Program) (t : TaskCode) where
           v < length (g.marks k pc).slots → pc < to → To (at_rest pc) to → suc pc < length t.body →
           RoundPoint s c v ptr (g.marks k pc) (g.marks k (suc pc)) →
           Sound pc (instr.NextPoint s c v ptr to)
-      makes_root : (sp : ℕ) (c : SpaceCode) (ss : List Shape) → (g.marks k pc).stack ≡ space ∷ ss →
-          slice_get g.code.spaces sp ≡ Some c → length c.fields ≤ 256 →
-          To (stacked (g.marks k pc) (region (Some sp) true ∷ ss)) (suc pc) →
+      -- a root is made under a number, of which nothing else is known to be
+      makes_root : (sp i : ℕ) (c : SpaceCode) (ss : List Shape) → (g.marks k pc).stack ≡ space ∷ ss →
+          slice_get g.code.spaces sp ≡ Some c → length c.fields ≤ 256 → Each (IsOther i) (g.marks k pc).slots →
+          Each (IsOther i) ss → To (stacked (g.marks k pc) (region (Some sp) (own_as i) ∷ ss)) (suc pc) →
           Sound pc (instr.NewRoot sp)
       -- the partition that is made lies within the region in a slot
       makes_equal : (s : ℕ) (sp : Option ℕ) (ss : List Shape) → (g.marks k pc).stack ≡ space ∷ ss →
