@@ -24,7 +24,7 @@ use Rattle.machine_terms.specs.declared.value.Value.{Value}
 use Rattle.machine_terms.specs.Machine.{Machine, when, broken}
 use Rattle.machine_terms.specs.Parts.{is_part_of, Cell, Found, refused, missing, found, found_cell, found_in, find, cell_at, part_of, set_part, is_needed}
 use Rattle.machine_terms.specs.Pointers.{Aimed, aims, fails, aim, aim_in, aim_if, slot_at, region_slot, region_in, read_in, read_cell, read_at, read, written, set_found, set_cell, set_at, set, same_width}
-use Rattle.fit_rules.specs.Shapes.{Each, Shape, integer, pointer, region, Numeric, numeric_pointer, NumberIs, World, position_of, IsRegion, Is, is_number, is_region, Are}
+use Rattle.fit_rules.specs.Shapes.{Each, Shape, integer, pointer, region, Numeric, numeric_pointer, NumberIs, World, position_of, IsRegion, Is, is_number, is_region, Are, Origin}
 use Rattle.fit_rules.specs.Marks.{stacked}
 use Rattle.fit_rules.specs.Fits.{Program, kind_at, shape_at, claims, Covers, CellNumber, CellFits, PartFits, PartsFit, Fits}
 use Rattle.fit_rules.specs.Sound.{Allowed, Through, To}
@@ -126,18 +126,18 @@ module _ (g : Program) (x : World) (t : TaskCode) (k : ℕ) (m : Machine) (fit :
         AimedWell sp f a (aims root p)
     fails_well : (y : FaultKind) → AimedWell sp f a (fails y)
 
-  pub record RegionAt (sp : Option ℕ) (made : Bool) (s : ℕ) : Type 0 where
+  pub record RegionAt (sp : Option ℕ) (o : Origin) (s : ℕ) : Type 0 where
     pub region_there : RegionValue
     pub there : region_slot m s ≡ Some region_there
-    pub is_region_there : IsRegion x sp made region_there
+    pub is_region_there : IsRegion x sp o region_there
 
-  pub region_at : (sp : Option ℕ) (made : Bool) (s : ℕ) →
-      slice_get (g.marks k m.frame.pc).slots s ≡ Some (region sp made) → RegionAt sp made s
-  region_at sp made s e =
+  pub region_at : (sp : Option ℕ) (o : Origin) (s : ℕ) →
+      slice_get (g.marks k m.frame.pc).slots s ≡ Some (region sp o) → RegionAt sp o s
+  region_at sp o s e =
       let v = value_at x _ _ s _ fit.suits.slots e in of_value v.value v.at v.of
     where
-      of_value : (v : Value) → slice_get m.frame.slots s ≡ Some v → Is x (region sp made) v →
-          RegionAt sp made s
+      of_value : (v : Value) → slice_get m.frame.slots s ≡ Some v → Is x (region sp o) v →
+          RegionAt sp o s
       of_value _ e (is_region _ _ r i) = record { region_there = r; there = ap region_in e; is_region_there = i }
       of_value _ e (is_number _ z h) = absurd h
 
@@ -155,7 +155,7 @@ module _ (g : Program) (x : World) (t : TaskCode) (k : ℕ) (m : Machine) (fit :
   aim_held : (sp f : ℕ) (a : Mode) (s p : ℕ) → Allowed g t (g.marks k m.frame.pc) sp f a s →
       AimedWell sp f a (aim_in (region_slot m s) p)
   aim_held sp f a s p h =
-      let r = region_at (Some sp) h.made s h.shape in
+      let r = region_at (Some sp) h.origin s h.shape in
       subst (λ o. AimedWell sp f a (aim_in o p)) (sym r.there)
       (of_test (has r.region_there.points p) r.region_there r.is_region_there.space
       (λ e. h.covers x _ _ fit.suits r.region_there r.there p e) refl)

@@ -17,19 +17,26 @@ use Rattle.machine_terms.specs.Machine.{Machine, Stepped, stops, when, with_turn
 use Rattle.machine_terms.specs.Pointers.{region_in}
 use Rattle.machine_terms.specs.Calls.{take_values, yield_call, calling, call_task, call}
 use Rattle.machine_terms.specs.Opening.{with_points, need_on, needs_on, opening}
-use Rattle.fit_rules.specs.Shapes.{Shape, awaited, NumberIs, World, IsRegion, Is, is_anything, is_number, is_space, is_region, is_given, is_partition, is_pending, Are, are_none, are_more}
+use Rattle.fit_rules.specs.Shapes.{Shape, awaited, NumberIs, World, IsRegion, Is, is_anything, is_number, is_space, is_region, is_partition, is_pending, Are, are_none, are_more, Origin, unknown, Each, ComesFrom, argument, own_root, own_as}
 use Rattle.fit_rules.specs.Marks.{Suits, stacked}
 use Rattle.fit_rules.specs.Fits.{Program, requires, claim_on, declared_claims, root_claims, own_claims, claims, AreClaims, no_claims, a_claim, PartsFit, Fits}
-use Rattle.fit_rules.specs.Sound.{Takes, Opens, To}
+use Rattle.fit_rules.specs.Sound.{Takes, Opens, To, Settled}
 use Rattle.fit_rules.specs.Ends.{grown, called, opening_machine, without_parts, Safe, safe_stops}
-use Rattle.fit_laws.proofs.Taking.{takes_values}
+use Rattle.fit_laws.proofs.Taking.{takes_values, takes_settled, all_there}
 use Rattle.fit_laws.proofs.Straight.{turned}
 
 -- ---- one more child
 
 module _ (x : World) (s : Shape) where
-  region_grown : (sp : Option ℕ) (made : Bool) (r : RegionValue) → IsRegion x sp made r → IsRegion (grown x s) sp made r
-  region_grown sp made r i = record { there = i.there; space = i.space; points = i.points; set = i.set; whole = i.whole }
+  origin_grown : (o : Origin) (r : RegionValue) → ComesFrom x o r → ComesFrom (grown x s) o r
+  origin_grown unknown r c = c
+  origin_grown (argument i) r c = c
+  origin_grown own_root r c = c
+  origin_grown (own_as i) r c = c
+
+  region_grown : (sp : Option ℕ) (o : Origin) (r : RegionValue) → IsRegion x sp o r → IsRegion (grown x s) sp o r
+  region_grown sp o r i =
+      record { there = i.there; space = i.space; points = i.points; set = i.set; origin = origin_grown o r i.origin }
 
   other_child : (i : ℕ) → i < x.children → i == x.children ≡ false
   other_child i l = ne_eqb i x.children (λ e. omega (arith, e, l))
@@ -38,15 +45,14 @@ module _ (x : World) (s : Shape) where
   value_grown _ _ (is_anything v) = is_anything v
   value_grown _ _ (is_number u z h) = is_number u z h
   value_grown _ _ (is_space n h) = is_space n h
-  value_grown _ _ (is_region sp made r i) = is_region sp made r (region_grown sp made r i)
-  value_grown _ _ (is_given sp i r q e) = is_given sp i r (region_grown sp false r q) e
+  value_grown _ _ (is_region sp o r i) = is_region sp o r (region_grown sp o r i)
   value_grown _ _ (is_partition sp d q i) = is_partition sp d q (record {
     flag = i.flag;
     apart = i.apart;
     there = i.there;
     space = i.space;
     count = i.count;
-    regions = λ r h. ((i.regions r h).0, region_grown sp false r (i.regions r h).1);
+    regions = λ r h. ((i.regions r h).0, region_grown sp unknown r (i.regions r h).1);
   })
   value_grown _ _ (is_pending u i l h) = is_pending u i (omega (arith, l))
       (λ z q. h z (subst (λ b. NumberIs (cond b s (x.results i)) z) (other_child i l) q))
@@ -90,9 +96,10 @@ no_parts : (g : Program) (x : World) (t : TaskCode) → PartsFit g x t []
 no_parts g x t root f q e = absurd (none-some q e)
 
 pub opening_fits : (g : Program) (x : World) (k : ℕ) (t : TaskCode) (vs : List Value) (turns depth : ℕ) → turns < 2 ^ 64 →
-    0 < length t.body → Suits (called x vs) t.params (g.marks k 0) (opening 0 0 k t vs).slots [] →
+    0 < length t.body → ((i : ℕ) (r : RegionValue) → region_in (slice_get vs i) ≡ Some r → x.there r.root.0 ≡ true) →
+    Suits (called x vs) t.params (g.marks k 0) (opening 0 0 k t vs).slots [] →
     Fits g (called x vs) t k (opening_machine turns depth k t vs)
-opening_fits g x k t vs turns depth h l s = record {
+opening_fits g x k t vs turns depth h l there s = record {
   inside = l;
   suits = s;
   beside = record {
@@ -102,7 +109,13 @@ opening_fits g x k t vs turns depth h l s = record {
     children = refl;
     calls = omega (arith, h);
     own = refl;
-    own_there = λ r h. absurd h;
+    roots = record {
+      own_there = λ r h. absurd h;
+      args_there = there;
+      last_own = λ i r e. absurd (none-some r e);
+      one_number = λ i j r e f. absurd (none-some r e);
+      args_other = λ i j r e f. none-some r.root.0 f;
+    };
   };
 }
 
@@ -136,7 +149,13 @@ module _ (g : Program) (x : World) (t : TaskCode) (k : ℕ) (m : Machine) (fit :
       children = ap suc fit.beside.children;
       calls = omega (arith, e, fit.beside.calls);
       own = fit.beside.own;
-      own_there = fit.beside.own_there;
+      roots = record {
+        own_there = fit.beside.roots.own_there;
+        args_there = fit.beside.roots.args_there;
+        last_own = fit.beside.roots.last_own;
+        one_number = fit.beside.roots.one_number;
+        args_other = fit.beside.roots.args_other;
+      };
     };
   }
 
@@ -144,9 +163,9 @@ module _ (g : Program) (x : World) (t : TaskCode) (k : ℕ) (m : Machine) (fit :
       slice_get g.code.tasks task ≡ Some callee → 0 < length callee.body →
       Opens g t (g.marks k m.frame.pc) task callee args → suc p ≡ m.frame.turns →
       To g t k (stacked (g.marks k m.frame.pc) (awaited (g.results task) ∷ rest)) (suc m.frame.pc) →
-      Are x args ws → Are x rest st → Safe g x t k (yield_call task ws st (with_turns p m))
-  issued task line p callee args rest ws st short there some o e to aw ar =
-      let opens = o x m.frame.slots m.frame.stack ws fit.suits aw in
+      Each Settled args → Are x args ws → Are x rest st → Safe g x t k (yield_call task ws st (with_turns p m))
+  issued task line p callee args rest ws st short there some o e to settled aw ar =
+      let opens = o x m.frame.slots m.frame.stack ws fit.beside.roots fit.suits aw in
       subst (λ b. Safe g x t k (when b (when (nat_lt (suc m.frame.pc) (2 ^ 32)) (stops y next) (broken next)) (broken (with_turns p m))))
       (sym (lt-ltb (suc m.frame.children) (2 ^ 64) (omega (arith, e, fit.beside.calls))))
       (subst (λ b. Safe g x t k (when b (stops y next) (broken next)))
@@ -158,7 +177,7 @@ module _ (g : Program) (x : World) (t : TaskCode) (k : ℕ) (m : Machine) (fit :
             record {
               callee = callee;
               there = there;
-              opens = λ turns depth h. opening_fits g x task callee ws turns depth h some opens.0;
+              opens = λ turns depth h. opening_fits g x task callee ws turns depth h some (all_there x args ws settled aw) opens.0;
               needed = opens.1;
               within = opens.2;
             },
@@ -193,7 +212,7 @@ module _ (g : Program) (x : World) (t : TaskCode) (k : ℕ) (m : Machine) (fit :
       (sym (eq-eqb callee.params n ep))
       (subst (λ z. Safe g x t k (calling task line z m)) (sym w.is)
       (turned g x t k m fit m.frame.turns line _ refl (λ p e. deep (nat_lt m.frame.depth 64) p
-      (issued task line p callee args rest w.values w.below short there some o e to w.args_are w.rest_are)))))
+      (issued task line p callee args rest w.values w.below short there some o e to (takes_settled n _ [] args rest tk tt) w.args_are w.rest_are)))))
     where
       deep : (b : Bool) (p : ℕ) → {a : Stepped} → Safe g x t k a → Safe g x t k (when b a (faults Depth line (with_turns p m)))
       deep true p h = h

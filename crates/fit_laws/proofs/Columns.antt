@@ -34,7 +34,7 @@ use Rattle.fit_laws.proofs.Making.{Parted, Makes, all_within, sets_long, partiti
 module _ (g : Program) (x : World) (t : TaskCode) (k : ℕ) (m : Machine) (fit : Fits g x t k m) where
   allowed_region : (sp f s : ℕ) → Allowed g t (g.marks k m.frame.pc) sp f mode.Read s →
       HasRegion (g.marks k m.frame.pc) (Some sp) s
-  allowed_region sp f s h = record { made = h.made; shape = h.shape }
+  allowed_region sp f s h = record { origin = h.origin; shape = h.shape }
 
   -- numbers that are read
   pub record NumbersIn (q : Part) (xs : List ℕ) : Type 0 where

@@ -19,10 +19,10 @@ use Rattle.machine_terms.specs.Numbers.{load, discard, arithmetic, comparison}
 use Rattle.machine_terms.specs.Pointers.{are_same, region_in}
 use Rattle.machine_terms.specs.Segments.{act}
 use Rattle.code_rules.specs.Instructions.{computing, comparing}
-use Rattle.fit_rules.specs.Shapes.{Shape, integer, truth, pointer, region, given, numeric_pointer, World, Is, is_given, is_number, is_region, Are, are_more}
+use Rattle.fit_rules.specs.Shapes.{Shape, integer, truth, pointer, region, numeric_pointer, World, Is, is_number, is_region, Are, are_more}
 use Rattle.fit_rules.specs.Marks.{stacked}
 use Rattle.fit_rules.specs.Fits.{Program, Fits}
-use Rattle.fit_rules.specs.Sound.{Settled, settled_given, Effect, does_num, does_load, does_hand, does_drop, does_compute, does_compare, does_pointers_equal, does_pointers_differ, does_negate, does_wrap, does_invert, does_point, does_is_null, does_assert, does_move, does_element, does_read, does_write, does_reduce, does_fill, does_cast, does_cast_pointer, does_space, does_colors, does_child, does_print, To}
+use Rattle.fit_rules.specs.Sound.{Settled, Effect, does_num, does_load, does_drop, does_compute, does_compare, does_pointers_equal, does_pointers_differ, does_negate, does_wrap, does_invert, does_point, does_is_null, does_assert, does_move, does_element, does_read, does_write, does_reduce, does_fill, does_cast, does_cast_pointer, does_space, does_colors, does_child, does_print, To}
 use Rattle.fit_rules.specs.Ends.{Safe, safe_stops}
 use Rattle.fit_laws.proofs.Lookup.{any_region, value_at}
 use Rattle.fit_laws.proofs.Numbers.{wrapped_fits, truth_is}
@@ -47,21 +47,6 @@ module _ (g : Program) (x : World) (t : TaskCode) (k : ℕ) (m : Machine) (fit :
       let v = value_at x _ _ i s fit.suits.slots e in
       subst (λ o. Safe g x t k (load m o)) (sym v.at) (loads g x t k m fit s ss v.value l to v.of a)
 
-  -- the region of a parameter is that of the argument
-  hand_safe : (ss : List Shape) (i : ℕ) (sp : Option ℕ) (made : Bool) → i < t.params →
-      slice_get (g.marks k m.frame.pc).slots i ≡ Some (region sp made) →
-      To g t k (stacked (g.marks k m.frame.pc) (given sp i ∷ ss)) (suc m.frame.pc) → Are x ss m.frame.stack →
-      Safe g x t k (load m (slice_get m.frame.slots i))
-  hand_safe ss i sp made l e to a =
-      let v = value_at x _ _ i (region sp made) fit.suits.slots e in
-      subst (λ o. Safe g x t k (load m o)) (sym v.at)
-      (loads g x t k m fit (given sp i) ss v.value (settled_given sp i) to
-      (handed v.value v.of (sym (fit.suits.args i l) ∙ ap region_in v.at)) a)
-    where
-      handed : (v : Value) → Is x (region sp made) v → region_in (slice_get x.args i) ≡ region_in (Some v) → Is x (given sp i) v
-      handed _ (is_region _ _ r q) e = is_given sp i r (any_region x sp made r q) e
-      handed _ (is_number _ z h) e = absurd h
-
   computes : (body : List Line) (o : Arithmetic) (w : Width) (line : ℕ) → Safe g x t k (arithmetic o w line m) →
       Safe g x t k (act g.code body (computing o w) line m)
   computes body operator.Add w line h = h
@@ -85,7 +70,6 @@ module _ (g : Program) (x : World) (t : TaskCode) (k : ℕ) (m : Machine) (fit :
       Safe g x t k (act g.code body i line m)
   effect_safe body _ _ _ line (does_num z s ss h) to a = pushed g x t k m fit s ss z _ to h a
   effect_safe body _ _ _ line (does_load i s ss e l) to a = load_safe ss i s l e to a
-  effect_safe body _ _ _ line (does_hand i sp made ss l e) to a = hand_safe ss i sp made l e to a
   effect_safe body _ _ _ line (does_drop s ss) to a = dropped _ a
     where
       dropped : (st : List Value) → Are x (s ∷ ss) st → Safe g x t k (discard st m)

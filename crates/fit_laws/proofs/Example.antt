@@ -12,7 +12,7 @@ use Rattle.task_code.specs.declared.code.Line.{Line}
 use Rattle.task_code.specs.declared.instr.Instr.{Instr}
 use Rattle.machine_terms.specs.Jumps.{fetch}
 use Rattle.fit_rules.specs.Example.{program, task, body, known, mark, marks, later}
-use Rattle.fit_rules.specs.Shapes.{Each, Shape, anything, integer, index, pointer, region, numeric_integer, numeric_index, numeric_pointer}
+use Rattle.fit_rules.specs.Shapes.{Each, Shape, anything, integer, index, pointer, region, numeric_integer, numeric_index, numeric_pointer, argument, own_as}
 use Rattle.fit_rules.specs.Marks.{Mark, Stores}
 use Rattle.fit_rules.specs.Sound.{Through, settled_number, does_num, does_load, does_compute, does_element, does_read, does_write, does_space, Sound, straight, stored, makes_root, returns}
 use Rattle.fit_laws.specs.Example.{ExampleIsSound, ExampleEnds}
@@ -87,7 +87,7 @@ writes_there m = record {
 }
 
 through : (m : List Shape) (a : Mode) → Under task (later m) 1 0 a → Through program task (later m) 0 0 a 1 (1 ∷ [])
-through m a u = (omega arith, (allowed_under program task (later m) 0 0 1 a false refl u, tt))
+through m a u = (omega arith, (allowed_under program task (later m) 0 0 1 a (argument 1) refl u, tt))
 
 -- ---- the code
 
@@ -100,15 +100,15 @@ example_is_sound = record {
     (
       straight _ _ (does_space index [] numeric_index) (omega arith, λ x vs st s. s),
       (
-        makes_root 0 _ [] refl refl (omega arith) (omega arith, λ x vs st s. s),
+        makes_root 0 3 _ [] refl refl (omega arith) (tt, (tt, (tt, (tt, (tt, tt))))) tt (omega arith, λ x vs st s. s),
         (
-          stored 3 _ [] refl (omega arith) (omega arith, stores_fourth anything (region (Some 0) true)),
+          stored 3 _ [] refl (omega arith) (omega arith, stores_fourth anything (region (Some 0) (own_as 3))),
           (
             straight _ _ (does_num (pos 1) index [] (omega (arith, ints))) (omega arith, λ x vs st s. s),
             (
-              straight _ _ (does_element 1 (Some 0) index [] (record { made = false; shape = refl }) numeric_index) (omega arith, λ x vs st s. s),
+              straight _ _ (does_element 1 (Some 0) index [] (record { origin = argument 1; shape = refl }) numeric_index) (omega arith, λ x vs st s. s),
               (
-                stored 4 _ [] refl (omega arith) (omega arith, stores_fifth (region (Some 0) true) (pointer 1)),
+                stored 4 _ [] refl (omega arith) (omega arith, stores_fifth (region (Some 0) (own_as 3)) (pointer 1)),
                 (
                   straight _ _ (does_load 4 (pointer 1) [] refl (settled_number _ (numeric_pointer 1))) (omega arith, λ x vs st s. s),
                   (

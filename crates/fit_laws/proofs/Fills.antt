@@ -83,7 +83,7 @@ module _ (g : Program) (x : World) (t : TaskCode) (k : ℕ) (m : Machine) (fit :
       To g t k (stacked (g.marks k m.frame.pc) ss) (suc m.frame.pc) → Are x (shape_at g sp f ∷ ss) m.frame.stack →
       Safe g x t k (fill s f (width_of (kind_at g sp f)) m)
   fill_safe s f sp ss h to a =
-      let r = region_at g x t k m fit (Some sp) h.made s h.shape in
+      let r = region_at g x t k m fit (Some sp) h.origin s h.shape in
       let same : x.spaces r.region_there.root.0 ≡ sp = r.is_region_there.space in
       subst (λ o. Safe g x t k (with_region o m (λ q. on_number m.frame.stack m (λ z st.
       fill_points q.root.0 f (width_of (kind_at g sp f)) z q.points st m)))) (sym r.there)

@@ -5,7 +5,7 @@ use Rattle.std.proofs.lemmas.Option.{none-some, same_Some}
 use Rattle.std.specs.Prelude.{slice_get, slice_set, length}
 use Rattle.machine_terms.specs.declared.value.RegionValue.{RegionValue}
 use Rattle.machine_terms.specs.declared.value.Value.{Value}
-use Rattle.fit_rules.specs.Shapes.{Among, Each, Shape, World, Is, IsRegion, Are, are_none, are_more}
+use Rattle.fit_rules.specs.Shapes.{Among, Each, Shape, World, Is, IsRegion, Are, are_none, are_more, Origin, unknown, ComesFrom, IsWhole, own_as, argument, own_root}
 
 -- each of some holds of one of them
 pub each_among : {A : Type 0} (P : A → Type 0) (xs : List A) (a : A) → Among xs a → Each P xs → P a
@@ -13,10 +13,21 @@ each_among P [] a h e = absurd h
 each_among P (x ∷ xs) a (inl q) e = subst P q e.0
 each_among P (x ∷ xs) a (inr h) e = each_among P xs a h e.1
 
--- a region is one, whether the task made it or not
-pub any_region : (x : World) (sp : Option ℕ) (made : Bool) (r : RegionValue) → IsRegion x sp made r → IsRegion x sp false r
-any_region x sp made r i =
-    record { there = i.there; space = i.space; set = i.set; points = i.points; whole = λ e. absurd (false≢true e) }
+-- a region is one, wherever it comes from
+pub any_region : (x : World) (sp : Option ℕ) (o : Origin) (r : RegionValue) → IsRegion x sp o r → IsRegion x sp unknown r
+any_region x sp o r i = record { there = i.there; space = i.space; set = i.set; points = i.points; origin = tt }
+
+-- what the task made, under a number or not, is a whole root of its own
+abbrev pub IsOwn : Origin → Type 0
+IsOwn own_root = Unit {0}
+IsOwn (own_as i) = Unit {0}
+IsOwn o = ⊥
+
+pub whole_of : (x : World) (o : Origin) (r : RegionValue) → IsOwn o → ComesFrom x o r → IsWhole x r
+whole_of x own_root r h c = c
+whole_of x (own_as i) r h c = c.0
+whole_of x unknown r h c = absurd h
+whole_of x (argument i) r h c = absurd h
 
 pub record Found (x : World) (s : Shape) (vs : List Value) (i : ℕ) : Type 0 where
   pub value : Value

@@ -25,7 +25,7 @@ use Rattle.machine_terms.specs.declared.value.Value.TheVariants as value
 use Rattle.machine_terms.specs.Machine.{Machine, Stepped, stops, when, at, faults, broken}
 use Rattle.machine_terms.specs.Pointers.{region_slot}
 use Rattle.machine_terms.specs.Regions.{partition_slot, sets_of, with_region, with_partition, on_region, on_partition, on_space, on_colours, partition as makes, equal, meet, join, minus}
-use Rattle.fit_rules.specs.Shapes.{Among, OfSpace, Shape, space, partition, World, IsRegion, IsPartition, is_number, is_space, is_partition, Are, are_more}
+use Rattle.fit_rules.specs.Shapes.{Among, OfSpace, Shape, space, partition, World, IsRegion, IsPartition, is_number, is_space, is_partition, Are, are_more, Origin}
 use Rattle.fit_rules.specs.Marks.{LiesIn, parted, Holds, top_parted, topped}
 use Rattle.fit_rules.specs.Fits.{Program, Fits}
 use Rattle.fit_rules.specs.Sound.{HasRegion, HasPartition, To}
@@ -85,7 +85,7 @@ sets_long q = length-map q.children (λ (y : RegionValue). y.points)
 
 module _ (g : Program) (x : World) (t : TaskCode) (k : ℕ) (m : Machine) (fit : Fits g x t k m) where
   -- the partition that was made of such sets fits
-  made_fits : (s : ℕ) (sp : Option ℕ) (d flag : Bool) (c : Bool) (r : RegionValue) (sets : List (List ℕ)) (ss : List Shape)
+  made_fits : (s : ℕ) (sp : Option ℕ) (d flag : Bool) (c : Origin) (r : RegionValue) (sets : List (List ℕ)) (ss : List Shape)
       (st : List Value) → region_slot m s ≡ Some r → IsRegion x sp c r → (d ≡ true → flag ≡ true) →
       SetsFit r.points flag sets → To g t k (topped (g.marks k m.frame.pc) (partition sp d ∷ ss) (top_parted s)) (suc m.frame.pc) →
       Are x ss st → (q : PartitionValue) → IsMadeOf r.root.0 flag sets q →
@@ -110,7 +110,7 @@ module _ (g : Program) (x : World) (t : TaskCode) (k : ℕ) (m : Machine) (fit :
             space = space_same sp y.root.0 r.root.0 (h.roots y l) ir.space;
             set = part_points 4194304 r.points y.points ir.set (part y l);
             points = λ p e. subst (λ u. has (x.points u) p ≡ true) (sym (h.roots y l)) (ir.points p (inside y l p e));
-            whole = λ e. absurd (false≢true e);
+            origin = tt;
           },
         );
       })) a)
@@ -121,7 +121,7 @@ module _ (g : Program) (x : World) (t : TaskCode) (k : ℕ) (m : Machine) (fit :
       space_same None a b e h = tt
       space_same (Some n) a b e h = ap x.spaces e ∙ h
 
-  pub partition_safe : length t.body ≤ 2 ^ 32 → (s : ℕ) (sp : Option ℕ) (d flag : Bool) (c : Bool) (r : RegionValue)
+  pub partition_safe : length t.body ≤ 2 ^ 32 → (s : ℕ) (sp : Option ℕ) (d flag : Bool) (c : Origin) (r : RegionValue)
       (sets : List (List ℕ)) (ss : List Shape) (st : List Value) → region_slot m s ≡ Some r → IsRegion x sp c r →
       (d ≡ true → flag ≡ true) → SetsFit r.points flag sets →
       To g t k (topped (g.marks k m.frame.pc) (partition sp d ∷ ss) (top_parted s)) (suc m.frame.pc) →
@@ -135,11 +135,11 @@ module _ (g : Program) (x : World) (t : TaskCode) (k : ℕ) (m : Machine) (fit :
 
   pub on_region_safe : (sp : Option ℕ) (s : ℕ) (more : RegionValue → Stepped) →
       HasRegion (g.marks k m.frame.pc) sp s →
-      ((made : Bool) (r : RegionValue) → region_slot m s ≡ Some r → IsRegion x sp made r → Safe g x t k (more r)) →
+      ((o : Origin) (r : RegionValue) → region_slot m s ≡ Some r → IsRegion x sp o r → Safe g x t k (more r)) →
       Safe g x t k (on_region m s more)
   on_region_safe sp s more h f =
-      let w = region_at g x t k m fit sp h.made s h.shape in
-      subst (λ o. Safe g x t k (with_region o m more)) (sym w.there) (f h.made w.region_there w.there w.is_region_there)
+      let w = region_at g x t k m fit sp h.origin s h.shape in
+      subst (λ o. Safe g x t k (with_region o m more)) (sym w.there) (f h.origin w.region_there w.there w.is_region_there)
 
   pub on_partition_safe : (sp : Option ℕ) (p : ℕ) (more : PartitionValue → Stepped) →
       (h : HasPartition (g.marks k m.frame.pc) sp p) →

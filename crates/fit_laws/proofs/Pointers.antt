@@ -15,7 +15,7 @@ use Rattle.machine_terms.specs.declared.value.Value.TheVariants as value
 use Rattle.machine_terms.specs.Machine.{Machine, when, next, faults, broken, on_number}
 use Rattle.machine_terms.specs.Pointers.{move, moved_to, element, region_slot, regions_in, cast, cast_pointer, both_found, plain_of, plain_region}
 use Rattle.machine_terms.specs.Regions.{space as space_code, colors, child, child_at, coloured, partition_slot, partition_in, with_partition}
-use Rattle.fit_rules.specs.Shapes.{Among, Each, Shape, pointer, space, region, partition, Numeric, NumberIs, World, position_of, IsRegion, IsPartition, Is, is_number, is_space, is_region, is_partition, Are, are_more}
+use Rattle.fit_rules.specs.Shapes.{Among, Each, Shape, pointer, space, region, partition, Numeric, NumberIs, World, position_of, IsRegion, IsPartition, Is, is_number, is_space, is_region, is_partition, Are, are_more, Origin, unknown}
 use Rattle.fit_rules.specs.Marks.{stacked}
 use Rattle.fit_rules.specs.Fits.{Program, Fits}
 use Rattle.fit_rules.specs.Sound.{To, HasRegion, HasPartition}
@@ -73,29 +73,29 @@ module _ (g : Program) (x : World) (t : TaskCode) (k : ℕ) (m : Machine) (fit :
 
   -- ---- elements
 
-  region_point : (r : RegionValue) (sp : Option ℕ) (made : Bool) (n : ℕ) → IsRegion x sp made r →
+  region_point : (r : RegionValue) (sp : Option ℕ) (o : Origin) (n : ℕ) → IsRegion x sp o r →
       has r.points n ≡ true → n < 2 ^ 32
-  region_point r sp made n i e = omega (arith, has_below 4194304 r.points n i.set.below e)
+  region_point r sp o n i e = omega (arith, has_below 4194304 r.points n i.set.below e)
 
-  element_held : (sp : Option ℕ) (made : Bool) (r : RegionValue) (z : ℤ) (line : ℕ) (ss : List Shape) (st : List Value) →
-      IsRegion x sp made r → Next (pointer 1 ∷ ss) → Are x ss st → Safe g x t k (element (Some r) z line st m)
-  element_held sp made r (negsuc n) line ss st i to a = safe_stops _ _ (fit.beside.parts, tt)
-  element_held sp made r (pos n) line ss st i to a = tested (has r.points n) refl
+  element_held : (sp : Option ℕ) (o : Origin) (r : RegionValue) (z : ℤ) (line : ℕ) (ss : List Shape) (st : List Value) →
+      IsRegion x sp o r → Next (pointer 1 ∷ ss) → Are x ss st → Safe g x t k (element (Some r) z line st m)
+  element_held sp o r (negsuc n) line ss st i to a = safe_stops _ _ (fit.beside.parts, tt)
+  element_held sp o r (pos n) line ss st i to a = tested (has r.points n) refl
     where
       tested : (b : Bool) → has r.points n ≡ b → Safe g x t k (when b
           (next (value.Number (kept_target (point_target n 1)) ∷ st) m)
           (faults OutOfRegion line m))
       tested true e = pushed g x t k m fit (pointer 1) ss _ st to
-          (kept_pointer_is 1 1 n (omega arith) (omega arith) (region_point r sp made n i e)) a
+          (kept_pointer_is 1 1 n (omega arith) (omega arith) (region_point r sp o n i e)) a
       tested false e = safe_stops _ _ (fit.beside.parts, tt)
 
   pub element_safe : (s : ℕ) (sp : Option ℕ) (z : ℤ) (line : ℕ) (ss : List Shape) (st : List Value) →
       HasRegion (g.marks k m.frame.pc) sp s → Next (pointer 1 ∷ ss) → Are x ss st →
       Safe g x t k (element (region_slot m s) z line st m)
   element_safe s sp z line ss st h to a =
-      let r = region_at g x t k m fit sp h.made s h.shape in
+      let r = region_at g x t k m fit sp h.origin s h.shape in
       subst (λ o. Safe g x t k (element o z line st m)) (sym r.there)
-      (element_held sp h.made r.region_there z line ss st r.is_region_there to a)
+      (element_held sp h.origin r.region_there z line ss st r.is_region_there to a)
 
   -- ---- casts
 
@@ -123,14 +123,14 @@ module _ (g : Program) (x : World) (t : TaskCode) (k : ℕ) (m : Machine) (fit :
   regions_at : (sp : Option ℕ) (ss : List ℕ) → Each (HasRegion (g.marks k m.frame.pc) sp) ss → RegionsAt ss
   regions_at sp [] h = record { regions = []; there = refl; long = refl; are_small = tt }
   regions_at sp (s ∷ ss) h =
-      let r = region_at g x t k m fit sp h.0.made s h.0.shape in
+      let r = region_at g x t k m fit sp h.0.origin s h.0.shape in
       let more = regions_at sp ss h.1 in
       record {
         regions = plain_region r.region_there ∷ more.regions;
         there = ap (λ o. both_found (plain_of o) (regions_in m.frame.slots ss)) r.there
             ∙ ap (both_found (Some (plain_region r.region_there))) more.there;
         long = ap suc more.long;
-        are_small = (λ n e. region_point r.region_there sp h.0.made n r.is_region_there e, more.are_small);
+        are_small = (λ n e. region_point r.region_there sp h.0.origin n r.is_region_there e, more.are_small);
       }
 
   pub cast_safe : (sp : Option ℕ) (rs : List ℕ) (z : ℤ) (ss : List Shape) (st : List Value) →
@@ -207,14 +207,14 @@ module _ (g : Program) (x : World) (t : TaskCode) (k : ℕ) (m : Machine) (fit :
   among_coloured rs (negsuc c) r e = absurd (none-some r e)
 
   child_found : (sp : Option ℕ) (o : Option RegionValue) (line : ℕ) (ss : List Shape) (st : List Value) →
-      ((r : RegionValue) → o ≡ Some r → IsRegion x sp false r) → Next (region sp false ∷ ss) → Are x ss st →
+      ((r : RegionValue) → o ≡ Some r → IsRegion x sp unknown r) → Next (region sp unknown ∷ ss) → Are x ss st →
       Safe g x t k (child_at o line st m)
   child_found sp None line ss st h to a = safe_stops _ _ (fit.beside.parts, tt)
-  child_found sp (Some r) line ss st h to a = safe_next g x t k m fit (region sp false ∷ ss) _ to
-      (are_more _ _ ss st (is_region sp false r (h r refl)) a)
+  child_found sp (Some r) line ss st h to a = safe_next g x t k m fit (region sp unknown ∷ ss) _ to
+      (are_more _ _ ss st (is_region sp unknown r (h r refl)) a)
 
   pub child_safe : (s line : ℕ) (sp : Option ℕ) (b : Shape) (ss : List Shape) →
-      HasPartition (g.marks k m.frame.pc) sp s → Numeric b → Next (region sp false ∷ ss) →
+      HasPartition (g.marks k m.frame.pc) sp s → Numeric b → Next (region sp unknown ∷ ss) →
       Are x (b ∷ ss) m.frame.stack → Safe g x t k (child s line m)
   child_safe s line sp b ss h n to a =
       let q = partition_at sp s h in

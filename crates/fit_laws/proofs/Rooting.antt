@@ -1,5 +1,5 @@
 -- Roots that are made: the frame fits beside a world with one root more, all of which it may write.
-use Rattle.std.proofs.Common.{◌≡◌, ◌⊎◌, inl, inr, ⊎_elim, ℕ, suc, ◌≤◌, ◌^◌, List, [], ◌∷◌, ◌++◌, map, Bool, true, false, cond, ◌&&◌, ◌||◌, Option, Some, None, refl, sym, ap, ◌∙◌, subst, arith, append_assoc}
+use Rattle.std.proofs.Common.{◌≡◌, ◌≢◌, ◌⊎◌, inl, inr, ⊎_elim, ℕ, suc, ◌≤◌, ◌^◌, List, [], ◌∷◌, ◌++◌, map, Bool, true, false, cond, ◌&&◌, ◌||◌, Option, Some, None, refl, sym, ap, ◌∙◌, subst, arith, append_assoc, eqb-true}
 use Rattle.std.specs.Prelude.{slice_get, length, nat_lt, ◌==◌}
 use Rattle.std.proofs.lemmas.List.{append-nil}
 use Rattle.std.proofs.lemmas.Bool.{lt-ltb, le-leb, eq-eqb, ne_eqb, eqb-false, cases_Bool, false≢true}
@@ -20,17 +20,18 @@ use Rattle.machine_terms.specs.declared.value.Value.TheVariants as value
 use Rattle.machine_terms.specs.Machine.{Machine, stops, when, at, broken}
 use Rattle.machine_terms.specs.Parts.{cell_at}
 use Rattle.machine_terms.specs.Regions.{on_space, root_of_space, new_root}
-use Rattle.fit_rules.specs.Shapes.{Among, OfSpace, Shape, space, region, World, IsRegion, Is, is_anything, is_number, is_space, is_region, is_given, is_partition, is_pending, Are, are_none, are_more}
+use Rattle.fit_rules.specs.Shapes.{Among, OfSpace, Shape, space, region, World, IsRegion, Is, is_anything, is_number, is_space, is_region, is_partition, is_pending, Are, are_none, are_more, IsWhole, Origin, Each, KnowsRoots, ComesFrom, unknown, own_as, argument, own_root}
 use Rattle.fit_rules.specs.Marks.{stacked}
 use Rattle.fit_rules.specs.Fits.{Program, count_at, kind_at, shape_at, root_claims, requires, declared_claims, own_claims, claims, AreClaims, no_claims, a_claim, CellFits, PartsFit, Fits}
-use Rattle.fit_rules.specs.Sound.{To}
+use Rattle.fit_rules.specs.Sound.{To, IsOther}
 use Rattle.fit_rules.specs.Ends.{rooted, with_root, Safe, safe_stops}
 use Rattle.fit_rules.proofs.Points.{counted_points}
 use Rattle.fit_laws.proofs.Cover.{in_front, in_back}
+use Rattle.std.proofs.lemmas.Option.{same_Some}
 
 -- ---- a world with one more root
 
-module _ (x : World) (root sp n : ℕ) (fresh : x.there root ≡ false) where
+module _ (x : World) (i root sp n : ℕ) (fresh : x.there root ≡ false) where
   old_root : (r : ℕ) → x.there r ≡ true → r == root ≡ false
   old_root r h = ne_eqb r root (λ e. false≢true (sym fresh ∙ ap x.there (sym e) ∙ h))
 
@@ -38,47 +39,89 @@ module _ (x : World) (root sp n : ℕ) (fresh : x.there root ≡ false) where
   right_true true = refl
   right_true false = refl
 
-  still_there : (r : ℕ) → x.there r ≡ true → (rooted x root sp n).there r ≡ true
+  still_there : (r : ℕ) → x.there r ≡ true → (rooted x i root sp n).there r ≡ true
   still_there r h = ap (λ b. (r == root) || b) h ∙ right_true (r == root)
 
-  same_points : (r : ℕ) → x.there r ≡ true → (rooted x root sp n).points r ≡ x.points r
+  same_points : (r : ℕ) → x.there r ≡ true → (rooted x i root sp n).points r ≡ x.points r
   same_points r h = ap (λ b. cond b (points n) (x.points r)) (old_root r h)
 
-  same_space : (r : ℕ) → x.there r ≡ true → (rooted x root sp n).spaces r ≡ x.spaces r
+  same_space : (r : ℕ) → x.there r ≡ true → (rooted x i root sp n).spaces r ≡ x.spaces r
   same_space r h = ap (λ b. cond b sp (x.spaces r)) (old_root r h)
 
-  region_rooted : (s : Option ℕ) (made : Bool) (r : RegionValue) → IsRegion x s made r →
-      IsRegion (rooted x root sp n) s made r
-  region_rooted s made r i = record {
-    there = still_there r.root.0 i.there;
-    space = subst (OfSpace s) (sym (same_space r.root.0 i.there)) i.space;
-    points = λ p e. subst (λ xs. has xs p ≡ true) (sym (same_points r.root.0 i.there)) (i.points p e);
-    set = i.set;
-    whole = λ e. (
-      in_front x.own (root ∷ []) r.root.0 (i.whole e).0,
-      (i.whole e).1 ∙ sym (same_points r.root.0 i.there),
-    );
+  -- what was made last under another number
+  same_last : (j : ℕ) → j ≢ i → (rooted x i root sp n).last j ≡ x.last j
+  same_last j h = ap (λ b. cond b (Some root) (x.last j)) (ne_eqb j i h)
+
+  whole_rooted : (r : RegionValue) → x.there r.root.0 ≡ true → IsWhole x r → IsWhole (rooted x i root sp n) r
+  whole_rooted r there w = (in_front x.own (root ∷ []) r.root.0 w.0, w.1 ∙ sym (same_points r.root.0 there))
+
+  origin_rooted : (s : Option ℕ) (o : Origin) (r : RegionValue) → IsOther i (region s o) → x.there r.root.0 ≡ true → ComesFrom x o r →
+      ComesFrom (rooted x i root sp n) o r
+  origin_rooted s unknown r h there c = tt
+  origin_rooted s (argument j) r h there c = c
+  origin_rooted s own_root r h there c = whole_rooted r there c
+  origin_rooted s (own_as j) r h there c = (whole_rooted r there c.0, same_last j (λ e. h (sym e)) ∙ c.1)
+
+  region_rooted : (s : Option ℕ) (o : Origin) (r : RegionValue) → IsOther i (region s o) → IsRegion x s o r →
+      IsRegion (rooted x i root sp n) s o r
+  region_rooted s o r h q = record {
+    there = still_there r.root.0 q.there;
+    space = subst (OfSpace s) (sym (same_space r.root.0 q.there)) q.space;
+    points = λ p e. subst (λ xs. has xs p ≡ true) (sym (same_points r.root.0 q.there)) (q.points p e);
+    set = q.set;
+    origin = origin_rooted s o r h q.there q.origin;
   }
 
-  value_rooted : (u : Shape) (v : Value) → Is x u v → Is (rooted x root sp n) u v
-  value_rooted _ _ (is_anything v) = is_anything v
-  value_rooted _ _ (is_number u z h) = is_number u z h
-  value_rooted _ _ (is_space l h) = is_space l h
-  value_rooted _ _ (is_region s made r i) = is_region s made r (region_rooted s made r i)
-  value_rooted _ _ (is_given s i r q e) = is_given s i r (region_rooted s false r q) e
-  value_rooted _ _ (is_partition s d q i) = is_partition s d q (record {
-    flag = i.flag;
-    apart = i.apart;
-    there = still_there q.root.0 i.there;
-    space = subst (OfSpace s) (sym (same_space q.root.0 i.there)) i.space;
-    count = i.count;
-    regions = λ r h. ((i.regions r h).0, region_rooted s false r (i.regions r h).1);
+  value_rooted : (u : Shape) (v : Value) → IsOther i u → Is x u v → Is (rooted x i root sp n) u v
+  value_rooted _ _ h (is_anything v) = is_anything v
+  value_rooted _ _ h (is_number u z q) = is_number u z q
+  value_rooted _ _ h (is_space l q) = is_space l q
+  value_rooted _ _ h (is_region s o r q) = is_region s o r (region_rooted s o r h q)
+  value_rooted _ _ h (is_partition s d p q) = is_partition s d p (record {
+    flag = q.flag;
+    apart = q.apart;
+    there = still_there p.root.0 q.there;
+    space = subst (OfSpace s) (sym (same_space p.root.0 q.there)) q.space;
+    count = q.count;
+    regions = λ r l. ((q.regions r l).0, region_rooted s unknown r tt (q.regions r l).1);
   })
-  value_rooted _ _ (is_pending u i l h) = is_pending u i l h
+  value_rooted _ _ h (is_pending u j l q) = is_pending u j l q
 
-  are_rooted : (ss : List Shape) (vs : List Value) → Are x ss vs → Are (rooted x root sp n) ss vs
-  are_rooted _ _ are_none = are_none
-  are_rooted _ _ (are_more u v ss vs h a) = are_more u v ss vs (value_rooted u v h) (are_rooted ss vs a)
+  are_rooted : (ss : List Shape) (vs : List Value) → Each (IsOther i) ss → Are x ss vs → Are (rooted x i root sp n) ss vs
+  are_rooted _ _ d are_none = are_none
+  are_rooted _ _ d (are_more u v ss vs h a) = are_more u v ss vs (value_rooted u v d.0 h) (are_rooted ss vs d.1 a)
+
+  -- ---- what is known of roots
+
+  -- a root is the new one, under its number, or was known under another one
+  last_is : (j r : ℕ) → (rooted x i root sp n).last j ≡ Some r → ((j ≡ i) × (root ≡ r)) ⊎ ((j ≢ i) × (x.last j ≡ Some r))
+  last_is j r e = of (j == i) refl e
+    where
+      of : (b : Bool) → j == i ≡ b → cond b (Some root) (x.last j) ≡ Some r → ((j ≡ i) × (root ≡ r)) ⊎ ((j ≢ i) × (x.last j ≡ Some r))
+      of true q e = inl (eqb-true j i q, same_Some root r e)
+      of false q e = inr (eqb-false j i q, e)
+
+  not_new : (r : ℕ) → x.there r ≡ true → root ≢ r
+  not_new r h e = false≢true (sym fresh ∙ ap x.there e ∙ h)
+
+  own_new_or_old : (xs : List ℕ) (q : ℕ) → Among (xs ++ root ∷ []) q → Among xs q ⊎ (root ≡ q)
+  own_new_or_old [] q (inl e) = inr e
+  own_new_or_old [] q (inr h) = absurd h
+  own_new_or_old (y ∷ xs) q (inl e) = inl (inl e)
+  own_new_or_old (y ∷ xs) q (inr h) = ⊎_elim (λ l. inl (inr l)) (λ e. inr e) (own_new_or_old xs q h)
+
+  roots_rooted : KnowsRoots x → KnowsRoots (rooted x i root sp n)
+  roots_rooted k = record {
+    own_there = λ r h. ⊎_elim (λ l. still_there r (k.own_there r l))
+        (λ e. subst (λ q. (rooted x i root sp n).there q ≡ true) e (ap (λ b. b || x.there root) (eq-eqb root root refl))) (own_new_or_old x.own r h);
+    args_there = λ j r e. still_there r.root.0 (k.args_there j r e);
+    last_own = λ j r e. ⊎_elim (λ p. in_back x.own (root ∷ []) r (inl p.1)) (λ p. in_front x.own (root ∷ []) r (k.last_own j r p.1)) (last_is j r e);
+    one_number = λ a b r e f. ⊎_elim
+        (λ p. ⊎_elim (λ q. p.0 ∙ sym q.0) (λ q. absurd (not_new r (k.own_there r (k.last_own b r q.1)) p.1)) (last_is b r f))
+        (λ p. ⊎_elim (λ q. absurd (not_new r (k.own_there r (k.last_own a r p.1)) q.1)) (λ q. k.one_number a b r p.1 q.1) (last_is b r f))
+        (last_is a r e);
+    args_other = λ a b r e f. ⊎_elim (λ p. not_new r.root.0 (k.args_there a r e) p.1) (λ p. k.args_other a b r e p.1) (last_is b r.root.0 f);
+  }
 
   -- ---- claims
 
@@ -89,25 +132,25 @@ module _ (x : World) (root sp n : ℕ) (fresh : x.there root ≡ false) where
       ∙ sym (append_assoc (root_claims g r (y.spaces r) (y.points r)) (own_claims g y rs) (own_claims g y us))
 
   own_old : (g : Program) (rs : List ℕ) → ((r : ℕ) → Among rs r → x.there r ≡ true) →
-      own_claims g (rooted x root sp n) rs ≡ own_claims g x rs
+      own_claims g (rooted x i root sp n) rs ≡ own_claims g x rs
   own_old g [] h = refl
   own_old g (r ∷ rs) h =
-      ap (λ l. root_claims g r ((rooted x root sp n).spaces r) ((rooted x root sp n).points r) ++ l)
+      ap (λ l. root_claims g r ((rooted x i root sp n).spaces r) ((rooted x i root sp n).points r) ++ l)
       (own_old g rs (λ q l. h q (inr l)))
-      ∙ ap (λ xs. root_claims g r ((rooted x root sp n).spaces r) xs ++ own_claims g x rs)
+      ∙ ap (λ xs. root_claims g r ((rooted x i root sp n).spaces r) xs ++ own_claims g x rs)
       (same_points r (h r (inl refl)))
       ∙ ap (λ s. root_claims g r s (x.points r) ++ own_claims g x rs) (same_space r (h r (inl refl)))
 
-  own_new : (g : Program) → own_claims g (rooted x root sp n) (root ∷ []) ≡ root_claims g root sp (points n)
+  own_new : (g : Program) → own_claims g (rooted x i root sp n) (root ∷ []) ≡ root_claims g root sp (points n)
   own_new g = append-nil _
       ∙ ap (λ b. root_claims g root (cond b sp (x.spaces root)) (cond b (points n) (x.points root)))
       (eq-eqb root root refl)
 
   claims_rooted : (g : Program) (t : TaskCode) → ((r : ℕ) → Among x.own r → x.there r ≡ true) →
-      claims g (rooted x root sp n) t ≡ claims g x t ++ root_claims g root sp (points n)
+      claims g (rooted x i root sp n) t ≡ claims g x t ++ root_claims g root sp (points n)
   claims_rooted g t h =
-      ap (λ l. declared_claims t.needs x.args ++ l) (own_both g (rooted x root sp n) x.own (root ∷ [])
-      ∙ ap (λ l. l ++ own_claims g (rooted x root sp n) (root ∷ [])) (own_old g x.own h)
+      ap (λ l. declared_claims t.needs x.args ++ l) (own_both g (rooted x i root sp n) x.own (root ∷ [])
+      ∙ ap (λ l. l ++ own_claims g (rooted x i root sp n) (root ∷ [])) (own_old g x.own h)
       ∙ ap (λ l. own_claims g x x.own ++ l) (own_new g))
       ∙ sym (append_assoc (declared_claims t.needs x.args) (own_claims g x x.own) (root_claims g root sp (points n)))
 
@@ -133,12 +176,12 @@ module _ (x : World) (root sp n : ℕ) (fresh : x.there root ≡ false) where
       (cases_Bool (is_at r f p c))
 
   parts_rooted : (g : Program) (t : TaskCode) (parts : List Part) →
-      ((r : ℕ) → Among x.own r → x.there r ≡ true) → PartsFit g x t parts → PartsFit g (rooted x root sp n) t parts
+      ((r : ℕ) → Among x.own r → x.there r ≡ true) → PartsFit g x t parts → PartsFit g (rooted x i root sp n) t parts
   parts_rooted g t parts h fits r f q e =
       let old = fits r f q e in
       let space = same_space r old.there in
       let other : root == r ≡ false = ne_eqb root r (λ w. eqb-false r root (old_root r old.there) (sym w)) in
-      let y = rooted x root sp n in
+      let y = rooted x i root sp n in
       record {
         there = still_there r old.there;
         kind = old.kind ∙ ap (λ s. kind_at g s f) (sym space);
@@ -157,62 +200,55 @@ numbers_both [] i = refl
 numbers_both (y ∷ xs) i = ap (λ l. y.0 ∷ l) (numbers_both xs i)
 
 module _ (g : Program) (x : World) (t : TaskCode) (k : ℕ) (m : Machine) (fit : Fits g x t k m) where
-  root_fits : (sp n : ℕ) (ss : List Shape) (st : List Value) → n ≤ 4194304 →
-      To g t k (stacked (g.marks k m.frame.pc) (region (Some sp) true ∷ ss)) (suc m.frame.pc) → Are x ss st →
+  root_fits : (i sp n : ℕ) (ss : List Shape) (st : List Value) → n ≤ 4194304 → Each (IsOther i) (g.marks k m.frame.pc).slots →
+      Each (IsOther i) ss → To g t k (stacked (g.marks k m.frame.pc) (region (Some sp) (own_as i) ∷ ss)) (suc m.frame.pc) → Are x ss st →
       (r : RegionValue) (ns : List Need) → x.there r.root.0 ≡ false → r.points ≡ points n →
       IsPoints 4194304 (points n) →
       AreClaims ns (root_claims g r.root.0 sp (points n)) →
-      Fits g (rooted x r.root.0 sp n) t k (with_root r ns r.root (at (suc m.frame.pc) st m))
-  root_fits sp n ss st h to a r ns fresh ep long c =
-      let y = rooted x r.root.0 sp n in
+      Fits g (rooted x i r.root.0 sp n) t k (with_root r ns r.root (at (suc m.frame.pc) st m))
+  root_fits i sp n ss st h os oss to a r ns fresh ep long c =
+      let y = rooted x i r.root.0 sp n in
       let here : r.root.0 == r.root.0 ≡ true = eq-eqb r.root.0 r.root.0 refl in
       record {
         inside = to.0;
         suits = to.1 y m.frame.slots (value.Region r ∷ st) (record {
-          slots = are_rooted x r.root.0 sp n fresh _ m.frame.slots fit.suits.slots;
-          stack = are_more _ _ ss st (is_region (Some sp) true r (record {
+          slots = are_rooted x i r.root.0 sp n fresh _ m.frame.slots os fit.suits.slots;
+          stack = are_more _ _ ss st (is_region (Some sp) (own_as i) r (record {
             there = ap (λ b. b || x.there r.root.0) here;
             space = ap (λ b. cond b sp (x.spaces r.root.0)) here;
             points = λ p e. subst (λ b. has (cond b (points n) (x.points r.root.0)) p ≡ true) (sym here)
                 (subst (λ xs. has xs p ≡ true) ep e);
             set = subst (IsPoints 4194304) (sym ep) long;
-            whole = λ e. (
-              in_back x.own (r.root.0 ∷ []) r.root.0 (inl refl),
-              ep ∙ sym (ap (λ b. cond b (points n) (x.points r.root.0)) here),
+            origin = (
+              (
+                in_back x.own (r.root.0 ∷ []) r.root.0 (inl refl),
+                ep ∙ sym (ap (λ b. cond b (points n) (x.points r.root.0)) here),
+              ),
+              ap (λ b. cond b (Some r.root.0) (x.last i)) (eq-eqb i i refl),
             );
-          })) (are_rooted x r.root.0 sp n fresh ss st a);
+          })) (are_rooted x i r.root.0 sp n fresh ss st oss a);
           facts = fit.suits.facts;
           top = tt;
           args = fit.suits.args;
         });
         beside = record {
           task = fit.beside.task;
-          needs = subst (AreClaims (m.frame.needs.items ++ ns)) (sym (claims_rooted x r.root.0 sp n fresh g t fit.beside.own_there))
+          needs = subst (AreClaims (m.frame.needs.items ++ ns)) (sym (claims_rooted x i r.root.0 sp n fresh g t fit.beside.roots.own_there))
               (claims_both m.frame.needs.items ns (claims g x t) _ fit.beside.needs c);
-          parts = parts_rooted x r.root.0 sp n fresh g t m.parts fit.beside.own_there fit.beside.parts;
+          parts = parts_rooted x i r.root.0 sp n fresh g t m.parts fit.beside.roots.own_there fit.beside.parts;
           children = fit.beside.children;
           calls = fit.beside.calls;
           own = numbers_both m.frame.own r.root ∙ ap (λ l. l ++ r.root.0 ∷ []) fit.beside.own;
-          own_there = λ q l. own_old_or_new q (among_both x.own r.root.0 q l) here;
+          roots = roots_rooted x i r.root.0 sp n fresh fit.beside.roots;
         };
       }
-    where
-      among_both : (xs : List ℕ) (a q : ℕ) → Among (xs ++ a ∷ []) q → Among xs q ⊎ (a ≡ q)
-      among_both [] a q (inl e) = inr e
-      among_both [] a q (inr h) = absurd h
-      among_both (y ∷ xs) a q (inl e) = inl (inl e)
-      among_both (y ∷ xs) a q (inr h) = ⊎_elim (λ l. inl (inr l)) (λ e. inr e) (among_both xs a q h)
 
-      own_old_or_new : (q : ℕ) → Among x.own q ⊎ (r.root.0 ≡ q) → r.root.0 == r.root.0 ≡ true →
-          (rooted x r.root.0 sp n).there q ≡ true
-      own_old_or_new q (inl l) e = still_there x r.root.0 sp n fresh q (fit.beside.own_there q l)
-      own_old_or_new q (inr w) e = subst (λ z. (z == r.root.0) || x.there z ≡ true) w (ap (λ b. b || x.there r.root.0) e)
-
-  pub new_root_safe : length t.body ≤ 2 ^ 32 → (sp : ℕ) (c : SpaceCode) (ss : List Shape) →
+  pub new_root_safe : length t.body ≤ 2 ^ 32 → (sp i : ℕ) (c : SpaceCode) (ss : List Shape) →
       Are x (space ∷ ss) m.frame.stack → slice_get g.code.spaces sp ≡ Some c → length c.fields ≤ 256 →
-      To g t k (stacked (g.marks k m.frame.pc) (region (Some sp) true ∷ ss)) (suc m.frame.pc) →
+      Each (IsOther i) (g.marks k m.frame.pc).slots → Each (IsOther i) ss →
+      To g t k (stacked (g.marks k m.frame.pc) (region (Some sp) (own_as i) ∷ ss)) (suc m.frame.pc) →
       Safe g x t k (new_root g.code sp m)
-  new_root_safe short sp c ss a e l to = of_stack m.frame.stack a
+  new_root_safe short sp i c ss a e l os oss to = of_stack m.frame.stack a
     where
       of_stack : (st : List Value) → Are x (space ∷ ss) st →
           Safe g x t k (on_space st m (λ size st. root_of_space (slice_get g.code.spaces sp) sp size st m))
@@ -224,4 +260,4 @@ module _ (g : Program) (x : World) (t : TaskCode) (k : ℕ) (m : Machine) (fit :
           (sym (le-leb _ 256 l))
           (subst (λ y. Safe g x t k (when y (stops (yield.Make (made.Root n sp)) (at (suc m.frame.pc) st m))
           (broken (at (suc m.frame.pc) st m)))) (sym (lt-ltb (suc m.frame.pc) (2 ^ 32) (omega (arith, to.0, short))))
-          (safe_stops _ _ (fit.beside.parts, (h, λ r ns fresh ep claimed. root_fits sp n ss st h to b r ns fresh ep (counted_points 4194304 0 n (omega (arith, h))) claimed)))))
+          (safe_stops _ _ (fit.beside.parts, (h, (i, λ r ns fresh ep claimed. root_fits i sp n ss st h os oss to b r ns fresh ep (counted_points 4194304 0 n (omega (arith, h))) claimed))))))

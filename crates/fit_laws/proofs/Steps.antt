@@ -18,7 +18,7 @@ use Rattle.machine_terms.specs.Numbers.{load, store}
 use Rattle.machine_terms.specs.Jumps.{fetch, may_jump, jump, leave, round, count_round, next_number, size_of, point_at, take_point, point_round, points_round}
 use Rattle.machine_terms.specs.Regions.{child, child_at, coloured, partition_in, with_partition}
 use Rattle.machine_terms.specs.Segments.{act, act_at, step}
-use Rattle.fit_rules.specs.Shapes.{Among, Each, Shape, integer, truth, index, pointer, space, region, awaited, IsPartition, is_region, is_pending, Numeric, numeric_integer, numeric_truth, numeric_index, numeric_pointer, NumberIs, World, Is, is_number, Are, are_more}
+use Rattle.fit_rules.specs.Shapes.{Among, Each, Shape, integer, truth, index, pointer, space, region, awaited, IsPartition, is_region, is_pending, Numeric, numeric_integer, numeric_truth, numeric_index, numeric_pointer, NumberIs, World, Is, is_number, Are, are_more, unknown}
 use Rattle.fit_rules.specs.Marks.{HasNumber, Colour, colour_in, HasColour, child_in, top_colour, top_lies, HoldsTop, ColoursStand, topped, Fact, counts, parted, lies, in_slot, Holds, AtMost, size_in, Mark, Suits, stacked}
 use Rattle.fit_rules.specs.Fits.{Program, Fits}
 use Rattle.fit_rules.specs.Sound.{HasPartition, To, ToStored, RoundNumber, RoundPoint, Sound, straight, colours, colours_by, takes_child, awaits, stored, jumps, jumps_if_not, jumps_and, jumps_or, counts_numbers, counts_points, makes_root, makes_equal, makes_by_field, makes_minus, makes_meet, makes_join, makes_image, makes_preimage, makes_call, takes_turn, returns, returns_value, Valid}
@@ -157,7 +157,7 @@ module _ (g : Program) (x : World) (t : TaskCode) (k : ℕ) (m : Machine) (fit :
 
   child_coloured : (i line : ℕ) (sp : Option ℕ) (a : Shape) (ss : List Shape) (c : Colour) →
       here.stack ≡ a ∷ ss → Numeric a → HasPartition here sp i → Among here.top (top_colour c) →
-      To g t k (topped here (region sp false ∷ ss) (top_lies (child_in i c))) (suc m.frame.pc) →
+      To g t k (topped here (region sp unknown ∷ ss) (top_lies (child_in i c))) (suc m.frame.pc) →
       Safe g x t k (child i line m)
   child_coloured i line sp a ss c e n h q to =
       let w = partition_at g x t k m fit sp i h in
@@ -172,7 +172,7 @@ module _ (g : Program) (x : World) (t : TaskCode) (k : ℕ) (m : Machine) (fit :
           HasColour m.frame.slots c z → Safe g x t k (child_at o line st m)
       of_child None z st p eo b ep ip hc = safe_stops _ _ (fit.beside.parts, tt)
       of_child (Some r) z st p eo b ep ip hc = safe_goes _ (fits_topped g x t k m fit (suc m.frame.pc) _ _ _ to
-          (are_more _ _ ss st (is_region sp false r (ip.regions r (among_coloured g x t k m fit p.children z r eo)).1) b)
+          (are_more _ _ ss st (is_region sp unknown r (ip.regions r (among_coloured g x t k m fit p.children z r eo)).1) b)
           (record {
             other = r;
             at = record { parts = p; there = ep; colour = z; has_colour = hc; child = eo };
@@ -293,8 +293,8 @@ module _ (g : Program) (x : World) (t : TaskCode) (k : ℕ) (m : Machine) (fit :
       next_number_safe c l v to line a b ea na eb nb hv ht h hs r
   sound_safe short _ line (counts_points s c v ptr to q hv ht h hs r) =
       points_safe s c v ptr to line _ _ hv ht h hs r refl refl (fact_at (counts c s) q)
-  sound_safe short _ line (makes_root sp c ss e h l to) =
-      new_root_safe g x t k m fit short sp c ss (same_stack (space ∷ ss) e) h l to
+  sound_safe short _ line (makes_root sp i c ss e h l os oss to) =
+      new_root_safe g x t k m fit short sp i c ss (same_stack (space ∷ ss) e) h l os oss to
   sound_safe short _ line (makes_equal s sp ss e h to) =
       equal_safe g x t k m fit short s line sp ss (same_stack (space ∷ ss) e) h to
   sound_safe short _ line (makes_by_field s f sp ss e h to) =

@@ -14,10 +14,10 @@ use Rattle.machine_terms.specs.declared.value.Value.TheVariants.{Number}
 use Rattle.machine_terms.specs.Machine.{Machine, Stepped, at, next, on_number, on_turn, on_two, with_turns}
 use Rattle.machine_terms.specs.Numbers.{load, divided}
 use Rattle.machine_terms.specs.Pointers.{point}
-use Rattle.fit_rules.specs.Shapes.{Shape, integer, index, Numeric, numeric_integer, numeric_truth, numeric_index, numeric_pointer, NumberIs, World, Is, is_number, is_space, is_region, is_given, is_partition, Are, are_more}
+use Rattle.fit_rules.specs.Shapes.{Shape, integer, index, Numeric, numeric_integer, numeric_truth, numeric_index, numeric_pointer, NumberIs, World, Is, is_number, is_space, is_region, is_partition, Are, are_more}
 use Rattle.fit_rules.specs.Marks.{TopFact, HoldsTop, Mark, Suits, stacked, topped}
 use Rattle.fit_rules.specs.Fits.{Program, Beside, Fits, PartsFit}
-use Rattle.fit_rules.specs.Sound.{Settled, settled_number, settled_space, settled_region, settled_given, settled_partition, To}
+use Rattle.fit_rules.specs.Sound.{Settled, settled_number, settled_space, settled_region, settled_partition, To}
 use Rattle.fit_rules.specs.Ends.{Safe, safe_goes, safe_stops}
 use Rattle.fit_laws.proofs.Numbers.{wrapped_fits, small_fits, point_below}
 
@@ -41,7 +41,7 @@ module _ (g : Program) (x : World) (t : TaskCode) (k : ℕ) (m : Machine) (fit :
     children = fit.beside.children;
     calls = omega (arith, l, fit.beside.calls);
     own = fit.beside.own;
-    own_there = fit.beside.own_there;
+    roots = fit.beside.roots;
   }
 
   beside_at : (pc : ℕ) (st : List Value) → Beside g x t k (at pc st m)
@@ -123,9 +123,6 @@ module _ (g : Program) (x : World) (t : TaskCode) (k : ℕ) (m : Machine) (fit :
   loads _ ss _ (settled_region sp d) h (is_region _ _ r i) a =
       safe_next _ _ h (are_more _ _ _ _ (is_region sp d r i) a)
   loads _ ss _ (settled_region sp d) h (is_number _ z i) a = absurd i
-  loads _ ss _ (settled_given sp j) h (is_given _ _ r i e) a =
-      safe_next _ _ h (are_more _ _ _ _ (is_given sp j r i e) a)
-  loads _ ss _ (settled_given sp j) h (is_number _ z i) a = absurd i
   loads _ ss _ (settled_partition sp d) h (is_partition _ _ r i) a =
       safe_next _ _ h (are_more _ _ _ _ (is_partition sp d r i) a)
   loads _ ss _ (settled_partition sp d) h (is_number _ z i) a = absurd i

@@ -1,5 +1,5 @@
 -- Values that are taken from the stack, and prints.
-use Rattle.std.proofs.Common.{◌≡◌, ℕ, suc, List, [], ◌∷◌, true, false, Some, refl, sym, ap, ◌∙◌, subst, arith}
+use Rattle.std.proofs.Common.{◌≡◌, ℕ, zero, suc, List, [], ◌∷◌, true, false, Some, refl, sym, ap, ◌∙◌, subst, arith, slice_get}
 use Rattle.std.specs.Prelude.{length}
 use Rattle.std.specs.Fmt.{signed_decimal}
 use Rattle.task_code.specs.declared.code.TaskCode.{TaskCode}
@@ -8,12 +8,20 @@ use Rattle.task_code.specs.declared.instr.PrintPart.TheVariants as part
 use Rattle.machine_terms.specs.declared.value.Value.{Value}
 use Rattle.machine_terms.specs.Machine.{Machine}
 use Rattle.machine_terms.specs.Calls.{Taken, few, taken, is_pending, take_values, count_numbers, text_of, before_text, writing, printing, print}
-use Rattle.fit_rules.specs.Shapes.{Each, Shape, Numeric, numeric_integer, numeric_truth, numeric_index, numeric_pointer, World, Is, is_number, is_space, is_region, is_given, is_partition, Are, are_none, are_more}
+use Rattle.machine_terms.specs.Pointers.{region_in}
+use Rattle.std.proofs.lemmas.Option.{none-some, same_Some}
+use Rattle.fit_rules.specs.Shapes.{Each, Shape, Numeric, numeric_integer, numeric_truth, numeric_index, numeric_pointer, World, Is, is_number, is_space, is_region, is_partition, Are, are_none, are_more}
 use Rattle.fit_rules.specs.Marks.{stacked}
 use Rattle.fit_rules.specs.Fits.{Program, Fits}
-use Rattle.fit_rules.specs.Sound.{Settled, settled_number, settled_space, settled_region, settled_given, settled_partition, Takes, takes_none, takes_more, To}
+use Rattle.fit_rules.specs.Sound.{Settled, settled_number, settled_space, settled_region, settled_partition, Takes, takes_none, takes_more, To}
 use Rattle.fit_rules.specs.Ends.{Safe, safe_prints}
 use Rattle.fit_laws.proofs.Straight.{fits_at}
+use Rattle.machine_terms.specs.declared.value.RegionValue.{RegionValue}
+
+-- what is taken is settled
+pub takes_settled : (n : ℕ) (ss us args rest : List Shape) → Takes n ss us args rest → Each Settled us → Each Settled args
+takes_settled _ _ _ _ _ (takes_none ss us) d = d
+takes_settled _ _ _ _ _ (takes_more n s ss us args rest one more) d = takes_settled n ss (s ∷ us) args rest more (one, d)
 
 module _ (x : World) where
   -- a settled value isn't pending
@@ -24,12 +32,29 @@ module _ (x : World) where
   at_hand _ _ (settled_number _ (numeric_pointer n)) (is_number _ z h) = refl
   at_hand _ _ settled_space (is_number _ z h) = refl
   at_hand _ _ settled_space (is_space n h) = refl
-  at_hand _ _ (settled_region sp made) (is_number _ z h) = refl
-  at_hand _ _ (settled_region sp made) (is_region _ _ r h) = refl
-  at_hand _ _ (settled_given sp i) (is_number _ z h) = refl
-  at_hand _ _ (settled_given sp i) (is_given _ _ r h e) = refl
+  at_hand _ _ (settled_region sp o) (is_number _ z h) = refl
+  at_hand _ _ (settled_region sp o) (is_region _ _ r h) = refl
   at_hand _ _ (settled_partition sp d) (is_number _ z h) = refl
   at_hand _ _ (settled_partition sp d) (is_partition _ _ q h) = refl
+
+  -- and a region that is at hand is of a root that is there
+  one_there : (s : Shape) (v : Value) (r : RegionValue) → Settled s → Is x s v → region_in (Some v) ≡ Some r → x.there r.root.0 ≡ true
+  one_there _ _ r (settled_number _ (numeric_integer w)) (is_number _ z h) e = absurd (none-some r e)
+  one_there _ _ r (settled_number _ numeric_truth) (is_number _ z h) e = absurd (none-some r e)
+  one_there _ _ r (settled_number _ numeric_index) (is_number _ z h) e = absurd (none-some r e)
+  one_there _ _ r (settled_number _ (numeric_pointer n)) (is_number _ z h) e = absurd (none-some r e)
+  one_there _ _ r settled_space (is_number _ z h) e = absurd (none-some r e)
+  one_there _ _ r settled_space (is_space n h) e = absurd (none-some r e)
+  one_there _ _ r (settled_region sp o) (is_number _ z h) e = absurd (none-some r e)
+  one_there _ _ r (settled_region sp o) (is_region _ _ q h) e = subst (λ (y : RegionValue). x.there y.root.0 ≡ true) (same_Some q r e) h.there
+  one_there _ _ r (settled_partition sp d) (is_number _ z h) e = absurd (none-some r e)
+  one_there _ _ r (settled_partition sp d) (is_partition _ _ q h) e = absurd (none-some r e)
+
+  pub all_there : (ss : List Shape) (vs : List Value) → Each Settled ss → Are x ss vs → (i : ℕ) (r : RegionValue) →
+      region_in (slice_get vs i) ≡ Some r → x.there r.root.0 ≡ true
+  all_there _ _ d are_none i r e = absurd (none-some r e)
+  all_there _ _ d (are_more s v ss vs h a) zero r e = one_there s v r d.0 h e
+  all_there _ _ d (are_more s v ss vs h a) (suc i) r e = all_there ss vs d.1 a i r e
 
   pub record TakenAs (args rest : List Shape) (o : Taken) : Type 0 where
     pub values : List Value

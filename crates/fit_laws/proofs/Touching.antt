@@ -24,7 +24,7 @@ use Rattle.machine_terms.specs.Touches.{touch_of, touch_through, touch_region, t
 use Rattle.code_rules.specs.Instructions.{computing, comparing}
 use Rattle.fit_rules.specs.Shapes.{Among, Each, Shape, pointer, World, is_number, Are, are_more}
 use Rattle.fit_rules.specs.Fits.{Program, Covers, Fits}
-use Rattle.fit_rules.specs.Sound.{Allowed, Through, Effect, does_num, does_load, does_hand, does_drop, does_compute, does_compare, does_pointers_equal, does_pointers_differ, does_negate, does_wrap, does_invert, does_point, does_is_null, does_assert, does_move, does_element, does_read, does_write, does_reduce, does_fill, does_cast, does_cast_pointer, does_space, does_colors, does_child, does_print, Sound, straight, colours, colours_by, takes_child, awaits, stored, jumps, jumps_if_not, jumps_and, jumps_or, counts_numbers, counts_points, makes_root, makes_equal, makes_by_field, makes_minus, makes_meet, makes_join, makes_image, makes_preimage, makes_call, takes_turn, returns, returns_value, Valid}
+use Rattle.fit_rules.specs.Sound.{Allowed, Through, Effect, does_num, does_load, does_drop, does_compute, does_compare, does_pointers_equal, does_pointers_differ, does_negate, does_wrap, does_invert, does_point, does_is_null, does_assert, does_move, does_element, does_read, does_write, does_reduce, does_fill, does_cast, does_cast_pointer, does_space, does_colors, does_child, does_print, Sound, straight, colours, colours_by, takes_child, awaits, stored, jumps, jumps_if_not, jumps_and, jumps_or, counts_numbers, counts_points, makes_root, makes_equal, makes_by_field, makes_minus, makes_meet, makes_join, makes_image, makes_preimage, makes_call, takes_turn, returns, returns_value, Valid}
 use Rattle.fit_rules.specs.Ends.{Safe, safe_goes, safe_prints, safe_stops}
 use Rattle.fit_laws.proofs.Access.{AimedWell, aims_well, fails_well, aim_well, region_at}
 use Rattle.fit_laws.proofs.Fills.{points_had}
@@ -76,7 +76,7 @@ module _ (g : Program) (x : World) (t : TaskCode) (k : ℕ) where
     of_region : (sp f : ℕ) (a : Mode) (s : ℕ) → Allowed g t (g.marks k m.frame.pc) sp f a s →
         AreCovered (touch_region a f (region_slot m s))
     of_region sp f a s h =
-        let r = region_at g x t k m fit (Some sp) h.made s h.shape in
+        let r = region_at g x t k m fit (Some sp) h.origin s h.shape in
         subst (λ o. AreCovered (touch_region a f o)) (sym r.there)
         (all_covered r.region_there.root.0 f a r.region_there.points
         (λ p l. h.covers x _ _ fit.suits r.region_there r.there p (points_had r.region_there.points p l)))
@@ -85,7 +85,6 @@ module _ (g : Program) (x : World) (t : TaskCode) (k : ℕ) where
         Are x ss m.frame.stack → AreCovered (touched_by i m)
     of_effect _ _ _ (does_num z s ss h) a = tt
     of_effect _ _ _ (does_load i s ss e l) a = tt
-    of_effect _ _ _ (does_hand i sp made ss l e) a = tt
     of_effect _ _ _ (does_drop s ss) a = tt
     of_effect _ _ _ (does_compute o w c d ss nc nd) a = subst AreCovered (sym (no_touch_computing o w m)) tt
     of_effect _ _ _ (does_compare o c d ss nc nd) a = subst AreCovered (sym (no_touch_comparing o m)) tt
@@ -123,7 +122,7 @@ module _ (g : Program) (x : World) (t : TaskCode) (k : ℕ) where
     of_sound _ (jumps_or to a ss e n j h i) = tt
     of_sound _ (counts_numbers c l v to a b ea na eb nb hv ht h hs r) = tt
     of_sound _ (counts_points s c v ptr to q hv ht h hs r) = tt
-    of_sound _ (makes_root sp c ss e h l to) = tt
+    of_sound _ (makes_root sp i c ss e h l os oss to) = tt
     of_sound _ (makes_equal s sp ss e h to) = tt
     of_sound _ (makes_by_field s f sp ss e h to) = of_region sp f mode.Read s h
     of_sound _ (makes_minus p q s sp hp hq hs f to) = tt

@@ -92,7 +92,7 @@ module _ (g : Program) (t : TaskCode) (k : ℕ) where
   led_long _ _ _ (leads_coloured m z s h) = refl
   led_long _ _ _ (leads_calling m task n callee args rest e p b tk o) = refl
   led_long _ _ _ (leads_waiting m i s e n h) = refl
-  led_long _ _ _ (leads_making m sp c ss e q l) = refl
+  led_long _ _ _ (leads_making m sp i c ss e q l os oss) = refl
 
   pub long_marks : (c : ℕ) (m : Mark) (p : Piece) (ms : List Mark) (n : Mark) → Typed g t k m p ms n →
       length m.slots ≡ c → Long c ms n
@@ -223,9 +223,9 @@ module _ (g : Program) (t : TaskCode) (k : ℕ) where
       (at_mark pc m e (λ y. slice_get y.slots i ≡ Some (awaited s)) there) n
       (at_mark pc m e (λ y. Each (ColoursStand y.slots) y.facts) h)
       (at_mark pc m e (λ y. To g t k (stacked y (s ∷ y.stack)) (suc pc)) to)
-  led _ _ _ pc e (leads_making m sp c ss es there l) to = makes_root sp c ss
-      (at_mark pc m e (λ y. y.stack ≡ space ∷ ss) es) there l
-      (at_mark pc m e (λ y. To g t k (stacked y (region (Some sp) true ∷ ss)) (suc pc)) to)
+  led _ _ _ pc e (leads_making m sp i c ss es there l os oss) to = makes_root sp i c ss
+      (at_mark pc m e (λ y. y.stack ≡ space ∷ ss) es) there l (at_mark pc m e (λ y. Each (IsOther i) y.slots) os) oss
+      (at_mark pc m e (λ y. To g t k (stacked y (region (Some sp) (own_as i) ∷ ss)) (suc pc)) to)
 
   -- ---- jumps back
 

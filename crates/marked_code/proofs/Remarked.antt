@@ -15,7 +15,7 @@ use Rattle.task_code.specs.declared.code.NeedCode.{NeedCode}
 use Rattle.region_tree.specs.Requirements.{IsWithin}
 use Rattle.machine_terms.specs.declared.value.Value.{Value}
 use Rattle.fit_rules.specs.Fits.{declared_claims, own_claims, root_claims, Program, Covers, made_it, declares_it, reads_and_writes}
-use Rattle.fit_rules.specs.Sound.{Allowed, Through, Effect, does_num, does_load, does_hand, does_drop, does_compute, does_compare, does_pointers_equal, does_pointers_differ, does_negate, does_wrap, does_invert, does_point, does_is_null, does_assert, does_move, does_element, does_read, does_write, does_reduce, does_fill, does_cast, does_cast_pointer, does_space, does_colors, does_child, does_print}
+use Rattle.fit_rules.specs.Sound.{Allowed, Through, Effect, does_num, does_load, does_drop, does_compute, does_compare, does_pointers_equal, does_pointers_differ, does_negate, does_wrap, does_invert, does_point, does_is_null, does_assert, does_move, does_element, does_read, does_write, does_reduce, does_fill, does_cast, does_cast_pointer, does_space, does_colors, does_child, does_print}
 use Rattle.marked_code.specs.Marked.{Leads, leads_on, leads_storing, leads_nowhere, leads_back, leads_coloured, leads_calling, leads_waiting, leads_making, Typed, typed_empty, typed_op, typed_both, typed_into, typed_from, typed_and, typed_or, typed_if, typed_branch, typed_loop, typed_rounds, typed_points}
 use Rattle.marked_code.specs.Bodies.{MarksAt}
 
@@ -48,7 +48,7 @@ covers_remarked g x t ms root f p _ (reads_and_writes o r w) = reads_and_writes 
 allowed_remarked : (g : Program) (t : TaskCode) (ms : ℕ → ℕ → Mark) (m : Mark) (sp f : ℕ) (a : Mode) (s : ℕ) →
     Allowed g t m sp f a s → Allowed (remarked g ms) t m sp f a s
 allowed_remarked g t ms m sp f a s h = record {
-  made = h.made;
+  origin = h.origin;
   shape = h.shape;
   covers = λ x vs st q r e p i. covers_remarked g x t ms r.root.0 f p a (h.covers x vs st q r e p i);
 }
@@ -67,7 +67,6 @@ effect_remarked : (g : Program) (t : TaskCode) (ms : ℕ → ℕ → Mark) (m : 
     Effect g t m i ss us → Effect (remarked g ms) t m i ss us
 effect_remarked g t ms m _ _ _ (does_num z s ss h3) = does_num z s ss h3
 effect_remarked g t ms m _ _ _ (does_load i s ss h3 h4) = does_load i s ss h3 h4
-effect_remarked g t ms m _ _ _ (does_hand i sp made ss h4 h5) = does_hand i sp made ss h4 h5
 effect_remarked g t ms m _ _ _ (does_drop s ss) = does_drop s ss
 effect_remarked g t ms m _ _ _ (does_compute o w a b ss h5 h6) = does_compute o w a b ss h5 h6
 effect_remarked g t ms m _ _ _ (does_compare c a b ss h4 h5) = does_compare c a b ss h4 h5
@@ -120,15 +119,15 @@ module _ (g : Program) (t : TaskCode) (k : ℕ) (ms : ℕ → ℕ → Mark) (beg
   leads_remarked _ _ _ (leads_back m n a ss e q h lg) = leads_back m n a ss e q h lg
   leads_remarked _ _ _ (leads_coloured m z s h) = leads_coloured m z s h
   leads_remarked _ _ _ (leads_calling m task n callee args rest there p b tk o) =
-      leads_calling m task n callee args rest there p b tk (λ x vs st ws h a.
-      let y = o x vs st ws h a in (
+      leads_calling m task n callee args rest there p b tk (λ x vs st ws r h a.
+      let y = o x vs st ws r h a in (
         begins task callee there (called x ws) _ [] y.0,
         needed_remarked g ms x ws callee.needs y.1,
         subst (λ z. IsWithin (declared_claims callee.needs ws) (declared_claims t.needs x.args ++ z))
             (sym (own_remarked g ms x x.own)) y.2,
       ))
   leads_remarked _ _ _ (leads_waiting m i s e n h) = leads_waiting m i s e n h
-  leads_remarked _ _ _ (leads_making m sp c ss e there l) = leads_making m sp c ss e there l
+  leads_remarked _ _ _ (leads_making m sp i c ss e there l os oss) = leads_making m sp i c ss e there l os oss
 
   pub typed_remarked : (m : Mark) (p : Piece) (ns : List Mark) (n : Mark) → Typed g t k m p ns n →
       Typed (remarked g ms) t k m p ns n

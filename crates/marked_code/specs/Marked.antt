@@ -5,10 +5,10 @@ use Rattle.task_code.specs.declared.instr.Instr.{Instr}
 use Rattle.task_code.specs.declared.instr.Instr.TheVariants as instr
 use Rattle.code_rules.specs.Pieces.{Piece, empty, op, ◌⨟◌, over, branch, loop, rounds}
 use Rattle.task_code.specs.declared.code.SpaceCode.{SpaceCode}
-use Rattle.fit_rules.specs.Shapes.{Among, Each, Shape, truth, space, region, awaited, Numeric, NumberIs}
+use Rattle.fit_rules.specs.Shapes.{Among, Each, Shape, truth, space, region, own_as, awaited, Numeric, NumberIs}
 use Rattle.fit_rules.specs.Marks.{ColoursStand, counts, Mark, Into, Stores, stacked, the_colour, top_colour, topped}
 use Rattle.fit_rules.specs.Fits.{Program}
-use Rattle.fit_rules.specs.Sound.{Effect, Opens, RoundNumber, RoundPoint, Takes}
+use Rattle.fit_rules.specs.Sound.{Effect, IsOther, Opens, RoundNumber, RoundPoint, Takes}
 
 module _ (g : Program) (t : TaskCode) (k : ℕ) where
   -- an instruction leads from a mark to a mark; behind a return any mark may stand
@@ -32,9 +32,10 @@ module _ (g : Program) (t : TaskCode) (k : ℕ) where
         Leads m (instr.Call task n) (stacked m (awaited (g.results task) ∷ rest))
     leads_waiting : (m : Mark) (i : ℕ) (s : Shape) → slice_get m.slots i ≡ Some (awaited s) → Numeric s →
         Each (ColoursStand m.slots) m.facts → Leads m (instr.Load i) (stacked m (s ∷ m.stack))
-    leads_making : (m : Mark) (sp : ℕ) (c : SpaceCode) (ss : List Shape) → m.stack ≡ space ∷ ss →
-        slice_get g.code.spaces sp ≡ Some c → length c.fields ≤ 256 →
-        Leads m (instr.NewRoot sp) (stacked m (region (Some sp) true ∷ ss))
+    -- a root is made under a number
+    leads_making : (m : Mark) (sp i : ℕ) (c : SpaceCode) (ss : List Shape) → m.stack ≡ space ∷ ss →
+        slice_get g.code.spaces sp ≡ Some c → length c.fields ≤ 256 → Each (IsOther i) m.slots → Each (IsOther i) ss →
+        Leads m (instr.NewRoot sp) (stacked m (region (Some sp) (own_as i) ∷ ss))
 
   -- A piece leads from a mark to a mark, with a mark for each of its lines.
   pub data Typed : Mark → Piece → List Mark → Mark → Type 0 where

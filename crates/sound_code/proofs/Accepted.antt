@@ -158,14 +158,19 @@ module _ (tree : Tree) (t : TaskTree) (h : IsToldNone tree t) where
       ⊎_elim (λ a. clause_tells c parts.0 k a there) (λ a. clauses_tell cs parts.1 k a there)
       (Has-append_cases (known_of_clause t.params c) (known_of_clauses t.params cs) k i)
 
+  -- what is known where the body begins
+  begun : (k : Known) → Has (scope_of tree t).known k → IsTold params ks k
+  begun k i = ⊎_elim (params_tell params ks (scope_of tree t).names k) (λ c. clauses_tell t.clauses h.sound_task.clauses k c i)
+      (Has-append_cases (known_of_params (scope_of tree t).names) (known_of_clauses t.params t.clauses) k i)
+
   pub begins_kept : Kept (task_code tree t) t tree params (scope_of tree t)
   begins_kept = record {
     sound = h.sound;
     sound_task = h.sound_task;
     needs = refl;
     many = refl;
-    known = λ k i. ⊎_elim (params_tell params ks (scope_of tree t).names k) (λ c. clauses_tell t.clauses h.sound_task.clauses k c i)
-        (Has-append_cases (known_of_params (scope_of tree t).names) (known_of_clauses t.params t.clauses) k i);
+    known = begun;
+    begun = begun;
     next = omega arith;
     placed = params_placed params tree t.params 0 t.params;
   }

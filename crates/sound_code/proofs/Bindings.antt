@@ -90,7 +90,6 @@ over_points w x u body p =
 -- a root that is made is one that the task made
 pub root_shape : (t : TaskCode) (way : Way) (w : Where) (k : Kind) (sp : ℕ) (args : List Reach) → Ground t way w.tree w.params w.scope →
     region (Some sp) true ≡ shape_in way w.params (region_type k sp args (place.Name w.scope.next))
-root_shape t all_made w k sp args g = refl
 root_shape t (by_rules task) w k sp args g = ap (region (Some sp)) (sym (le-leb w.params w.scope.next g.next))
 
 -- the statements in the arms and behind them

@@ -22,7 +22,7 @@ use Rattle.code_rules.specs.Slots.{Where, typed, bound, beside, slot_named, spar
 use Rattle.code_rules.specs.Statements.{on_line, looping, after_form, after_arm, after_arms, form_code, arms_code, else_code, block_code}
 use Rattle.code_laws.specs.Standing.{Stands}
 use Rattle.code_laws.proofs.Names.{arms_names, else_names}
-use Rattle.fit_rules.specs.Shapes.{Shape, Numeric, integer}
+use Rattle.fit_rules.specs.Shapes.{Shape, Numeric, integer, Is, own_as}
 use Rattle.fit_rules.specs.Marks.{Mark, stacked}
 use Rattle.fit_rules.specs.Fits.{Program}
 use Rattle.regent_tree.specs.StaticTypes.{place_of_space}
@@ -33,7 +33,7 @@ use Rattle.code_laws.specs.Typed.{element_field, IsTypedForm, AreTypedArms, IsTy
 use Rattle.fit_rules.specs.Shapes.{index, space}
 use Rattle.marked_code.specs.Marked.{leads_nowhere, typed_op}
 use Rattle.code_laws.proofs.Values.{scalar_simple}
-use Rattle.sound_code.specs.Named.{HasSlots, Ready}
+use Rattle.sound_code.specs.Named.{HasSlots, IsNumbered, Ready}
 use Rattle.regent_tree.specs.Scopes.{in_scope, past, Scope}
 use Rattle.regent_tree.specs.StaticTypes.{looked_up}
 use Rattle.regent_tree.specs.Typing.{scope_after_arms}
@@ -42,11 +42,12 @@ use Rattle.check_rules.specs.types.Parts.{tests_of}
 use Rattle.check_laws.specs.MeantVisits.{meant_in_arms, meant_in_else, meant_within}
 use Rattle.fit_rules.specs.Shapes.{region}
 use Rattle.sound_code.specs.Ways.{Way, shape_in, shape_of}
-use Rattle.sound_code.proofs.Bindings.{over_points, parts_told, plain_stands, root_shape, takes, widens}
+use Rattle.sound_code.proofs.Bindings.{over_points, parts_told, plain_stands, takes, widens}
+use Rattle.sound_code.proofs.Numbering.{free_number, simple_numbered}
 use Rattle.sound_code.proofs.Behind.{after_arms_ground, after_block_ground, after_form_ground, counted_simple}
 use Rattle.sound_code.proofs.Grounds.{Ground, HasFacts, facts_more, ground_looping, ground_past}
 use Rattle.sound_code.proofs.Steady.{steady_below}
-use Rattle.sound_code.proofs.Told.{ToldAll, ToldBlock, ToldForm, ToldList, told_arms, told_first, told_head, told_heads, told_listed, told_plain, told_statement}
+use Rattle.sound_code.proofs.Told.{ToldAll, ToldBlock, ToldForm, ToldList, told_arms, told_call_form, told_first, told_head, told_heads, told_listed, told_plain, told_statement}
 use Rattle.sound_code.proofs.Wanting.{may_reduce, may_write, told_index}
 use Rattle.sound_code.proofs.Asked.{Asked}
 use Rattle.sound_code.proofs.Calling.{alike_second, scalar_numeric}
@@ -135,7 +136,8 @@ module _ (g : Program) (t : TaskCode) (k slots : ℕ) (have : HasSlots t slots) 
         let u = owned w.scope.next (typed w e) in
         let same = owned_same w.scope.next (typed w e) f.0 in
         bind_marked g t k slots have forms way w m a x (shape_of (typed w e)) u _
-        (sym (ap (shape_in way w.params) same ∙ simple_named way w.params _ f.0))
+        (λ x v. subst (λ s. Is x s v) (sym (ap (shape_in way w.params) same ∙ simple_named way w.params _ f.0)))
+        (subst (λ t. IsNumbered _ (shape_in way w.params t)) (sym same) (simple_numbered way w.params _ (typed w e) f.0))
         (plain_marked g t k slots have forms way w m a (typed w e) e w.scope.next _ _ f.0
         (value_marked g t k slots have forms way w m a e [] f.1
         (told_plain way forms w e f.1 (told_heads w.tree w.scope way (var_form x None (Some (plain_initializer e))) told)) pc
@@ -144,19 +146,24 @@ module _ (g : Program) (t : TaskCode) (k slots : ℕ) (have : HasSlots t slots) 
     form_marked w m (var_form x None (Some (region_initializer e u))) f a told within pc st =
         let sp = place_of_space w.tree u.name in
         let v = var_type w.tree w.scope None (Some (region_initializer e u)) in
-        bind_marked g t k slots have forms way w m a x (region (Some sp) true) v _ (root_shape t way w (kind_of_ispace (typed w e)) sp (map (looked_up (in_scope w.scope)) u.args) a.ground)
-        (root_marked g t k slots have forms way w m a e sp f.1 f.2
+        let free = free_number t way w.tree w.params w.scope (var_form x None (Some (region_initializer e u))) m.slots (kind_of_ispace (typed w e)) sp
+        (map (looked_up (in_scope w.scope)) u.args) a.ground told a.ready.numbered in
+        bind_marked g t k slots have forms way w m a x (region (Some sp) (own_as free.number)) v _ free.becomes (free.named _ refl)
+        (root_marked g t k slots have forms way w m a e sp free.number free.others f.1 f.2
         (told_head w.tree w.scope way (var_form x None (Some (region_initializer e u))) e refl told) f.3 pc st.0.0) (stored g t k slots have forms way w m a _ _ st.1)
     form_marked w m (var_form x (Some term) (Some (plain_initializer e))) f a told within pc st =
         let u = var_type w.tree w.scope (Some term) (Some (plain_initializer e)) in
-        bind_marked g t k slots have forms way w m a x (shape_of u) u _ (sym (simple_named way w.params u (scalar_simple u (alike_second _ _ f.0))))
+        let simple = scalar_simple u (alike_second _ _ f.0) in
+        bind_marked g t k slots have forms way w m a x (shape_of u) u _ (λ x v. subst (λ s. Is x s v) (sym (simple_named way w.params u simple)))
+        (simple_numbered way w.params _ u simple)
         (both g t k (value_marked g t k slots have forms way w m a e [] f.1
         (told_plain way forms w e f.1 (told_heads w.tree w.scope way (var_form x (Some term) (Some (plain_initializer e))) told)) pc st.0.0)
         (converted_marked g t k slots have forms way w m a _ _ [] f.0))
         (stored g t k slots have forms way w m a _ _ st.1)
     form_marked w m (var_form x (Some term) None) f a told within pc st =
         let u = var_type w.tree w.scope (Some term) None in
-        bind_marked g t k slots have forms way w m a x (shape_of u) u _ (sym (simple_named way w.params u (scalar_simple u f)))
+        bind_marked g t k slots have forms way w m a x (shape_of u) u _ (λ x v. subst (λ s. Is x s v) (sym (simple_named way w.params u (scalar_simple u f))))
+        (simple_numbered way w.params _ u (scalar_simple u f))
         (zero_marked g t k slots have forms way w m a u f)
         (stored g t k slots have forms way w m a _ _ st.1)
     form_marked w m (if_form arms other) f a told within pc st = record {
@@ -194,7 +201,7 @@ module _ (g : Program) (t : TaskCode) (k slots : ℕ) (have : HasSlots t slots) 
         let hm = numbers.head g t k way w.params bs m a.ready a.params wd.width hi in
         let inner = block_marked lw rm body f.4 (record {
           hands = a.hands;
-          ready = round_ready way w.params bs m a.ready i i i m.facts hi b refl (ap (shape_in way w.params) wd.is)
+          ready = round_ready way w.params bs m a.ready i i i m.facts hi b refl (ap (shape_in way w.params) wd.is) tt tt tt
               (steady_below w.params (length bs) _ m.facts (omega arith) a.ready.facts);
           params = a.params;
           result = a.result;
@@ -230,7 +237,7 @@ module _ (g : Program) (t : TaskCode) (k slots : ℕ) (have : HasSlots t slots) 
         let fs = points.counting g t k way w.params bs m a.ready a.params hi in
         let inner = block_marked lw rm body f.2 (record {
           hands = a.hands;
-          ready = round_ready way w.params bs m a.ready space index index fs hi b refl (tk.shape way w.params)
+          ready = round_ready way w.params bs m a.ready space index index fs hi b refl (tk.shape way w.params) tt tt tt
               (points.are_counts g t k way w.params bs m a.ready a.params hi);
           params = a.params;
           result = a.result;
@@ -250,7 +257,7 @@ module _ (g : Program) (t : TaskCode) (k slots : ℕ) (have : HasSlots t slots) 
     form_marked w m (do_form body) f a told within pc st = unchanged g t k way _ _ m _ a.ready
         (closed_block g t k way _ _ m _ (block_marked w m body f a within pc st))
     form_marked w m (fill_form r fields e) f a told within pc st = fill_marked g t k slots have forms way w m a r fields e f.0 told f.1 f.2 f.3 pc st
-    form_marked w m (call_form task args) f a told within pc st = call_marked g t k slots have forms way w m a task args f.1 f.2
+    form_marked w m (call_form task args) f a told within pc st = call_marked g t k slots have forms way w m a task args f.1 f.2 (told_call_form w.tree w.scope way task args told)
         (told_listed w.tree w.scope way args (told_heads w.tree w.scope way (call_form task args) told)) pc st
     form_marked w m (assert_form e) f a told within pc st = assert_marked g t k slots have forms way w m a e f.0 f.1
         (told_head w.tree w.scope way (assert_form e) e refl told) pc st.0

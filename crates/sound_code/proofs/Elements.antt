@@ -104,7 +104,7 @@ module _ (g : Program) (t : TaskCode) (k : ℕ) (way : Way) (w : Where) (m : Mar
       both g t k (nothing_done g t k _)
       (both g t k (marked pc st.1.0) (both g t k (standing_number (typed w e) _ h)
       (both g t k (does g t k _ (instr.At s) w.line (pointer 1 ∷ us)
-      (does_element s (Some sp) _ us (record { made = there.made; shape = there.shape }) (number_numeric _ h)))
+      (does_element s (Some sp) _ us (record { origin = there.origin; shape = there.shape }) (number_numeric _ h)))
       (both g t k (nothing_done g t k _)
       (both g t k
       (subst (λ y. Marked g t k (stacked m (pointer 1 ∷ us)) (one w (instr.Read y fp)) (stacked m (shape_of out ∷ us))) (sym goes)
@@ -141,7 +141,7 @@ module _ (g : Program) (t : TaskCode) (k : ℕ) (way : Way) (w : Where) (m : Mar
             both g t k
             (both g t k (nothing_done g t k _) (both g t k (marked _ st.0.1.0) (both g t k (standing_number (typed w e) _ h)
             (both g t k (does g t k _ (instr.At s) w.line us1
-            (does_element s (Some sp) _ _ (record { made = there.made; shape = there.shape }) (number_numeric _ h)))
+            (does_element s (Some sp) _ _ (record { origin = there.origin; shape = there.shape }) (number_numeric _ h)))
             (both g t k (nothing_done g t k _) (nothing_done g t k _))))))
             (subst (λ y. Marked g t k (stacked m us1) (one w (instr.Write y fp (width_of (field_kind w.tree sp fp)))) (stacked m us)) (sym goes)
             (subst (λ y. Marked g t k (stacked m us1) (one w (instr.Write (s ∷ []) fp (width_of y))) (stacked m us)) (kind_same g w.tree way known sp fp)
@@ -168,7 +168,7 @@ module _ (g : Program) (t : TaskCode) (k : ℕ) (way : Way) (w : Where) (m : Mar
             both g t k
             (both g t k (nothing_done g t k _) (both g t k (marked _ st.0.1.0) (both g t k (standing_number (typed w e) _ h)
             (both g t k (does g t k _ (instr.At s) w.line us1
-            (does_element s (Some sp) _ _ (record { made = there.made; shape = there.shape }) (number_numeric _ h)))
+            (does_element s (Some sp) _ _ (record { origin = there.origin; shape = there.shape }) (number_numeric _ h)))
             (both g t k (nothing_done g t k _) (nothing_done g t k _))))))
             (subst (λ y. Marked g t k (stacked m us1) (one w (instr.Reduce y fp o (width_of (field_kind w.tree sp fp)))) (stacked m us)) (sym goes)
             (subst (λ y. Marked g t k (stacked m us1) (one w (instr.Reduce (s ∷ []) fp o (width_of y))) (stacked m us)) (kind_same g w.tree way known sp fp)

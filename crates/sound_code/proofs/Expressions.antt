@@ -40,7 +40,7 @@ use Rattle.sound_code.proofs.Granting.{allowed, May}
 use Rattle.sound_code.proofs.Handed.{all_handed, handed, handed_unconverted, scalar_handed}
 use Rattle.sound_code.proofs.Handing.{calls, handed_marked}
 pub use Rattle.sound_code.proofs.Placing.{named_at, placed_at, region_named, simple_named}
-use Rattle.sound_code.proofs.Told.{Told, ToldArgs, ToldLinks, told_arg, told_call, told_chain, told_convert, told_element, told_link, told_prefix, told_space}
+use Rattle.sound_code.proofs.Told.{Told, ToldArgs, ToldLinks, told_arg, told_call, told_called, told_chain, told_convert, told_element, told_link, told_prefix, told_space}
 use Rattle.sound_code.proofs.Wanting.{may_read}
 use Rattle.sound_code.proofs.Steady.{steady_stand}
 use Rattle.expression_laws.specs.Needs.{mode_of}
@@ -235,7 +235,7 @@ module _ (g : Program) (t : TaskCode) (k slots : ℕ) (have : HasSlots t slots) 
         let nr : Numeric (g.results place) = subst Numeric (sym same) (scalar_numeric _ fine.1) in
         subst (λ y. Goes us (expr_code w d (call_expr task args)) (y ∷ us)) same
         (both g t k (args_marked d (params_at w.tree w.scope u args) types args us fine.3 (told_call w.tree w.scope way task args told) pc st.0)
-        (both g t k (calls g t k slots forms way w m asked task (params_at w.tree w.scope u args) args us fine.2 fine.3)
+        (both g t k (calls g t k slots forms way w m asked task (params_at w.tree w.scope u args) args us fine.2 fine.3 (told_called w.tree w.scope way task args told))
         (awaited_marked (spare w d) (g.results place) us nr (omega arith) (stored _ (spare w d) st.1.1.0))))
     expr_marked d (convert_expr c e) us fine told pc st = both g t k (expr_marked d e us fine.0 (told_convert w.tree w.scope way c e told) pc st.0)
         (both g t k (standing_marked (typed w e) _ (number_simple _ fine.1)) (number_marked c (typed w e) us fine.1 fine.2))

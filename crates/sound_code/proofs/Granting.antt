@@ -1,6 +1,6 @@
 -- What the rules grant a task it may touch: through the slot of a region's name each access is allowed that is declared
 -- on a region within which it is known to lie, and any where the task made it.
-use Rattle.std.proofs.Common.{◌≡◌, ◌⊎◌, inl, inr, ℕ, ◌<◌, ◌≤◌, List, true, ◌&&◌, Some, refl, sym, ap, ◌∙◌, subst, arith}
+use Rattle.std.proofs.Common.{◌≡◌, ◌⊎◌, inl, inr, ℕ, ◌<◌, ◌≤◌, List, true, cond, ◌&&◌, Some, refl, sym, ap, ◌∙◌, subst, arith}
 use Rattle.std.specs.Prelude.{length, nat_le, slice_get, ◌==◌}
 use Rattle.std.proofs.lemmas.Bool.{and_parts, eqb-true, le-leb, or_cases}
 use Rattle.lane_kernels.specs.declared.numbers.Mode.TheVariants as mode
@@ -31,14 +31,14 @@ use Rattle.check_rules.specs.rules.Privileges.{made_above, may_do, rights_declar
 use Rattle.code_laws.specs.Simple.{IsRegion, a_region_type}
 use Rattle.expression_laws.specs.Needs.{mode_of}
 use Rattle.lane_kernels.proofs.SameOps.{same_op-tells}
-use Rattle.fit_rules.specs.Shapes.{Among, region, World}
+use Rattle.fit_rules.specs.Shapes.{Among, region, argument, own_as, own_root, World}
 use Rattle.fit_rules.specs.Marks.{Holds, in_slot, lies, LiesAt, Mark, stacked, Suits}
 use Rattle.fit_rules.specs.Fits.{Covers, declares_it, Declares, Program, reads_and_writes}
 use Rattle.fit_rules.specs.Sound.{Allowed}
 use Rattle.fit_laws.proofs.Allowing.{allowed_made}
 use Rattle.fit_laws.proofs.Lookup.{each_among}
 use Rattle.sound_code.specs.Named.{slot_at}
-use Rattle.sound_code.specs.Ways.{Way, all_made, by_rules, opening_facts, shape_in}
+use Rattle.sound_code.specs.Ways.{Way, all_made, by_rules, opening_facts, origin_in, shape_in}
 use Rattle.sound_code.proofs.Asked.{Known as KnownTasks}
 use Rattle.sound_code.proofs.Declaring.{is_need, need_of}
 use Rattle.sound_code.proofs.Elements.{field_there}
@@ -188,11 +188,11 @@ module _ (g : Program) (t : TaskCode) (task : TaskTree) (tree : Tree) (params : 
           reads_and_writes o (declared f Read both.0 x vs st h r er p ep) (declared f Write both.1 x vs st h r er p ep)
     ]
 
-    allowed_name : (sp f : ℕ) (a : Access) → slice_get m.slots (slot_at params place) ≡ Some (region (Some sp) (nat_le params i)) →
+    allowed_name : (sp f : ℕ) (a : Access) → slice_get m.slots (slot_at params place) ≡ Some (region (Some sp) (origin_in (by_rules task) params (Name i))) →
         ((nat_le params i ≡ true) → Allowed g t m sp f (mode_of a) (slot_at params place)) →
         may_do (rights_declared tree task) s.known (wanting f a (Name i)) ≡ true → Allowed g t m sp f (mode_of a) (slot_at params place)
     allowed_name sp f a there made e = elim (or_cases _ _ e) [
-      | inl d ↦ record { made = nat_le params i; shape = there; covers = λ x vs st h r er p ep. covered f a d x vs st h r er p ep }
+      | inl d ↦ record { origin = origin_in (by_rules task) params (Name i); shape = there; covers = λ x vs st h r er p ep. covered f a d x vs st h r er p ep }
       | inr d ↦ made (of_made (Has-from_list_any (made_above s.known (Name i)) s.known d))
     ]
       where
@@ -214,9 +214,10 @@ module _ (g : Program) (t : TaskCode) (w_tree : Tree) (params : ℕ) (s : Scope)
       (us : List _) → IsRegion u → slice_get m.slots (slot_at params place) ≡ Some (shape_in way params u) → InPlace way params place u →
       f < length (space_at w_tree (space_in u)).fields → May way w_tree s u f a → Allowed g t (stacked m us) (space_in u) f (mode_of a) (slot_at params place)
   allowed all_made known ground facts _ place f a us (a_region_type k sp args r) there stands l may =
-      allowed_made g t (stacked m us) sp f (slot_at params place) (mode_of a) there (field_there g w_tree all_made known sp f l)
+      allowed_made g t (stacked m us) sp f (slot_at params place) (mode_of a) own_root tt there (field_there g w_tree all_made known sp f l)
   allowed (by_rules task) known ground facts _ place f a us (a_region_type k sp args (Name i)) there stands l may =
       allowed_name g t task w_tree params s (stacked m us) ep ground facts i place stands sp f a there
-      (λ made. allowed_made g t (stacked m us) sp f (slot_at params place) (mode_of a) (there ∙ ap (λ b. Some (region (Some sp) b)) made)
+      (λ made. allowed_made g t (stacked m us) sp f (slot_at params place) (mode_of a) (own_as i) tt
+      (there ∙ ap (λ b. Some (region (Some sp) (cond b (own_as i) (argument i)))) made)
       (field_there g w_tree (by_rules task) known sp f l)) may
   allowed (by_rules task) known ground facts _ place f a us (a_region_type k sp args (Child p c)) there stands l may = absurd stands

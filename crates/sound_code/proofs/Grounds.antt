@@ -8,7 +8,7 @@ use Rattle.regent_tree.specs.declared.facts.Term.TheVariants.{Name, Child}
 use Rattle.regent_tree.specs.declared.typing.Bound.{Bound}
 use Rattle.regent_tree.specs.declared.typing.StaticType.{StaticType}
 use Rattle.regent_tree.specs.declared.typing.StaticType.TheVariants.{Region as region_type}
-use Rattle.regent_tree.specs.Scopes.{Scope, knowing, known_of_type, past, with_name}
+use Rattle.regent_tree.specs.Scopes.{Scope, knowing, known_of_type, past, scope_of, with_name}
 use Rattle.regent_tree.specs.Syntax.{Tree, TaskTree, Name as Named}
 use Rattle.regent_tree.specs.Typing.{known_of_child, owned}
 use Rattle.regent_tree.proofs.Members.{Has, Has-append_cases}
@@ -49,6 +49,7 @@ pub record Kept (t : TaskCode) (task : TaskTree) (tree : Tree) (params : ℕ) (s
   pub known : (k : Known) → Has s.known k → IsTold params (opening_facts (by_rules task) tree task) k
   pub next : params ≤ s.next
   pub placed : Each (IsPlaced params) s.names
+  pub begun : (k : Known) → Has (scope_of tree task).known k → IsTold params (opening_facts (by_rules task) tree task) k
 
 abbrev pub Ground : TaskCode → Way → Tree → ℕ → Scope → Type 0
 Ground t all_made tree params s = Unit {0}
@@ -99,6 +100,7 @@ module _ (t : TaskCode) (task : TaskTree) (tree : Tree) (params : ℕ) where
     known = λ k i. ⊎_elim (h.known k) (tells k) (Has-append_cases s.known more k i);
     next = let l = h.next in omega (arith, l);
     placed = (o, h.placed);
+    begun = h.begun;
   }
 
   kept_past : (s inner : Scope) → Kept t task tree params s → Kept t task tree params inner → Kept t task tree params (past s inner)
@@ -110,6 +112,7 @@ module _ (t : TaskCode) (task : TaskTree) (tree : Tree) (params : ℕ) where
     known = i.known;
     next = i.next;
     placed = h.placed;
+    begun = h.begun;
   }
 
   none_told : (more : List Known) → more ≡ [] → (k : Known) → Has more k → IsTold params ks k
@@ -125,6 +128,7 @@ module _ (t : TaskCode) (task : TaskTree) (tree : Tree) (params : ℕ) where
     known = h.known;
     next = let l = h.next in omega (arith, l);
     placed = (o, h.placed);
+    begun = h.begun;
   }
 
 module _ (t : TaskCode) (tree : Tree) (params : ℕ) where

@@ -14,7 +14,7 @@ use Rattle.fit_rules.specs.Shapes.{Each, Shape}
 use Rattle.fit_rules.specs.Marks.{Mark}
 use Rattle.fit_rules.specs.Sound.{HasRegion}
 use Rattle.sound_code.specs.Named.{slot_at, AreNamed}
-use Rattle.sound_code.specs.Ways.{Way, all_made, by_rules, is_own, shape_in, shape_of}
+use Rattle.sound_code.specs.Ways.{Way, all_made, by_rules, origin_in, shape_in, shape_of}
 use Rattle.sound_code.proofs.Granting.{InPlace}
 use Rattle.sound_code.proofs.Grounds.{Ground, IsPlaced, OfType}
 
@@ -41,7 +41,7 @@ simple_named way params _ (simple_index c) = refl
 -- a name of a region has one in its slot
 pub region_named : (way : Way) (params : ℕ) (m : Mark) (s : ℕ) (u : StaticType) → IsRegion u → slice_get m.slots s ≡ Some (shape_in way params u) →
     HasRegion m (Some (space_in u)) s
-region_named way params m s _ (a_region_type k sp args r) e = record { made = is_own way params r; shape = e }
+region_named way params m s _ (a_region_type k sp args r) e = record { origin = origin_in way params r; shape = e }
 
 -- a region of a name that has a parameter's number stands in its place
 pub placed_at : (t : TaskCode) (way : Way) (tree : Tree) (params : ℕ) (s : Scope) (n : Name) → Ground t way tree params s → is_bound s.names n ≡ true →

@@ -8,8 +8,9 @@ use Rattle.fit_rules.specs.Shapes.{Each, Shape}
 use Rattle.fit_rules.specs.Marks.{Fact, Mark}
 use Rattle.fit_laws.proofs.Keeping.{get_other, get_set}
 use Rattle.sound_code.specs.Ways.{Way, shape_in}
-use Rattle.sound_code.specs.Named.{IsSteady, slot_at, Ready, Narrower}
+use Rattle.sound_code.specs.Named.{IsNumbered, IsSteady, slot_at, Ready, Narrower}
 use Rattle.sound_code.proofs.Combining.{slot_next}
+use Rattle.sound_code.proofs.Numbering.{each_numbered, numbered_set}
 use Rattle.sound_code.proofs.Narrowing.{narrow_itself, narrow_set, named_behind}
 
 -- the shapes of the limit or domain, of the counter and of the variable, and what is known of them
@@ -49,8 +50,9 @@ module _ (way : Way) (params : ℕ) (bs : List Bound) (m : Mark) (r : Ready way 
     limit_there = get_other (slice_set m.slots be B) co be C (λ e. omega (arith, e)) ∙ get_set m.slots be B hi
 
     pub round_ready : (b : Bound) → b.place ≡ length bs → shape_in way params b.static_type ≡ V →
-        Each (IsSteady params (suc (length bs))) fs → Ready way params (b ∷ bs) round_mark
-    round_ready b eb es counts = record {
+        IsNumbered (b ∷ bs) B → IsNumbered (b ∷ bs) C → IsNumbered (b ∷ bs) V → Each (IsSteady params (suc (length bs))) fs →
+        Ready way params (b ∷ bs) round_mark
+    round_ready b eb es nb nc nv counts = record {
       named = (
         eb,
         ap (λ y. slice_get round_mark.slots (slot_at params y)) eb
@@ -66,6 +68,8 @@ module _ (way : Way) (params : ℕ) (bs : List Bound) (m : Mark) (r : Ready way 
           ∙ get_other (slice_set m.slots be B) co j C (λ q. omega (arith, q, l, next))
           ∙ get_other m.slots be j B (λ q. omega (arith, q, l, next))
           ∙ r.free j (omega (arith, l, next)) (omega (arith, h, long_round));
+      numbered = numbered_set (b ∷ bs) (slice_set head_mark.slots va V) co C (numbered_set (b ∷ bs) head_mark.slots va V
+          (numbered_set (b ∷ bs) (slice_set m.slots be B) co C (numbered_set (b ∷ bs) m.slots be B (each_numbered bs b m.slots r.numbered) nb) nc) nv) nc;
       facts = counts;
       low = omega (arith, r.low);
     }

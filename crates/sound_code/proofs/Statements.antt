@@ -29,18 +29,20 @@ use Rattle.code_laws.specs.Simple.{IsTruth, AreAlike, IsScalar, scalar_integer, 
 use Rattle.code_laws.specs.Standing.{Stands}
 use Rattle.code_laws.specs.Steps.{Forms, without_pointers}
 use Rattle.code_laws.specs.Typed.{ArePassed, IsCallable, IsMakable, IsTyped}
-use Rattle.fit_rules.specs.Shapes.{Shape, integer, truth, space, region, NumberIs, Is, numeric_truth}
+use Rattle.fit_rules.specs.Shapes.{Each, Shape, integer, truth, space, region, own_as, NumberIs, Is, World, numeric_truth}
 use Rattle.fit_rules.specs.Marks.{Mark, stacked}
 use Rattle.fit_rules.specs.Fits.{Program}
-use Rattle.fit_rules.specs.Sound.{Settled, settled_number, does_num, does_assert, does_drop}
+use Rattle.fit_rules.specs.Sound.{IsOther, Settled, settled_number, does_num, does_assert, does_drop}
 use Rattle.marked_code.specs.Marked.{leads_back, leads_making, typed_op, typed_branch, typed_loop}
 use Rattle.fit_laws.proofs.Keeping.{get_other, get_set, set_mark}
 use Rattle.code_laws.proofs.Values.{scalar_simple}
-use Rattle.sound_code.specs.Named.{slot_at, HasSlots, Ready, Narrower}
+use Rattle.sound_code.specs.Named.{slot_at, HasSlots, IsNumbered, Ready, Narrower}
 use Rattle.sound_code.specs.Ways.{Way, shape_in, shape_of}
 use Rattle.sound_code.proofs.Steady.{steady_below}
-use Rattle.sound_code.proofs.Told.{Told, ToldArgs}
+use Rattle.sound_code.proofs.Told.{Told, ToldArgs, ToldCall}
 use Rattle.sound_code.proofs.Asked.{Asked}
+use Rattle.sound_code.proofs.Numbering.{each_numbered, numbered_set}
+use Rattle.machine_terms.specs.declared.value.Value.{Value}
 use Rattle.sound_code.proofs.Calling.{alike_second, scalar_numeric}
 use Rattle.sound_code.proofs.Handing.{calls}
 use Rattle.sound_code.proofs.Combining.{Marked, nothing_done, both, does, into, behind_kept, named_kept, keeping, slot_high, slot_next, storing}
@@ -60,9 +62,9 @@ scalar_settled u p = settled_number _ (scalar_numeric u p)
 
 -- one more name
 named_more : (way : Way) (params : ℕ) (bs : List Bound) (m : Mark) (b : Bound) → Ready way params bs m →
-    slot_at params (length bs) < length m.slots → b.place ≡ length bs →
+    slot_at params (length bs) < length m.slots → b.place ≡ length bs → IsNumbered (b ∷ bs) (shape_in way params b.static_type) →
     Ready way params (b ∷ bs) (set_mark m (slot_at params (length bs)) (shape_in way params b.static_type) [])
-named_more way params bs m b r hi e = record {
+named_more way params bs m b r hi e numbered = record {
   named = (
     e,
     ap (λ y. slice_get (slice_set m.slots (slot_at params (length bs)) (shape_in way params b.static_type)) (slot_at params y)) e
@@ -73,6 +75,7 @@ named_more way params bs m b r hi e = record {
       let next = slot_next params (length bs) r.low in
       get_other m.slots _ j _ (λ q. omega (arith, q, l, next))
       ∙ r.free j (omega (arith, l, next)) (omega (arith, h, length-set m.slots (slot_at params (length bs)) (shape_in way params b.static_type)));
+  numbered = numbered_set (b ∷ bs) m.slots (slot_at params (length bs)) (shape_in way params b.static_type) (each_numbered bs b m.slots r.numbered) numbered;
   facts = steady_below params (length bs) (suc (length bs)) m.facts (omega arith) r.facts;
   low = omega (arith, r.low);
 }
@@ -144,19 +147,20 @@ module _ (g : Program) (t : TaskCode) (k slots : ℕ) (have : HasSlots t slots) 
       (truth_shape _ h) (value_marked e us f told pc st)
 
   -- a value of a type is stored as that of a new name of an alike type
-  pub bind_marked : (n : Name) (a : Shape) (u : StaticType) (p : Piece) → a ≡ shape_in way w.params u →
+  pub bind_marked : (n : Name) (a : Shape) (u : StaticType) (p : Piece) → ((x : World) (v : Value) → Is x a v → Is x (shape_in way w.params u) v) →
+      IsNumbered (new_name n u ∷ w.scope.names) (shape_in way w.params u) →
       Marked g t k (stacked m []) p (stacked m (a ∷ [])) → slot_at w.params (length w.scope.names) < length m.slots →
       Followed g t k way w.params (new_name n u ∷ w.scope.names) m
       (p ⨟ op (instr.Store (slot_at w.params (length w.scope.names))) w.line)
-  bind_marked n a u p same f hi =
+  bind_marked n a u p becomes numbered f hi =
       let r = asked.ready in
       let s = slot_at w.params (length w.scope.names) in
       record {
         next = set_mark m s (shape_in way w.params u) [];
         is = both g t k f (storing g t k m s a (shape_in way w.params u) [] w.line (behind_kept way w.params w.scope.names m s r (omega arith))
             (omega (arith, slot_high w.params (length w.scope.names) r.low, asked.params)) hi
-            (λ x v h. subst (λ y. Is x y v) same h));
-        ready = named_more way w.params w.scope.names m (new_name n u) r hi refl;
+            becomes);
+        ready = named_more way w.params w.scope.names m (new_name n u) r hi refl numbered;
         narrower = narrow_set m.slots m.slots s _ (narrow_itself m.slots) (inl (r.free s (omega arith) hi));
         facts = refl;
       }
@@ -168,14 +172,14 @@ module _ (g : Program) (t : TaskCode) (k slots : ℕ) (have : HasSlots t slots) 
   zero_marked _ scalar_truth = does g t k _ (instr.Num (pos 0)) w.line _ (does_num (pos 0) truth [] (inl refl))
 
   -- a root is made, whose field space is there
-  pub root_marked : (e : Expression) (sp : ℕ) → IsSpace (typed w e) → IsTyped (without_pointers forms) w e → Told way w.tree w.scope e → IsMakable w.tree sp → (pc : ℕ) →
+  pub root_marked : (e : Expression) (sp i : ℕ) → Each (IsOther i) m.slots → IsSpace (typed w e) → IsTyped (without_pointers forms) w e → Told way w.tree w.scope e → IsMakable w.tree sp → (pc : ℕ) →
       Stands t.body pc (expr_code w 0 e) →
-      Marked g t k (stacked m []) (expr_code w 0 e ⨟ one w (instr.NewRoot sp)) (stacked m (region (Some sp) true ∷ []))
-  root_marked e sp is f told can pc st =
+      Marked g t k (stacked m []) (expr_code w 0 e ⨟ one w (instr.NewRoot sp)) (stacked m (region (Some sp) (own_as i) ∷ []))
+  root_marked e sp i others is f told can pc st =
       both g t k (subst (λ y. Marked g t k (stacked m []) (expr_code w 0 e) (stacked m (y ∷ []))) (space_shape (typed w e) is)
       (value_marked e [] f told pc st)) (record {
         marks = _;
-        is = typed_op _ _ _ w.line (leads_making (stacked m (space ∷ [])) sp c [] refl there few);
+        is = typed_op _ _ _ w.line (leads_making (stacked m (space ∷ [])) sp i c [] refl there few others tt);
       })
     where
       space_shape : (u : StaticType) → IsSpace u → shape_of u ≡ space
@@ -220,15 +224,16 @@ module _ (g : Program) (t : TaskCode) (k slots : ℕ) (have : HasSlots t slots) 
 
   -- a call whose result is left
   pub call_marked : (task : Name) (args : Expressions) → IsCallable forms w task args →
-      ArePassed (without_pointers forms) w (params_at w.tree w.scope (task_named w.tree task) args) (param_types w.tree (task_named w.tree task)) args → ToldArgs way w.tree w.scope args →
+      ArePassed (without_pointers forms) w (params_at w.tree w.scope (task_named w.tree task) args) (param_types w.tree (task_named w.tree task)) args →
+      ToldCall way w.tree w.scope task args → ToldArgs way w.tree w.scope args →
       (pc : ℕ) → Stands t.body pc (form_code w (call_form task args)) →
       Followed g t k way w.params w.scope.names m (form_code w (call_form task args))
-  call_marked task args is passed told pc st =
+  call_marked task args is passed called told pc st =
       let u = task_named w.tree task in
       let ts = params_at w.tree w.scope u args in
       unchanged g t k way _ _ m _ asked.ready
       (both g t k (args_marked g t k slots have forms way w m asked 0 ts (param_types w.tree u) args [] passed told pc st.0)
-      (both g t k (calls g t k slots forms way w m asked task ts args [] is passed)
+      (both g t k (calls g t k slots forms way w m asked task ts args [] is passed called)
       (does g t k _ instr.Drop w.line [] (does_drop _ []))))
 
   pub while_marked : (test : Expression) (p : Piece) → IsTruth (typed w test) → IsTyped (without_pointers forms) w test → Told way w.tree w.scope test → (pc : ℕ) →

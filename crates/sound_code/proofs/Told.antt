@@ -4,7 +4,7 @@ use Rattle.std.proofs.lemmas.Bool.{and_parts}
 use Rattle.plain_values.proofs.Plain.{option_or_parts}
 use Rattle.regent_tree.specs.Lookup.{type_named}
 use Rattle.regent_tree.specs.Scopes.{Scope}
-use Rattle.regent_tree.specs.Syntax.{Tree, TaskTree, Name, Arms, Block, Expression, Expressions, Form, Links, a_link, a_statement, access_expr, an_arm, an_expr, at_step, call_expr, chain_expr, convert_expr, field_step, no_link, no_step, prefix_expr, space_expr, then_statement}
+use Rattle.regent_tree.specs.Syntax.{Tree, TaskTree, Name, Arms, call_form, Block, Expression, Expressions, Form, Links, a_link, a_statement, access_expr, an_arm, an_expr, at_step, call_expr, chain_expr, convert_expr, field_step, no_link, no_step, prefix_expr, space_expr, then_statement}
 use Rattle.regent_tree.specs.Typing.{scope_after, scope_after_block}
 use Rattle.regent_tree.specs.Scopes.{past}
 use Rattle.regent_tree.specs.declared.expression.Arithmetic.TheVariants.{Subtract}
@@ -15,9 +15,13 @@ use Rattle.regent_tree.specs.declared.types.Kind.{Kind}
 use Rattle.regent_tree.specs.declared.types.NumberTerm.{NumberTerm}
 use Rattle.regent_tree.specs.declared.typing.StaticType.{StaticType}
 use Rattle.regent_tree.proofs.Members.{Has, Has-append_left, Has-append_right}
-use Rattle.check_rules.specs.first.FirstInExpressions.{first_in_args, first_in_expression, first_in_links, first_in_type}
+use Rattle.check_rules.specs.first.FirstInExpressions.{first_in_args, first_in_expression, first_in_links, first_in_type, first_of_call}
+use Rattle.check_rules.specs.first.FirstInStatements.{first_in_targets, first_of_initializer}
+use Rattle.check_rules.specs.rules.Names.{unbound_name_in_form}
+use Rattle.check_rules.specs.types.KnownTypes.{known_types}
+use Rattle.check_rules.specs.types.TypedForms.{calling}
 use Rattle.check_rules.specs.first.Rules.{first_in, rule_if}
-use Rattle.check_rules.specs.scopes.Visits.{Visit, heads_of}
+use Rattle.check_rules.specs.scopes.Visits.{Visit, call_of_form, heads_of, initializer_at}
 use Rattle.check_rules.specs.types.Parts.{listed}
 use Rattle.check_rules.specs.scopes.Variables.{members_of}
 use Rattle.check_laws.specs.Laws.{IsWithoutBreach}
@@ -51,6 +55,12 @@ abbrev pub ToldArgs : Way → Tree → Scope → Expressions → Type 0
 ToldArgs all_made tree s es = Unit {0}
 ToldArgs (by_rules task) tree s es = IsSoundScope s × (first_in_args tree task s es ≡ None)
 
+-- a call, wherever it stands
+abbrev pub ToldCall : Way → Tree → Scope → Name → Expressions → Type 0
+ToldCall all_made tree s n es = Unit {0}
+ToldCall (by_rules task) tree s n es =
+    IsSoundScope s × (first_in_args tree task s es ≡ None) × (first_of_call tree task s (calling n (known_types tree s es)) ≡ None)
+
 module _ (tree : Tree) (s : Scope) where
   pub told_chain : (way : Way) (first : Expression) (rest : Links) → Told way tree s (chain_expr first rest) →
       Told way tree s first × ToldLinks way tree s rest
@@ -80,6 +90,12 @@ module _ (tree : Tree) (s : Scope) where
   pub told_call : (way : Way) (n : Name) (es : Expressions) → Told way tree s (call_expr n es) → ToldArgs way tree s es
   told_call all_made n es h = tt
   told_call (by_rules task) n es h = (h.0, (option_or_parts (first_in_args tree task s es) _ h.1).0)
+
+  pub told_called : (way : Way) (n : Name) (es : Expressions) → Told way tree s (call_expr n es) → ToldCall way tree s n es
+  told_called all_made n es h = tt
+  told_called (by_rules task) n es h =
+      let p = option_or_parts (first_in_args tree task s es) _ h.1 in
+      (h.0, p.0, (option_or_parts (first_of_call tree task s (calling n (known_types tree s es))) _ p.1).0)
 
   pub told_arg : (way : Way) (e : Expression) (es : Expressions) → ToldArgs way tree s (an_expr e es) → Told way tree s e × ToldArgs way tree s es
   told_arg all_made e es h = (tt, tt)
@@ -154,6 +170,19 @@ module _ (tree : Tree) where
 
     pub told_head : (way : Way) (form : Form) (e : Expression) → heads_of s.names form ≡ e ∷ [] → ToldForm way tree s form → Told way tree s e
     told_head way form e same h = (told_first way e [] (subst (ToldList way tree s) same (told_heads way form h))).0
+
+    pub told_call_form : (way : Way) (n : Name) (es : Expressions) → ToldForm way tree s (call_form n es) → ToldCall way tree s n es
+    told_call_form all_made n es h = tt
+    told_call_form (by_rules task) n es h =
+        let form = call_form n es in
+        let a = option_or_parts (first_in (first_in_type tree s.names) (declared_at form)) _ h.1.form in
+        let b = option_or_parts (rule_if (has_no_type form) rule.Type) _ a.1 in
+        let c = option_or_parts (first_in (first_in_expression tree task s) (heads_of s.names form)) _ b.1 in
+        let d = option_or_parts (first_in_targets tree task s form) _ c.1 in
+        let f = option_or_parts (rule_if (unbound_name_in_form tree s.names form) rule.Name) _ d.1 in
+        let g = option_or_parts (first_in (first_of_initializer tree task s) (initializer_at form)) _ f.1 in
+        let i = option_or_parts (first_in (first_of_call tree task s) (call_of_form tree s form)) _ g.1 in
+        (h.1.scope, listed_told tree task s es c.0, (option_or_parts (first_of_call tree task s (calling n (known_types tree s es))) _ i.0).0)
 
     pub told_listed : (way : Way) (es : Expressions) → ToldList way tree s (listed es) → ToldArgs way tree s es
     told_listed all_made es h = tt

@@ -1,11 +1,11 @@
 -- The shapes of names in scope: what a mark between two statements says.
-use Rattle.std.specs.Prelude.{◌≡◌, ℕ, ◌<◌, ◌≤◌, ◌+◌, ◌*◌, ◌-◌, List, [], ◌∷◌, length, Some, slice_get}
+use Rattle.std.specs.Prelude.{◌≡◌, ℕ, ◌<◌, ◌≤◌, ◌+◌, ◌*◌, ◌-◌, List, [], ◌∷◌, length, map, Some, slice_get}
 use Rattle.regent_tree.specs.declared.typing.Bound.{Bound}
 use Rattle.task_code.specs.declared.code.Line.{Line}
 use Rattle.task_code.specs.declared.code.TaskCode.{TaskCode}
 use Rattle.machine_terms.specs.Jumps.{fetch}
 use Rattle.code_rules.specs.Used.{slots_used}
-use Rattle.fit_rules.specs.Shapes.{Each, Shape, anything}
+use Rattle.fit_rules.specs.Shapes.{Among, Each, Shape, anything, region, own_as}
 use Rattle.fit_rules.specs.Marks.{apart, counts, Fact, in_slot, lies, Mark}
 use Rattle.sound_code.specs.Ways.{Way, shape_in}
 
@@ -30,12 +30,19 @@ pub data IsSteady (params n : ℕ) : Fact → Type 0 where
   is_within : (i j : ℕ) → i < params → j < params → IsSteady params n (lies (in_slot i) (in_slot j))
   is_apart : (i j : ℕ) → i < params → j < params → IsSteady params n (apart (in_slot i) (in_slot j))
 
+-- what has a shape is a root that was made under the number of a name, if under any
+abbrev pub IsNumbered : List Bound → Shape → Type 0
+IsNumbered bs (region sp (own_as i)) = Among (map (λ (b : Bound). b.number) bs) i
+IsNumbered bs s = Unit {0}
+
 -- A mark stands between two statements: the names have their shapes, of the slots behind those of the
--- names nothing is known, and facts speak of the counters of loops around, and of parameters.
+-- names nothing is known, roots are those of names, and facts speak of the counters of loops around, and of
+-- parameters.
 pub record Ready (way : Way) (params : ℕ) (bs : List Bound) (m : Mark) : Type 0 where
   pub named : AreNamed way params m.slots bs
   pub free : (s : ℕ) → slot_at params (length bs) ≤ s → s < length m.slots →
       slice_get m.slots s ≡ Some anything
+  pub numbered : Each (IsNumbered bs) m.slots
   pub facts : Each (IsSteady params (length bs)) m.facts
   pub low : params ≤ length bs
 

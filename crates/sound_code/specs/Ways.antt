@@ -8,7 +8,7 @@ use Rattle.regent_tree.specs.declared.facts.Term.{Term}
 use Rattle.regent_tree.specs.declared.facts.Term.TheVariants.{Name, Child}
 use Rattle.regent_tree.specs.declared.typing.StaticType.{StaticType}
 use Rattle.regent_tree.specs.declared.typing.StaticType.TheVariants.{Integer as integer_type, Truth as truth_type, Index as index_type, Pointer as pointer_type, Ispace as ispace_type, Region as region_type, Partition as partition_type}
-use Rattle.fit_rules.specs.Shapes.{Shape, anything, integer, truth, index, pointer, space, region, partition}
+use Rattle.fit_rules.specs.Shapes.{Shape, anything, integer, truth, index, pointer, space, region, partition, Origin, unknown, argument, own_root, own_as}
 use Rattle.fit_rules.specs.Marks.{apart, Fact, in_slot, lies}
 
 -- A task is looked at in one of two ways: as one that made each region which it names, or by the rules on its
@@ -17,11 +17,12 @@ pub data Way : Type 0 where
   all_made : Way
   by_rules : TaskTree → Way
 
--- whether a region is known to be one that the task made: by the rules one that was bound behind its parameters
-abbrev pub is_own : Way → ℕ → Term → Bool
-is_own all_made params r = true
-is_own (by_rules task) params (Name i) = nat_le params i
-is_own (by_rules task) params (Child p c) = false
+-- where a region comes from, by what names it: by the rules that of a parameter is the argument's, and any other was
+-- made under its number
+abbrev pub origin_in : Way → ℕ → Term → Origin
+origin_in all_made params r = own_root
+origin_in (by_rules task) params (Name i) = cond (nat_le params i) (own_as i) (argument i)
+origin_in (by_rules task) params (Child p c) = unknown
 
 -- the shape of a value of a type
 abbrev pub shape_of : StaticType → Shape
@@ -30,13 +31,13 @@ shape_of truth_type = truth
 shape_of (index_type k) = index
 shape_of (pointer_type k sp args rs) = pointer (length rs)
 shape_of (ispace_type k) = space
-shape_of (region_type k sp args r) = region (Some sp) true
+shape_of (region_type k sp args r) = region (Some sp) own_root
 shape_of (partition_type d r p) = partition None d
 shape_of _ = anything
 
 -- the shape of what a name of a type stands for
 abbrev pub shape_in : Way → ℕ → StaticType → Shape
-shape_in way params (region_type k sp args r) = region (Some sp) (is_own way params r)
+shape_in way params (region_type k sp args r) = region (Some sp) (origin_in way params r)
 shape_in way params t = shape_of t
 
 -- what a constraint tells of parameters in their slots
