@@ -226,6 +226,7 @@ module _ (g : Program) (x : World) (t : TaskCode) (k : ℕ) (m : Machine) (fit :
     (
       fit,
       e,
+      none,
       λ q er ef h. record {
         inside = fit.inside;
         suits = fit.suits;
@@ -322,7 +323,7 @@ module _ (g : Program) (x : World) (t : TaskCode) (k : ℕ) (m : Machine) (fit :
       (sym (same_op-itself o))
       (set_safe_at root f p _ q c ss st h b ep ec
       (subst (λ y. CellNumber (kind_at g (x.spaces root) f) (shape_at g (x.spaces root) f) y (applied o (width_of (kind_at g (x.spaces root) f)) c.value (wrapped (width_of (kind_at g (x.spaces root) f)) z))) (sym em)
-      (closed o (width_of (kind_at g (x.spaces root) f)) c.value _)))
+      (closed o (width_of (kind_at g (x.spaces root) f)) c.value _, λ y i. reduced_is _ _ w o y _ kp e)))
 
   set_found_safe : (root f p : ℕ) (a : Mode) (w : Width) (z : ℤ) (o : Found) (ss : List Shape) (st : List Value) →
       To g t k (stacked (g.marks k m.frame.pc) ss) (suc m.frame.pc) → Are x ss st →

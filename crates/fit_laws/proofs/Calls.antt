@@ -70,7 +70,7 @@ own_grown g x s [] = refl
 own_grown g x s (r ∷ rs) =
     ap (λ more. root_claims g r (x.spaces r) (x.points r) ++ more) (own_grown g x s rs)
 
-claims_grown : (g : Program) (x : World) (s : Shape) (t : TaskCode) → claims g (grown x s) t ≡ claims g x t
+pub claims_grown : (g : Program) (x : World) (s : Shape) (t : TaskCode) → claims g (grown x s) t ≡ claims g x t
 claims_grown g x s t = ap (λ more. declared_claims t.needs x.args ++ more) (own_grown g x s x.own)
 
 -- ---- opening frames

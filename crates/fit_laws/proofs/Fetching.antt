@@ -1,9 +1,10 @@
 -- A part that the run in order fetches has a cell where the field is claimed, in the mode to which the claims join, with
 -- the number that is kept, or with the identity of a reduction.
-use Rattle.std.proofs.Common.{◌≡◌, ◌⊎◌, inl, inr, ⊎_elim, ℕ, ℤ, List, [], ◌∷◌, map, Bool, true, false, cond, Option, Some, None, refl, sym, ap, ◌∙◌, subst}
+use Rattle.std.proofs.lemmas.Int.{ints}
+use Rattle.std.proofs.Common.{◌≡◌, ◌⊎◌, inl, inr, ⊎_elim, ℕ, ℤ, List, [], ◌∷◌, map, Bool, true, false, cond, Option, Some, None, refl, sym, ap, ◌∙◌, subst, arith}
 use Rattle.std.specs.Prelude.{length, replicate, get_or, ◌==◌}
 use Rattle.std.proofs.lemmas.Bool.{eqb-false, eqb-true, false≢true}
-use Rattle.lane_kernels.proofs.Operators.{identity}
+use Rattle.lane_kernels.proofs.Operators.{commutative, identity}
 use Rattle.lane_kernels.specs.declared.numbers.FieldKind.{FieldKind}
 use Rattle.lane_kernels.specs.declared.numbers.FieldKind.TheVariants as kind
 use Rattle.lane_kernels.specs.declared.numbers.Mode.{Mode}
@@ -21,7 +22,7 @@ use Rattle.machine_terms.specs.Contents.{kept_at, kind_of, kinds_of}
 use Rattle.machine_terms.specs.Copies.{piece_of}
 use Rattle.machine_terms.specs.Parts.{Cell, cell_at, cell_of, value_beside}
 use Rattle.fit_rules.specs.Shapes.{Among, NumberIs, Shape}
-use Rattle.fit_rules.specs.Fits.{CellFits, claims, kind_at, shape_at}
+use Rattle.fit_rules.specs.Fits.{CellFits, claims, kind_at, shape_at, Folds, kept_as}
 use Rattle.fit_laws.specs.Makes.{PartsAreFetched}
 
 -- ---- numbers beside points
@@ -76,7 +77,7 @@ none_of_all (Some (mode.Reduce Greatest)) h = absurd (false≢true (sym (h (mode
 
 module _ (of_field : FieldKind) (c : Contents) (root f : ℕ) where
   -- the number that is fetched at a point
-  abbrev IsFetched : Mode → ℕ → ℤ → Type 0
+  abbrev pub IsFetched : Mode → ℕ → ℤ → Type 0
   IsFetched (mode.Reduce o) p z = z ≡ identity_of o (width_of of_field)
   IsFetched m p z = z ≡ kept_at c root f p
 
@@ -99,15 +100,15 @@ module _ (of_field : FieldKind) (c : Contents) (root f : ℕ) where
       (beside (IsFetched (mode.Reduce o)) xs (replicate (length xs) (identity_of o (width_of of_field))) p
       (beside_same (identity_of o (width_of of_field)) xs))
 
-  abbrev pieces : List (List ℕ × Mode) → List Held
+  abbrev pub pieces : List (List ℕ × Mode) → List Held
   pieces qs = map (λ (q : List ℕ × Mode). piece_of of_field c root f q.1 q.0) qs
 
   module _ (rs : List Requirement) (p : ℕ) where
-    abbrev here : Option Mode
+    abbrev pub here : Option Mode
     here = mode_at rs root f p
 
     -- none of some modes is that of the claims and no cell is there, or one is
-    abbrev IsSeen : List Mode → Option Cell → Type 0
+    abbrev pub IsSeen : List Mode → Option Cell → Type 0
     IsSeen ms k = (((m : Mode) → Among ms m → is_mode m here ≡ false) × (k ≡ None))
         ⊎ ((m : Mode) × (z : ℤ) × (here ≡ Some m) × (k ≡ Some (record { mode = m; value = z })) × IsFetched m p z)
 
@@ -115,7 +116,7 @@ module _ (of_field : FieldKind) (c : Contents) (root f : ℕ) where
     not_first m ms k e (inl h) = inl (λ n i. ⊎_elim (λ q. subst (λ y. is_mode y here ≡ false) q e) (h.0 n) i, h.1)
     not_first m ms k e (inr h) = inr h
 
-    seen : (ms : List Mode) → IsSeen ms (cell_at (pieces (parts_of_modes rs root f ms)) p)
+    pub seen : (ms : List Mode) → IsSeen ms (cell_at (pieces (parts_of_modes rs root f ms)) p)
     seen [] = inl (λ m h. absurd h, refl)
     seen (m ∷ ms) = of (points_joined rs root f m) refl (seen ms)
       where
@@ -136,14 +137,17 @@ module _ (of_field : FieldKind) (c : Contents) (root f : ℕ) where
             let same : is_mode m here ≡ has (x ∷ xs) p = sym (has-points_joined rs root f m p) ∙ ap (λ ys. has ys p) e in
             by (has (x ∷ xs) p) x xs same (head_cell m (x ∷ xs) (pieces parts) p) more
 
-    cell_fits : (s : Shape) → ((m : Mode) → here ≡ Some m → NumberIs s (kept_at c root f p)) →
+    cell_fits : (s : Shape) → ((y : ℤ) → NumberIs s y → FitsWidth (width_of of_field) y) →
+        ((m : Mode) → here ≡ Some m → NumberIs s (kept_at c root f p)) →
         CellFits of_field s (cell_at (pieces (parts_of_modes rs root f all_modes)) p) here
-    cell_fits s fits = of (seen all_modes)
+    cell_fits s narrow fits = of (seen all_modes)
       where
         number : (m : Mode) (z : ℤ) → here ≡ Some m → IsFetched m p z → CellFits of_field s (Some (record { mode = m; value = z })) (Some m)
         number mode.Read z e h = (refl, subst (NumberIs s) (sym h) (fits mode.Read e))
         number mode.Write z e h = (refl, subst (NumberIs s) (sym h) (fits mode.Write e))
-        number (mode.Reduce o) z e h = (refl, subst (FitsWidth (width_of of_field)) (sym h) (identity o (width_of of_field)).0)
+        number (mode.Reduce o) z e h = (refl, subst (Folds of_field s o) (sym h) ((identity o (width_of of_field)).0,
+            λ y i. subst (NumberIs s) (sym (commutative o (width_of of_field) y (identity_of o (width_of of_field)) (narrow y i) (identity o (width_of of_field)).0
+            ∙ (identity o (width_of of_field)).1 y (narrow y i))) i))
 
         of : IsSeen all_modes (cell_at (pieces (parts_of_modes rs root f all_modes)) p) →
             CellFits of_field s (cell_at (pieces (parts_of_modes rs root f all_modes)) p) here
@@ -151,6 +155,15 @@ module _ (of_field : FieldKind) (c : Contents) (root f : ℕ) where
             (subst (CellFits of_field s None) (sym (none_of_all here h.0)) tt)
         of (inr h) = subst (λ k. CellFits of_field s k here) (sym h.3)
             (subst (CellFits of_field s (Some (record { mode = h.0; value = h.1 }))) (sym h.2) (number h.0 h.1 h.2 h.4))
+
+-- what a field of a kind keeps fits its width
+pub kept_narrow : (k : FieldKind) (n : ℕ) (y : ℤ) → NumberIs (kept_as k n) y → FitsWidth (width_of k) y
+kept_narrow kind.Int32 n y h = h
+kept_narrow kind.Int64 n y h = h
+kept_narrow kind.Truth n y (inl e) = omega (arith, ints, e)
+kept_narrow kind.Truth n y (inr e) = omega (arith, ints, e)
+kept_narrow kind.Index n y h = h
+kept_narrow kind.Pointer n y h = h.0
 
 pub parts_are_fetched : PartsAreFetched
 parts_are_fetched g x t contents root f agrees there fits =
@@ -160,5 +173,6 @@ parts_are_fetched g x t contents root f agrees there fits =
       kind = same;
       cells = λ p. subst (λ k. CellFits k (shape_at g (x.spaces root) f)
           (cell_at (pieces (kind_of g.code contents root f) contents root f (parts_of_modes (claims g x t) root f all_modes)) p) (mode_at (claims g x t) root f p)) same
-          (cell_fits (kind_of g.code contents root f) contents root f (claims g x t) p (shape_at g (x.spaces root) f) (fits p));
+          (cell_fits (kind_of g.code contents root f) contents root f (claims g x t) p (shape_at g (x.spaces root) f)
+          (λ y i. subst (λ k. FitsWidth (width_of k) y) (sym same) (kept_narrow (kind_at g (x.spaces root) f) (g.positions (x.spaces root) f) y i)) (fits p));
     }

@@ -35,7 +35,7 @@ module _ (g : Program) (x : World) (contents : Contents) (agrees : AgreesWith x 
       ∙ ap (required_before (Some (requires h.0.region.root.0 h.0.region.points n.mode n.field))) (all_told ns args h.1)
       ∙ ap (λ o. Some (claim_on n o (declared_claims ns args))) (sym h.0.argument)
 
-passes : (g : Program) (x : World) (t : TaskCode) (c : CallOut) → CallsWell g x t c → PassesTest g x t c
+pub passes : (g : Program) (x : World) (t : TaskCode) (c : CallOut) → CallsWell g x t c → PassesTest g x t c
 passes g x t c w = record {
   callee = w.callee;
   there = w.there;

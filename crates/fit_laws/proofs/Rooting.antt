@@ -39,13 +39,13 @@ module _ (x : World) (i root sp n : ℕ) (fresh : x.there root ≡ false) where
   right_true true = refl
   right_true false = refl
 
-  still_there : (r : ℕ) → x.there r ≡ true → (rooted x i root sp n).there r ≡ true
+  pub still_there : (r : ℕ) → x.there r ≡ true → (rooted x i root sp n).there r ≡ true
   still_there r h = ap (λ b. (r == root) || b) h ∙ right_true (r == root)
 
   same_points : (r : ℕ) → x.there r ≡ true → (rooted x i root sp n).points r ≡ x.points r
   same_points r h = ap (λ b. cond b (points n) (x.points r)) (old_root r h)
 
-  same_space : (r : ℕ) → x.there r ≡ true → (rooted x i root sp n).spaces r ≡ x.spaces r
+  pub same_space : (r : ℕ) → x.there r ≡ true → (rooted x i root sp n).spaces r ≡ x.spaces r
   same_space r h = ap (λ b. cond b sp (x.spaces r)) (old_root r h)
 
   -- what was made last under another number
@@ -104,7 +104,7 @@ module _ (x : World) (i root sp n : ℕ) (fresh : x.there root ≡ false) where
   not_new : (r : ℕ) → x.there r ≡ true → root ≢ r
   not_new r h e = false≢true (sym fresh ∙ ap x.there e ∙ h)
 
-  own_new_or_old : (xs : List ℕ) (q : ℕ) → Among (xs ++ root ∷ []) q → Among xs q ⊎ (root ≡ q)
+  pub own_new_or_old : (xs : List ℕ) (q : ℕ) → Among (xs ++ root ∷ []) q → Among xs q ⊎ (root ≡ q)
   own_new_or_old [] q (inl e) = inr e
   own_new_or_old [] q (inr h) = absurd h
   own_new_or_old (y ∷ xs) q (inl e) = inl (inl e)
@@ -146,7 +146,7 @@ module _ (x : World) (i root sp n : ℕ) (fresh : x.there root ≡ false) where
       ∙ ap (λ b. root_claims g root (cond b sp (x.spaces root)) (cond b (points n) (x.points root)))
       (eq-eqb root root refl)
 
-  claims_rooted : (g : Program) (t : TaskCode) → ((r : ℕ) → Among x.own r → x.there r ≡ true) →
+  pub claims_rooted : (g : Program) (t : TaskCode) → ((r : ℕ) → Among x.own r → x.there r ≡ true) →
       claims g (rooted x i root sp n) t ≡ claims g x t ++ root_claims g root sp (points n)
   claims_rooted g t h =
       ap (λ l. declared_claims t.needs x.args ++ l) (own_both g (rooted x i root sp n) x.own (root ∷ [])

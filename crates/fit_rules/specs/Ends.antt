@@ -21,7 +21,7 @@ use Rattle.machine_terms.specs.declared.value.Value.TheVariants as value
 use Rattle.machine_terms.specs.Machine.{Machine, Stepped, goes, prints, stops}
 use Rattle.machine_terms.specs.Opening.{opening}
 use Rattle.machine_terms.specs.Orders.{settled}
-use Rattle.machine_terms.specs.Parts.{is_needed}
+use Rattle.machine_terms.specs.Parts.{is_needed, part_of}
 use Rattle.machine_terms.specs.Pointers.{region_in}
 use Rattle.machine_terms.specs.Regions.{sets_of}
 use Rattle.fit_rules.specs.Shapes.{Among, Each, Shape, anything, NumberIs, World}
@@ -123,12 +123,12 @@ without_parts m = record m { parts = [] }
 -- ---- ends
 
 -- What a machine stops for may be waited for, and the machine fits once it has come: a part that is
--- needed, and a child's value of its task's result type. After calls it fits beside the new
+-- needed and isn't held, and a child's value of its task's result type. After calls it fits beside the new
 -- children, and no part is held. A new root is none that was there, and is made under some number. A partition is within its region
 -- and keeps its flag. The value of an end is of the task's result type.
 abbrev pub IsMet : Program → World → TaskCode → ℕ → Yield → Machine → Type 0
 IsMet g x t k (yield.Want root f) m = Fits g x t k m
-    × (is_needed m.frame.needs.items root.0 f ≡ true)
+    × (is_needed m.frame.needs.items root.0 f ≡ true) × (part_of m.parts root.0 f ≡ None)
     × ((q : Part) → q.root.0 ≡ root.0 → q.field ≡ f → PartFits g x t root.0 f q →
     Fits g x t k (with_part q m))
 IsMet g x t k (yield.Await i) m = Fits g x t k m × (i < x.children)

@@ -6,7 +6,7 @@ use Rattle.lane_kernels.specs.declared.numbers.Mode.{Mode}
 use Rattle.lane_kernels.specs.declared.numbers.Mode.TheVariants as mode
 use Rattle.lane_kernels.specs.declared.numbers.Op.{Op}
 use Rattle.lane_kernels.specs.declared.numbers.Width.TheVariants.{W32, W64}
-use Rattle.lane_kernels.specs.Numbers.{FitsWidth, width_of}
+use Rattle.lane_kernels.specs.Numbers.{FitsWidth, applied, width_of}
 use Rattle.plain_values.specs.Points.{has, points}
 use Rattle.region_tree.specs.declared.needs.Need.{Need}
 use Rattle.region_tree.specs.declared.piece.Part.{Part}
@@ -114,9 +114,13 @@ pub data Covers (g : Program) (x : World) (t : TaskCode) (root f p : ℕ) : Mode
 
 -- ---- parts
 
+-- A number of a reduction fits its field's width, and what it is folded into stays of the field's shape.
+abbrev pub Folds : FieldKind → Shape → Op → ℤ → Type 0
+Folds k s o z = FitsWidth (width_of k) z × ((y : ℤ) → NumberIs s y → NumberIs s (applied o (width_of k) y z))
+
 -- the number in a cell
 abbrev pub CellNumber : FieldKind → Shape → Mode → ℤ → Type 0
-CellNumber k s (mode.Reduce o) z = FitsWidth (width_of k) z
+CellNumber k s (mode.Reduce o) z = Folds k s o z
 CellNumber k s _ z = NumberIs s z
 
 -- a point is held where the field is claimed there, in the mode to which the claims join
