@@ -13,10 +13,10 @@ use Rattle.machine_terms.specs.Jumps.{fetch, may_jump, goes_back}
 use Rattle.code_rules.specs.Pieces.{Piece, past, line_of}
 use Rattle.code_laws.specs.Standing.{Stands}
 use Rattle.code_laws.proofs.Values.{past_later}
-use Rattle.fit_rules.specs.Shapes.{Among, Each, truth, space, region, awaited}
+use Rattle.fit_rules.specs.Shapes.{Among, Each, truth, space, region, awaited, own_as}
 use Rattle.fit_rules.specs.Marks.{ColoursStand, counts, Mark, Suits, Into, stacked, the_colour, top_colour, topped}
 use Rattle.fit_rules.specs.Fits.{Program}
-use Rattle.fit_rules.specs.Sound.{Effect, Opens, RoundNumber, RoundPoint, Takes, To, ToStored, Sound, straight, stored, jumps, jumps_if_not, jumps_and, jumps_or, counts_numbers, counts_points, takes_turn, returns, returns_value, colours, awaits, makes_root, makes_call}
+use Rattle.fit_rules.specs.Sound.{Effect, Opens, RoundNumber, RoundPoint, Takes, To, ToStored, Sound, straight, stored, jumps, jumps_if_not, jumps_and, jumps_or, counts_numbers, counts_points, takes_turn, returns, returns_value, colours, awaits, makes_root, makes_call, IsOther}
 use Rattle.marked_code.specs.Bodies.{MarksAt}
 use Rattle.marked_code.specs.Marked.{Leads, leads_on, leads_storing, leads_nowhere, leads_back, leads_coloured, leads_calling, leads_waiting, leads_making, Typed, typed_empty, typed_op, typed_both, typed_into, typed_from, typed_and, typed_or, typed_if, typed_branch, typed_loop, typed_rounds, typed_points}
 
