@@ -1,6 +1,7 @@
 -- What is asked of a place of a body: what is known of the program's tasks, and that the mark is ready there.
 use Rattle.std.proofs.Common.{◌≡◌, ℕ, ◌-◌, [], ◌++◌, map, None, Some}
 use Rattle.std.specs.Prelude.{length, replicate, slice_get}
+use Rattle.regent_tree.specs.Scopes.{scope_of}
 use Rattle.regent_tree.specs.Syntax.{TaskTree, Tree}
 use Rattle.regent_tree.specs.Typing.{param_types, result_type}
 use Rattle.task_code.specs.declared.code.TaskCode.{TaskCode}
@@ -8,6 +9,7 @@ use Rattle.code_rules.specs.Instructions.{tasks_of}
 use Rattle.code_rules.specs.Programs.{code_of, task_code}
 use Rattle.code_rules.specs.Slots.{Where}
 use Rattle.code_laws.specs.Steps.{Forms, Taking}
+use Rattle.code_laws.specs.Taking.{pairs_in}
 use Rattle.fit_rules.specs.Shapes.{anything}
 use Rattle.fit_rules.specs.Marks.{Mark}
 use Rattle.fit_rules.specs.Fits.{Program}
@@ -36,16 +38,12 @@ pub record Known (way : Way) (g : Program) (tree : Tree) : Type 0 where
       g.results k ≡ shape_of (result_type tree u.result)
   pub begins : (k : ℕ) (u : TaskTree) → slice_get (tasks_of tree) k ≡ Some u → g.marks k 0 ≡ opening_mark (other way u) tree u
 
--- no task tells anything of its parameters
-abbrev pub AreFree : Tree → Type 0
-AreFree tree = (k : ℕ) (u : TaskTree) → slice_get (tasks_of tree) k ≡ Some u → opening_facts (by_rules u) tree u ≡ []
-
--- No regions are handed over; or, by the rules, those that the task made, and those that it took, by what its code needs,
--- where no task has constraints.
+-- No regions are handed over; or, by the rules, those that the task made, and those that it took, by what its code needs
+-- and what its clauses tell of them.
 pub data Hands (forms : Forms) (t : TaskCode) (way : Way) (tree : Tree) : Type 0 where
   hands_none : forms.takes ≡ None → Hands forms t way tree
   hands_taken : (task : TaskTree) (y : Taking) → way ≡ by_rules task → forms.takes ≡ Some y → y.params ≡ t.params → y.needs ≡ t.needs →
-      y.within ≡ [] → AreFree tree → Hands forms t way tree
+      y.within ≡ pairs_in (scope_of tree task).known → Hands forms t way tree
 
 module _ (g : Program) (t : TaskCode) (k n : ℕ) where
   pub record Asked (forms : Forms) (way : Way) (w : Where) (m : Mark) : Type 0 where

@@ -87,11 +87,6 @@ over_points w x u body p =
     ⨟ rounds (instr.NextPoint (beside w (new_place w)) (counter w (new_place w)) (slot w (new_place w)) p) w.line
     (block_code (looping w x (taken_from u)) body)
 
--- a root that is made is one that the task made
-pub root_shape : (t : TaskCode) (way : Way) (w : Where) (k : Kind) (sp : ℕ) (args : List Reach) → Ground t way w.tree w.params w.scope →
-    region (Some sp) true ≡ shape_in way w.params (region_type k sp args (place.Name w.scope.next))
-root_shape t (by_rules task) w k sp args g = ap (region (Some sp)) (sym (le-leb w.params w.scope.next g.next))
-
 -- the statements in the arms and behind them
 pub parts_told : (tree : Tree) (way : Way) (s : Scope) (arms : Arms) (other : Otherwise) → ToldAll way tree (λ task. meant_within tree task s (if_form arms other)) →
     ToldAll way tree (λ task. meant_in_arms tree task s arms) × ToldAll way tree (λ task. meant_in_else tree task (scope_after_arms tree s arms) other)

@@ -61,7 +61,7 @@ use Rattle.sound_code.proofs.Narrowing.{narrow_itself, narrow_then, narrow_long,
 use Rattle.sound_code.proofs.Prints.{print_marked}
 use Rattle.sound_code.proofs.Rounds.{long_round, round_narrow, round_ready}
 use Rattle.sound_code.proofs.SpaceLoops as points
-use Rattle.sound_code.proofs.Statements.{Followed, unchanged, owned_same, plain_marked, value_marked, zero_marked, root_marked, bind_marked, assign_marked, return_marked, assert_marked, call_marked, closed_block, while_marked, branch_marked}
+use Rattle.sound_code.proofs.Statements.{Followed, new_name, unchanged, owned_same, plain_marked, value_marked, zero_marked, root_marked, bind_marked, assign_marked, return_marked, assert_marked, call_marked, closed_block, while_marked, branch_marked}
 
 module _ (g : Program) (t : TaskCode) (k slots : ℕ) (have : HasSlots t slots) (forms : Forms) (way : Way) where
   -- what is asked of a place
@@ -137,7 +137,8 @@ module _ (g : Program) (t : TaskCode) (k slots : ℕ) (have : HasSlots t slots) 
         let same = owned_same w.scope.next (typed w e) f.0 in
         bind_marked g t k slots have forms way w m a x (shape_of (typed w e)) u _
         (λ x v. subst (λ s. Is x s v) (sym (ap (shape_in way w.params) same ∙ simple_named way w.params _ f.0)))
-        (subst (λ t. IsNumbered _ (shape_in way w.params t)) (sym same) (simple_numbered way w.params _ (typed w e) f.0))
+        (subst (λ y. IsNumbered (new_name g t k slots have forms way w m a x u ∷ w.scope.names) (shape_in way w.params y)) (sym same)
+        (simple_numbered way w.params (new_name g t k slots have forms way w m a x u ∷ w.scope.names) (typed w e) f.0))
         (plain_marked g t k slots have forms way w m a (typed w e) e w.scope.next _ _ f.0
         (value_marked g t k slots have forms way w m a e [] f.1
         (told_plain way forms w e f.1 (told_heads w.tree w.scope way (var_form x None (Some (plain_initializer e))) told)) pc
@@ -148,14 +149,15 @@ module _ (g : Program) (t : TaskCode) (k slots : ℕ) (have : HasSlots t slots) 
         let v = var_type w.tree w.scope None (Some (region_initializer e u)) in
         let free = free_number t way w.tree w.params w.scope (var_form x None (Some (region_initializer e u))) m.slots (kind_of_ispace (typed w e)) sp
         (map (looked_up (in_scope w.scope)) u.args) a.ground told a.ready.numbered in
-        bind_marked g t k slots have forms way w m a x (region (Some sp) (own_as free.number)) v _ free.becomes (free.named _ refl)
+        bind_marked g t k slots have forms way w m a x (region (Some sp) (own_as free.number)) v _ free.becomes
+        (free.named (new_name g t k slots have forms way w m a x v) refl)
         (root_marked g t k slots have forms way w m a e sp free.number free.others f.1 f.2
         (told_head w.tree w.scope way (var_form x None (Some (region_initializer e u))) e refl told) f.3 pc st.0.0) (stored g t k slots have forms way w m a _ _ st.1)
     form_marked w m (var_form x (Some term) (Some (plain_initializer e))) f a told within pc st =
         let u = var_type w.tree w.scope (Some term) (Some (plain_initializer e)) in
         let simple = scalar_simple u (alike_second _ _ f.0) in
         bind_marked g t k slots have forms way w m a x (shape_of u) u _ (λ x v. subst (λ s. Is x s v) (sym (simple_named way w.params u simple)))
-        (simple_numbered way w.params _ u simple)
+        (simple_numbered way w.params (new_name g t k slots have forms way w m a x u ∷ w.scope.names) u simple)
         (both g t k (value_marked g t k slots have forms way w m a e [] f.1
         (told_plain way forms w e f.1 (told_heads w.tree w.scope way (var_form x (Some term) (Some (plain_initializer e))) told)) pc st.0.0)
         (converted_marked g t k slots have forms way w m a _ _ [] f.0))
@@ -163,7 +165,7 @@ module _ (g : Program) (t : TaskCode) (k slots : ℕ) (have : HasSlots t slots) 
     form_marked w m (var_form x (Some term) None) f a told within pc st =
         let u = var_type w.tree w.scope (Some term) None in
         bind_marked g t k slots have forms way w m a x (shape_of u) u _ (λ x v. subst (λ s. Is x s v) (sym (simple_named way w.params u (scalar_simple u f))))
-        (simple_numbered way w.params _ u (scalar_simple u f))
+        (simple_numbered way w.params (new_name g t k slots have forms way w m a x u ∷ w.scope.names) u (scalar_simple u f))
         (zero_marked g t k slots have forms way w m a u f)
         (stored g t k slots have forms way w m a _ _ st.1)
     form_marked w m (if_form arms other) f a told within pc st = record {

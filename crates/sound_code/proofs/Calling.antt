@@ -251,7 +251,7 @@ simples_told way tree t x ts ws h a = each (opening_facts way tree t) (opening_s
 module _ (g : Program) (t : TaskCode) (k : ℕ) (way : Way) (w : Where) (known : Known way g w.tree) where
   pub opens : (m : Mark) (task : ℕ) (u : TaskTree) → slice_get (tasks_of w.tree) task ≡ Some u → (task_code w.tree u).needs ≡ [] →
       Each IsScalar (param_types w.tree u) → Opens g t m task (task_code w.tree u) (map shape_of (param_types w.tree u))
-  opens m task u there none scalars x vs st ws s a = (
+  opens m task u there none scalars x vs st ws knows s a = (
     subst (λ y. Suits (called x ws) (length u.params) y (ws ++ replicate ((task_code w.tree u).slots - length ws) (Number (pos 0))) [])
         (sym (known.begins task u there))
         (opening_suits (other way u) w.tree u x ws

@@ -42,6 +42,7 @@ use Rattle.sound_code.specs.Ways.{Way, all_made, by_rules, opening_facts, origin
 use Rattle.sound_code.proofs.Asked.{Known as KnownTasks}
 use Rattle.sound_code.proofs.Declaring.{is_need, need_of}
 use Rattle.sound_code.proofs.Elements.{field_there}
+use Rattle.sound_code.proofs.Lying.{is_lower, Lower, number_of_name}
 use Rattle.sound_code.proofs.Grounds.{Ground, HasFacts, IsTold, Kept, OfType, tells_made, tells_within}
 
 -- the term of a region's type
@@ -58,10 +59,6 @@ abbrev pub InPlace : Way → ℕ → ℕ → StaticType → Type 0
 InPlace all_made params place u = Unit {0}
 InPlace (by_rules task) params place u = OfType params place u
 
-abbrev number_of_name : Term → ℕ
-number_of_name (Name i) = i
-number_of_name (Child p c) = 0
-
 -- accesses that are told alike are of one mode
 same_modes : (a b : Access) → same_access a b ≡ true → mode_of a ≡ mode_of b
 same_modes Read Read e = refl
@@ -76,66 +73,12 @@ same_modes (Reduce p) Write e = absurd cc
 
 module _ (g : Program) (t : TaskCode) (task : TaskTree) (tree : Tree) (params : ℕ) (s : Scope) (m : Mark)
     (ep : params ≡ t.params) (kept : Kept t task tree params s) (facts : HasFacts (by_rules task) tree m.facts) where
-  -- a parameter's region lies within that of another one
-  abbrev Inside : ℕ → ℕ → Type 0
-  Inside i j = (x : World) (vs st : List Value) → Suits x t.params m vs st → (r : RegionValue) →
-      region_in (slice_get vs i) ≡ Some r → LiesAt vs r (in_slot j)
+  -- what is derived of a name
+  abbrev Below : Term → Term → Type 0
+  Below = Lower t.params params (opening_facts (by_rules task) tree task) m
 
-  pub record AreInside (i : ℕ) (b : Term) : Type 0 where
-    pub upper : ℕ
-    pub is : b ≡ Name upper
-    pub low : i < params
-    pub high : upper < params
-    pub inside : Inside i upper
-
-  -- what is derived of a name: it is the same, or both are parameters
-  abbrev Lower : Term → Term → Type 0
-  Lower (Name i) b = (Name i ≡ b) ⊎ AreInside i b
-  Lower (Child p c) b = Unit {0}
-
-  of_told : (a b : Term) → IsTold params (opening_facts (by_rules task) tree task) (Within a b) → Lower a b
-  of_told _ _ (tells_within i j li lj h) = inr (record {
-    upper = j;
-    is = refl;
-    low = li;
-    high = lj;
-    inside = λ x vs st q r e. each_among (λ y. Holds y vs) m.facts (lies (in_slot i) (in_slot j)) (facts _ h) q.facts r e;
-  })
-
-  -- by way of a third
-  by_third : (a b c : Term) → Lower a b → Lower b c → Lower a c
-  by_third (Child p d) b c h l = tt
-  by_third (Name i) b c (inl e) l = subst (λ y. Lower y c) (sym e) l
-  by_third (Name i) b c (inr h) l = elim (subst (λ y. Lower y c) h.is l) [
-    | inl e ↦ inr (record { upper = h.upper; is = sym e; low = h.low; high = h.high; inside = h.inside })
-    | inr k ↦ inr (record {
-      upper = k.upper;
-      is = k.is;
-      low = h.low;
-      high = k.high;
-      inside = λ x vs st q r e.
-          let one = h.inside x vs st q r e in
-          let two = k.inside x vs st q one.other one.at in record {
-            other = two.other;
-            at = two.at;
-            inside = (one.inside.0 ∙ two.inside.0, λ p y. two.inside.1 p (one.inside.1 p y));
-          };
-    })
-  ]
-
-  lower : {a b : Term} → IsBelow s.known a b → Lower a b
-  lower (same {a}) = itself a
-    where
-      itself : (a : Term) → Lower a a
-      itself (Name i) = inl refl
-      itself (Child p c) = tt
-  lower (told_within {a} {b} h) = of_told a b (kept.known (Within a b) (Has-from_Contains s.known (Within a b) h))
-  lower (through {a} {b} {c} h l) = by_third a b c (lower h) (lower l)
-  lower (child h) = tt
-  lower (variable {s = i} {p = p} {c = c} h) = of_told (Name i) (Child p c) (kept.known _ (Has-from_Contains s.known _ h))
-
-  is_lower : (a b : Term) → is_subregion s.known a b ≡ true → Lower a b
-  is_lower a b e = lower ((is_subregion-derivable s.known a b).0 e).below
+  below_by : (a b : Term) → is_subregion s.known a b ≡ true → Below a b
+  below_by = is_lower t.params params (opening_facts (by_rules task) tree task) m facts s.known kept.known
 
   module _ (i place : ℕ) (stands : i < params → place ≡ i) where
     -- what is held on a region is declared at each of its points
@@ -150,7 +93,7 @@ module _ (g : Program) (t : TaskCode) (task : TaskTree) (tree : Tree) (params : 
         let need = is_need tree task kept.sound_task right found.1 in
         let many = kept.many in
         let high : right.region < params = omega (arith, need.low, many) in
-        let at = above right.region high (is_lower (Name i) (Name right.region) last.1) x vs st h r er in
+        let at = above right.region high (below_by (Name i) (Name right.region) last.1) x vs st h r er in
         record {
           need = need_of tree task right;
           is_there = subst (λ ns. Among ns (need_of tree task right)) (sym kept.needs) need.there;
@@ -162,7 +105,7 @@ module _ (g : Program) (t : TaskCode) (task : TaskTree) (tree : Tree) (params : 
           its_point = at.inside.1 p inp;
         }
       where
-        above : (j : ℕ) → j < params → Lower (Name i) (Name j) → (x : World) (vs st : List Value) → Suits x t.params m vs st →
+        above : (j : ℕ) → j < params → Below (Name i) (Name j) → (x : World) (vs st : List Value) → Suits x t.params m vs st →
             (r : RegionValue) → region_in (slice_get vs (slot_at params place)) ≡ Some r → LiesAt vs r (in_slot j)
         above j lj (inl e) x vs st h r er =
             let same : i ≡ j = ap number_of_name e in
@@ -196,7 +139,7 @@ module _ (g : Program) (t : TaskCode) (task : TaskTree) (tree : Tree) (params : 
       | inr d ↦ made (of_made (Has-from_list_any (made_above s.known (Name i)) s.known d))
     ]
       where
-        own : (j : ℕ) → params ≤ j → Lower (Name i) (Name j) → nat_le params i ≡ true
+        own : (j : ℕ) → params ≤ j → Below (Name i) (Name j) → nat_le params i ≡ true
         own j lj (inl q) = let same : i ≡ j = ap number_of_name q in le-leb params i (omega (arith, same, lj))
         own j lj (inr k) = let same : j ≡ k.upper = ap number_of_name k.is in let high = k.high in absurd (omega (arith, same, high, lj))
 
@@ -204,7 +147,7 @@ module _ (g : Program) (t : TaskCode) (task : TaskTree) (tree : Tree) (params : 
         behind _ (tells_made j l) = l
 
         of_made : ((k : Known) × Has s.known k × (made_above s.known (Name i) k ≡ true)) → nat_le params i ≡ true
-        of_made (Made j, h, above) = own j (behind j (kept.known (Made j) h)) (is_lower (Name i) (Name j) above)
+        of_made (Made j, h, above) = own j (behind j (kept.known (Made j) h)) (below_by (Name i) (Name j) above)
         of_made (Within a b, h, above) = absurd cc
         of_made (Apart a b, h, above) = absurd cc
         of_made (PartOf p r d, h, above) = absurd cc

@@ -22,26 +22,18 @@ use Rattle.code_laws.specs.Simple.{AreRegions, IsRegion, IsScalar, a_region_type
 use Rattle.code_laws.specs.Steps.{Forms, Taking, without_pointers}
 use Rattle.code_laws.specs.Typed.{ArePassed, IsHanded, IsTyped, name_at, name_of}
 use Rattle.code_laws.proofs.Arguments.{IsNoRegion, alike_other, first_region, given_either, handed_name, named_typed, region_other}
-use Rattle.fit_rules.specs.Shapes.{Among, Are, are_more, Each, given, Is, is_given, is_number, is_region, IsRegion as IsRegionValue, region, Shape, World}
+use Rattle.fit_rules.specs.Shapes.{Among, argument, Are, are_more, Each, Is, is_number, is_region, IsRegion as IsRegionValue, IsWhole, Origin, own_as, region, Shape, unknown, World}
 use Rattle.fit_rules.specs.Marks.{Mark, stacked}
 use Rattle.fit_rules.specs.Fits.{Program}
-use Rattle.fit_rules.specs.Sound.{does_hand, does_load, Effect, Settled, settled_given, settled_number, settled_region}
+use Rattle.fit_rules.specs.Sound.{does_load, Settled, settled_number, settled_region}
 use Rattle.fit_laws.proofs.Lookup.{any_region}
 use Rattle.marked_code.proofs.Placed.{below}
 use Rattle.sound_code.specs.Named.{slot_at}
 use Rattle.sound_code.specs.Ways.{by_rules, shape_in, shape_of}
 use Rattle.sound_code.proofs.Calling.{alike_second, scalar_numeric}
 use Rattle.sound_code.proofs.Combining.{does, Marked}
-use Rattle.sound_code.proofs.Grounds.{OfType}
-
--- ---- numbers
-
-pub not_below : (a b : ℕ) → b < a → nat_le a b ≡ false
-not_below a b l = of (nat_le a b) refl
-  where
-    of : (c : Bool) → nat_le a b ≡ c → nat_le a b ≡ false
-    of true e = absurd (omega (arith, l, leb-true a b e))
-    of false e = e
+use Rattle.sound_code.proofs.Interpreting.{high_region, low_region, made_at, meant, region_at, taken_at}
+use Rattle.regent_tree.specs.declared.facts.Term.{Term}
 
 is_below : (a b : ℕ) → nat_le a b ≡ false → b < a
 is_below a b e = elim (below b a) [
@@ -51,9 +43,10 @@ is_below a b e = elim (below b a) [
 
 -- ---- what is handed over
 
--- a region that the task took is known to be the argument; any other the task made
+-- a region that the task took is known to be the argument; any other the task made, under its number
 abbrev pub given_in : ℕ → StaticType → Shape
-given_in params (region_type k sp args (term.Name i)) = cond (nat_le params i) (region (Some sp) true) (given (Some sp) i)
+given_in params (region_type k sp args (term.Name i)) = region (Some sp) (cond (nat_le params i) (own_as i) (argument i))
+given_in params (region_type k sp args (term.Child p c)) = region (Some sp) unknown
 given_in params u = shape_of u
 
 -- the shape of an argument for a parameter of a type
@@ -86,12 +79,8 @@ handed_unconverted w y u p e h =
 
 -- it may be taken from the stack
 given_settled : (params : ℕ) (u : StaticType) → IsRegion u → Settled (given_in params u)
-given_settled params _ (a_region_type c sp args (term.Name i)) = of (nat_le params i)
-  where
-    of : (b : Bool) → Settled (cond b (region (Some sp) true) (given (Some sp) i))
-    of true = settled_region (Some sp) true
-    of false = settled_given (Some sp) i
-given_settled params _ (a_region_type c sp args (term.Child p q)) = settled_region (Some sp) true
+given_settled params _ (a_region_type c sp args (term.Name i)) = settled_region (Some sp) _
+given_settled params _ (a_region_type c sp args (term.Child p q)) = settled_region (Some sp) _
 
 module _ (forms : Forms) (w : Where) where
   pub all_settled : (ts ps : List StaticType) (es : Expressions) → ArePassed (without_pointers forms) w ts ps es → Each Settled (all_handed w ps es)
@@ -129,71 +118,72 @@ module _ (forms : Forms) (w : Where) where
 
 -- ---- a region is loaded
 
-module _ (g : Program) (t : TaskCode) (k line params : ℕ) (m : Mark) (ep : params ≡ t.params) where
-  pub region_loaded : (task : TaskTree) (place : ℕ) (u p : StaticType) (us : List Shape) → AreRegions u p → OfType params place u →
+module _ (g : Program) (t : TaskCode) (k line params : ℕ) (m : Mark) where
+  pub region_loaded : (task : TaskTree) (place : ℕ) (u p : StaticType) (us : List Shape) → AreRegions u p →
       slice_get m.slots (slot_at params place) ≡ Some (shape_in (by_rules task) params u) →
       Marked g t k (stacked m us) (op (instr.Load (slot_at params place)) line) (stacked m (given_in params u ∷ us))
-  region_loaded task place _ _ us (two_regions c d sp args brgs (term.Name i) q) o there = of (nat_le params i) refl
-    where
-      of : (b : Bool) → nat_le params i ≡ b → Marked g t k (stacked m us) (op (instr.Load (slot_at params place)) line)
-          (stacked m (cond b (region (Some sp) true) (given (Some sp) i) ∷ us))
-      of true e = does g t k (stacked m us) (instr.Load (slot_at params place)) line (region (Some sp) true ∷ us)
-          (does_load (slot_at params place) (region (Some sp) true) us (there ∙ ap (λ b. Some (region (Some sp) b)) e) (settled_region (Some sp) true))
-      of false e =
-          let low = is_below params i e in
-          let at : slot_at params place ≡ i = omega (arith, o low, low) in
-          does g t k (stacked m us) (instr.Load (slot_at params place)) line (given (Some sp) i ∷ us)
-          (subst (λ s. Effect g t (stacked m us) (instr.Load s) us (given (Some sp) i ∷ us)) (sym at)
-          (does_hand i (Some sp) (nat_le params i) us (omega (arith, low, ep))
-          (subst (λ s. slice_get m.slots s ≡ Some (region (Some sp) (nat_le params i))) at there)))
-  region_loaded task place _ _ us (two_regions c d sp args brgs (term.Child p a) q) o there = absurd o
+  region_loaded task place _ _ us (two_regions c d sp args brgs (term.Name i) q) there = does g t k (stacked m us) (instr.Load (slot_at params place)) line _
+      (does_load (slot_at params place) _ us there (settled_region (Some sp) _))
+  region_loaded task place _ _ us (two_regions c d sp args brgs (term.Child p a) q) there = does g t k (stacked m us) (instr.Load (slot_at params place)) line _
+      (does_load (slot_at params place) _ us there (settled_region (Some sp) _))
 
 -- ---- what a handed value is
 
--- It is a region of the field space: a root that the task made, or that of an argument.
+-- It is a region of the field space: the root that the task made last under a number, or that of an argument.
 pub record IsGiven (x : World) (params sp i : ℕ) (v : Value) : Type 0 where
   pub it : RegionValue
   pub is : v ≡ value.Region it
-  pub of_space : IsRegionValue x (Some sp) false it
-  pub mine : params ≤ i → Among x.own it.root.0 × (it.points ≡ x.points it.root.0)
+  pub of_space : IsRegionValue x (Some sp) unknown it
+  pub mine : params ≤ i → IsWhole x it × (x.last i ≡ Some it.root.0)
   pub taken : i < params → region_in (slice_get x.args i) ≡ Some it
 
-pub is_given_region : (x : World) (params sp i : ℕ) (v : Value) → Is x (cond (nat_le params i) (region (Some sp) true) (given (Some sp) i)) v →
+pub is_given_region : (x : World) (params sp i : ℕ) (v : Value) → Is x (region (Some sp) (cond (nat_le params i) (own_as i) (argument i))) v →
     IsGiven x params sp i v
 is_given_region x params sp i = of (nat_le params i) refl
   where
-    of : (b : Bool) → nat_le params i ≡ b → (v : Value) → Is x (cond b (region (Some sp) true) (given (Some sp) i)) v → IsGiven x params sp i v
+    of : (b : Bool) → nat_le params i ≡ b → (v : Value) → Is x (region (Some sp) (cond b (own_as i) (argument i))) v → IsGiven x params sp i v
     of true e _ (is_region _ _ r q) = record {
       it = r;
       is = refl;
-      of_space = any_region x (Some sp) true r q;
-      mine = λ l. q.whole refl;
+      of_space = any_region x (Some sp) (own_as i) r q;
+      mine = λ l. q.origin;
       taken = λ l. absurd (omega (arith, l, leb-true params i e));
     }
     of true e _ (is_number _ z h) = absurd h
-    of false e _ (is_given _ _ r q a) = record {
+    of false e _ (is_region _ _ r q) = record {
       it = r;
       is = refl;
-      of_space = q;
+      of_space = any_region x (Some sp) (argument i) r q;
       mine = λ l. absurd (omega (arith, l, is_below params i e));
-      taken = λ l. a;
+      taken = λ l. q.origin;
     }
     of false e _ (is_number _ z h) = absurd h
+
+-- it is the region of its number
+pub region_numbered : (x : World) (params sp i : ℕ) (v : Value) (q : IsGiven x params sp i v) → region_at x params i ≡ meant q.it
+region_numbered x params sp i v q = elim (below i params) [
+  | inl low ↦ low_region x params i low ∙ ap taken_at (q.taken low)
+  | inr high ↦
+      let own = q.mine high in
+      high_region x params i high ∙ ap (made_at x) own.1 ∙ ap (λ ps. record { root = q.it.root.0; points = ps }) (sym own.0.1)
+]
 
 -- a region of the field space
 pub record IsAny (x : World) (sp : ℕ) (v : Value) : Type 0 where
   pub it : RegionValue
   pub is : v ≡ value.Region it
-  pub of_space : IsRegionValue x (Some sp) false it
+  pub of_space : IsRegionValue x (Some sp) unknown it
 
 pub any_given : (x : World) (params : ℕ) (u p : StaticType) (v : Value) → AreRegions u p → Is x (given_in params u) v → IsAny x (space_in p) v
-any_given x params _ _ v (two_regions c d sp args brgs (term.Name i) q) h =
-    let r = is_given_region x params sp i v h in record { it = r.it; is = r.is; of_space = r.of_space }
-any_given x params _ _ v (two_regions c d sp args brgs (term.Child p a) q) h = of v h
+any_given x params _ _ v (two_regions c d sp args brgs r q) h = by r v h
   where
-    of : (v : Value) → Is x (region (Some sp) true) v → IsAny x sp v
-    of _ (is_region _ _ r i) = record { it = r; is = refl; of_space = any_region x (Some sp) true r i }
-    of _ (is_number _ z i) = absurd i
+    of : (o : Origin) (v : Value) → Is x (region (Some sp) o) v → IsAny x sp v
+    of o _ (is_region _ _ r i) = record { it = r; is = refl; of_space = any_region x (Some sp) o r i }
+    of o _ (is_number _ z i) = absurd i
+
+    by : (r : Term) (v : Value) → Is x (given_in params (region_type c sp args r)) v → IsAny x sp v
+    by (term.Name i) v h = of _ v h
+    by (term.Child p a) v h = of _ v h
 
 -- ---- the argument at a place
 

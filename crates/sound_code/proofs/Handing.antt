@@ -1,6 +1,6 @@
 -- Calls, also those that hand regions over: what is handed is what the called task needs, and the frame which the call
 -- opens suits the mark in which the task's body begins.
-use Rattle.std.proofs.Common.{◌≡◌, inl, inr, ℕ, suc, ◌+◌, ◌<◌, ◌≤◌, ◌-◌, pos, List, [], ◌∷◌, ◌++◌, map, true, false, Option, None, Some, refl, sym, ap, ◌∙◌, subst, arith}
+use Rattle.std.proofs.Common.{◌≡◌, inl, inr, ℕ, suc, ◌+◌, ◌<◌, ◌≤◌, ◌-◌, pos, List, [], ◌∷◌, ◌++◌, map, true, false, Option, None, Some, refl, sym, ap, ◌∙◌, subst, arith, cond}
 use Rattle.std.specs.Prelude.{length, replicate, slice_get, ◌==◌, ◌&&◌}
 use Rattle.std.specs.List.{list_any}
 use Rattle.std.proofs.lemmas.Bool.{and_parts, eqb-true, false≢true, or_cases}
@@ -42,12 +42,12 @@ use Rattle.code_rules.specs.Programs.{task_code}
 use Rattle.code_rules.specs.Slots.{Where, bound, slot_named}
 use Rattle.code_laws.specs.Simple.{AreRegions, IsRegion, IsScalar, a_region_type, scalar_integer, scalar_truth, term_in, two_regions}
 use Rattle.code_laws.specs.Steps.{Forms, Taking, without_pointers}
-use Rattle.code_laws.specs.Taking.{MayDo, allows, is_need, is_part, known_of_pairs}
+use Rattle.code_laws.specs.Taking.{MayDo, allows, is_need, is_part, known_of_pairs, pairs_in}
 use Rattle.code_laws.specs.Typed.{AreMet, ArePassed, IsCallable, IsHanded, IsMet, IsTyped, name_at}
 use Rattle.code_laws.proofs.Arguments.{given_either, handed_name}
 use Rattle.code_laws.proofs.Calling.{code_there}
 use Rattle.code_laws.proofs.Openings.{types_cons, types_in}
-use Rattle.fit_rules.specs.Shapes.{Among, Are, are_more, are_none, awaited, Each, Is, is_number, is_region, IsRegion as IsRegionValue, region, Shape, World}
+use Rattle.fit_rules.specs.Shapes.{Among, Are, are_more, are_none, awaited, Each, Is, is_number, is_region, IsRegion as IsRegionValue, region, Shape, World, unknown, argument, own_as}
 use Rattle.fit_rules.specs.Marks.{Holds, Mark, stacked, Suits}
 use Rattle.fit_rules.specs.Fits.{count_at, Declares, declares_it, made_it, Program}
 use Rattle.fit_rules.specs.Ends.{called, IsNeeded}
@@ -56,14 +56,21 @@ use Rattle.fit_laws.specs.Within.{IsGranted}
 use Rattle.fit_laws.proofs.Within.{covered_needs_are_within}
 use Rattle.marked_code.proofs.Placed.{below}
 use Rattle.marked_code.specs.Marked.{leads_calling, typed_op}
-use Rattle.sound_code.specs.Ways.{by_rules, shape_in, shape_of, Way}
-use Rattle.sound_code.proofs.Asked.{AreFree, Asked, Hands, hands_none, hands_taken, Known}
+use Rattle.sound_code.specs.Ways.{by_rules, shape_in, shape_of, Way, opening_facts}
+use Rattle.sound_code.proofs.Asked.{Asked, Hands, hands_none, hands_taken, Known}
 use Rattle.sound_code.proofs.Calling.{alike_second, nothing_needed, onto, opening_suits, opens, passed_many, passed_scalars, some_body, takes_settled, types_many}
 use Rattle.sound_code.proofs.Combining.{both, Marked, nothing_done}
 use Rattle.sound_code.proofs.Elements.{field_there}
 use Rattle.sound_code.proofs.Granting.{InPlace}
+use Rattle.sound_code.proofs.Parameters.{AreAt, IsLow, IsOwnAt, params_low, params_own}
 use Rattle.sound_code.proofs.Placing.{named_at, placed_at}
-use Rattle.sound_code.proofs.Handed.{IsAny, IsArgument, all_handed, all_long, all_settled, any_given, argument_at, given_in, handed, is_given_region, not_below, region_handed, region_loaded, scalar_handed, scalars_handed}
+use Rattle.sound_code.proofs.Handed.{IsAny, IsArgument, all_handed, all_long, all_settled, any_given, argument_at, given_in, handed, is_given_region, region_handed, region_loaded, scalar_handed, scalars_handed}
+use Rattle.sound_code.proofs.Grounds.{Ground, HasFacts, Kept}
+use Rattle.sound_code.proofs.Interpreting.{not_below}
+use Rattle.sound_code.proofs.Told.{ToldCall}
+use Rattle.sound_code.proofs.Lying.{above, is_lower, Lower}
+use Rattle.sound_code.proofs.Claims.{pairs_told}
+use Rattle.sound_code.proofs.Constraining.{facts_told}
 
 -- ---- what the called task needs
 
@@ -85,26 +92,18 @@ need_of : (y : Taking) (w : Where) (need : NeedCode) (o : Option Name) → IsMet
 need_of y w need None h = absurd h
 need_of y w need (Some n) h = record { name = n; stands = refl; of_region = h.1; field = h.2; may = h.3 }
 
--- from nothing only that a term lies within itself is derived
-none_below : {a b : Term} → IsBelow [] a b → a ≡ b
-none_below same = refl
-none_below (told_within {a} {b} h) = absurd (Has-from_Contains [] (Within a b) h)
-none_below (through {a} {b} {c} h l) = none_below h ∙ none_below l
-none_below (child {p = p} {r = r} {c = c} {disjoint = d} h) = absurd (Has-from_Contains [] (PartOf p r d) h)
-none_below (variable {s = i} {p = p} {c = c} h) = absurd (Has-from_Contains [] (Within (term.Name i) (term.Child p c)) h)
-
-abbrev number_of : Term → ℕ
-number_of (term.Name i) = i
-number_of (term.Child p c) = 0
-
 module _ (g : Program) (t : TaskCode) (w : Where) (task : TaskTree) (known : Known (by_rules task) g w.tree) (ep : w.params ≡ t.params)
-    (y : Taking) (params : y.params ≡ t.params) (needs : y.needs ≡ t.needs) (within : y.within ≡ []) where
-  one_part : (i j : ℕ) → is_part y i j ≡ true → i ≡ j
-  one_part i j e = ap number_of (none_below
-      ((is_subregion-derivable [] (term.Name i) (term.Name j)).0
-      (subst (λ ps. is_subregion (known_of_pairs ps) (term.Name i) (term.Name j) ≡ true) within e)).below)
+    (kept : Kept t task w.tree w.params w.scope) (m : Mark) (facts : HasFacts (by_rules task) w.tree m.facts)
+    (y : Taking) (params : y.params ≡ t.params) (needs : y.needs ≡ t.needs) (within : y.within ≡ pairs_in (scope_of w.tree task).known) where
+  abbrev Below : Term → Term → Type 0
+  Below = Lower t.params w.params (opening_facts (by_rules task) w.tree task) m
 
-  module _ (x : World) where
+  part_below : (i j : ℕ) → is_part y i j ≡ true → Below (term.Name i) (term.Name j)
+  part_below i j e = is_lower t.params w.params (opening_facts (by_rules task) w.tree task) m facts (known_of_pairs (pairs_in (scope_of w.tree task).known))
+      (λ k h. kept.begun k (pairs_told (scope_of w.tree task).known k h)) (term.Name i) (term.Name j)
+      (subst (λ ps. is_subregion (known_of_pairs ps) (term.Name i) (term.Name j) ≡ true) within e)
+
+  module _ (x : World) (vs st : List Value) (suits : Suits x t.params m vs st) where
     has_field : (u sp f : ℕ) → x.spaces u ≡ sp → f < length (space_at w.tree sp).fields → f < count_at g (x.spaces u)
     has_field u sp f e l = subst (λ s. f < count_at g s) (sym e) (field_there g w.tree (by_rules task) known sp f l)
 
@@ -126,15 +125,16 @@ module _ (g : Program) (t : TaskCode) (w : Where) (task : TaskTree) (known : Kno
         let n : NeedCode = found.0 in
         let first = and_parts (is_part y i n.param) ((n.field == need.field) && allows n.mode need.mode) found.2 in
         let last = and_parts (n.field == need.field) (allows n.mode need.mode) first.1 in
+        let q = above t.params w.params (opening_facts (by_rules task) w.tree task) m ep i n.param low (part_below i n.param first.0) x vs st suits r at in
         let have : (a : Mode) → n.mode ≡ a → Declares x t r.root.0 need.field p a = λ a ea. record {
           need = n;
           is_there = subst (λ ns. Among ns n) needs (among_in y.needs n found.1);
           its_field = eqb-true n.field need.field last.0;
           its_mode = ea;
-          region = r;
-          argument = subst (λ j. region_in (slice_get x.args j) ≡ Some r) (one_part i n.param first.0) at;
-          its_root = refl;
-          its_point = ip;
+          region = q.other;
+          argument = q.at;
+          its_root = sym q.inside.0;
+          its_point = q.inside.1 p ip;
         } in
         elim (or_cases (same_mode n.mode need.mode) (same_mode n.mode mode.Write) last.1) [
           | inl d ↦ inl (declares_it need.mode (have need.mode (same_mode-tells n.mode need.mode d)))
@@ -155,80 +155,52 @@ module _ (g : Program) (t : TaskCode) (w : Where) (task : TaskTree) (known : Kno
         subst (λ (d : RegionValue). has d.points p ≡ true → IsGranted g x t d.root.0 need.field p need.mode) one (λ ip. elim (below i w.params) [
           | inl low ↦ declared need i q.it p low (may (omega (arith, low, ep, params))) (q.taken low) ip
           | inr high ↦
-              let mine = q.mine high in
+              let mine = (q.mine high).0 in
               inl (made_it need.mode mine.0 (subst (λ xs. has xs p ≡ true) mine.1 ip) (has_field q.it.root.0 sp need.field q.of_space.space l))
         ])
     granted_of need _ ws (a_region_type c sp args (term.Child q d)) l may a r er p = absurd may
 
--- ---- the shapes of parameters
-
--- a region's type names a parameter
-abbrev pub IsLow : ℕ → StaticType → Type 0
-IsLow n (region_type k sp args (term.Name i)) = i < n
-IsLow n (region_type k sp args (term.Child p c)) = ⊥
-IsLow n t = Unit {0}
-
-type_low : (n i : ℕ) (tree : Tree) (look : Looking) (t : TypeTerm) → i < n → IsLow n (type_said tree look i t)
-type_low n i tree look (typing.Number number.Int32) l = tt
-type_low n i tree look (typing.Number number.Int64) l = tt
-type_low n i tree look (typing.Number (number.Index k)) l = tt
-type_low n i tree look typing.Truth l = tt
-type_low n i tree look (typing.Pointer p) l = tt
-type_low n i tree look (typing.Ispace k) l = tt
-type_low n i tree look (typing.Region k u) l = l
-type_low n i tree look (typing.Partition d r c) l = tt
-
-each_last : {A : Type 0} (P : A → Type 0) (xs : List A) (y : A) → Each P xs → P y → Each P (xs ++ y ∷ [])
-each_last P [] y h q = (q, tt)
-each_last P (x ∷ xs) y h q = (h.0, each_last P xs y h.1 q)
-
-names_low : (n : ℕ) (tree : Tree) (all : List Param) (i : ℕ) (ps : List Param) → i + length ps ≤ n →
-    Each (λ (b : Bound). IsLow n b.static_type) (bound_params tree all i ps)
-names_low n tree all i [] l = tt
-names_low n tree all i (p ∷ ps) l = each_last (λ (b : Bound). IsLow n b.static_type) (bound_params tree all (suc i) ps) _
-    (names_low n tree all (suc i) ps (omega (arith, l))) (type_low n i tree (among_params all) p.term (omega (arith, l)))
-
-types_low : (n : ℕ) (bs : List Bound) → Each (λ (b : Bound). IsLow n b.static_type) bs → Each (IsLow n) (types_in bs)
-types_low n [] h = tt
-types_low n (b ∷ bs) h = subst (Each (IsLow n)) (sym (types_cons b bs)) (each_last (IsLow n) (types_in bs) b.static_type (types_low n bs h.1) h.0)
-
-params_low : (tree : Tree) (u : TaskTree) → Each (IsLow (length u.params)) (param_types tree u)
-params_low tree u = types_low (length u.params) (scope_of tree u).names (names_low (length u.params) tree u.params 0 u.params (omega arith))
-
 -- ---- arguments as the called task has them
 
 module _ (forms : Forms) (w : Where) (u : TaskTree) (n : ℕ) (x : World) (all : List Value) where
-  region_called : (sp : ℕ) (r : RegionValue) → IsRegionValue x (Some sp) false r → IsRegionValue (called x all) (Some sp) false r
-  region_called sp r i =
-      record { there = i.there; space = i.space; set = i.set; points = i.points; whole = λ e. absurd (false≢true e) }
+  region_called : (sp k : ℕ) (r : RegionValue) → IsRegionValue x (Some sp) unknown r → region_in (slice_get all k) ≡ Some r →
+      IsRegionValue (called x all) (Some sp) (argument k) r
+  region_called sp k r i e = record { there = i.there; space = i.space; set = i.set; points = i.points; origin = e }
 
-  region_taken : (b p : StaticType) (v : Value) → AreRegions b p → IsLow n p → IsAny x (space_in p) v → Is (called x all) (shape_in (by_rules u) n p) v
-  region_taken _ _ v (two_regions c d sp args brgs r (term.Name j)) low a =
-      subst (λ o. Is (called x all) (region (Some sp) o) v) (sym (not_below n j low))
-      (subst (Is (called x all) (region (Some sp) false)) (sym a.is) (is_region (Some sp) false a.it (region_called sp a.it a.of_space)))
-  region_taken _ _ v (two_regions c d sp args brgs r (term.Child q e)) low a = absurd low
+  region_taken : (b p : StaticType) (v : Value) (k : ℕ) → AreRegions b p → IsLow n p → IsOwnAt k p → slice_get all k ≡ Some v → IsAny x (space_in p) v →
+      Is (called x all) (shape_in (by_rules u) n p) v
+  region_taken _ _ v k (two_regions c d sp args brgs r (term.Name j)) low own at a =
+      subst (λ o. Is (called x all) (region (Some sp) o) v)
+      (ap argument (sym own) ∙ sym (ap (λ b. cond b (own_as j) (argument j)) (not_below n j low)))
+      (subst (Is (called x all) (region (Some sp) (argument k))) (sym a.is)
+      (is_region (Some sp) (argument k) a.it (region_called sp k a.it a.of_space (ap region_in (at ∙ ap Some a.is)))))
+  region_taken _ _ v k (two_regions c d sp args brgs r (term.Child q e)) low own at a = absurd low
 
   scalar_taken : (p : StaticType) (v : Value) → IsScalar p → Is x (shape_of p) v → Is (called x all) (shape_in (by_rules u) n p) v
   scalar_taken _ _ (scalar_integer a) (is_number _ z h) = is_number _ z h
   scalar_taken _ _ scalar_truth (is_number _ z h) = is_number _ z h
 
-  are_taken : (ts ps : List StaticType) (es : Expressions) (ws : List Value) → Each (IsLow n) ps → ArePassed (without_pointers forms) w ts ps es →
+  are_taken : (k : ℕ) (ts ps : List StaticType) (es : Expressions) (ws : List Value) → Each (IsLow n) ps → AreAt IsOwnAt k ps →
+      ((i : ℕ) (v : Value) → slice_get ws i ≡ Some v → slice_get all (k + i) ≡ Some v) → ArePassed (without_pointers forms) w ts ps es →
       Are x (all_handed w ps es) ws → Are (called x all) (map (shape_in (by_rules u) n) ps) ws
-  are_taken [] [] no_expr _ l h are_none = are_none
-  are_taken (t ∷ ts) (p ∷ ps) (an_expr e es) _ l h (are_more _ v _ vs i a) = are_more _ v _ vs
+  are_taken k [] [] no_expr _ l o at h are_none = are_none
+  are_taken k (t ∷ ts) (p ∷ ps) (an_expr e es) _ l o at h (are_more _ v _ vs i a) = are_more _ v _ vs
       (given_either forms.takes w t p e (IsTyped (without_pointers forms) w e) (Is (called x all) (shape_in (by_rules u) n p) v)
       (λ alike eq is.
       let s = subst IsScalar eq (alike_second _ t alike) in
       scalar_taken p v s (subst (λ b. Is x b v) (scalar_handed w p e s) i))
       (λ y takes q.
       let b = handed_name y w t p e q in
-      region_taken (bound w b.0).static_type p v b.4 l.0 (any_given x w.params (bound w b.0).static_type p v b.4
+      let here : k + 0 ≡ k = omega arith in
+      region_taken (bound w b.0).static_type p v k b.4 l.0 o.0 (subst (λ j. slice_get all j ≡ Some v) here (at 0 v refl))
+      (any_given x w.params (bound w b.0).static_type p v b.4
       (subst (λ s. Is x s v) (ap (handed w p) b.1 ∙ region_handed w b.0 _ p b.4) i))) h.0)
-      (are_taken ts ps es vs l.1 h.1 a)
-  are_taken [] [] (an_expr e es) ws l h a = absurd h
-  are_taken [] (p ∷ ps) es ws l h a = absurd h
-  are_taken (t ∷ ts) [] es ws l h a = absurd h
-  are_taken (t ∷ ts) (p ∷ ps) no_expr ws l h a = absurd h
+      (are_taken (suc k) ts ps es vs l.1 o.1 (λ j z e.
+      let next : k + suc j ≡ suc k + j = omega arith in subst (λ c. slice_get all c ≡ Some z) next (at (suc j) z e)) h.1 a)
+  are_taken k [] [] (an_expr e es) ws l o at h a = absurd h
+  are_taken k [] (p ∷ ps) es ws l o at h a = absurd h
+  are_taken k (t ∷ ts) [] es ws l o at h a = absurd h
+  are_taken k (t ∷ ts) (p ∷ ps) no_expr ws l o at h a = absurd h
 
 -- ---- calls
 
@@ -239,18 +211,17 @@ module _ (g : Program) (t : TaskCode) (k slots : ℕ) (forms : Forms) (way : Way
     where
       of : Hands forms t way w.tree → Marked g t k (stacked m us) (expr_code w d e) (stacked m (handed w p e ∷ us))
       of (hands_none none) = absurd (none-some y (sym none ∙ takes))
-      of (hands_taken task z by e1 e2 e3 e4 free) =
+      of (hands_taken task z by e1 e2 e3 e4) =
           let q = handed_name y w u p e h in
           let b = bound w q.0 in
           subst (λ a. Marked g t k (stacked m us) (expr_code w d a) (stacked m (handed w p a ∷ us))) (sym q.1)
           (both g t k (subst (λ s. Marked g t k (stacked m us) (one w (instr.Load (slot_named w q.0))) (stacked m (s ∷ us))) (sym (region_handed w q.0 _ p q.4))
-          (region_loaded g t k w.line w.params m asked.params task b.place b.static_type p us q.4
-          (subst (λ v. InPlace v w.params b.place b.static_type) by (placed_at t way w.tree w.params w.scope q.0 asked.ground q.2))
+          (region_loaded g t k w.line w.params m task b.place b.static_type p us q.4
           (named_at way w.params m.slots w.scope.names q.0 asked.ready.named q.2 ∙ ap (λ v. Some (shape_in v w.params b.static_type)) by)))
           (nothing_done g t k _))
 
   module _ (name : Name) (ts : List StaticType) (es : Expressions) (us : List Shape) (is : IsCallable forms w name es)
-      (passed : ArePassed (without_pointers forms) w ts (param_types w.tree (task_named w.tree name)) es) where
+      (passed : ArePassed (without_pointers forms) w ts (param_types w.tree (task_named w.tree name)) es) (told : ToldCall way w.tree w.scope name es) where
     abbrev callee : TaskTree
     callee = task_named w.tree name
 
@@ -270,25 +241,30 @@ module _ (g : Program) (t : TaskCode) (k slots : ℕ) (forms : Forms) (way : Way
     need_at y takes n h = need_of y w n (name_at es n.param) (met_at (Some y) w es (task_code w.tree callee).needs n h
         (subst (λ o. AreMet o w es (task_code w.tree callee).needs) takes is.1))
 
-    argument_of : (y : Taking) (x : World) (ws : List Value) → Are x shapes ws → (n : NeedCode) (q : IsNeedOf y w n (name_at es n.param)) →
+    need_place : (y : Taking) (x : World) (ws : List Value) → Are x shapes ws → (n : NeedCode) (q : IsNeedOf y w n (name_at es n.param)) →
         IsArgument x ws n.param (given_in w.params (bound w q.name).static_type)
-    argument_of y x ws a n q = argument_at forms w x ts types es ws n.param q.name passed a q.stands q.of_region
+    need_place y x ws a n q = argument_at forms w x ts types es ws n.param q.name passed a q.stands q.of_region
 
     taken_opens : (task : TaskTree) (y : Taking) → way ≡ by_rules task → forms.takes ≡ Some y → y.params ≡ t.params → y.needs ≡ t.needs →
-        y.within ≡ [] → AreFree w.tree → Opens g t before place (task_code w.tree callee) shapes
-    taken_opens task y by takes params needs within free x vs st ws s a =
-        let known = subst (λ v. Known v g w.tree) by asked.known in (
+        y.within ≡ pairs_in (scope_of w.tree task).known → Opens g t before place (task_code w.tree callee) shapes
+    taken_opens task y by takes params needs within x vs st ws knows s a =
+        let known = subst (λ v. Known v g w.tree) by asked.known in
+        let kept = subst (λ v. Ground t v w.tree w.params w.scope) by asked.ground in
+        let facts = subst (λ v. HasFacts v w.tree m.facts) by asked.facts in
+        let of = need_place y x ws a in (
           subst (λ v. Suits (called x ws) (length callee.params) v (ws ++ replicate ((task_code w.tree callee).slots - length ws) (value.Number (pos 0))) [])
               (sym (known.begins place callee is.0))
               (opening_suits (by_rules callee) w.tree callee x ws
-              (are_taken forms w callee (length callee.params) x ws ts types es ws (params_low w.tree callee) passed a)
-              (subst (λ ks. Each (λ c. Holds c ws) ks) (sym (free place callee is.0)) tt)),
+              (are_taken forms w callee (length callee.params) x ws 0 ts types es ws (params_low w.tree callee) (params_own w.tree callee) (λ i v e.
+              let from : 0 + i ≡ i = omega arith in subst (λ j. slice_get ws j ≡ Some v) (sym from) e) passed a)
+              (facts_told task t w kept before facts asked.params x vs st ws knows s forms y takes name ts es is passed a
+              (subst (λ v. ToldCall v w.tree w.scope name es) by told))),
           each_needed (task_code w.tree callee).needs (λ n h.
               let q = need_at y takes n h in
-              needed_of g t w task known asked.params y params needs within x n (bound w q.name).static_type ws q.of_region q.field (argument_of y x ws a n q)),
+              needed_of g t w task known asked.params kept before facts y params needs within x vs st s n (bound w q.name).static_type ws q.of_region q.field (of n q)),
           covered_needs_are_within g x t (task_code w.tree callee).needs ws (λ n h r er p ip.
               let q = need_at y takes n h in
-              granted_of g t w task known asked.params y params needs within x n (bound w q.name).static_type ws q.of_region q.field q.may (argument_of y x ws a n q) r er p ip),
+              granted_of g t w task known asked.params kept before facts y params needs within x vs st s n (bound w q.name).static_type ws q.of_region q.field q.may (of n q) r er p ip),
         )
       where
         each_needed : (ns : List NeedCode) → ((n : NeedCode) → Among ns n → IsNeeded g x ws n) → Each (IsNeeded g x ws) ns
@@ -303,7 +279,7 @@ module _ (g : Program) (t : TaskCode) (k slots : ℕ) (forms : Forms) (way : Way
             let scalars = passed_scalars forms none w ts types es passed in
             subst (Opens g t before place (task_code w.tree callee)) (sym (scalars_handed forms w types es scalars (passed_many forms w ts types es passed)))
             (opens g t k way w asked.known before place callee is.0 (nothing_needed forms.takes none w es (task_code w.tree callee).needs is.1) scalars)
-        of (hands_taken task y by e1 e2 e3 e4 free) = taken_opens task y by e1 e2 e3 e4 free
+        of (hands_taken task y by e1 e2 e3 e4) = taken_opens task y by e1 e2 e3 e4
 
     -- a call with its arguments on the stack
     pub calls : Marked g t k before (one w (instr.Call place (count es))) (stacked m (awaited (g.results place) ∷ us))

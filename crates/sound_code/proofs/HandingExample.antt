@@ -1,5 +1,5 @@
 -- The code of an accepted program whose tasks hand a region on is sound.
-use Rattle.std.proofs.Common.{zero, suc, pos, [], ◌∷◌, Some, inl, inr, false, true, refl, sym, subst, arith}
+use Rattle.std.proofs.Common.{◌≡◌, ℕ, zero, suc, pos, [], ◌∷◌, Some, inl, inr, false, true, refl, sym, subst, arith, ap}
 use Rattle.std.proofs.lemmas.Bool.{false≢true}
 use Rattle.std.proofs.lemmas.Int.{ints}
 use Rattle.std.proofs.lemmas.Option.{none-some, same_Some}
@@ -8,13 +8,18 @@ use Rattle.machine_terms.specs.Makes.{region_with}
 use Rattle.code_laws.specs.Handing.{AreTypedBy, IsTypedBy}
 use Rattle.code_laws.specs.Programs.{gives_nothing, gives_scalar}
 use Rattle.code_laws.specs.Simple.{a_region_type, a_space_type, an_integer, fits_64, number_integer, scalar_integer, simple_integer, two_integers, two_regions}
-use Rattle.fit_rules.specs.Shapes.{Are, are_more, are_none, Each, integer, IsRegion, is_number, is_region}
+use Rattle.fit_rules.specs.Shapes.{Are, are_more, are_none, Each, integer, IsRegion, is_number, is_region, argument}
 use Rattle.fit_rules.specs.Ends.{called}
 use Rattle.fit_rules.proofs.Points.{counted_points}
 use Rattle.regent_tree.specs.Syntax.{TaskTree}
-use Rattle.sound_code.specs.HandingExample.{change, change_args, hands_program, HandsExampleHolds}
-use Rattle.sound_code.specs.Programs.{argument_shapes, AreUnconstrained, IsGrant, TasksKeepRules}
-use Rattle.sound_code.specs.RulesExample.{one_root}
+use Rattle.sound_code.specs.HandingExample.{change, change_args, first_root, hands_program, HandsExampleHolds, second_root, two_roots}
+use Rattle.sound_code.specs.Programs.{AreConstrained, argument_shapes, TasksKeepRules}
+use Rattle.code_laws.specs.HandingExample.{handing_program}
+use Rattle.code_laws.proofs.HandingExample.{handing_example_holds}
+use Rattle.machine_terms.specs.declared.value.RegionValue.{RegionValue}
+use Rattle.machine_terms.specs.Pointers.{region_in}
+use Rattle.plain_values.specs.Points.{has, IsPoints}
+use Rattle.std.specs.Prelude.{slice_get}
 use Rattle.sound_code.proofs.Rules.{handing_tasks_are_sound}
 
 tasks : AreTypedBy true false hands_program
@@ -35,12 +40,12 @@ tasks (suc zero) t e = subst (IsTypedBy true false hands_program) (same_Some _ t
     (
       two_integers _ _,
       (
-        -- the region is handed on
+        -- the regions are handed on
         (
           refl,
           scalar_integer _,
           (refl, ((refl, a_region_type _ _ _ _, omega arith, λ low. refl), tt), tt),
-          (inr (refl, refl, two_regions _ _ _ _ _ _ _), tt),
+          (inr (refl, refl, two_regions _ _ _ _ _ _ _), (inr (refl, refl, two_regions _ _ _ _ _ _ _), tt)),
         ),
         (number_integer _, number_integer _, (refl, simple_integer _), tt),
       ),
@@ -59,53 +64,67 @@ tasks (suc (suc zero)) t e = subst (IsTypedBy true false hands_program) (same_So
   typed = (
     (refl, a_space_type _, (omega (arith, ints), an_integer _), record { there = omega arith; few = omega arith }, omega arith),
     (
-      -- the root is handed over
+      (refl, a_space_type _, (omega (arith, ints), an_integer _), record { there = omega arith; few = omega arith }, omega arith),
       (
-        refl,
+        -- the roots are handed over
         (
           refl,
           (
-            (refl, a_region_type _ _ _ _, omega arith, λ low. absurd (omega (arith, low))),
-            ((refl, a_region_type _ _ _ _, omega arith, λ low. absurd (omega (arith, low))), tt),
+            refl,
+            (
+              (refl, a_region_type _ _ _ _, omega arith, λ low. absurd (omega (arith, low))),
+              ((refl, a_region_type _ _ _ _, omega arith, λ low. absurd (omega (arith, low))), tt),
+            ),
+            tt,
           ),
-          tt,
+          (
+            inr (refl, refl, two_regions _ _ _ _ _ _ _),
+            (inr (refl, refl, two_regions _ _ _ _ _ _ _), (inl (two_integers _ _, refl, (refl, simple_integer _)), tt)),
+          ),
         ),
-        (inr (refl, refl, two_regions _ _ _ _ _ _ _), (inl (two_integers _ _, refl, (refl, simple_integer _)), tt)),
+        tt,
       ),
-      tt,
     ),
   );
   small = omega arith;
 })
 tasks (suc (suc (suc k))) t e = absurd (none-some t e)
 
-free : AreUnconstrained hands_program
-free zero t e = subst (λ (y : TaskTree). Each IsGrant y.clauses) (same_Some _ t e) (tt, tt)
-free (suc zero) t e = subst (λ (y : TaskTree). Each IsGrant y.clauses) (same_Some _ t e) (tt, tt)
-free (suc (suc zero)) t e = subst (λ (y : TaskTree). Each IsGrant y.clauses) (same_Some _ t e) tt
-free (suc (suc (suc k))) t e = absurd (none-some t e)
-
 sound : TasksKeepRules hands_program
-sound = handing_tasks_are_sound hands_program refl tasks free
+sound = handing_tasks_are_sound hands_program refl tasks
 
-whole : IsRegion (called one_root change_args) (Some 0) false (region_with 3 (0 ∷ 1 ∷ []))
-whole = record {
-  there = refl;
+whole : (i : ℕ) (r : RegionValue) → two_roots.there r.root.0 ≡ true → r.points ≡ 0 ∷ 1 ∷ [] → region_in (slice_get change_args i) ≡ Some r →
+    IsRegion (called two_roots change_args) (Some 0) (argument i) r
+whole i r there points at = record {
+  there = there;
   space = refl;
-  set = counted_points 4194304 0 2 (omega arith);
-  points = λ p e. e;
-  whole = λ e. absurd (false≢true e);
+  set = subst (IsPoints 4194304) (sym points) (counted_points 4194304 0 2 (omega arith));
+  points = λ p e. subst (λ ps. has ps p ≡ true) points e;
+  origin = at;
 }
 
-args_are : Are (called one_root change_args) (argument_shapes hands_program change) change_args
-args_are = are_more _ _ _ _ (is_region (Some 0) false _ whole) (are_more (integer W64) _ _ _ (is_number (integer W64) (pos 7) (omega (arith, ints))) are_none)
+args_are : Are (called two_roots change_args) (argument_shapes hands_program change) change_args
+args_are = are_more _ _ _ _ (is_region (Some 0) (argument 0) first_root (whole 0 first_root refl refl refl))
+    (are_more _ _ _ _ (is_region (Some 0) (argument 1) second_root (whole 1 second_root refl refl refl))
+    (are_more (integer W64) _ _ _ (is_number (integer W64) (pos 7) (omega (arith, ints))) are_none))
+
+-- two roots share no point
+constrained : AreConstrained hands_program change change_args
+constrained = (λ r q er eq same. absurd (other r q er eq same), tt)
+  where
+    other : (r q : RegionValue) → region_in (slice_get change_args 1) ≡ Some r → region_in (slice_get change_args 0) ≡ Some q →
+        r.root.0 ≡ q.root.0 → ⊥
+    other r q er eq same =
+        let two : 4 ≡ r.root.0 = ap (λ (y : RegionValue). y.root.0) (same_Some second_root r er) in
+        let one : 3 ≡ q.root.0 = ap (λ (y : RegionValue). y.root.0) (same_Some first_root q eq) in
+        omega (arith, two, one, same)
 
 pub hands_example_holds : HandsExampleHolds
 hands_example_holds = record {
   accepted = refl;
   typed = tasks;
-  unconstrained = free;
   sound = sound;
-  fits = record { code = sym sound.code; machine = sound.opens 1 change refl one_root change_args 6 2 (omega arith) args_are tt };
+  fits = record { code = sym sound.code; machine = sound.opens 1 change refl two_roots change_args 6 2 (omega arith) args_are constrained };
   hands = refl;
+  within = handing_tasks_are_sound handing_program handing_example_holds.accepted.accepted handing_example_holds.tasks;
 }

@@ -7,9 +7,15 @@ pub mod Asked
 pub mod Elements
 pub mod Calling
 pub mod Declaring
+pub mod Lying
 pub mod Granting
+pub mod Interpreting
+pub mod Numbering
+pub mod Claims
+pub mod Constraining
 pub mod Placing
 pub mod Handed
+pub mod Parameters
 pub mod Handing
 pub mod Wanting
 pub mod Expressions
@@ -27,7 +33,6 @@ pub mod Tasks
 pub mod Entries
 pub mod Openings
 pub mod Accepted
-pub mod Constraints
 pub mod Rules
 pub mod Example
 pub mod RulesExample

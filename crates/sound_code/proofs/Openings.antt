@@ -36,6 +36,8 @@ use Rattle.sound_code.specs.Programs.{BeginsWell, CallsAreSound, NeverBreaks, en
 use Rattle.sound_code.proofs.Asked.{hands_none, other}
 use Rattle.sound_code.proofs.Calling.{opening_suits, simples_are, simples_named, simples_told, some_body, types_many}
 use Rattle.sound_code.proofs.Entries.{named_there}
+use Rattle.sound_code.proofs.Parameters.{params_settled}
+use Rattle.fit_laws.proofs.Taking.{all_there}
 use Rattle.marked_code.proofs.Remarked.{remarked}
 use Rattle.sound_code.proofs.Tasks.{bare, begins, first_of, HasMarks, is_at, IsMarked, marks_of, sound_task, Treated, treat}
 
@@ -78,6 +80,7 @@ module _ (tree : Tree) (way : Way) (lists : ℕ → List Mark) (marked : IsMarke
       (opening_machine turns depth k (task_code tree t) args)
   opened k t there x args turns depth few a told =
       opening_fits (remarked (bare tree way) (marks_of tree way lists)) x k (task_code tree t) args turns depth few (some_body tree t)
+      (all_there (called x args) _ args (params_settled (other way t) (length t.params) tree t) a)
       (begins tree way lists marked k (task_code tree t) (slice_get-map (task_code tree) (tasks_of tree) k ∙ ap (option_map (task_code tree)) there) (called x args) _ []
       (subst (λ y. Suits (called x args) (length t.params) (first_of tree way y)
       (args ++ replicate ((task_code tree t).slots - length args) (Number (pos 0))) []) (sym (is_at tree way k t there))

@@ -19,7 +19,6 @@ use Rattle.code_laws.specs.Taking.{pairs_in}
 use Rattle.code_laws.specs.Typed.{IsTypedBlock}
 use Rattle.sound_code.specs.Programs.{AcceptedTasksAreSound, HandingTasksAreSound, LocalProgramsAreSound, TasksKeepRules}
 use Rattle.sound_code.proofs.Asked.{Hands, hands_none, hands_taken}
-use Rattle.sound_code.proofs.Constraints.{are_free, none_within}
 use Rattle.sound_code.specs.Ways.{Way, by_rules}
 use Rattle.sound_code.proofs.Accepted.{begins_kept, body_without_breach, stands_in}
 use Rattle.sound_code.proofs.Entries.{named_there}
@@ -57,11 +56,11 @@ accepted_tasks_are_sound tree none typed = tasks_keep_rules tree (λ k t there.
     let h = typed k t there in told_marks tree none call_forms k t there (hands_none refl) h.typed h.small)
 
 pub handing_tasks_are_sound : HandingTasksAreSound
-handing_tasks_are_sound tree none typed free = tasks_keep_rules tree (λ k t there.
+handing_tasks_are_sound tree none typed = tasks_keep_rules tree (λ k t there.
     let h = typed k t there in
     told_marks tree none (forms_by true false tree t) k t there
-    (hands_taken t (record { params = length t.params; needs = (task_code tree t).needs; within = pairs_in (scope_of tree t).known }) refl refl refl refl
-    (none_within tree t (free k t there)) (are_free tree free)) h.typed h.small)
+    (hands_taken t (record { params = length t.params; needs = (task_code tree t).needs; within = pairs_in (scope_of tree t).known }) refl refl refl refl refl)
+    h.typed h.small)
 
 pub local_programs_are_sound : LocalProgramsAreSound
 local_programs_are_sound tree inputs p =

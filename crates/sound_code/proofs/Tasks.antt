@@ -29,6 +29,7 @@ use Rattle.sound_code.specs.Ways.{Way, all_made, by_rules, opening_facts, shape_
 use Rattle.sound_code.proofs.Grounds.{Ground, HasFacts}
 use Rattle.sound_code.proofs.Steady.{steady_below}
 use Rattle.sound_code.proofs.Told.{ToldBlock}
+use Rattle.sound_code.proofs.Parameters.{opening_numbered, params_low}
 use Rattle.sound_code.proofs.Asked.{Hands, opening_mark, other, Known}
 use Rattle.sound_code.proofs.Blocks.{block_marked}
 use Rattle.sound_code.proofs.Calling.{opening_steady, types_many}
@@ -99,6 +100,7 @@ module _ (tree : Tree) where
             (params_from tree t.params 0 t.params) (omega (arith, names_many t)));
         free = λ s h l. free_behind (map f (param_types tree t)) blanks s
             (omega (arith, h, names_many t, length-map (param_types tree t) f, types_many tree t)) l;
+        numbered = opening_numbered way n (scope_of tree t).names (param_types tree t) blanks (params_low tree t);
         facts = steady_below n n (length (scope_of tree t).names) (opening_facts way tree t) (omega (arith, names_many t)) (opening_steady way tree t);
         low = omega (arith, names_many t);
       }

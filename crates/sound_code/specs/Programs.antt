@@ -1,5 +1,5 @@
 -- Compiled code is sound, and the frames that open in it fit.
-use Rattle.std.specs.Prelude.{◌≡◌, ◌≢◌, ℕ, ◌<◌, ◌^◌, ℤ, List, [], length, map, Bool, false, true, Some, slice_get}
+use Rattle.std.specs.Prelude.{◌≡◌, ◌≢◌, ℕ, ◌<◌, ◌^◌, ℤ, List, [], length, map, Bool, false, true, Some, slice_get, None}
 use Rattle.regent_tree.specs.StaticTypes.{entry_name, task_named}
 use Rattle.regent_tree.specs.Syntax.{TaskTree, Tree}
 use Rattle.regent_tree.specs.Typing.{param_types}
@@ -18,8 +18,6 @@ use Rattle.machine_terms.specs.declared.value.Value.TheVariants.{Number}
 use Rattle.machine_terms.specs.Jobs.{first_frame}
 use Rattle.code_rules.specs.Instructions.{place_of_task, tasks_of}
 use Rattle.code_rules.specs.Programs.{code_of, task_code}
-use Rattle.regent_tree.specs.declared.program.Clause.{Clause}
-use Rattle.regent_tree.specs.declared.program.Clause.TheVariants as clause
 use Rattle.code_laws.specs.Handing.{AreTypedBy}
 use Rattle.code_laws.specs.LocalPrograms.{IsKeptProgramRun}
 use Rattle.code_laws.specs.Programs.{AreTypedTasks, IsTypedRun, call_forms, job_of, region_forms, scalar_forms}
@@ -51,6 +49,7 @@ first_world inputs = record {
   results = λ i. anything;
   children = 0;
   own = [];
+  last = λ i. None;
   args = map Number inputs;
 }
 
@@ -140,18 +139,10 @@ pub record TasksKeepRules (tree : Tree) : Type 0 where
 abbrev pub AcceptedTasksAreSound : Type 0
 AcceptedTasksAreSound = (tree : Tree) → breaches tree ≡ [] → AreTypedTasks tree → TasksKeepRules tree
 
--- no task declares a constraint on its regions, but privileges alone
-abbrev pub IsGrant : Clause → Type 0
-IsGrant (clause.Grants grants places) = Unit {0}
-IsGrant c = ⊥
-
-abbrev pub AreUnconstrained : Tree → Type 0
-AreUnconstrained tree = (k : ℕ) (t : TaskTree) → slice_get (tasks_of tree) k ≡ Some t → Each IsGrant t.clauses
-
 -- Where tasks also hand regions to those that they call, roots that they made and regions that they took: the frame that a
--- call opens fits, and what it needs is within what its caller needs.
+-- call opens fits, so that the constraints of the called task hold, and what it needs is within what its caller needs.
 abbrev pub HandingTasksAreSound : Type 0
-HandingTasksAreSound = (tree : Tree) → breaches tree ≡ [] → AreTypedBy true false tree → AreUnconstrained tree → TasksKeepRules tree
+HandingTasksAreSound = (tree : Tree) → breaches tree ≡ [] → AreTypedBy true false tree → TasksKeepRules tree
 
 -- An accepted program whose tasks keep their regions to themselves, and numbers that fit its inputs: the code of each
 -- task is sound, frames of its tasks fit when they open, and so does the one in which its run begins.

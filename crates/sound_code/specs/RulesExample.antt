@@ -1,5 +1,5 @@
 -- An accepted program with a task that takes regions, so that the law by the rules is a law of something.
-use Rattle.std.specs.Prelude.{◌≡◌, [], ◌∷◌, pos, ◌==◌, List, codes}
+use Rattle.std.specs.Prelude.{◌≡◌, [], ◌∷◌, pos, ◌==◌, List, codes, None}
 use Rattle.regent_tree.specs.StaticTypes.{task_named}
 use Rattle.regent_tree.specs.Syntax.{TaskTree, Tree}
 use Rattle.regent_tree.specs.declared.expression.Arithmetic.TheVariants.{Add}
@@ -61,6 +61,7 @@ one_root = record {
   results = λ i. anything;
   children = 0;
   own = [];
+  last = λ i. None;
   args = [];
 }
 

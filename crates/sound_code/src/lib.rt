@@ -36,9 +36,9 @@ pub fn accepted_code_is_sound()
     ensures { AcceptedTasksAreSound }
 {}
 
-/// Where tasks also hand regions to those that they call, roots that they made and regions that they took, and no task
-/// declares a constraint: the code of each is sound, so that the frame which a call opens fits, and what it needs is
-/// within what its caller needs.
+/// Where tasks also hand regions to those that they call, roots that they made and regions that they took: the code of
+/// each is sound, so that the frame which a call opens fits, its constraints hold, and what it needs is within what its
+/// caller needs.
 #[tactic(auto, using(crate::proofs::Rules::handing_tasks_are_sound))]
 pub fn code_that_hands_regions_is_sound()
     ensures { HandingTasksAreSound }
