@@ -145,9 +145,14 @@ module _ (of_field : FieldKind) (c : Contents) (root f : ℕ) where
         number : (m : Mode) (z : ℤ) → here ≡ Some m → IsFetched m p z → CellFits of_field s (Some (record { mode = m; value = z })) (Some m)
         number mode.Read z e h = (refl, subst (NumberIs s) (sym h) (fits mode.Read e))
         number mode.Write z e h = (refl, subst (NumberIs s) (sym h) (fits mode.Write e))
-        number (mode.Reduce o) z e h = (refl, subst (Folds of_field s o) (sym h) ((identity o (width_of of_field)).0,
+        number (mode.Reduce o) z e h = (
+          refl,
+          subst (Folds of_field s o) (sym h) (
+            (identity o (width_of of_field)).0,
             λ y i. subst (NumberIs s) (sym (commutative o (width_of of_field) y (identity_of o (width_of of_field)) (narrow y i) (identity o (width_of of_field)).0
-            ∙ (identity o (width_of of_field)).1 y (narrow y i))) i))
+                ∙ (identity o (width_of of_field)).1 y (narrow y i))) i,
+          ),
+        )
 
         of : IsSeen all_modes (cell_at (pieces (parts_of_modes rs root f all_modes)) p) →
             CellFits of_field s (cell_at (pieces (parts_of_modes rs root f all_modes)) p) here

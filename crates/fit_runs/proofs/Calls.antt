@@ -130,23 +130,26 @@ module _ (g : Program) (sound : IsSoundCode g) (turns : ℕ) (few : turns < 2 ^ 
 
     came : (e : Ended) → EndsFitting g (called x c.args) i.contents c.task e → GoesBetween g x (grown x s) t f i.contents (after_call e i)
     came (Broke q text) h = tt
-    came (CameBack v own d text) (res, y, grew, ids, agrees) = (record {
-      frame = m.frame;
-      contents = record {
-        given = λ r h. agrees.given r (grew.there r h);
-        below = λ n a. agrees.below n (numbers_closed own d n a);
-        spaces = λ r h. ap (λ (q : RootImage). q.space) (same r h) ∙ agrees.spaces r (grew.there r h) ∙ grew.spaces r h;
-        kept = λ r q p h. subst (λ (k : RootImage). NumberIs (shape_at g (x.spaces r) q) (get_or (get_or k.fields q []) p (pos 0))) (sym (same r h))
-            (subst (λ n. NumberIs (shape_at g n q) (kept_at d r q p)) (grew.spaces r h) (agrees.kept r q p (grew.there r h)));
-      };
-      knows = knows_grown x s m.knows;
-      needs = m.needs ∙ sym (claims_grown g x s t);
-      reached = subst (AreReached (closed own d)) (sym (claims_grown g x s t))
-          (λ r a p q. subst (λ n. p < n) (sym (columns r.root r.field (claim_there g x t m.knows r a))) (m.reached r a p q));
-      parts = m.parts;
-      count = length-append i.results (result_of v ∷ []) ∙ (let e = m.count in omega (arith, e));
-      results = λ n l. result n l (n == x.children) refl;
-    }, columns)
+    came (CameBack v own d text) (res, y, grew, ids, agrees) = (
+      record {
+        frame = m.frame;
+        contents = record {
+          given = λ r h. agrees.given r (grew.there r h);
+          below = λ n a. agrees.below n (numbers_closed own d n a);
+          spaces = λ r h. ap (λ (q : RootImage). q.space) (same r h) ∙ agrees.spaces r (grew.there r h) ∙ grew.spaces r h;
+          kept = λ r q p h. subst (λ (k : RootImage). NumberIs (shape_at g (x.spaces r) q) (get_or (get_or k.fields q []) p (pos 0))) (sym (same r h))
+              (subst (λ n. NumberIs (shape_at g n q) (kept_at d r q p)) (grew.spaces r h) (agrees.kept r q p (grew.there r h)));
+        };
+        knows = knows_grown x s m.knows;
+        needs = m.needs ∙ sym (claims_grown g x s t);
+        reached = subst (AreReached (closed own d)) (sym (claims_grown g x s t))
+            (λ r a p q. subst (λ n. p < n) (sym (columns r.root r.field (claim_there g x t m.knows r a))) (m.reached r a p q));
+        parts = m.parts;
+        count = length-append i.results (result_of v ∷ []) ∙ (let e = m.count in omega (arith, e));
+        results = λ n l. result n l (n == x.children) refl;
+      },
+      columns,
+    )
       where
         other : (r : ℕ) → x.there r ≡ true → (n : ℕ) → Among (ids_of own) n → n ≢ r
         other r h n a e = grew.own n (subst (λ ns. Among ns n) ids a) (subst (λ k. x.there k ≡ true) (sym e) h)

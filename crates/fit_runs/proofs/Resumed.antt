@@ -114,15 +114,19 @@ module _ (g : Program) (sound : IsSoundCode g) (turns : ℕ) (few : turns < 2 ^ 
     where
       of : (b : Bool) → GoesFitting g x t k i.contents (cond b (GoesOn (make_partition r sets flag (left f ps text))) (breaks (left f ps text)))
       of false = tt
-      of true = (x, grew_itself x i.contents, record {
-        machine = met _ (partitions_are_made r sets flag);
-        contents = fits.contents;
-        needs = fits.needs;
-        reached = fits.reached;
-        parts = can;
-        count = fits.count;
-        results = fits.results;
-      })
+      of true = (
+        x,
+        grew_itself x i.contents,
+        record {
+          machine = met _ (partitions_are_made r sets flag);
+          contents = fits.contents;
+          needs = fits.needs;
+          reached = fits.reached;
+          parts = can;
+          count = fits.count;
+          results = fits.results;
+        },
+      )
 
   -- before its calls an instance gives its parts back
   pub between : (f : Frame) (ps : List Part) (text : List ℕ) → PartsFit g x t ps → CanGive i.contents ps → Between g x t f (give_all (left f ps text))

@@ -31,4 +31,3 @@ room_is_told = refl
 
 no_room_elsewhere : spare_of example 5 2 ≡ 0
 no_room_elsewhere = refl
-
