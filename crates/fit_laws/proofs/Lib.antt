@@ -22,4 +22,4 @@ pub mod Segments
 pub mod Made
 pub mod Passing
 pub mod Example
-mod Fetching
+pub mod Fetching

@@ -1,0 +1,9 @@
+pub mod Standing
+pub mod Giving
+pub mod Claiming
+pub mod Fetched
+pub mod Rooted
+pub mod Closing
+pub mod Calls
+pub mod Resumed
+pub mod Running
