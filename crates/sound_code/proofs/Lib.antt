@@ -31,6 +31,7 @@ pub mod Bindings
 pub mod Blocks
 pub mod Tasks
 pub mod Entries
+pub mod InOrder
 pub mod Openings
 pub mod Accepted
 pub mod Rules

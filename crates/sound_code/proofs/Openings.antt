@@ -26,16 +26,15 @@ use Rattle.fit_rules.specs.Fits.{Fits, Program}
 use Rattle.fit_rules.specs.Sound.{IsSound}
 use Rattle.task_code.specs.declared.code.TaskCode.{TaskCode}
 use Rattle.fit_laws.proofs.Calls.{opening_fits}
-use Rattle.fit_laws.proofs.Passing.{children_pass}
-use Rattle.fit_laws.proofs.Segments.{children_are_within, no_segment_breaks, partitions_are_sound, segments_keep_fitting, touches_are_covered}
 use Rattle.fit_rules.specs.Shapes.{Each}
 use Rattle.fit_rules.specs.Marks.{Holds}
 use Rattle.code_laws.specs.Simple.{IsSimple, simple_integer}
 use Rattle.sound_code.specs.Ways.{Way, all_made, opening_facts, shape_in, shape_of}
-use Rattle.sound_code.specs.Programs.{BeginsWell, CallsAreSound, NeverBreaks, entry_place, first_world, RegionTasksAreSound, RunsSoundly, ScalarTasksAreSound, ScalarProgramsAreSound, TasksRunSoundly}
+use Rattle.sound_code.specs.Programs.{BeginsWell, CallsAreSound, entry_place, first_world, RegionTasksAreSound, RunsSoundly, ScalarTasksAreSound, ScalarProgramsAreSound, TasksRunSoundly}
 use Rattle.sound_code.proofs.Asked.{hands_none, other}
 use Rattle.sound_code.proofs.Calling.{opening_suits, simples_are, simples_named, simples_told, some_body, types_many}
 use Rattle.sound_code.proofs.Entries.{named_there}
+use Rattle.sound_code.proofs.InOrder.{never_breaks, run_keeps_all}
 use Rattle.sound_code.proofs.Parameters.{params_settled}
 use Rattle.fit_laws.proofs.Taking.{all_there}
 use Rattle.marked_code.proofs.Remarked.{remarked}
@@ -60,16 +59,6 @@ inputs_simple : (ts : List StaticType) (zs : List ℤ) → AreTaken IsOf ts (inp
 inputs_simple [] zs a e = tt
 inputs_simple (t ∷ ts) [] a e = absurd (omega (arith, e))
 inputs_simple (t ∷ ts) (z ∷ zs) a e = (number_simple t _ z a.0, inputs_simple ts zs a.1 (omega (arith, e)))
-
--- sound code never breaks
-pub never_breaks : (g : Program) (t : TaskCode) (k : ℕ) → IsSound g t k → NeverBreaks g t k
-never_breaks g t k sound x b fit = record {
-  fits = segments_keep_fitting g x t k b sound fit;
-  unbroken = no_segment_breaks g x t k b sound fit;
-  touches = touches_are_covered g x t k b sound fit;
-  children = λ cs e. (children_are_within g x t k b sound fit cs e, children_pass g x t k b sound fit cs e);
-  partitions = partitions_are_sound g x t k b sound fit;
-}
 
 module _ (tree : Tree) (way : Way) (lists : ℕ → List Mark) (marked : IsMarked tree way lists) where
   -- a frame that opens with arguments of the parameters' shapes, of which holds what is told
@@ -197,6 +186,9 @@ module _ (tree : Tree) (typed : AreTypedTasks tree) where
     opens = simply_opened tree all_made marks (all_marked tree all_made made_at);
     begins = λ inputs turns p few.
         begins_well tree all_made marks (all_marked tree all_made made_at) call_forms (named_there tree (entry_name tree) _ p.start) inputs turns p few;
+    runs = run_keeps_all tree (remarked (bare tree all_made) (marks_of tree all_made marks)) refl (λ k t there. let h = typed k t there in h.given) (λ k. refl)
+        (all_sound tree all_made made_at) call_forms (λ inputs turns p few.
+        begins_well tree all_made marks (all_marked tree all_made made_at) call_forms (named_there tree (entry_name tree) _ p.start) inputs turns p few);
   }
 
 pub calls_are_sound : CallsAreSound

@@ -17,30 +17,42 @@ use Rattle.code_laws.specs.Handing.{forms_by}
 use Rattle.code_laws.specs.Steps.{Forms, without_pointers}
 use Rattle.code_laws.specs.Taking.{pairs_in}
 use Rattle.code_laws.specs.Typed.{IsTypedBlock}
-use Rattle.sound_code.specs.Programs.{AcceptedTasksAreSound, HandingTasksAreSound, LocalProgramsAreSound, TasksKeepRules}
+use Rattle.sound_code.specs.Programs.{AcceptedTasksAreSound, HandingTasksAreSound, LocalProgramsAreSound, TasksKeepRules, BeginsWell}
 use Rattle.sound_code.proofs.Asked.{Hands, hands_none, hands_taken}
 use Rattle.sound_code.specs.Ways.{Way, by_rules}
 use Rattle.sound_code.proofs.Accepted.{begins_kept, body_without_breach, stands_in}
 use Rattle.sound_code.proofs.Entries.{named_there}
-use Rattle.sound_code.proofs.Openings.{all, all_marked, all_sound, begins_well, never_breaks, opened}
+use Rattle.sound_code.proofs.Openings.{all, all_marked, all_sound, begins_well, opened}
+use Rattle.sound_code.proofs.InOrder.{never_breaks, run_keeps_all}
+use Rattle.regent_tree.specs.Typing.{result_type}
+use Rattle.code_laws.specs.Programs.{IsGiven}
+use Rattle.fit_rules.specs.Fits.{Program}
 use Rattle.sound_code.proofs.Tasks.{bare, HasMarks, marks_of, treat}
 
 abbrev way : Way
 way = by_rules no_task
 
-module _ (tree : Tree) (marks_at : (k : ℕ) (t : TaskTree) → slice_get (tasks_of tree) k ≡ Some t → HasMarks tree way k t) where
+module _ (tree : Tree) (given : (k : ℕ) (t : TaskTree) → slice_get (tasks_of tree) k ≡ Some t → IsGiven (result_type tree t.result))
+    (marks_at : (k : ℕ) (t : TaskTree) → slice_get (tasks_of tree) k ≡ Some t → HasMarks tree way k t) where
   abbrev marks : ℕ → List Mark
   marks = all tree way marks_at
 
+  abbrev g : Program
+  g = remarked (bare tree way) (marks_of tree way marks)
+
+  well : (forms : Forms) → BeginsWell forms tree g
+  well forms inputs turns p few =
+      begins_well tree way marks (all_marked tree way marks_at) forms (named_there tree (entry_name tree) _ p.start) inputs turns p few
+
   pub tasks_keep_rules : TasksKeepRules tree
   tasks_keep_rules = record {
-    program = remarked (bare tree way) (marks_of tree way marks);
+    program = g;
     code = refl;
     sound = all_sound tree way marks_at;
     segments = λ k t there. never_breaks _ _ _ (all_sound tree way marks_at k t there);
     opens = opened tree way marks (all_marked tree way marks_at);
-    begins = λ forms inputs turns p few.
-        begins_well tree way marks (all_marked tree way marks_at) forms (named_there tree (entry_name tree) _ p.start) inputs turns p few;
+    begins = well;
+    runs = λ forms. run_keeps_all tree g refl given (λ k. refl) (all_sound tree way marks_at) forms (well forms);
   }
 
 module _ (tree : Tree) (none : breaches tree ≡ []) where
@@ -52,11 +64,11 @@ module _ (tree : Tree) (none : breaches tree ≡ []) where
       (body_without_breach tree none k t there) typed small
 
 pub accepted_tasks_are_sound : AcceptedTasksAreSound
-accepted_tasks_are_sound tree none typed = tasks_keep_rules tree (λ k t there.
+accepted_tasks_are_sound tree none typed = tasks_keep_rules tree (λ k t there. (typed k t there).given) (λ k t there.
     let h = typed k t there in told_marks tree none call_forms k t there (hands_none refl) h.typed h.small)
 
 pub handing_tasks_are_sound : HandingTasksAreSound
-handing_tasks_are_sound tree none typed = tasks_keep_rules tree (λ k t there.
+handing_tasks_are_sound tree none typed = tasks_keep_rules tree (λ k t there. (typed k t there).given) (λ k t there.
     let h = typed k t there in
     told_marks tree none (forms_by true false tree t) k t there
     (hands_taken t (record { params = length t.params; needs = (task_code tree t).needs; within = pairs_in (scope_of tree t).known }) refl refl refl refl refl)
@@ -65,4 +77,9 @@ handing_tasks_are_sound tree none typed = tasks_keep_rules tree (λ k t there.
 pub local_programs_are_sound : LocalProgramsAreSound
 local_programs_are_sound tree inputs p =
     let tasks = accepted_tasks_are_sound tree p.run.accepted (kept_tasks tree inputs p) in
-    record { tasks = tasks; first = λ turns few. tasks.begins call_forms inputs turns (kept_run tree inputs p) few }
+    let run = kept_run tree inputs p in
+    record {
+      tasks = tasks;
+      first = λ turns few. tasks.begins call_forms inputs turns run few;
+      runs = λ turns few. tasks.runs call_forms inputs turns run few;
+    }

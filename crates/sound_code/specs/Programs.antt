@@ -15,7 +15,11 @@ use Rattle.machine_terms.specs.Segments.{segment}
 use Rattle.machine_terms.specs.Touches.{segment_touches}
 use Rattle.machine_terms.specs.declared.value.Value.{Value}
 use Rattle.machine_terms.specs.declared.value.Value.TheVariants.{Number}
+use Rattle.machine_terms.specs.declared.order.Instance.{Instance}
+use Rattle.machine_terms.specs.Contents.{no_contents}
 use Rattle.machine_terms.specs.Jobs.{first_frame}
+use Rattle.machine_terms.specs.Orders.{before_of, begun}
+use Rattle.fit_runs.specs.Runs.{BeginsFitting, Comes}
 use Rattle.code_rules.specs.Instructions.{place_of_task, tasks_of}
 use Rattle.code_rules.specs.Programs.{code_of, task_code}
 use Rattle.code_laws.specs.Handing.{AreTypedBy}
@@ -75,6 +79,20 @@ pub record KeepsAll (g : Program) (x : World) (t : TaskCode) (k : ℕ) (b : Befo
 abbrev pub NeverBreaks : Program → TaskCode → ℕ → Type 0
 NeverBreaks g t k = (x : World) (b : Before) → BeforeFits g x t k b → KeepsAll g x t k b
 
+-- an instance begins its next segment from a state that fits, and the segment keeps all
+pub record SegmentKeepsAll (g : Program) (i : Instance) : Type 0 where
+  pub begins : BeginsFitting g i
+  pub keeps : KeepsAll g begins.world begins.task begins.place (before_of g.code i)
+
+-- so it is of each instance to which the run in order of a job comes
+abbrev pub RunKeepsAll : Tree → Program → List ℤ → ℕ → Type 0
+RunKeepsAll tree g inputs turns = (more : ℕ) (j : Instance) →
+    Comes g.code turns (begun (first_frame (job_of tree inputs turns) (entry_code tree)) [] no_contents) more j → SegmentKeepsAll g j
+
+-- whatever its inputs and turns
+abbrev pub RunsKeepAll : Forms → Tree → Program → Type 0
+RunsKeepAll forms tree g = (inputs : List ℤ) (turns : ℕ) → IsTypedRun forms tree inputs → turns < 2 ^ 64 → RunKeepsAll tree g inputs turns
+
 -- The program's code, with a mark for each place, such that the entry task's code is sound and so never breaks;
 -- and its run begins well.
 pub record RunsSoundly (forms : Forms) (tree : Tree) : Type 0 where
@@ -97,7 +115,8 @@ abbrev pub ScalarProgramsAreSound : Type 0
 ScalarProgramsAreSound = (tree : Tree) (inputs : List ℤ) → IsScalarProgramRun tree inputs → RunsSoundly scalar_forms tree
 
 -- The code of each task is sound and so never breaks. The frame of a task that takes numbers, truths, indices and
--- index spaces fits when it opens, with any values of these types, around any roots, and its run begins well.
+-- index spaces fits when it opens, with any values of these types, around any roots; its run begins well, and in order
+-- it keeps all.
 pub record TasksRunSoundly (tree : Tree) : Type 0 where
   pub program : Program
   pub code : program.code ≡ code_of tree
@@ -107,6 +126,7 @@ pub record TasksRunSoundly (tree : Tree) : Type 0 where
       (x : World) (args : List Value) (turns depth : ℕ) → turns < 2 ^ 64 → Are x (map shape_of (param_types tree t)) args →
       Fits program (called x args) (task_code tree t) k (opening_machine turns depth k (task_code tree t) args)
   pub begins : BeginsWell call_forms tree program
+  pub runs : RunsKeepAll call_forms tree program
 
 -- where each task is typed, and tasks call others that take and give numbers and truths
 abbrev pub CallsAreSound : Type 0
@@ -124,7 +144,7 @@ AreConstrained tree t args = Each (λ f. Holds f args) (opening_facts (by_rules 
 
 -- The code of each task is sound and so never breaks. The frame of a task fits when it opens with any values of its
 -- parameters' types, regions among them, of which its constraints hold, around any roots, at any depth and with any
--- turns; and its run begins well.
+-- turns; its run begins well, and in order it keeps all.
 pub record TasksKeepRules (tree : Tree) : Type 0 where
   pub program : Program
   pub code : program.code ≡ code_of tree
@@ -134,6 +154,7 @@ pub record TasksKeepRules (tree : Tree) : Type 0 where
       turns < 2 ^ 64 → Are (called x args) (argument_shapes tree t) args → AreConstrained tree t args →
       Fits program (called x args) (task_code tree t) k (opening_machine turns depth k (task_code tree t) args)
   pub begins : (forms : Forms) → BeginsWell forms tree program
+  pub runs : (forms : Forms) → RunsKeepAll forms tree program
 
 -- where no rule is breached and each task is typed: tasks may take regions, with privileges and constraints on them
 abbrev pub AcceptedTasksAreSound : Type 0
@@ -145,11 +166,13 @@ abbrev pub HandingTasksAreSound : Type 0
 HandingTasksAreSound = (tree : Tree) → breaches tree ≡ [] → AreTypedBy true false tree → TasksKeepRules tree
 
 -- An accepted program whose tasks keep their regions to themselves, and numbers that fit its inputs: the code of each
--- task is sound, frames of its tasks fit when they open, and so does the one in which its run begins.
+-- task is sound, frames of its tasks fit when they open, and so does the one in which its run begins; and each segment
+-- of its run in order keeps all.
 pub record LocalRunsSoundly (tree : Tree) (inputs : List ℤ) : Type 0 where
   pub tasks : TasksKeepRules tree
   pub first : (turns : ℕ) → turns < 2 ^ 64 → Fits tasks.program (first_world inputs) (entry_code tree) (entry_place tree)
       (record { frame = first_frame (job_of tree inputs turns) (entry_code tree); parts = [] })
+  pub runs : (turns : ℕ) → turns < 2 ^ 64 → RunKeepsAll tree tasks.program inputs turns
 
 abbrev pub LocalProgramsAreSound : Type 0
 LocalProgramsAreSound = (tree : Tree) (inputs : List ℤ) → IsKeptProgramRun tree inputs → LocalRunsSoundly tree inputs
