@@ -41,9 +41,9 @@ module _ (ask : Asking) where
           Kind ask m (when b (yield_call task vs st (with_turns p m)) (faults Depth line (with_turns p m)))
       deep p e true d = when_kind ask m (nat_lt (suc m.frame.children) (2 ^ 64)) _ _
           (when_kind ask m (nat_lt (suc m.frame.pc) (2 ^ 32)) _ _
-          (called _ _ (record { task = refl; slots = refl; later = refl; depth = refl; own = refl; needs = refl; parts = refl }) e refl d)
-          (over _ _ tt (record { task = refl; slots = refl; later = refl; depth = refl; own = refl; needs = refl; parts = refl })))
-          (over _ _ tt (record { task = refl; slots = refl; later = refl; depth = refl; own = refl; needs = refl; parts = refl }))
+          (called _ _ (record { task = refl; slots = refl; later = refl; depth = refl; own = refl; needs = refl; parts = refl; fits = λ h. h }) e refl d)
+          (over _ _ tt (record { task = refl; slots = refl; later = refl; depth = refl; own = refl; needs = refl; parts = refl; fits = λ h. h })))
+          (over _ _ tt (record { task = refl; slots = refl; later = refl; depth = refl; own = refl; needs = refl; parts = refl; fits = λ h. h }))
       deep p e false d = over _ _ tt (fixed_turns p m)
 
   call_kind : (o : Option TaskCode) (task n line : ℕ) (m : Machine) → Kind ask m (call_task o task n line m)
@@ -114,7 +114,7 @@ module _ (ask : Asking) where
       set_kind ask (mode.Reduce o) w f line v (aim m rs (target_kept p)) st m (keyed ∙ ap (pointer_key m.frame rs f) e))
   act_kind code (instr.Fill s f w) line m keyed held = region_kind ask m (region_slot m s) m
       (λ r. on_number m.frame.stack m (λ z st. fill_points r.root.0 f w z r.points st m)) (fixed _) (λ r d.
-      number_kind ask _ m.frame.stack m _ (fixed _) (λ z st e. fill_kind ask m r.root f w z r.points st m (keyed ∙ ap (region_key f) d) (record { frame = refl; parts = refl })))
+      number_kind ask _ m.frame.stack m _ (fixed _) (λ z st e. fill_kind ask m r.root f w z r.points st m (keyed ∙ ap (region_key f) d) (record { frame = refl; parts = refl; fits = λ h. h })))
   act_kind code instr.Space line m keyed held = number_kind ask _ m.frame.stack m _ (fixed _) (λ z st e. space_of_kind ask z line st m)
   act_kind code (instr.Colors s) line m keyed held = partition_kind ask m (partition_slot m s) m
       (λ p. when (nat_le (length p.children) 4194304) (next (Space (length p.children) ∷ m.frame.stack) m) (broken m))
@@ -165,7 +165,7 @@ module _ (ask : Asking) where
       (λ q. on_number m.frame.stack m (λ z st. child_at (coloured q.children z) line st m)) (fixed _)
       (λ q. number_kind ask _ m.frame.stack m _ (fixed _) (λ z st e. child_kind ask (coloured q.children z) line st m))
   act_kind code instr.Turn line m keyed held = turn_kind ask m.frame.turns line m _ refl (λ p e.
-      turned _ (record { task = refl; slots = refl; later = refl; depth = refl; own = refl; needs = refl; parts = refl }) e)
+      turned _ (record { task = refl; slots = refl; later = refl; depth = refl; own = refl; needs = refl; parts = refl; fits = λ h. h }) e)
   act_kind code (instr.NextNumber c l v to) line m keyed held =
       count_kind ask c v to line m (slice_get m.frame.slots c) (slice_get m.frame.slots l)
   act_kind code (instr.NextPoint s c v ptr to) line m keyed held =

@@ -53,13 +53,14 @@ fixed_then f g h a b = record {
   own = b.own ∙ a.own;
   needs = b.needs ∙ a.needs;
   parts = b.parts ∙ a.parts;
+  fits = λ h. b.fits (a.fits h);
 }
 
 then_fixed : (ask : Asking) (m : Machine) (s : Stepped) (text : List ℕ) (more : List ℕ → Machine → Stopped) →
     Kind ask m s → ((t : List ℕ) (x : Machine) → Fixed x (more t x).machine) →
     Fixed m (on_stop s text more).machine
 then_fixed ask m _ text more (over y x o f) k = f
-then_fixed ask m _ text more (called cs x f a b c) k = f
+then_fixed ask m _ text more (called o x f a b c) k = f
 then_fixed ask m _ text more (makes d x f a b) k = f
 then_fixed ask m _ text more (wants r g x f a b c) k = f
 then_fixed ask m _ text more (awaits n a) k = fixed m

@@ -1,4 +1,5 @@
 pub mod KeptParts
+pub mod FitParts
 pub mod StepKinds
 pub mod NumberKinds
 pub mod RegionKinds

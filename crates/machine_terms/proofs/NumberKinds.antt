@@ -24,7 +24,7 @@ module _ (ask : Asking) where
   pub store_kind : (s : ℕ) (st : List Value) (m : Machine) → Kind ask m (store s st m)
   store_kind s [] m = stops_kind ask _ m tt
   store_kind s (v ∷ st) m = when_kind ask m (nat_lt s (length m.frame.slots)) _ _
-      (nexted _ (record { task = refl; slots = length-set m.frame.slots s v; later = refl; depth = refl; own = refl; needs = refl; parts = refl }) refl refl)
+      (nexted _ (record { task = refl; slots = length-set m.frame.slots s v; later = refl; depth = refl; own = refl; needs = refl; parts = refl; fits = λ h. h }) refl refl)
       (stops_kind ask _ m tt)
 
   pub discard_kind : (st : List Value) (m : Machine) → Kind ask m (discard st m)
@@ -64,6 +64,7 @@ module _ (ask : Asking) where
         own = refl;
         needs = refl;
         parts = refl;
+        fits = λ h. h;
       }) e)
       (over _ _ tt (fixed_turns p m))
 

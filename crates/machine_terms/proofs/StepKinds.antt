@@ -20,9 +20,10 @@ use Rattle.machine_terms.specs.Jumps.{may_jump}
 use Rattle.machine_terms.specs.Pointers.{region_slot, Aimed, aims, fails, nowhere, aim}
 use Rattle.machine_terms.specs.Regions.{on_space, on_colours, Column, unread, awaited, column, with_column, with_region, with_partition}
 use Rattle.machine_terms.proofs.KeptParts.{bare}
+use Rattle.machine_terms.proofs.FitParts.{PartsFit}
 use Rattle.machine_terms.proofs.KeptParts.{IsMissing}
 
--- what no instruction changes
+-- what no instruction changes, and that numbers of parts fit where they did before
 pub record Fixed (f g : Machine) : Type 0 where
   pub task : g.frame.task ≡ f.frame.task
   pub slots : length g.frame.slots ≡ length f.frame.slots
@@ -31,6 +32,7 @@ pub record Fixed (f g : Machine) : Type 0 where
   pub own : g.frame.own ≡ f.frame.own
   pub needs : g.frame.needs ≡ f.frame.needs
   pub parts : bare g.parts ≡ bare f.parts
+  pub fits : PartsFit f.parts → PartsFit g.parts
 
 -- What an instruction may ask for: a field of a root, or what is pending in a slot. It depends on the frame
 -- alone.
@@ -80,8 +82,8 @@ pub record Asking : Type 0 where
 -- a step from a machine, by an instruction that may ask for this
 pub data Kind (ask : Asking) (f : Machine) : Stepped → Type 0 where
   over : (y : Yield) (m : Machine) → IsOver y → Fixed f m → Kind ask f (stops y m)
-  called : (cs : List CallOut) (m : Machine) → Fixed f m → suc m.frame.turns ≡ f.frame.turns →
-      m.frame.pc ≡ suc f.frame.pc → nat_lt f.frame.depth 64 ≡ true → Kind ask f (stops (yield.Calls cs) m)
+  called : (c : CallOut) (m : Machine) → Fixed f m → suc m.frame.turns ≡ f.frame.turns →
+      m.frame.pc ≡ suc f.frame.pc → nat_lt f.frame.depth 64 ≡ true → Kind ask f (stops (yield.Calls (c ∷ [])) m)
   makes : (d : Made) (m : Machine) → Fixed f m → m.frame.turns ≡ f.frame.turns →
       m.frame.pc ≡ suc f.frame.pc → Kind ask f (stops (yield.Make d) m)
   wants : (r : RootId) (g : ℕ) (m : Machine) → Fixed f m → m.frame ≡ f.frame → ask.key ≡ Some (r.0, g) →
@@ -99,6 +101,7 @@ pub data Kind (ask : Asking) (f : Machine) : Stepped → Type 0 where
 pub record Filling (f m : Machine) : Type 0 where
   pub frame : m.frame ≡ f.frame
   pub parts : bare m.parts ≡ bare f.parts
+  pub fits : PartsFit f.parts → PartsFit m.parts
 
 pub filling_fixed : (f m : Machine) → Filling f m → Fixed f m
 filling_fixed f m e = record {
@@ -109,17 +112,18 @@ filling_fixed f m e = record {
   own = ap (λ (x : Frame). x.own) e.frame;
   needs = ap (λ (x : Frame). x.needs) e.frame;
   parts = e.parts;
+  fits = e.fits;
 }
 
 -- a machine itself, at another place with another stack, and with other turns
 pub fixed : (f : Machine) → Fixed f f
-fixed f = record { task = refl; slots = refl; later = refl; depth = refl; own = refl; needs = refl; parts = refl }
+fixed f = record { task = refl; slots = refl; later = refl; depth = refl; own = refl; needs = refl; parts = refl; fits = λ h. h }
 
 pub fixed_at : (pc : ℕ) (st : List Value) (m : Machine) → Fixed m (at pc st m)
-fixed_at pc st m = record { task = refl; slots = refl; later = refl; depth = refl; own = refl; needs = refl; parts = refl }
+fixed_at pc st m = record { task = refl; slots = refl; later = refl; depth = refl; own = refl; needs = refl; parts = refl; fits = λ h. h }
 
 pub fixed_turns : (n : ℕ) (m : Machine) → Fixed m (with_turns n m)
-fixed_turns n m = record { task = refl; slots = refl; later = refl; depth = refl; own = refl; needs = refl; parts = refl }
+fixed_turns n m = record { task = refl; slots = refl; later = refl; depth = refl; own = refl; needs = refl; parts = refl; fits = λ h. h }
 
 module _ (ask : Asking) where
   -- ---- the words of which instructions are made

@@ -189,7 +189,7 @@ module _ (code : Code) (body : List Line) where
       h y a.pc a.turns (quiet_child body y z (step code body y) (step_kind code body y)
       (ap (λ n. slot_at (fetch body n) y.frame) a.pc ∙ b (fetch body m.frame.pc) p))
   once c m _ (over y x o f) h q = over_stop _ y x o
-  once c m _ (called cs x f a b d) h q = one_more c (stops (yield.Calls cs) x) (q tt)
+  once c m _ (called o x f a b d) h q = one_more c (stops (yield.Calls (o ∷ [])) x) (q tt)
   once c m _ (makes d x f a b) h q = one_more c (stops (yield.Make d) x) (q tt)
   once c m _ (nexted x f a b) h q = one_more c (goes x) (q tt)
   once c m _ (printed t x f a b) h q = one_more c (prints t x) (q tt)
