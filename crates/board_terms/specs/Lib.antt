@@ -1,0 +1,10 @@
+pub mod Calls
+pub mod Claims
+pub mod Closings
+pub mod Example
+pub mod Gives
+pub mod Makes
+pub mod Outcomes
+pub mod Replays
+pub mod Stages
+pub mod States

@@ -1,0 +1,11 @@
+//! What a board is made of: operations with their claims. The definitions say what each step of a journal makes
+//! of a board, and what a board that has finished comes to.
+#![tactic(auto)]
+
+mod claim;
+mod laws;
+mod operation;
+
+pub use claim::Claim;
+pub use laws::example_comes_out;
+pub use operation::{Activity, Ending, Operation, Said, Wait};
