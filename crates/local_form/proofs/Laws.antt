@@ -7,13 +7,15 @@ use Rattle.std.proofs.lemmas.Bool.{ne_eqb}
 use Rattle.std.proofs.lemmas.List.{drop_more}
 use Rattle.regent_tree.specs.declared.expression.Step.{Step, Field, At}
 use Rattle.regent_tree.specs.declared.statement.Arm.{Arm, out-Arm}
+use Rattle.regent_tree.specs.declared.expression.Link.{Link}
 use Rattle.regent_tree.specs.declared.statement.How.{How}
-use Rattle.regent_tree.specs.Plain.{expression_of, steps_in}
+use Rattle.regent_tree.specs.declared.statement.How.TheVariants as how
+use Rattle.regent_tree.specs.Plain.{expression_of, links_in, steps_in}
 use Rattle.regent_tree.specs.PlainProgram.{arms_in, block_in}
-use Rattle.regent_tree.specs.Syntax.{Expression, Name, access_expr, assign_form}
+use Rattle.regent_tree.specs.Syntax.{Expression, Name, Steps, access_expr, assign_form, at_step, chain_expr, field_step, no_step}
 use Rattle.regent_tree.proofs.Rows.{arm_read}
-use Rattle.local_form.specs.LocalForm.{Marked, are_local_arms, is_local_block, is_local_expression, is_local_form, is_name, marked_by_arms, marked_in}
-use Rattle.local_form.specs.Seen.{is_local_arm}
+use Rattle.local_form.specs.LocalForm.{Marked, are_local_arms, gives_pointer, is_among, is_local_block, is_local_expression, is_local_form, is_name, marked_by_arms, marked_in}
+use Rattle.local_form.specs.Seen.{assigns_beside, is_behind, is_beside, is_local_arm}
 
 pub list_any-map : {A B : Type 0} (p : B → Bool) (f : A → B) (xs : List A) → list_any p (map f xs) ≡ list_any (λ x. p (f x)) xs
 list_any-map p f [] = refl
@@ -24,6 +26,10 @@ list_any-map p f (x ∷ xs) = ap (λ b. p (f x) || b) (list_any-map p f xs)
 not_none : (n : ℕ) → (suc n == 0) ≡ false
 not_none n = ne_eqb (suc n) 0 (λ e. omega (arith, e))
 
+or_none : (b : Bool) → (b || false) ≡ b
+or_none true = refl
+or_none false = refl
+
 -- a name stands alone where it has no steps
 pub alone_without_steps : (n : Name) (steps : List Step) → is_name (access_expr n (steps_in steps)) ≡ (length steps == 0)
 alone_without_steps n [] = refl
@@ -32,38 +38,81 @@ alone_without_steps n (At e ∷ rest) = sym (not_none (length rest))
 
 -- those that are no field at a point
 
-pub one_step : (m : Marked) (n : Name) (steps : List Step) → 1 ≤ length steps → length steps < 2 → false ≡ is_local_expression m (access_expr n (steps_in steps))
-one_step m n [] some few = absurd (omega (arith, some))
-one_step m n (Field f ∷ rest) some few = refl
-one_step m n (At e ∷ []) some few = refl
-one_step m n (At e ∷ step ∷ rest) some few = absurd (omega (arith, few))
+pub one_beside : (m : Marked) (n : Name) (steps : List Step) → 1 ≤ length steps → length steps < 2 → false ≡ is_beside m n (steps_in steps)
+one_beside m n [] some few = absurd (omega (arith, some))
+one_beside m n (Field f ∷ rest) some few = refl
+one_beside m n (At e ∷ []) some few = refl
+one_beside m n (At e ∷ step ∷ rest) some few = absurd (omega (arith, few))
 
-pub three_steps : (m : Marked) (n : Name) (steps : List Step) → 3 ≤ length steps → false ≡ is_local_expression m (access_expr n (steps_in steps))
-three_steps m n [] many = absurd (omega (arith, many))
-three_steps m n (Field f ∷ rest) many = refl
-three_steps m n (At e ∷ []) many = absurd (omega (arith, many))
-three_steps m n (At e ∷ At d ∷ rest) many = refl
-three_steps m n (At e ∷ Field f ∷ []) many = absurd (omega (arith, many))
-three_steps m n (At e ∷ Field f ∷ Field g ∷ rest) many = refl
-three_steps m n (At e ∷ Field f ∷ At d ∷ rest) many = refl
+pub three_beside : (m : Marked) (n : Name) (steps : List Step) → 3 ≤ length steps → false ≡ is_beside m n (steps_in steps)
+three_beside m n [] many = absurd (omega (arith, many))
+three_beside m n (Field f ∷ rest) many = refl
+three_beside m n (At e ∷ []) many = absurd (omega (arith, many))
+three_beside m n (At e ∷ At d ∷ rest) many = refl
+three_beside m n (At e ∷ Field f ∷ []) many = absurd (omega (arith, many))
+three_beside m n (At e ∷ Field f ∷ Field g ∷ rest) many = refl
+three_beside m n (At e ∷ Field f ∷ At d ∷ rest) many = refl
 
 -- the same of what is assigned to
-pub one_step_assigned : (m : Marked) (n : Name) (steps : List Step) (h : How) (e : Expression) → 1 ≤ length steps → length steps < 2 →
-    false ≡ is_local_form m (assign_form n (steps_in steps) h e)
-one_step_assigned m n [] h e some few = absurd (omega (arith, some))
-one_step_assigned m n (Field f ∷ rest) h e some few = refl
-one_step_assigned m n (At d ∷ []) h e some few = refl
-one_step_assigned m n (At d ∷ step ∷ rest) h e some few = absurd (omega (arith, few))
+pub one_assigned : (m : Marked) (n : Name) (steps : List Step) (h : How) (e : Expression) → 1 ≤ length steps → length steps < 2 →
+    false ≡ assigns_beside m n (steps_in steps) h e
+one_assigned m n [] h e some few = absurd (omega (arith, some))
+one_assigned m n (Field f ∷ rest) h e some few = refl
+one_assigned m n (At d ∷ []) h e some few = refl
+one_assigned m n (At d ∷ step ∷ rest) h e some few = absurd (omega (arith, few))
 
-pub three_steps_assigned : (m : Marked) (n : Name) (steps : List Step) (h : How) (e : Expression) → 3 ≤ length steps →
-    false ≡ is_local_form m (assign_form n (steps_in steps) h e)
-three_steps_assigned m n [] h e many = absurd (omega (arith, many))
-three_steps_assigned m n (Field f ∷ rest) h e many = refl
-three_steps_assigned m n (At d ∷ []) h e many = absurd (omega (arith, many))
-three_steps_assigned m n (At d ∷ At c ∷ rest) h e many = refl
-three_steps_assigned m n (At d ∷ Field f ∷ []) h e many = absurd (omega (arith, many))
-three_steps_assigned m n (At d ∷ Field f ∷ Field g ∷ rest) h e many = refl
-three_steps_assigned m n (At d ∷ Field f ∷ At c ∷ rest) h e many = refl
+pub three_assigned : (m : Marked) (n : Name) (steps : List Step) (h : How) (e : Expression) → 3 ≤ length steps →
+    false ≡ assigns_beside m n (steps_in steps) h e
+three_assigned m n [] h e many = absurd (omega (arith, many))
+three_assigned m n (Field f ∷ rest) h e many = refl
+three_assigned m n (At d ∷ []) h e many = absurd (omega (arith, many))
+three_assigned m n (At d ∷ At c ∷ rest) h e many = refl
+three_assigned m n (At d ∷ Field f ∷ []) h e many = absurd (omega (arith, many))
+three_assigned m n (At d ∷ Field f ∷ Field g ∷ rest) h e many = refl
+three_assigned m n (At d ∷ Field f ∷ At c ∷ rest) h e many = refl
+
+-- and those that aren't one field
+pub none_behind : (m : Marked) (n : Name) (steps : List Step) → length steps < 1 → false ≡ is_behind m n (steps_in steps)
+none_behind m n [] few = refl
+none_behind m n (step ∷ rest) few = absurd (omega (arith, few))
+
+pub two_behind : (m : Marked) (n : Name) (steps : List Step) → 2 ≤ length steps → false ≡ is_behind m n (steps_in steps)
+two_behind m n [] many = absurd (omega (arith, many))
+two_behind m n (Field f ∷ []) many = absurd (omega (arith, many))
+two_behind m n (Field f ∷ Field g ∷ rest) many = refl
+two_behind m n (Field f ∷ At d ∷ rest) many = refl
+two_behind m n (At e ∷ rest) many = refl
+
+-- an access is behind a pointer or beside it
+pub either_access : (m : Marked) (n : Name) (steps : Steps) →
+    (is_behind m n steps || is_beside m n steps) ≡ is_local_expression m (access_expr n steps)
+either_access m n no_step = refl
+either_access m n (field_step f no_step) = or_none (is_among m.pointers n)
+either_access m n (field_step f (field_step _ _)) = refl
+either_access m n (field_step f (at_step _ _)) = refl
+either_access m n (at_step e no_step) = refl
+either_access m n (at_step e (at_step _ _)) = refl
+either_access m n (at_step e (field_step f no_step)) = refl
+either_access m n (at_step e (field_step f (field_step _ _))) = refl
+either_access m n (at_step e (field_step f (at_step _ _))) = refl
+
+pub either_assigned : (m : Marked) (n : Name) (steps : Steps) (h : How) (e : Expression) →
+    (assigns_beside m n steps h e || (is_behind m n steps && is_local_expression m e)) ≡ is_local_form m (assign_form n steps h e)
+either_assigned m n no_step how.Set e = or_none _
+either_assigned m n no_step (how.Reduce o) e = or_none _
+either_assigned m n (field_step f no_step) h e = refl
+either_assigned m n (field_step f (field_step _ _)) h e = refl
+either_assigned m n (field_step f (at_step _ _)) h e = refl
+either_assigned m n (at_step d no_step) h e = refl
+either_assigned m n (at_step d (at_step _ _)) h e = refl
+either_assigned m n (at_step d (field_step f no_step)) h e = or_none _
+either_assigned m n (at_step d (field_step f (field_step _ _))) h e = refl
+either_assigned m n (at_step d (field_step f (at_step _ _))) h e = refl
+
+-- a chain of further members gives no pointer
+pub chain_gives : (m : Marked) (first : Expression) (links : List Link) → 1 ≤ length links → false ≡ gives_pointer m (chain_expr first (links_in links))
+chain_gives m first [] some = absurd (omega (arith, some))
+chain_gives m first (link ∷ rest) some = refl
 
 -- ---- tests
 
@@ -79,6 +128,12 @@ first_fails false b r h e = e
 pub first_alone : (a r : Bool) → r ≡ a → r ≡ (a && true)
 first_alone true r e = e
 first_alone false r e = e
+
+-- and the last of three, where the first fails
+pub third_tells : (a b c r : Bool) → a ≡ false → b ≡ true → r ≡ c → r ≡ (a || (b && c))
+third_tells false true c r h k e = e
+third_tells false false c r h k e = absurd cc
+third_tells true b c r h k e = absurd cc
 
 -- ---- arms
 

@@ -1,7 +1,7 @@
 -- Programs whose tasks know each region by a local name, that of a parameter or of a variable that begins with
 -- region(..), and hand it over by that name: each task takes numbers, truths and regions, and gives a number or truth,
--- or nothing. Which names stand for regions, and which may stand for an index or an index space, is read from the text
--- of a task.
+-- or nothing. Which names stand for regions, and which may stand for an index, an index space or a pointer, is read from
+-- the text of a task.
 use Rattle.std.specs.Prelude.{Bool, true, false, List, [], ◌∷◌, ◌++◌, Some, None, bytes_eq, not, cond, ◌&&◌, ◌||◌}
 use Rattle.std.specs.List.{list_all, list_any}
 use Rattle.regent_tree.specs.Syntax.{Arms, Block, Expression, Expressions, Form, ItemForm, ItemTree, Links, Name, Otherwise, TaskTree, Tree, a_link, a_statement, access_expr, alias_item, an_arm, an_expr, assert_form, assign_form, at_step, call_expr, call_form, chain_expr, convert_expr, do_form, else_block, field_step, fill_form, for_in_form, for_to_form, if_form, import_item, no_arm, no_else, no_expr, no_link, no_statement, no_step, number_expr, plain_initializer, prefix_expr, print_form, region_initializer, return_form, space_expr, space_item, start_item, task_item, then_statement, truth_expr, var_form, while_form}
@@ -14,17 +14,19 @@ use Rattle.scalar_form.specs.ScalarForm.{is_scalar_if_said, is_scalar_number, is
 
 -- ---- names
 
--- the names of regions in a task, and those that may stand for an index or an index space
+-- the names of regions in a task, those that may stand for an index, an index space or a pointer, and those among them
+-- that may stand for a pointer
 pub record Marked : Type 0 where
   pub regions : List Name
   pub indices : List Name
+  pub pointers : List Name
 
 abbrev pub is_among : List Name → Name → Bool
 is_among names n = list_any (λ m. bytes_eq m n) names
 
 -- ---- expressions
 
--- whether an expression gives a number or truth, and no index or index space
+-- whether an expression gives a number or truth, and no index, index space or pointer
 abbrev mutual
   pub gives_scalar : Marked → Expression → Bool
   gives_scalar m (number_expr z w) = true
@@ -33,6 +35,7 @@ abbrev mutual
   gives_scalar m (prefix_expr signs e) = true
   gives_scalar m (access_expr n no_step) = not (is_among m.indices n)
   gives_scalar m (access_expr n (at_step e rest)) = true
+  gives_scalar m (access_expr n (field_step f rest)) = true
   gives_scalar m (call_expr task args) = true
   gives_scalar m (convert_expr t e) = true
   gives_scalar m e = false
@@ -48,8 +51,20 @@ abbrev pub is_name : Expression → Bool
 is_name (access_expr n no_step) = true
 is_name e = false
 
--- Numbers and truths, indices and index spaces, calls, and fields at points of regions that have names. A region
--- itself stands in an argument alone, and a prefix before numbers and truths.
+-- a region's name that stands alone
+abbrev pub is_region_name : Marked → Expression → Bool
+is_region_name m (access_expr n no_step) = is_among m.regions n
+is_region_name m e = false
+
+-- whether an expression may give a pointer: a name that may stand for one, which may be all of a chain
+abbrev pub gives_pointer : Marked → Expression → Bool
+gives_pointer m (access_expr n no_step) = is_among m.pointers n
+gives_pointer m (chain_expr first no_link) = gives_pointer m first
+gives_pointer m e = false
+
+-- Numbers and truths, indices, index spaces and pointers, calls, and fields at points of regions that have names, and
+-- those that a name's pointer goes to. A region itself stands in an argument alone, or is what a loop goes over, and a
+-- prefix stands before numbers and truths.
 abbrev mutual
   pub is_local_expression : Marked → Expression → Bool
   is_local_expression m (number_expr z w) = true
@@ -58,6 +73,7 @@ abbrev mutual
   is_local_expression m (prefix_expr signs e) = gives_scalar m e && is_local_expression m e
   is_local_expression m (access_expr n no_step) = not (is_among m.regions n)
   is_local_expression m (access_expr n (at_step e (field_step f no_step))) = is_local_expression m e
+  is_local_expression m (access_expr n (field_step f no_step)) = is_among m.pointers n
   is_local_expression m (call_expr task args) = are_local_arguments m args
   is_local_expression m (convert_expr t e) = is_scalar_number t && is_local_expression m e
   is_local_expression m (space_expr k e) = is_local_expression m e
@@ -78,20 +94,28 @@ are_local_expressions m (an_expr e es) = is_local_expression m e && are_local_ex
 
 -- ---- statements
 
+-- a variable that begins with what may be a pointer is a copy of a name, and may stand for a pointer too
+abbrev pub keeps_pointer : Marked → Name → Expression → Bool
+keeps_pointer m n e = not (gives_pointer m e) || (is_name e && is_among m.pointers n)
+
+-- a loop goes over a region that has a name, and takes pointers, or over an index space
+abbrev pub is_local_domain : Marked → Name → Expression → Bool
+is_local_domain m n domain = (is_region_name m domain && is_among m.pointers n) || is_local_expression m domain
+
 -- A variable of a written type is a number or truth. One without it begins with region(..), and its name is a
--- region's; or with an expression, and where that may give an index or index space, so may the name. None of these
--- is assigned.
+-- region's; or with an expression, and where that may give an index, an index space or a pointer, so may the name. None
+-- of these is assigned.
 abbrev mutual
   pub is_local_form : Marked → Form → Bool
   is_local_form m (var_form n t None) = is_scalar_if_said t
   is_local_form m (var_form n (Some t) (Some (plain_initializer e))) = is_scalar_term t && is_local_expression m e
   is_local_form m (var_form n None (Some (plain_initializer e))) =
-      (gives_scalar m e || is_among m.indices n) && is_local_expression m e
+      (gives_scalar m e || is_among m.indices n) && (keeps_pointer m n e && is_local_expression m e)
   is_local_form m (var_form n None (Some (region_initializer e u))) = is_among m.regions n && is_local_expression m e
   is_local_form m (if_form arms other) = are_local_arms m arms && is_local_else m other
   is_local_form m (while_form test body) = is_local_expression m test && is_local_block m body
   is_local_form m (for_in_form demanded n domain body) =
-      is_among m.indices n && (is_local_expression m domain && is_local_block m body)
+      is_among m.indices n && (is_local_domain m n domain && is_local_block m body)
   is_local_form m (for_to_form demanded n from to body) =
       is_local_expression m from && (is_local_expression m to && is_local_block m body)
   is_local_form m (do_form body) = is_local_block m body
@@ -104,6 +128,7 @@ abbrev mutual
   is_local_form m (assign_form n no_step (how.Reduce o) e) = is_local_expression m e
   is_local_form m (assign_form n (at_step e (field_step f no_step)) h y) =
       is_local_expression m e && is_local_expression m y
+  is_local_form m (assign_form n (field_step f no_step) h y) = is_among m.pointers n && is_local_expression m y
   is_local_form m (return_form None) = true
   is_local_form m (return_form (Some e)) = is_local_expression m e
   is_local_form m form = false
@@ -124,7 +149,7 @@ abbrev mutual
 -- ---- which names are marked
 
 abbrev pub unmarked : Marked
-unmarked = record { regions = []; indices = [] }
+unmarked = record { regions = []; indices = []; pointers = [] }
 
 abbrev pub with_region : Name → Marked → Marked
 with_region n m = record m { regions = m.regions ++ n ∷ [] }
@@ -132,14 +157,22 @@ with_region n m = record m { regions = m.regions ++ n ∷ [] }
 abbrev pub with_index : Name → Marked → Marked
 with_index n m = record m { indices = m.indices ++ n ∷ [] }
 
+-- a pointer's name counts among both
+abbrev pub with_pointer : Name → Marked → Marked
+with_pointer n m = record m { indices = m.indices ++ n ∷ []; pointers = m.pointers ++ n ∷ [] }
+
+abbrev pub with_either : Bool → Name → Marked → Marked
+with_either points n m = cond points (with_pointer n m) (with_index n m)
+
 -- the names that statements bind, beside those that are marked before them
 abbrev mutual
   pub marked_by : Form → Marked → Marked
-  marked_by (var_form n None (Some (plain_initializer e))) m = cond (gives_scalar m e) m (with_index n m)
+  marked_by (var_form n None (Some (plain_initializer e))) m =
+      cond (gives_scalar m e) m (with_either (gives_pointer m e) n m)
   marked_by (var_form n None (Some (region_initializer e u))) m = with_region n m
   marked_by (if_form arms other) m = marked_by_else other (marked_by_arms arms m)
   marked_by (while_form test body) m = marked_in body m
-  marked_by (for_in_form demanded n domain body) m = marked_in body (with_index n m)
+  marked_by (for_in_form demanded n domain body) m = marked_in body (with_either (is_region_name m domain) n m)
   marked_by (for_to_form demanded n from to body) m = marked_in body m
   marked_by (do_form body) m = marked_in body m
   marked_by form m = m
@@ -175,9 +208,9 @@ abbrev pub marked_params : List Param → Marked → Marked
 marked_params [] m = m
 marked_params (p ∷ ps) m = marked_params ps (cond (is_region_term p.term) (with_region p.name m) m)
 
--- all names that a task marks
+-- all names that a task marks, its parameters first
 abbrev pub marked_by_task : TaskTree → Marked
-marked_by_task t = marked_params t.params (marked_in t.body unmarked)
+marked_by_task t = marked_in t.body (marked_params t.params unmarked)
 
 abbrev pub is_local_task : TaskTree → Bool
 is_local_task t = are_local_params t.params && (is_scalar_if_said t.result && is_local_block (marked_by_task t) t.body)

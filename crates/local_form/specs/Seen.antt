@@ -1,12 +1,14 @@
 -- The parts of what stands in lists, as the code sees them.
-use Rattle.std.specs.Prelude.{Bool, cond, ◌&&◌, ◌||◌}
+use Rattle.std.specs.Prelude.{Bool, cond, false, not, ◌&&◌, ◌||◌}
 use Rattle.regent_tree.specs.declared.statement.Arm.{Arm, out-Arm}
+use Rattle.regent_tree.specs.declared.statement.How.{How}
+use Rattle.regent_tree.specs.declared.statement.How.TheVariants as how
 use Rattle.regent_tree.specs.declared.types.Param.{Param}
 use Rattle.regent_tree.specs.Plain.{expression_of}
 use Rattle.regent_tree.specs.PlainProgram.{block_in}
-use Rattle.regent_tree.specs.Syntax.{Expression, Name, TaskTree}
+use Rattle.regent_tree.specs.Syntax.{Expression, Name, Steps, TaskTree, at_step, field_step, no_step}
 use Rattle.scalar_form.specs.ScalarForm.{is_scalar_if_said, is_scalar_term}
-use Rattle.local_form.specs.LocalForm.{Marked, are_local_params, gives_scalar, is_local_block, is_local_expression, is_name, is_region_term, with_index, with_region}
+use Rattle.local_form.specs.LocalForm.{Marked, are_local_params, gives_pointer, gives_scalar, is_among, is_local_block, is_local_expression, is_name, is_region_name, is_region_term, with_either, with_region}
 
 abbrev pub is_local_arm : Marked → Arm → Bool
 is_local_arm m a =
@@ -17,7 +19,11 @@ is_local_argument m e = is_name e || is_local_expression m e
 
 -- a variable without a written type that begins with an expression
 abbrev pub marked_by_value : Name → Expression → Marked → Marked
-marked_by_value n e m = cond (gives_scalar m e) m (with_index n m)
+marked_by_value n e m = cond (gives_scalar m e) m (with_either (gives_pointer m e) n m)
+
+-- what a loop takes
+abbrev pub marked_by_loop : Name → Expression → Marked → Marked
+marked_by_loop n domain m = with_either (is_region_name m domain) n m
 
 abbrev pub marked_param : Param → Marked → Marked
 marked_param p m = cond (is_region_term p.term) (with_region p.name m) m
@@ -28,3 +34,24 @@ is_local_param p = is_scalar_term p.term || is_region_term p.term
 -- what a task takes and gives
 abbrev pub is_local_head : TaskTree → Bool
 is_local_head t = are_local_params t.params && is_scalar_if_said t.result
+
+-- ---- accesses
+
+-- a field of what a name's pointer goes to
+abbrev pub is_behind : Marked → Name → Steps → Bool
+is_behind m n (field_step f no_step) = is_among m.pointers n
+is_behind m n steps = false
+
+-- a name that is no region's, or a field at a point
+abbrev pub is_beside : Marked → Name → Steps → Bool
+is_beside m n no_step = not (is_among m.regions n)
+is_beside m n (at_step e (field_step f no_step)) = is_local_expression m e
+is_beside m n steps = false
+
+-- the same of what is assigned to
+abbrev pub assigns_beside : Marked → Name → Steps → How → Expression → Bool
+assigns_beside m n no_step how.Set e =
+    not (is_among m.regions n) && (not (is_among m.indices n) && is_local_expression m e)
+assigns_beside m n no_step (how.Reduce o) e = is_local_expression m e
+assigns_beside m n (at_step e (field_step f no_step)) h y = is_local_expression m e && is_local_expression m y
+assigns_beside m n steps h e = false

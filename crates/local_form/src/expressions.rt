@@ -4,15 +4,16 @@ ghost use Rattle.std.specs.Prelude.{◌≡◌};
 ghost use Rattle.regent_tree.specs.Plain.{expression_of, expressions_in, links_in, steps_in};
 ghost use Rattle.regent_tree.specs.Syntax.{access_expr};
 ghost use Rattle.local_form.specs.LocalForm.{are_local_arguments, are_local_expressions};
-ghost use Rattle.local_form.specs.LocalForm.{are_local_links, is_local_expression, is_name};
-ghost use Rattle.local_form.specs.Seen.{is_local_argument};
+ghost use Rattle.local_form.specs.LocalForm.{are_local_links, is_local_expression, is_name, is_region_name};
+ghost use Rattle.local_form.specs.Seen.{is_behind, is_beside, is_local_argument};
 
 use crate::giving::gives_scalar;
 use crate::marked::Marked;
 use regent_tree::{Expr, Link, Name, Step};
 use scalar_form::is_scalar_number;
 
-/// Whether a task may have an expression: numbers, truths, indices and index spaces, and fields at points of regions.
+/// Whether a task may have an expression: numbers, truths, indices, index spaces and pointers, and fields at points of
+/// regions and of what pointers go to.
 #[cycle(expression)]
 pub fn is_local_expression(marked: &Marked<'_>, e: &Expr) -> bool
     ensures { result ≡ is_local_expression marked.now (expression_of e.now) }
@@ -35,16 +36,34 @@ pub fn is_local_expression(marked: &Marked<'_>, e: &Expr) -> bool
     }
 }
 
-/// A name that is no region's, or a field at a point of a region.
+/// Whether an access is a field of what a name's pointer goes to.
+pub fn is_behind(marked: &Marked<'_>, name: &Name, steps: &[Step]) -> bool
+    ensures { result ≡ is_behind marked.now name.now (steps_in steps.now) }
+{
+    match steps {
+        [Step::Field(_)] => marked.is_pointer(name),
+        _ => false,
+    }
+}
+
+/// Whether it is a name that is no region's, or a field at a point of a region.
 #[cycle(expression)]
-fn is_local_access(marked: &Marked<'_>, name: &Name, steps: &[Step]) -> bool
-    ensures { result ≡ is_local_expression marked.now (access_expr name.now (steps_in steps.now)) }
+fn is_beside(marked: &Marked<'_>, name: &Name, steps: &[Step]) -> bool
+    ensures { result ≡ is_beside marked.now name.now (steps_in steps.now) }
 {
     match steps {
         [] => !marked.is_region(name),
         [Step::At(place), Step::Field(_)] => is_local_expression(marked, place),
         _ => false,
     }
+}
+
+/// Whether it is one of these.
+#[cycle(expression)]
+fn is_local_access(marked: &Marked<'_>, name: &Name, steps: &[Step]) -> bool
+    ensures { result ≡ is_local_expression marked.now (access_expr name.now (steps_in steps.now)) }
+{
+    is_behind(marked, name, steps) || is_beside(marked, name, steps)
 }
 
 /// Whether such are the further members of a chain.
@@ -61,11 +80,31 @@ fn are_local_links(marked: &Marked<'_>, links: &[Link]) -> bool
 }
 
 /// Whether an expression is a name alone.
-fn is_name(e: &Expr) -> bool
+pub fn is_name(e: &Expr) -> bool
     ensures { result ≡ is_name (expression_of e.now) }
 {
     match e {
         Expr::Access { steps, .. } => steps.is_empty(),
+        _ => false,
+    }
+}
+
+/// Whether an access is a region's name alone.
+fn names_region(marked: &Marked<'_>, name: &Name, steps: &[Step]) -> bool
+    ensures { result ≡ is_region_name marked.now (access_expr name.now (steps_in steps.now)) }
+{
+    match steps {
+        [] => marked.is_region(name),
+        [Step::At(_), ..] | [Step::Field(_), ..] => false,
+    }
+}
+
+/// Whether an expression is a region's name alone.
+pub fn is_region_name(marked: &Marked<'_>, e: &Expr) -> bool
+    ensures { result ≡ is_region_name marked.now (expression_of e.now) }
+{
+    match e {
+        Expr::Access { name, steps } => names_region(marked, name, steps.as_slice()),
         _ => false,
     }
 }

@@ -1,21 +1,20 @@
-//! Which expressions give numbers and truths.
+//! Which expressions give numbers and truths, and which may give pointers.
 
 ghost use Rattle.std.specs.Prelude.{◌≡◌};
 ghost use Rattle.regent_tree.specs.Plain.{expression_of, links_in, steps_in};
-ghost use Rattle.regent_tree.specs.Syntax.{access_expr};
-ghost use Rattle.local_form.specs.LocalForm.{gives_scalar, links_give};
+ghost use Rattle.regent_tree.specs.Syntax.{access_expr, chain_expr};
+ghost use Rattle.local_form.specs.LocalForm.{gives_pointer, gives_scalar, links_give};
 
 use crate::marked::Marked;
 use regent_tree::{Expr, Link, Name, Operator, Step};
 
-/// Whether an access gives a number or truth: a name that isn't marked, or a field at a point.
+/// Whether an access gives a number or truth: a name that isn't marked, or a field.
 fn access_gives(marked: &Marked<'_>, name: &Name, steps: &[Step]) -> bool
     ensures { result ≡ gives_scalar marked.now (access_expr name.now (steps_in steps.now)) }
 {
     match steps {
         [] => !marked.is_index(name),
-        [Step::At(_), ..] => true,
-        [Step::Field(_), ..] => false,
+        [Step::At(_), ..] | [Step::Field(_), ..] => true,
     }
 }
 
@@ -51,4 +50,37 @@ fn links_give(marked: &Marked<'_>, left: bool, links: &[Link]) -> bool
         };
     }
     gives
+}
+
+/// Whether an access may give a pointer: a name alone that may stand for one.
+fn access_points(marked: &Marked<'_>, name: &Name, steps: &[Step]) -> bool
+    ensures { result ≡ gives_pointer marked.now (access_expr name.now (steps_in steps.now)) }
+{
+    match steps {
+        [] => marked.is_pointer(name),
+        [Step::At(_), ..] | [Step::Field(_), ..] => false,
+    }
+}
+
+/// Whether an expression may give a pointer: a name that may stand for one, alone or as all of a chain.
+#[cycle(pointing)]
+pub fn gives_pointer(marked: &Marked<'_>, e: &Expr) -> bool
+    ensures { result ≡ gives_pointer marked.now (expression_of e.now) }
+{
+    match e {
+        Expr::Access { name, steps } => access_points(marked, name, steps.as_slice()),
+        Expr::Chain { first, rest } => chain_points(marked, first, rest.as_slice()),
+        _ => false,
+    }
+}
+
+/// Whether a chain may, which has no further members then.
+#[cycle(pointing)]
+fn chain_points(marked: &Marked<'_>, first: &Expr, links: &[Link]) -> bool
+    ensures { result ≡ gives_pointer marked.now (chain_expr (expression_of first.now) (links_in links.now)) }
+{
+    match links {
+        [] => gives_pointer(marked, first),
+        _ => false,
+    }
 }

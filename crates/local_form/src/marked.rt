@@ -1,17 +1,20 @@
 //! The names that a task marks.
 
 ghost use Rattle.std.specs.Prelude.{◌≡◌, List, OnOk, bytes_eq, map, ℕ};
-ghost use Rattle.local_form.specs.LocalForm.{is_among, unmarked, with_index, with_region};
+ghost use Rattle.local_form.specs.LocalForm.{is_among, unmarked, with_either, with_index};
+ghost use Rattle.local_form.specs.LocalForm.{with_pointer, with_region};
 
 use regent_tree::Name;
 use std::alloc::{AllocError, Global};
 use std::marker::Model;
 
-/// The names of regions in a task, and those that may stand for an index or an index space.
+/// The names of regions in a task, those that may stand for an index, an index space or a pointer, and those among them
+/// that may stand for a pointer.
 #[derive(Drop)]
 pub struct Marked<'t> {
     regions: Vec<&'t Name>,
     indices: Vec<&'t Name>,
+    pointers: Vec<&'t Name>,
 }
 
 impl<'t> Model for Marked<'t> {
@@ -23,6 +26,7 @@ impl<'t> Model for Marked<'t> {
     ghost view = { λ s. record {
       regions = map (λ n. n.now) s.regions.items;
       indices = map (λ n. n.now) s.indices.items;
+      pointers = map (λ n. n.now) s.pointers.items;
     } };
 }
 
@@ -40,6 +44,7 @@ impl<'t> Marked<'t> {
         Marked {
             regions: Vec::new(alloc),
             indices: Vec::new(alloc),
+            pointers: Vec::new(alloc),
         }
     }
 
@@ -55,6 +60,12 @@ impl<'t> Marked<'t> {
         is_among(self.indices.as_slice(), name)
     }
 
+    pub fn is_pointer(&self, name: &Name) -> bool
+        ensures { result ≡ is_among self.now.pointers name.now }
+    {
+        is_among(self.pointers.as_slice(), name)
+    }
+
     pub fn add_region(&mut self, name: &'t Name) -> Result<(), AllocError>
         ensures { OnOk result (self.new ≡ with_region name.now self.old) }
     {
@@ -67,5 +78,25 @@ impl<'t> Marked<'t> {
     {
         self.indices.push(name)?;
         Ok(())
+    }
+
+    /// A pointer's name counts among both.
+    pub fn add_pointer(&mut self, name: &'t Name) -> Result<(), AllocError>
+        ensures { OnOk result (self.new ≡ with_pointer name.now self.old) }
+    {
+        self.indices.push(name)?;
+        self.pointers.push(name)?;
+        Ok(())
+    }
+
+    /// Marks a name that may stand for a pointer, or else for an index or an index space.
+    pub fn add_either(&mut self, points: bool, name: &'t Name) -> Result<(), AllocError>
+        ensures { OnOk result (self.new ≡ with_either points name.now self.old) }
+    {
+        if points {
+            self.add_pointer(name)
+        } else {
+            self.add_index(name)
+        }
     }
 }

@@ -6,14 +6,15 @@ ghost use Rattle.regent_tree.specs.Plain.{expression_of, initializer_of};
 ghost use Rattle.regent_tree.specs.PlainProgram.{arms_in, block_in, form_of};
 ghost use Rattle.regent_tree.specs.Syntax.{var_form};
 ghost use Rattle.local_form.specs.LocalForm.{marked_by, marked_by_arms, marked_in};
-ghost use Rattle.local_form.specs.Seen.{marked_by_value};
+ghost use Rattle.local_form.specs.Seen.{marked_by_loop, marked_by_value};
 
-use crate::giving::gives_scalar;
+use crate::expressions::is_region_name;
+use crate::giving::{gives_pointer, gives_scalar};
 use crate::marked::Marked;
 use regent_tree::{Arm, Expr, Init, Name, Stmt, TypeTerm, What};
 use std::alloc::AllocError;
 
-/// Marks a variable that begins with an expression, where this may give an index or an index space.
+/// Marks a variable that begins with an expression, where this may give an index, an index space or a pointer.
 fn mark_value<'t>(marked: &mut Marked<'t>, name: &'t Name, value: &Expr) -> Result<(), AllocError>
     ensures { OnOk result
         (marked.new ≡ marked_by_value name.now (expression_of value.now) marked.old) }
@@ -21,8 +22,16 @@ fn mark_value<'t>(marked: &mut Marked<'t>, name: &'t Name, value: &Expr) -> Resu
     if gives_scalar(marked, value) {
         Ok(())
     } else {
-        marked.add_index(name)
+        marked.add_either(gives_pointer(marked, value), name)
     }
+}
+
+/// Marks what a loop takes, by what it goes over.
+fn mark_loop<'t>(marked: &mut Marked<'t>, name: &'t Name, domain: &Expr) -> Result<(), AllocError>
+    ensures { OnOk result
+        (marked.new ≡ marked_by_loop name.now (expression_of domain.now) marked.old) }
+{
+    marked.add_either(is_region_name(marked, domain), name)
 }
 
 /// Marks a variable.
@@ -56,8 +65,13 @@ fn mark_form<'t>(marked: &mut Marked<'t>, what: &'t What) -> Result<(), AllocErr
                 Some(body) => mark_block(marked, body.as_slice()),
             }
         }
-        What::ForIn { name, body, .. } => {
-            marked.add_index(name)?;
+        What::ForIn {
+            name,
+            domain,
+            body,
+            ..
+        } => {
+            mark_loop(marked, name, domain)?;
             mark_block(marked, body.as_slice())
         }
         What::While { body, .. } => mark_block(marked, body.as_slice()),

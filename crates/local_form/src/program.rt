@@ -80,8 +80,8 @@ fn is_local_task(alloc: Global, task: &Task) -> Result<bool, AllocError>
         return Ok(false);
     }
     let mut marked = Marked::new(alloc);
-    mark_block(&mut marked, task.body.as_slice())?;
     mark_params(&mut marked, task.params.as_slice())?;
+    mark_block(&mut marked, task.body.as_slice())?;
     Ok(is_local_block(&marked, task.body.as_slice()))
 }
 

@@ -5,16 +5,35 @@ ghost use Rattle.std.specs.Option.{option_map};
 ghost use Rattle.regent_tree.specs.Plain.{expression_of, initializer_of, steps_in};
 ghost use Rattle.regent_tree.specs.PlainProgram.{arms_in, block_in, form_of};
 ghost use Rattle.regent_tree.specs.Syntax.{assign_form, return_form, var_form};
-ghost use Rattle.local_form.specs.LocalForm.{are_local_arms, is_local_block, is_local_form};
-ghost use Rattle.local_form.specs.Seen.{is_local_arm};
+ghost use Rattle.local_form.specs.LocalForm.{are_local_arms, is_local_block, is_local_domain, is_local_form};
+ghost use Rattle.local_form.specs.LocalForm.{keeps_pointer};
+ghost use Rattle.local_form.specs.Seen.{assigns_beside, is_local_arm};
 
-use crate::expressions::{are_local_arguments, are_local_expressions, is_local_expression};
-use crate::giving::gives_scalar;
+use crate::expressions::{
+    are_local_arguments, are_local_expressions, is_behind, is_local_expression, is_name,
+    is_region_name,
+};
+use crate::giving::{gives_pointer, gives_scalar};
 use crate::marked::Marked;
 use regent_tree::{Arm, Expr, How, Init, Name, Step, Stmt, TypeTerm, What};
 use scalar_form::{is_scalar_if_said, is_scalar_term};
 
-/// Whether a variable is a number or truth, an index, an index space or a region, each known as what it is.
+/// Whether a variable that begins with what may be a pointer is a copy of a name, and known as such.
+fn keeps_pointer(marked: &Marked<'_>, name: &Name, value: &Expr) -> bool
+    ensures { result ≡ keeps_pointer marked.now name.now (expression_of value.now) }
+{
+    !gives_pointer(marked, value) || (is_name(value) && marked.is_pointer(name))
+}
+
+/// Whether a loop goes over a region that has a name, where it takes pointers, or over an index space.
+fn is_local_domain(marked: &Marked<'_>, name: &Name, domain: &Expr) -> bool
+    ensures { result ≡ is_local_domain marked.now name.now (expression_of domain.now) }
+{
+    (is_region_name(marked, domain) && marked.is_pointer(name))
+        || is_local_expression(marked, domain)
+}
+
+/// Whether a variable is a number or truth, an index, an index space, a pointer or a region, each known as what it is.
 fn is_local_variable(
     marked: &Marked<'_>,
     name: &Name,
@@ -31,6 +50,7 @@ fn is_local_variable(
         }
         (None, Some(Init::Plain(value))) => {
             (gives_scalar(marked, value) || marked.is_index(name))
+                && keeps_pointer(marked, name, value)
                 && is_local_expression(marked, value)
         }
         (None, Some(Init::Region { space, .. })) => {
@@ -40,16 +60,16 @@ fn is_local_variable(
     }
 }
 
-/// Whether numbers and truths alone are assigned, to variables and to fields at points of regions.
-fn is_local_assignment(
+/// Whether a number or truth is assigned to a variable, or to a field at a point of a region.
+fn assigns_beside(
     marked: &Marked<'_>,
     target: &Name,
     steps: &[Step],
     how: How,
     value: &Expr,
 ) -> bool
-    ensures { result ≡ is_local_form marked.now
-        (assign_form target.now (steps_in steps.now) how (expression_of value.now)) }
+    ensures { result ≡ assigns_beside
+        marked.now target.now (steps_in steps.now) how (expression_of value.now) }
 {
     match (steps, how) {
         ([], How::Set) => {
@@ -63,6 +83,21 @@ fn is_local_assignment(
         }
         _ => false,
     }
+}
+
+/// Whether it is assigned to one of these, or to a field of what a name's pointer goes to.
+fn is_local_assignment(
+    marked: &Marked<'_>,
+    target: &Name,
+    steps: &[Step],
+    how: How,
+    value: &Expr,
+) -> bool
+    ensures { result ≡ is_local_form marked.now
+        (assign_form target.now (steps_in steps.now) how (expression_of value.now)) }
+{
+    assigns_beside(marked, target, steps, how, value)
+        || (is_behind(marked, target, steps) && is_local_expression(marked, value))
 }
 
 /// Whether a value that may be left out is such an expression.
@@ -99,7 +134,7 @@ fn is_local_form(marked: &Marked<'_>, what: &What) -> bool
             ..
         } => {
             marked.is_index(name)
-                && is_local_expression(marked, domain)
+                && is_local_domain(marked, name, domain)
                 && is_local_block(marked, body.as_slice())
         }
         What::ForTo { from, to, body, .. } => {

@@ -21,11 +21,11 @@ mark_form-returns-in-Some t c =
     (subst (λ (m : Marked). OnOk c.mark_block.result (c.mark_block.new.marked ≡ marked_in (block_in c.as_slice-in-Some.result.now) m))
     c.in_ok-mark_arms-in-If.ensures c.mark_block.ensures)
 
-pub mark_form-returns-in_ok-add_index-in-ForIn : goal.mark_form-returns-in_ok-add_index-in-ForIn
-mark_form-returns-in_ok-add_index-in-ForIn t c =
+pub mark_form-returns-in_ok-mark_loop-in-ForIn : goal.mark_form-returns-in_ok-mark_loop-in-ForIn
+mark_form-returns-in_ok-mark_loop-in-ForIn t c =
     rw (c.in-ForIn.is, block_of_vec c.in-ForIn.body, ← c.as_slice-in-ForIn.ensures.value)
     (subst (λ (m : Marked). OnOk c.mark_block-in-ForIn.result (c.mark_block-in-ForIn.new.marked ≡ marked_in (block_in c.as_slice-in-ForIn.result.now) m))
-    c.in_ok-add_index-in-ForIn.ensures c.mark_block-in-ForIn.ensures)
+    c.in_ok-mark_loop-in-ForIn.ensures c.mark_block-in-ForIn.ensures)
 
 pub mark_form-returns-in-While : goal.mark_form-returns-in-While
 mark_form-returns-in-While t c =

@@ -1,7 +1,7 @@
 use Rattle.std.proofs.Common.{◌∙◌, sym}
 use Rattle.regent_tree.proofs.Rows.{arms_of_vec, block_of_vec, otherwise_of_option}
 use Rattle.local_form.proofs.Laws.{arm_fails, arm_passes, first_alone, first_fails, second_tells}
-use Rattle.local_form.proofs.statements.+statement.Goals.{is_local_form-then-is_index, is_local_form-else-is_index, is_local_form-then-is_local_expression-3, is_local_form-else-is_local_expression-3}
+use Rattle.local_form.proofs.statements.+statement.Goals.{is_local_form-then-is_index, is_local_form-else-is_index, is_local_form-then-is_local_expression-2, is_local_form-else-is_local_expression-2}
 use Rattle.local_form.proofs.statements.+statement.Goals as goal
 
 pub are_local_arms-returns-then-not-is_local_arm : goal.are_local_arms-returns-then-not-is_local_arm
@@ -34,26 +34,26 @@ is_local_form-returns-then-is_local_expression t c =
     rw (c.in-While.is, block_of_vec c.in-While.body, ← c.as_slice-then-is_local_expression.ensures.value)
     (second_tells _ _ _ (sym c.if-is_local_expression.true ∙ c.is_local_expression.ensures) c.is_local_block-then-is_local_expression.ensures)
 
-pub is_local_form-returns-then-is_local_expression-2 : goal.is_local_form-returns-then-is_local_expression-2
-is_local_form-returns-then-is_local_expression-2 t c =
+pub is_local_form-returns-then-is_local_domain : goal.is_local_form-returns-then-is_local_domain
+is_local_form-returns-then-is_local_domain t c =
     elim c.if-is_index.branch [
       | is_local_form-then-is_index w ↦
-          rw (c.in-ForIn.is, block_of_vec c.in-ForIn.body, ← c.as_slice-then-is_local_expression-2.ensures.value)
+          rw (c.in-ForIn.is, block_of_vec c.in-ForIn.body, ← c.as_slice-then-is_local_domain.ensures.value)
           (second_tells _ _ _ (sym w.if-is_index.true ∙ c.is_index.ensures)
-          (second_tells _ _ _ (sym (sym w.value-is ∙ c.if-is_local_expression-2.true) ∙ w.is_local_expression-then-is_index.ensures)
-          c.is_local_block-then-is_local_expression-2.ensures))
+          (second_tells _ _ _ (sym (sym w.value-is ∙ c.if-is_local_domain.true) ∙ w.is_local_domain.ensures)
+          c.is_local_block-then-is_local_domain.ensures))
       | is_local_form-else-is_index w ↦ absurd cc
     ]
 
-pub is_local_form-returns-then-is_local_expression-4 : goal.is_local_form-returns-then-is_local_expression-4
-is_local_form-returns-then-is_local_expression-4 t c =
-    elim c.if-is_local_expression-3.branch [
-      | is_local_form-then-is_local_expression-3 w ↦
-          rw (c.in-ForTo.is, block_of_vec c.in-ForTo.body, ← c.as_slice-then-is_local_expression-4.ensures.value)
-          (second_tells _ _ _ (sym w.if-is_local_expression-3.true ∙ c.is_local_expression-in-ForTo.ensures)
-          (second_tells _ _ _ (sym (sym w.value-is ∙ c.if-is_local_expression-4.true) ∙ w.is_local_expression-then-is_local_expression-3.ensures)
-          c.is_local_block-then-is_local_expression-4.ensures))
-      | is_local_form-else-is_local_expression-3 w ↦ absurd cc
+pub is_local_form-returns-then-is_local_expression-3 : goal.is_local_form-returns-then-is_local_expression-3
+is_local_form-returns-then-is_local_expression-3 t c =
+    elim c.if-is_local_expression-2.branch [
+      | is_local_form-then-is_local_expression-2 w ↦
+          rw (c.in-ForTo.is, block_of_vec c.in-ForTo.body, ← c.as_slice-then-is_local_expression-3.ensures.value)
+          (second_tells _ _ _ (sym w.if-is_local_expression-2.true ∙ c.is_local_expression-in-ForTo.ensures)
+          (second_tells _ _ _ (sym (sym w.value-is ∙ c.if-is_local_expression-3.true) ∙ w.is_local_expression-then-is_local_expression-2.ensures)
+          c.is_local_block-then-is_local_expression-3.ensures))
+      | is_local_form-else-is_local_expression-2 w ↦ absurd cc
     ]
 
 pub is_local_form-returns-in-Do : goal.is_local_form-returns-in-Do

@@ -1,12 +1,9 @@
-use Rattle.regent_tree.specs.Plain.{expression_of}
-use Rattle.local_form.proofs.Laws.{one_step_assigned, three_steps_assigned}
+use Rattle.std.proofs.Common.{◌∙◌, sym}
+use Rattle.regent_tree.specs.Plain.{expression_of, steps_in}
+use Rattle.local_form.proofs.Laws.{either_assigned, third_tells}
 use Rattle.local_form.proofs.statements.is_local_assignment.Goals as goal
 
-pub returns-in_default : goal.returns-in_default
-returns-in_default c =
-    one_step_assigned c.args.marked.now c.args.target.now c.args.steps.now c.args.how (expression_of c.args.value.now)
-    c.in_default.len_at_least c.in_default.len_below
-
-pub returns-in_default-4 : goal.returns-in_default-4
-returns-in_default-4 c =
-    three_steps_assigned c.args.marked.now c.args.target.now c.args.steps.now c.args.how (expression_of c.args.value.now) c.in_default.len_at_least
+pub returns-then-is_behind : goal.returns-then-is_behind
+returns-then-is_behind c =
+    third_tells _ _ _ _ (sym c.assigns_beside.ensures ∙ c.if-assigns_beside.false) (sym c.is_behind.ensures ∙ c.if-is_behind.true) c.is_local_expression.ensures
+    ∙ either_assigned c.args.marked.now c.args.target.now (steps_in c.args.steps.now) c.args.how (expression_of c.args.value.now)
