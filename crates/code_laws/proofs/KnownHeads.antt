@@ -7,10 +7,10 @@ use Rattle.std.proofs.lemmas.Bool.{and_parts, not-false, or_parts}
 use Rattle.regent_tree.proofs.Members.{Contains-from_Has, Has, Has-append_cases, Has-from_Contains}
 use Rattle.regent_tree.specs.Accesses.{space_in}
 use Rattle.regent_tree.specs.Lookup.{has_field}
-use Rattle.regent_tree.specs.Scopes.{Scope, knowing, known_of_clause, known_of_clauses, known_of_params, known_of_type, past, scope_of, with_name}
+use Rattle.regent_tree.specs.Scopes.{Scope, bound_as, knowing, known_of_clause, known_of_clauses, known_of_params, past, scope_of, with_name}
 use Rattle.regent_tree.specs.StaticTypes.{field_place, place_in}
-use Rattle.regent_tree.specs.Syntax.{Expression, Name, TaskTree, Tree}
-use Rattle.regent_tree.specs.Typing.{known_of_child, owned, type_of_element}
+use Rattle.regent_tree.specs.Syntax.{Expression, Name, TaskTree, Tree, truth_expr}
+use Rattle.regent_tree.specs.Typing.{reaches_of, type_of_element}
 use Rattle.regent_tree.specs.declared.facts.Known.{Known}
 use Rattle.regent_tree.specs.declared.facts.Known.TheVariants.{Apart, Made, PartOf, Within}
 use Rattle.regent_tree.specs.declared.facts.Term.{Term}
@@ -27,12 +27,18 @@ use Rattle.check_rules.specs.types.Declarations.{params_bound}
 use Rattle.check_rules.specs.types.TypedForms.{field_of}
 use Rattle.expression_laws.proofs.Params.{known_clause, known_param, none_has}
 use Rattle.local_form.specs.LocalForm.{Marked}
-use Rattle.code_laws.specs.Handing.{takes_by}
+use Rattle.code_laws.specs.Handing.{forms_by, takes_by}
 use Rattle.code_laws.specs.Privileges.{IsKnownBehind}
-use Rattle.code_laws.specs.Simple.{IsRegion, IsSimple, a_region_type, simple_index, simple_integer, simple_space, simple_truth, term_in}
+use Rattle.check_laws.specs.SoundScopes.{Falls}
+use Rattle.code_rules.specs.Slots.{Where, bound}
+use Rattle.code_laws.specs.Simple.{IsRegion, a_region_type, term_in}
+use Rattle.code_laws.specs.Typed.{MayGo, MayReach}
+use Rattle.regent_tree.specs.declared.typing.Bound.{Bound}
+use Rattle.regent_tree.specs.declared.typing.StaticType.TheVariants.{Region as region_type}
+use Rattle.code_laws.proofs.LocalValues.{found_among, value_other}
 use Rattle.code_laws.specs.Taking.{MayDo, pairs_in}
 use Rattle.code_laws.proofs.DeclaredNeeds.{none_made, none_within, pair_listed, region_param}
-use Rattle.code_laws.proofs.LocalNames.{AllKept, IsKept, kept_index, kept_region, kept_scalar}
+use Rattle.code_laws.proofs.LocalNames.{AllKept, IsAimed, IsKept, kept_region, kept_scalar, kept_value}
 use Rattle.code_laws.proofs.Privileges.{allowed_is_needed, mode_in}
 use Rattle.code_laws.proofs.LocalTypes.{simple_other}
 use Rattle.code_laws.proofs.Values.{scalar_simple}
@@ -76,12 +82,12 @@ may_touch true tree task s sound h i field access.Write e = (allowed_is_needed t
 may_touch true tree task s sound h i field (access.Reduce o) e = (allowed_is_needed tree task s.known sound (known_behind tree task s h) i field).reduces o e
 
 -- so of a region that a name has
-pub kept_may : (handing : Bool) (tree : Tree) (task : TaskTree) (s : Scope) → IsSoundTask tree task → KnowsHead tree task s → (m : Marked) (n : Name) (i : ℕ) (t : StaticType) →
-    IsKept m n i t → IsRegion t → (field : ℕ) (a : Access) → may_do (rights_declared tree task) s.known (wanting field a (term_in t)) ≡ true →
+pub kept_may : (handing keeping : Bool) (tree : Tree) (task : TaskTree) (s : Scope) → IsSoundTask tree task → KnowsHead tree task s → (m : Marked) (bs : List Bound) (n : Name) (i : ℕ) (t : StaticType) →
+    IsKept keeping m bs n i t → IsRegion t → (field : ℕ) (a : Access) → may_do (rights_declared tree task) s.known (wanting field a (term_in t)) ≡ true →
     MayDo (takes_by handing tree task) (term_in t) field (mode_in a)
-kept_may handing tree task s sound h m n i t (kept_scalar _ k) r field a e = absurd (simple_other t (scalar_simple t k) r)
-kept_may handing tree task s sound h m n i t (kept_index _ k _) r field a e = absurd (simple_other t k r)
-kept_may handing tree task s sound h m n i _ (kept_region k sp args _) r field a e = may_touch handing tree task s sound h i field a e
+kept_may handing keeping tree task s sound h m bs n i t (kept_scalar _ k) r field a e = absurd (simple_other t (scalar_simple t k) r)
+kept_may handing keeping tree task s sound h m bs n i t (kept_value _ k _ _) r field a e = absurd (value_other keeping bs t k r)
+kept_may handing keeping tree task s sound h m bs n i _ (kept_region k sp args _) r field a e = may_touch handing tree task s sound h i field a e
 
 -- what is wanted of a field of an element is allowed where nothing is told
 pub granted_at : (tree : Tree) (task : TaskTree) (s : Scope) (t : StaticType) (e : Expression) (f : Name) (a : Access) → IsRegion t →
@@ -91,6 +97,23 @@ granted_at tree task s _ e f a (a_region_type k sp args r) there lacking =
     let want = wanting (field_place tree sp f) a r in
     let all : lacks tree task s (want ∷ []) ≡ false = ap (λ b. lacks tree task s (cond (b && true) (want ∷ []) [])) (sym there) ∙ lacking in
     (and_parts (may_do (rights_declared tree task) s.known want) true (not-false _ all)).0
+
+-- so of a field of what a name's pointer goes to
+pub aimed_may : (handing keeping : Bool) (task : TaskTree) (w : Where) → IsSoundTask w.tree task → KnowsHead w.tree task w.scope → Falls w.scope.next w.scope.names →
+    (n f : Name) (a : Access) → (p : IsAimed keeping w.tree w.scope.names (bound w n).static_type f) →
+    lacks w.tree task w.scope (wanted_of_step w.tree a (field_of (bound w n).static_type f)) ≡ false → MayGo (forms_by handing keeping w.tree task) w n f (mode_in a)
+aimed_may handing keeping task w sound h falls n f a p lacking =
+    let t = (bound w n).static_type in
+    let r = p.among in
+    let granted = granted_at w.tree task w.scope (region_type p.kind (space_in t) p.args (place.Name p.region)) (truth_expr true) f a
+    (a_region_type p.kind (space_in t) p.args (place.Name p.region)) p.there
+    (subst (λ u. lacks w.tree task w.scope (wanted_of_step w.tree a (field_of u f)) ≡ false) p.is lacking) in
+    let may = may_touch handing w.tree task w.scope sound h p.region (field_place w.tree (space_in t) f) a granted in
+    let found : bound_as w.scope.names p.region ≡ r.named =
+    subst (λ j. bound_as w.scope.names j ≡ r.named) r.number (found_among w.scope.next w.scope.names r.named falls r.among).0 in
+    let own : term_in (bound_as w.scope.names p.region).static_type ≡ place.Name p.region = ap (λ (b : Bound). term_in b.static_type) found ∙ r.term in
+    subst (λ rs. MayReach (forms_by handing keeping w.tree task) w rs (field_place w.tree (space_in t) f) (mode_in a)) (sym (ap reaches_of p.is))
+    (subst (λ u. MayDo (takes_by handing w.tree task) u (field_place w.tree (space_in t) f) (mode_in a)) (sym own) may, tt)
 
 abbrev IsMade : Known → Type 0
 IsMade (Made i) = Unit {0}
@@ -168,8 +191,8 @@ head_begins tree t sound = record {
 -- ---- from place to place
 
 -- the names at a place stand for what their marks say, and no more is known there
-pub record IsReady (tree : Tree) (task : TaskTree) (m : Marked) (s : Scope) : Type 0 where
-  pub names : AllKept m s.names
+pub record IsReady (keeping : Bool) (tree : Tree) (task : TaskTree) (m : Marked) (s : Scope) : Type 0 where
+  pub names : AllKept keeping m s.names
   pub head : KnowsHead tree task s
 
 -- behind a place nothing more is known but that a region was made there
@@ -201,10 +224,3 @@ pub head_made : (tree : Tree) (task : TaskTree) (s : Scope) (n : Name) (t : Stat
     KnowsHead tree task (knowing (with_name s n t false) (Made s.next ∷ []))
 head_made tree task s n t h = head_behind tree task s (knowing (with_name s n t false) (Made s.next ∷ [])) h (omega (arith))
     (λ k a. ⊎_elim (λ old. inl old) (λ new. ⊎_elim (λ same. inr (sym same)) (λ none. absurd none) new) (Has-append_cases s.known (Made s.next ∷ []) k a))
-
--- a number, a truth, an index or an index space tells nothing
-pub simple_tells : (i : ℕ) (u : StaticType) → IsSimple u → (known_of_child i u ≡ []) × (known_of_type (owned i u) ≡ []) × (known_of_type u ≡ [])
-simple_tells i _ (simple_integer w) = (refl, refl, refl)
-simple_tells i _ simple_truth = (refl, refl, refl)
-simple_tells i _ (simple_index k) = (refl, refl, refl)
-simple_tells i _ (simple_space k) = (refl, refl, refl)

@@ -49,6 +49,7 @@ pub mod Top
 pub mod Typing
 pub mod LocalTypes
 pub mod TypedStatements
+pub mod LocalValues
 pub mod Entries
 pub mod Privileges
 pub mod DeclaredNeeds
@@ -56,7 +57,10 @@ pub mod LocalNames
 pub mod KnownHeads
 pub mod LocalCalls
 pub mod LocalParts
+pub mod LocalPoints
+pub mod LocalArguments
 pub mod LocalExpressions
+pub mod LocalVariables
 pub mod LocalStatements
 pub mod LocalAssignments
 pub mod LocalBlocks

@@ -4,12 +4,11 @@ use Rattle.std.specs.List.{list_any}
 use Rattle.std.proofs.lemmas.Bool.{and_parts}
 use Rattle.plain_values.proofs.Plain.{option_or_parts}
 use Rattle.regent_tree.specs.Limits.{node, nodes, parts_of_arms, parts_of_block, parts_of_expression, parts_of_form, parts_of_otherwise}
-use Rattle.regent_tree.specs.Scopes.{Scope, known_of_type, past, with_name}
+use Rattle.regent_tree.specs.Scopes.{Scope, known_of_type, past, with_name, in_scope}
 use Rattle.regent_tree.specs.Syntax.{Arms, Block, Expression, Form, Initializer, Name, Otherwise, Steps, TaskTree, Tree, a_statement, an_arm, assert_form, assign_form, at_step, both_initializer, by_field_initializer, call_form, do_form, either_initializer, else_block, equal_initializer, field_step, fill_form, for_in_form, for_to_form, if_form, image_initializer, no_arm, no_else, no_statement, no_step, plain_initializer, preimage_initializer, print_form, region_initializer, return_form, then_statement, var_form, while_form}
 use Rattle.regent_tree.specs.Typing.{arithmetic_type, scope_after, scope_after_arms, scope_after_block, scope_after_else, taken_from, type_of, var_type}
 use Rattle.regent_tree.specs.declared.statement.How.TheVariants as how
 use Rattle.regent_tree.specs.declared.types.TypeTerm.{TypeTerm}
-use Rattle.regent_tree.specs.declared.typing.StaticType.{StaticType}
 use Rattle.check_laws.proofs.Blocks.{count_scope, loop_scope}
 use Rattle.check_laws.proofs.Onward.{arm_next, block_next, else_next}
 use Rattle.regent_tree.specs.declared.statement.How.{How}
@@ -25,37 +24,33 @@ use Rattle.check_rules.specs.rules.Types.{is_ill_typed_at_place}
 use Rattle.check_rules.specs.scopes.Sound.{IsSound, IsSoundTask}
 use Rattle.check_rules.specs.types.KnownTypes.{known_type}
 use Rattle.check_rules.specs.types.Parts.{tests_of}
-use Rattle.local_form.specs.LocalForm.{Marked, are_local_arms, is_among, is_local_block, is_local_else, is_local_expression, is_local_form}
+use Rattle.local_form.specs.LocalForm.{Marked, are_local_arms, is_among, is_local_block, is_local_domain, is_local_else, is_local_expression, is_local_form}
 use Rattle.code_laws.specs.Handing.{forms_by}
-use Rattle.code_laws.specs.Simple.{IsSimple, IsSpace, a_space_type, simple_index}
 use Rattle.code_laws.specs.Steps.{Forms}
 use Rattle.code_laws.specs.Typed.{AreTypedArms, IsTypedBlock, IsTypedElse, IsTypedForm}
-use Rattle.code_laws.proofs.KnownHeads.{IsReady, KnowsHead, head_looping, head_named, head_past, simple_tells}
-use Rattle.code_laws.proofs.LocalNames.{AllKept, IsLocalTree, kept_index, kept_scalar}
-use Rattle.code_laws.proofs.LocalAssignments.{reduce_field_local, reduce_local, set_field_local, set_local}
-use Rattle.code_laws.proofs.LocalStatements.{at, bound_local, call_local, domain_local, fill_local, plain_local, print_local, region_local, return_local, said_local, test_local}
+use Rattle.code_laws.proofs.KnownHeads.{IsReady, KnowsHead, head_looping, head_named, head_past}
+use Rattle.code_laws.proofs.LocalNames.{AllKept, IsLocalTree, kept_scalar}
+use Rattle.code_laws.proofs.LocalAssignments.{reduce_behind_local, reduce_field_local, reduce_local, set_behind_local, set_field_local, set_local}
+use Rattle.code_laws.proofs.LocalStatements.{bound_local, call_local, domain_local, fill_local, print_local, return_local, test_local}
+use Rattle.code_laws.proofs.LocalValues.{scalar_begins, value_simple, value_tells}
+use Rattle.code_laws.proofs.LocalVariables.{at, plain_local, region_local, said_local}
 use Rattle.code_laws.proofs.LocalTypes.{term_scalar}
 use Rattle.code_laws.proofs.Names.{arms_names, else_names}
 use Rattle.code_laws.proofs.TypedStatements.{first_stands, sum_scalar}
 use Rattle.code_laws.proofs.Values.{scalar_simple}
 use Rattle.code_laws.proofs.Typing.{AreKept, kept_behind, kept_left, kept_right, no_way, no_way_back}
-use Rattle.regent_tree.specs.Scopes.{in_scope}
 use Rattle.scalar_form.specs.ScalarForm.{is_scalar_if_said}
 
--- what a loop over an index space takes
-index_taken : (t : StaticType) → IsSpace t → IsSimple (taken_from t)
-index_taken _ (a_space_type k) = simple_index k
-
-module _ (handing : Bool) (tree : Tree) (task : TaskTree) (sound : IsSound tree) (sound_task : IsSoundTask tree task) (local : IsLocalTree handing tree)
-    (m : Marked) (params : ℕ) (result : is_scalar_if_said task.result ≡ true) where
+module _ (handing keeping : Bool) (tree : Tree) (task : TaskTree) (sound : IsSound tree) (sound_task : IsSoundTask tree task) (local : IsLocalTree handing tree)
+    (m : Marked) (keeps : (n : Name) → is_among m.pointers n ≡ true → keeping ≡ true) (params : ℕ) (result : is_scalar_if_said task.result ≡ true) where
   abbrev forms : Forms
-  forms = forms_by handing false tree task
+  forms = forms_by handing keeping tree task
 
   abbrev Ready : Scope → Type 0
-  Ready s = IsReady tree task m s
+  Ready s = IsReady keeping tree task m s
 
   abbrev here : Scope → ℕ → Where
-  here s line = at handing tree task sound sound_task local m params result s line
+  here s line = at handing keeping tree task sound sound_task local m params result s line
 
   -- a statement is typed, and the place behind it is ready for the next
   abbrev FormTyped : Scope → ℕ → Form → Type 0
@@ -73,18 +68,18 @@ module _ (handing : Bool) (tree : Tree) (task : TaskTree) (sound : IsSound tree)
       AreKept (parts_of_form (var_form n t i)) → IsSoundScope s → Ready s → first_of_form tree task s (var_form n t i) ≡ None →
       FormTyped s line (var_form n t i)
   var_local s line n None (Some (plain_initializer y)) lo k scope names e =
-      let v = plain_local handing tree task sound sound_task local m params result s line n y lo k scope names e in (v.0, record { names = (v.1, names.names); head = v.2 })
+      let v = plain_local handing keeping tree task sound sound_task local m params result s line n y lo k scope names e in (v.0, record { names = (v.1, names.names); head = v.2 })
   var_local s line n None (Some (region_initializer y u)) lo k scope names e =
-      let v = region_local handing tree task sound sound_task local m params result s line n y u lo k scope names e in (v.0, record { names = (v.1, names.names); head = v.2 })
+      let v = region_local handing keeping tree task sound sound_task local m params result s line n y u lo k scope names e in (v.0, record { names = (v.1, names.names); head = v.2 })
   var_local s line n (Some t) (Some (plain_initializer y)) lo k scope names e =
-      let v = said_local handing tree task sound sound_task local m params result s line n t y lo k scope names e in (v.0, record { names = (v.1, names.names); head = v.2 })
+      let v = said_local handing keeping tree task sound sound_task local m params result s line n t y lo k scope names e in (v.0, record { names = (v.1, names.names); head = v.2 })
   var_local s line n (Some t) None lo k scope names e =
       let q = term_scalar t lo tree (in_scope s) s.next in
       let wanted = var_type tree s (Some t) None in (
-        q,
+        scalar_begins keeping s.names wanted q,
         record {
           names = (kept_scalar wanted q, names.names);
-          head = head_named tree task s n wanted (known_of_type wanted) names.head (simple_tells s.next wanted (scalar_simple wanted q)).2;
+          head = head_named tree task s n wanted (known_of_type wanted) names.head (value_tells keeping s.names s.next wanted (value_simple wanted (scalar_simple wanted q))).2;
         },
       )
   var_local s line n None None lo k scope names e = absurd (no_way (told_of_form tree task s sound scope (var_form n None None) e).1)
@@ -111,20 +106,30 @@ module _ (handing : Bool) (tree : Tree) (task : TaskTree) (sound : IsSound tree)
         kept_right steps (parts_of_expression y) k,
       )
 
+  kept_behind_field : (f : Name) (y : Expression) → AreKept (parts_of_form (assign_form f (field_step f no_step) how.Set y)) → AreKept (parts_of_expression y)
+  kept_behind_field f y k = kept_right (node ∷ []) (parts_of_expression y) k
+
   assign_local : (s : Scope) (line : ℕ) (n : Name) (steps : Steps) (h : How) (y : Expression) → is_local_form m (assign_form n steps h y) ≡ true →
       AreKept (parts_of_form (assign_form n steps h y)) → IsSoundScope s → Ready s → first_of_form tree task s (assign_form n steps h y) ≡ None →
       IsTypedForm forms (here s line) (assign_form n steps h y)
-  assign_local s line n no_step how.Set y lo k scope names e = set_local handing tree task sound sound_task local m params result s line n y lo k scope names e
-  assign_local s line n no_step (how.Reduce o) y lo k scope names e = reduce_local handing tree task sound sound_task local m params result s line n o y lo k scope names e
+  assign_local s line n no_step how.Set y lo k scope names e = set_local handing keeping tree task sound sound_task local m params result s line n y lo k scope names e
+  assign_local s line n no_step (how.Reduce o) y lo k scope names e = reduce_local handing keeping tree task sound sound_task local m params result s line n o y lo k scope names e
   assign_local s line n (at_step x (field_step f no_step)) how.Set y lo k scope names e =
       let both = and_parts (is_local_expression m x) (is_local_expression m y) lo in
       let ks = kept_element x f y k in
-      set_field_local handing tree task sound sound_task local m params result s line n x f y both.0 both.1 ks.0 ks.1 scope names e
+      set_field_local handing keeping tree task sound sound_task local m params result s line n x f y both.0 both.1 ks.0 ks.1 scope names e
   assign_local s line n (at_step x (field_step f no_step)) (how.Reduce o) y lo k scope names e =
       let both = and_parts (is_local_expression m x) (is_local_expression m y) lo in
       let ks = kept_element x f y k in
-      reduce_field_local handing tree task sound sound_task local m params result s line n x f o y both.0 both.1 ks.0 ks.1 scope names e
-  assign_local s line n (field_step _ _) h y lo k scope names e = absurd (no_way_back lo)
+      reduce_field_local handing keeping tree task sound sound_task local m params result s line n x f o y both.0 both.1 ks.0 ks.1 scope names e
+  assign_local s line n (field_step f no_step) how.Set y lo k scope names e =
+      let both = and_parts (is_among m.pointers n) (is_local_expression m y) lo in
+      set_behind_local handing keeping tree task sound sound_task local m params result s line n f y both.1 (kept_behind_field f y k) scope names e
+  assign_local s line n (field_step f no_step) (how.Reduce o) y lo k scope names e =
+      let both = and_parts (is_among m.pointers n) (is_local_expression m y) lo in
+      reduce_behind_local handing keeping tree task sound sound_task local m params result s line n f o y both.1 (kept_behind_field f y k) scope names e
+  assign_local s line n (field_step _ (field_step _ _)) h y lo k scope names e = absurd (no_way_back lo)
+  assign_local s line n (field_step _ (at_step _ _)) h y lo k scope names e = absurd (no_way_back lo)
   assign_local s line n (at_step _ no_step) h y lo k scope names e = absurd (no_way_back lo)
   assign_local s line n (at_step _ (at_step _ _)) h y lo k scope names e = absurd (no_way_back lo)
   assign_local s line n (at_step _ (field_step _ (field_step _ _))) h y lo k scope names e = absurd (no_way_back lo)
@@ -136,15 +141,15 @@ module _ (handing : Bool) (tree : Tree) (task : TaskTree) (sound : IsSound tree)
     form_local s line (var_form n t i) lo k scope names e w = var_local s line n t i lo k scope names e
     form_local s line (assign_form n steps h y) lo k scope names e w = (assign_local s line n steps h y lo k scope names e, names)
     form_local s line (print_form alias format args) lo k scope names e w =
-        (print_local handing tree task sound sound_task local m params result s line alias format args lo k scope names e, names)
-    form_local s line (call_form n args) lo k scope names e w = (call_local handing tree task sound sound_task local m params result s line n args lo k scope names e, names)
+        (print_local handing keeping tree task sound sound_task local m params result s line alias format args lo k scope names e, names)
+    form_local s line (call_form n args) lo k scope names e w = (call_local handing keeping tree task sound sound_task local m params result s line n args lo k scope names e, names)
     form_local s line (fill_form r fields y) lo k scope names e w =
-        (fill_local handing tree task sound sound_task local m params result s line r fields y lo (kept_right (nodes fields) (parts_of_expression y) k) scope names e, names)
-    form_local s line (return_form y) lo k scope names e w = (return_local handing tree task sound sound_task local m params result s line y lo k scope names e, names)
+        (fill_local handing keeping tree task sound sound_task local m params result s line r fields y lo (kept_right (nodes fields) (parts_of_expression y) k) scope names e, names)
+    form_local s line (return_form y) lo k scope names e w = (return_local handing keeping tree task sound sound_task local m params result s line y lo k scope names e, names)
     form_local s line (assert_form y) lo k scope names e w =
         let parts = told_of_form tree task s sound scope (assert_form y) e in
         let told = (option_or_parts (first_in_expression tree task s y) _ parts.2).0 in (
-          test_local handing tree task sound sound_task local m params result s line y lo k scope names told
+          test_local handing keeping tree task sound sound_task local m params result s line y lo k scope names told
               (first_stands s.known (stands (known_type tree s y) truth_spot) [] parts.4).0,
           names,
         )
@@ -153,25 +158,25 @@ module _ (handing : Bool) (tree : Tree) (task : TaskTree) (sound : IsSound tree)
         let both = and_parts (is_local_expression m test) (is_local_block m body) lo in
         let parts = told_of_form tree task s sound scope (while_form test body) e in
         let told = (option_or_parts (first_in_expression tree task s test) _ parts.2).0 in
-        let t = test_local handing tree task sound sound_task local m params result s line test both.0 (kept_left (parts_of_expression test) (parts_of_block body) k) scope names told
+        let t = test_local handing keeping tree task sound sound_task local m params result s line test both.0 (kept_left (parts_of_expression test) (parts_of_block body) k) scope names told
         (first_stands s.known (stands (known_type tree s test) truth_spot) [] parts.4).0 in
         let b = block_local s line body both.1 (kept_right (parts_of_expression test) (parts_of_block body) k) scope names w in
         ((t.0, t.1, b.0), behind s (scope_after_block tree s body) names b.1)
     form_local s line (for_in_form demanded n domain body) lo k scope names e w =
         let one = and_parts (is_among m.indices n) _ lo in
-        let two = and_parts (is_local_expression m domain) (is_local_block m body) one.1 in
+        let two = and_parts (is_local_domain m n domain) (is_local_block m body) one.1 in
         let parts = told_of_form tree task s sound scope (for_in_form demanded n domain body) e in
         let told = (option_or_parts (first_in_expression tree task s domain) _ parts.2).0 in
-        let d = domain_local handing tree task sound sound_task local m params result s line domain two.0 (kept_left (parts_of_expression domain) (parts_of_block body) k) scope names told
-        (first_stands s.known (stands (known_type tree s domain) domain_spot) [] parts.4).0 in
+        let d = domain_local handing keeping tree task sound sound_task local m params result keeps s line n domain one.0 two.0
+        (kept_left (parts_of_expression domain) (parts_of_block body) k) scope names told (first_stands s.known (stands (known_type tree s domain) domain_spot) [] parts.4).0 in
         let inner = loop_scope tree task sound s demanded n domain body scope e in
         let ty = taken_from (type_of tree s domain) in
         let first = with_name s n ty true in
         let block = block_local first line body two.1 (kept_right (parts_of_expression domain) (parts_of_block body) k)
         (subst IsSoundScope inner.0 inner.1)
-        (record { names = (kept_index ty (index_taken (type_of tree s domain) d.0) one.0, names.names); head = head_looping tree task s n ty names.head })
+        (record { names = (d.taken, names.names); head = head_looping tree task s n ty names.head })
         (subst (λ u. first_in_block tree task u body ≡ None) inner.0 w) in
-        ((d.0, d.1, block.0), behind s (scope_after_block tree first body) names block.1)
+        ((d.over, d.is, block.0), behind s (scope_after_block tree first body) names block.1)
     form_local s line (for_to_form demanded n from to body) lo k scope names e w =
         let one = and_parts (is_local_expression m from) _ lo in
         let two = and_parts (is_local_expression m to) (is_local_block m body) one.1 in
@@ -180,9 +185,9 @@ module _ (handing : Bool) (tree : Tree) (task : TaskTree) (sound : IsSound tree)
         let first = option_or_parts (first_in_expression tree task s from) _ parts.2 in
         let second = option_or_parts (first_in_expression tree task s to) _ first.1 in
         let standing = first_stands s.known (stands (known_type tree s from) integer_spot) (stands (known_type tree s to) integer_spot ∷ []) parts.4 in
-        let a = bound_local handing tree task sound sound_task local m params result s line from one.0
+        let a = bound_local handing keeping tree task sound sound_task local m params result s line from one.0
         (kept_left (parts_of_expression from) (parts_of_expression to ++ parts_of_block body) k) scope names first.0 standing.0 in
-        let b = bound_local handing tree task sound sound_task local m params result s line to two.0 (kept_left (parts_of_expression to) (parts_of_block body) k2) scope names second.0
+        let b = bound_local handing keeping tree task sound sound_task local m params result s line to two.0 (kept_left (parts_of_expression to) (parts_of_block body) k2) scope names second.0
         (first_stands s.known (stands (known_type tree s to) integer_spot) [] standing.1).0 in
         let inner = count_scope tree task sound s demanded n from to body scope e in
         let ty = arithmetic_type (type_of tree s from) (type_of tree s to) in
@@ -201,7 +206,7 @@ module _ (handing : Bool) (tree : Tree) (task : TaskTree) (sound : IsSound tree)
         next.1 a.1 next.2 in (
           (a.0, o.0),
           record {
-            names = subst (AllKept m) (sym (else_names tree (scope_after_arms tree s arms) other ∙ arms_names tree s arms)) names.names;
+            names = subst (AllKept keeping m) (sym (else_names tree (scope_after_arms tree s arms) other ∙ arms_names tree s arms)) names.names;
             head = o.1;
           },
         )
@@ -219,7 +224,7 @@ module _ (handing : Bool) (tree : Tree) (task : TaskTree) (sound : IsSound tree)
         let tests = option_or_parts (first_in_expression tree task own test) _ heads in
         let stood = first_stands own.known (stands (known_type tree own test) truth_spot) (all_stand tree own truth_spot (tests_of rest)) standing in
         let next = arm_next tree task sound s test body rest scope e in
-        let t = test_local handing tree task sound sound_task local m params result own line test one.0
+        let t = test_local handing keeping tree task sound sound_task local m params result own line test one.0
         (kept_left (parts_of_expression test) (parts_of_block body ++ parts_of_arms rest) k) oscope onames tests.0 stood.0 in
         let b = block_local s line body two.0 (kept_left (parts_of_block body) (parts_of_arms rest) k2) scope names next.0 in
         let r = arms_local own (past s (scope_after_block tree s body)) line rest two.1 (kept_right (parts_of_block body) (parts_of_arms rest) k2)

@@ -52,8 +52,9 @@ use Rattle.code_laws.specs.Typed.{AreMet, AreParted, ArePassed, IsCallable, IsHa
 use Rattle.code_laws.proofs.Arguments.{alike_scalar, first_region, handed_name, named_typed}
 use Rattle.code_laws.proofs.DeclaredNeeds.{need_declared, pair_constrained}
 use Rattle.code_laws.proofs.KnownHeads.{KnowsHead, kept_may, known_behind}
-use Rattle.code_laws.proofs.LocalNames.{AllKept, IsKept, IsLocalTask, IsLocalTree, kept_index, kept_region, kept_scalar, named_kept}
+use Rattle.code_laws.proofs.LocalNames.{AllKept, IsKept, IsLocalTask, IsLocalTree, kept_region, kept_scalar, kept_value, named_kept}
 use Rattle.code_laws.proofs.LocalTypes.{simple_other}
+use Rattle.code_laws.proofs.LocalValues.{value_other}
 use Rattle.code_laws.proofs.Privileges.{part_of}
 use Rattle.code_laws.proofs.Typing.{no_way_back}
 use Rattle.code_laws.proofs.Values.{scalar_simple}
@@ -86,10 +87,10 @@ lies_within : (known : List Known) (t u : StaticType) → IsRegion t → IsRegio
 lies_within known _ _ (a_region_type k sp args r) (a_region_type l sq brgs q) e = not-false (is_subregion known r q) e
 
 -- the term of a name's region is its own number
-kept_term : (m : Marked) (n : Name) (i : ℕ) (t : StaticType) → IsKept m n i t → IsRegion t → term_in t ≡ term.Name i
-kept_term m n i t (kept_scalar _ a) r = absurd (simple_other t (scalar_simple t a) r)
-kept_term m n i t (kept_index _ a h) r = absurd (simple_other t a r)
-kept_term m n i _ (kept_region k sp args h) r = refl
+kept_term : (keeping : Bool) (m : Marked) (bs : List Bound) (n : Name) (i : ℕ) (t : StaticType) → IsKept keeping m bs n i t → IsRegion t → term_in t ≡ term.Name i
+kept_term keeping m bs n i t (kept_scalar _ a) r = absurd (simple_other t (scalar_simple t a) r)
+kept_term keeping m bs n i t (kept_value _ a h p) r = absurd (value_other keeping bs t a r)
+kept_term keeping m bs n i _ (kept_region k sp args h) r = refl
 
 -- a name is that of what it is bound to
 bound_name : (bs : List Bound) (n : Name) → is_bound bs n ≡ true → (bound_to bs n).name ≡ n
@@ -143,8 +144,8 @@ all_parted y w es (p ∷ ps) h = (h p (inl refl), all_parted y w es ps (λ q g. 
 
 -- ---- a call
 
-module _ (task : TaskTree) (w : Where) (sound : IsSound w.tree) (sound_task : IsSoundTask w.tree task) (m : Marked)
-    (scope : IsSoundScope w.scope) (names : AllKept m w.scope.names) (head : KnowsHead w.tree task w.scope) where
+module _ (keeping : Bool) (task : TaskTree) (w : Where) (sound : IsSound w.tree) (sound_task : IsSoundTask w.tree task) (m : Marked)
+    (scope : IsSoundScope w.scope) (names : AllKept keeping m w.scope.names) (head : KnowsHead w.tree task w.scope) where
   -- nothing is known of a region that was made behind the parameters
   below_made : (a b : Term) → IsBelow w.scope.known a b → (i : ℕ) → a ≡ term.Name i → length task.params ≤ i → b ≡ term.Name i
   below_made a _ same i e l = e
@@ -178,7 +179,7 @@ module _ (task : TaskTree) (w : Where) (sound : IsSound w.tree) (sound_task : Is
       (parts : IsFlawless w.tree task w.scope (calling n (known_types w.tree w.scope args)))
       (callee_sound : IsSoundTask w.tree (task_named w.tree n))
       (callee_named : (sp i : ℕ) → i < length (space_at w.tree sp).fields → Has (fields_named w.tree sp None) i)
-      (passed : ArePassed (forms_by true false w.tree task) w (params_at w.tree w.scope (task_named w.tree n) args) (param_types w.tree (task_named w.tree n)) args) where
+      (passed : ArePassed (forms_by true keeping w.tree task) w (params_at w.tree w.scope (task_named w.tree n) args) (param_types w.tree (task_named w.tree n)) args) where
     abbrev t : TaskTree
     t = task_named w.tree n
 
@@ -192,7 +193,7 @@ module _ (task : TaskTree) (w : Where) (sound : IsSound w.tree) (sound_task : Is
     types = known_types w.tree w.scope args
 
     region_at : (k : ℕ) → is_region (type_at ps k) ≡ true → IsHandedAt w args k (type_at ps k)
-    region_at k region = handed_at (forms_by true false w.tree task) y refl w (params_at w.tree w.scope t args) ps args passed k region
+    region_at k region = handed_at (forms_by true keeping w.tree task) y refl w (params_at w.tree w.scope t args) ps args passed k region
 
     order : params_of w.tree n ≡ ps
     order = ap types_in_order (sound.params n)
@@ -212,7 +213,7 @@ module _ (task : TaskTree) (w : Where) (sound : IsSound w.tree) (sound_task : Is
         let wanted = flat_has (λ (v : Right). wanted_of_argument (type_at (params_of w.tree n) v.region) (type_at types v.region) v) (rights_told w.tree t)
         right want (subst (λ rs. Has rs right) (sym (rights_soundly w.tree t callee_sound.clauses)) is.right) given in
         let may = all_has (may_do (rights_declared w.tree task) w.scope.known) (wanted_by_call w.tree (calling n types)) want (not-false _ parts.allowed) wanted in
-        let done = kept_may true w.tree task w.scope sound_task head m a.name (bound w a.name).number b (named_kept m w.scope.names a.name names a.there) region
+        let done = kept_may true keeping w.tree task w.scope sound_task head m w.scope.names a.name (bound w a.name).number b (named_kept keeping m w.scope.names a.name names a.there) region
         d.field is.access may in
         subst (IsMet (Some y) w d) (sym a.at) (
           a.there,
@@ -243,8 +244,8 @@ module _ (task : TaskTree) (w : Where) (sound : IsSound w.tree) (sound_task : Is
         let tb = (bound w b.name).static_type in
         let ra = first_region ta _ a.regions in
         let rb = first_region tb _ b.regions in
-        let kept_a = kept_term m a.name (bound w a.name).number ta (named_kept m w.scope.names a.name names a.there) ra in
-        let kept_b = kept_term m b.name (bound w b.name).number tb (named_kept m w.scope.names b.name names b.there) rb in
+        let kept_a = kept_term keeping m w.scope.names a.name (bound w a.name).number ta (named_kept keeping m w.scope.names a.name names a.there) ra in
+        let kept_b = kept_term keeping m w.scope.names b.name (bound w b.name).number tb (named_kept keeping m w.scope.names b.name names b.there) rb in
         let whole = none_has (breaks_clause w.scope.known t.params types) _ (clause.Within c.lower c.upper) parts.constrained
         (subst (λ cs. Has cs (clause.Within c.lower c.upper)) (sym (told_soundly w.tree t callee_sound.clauses)) c.told) in
         let lies = lies_within w.scope.known ta tb ra rb
@@ -260,16 +261,16 @@ module _ (task : TaskTree) (w : Where) (sound : IsSound w.tree) (sound_task : Is
         (subst (λ o. IsParted y w o (name_at args (place_in t.params c.upper))) (sym a.at)
         (subst (IsParted y w (Some a.name)) (sym b.at) (a.there, b.there, ra, rb, part))))
 
-    pub calls_handed : slice_get (tasks_of w.tree) (place_of_task w.tree n) ≡ Some t → IsCallable (forms_by true false w.tree task) w n args
+    pub calls_handed : slice_get (tasks_of w.tree) (place_of_task w.tree n) ≡ Some t → IsCallable (forms_by true keeping w.tree task) w n args
     calls_handed at = (at, all_met (Some y) w args (task_code w.tree t).needs met, all_parted y w args (pairs_in (scope_of w.tree t).known) parted)
 
 -- with regions that are handed over, or without
-pub may_call : (handing : Bool) (task : TaskTree) (w : Where) → IsSound w.tree → IsSoundTask w.tree task → IsLocalTree handing w.tree → (m : Marked) →
-    IsSoundScope w.scope → AllKept m w.scope.names → KnowsHead w.tree task w.scope → (n : Name) (args : Expressions) → IsLocalTask handing w.tree n →
+pub may_call : (handing keeping : Bool) (task : TaskTree) (w : Where) → IsSound w.tree → IsSoundTask w.tree task → IsLocalTree handing w.tree → (m : Marked) →
+    IsSoundScope w.scope → AllKept keeping m w.scope.names → KnowsHead w.tree task w.scope → (n : Name) (args : Expressions) → IsLocalTask handing w.tree n →
     first_in_args w.tree task w.scope args ≡ None → IsFlawless w.tree task w.scope (calling n (known_types w.tree w.scope args)) →
-    ArePassed (forms_by handing false w.tree task) w (params_at w.tree w.scope (task_named w.tree n) args) (param_types w.tree (task_named w.tree n)) args →
-    IsCallable (forms_by handing false w.tree task) w n args
-may_call false task w sound sound_task local m scope names head n args l told parts passed =
+    ArePassed (forms_by handing keeping w.tree task) w (params_at w.tree w.scope (task_named w.tree n) args) (param_types w.tree (task_named w.tree n)) args →
+    IsCallable (forms_by handing keeping w.tree task) w n args
+may_call false keeping task w sound sound_task local m scope names head n args l told parts passed =
     (l.called, subst (AreMet None w args) (sym (l.alone refl).needs) tt, tt)
-may_call true task w sound sound_task local m scope names head n args l told parts passed =
-    calls_handed task w sound sound_task m scope names head n args told parts (sound.tasks (task_named w.tree n) l.stands) local.named passed l.called
+may_call true keeping task w sound sound_task local m scope names head n args l told parts passed =
+    calls_handed keeping task w sound sound_task m scope names head n args told parts (sound.tasks (task_named w.tree n) l.stands) local.named passed l.called

@@ -37,7 +37,7 @@ pub local_example_holds : LocalExampleHolds
 unfolding int_wrap digits
 local_example_holds = record {
   run = run;
-  kept = record { run = run; kept = refl };
+  kept = record { run = run; kept = refl; plain = refl };
   end_is = refl;
   fault_run = record { within = within; accepted = refl; local = refl; numbers = (omega (arith, ints), tt) };
   fault_is = refl;

@@ -1,6 +1,6 @@
 -- What names stand for in a text whose names of regions and indices are marked, and the fields of such regions.
 use Rattle.std.proofs.Common.{◌≡◌, Bool, List, [], ◌∷◌, None, false, true, refl, ap, sym, subst, ℕ, ◌<◌, ◌≤◌, ◌∙◌, cond, not}
-use Rattle.std.specs.Prelude.{Some, bytes_eq, length, slice_get, ◌||◌}
+use Rattle.std.specs.Prelude.{Some, bytes_eq, length, slice_get, ◌||◌, ◌++◌}
 use Rattle.std.proofs.lemmas.Bool.{not-false}
 use Rattle.std.proofs.lemmas.Slice.Eq.{bytes_eq-Decides}
 use Rattle.plain_values.proofs.Plain.{option_or_parts}
@@ -10,13 +10,13 @@ use Rattle.regent_tree.specs.Scopes.{bound_to}
 use Rattle.regent_tree.proofs.Members.{Has}
 use Rattle.regent_tree.specs.StaticTypes.{Reach, among_args, field_kind, field_place, field_term, field_type, space_at, task_named}
 use Rattle.regent_tree.specs.Syntax.{Expression, Name, TaskTree, Tree}
-use Rattle.regent_tree.specs.Typing.{param_types, type_of_element, type_of_field}
+use Rattle.regent_tree.specs.Typing.{is_pointer, param_types, type_of_element, type_of_field}
 use Rattle.regent_tree.specs.declared.facts.Term.TheVariants as place
 use Rattle.regent_tree.specs.declared.types.Kind.{Kind}
 use Rattle.regent_tree.specs.declared.types.Param.{Param}
 use Rattle.regent_tree.specs.declared.typing.Bound.{Bound}
 use Rattle.regent_tree.specs.declared.typing.StaticType.{StaticType}
-use Rattle.regent_tree.specs.declared.typing.StaticType.TheVariants.{Region as region_type}
+use Rattle.regent_tree.specs.declared.typing.StaticType.TheVariants.{Index as index_type, Integer as integer_type, Ispace as ispace_type, Pointer as pointer_type, Region as region_type, Truth as truth_type}
 use Rattle.check_rules.specs.first.FirstInExpressions.{first_of_standing, first_of_taking}
 use Rattle.check_rules.specs.first.Rules.{first_in}
 use Rattle.check_rules.specs.rules.Names.{is_unknown_field}
@@ -41,6 +41,8 @@ use Rattle.code_laws.specs.Simple.{FieldFits, IsInteger, IsRegion, IsScalar, IsS
 use Rattle.code_rules.specs.Instructions.{place_of_task, tasks_of}
 use Rattle.code_rules.specs.Programs.{task_code}
 use Rattle.code_laws.specs.Typed.{GoesThrough, IsField, element_field}
+use Rattle.code_laws.specs.Pointers.{IsPointer, a_pointer_type}
+use Rattle.code_laws.proofs.LocalValues.{IsRegionAmong, IsValue, value_before, value_behind, value_integer, value_is_no_region, value_no_partition, value_pointer, value_simple}
 use Rattle.code_laws.proofs.LocalTypes.{IsTakable, simple_as_integer, simple_is_no_region, simple_no_partition, term_fits, term_scalar}
 use Rattle.code_laws.proofs.Typing.{no_way, no_way_back}
 pub use Rattle.code_laws.proofs.Typing.{first_below}
@@ -78,50 +80,71 @@ pub record IsLocalTree (handing : Bool) (tree : Tree) : Type 0 where
 
 -- ---- names
 
-simple_no_region : (t : StaticType) → IsSimple t → may_be (λ u. is_region u || is_partition u) t ≡ false
-simple_no_region _ (simple_integer w) = refl
-simple_no_region _ simple_truth = refl
-simple_no_region _ (simple_space k) = refl
-simple_no_region _ (simple_index k) = refl
-
--- A name is bound with a number to a number or truth; or to an index or index space, and is marked so; or to the
--- region of that number, and is marked so.
-pub data IsKept (m : Marked) (n : Name) (i : ℕ) : StaticType → Type 0 where
-  kept_scalar : (t : StaticType) → IsScalar t → IsKept m n i t
-  kept_index : (t : StaticType) → IsSimple t → is_among m.indices n ≡ true → IsKept m n i t
+-- A name is bound with a number to a number or truth; or to an index, an index space or a pointer, and is marked so; or
+-- to the region of that number, and is marked so. A pointer goes to a region that was bound before.
+pub data IsKept (keeping : Bool) (m : Marked) (bs : List Bound) (n : Name) (i : ℕ) : StaticType → Type 0 where
+  kept_scalar : (t : StaticType) → IsScalar t → IsKept keeping m bs n i t
+  kept_value : (t : StaticType) → IsValue keeping bs t → is_among m.indices n ≡ true → (is_pointer t ≡ true → is_among m.pointers n ≡ true) →
+      IsKept keeping m bs n i t
   kept_region : (k : Kind) (sp : ℕ) (args : List Reach) → is_among m.regions n ≡ true →
-      IsKept m n i (region_type k sp args (place.Name i))
+      IsKept keeping m bs n i (region_type k sp args (place.Name i))
 
-abbrev pub AllKept : Marked → List Bound → Type 0
-AllKept m [] = Unit {0}
-AllKept m (b ∷ bs) = IsKept m b.name b.number b.static_type × AllKept m bs
+abbrev pub AllKept : Bool → Marked → List Bound → Type 0
+AllKept keeping m [] = Unit {0}
+AllKept keeping m (b ∷ bs) = IsKept keeping m bs b.name b.number b.static_type × AllKept keeping m bs
 
-module _ (m : Marked) where
-  pub named_kept : (bs : List Bound) (n : Name) → AllKept m bs → is_bound bs n ≡ true →
-      IsKept m n (bound_to bs n).number (bound_to bs n).static_type
+module _ (keeping : Bool) (m : Marked) where
+  kept_behind_one : (b : Bound) (bs : List Bound) (n : Name) (i : ℕ) (t : StaticType) → IsKept keeping m bs n i t → IsKept keeping m (b ∷ bs) n i t
+  kept_behind_one b bs n i t (kept_scalar _ a) = kept_scalar t a
+  kept_behind_one b bs n i t (kept_value _ a h p) = kept_value t (value_behind keeping bs b t a) h p
+  kept_behind_one b bs n i _ (kept_region k sp args h) = kept_region k sp args h
+
+  pub kept_before : (bs more : List Bound) (n : Name) (i : ℕ) (t : StaticType) → IsKept keeping m bs n i t → IsKept keeping m (bs ++ more) n i t
+  kept_before bs more n i t (kept_scalar _ a) = kept_scalar t a
+  kept_before bs more n i t (kept_value _ a h p) = kept_value t (value_before keeping bs more t a) h p
+  kept_before bs more n i _ (kept_region k sp args h) = kept_region k sp args h
+
+  pub named_kept : (bs : List Bound) (n : Name) → AllKept keeping m bs → is_bound bs n ≡ true →
+      IsKept keeping m bs n (bound_to bs n).number (bound_to bs n).static_type
   named_kept [] n a h = absurd (no_way_back h)
   named_kept (b ∷ bs) n a h = chosen (bytes_eq b.name n) refl (named_kept bs n a.1) h
     where
-      chosen : (c : Bool) → bytes_eq b.name n ≡ c → (is_bound bs n ≡ true → IsKept m n (bound_to bs n).number (bound_to bs n).static_type) →
-          (c || is_bound bs n) ≡ true → IsKept m n (cond c b (bound_to bs n)).number (cond c b (bound_to bs n)).static_type
-      chosen true q more e = subst (λ x. IsKept m x b.number b.static_type) ((bytes_eq-Decides b.name n).0 q) a.0
-      chosen false q more e = more e
+      chosen : (c : Bool) → bytes_eq b.name n ≡ c →
+          (is_bound bs n ≡ true → IsKept keeping m bs n (bound_to bs n).number (bound_to bs n).static_type) → (c || is_bound bs n) ≡ true →
+          IsKept keeping m (b ∷ bs) n (cond c b (bound_to bs n)).number (cond c b (bound_to bs n)).static_type
+      chosen true q more e = kept_behind_one b bs n b.number b.static_type
+          (subst (λ x. IsKept keeping m bs x b.number b.static_type) ((bytes_eq-Decides b.name n).0 q) a.0)
+      chosen false q more e = kept_behind_one b bs n (bound_to bs n).number (bound_to bs n).static_type (more e)
 
-  module _ (n : Name) (i : ℕ) where
-    pub kept_simple : (t : StaticType) → IsKept m n i t → not (is_among m.regions n) ≡ true → IsSimple t
-    kept_simple t (kept_scalar _ a) e = scalar_simple t a
-    kept_simple t (kept_index _ a h) e = a
-    kept_simple _ (kept_region k sp args h) e = absurd (no_way_back (ap not (sym h) ∙ e))
+  module _ (bs : List Bound) (n : Name) (i : ℕ) where
+    pub kept_as_value : (t : StaticType) → IsKept keeping m bs n i t → not (is_among m.regions n) ≡ true → IsValue keeping bs t
+    kept_as_value t (kept_scalar _ a) e = value_simple t (scalar_simple t a)
+    kept_as_value t (kept_value _ a h p) e = a
+    kept_as_value _ (kept_region k sp args h) e = absurd (no_way_back (ap not (sym h) ∙ e))
 
-    pub simple_kept : (t : StaticType) → IsKept m n i t → not (is_among m.indices n) ≡ true → IsSimple t → IsScalar t
-    simple_kept t (kept_scalar _ a) e s = a
-    simple_kept t (kept_index _ a h) e s = absurd (no_way_back (ap not (sym h) ∙ e))
-    simple_kept _ (kept_region k sp args h) e s = absurd (no_way (simple_no_region (region_type k sp args (place.Name i)) s))
+    pub value_kept : (t : StaticType) → IsKept keeping m bs n i t → not (is_among m.indices n) ≡ true → IsValue keeping bs t → IsScalar t
+    value_kept t (kept_scalar _ a) e s = a
+    value_kept t (kept_value _ a h p) e s = absurd (no_way_back (ap not (sym h) ∙ e))
+    value_kept _ (kept_region k sp args h) e s =
+        absurd (no_way (value_is_no_region keeping bs (region_type k sp args (place.Name i)) s))
 
-    pub no_kept_partition : (t : StaticType) → IsKept m n i t → may_be is_partition t ≡ false
+    -- a name that doesn't stand for a pointer
+    pub kept_plain : (t : StaticType) → IsKept keeping m bs n i t → is_among m.pointers n ≡ false → IsValue keeping bs t → IsSimple t
+    kept_plain t k e (value_simple _ a) = a
+    kept_plain _ (kept_scalar _ a) e (value_pointer k sp args j q r) = scalar_simple _ a
+    kept_plain _ (kept_value _ a h p) e (value_pointer k sp args j q r) = absurd (no_way (sym (p refl) ∙ e))
+
+    pub no_kept_partition : (t : StaticType) → IsKept keeping m bs n i t → may_be is_partition t ≡ false
     no_kept_partition t (kept_scalar _ a) = simple_no_partition t (scalar_simple t a)
-    no_kept_partition t (kept_index _ a h) = simple_no_partition t a
+    no_kept_partition t (kept_value _ a h p) = value_no_partition keeping bs t a
     no_kept_partition _ (kept_region k sp args h) = refl
+
+value_no_region : (keeping : Bool) (bs : List Bound) (t : StaticType) → IsValue keeping bs t → may_be (λ u. is_region u || is_partition u) t ≡ false
+value_no_region keeping bs _ (value_simple _ (simple_integer w)) = refl
+value_no_region keeping bs _ (value_simple _ simple_truth) = refl
+value_no_region keeping bs _ (value_simple _ (simple_space k)) = refl
+value_no_region keeping bs _ (value_simple _ (simple_index k)) = refl
+value_no_region keeping bs _ (value_pointer k sp args i q r) = refl
 
 -- ---- fields at points
 
@@ -146,29 +169,34 @@ taking_told tree taking e =
     let c = option_or_parts _ _ b.1 in
     (rule_none (is_unknown_field tree taking) rule.Name a.0, rule_none (is_ill_typed_step taking) rule.Type b.0, c.0)
 
-module _ (handing : Bool) (w : Where) (sound : IsSound w.tree) (local : IsLocalTree handing w.tree) (m : Marked) where
+module _ (handing keeping : Bool) (w : Where) (sound : IsSound w.tree) (local : IsLocalTree handing w.tree) (m : Marked) where
+  abbrev Kept : Name → ℕ → StaticType → Type 0
+  Kept n i t = IsKept keeping m w.scope.names n i t
+
+  -- what is no region
+  abbrev none_taken : (t : StaticType) → IsValue keeping w.scope.names t → may_be (λ u. is_region u || is_partition u) t ≡ true → ⊥
+  none_taken t a e = no_way (sym e ∙ value_no_region keeping w.scope.names t a)
+
   -- an element is taken of a region
-  taken : (n : Name) (i : ℕ) (t at : StaticType) → IsKept m n i t → first_of_taking w.tree (element_of t at) ≡ None →
+  taken : (n : Name) (i : ℕ) (t at : StaticType) → Kept n i t → first_of_taking w.tree (element_of t at) ≡ None →
       may_be (λ u. is_region u || is_partition u) t ≡ true
   taken n i t at a e = not-false _ (taking_told w.tree (element_of t at) e).1
 
-  pub element_known : (n : Name) (i : ℕ) (t at : StaticType) (e : Expression) → IsKept m n i t → is_number at ≡ true →
+  pub element_known : (n : Name) (i : ℕ) (t at : StaticType) (e : Expression) → Kept n i t → is_number at ≡ true →
       first_of_taking w.tree (element_of t at) ≡ None →
       known_type_after_step w.tree (element_of t at) (type_of_element w.scope t e) ≡ type_of_element w.scope t e
   element_known n i t at e (kept_scalar _ a) num told =
-      absurd (no_way (sym (taken n i t at (kept_scalar t a) told) ∙ simple_no_region t (scalar_simple t a)))
-  element_known n i t at e (kept_index _ a h) num told =
-      absurd (no_way (sym (taken n i t at (kept_index t a h) told) ∙ simple_no_region t a))
+      absurd (none_taken t (value_simple t (scalar_simple t a)) (taken n i t at (kept_scalar t a) told))
+  element_known n i t at e (kept_value _ a h p) num told = absurd (none_taken t a (taken n i t at (kept_value t a h p) told))
   element_known n i _ at e (kept_region k sp args h) num told =
       ap (λ b. type_unless (not b || false || false || false) (type_of_element w.scope (region_type k sp args (place.Name i)) e)) num
 
-  pub place_is : (n : Name) (i : ℕ) (t at : StaticType) (e : Expression) (f : Name) → IsKept m n i t →
+  pub place_is : (n : Name) (i : ℕ) (t at : StaticType) (e : Expression) (f : Name) → Kept n i t →
       first_of_taking w.tree (element_of t at) ≡ None → first_of_taking w.tree (field_of (type_of_element w.scope t e) f) ≡ None →
       IsPlace w i t e f
   place_is n i t at e f (kept_scalar _ a) told field =
-      absurd (no_way (sym (taken n i t at (kept_scalar t a) told) ∙ simple_no_region t (scalar_simple t a)))
-  place_is n i t at e f (kept_index _ a h) told field =
-      absurd (no_way (sym (taken n i t at (kept_index t a h) told) ∙ simple_no_region t a))
+      absurd (none_taken t (value_simple t (scalar_simple t a)) (taken n i t at (kept_scalar t a) told))
+  place_is n i t at e f (kept_value _ a h p) told field = absurd (none_taken t a (taken n i t at (kept_value t a h p) told))
   place_is n i _ at e f (kept_region k sp args h) told field =
       let t = region_type k sp args (place.Name i) in
       let there = not-false (has_field w.tree sp f) (taking_told w.tree (field_of (type_of_element w.scope t e) f) field).0 in
@@ -192,13 +220,63 @@ module _ (handing : Bool) (w : Where) (sound : IsSound w.tree) (local : IsLocalT
     record { named = b; region = p.region; field = p.field; keeps = p.keeps },
   )
 
+-- ---- fields of what pointers go to
+
+-- a field of what a pointer of a type goes to
+pub record IsAimed (keeping : Bool) (tree : Tree) (bs : List Bound) (t : StaticType) (f : Name) : Type 0 where
+  pub keeps : keeping ≡ true
+  pub pointer : IsPointer t
+  pub kind : Kind
+  pub args : List Reach
+  pub region : ℕ
+  pub is : t ≡ pointer_type kind (space_in t) args (Some (place.Name region) ∷ [])
+  pub there : has_field tree (space_in t) f ≡ true
+  pub among : IsRegionAmong bs region
+  pub field : field_place tree (space_in t) f < length (space_at tree (space_in t)).fields
+  pub fits : FieldFits (field_kind tree (space_in t) (field_place tree (space_in t) f)) (type_of_field tree t f)
+  pub scalar : IsScalar (type_of_field tree t f)
+  pub known : known_type_after_step tree (field_of t f) (type_of_field tree t f) ≡ type_of_field tree t f
+
+module _ (handing keeping : Bool) (tree : Tree) (sound : IsSound tree) (local : IsLocalTree handing tree) (m : Marked) (bs : List Bound) (n : Name) (i : ℕ) where
+  -- a field is taken of a pointer
+  aimed_value : (t : StaticType) (f : Name) → IsValue keeping bs t → first_of_taking tree (field_of t f) ≡ None → IsAimed keeping tree bs t f
+  aimed_value _ f (value_simple _ (simple_integer w)) e = absurd (no_way (taking_told tree (field_of (integer_type w) f) e).1)
+  aimed_value _ f (value_simple _ simple_truth) e = absurd (no_way (taking_told tree (field_of truth_type f) e).1)
+  aimed_value _ f (value_simple _ (simple_space k)) e = absurd (no_way (taking_told tree (field_of (ispace_type k) f) e).1)
+  aimed_value _ f (value_simple _ (simple_index k)) e = absurd (no_way (taking_told tree (field_of (index_type k) f) e).1)
+  aimed_value _ f (value_pointer k sp args j q r) e =
+      let t = pointer_type k sp args (Some (place.Name j) ∷ []) in
+      let there = not-false (has_field tree sp f) (taking_told tree (field_of t f) e).0 in
+      let term = field_term tree sp (field_place tree sp f) in
+      let says = local.fields sp (field_place tree sp f) in record {
+        keeps = q;
+        pointer = a_pointer_type k sp args _ tt;
+        kind = k;
+        args = args;
+        region = j;
+        is = refl;
+        there = there;
+        among = r;
+        field = first_below (λ (p : Param). bytes_eq p.name f) (space_at tree sp).fields there;
+        fits = term_fits term says tree (among_args (space_at tree sp).params args) 0;
+        scalar = term_scalar term says tree (among_args (space_at tree sp).params args) 0;
+        known = ap (λ b. type_unless (b || not (has_field tree sp f) || false || false) (type_of_field tree t f)) (sound.fields sp f there)
+            ∙ ap (λ b. type_unless (not b || false || false) (type_of_field tree t f)) there;
+      }
+
+  pub aimed_at : (t : StaticType) (f : Name) → IsKept keeping m bs n i t → first_of_taking tree (field_of t f) ≡ None → IsAimed keeping tree bs t f
+  aimed_at t f (kept_scalar _ a) e = aimed_value t f (value_simple t (scalar_simple t a)) e
+  aimed_at t f (kept_value _ a h p) e = aimed_value t f a e
+  aimed_at _ f (kept_region k sp args h) e = absurd (no_way (taking_told tree (field_of (region_type k sp args (place.Name i)) f) e).1)
+
 -- ---- regions and their fields
 
 -- an integer that is reduced
-pub kept_integer : (m : Marked) (n : Name) (i : ℕ) (t : StaticType) → IsKept m n i t → may_be is_integer t ≡ true → IsInteger t
-kept_integer m n i t (kept_scalar _ a) e = simple_as_integer t (scalar_simple t a) e
-kept_integer m n i t (kept_index _ a h) e = simple_as_integer t a e
-kept_integer m n i _ (kept_region k sp args h) e = absurd (no_way_back e)
+pub kept_integer : (keeping : Bool) (m : Marked) (bs : List Bound) (n : Name) (i : ℕ) (t : StaticType) → IsKept keeping m bs n i t →
+    may_be is_integer t ≡ true → IsInteger t
+kept_integer keeping m bs n i t (kept_scalar _ a) e = simple_as_integer t (scalar_simple t a) e
+kept_integer keeping m bs n i t (kept_value _ a h p) e = value_integer keeping bs t a e
+kept_integer keeping m bs n i _ (kept_region k sp args h) e = absurd (no_way_back e)
 
 -- a field of a region of a type
 pub record IsFieldOf (tree : Tree) (t : StaticType) (f : Name) : Type 0 where
@@ -209,15 +287,15 @@ pub record IsFieldOf (tree : Tree) (t : StaticType) (f : Name) : Type 0 where
   pub scalar : IsScalar (field_type tree (space_in t) (args_in t) f)
   pub known : known_field tree t f ≡ field_type tree (space_in t) (args_in t) f
 
-module _ (handing : Bool) (tree : Tree) (sound : IsSound tree) (local : IsLocalTree handing tree) (m : Marked) (n : Name) (i : ℕ) where
-  pub region_is : (t : StaticType) → IsKept m n i t → may_be is_region t ≡ true → IsRegion t
+module _ (handing keeping : Bool) (tree : Tree) (sound : IsSound tree) (local : IsLocalTree handing tree) (m : Marked) (bs : List Bound) (n : Name) (i : ℕ) where
+  pub region_is : (t : StaticType) → IsKept keeping m bs n i t → may_be is_region t ≡ true → IsRegion t
   region_is t (kept_scalar _ a) e = absurd (no_way (sym e ∙ simple_is_no_region t (scalar_simple t a)))
-  region_is t (kept_index _ a h) e = absurd (no_way (sym e ∙ simple_is_no_region t a))
+  region_is t (kept_value _ a h p) e = absurd (no_way (sym e ∙ value_is_no_region keeping bs t a))
   region_is _ (kept_region k sp args h) e = a_region_type k sp args (place.Name i)
 
-  pub field_is : (t : StaticType) (f : Name) → IsKept m n i t → may_be is_region t ≡ true → region_has tree t f ≡ true → IsFieldOf tree t f
+  pub field_is : (t : StaticType) (f : Name) → IsKept keeping m bs n i t → may_be is_region t ≡ true → region_has tree t f ≡ true → IsFieldOf tree t f
   field_is t f (kept_scalar _ a) e has = absurd (no_way (sym e ∙ simple_is_no_region t (scalar_simple t a)))
-  field_is t f (kept_index _ a h) e has = absurd (no_way (sym e ∙ simple_is_no_region t a))
+  field_is t f (kept_value _ a h p) e has = absurd (no_way (sym e ∙ value_is_no_region keeping bs t a))
   field_is _ f (kept_region k sp args h) e has =
       let term = field_term tree sp (field_place tree sp f) in
       let says = local.fields sp (field_place tree sp f) in record {

@@ -15,7 +15,7 @@ use Rattle.regent_tree.specs.declared.rights.Access.TheVariants as access
 use Rattle.check_rules.specs.rules.Privileges.{wanted_of_region, wanting}
 use Rattle.check_rules.specs.types.Lookup.{region_has}
 use Rattle.check_rules.specs.types.Sorts.{is_integer, is_truth}
-use Rattle.local_form.specs.LocalForm.{is_name}
+use Rattle.local_form.specs.LocalForm.{Marked, is_name, is_region_name}
 use Rattle.code_laws.proofs.LocalTypes.{term_scalar}
 use Rattle.code_laws.proofs.Typing.{no_way, no_way_back}
 use Rattle.code_laws.specs.Simple.{IsRegion, IsScalar, a_region_type, scalar_integer, scalar_truth, term_in}
@@ -50,6 +50,22 @@ named_alone (is_null_expr _) h = absurd (no_way_back h)
 named_alone (null_expr _) h = absurd (no_way_back h)
 named_alone (cast_expr _ _) h = absurd (no_way_back h)
 named_alone (space_expr _ _) h = absurd (no_way_back h)
+
+-- so is a region's
+pub region_named : (m : Marked) (e : Expression) → is_region_name m e ≡ true → (n : Name) × (e ≡ access_expr n no_step)
+region_named m (access_expr n no_step) h = (n, refl)
+region_named m (access_expr n (field_step _ _)) h = absurd (no_way_back h)
+region_named m (access_expr n (at_step _ _)) h = absurd (no_way_back h)
+region_named m (number_expr _ _) h = absurd (no_way_back h)
+region_named m (truth_expr _) h = absurd (no_way_back h)
+region_named m (chain_expr _ _) h = absurd (no_way_back h)
+region_named m (prefix_expr _ _) h = absurd (no_way_back h)
+region_named m (call_expr _ _) h = absurd (no_way_back h)
+region_named m (convert_expr _ _) h = absurd (no_way_back h)
+region_named m (is_null_expr _) h = absurd (no_way_back h)
+region_named m (null_expr _) h = absurd (no_way_back h)
+region_named m (cast_expr _ _) h = absurd (no_way_back h)
+region_named m (space_expr _ _) h = absurd (no_way_back h)
 
 -- a region's type is the same with all arguments
 pub put_region : (types : List StaticType) (p : StaticType) → IsRegion p → put_in types p ≡ p

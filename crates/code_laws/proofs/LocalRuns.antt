@@ -9,7 +9,7 @@ use Rattle.regent_tree.proofs.Members.{Has}
 use Rattle.regent_tree.specs.Limits.{parts_of_block, parts_of_item, parts_of_params, parts_of_program, parts_of_type}
 use Rattle.regent_tree.specs.Scopes.{scope_of}
 use Rattle.regent_tree.specs.StaticTypes.{entry_name, task_named}
-use Rattle.regent_tree.specs.Syntax.{ItemTree, TaskTree, Tree, task_item}
+use Rattle.regent_tree.specs.Syntax.{ItemTree, Name, TaskTree, Tree, task_item}
 use Rattle.regent_tree.specs.Typing.{param_types, result_type, width_of_type}
 use Rattle.regent_tree.specs.declared.types.TypeTerm.{TypeTerm}
 use Rattle.regent_tree.specs.declared.typing.StaticType.{StaticType}
@@ -19,9 +19,9 @@ use Rattle.check_rules.specs.types.Sorts.{is_region, type_at}
 use Rattle.code_rules.specs.Instructions.{place_of_task, tasks_of}
 use Rattle.code_rules.specs.Programs.{task_code}
 use Rattle.code_laws.specs.Handing.{AreTypedBy, forms_by}
-use Rattle.local_form.specs.LocalForm.{are_scalar_params, marked_by_task}
+use Rattle.local_form.specs.LocalForm.{are_scalar_params, is_among, marked_by_task}
 use Rattle.code_laws.specs.Simple.{IsInteger, an_integer}
-use Rattle.code_laws.specs.LocalPrograms.{AcceptedProgramsEndWell, AcceptedProgramsRunAsMeant, IsKeptProgramRun, IsLocalProgramRun, takes_scalars}
+use Rattle.code_laws.specs.LocalPrograms.{AcceptedProgramsEndWell, AcceptedProgramsRunAsMeant, IsKeptProgramRun, IsLocalProgramRun, has_no_pointer, takes_scalars}
 use Rattle.code_laws.specs.Programs.{AreTypedTasks, IsGiven, IsTypedRun, call_forms, gives_nothing, gives_scalar}
 use Rattle.code_laws.proofs.LocalBlocks.{block_local}
 use Rattle.code_laws.proofs.DeclaredNeeds.{needs_none}
@@ -32,7 +32,7 @@ use Rattle.code_laws.proofs.Openings.{params_length, types_length}
 use Rattle.check_laws.proofs.Entries.{begins}
 use Rattle.code_laws.proofs.Entries.{AllIntegers, all_of, found, inputs_count, inputs_taken, kept_all, kept_item, params_integers, short_body, types_integers}
 use Rattle.code_laws.proofs.Top.{handing_programs_end_well, regions_are_handed_as_meant}
-use Rattle.code_laws.proofs.Typing.{AreKept, kept_right, no_way}
+use Rattle.code_laws.proofs.Typing.{AreKept, kept_right, no_way, no_way_back}
 use Rattle.scalar_form.specs.ScalarForm.{is_empty, is_scalar_if_said}
 
 -- a result of numbers or truths, or none
@@ -49,10 +49,24 @@ integers_no_region [] a i = refl
 integers_no_region (t ∷ ts) a zero = integer_no_region t a.0
 integers_no_region (t ∷ ts) a (suc i) = integers_no_region ts a.1 i
 
--- a program of which nothing is told, whose tasks hand regions over or not
-module _ (handing : Bool) (tree : Tree) (inputs : List ℤ) (p : IsLocalProgramRun tree inputs)
-    (alone : handing ≡ false → (i : ItemTree) → Has tree i → (t : TaskTree) → i.form ≡ task_item t → TakesScalars t) where
-  every_task : AreTypedBy handing false tree
+-- a task that marks no name as a pointer's
+abbrev pub HasNoPointer : TaskTree → Type 0
+HasNoPointer t = is_empty (marked_by_task t).pointers ≡ true
+
+none_among : (ns : List Name) → is_empty ns ≡ true → (n : Name) → is_among ns n ≡ true → ⊥
+none_among [] e n h = no_way_back h
+none_among (k ∷ ns) e n h = no_way_back e
+
+-- where a name may stand for a pointer, pointers are kept
+pointers_kept : (keeping : Bool) (t : TaskTree) → (keeping ≡ false → HasNoPointer t) → (n : Name) → is_among (marked_by_task t).pointers n ≡ true → keeping ≡ true
+pointers_kept true t none n h = refl
+pointers_kept false t none n h = absurd (none_among (marked_by_task t).pointers (none refl) n h)
+
+-- a program of which nothing is told, whose tasks hand regions over or not, and keep pointers or not
+module _ (handing keeping : Bool) (tree : Tree) (inputs : List ℤ) (p : IsLocalProgramRun tree inputs)
+    (alone : handing ≡ false → (i : ItemTree) → Has tree i → (t : TaskTree) → i.form ≡ task_item t → TakesScalars t)
+    (plain : keeping ≡ false → (i : ItemTree) → Has tree i → (t : TaskTree) → i.form ≡ task_item t → HasNoPointer t) where
+  every_task : AreTypedBy handing keeping tree
   every_task k t at =
       let s = task_stands tree k t at in
       let item = s.0 in
@@ -65,15 +79,16 @@ module _ (handing : Bool) (tree : Tree) (inputs : List ℤ) (p : IsLocalProgramR
       (kept_right (parts_of_params t.params) (parts_of_type t.result ++ parts_of_block t.body) (λ q h. parts q (inr h))) in
       let short = short_body tree k t p.within at in
       let local = local_tree handing tree p.within p.accepted p.local alone in
-      let ready : IsReady tree t (marked_by_task t) (scope_of tree t) =
-      record { names = begins_kept tree t is.params; head = head_begins tree t told.sound_task } in record {
+      let ready : IsReady keeping tree t (marked_by_task t) (scope_of tree t) =
+      record { names = begins_kept keeping tree t is.params; head = head_begins tree t told.sound_task } in
+      let keeps = pointers_kept keeping t (λ q. plain q item s.1 t s.2) in record {
         given = given_scalar tree t.result is.result;
-        typed = (block_local handing tree t told.sound told.sound_task local (marked_by_task t) (length t.params) is.result (scope_of tree t) 0 t.body is.body body
+        typed = (block_local handing keeping tree t told.sound told.sound_task local (marked_by_task t) keeps (length t.params) is.result (scope_of tree t) 0 t.body is.body body
             told.scope ready told.told).0;
         small = omega (arith, short);
       }
 
-  the_run : IsTypedRun (forms_by handing false tree (task_named tree (entry_name tree))) tree inputs
+  the_run : IsTypedRun (forms_by handing keeping tree (task_named tree (entry_name tree))) tree inputs
   the_run =
       let main = entry_name tree in
       let t = task_named tree main in
@@ -99,13 +114,16 @@ module _ (handing : Bool) (tree : Tree) (inputs : List ℤ) (p : IsLocalProgramR
 no_premise : (tree : Tree) → true ≡ false → (i : ItemTree) → Has tree i → (t : TaskTree) → i.form ≡ task_item t → TakesScalars t
 no_premise tree e = absurd (no_way e)
 
+no_pointers : (tree : Tree) → true ≡ false → (i : ItemTree) → Has tree i → (t : TaskTree) → i.form ≡ task_item t → HasNoPointer t
+no_pointers tree e = absurd (no_way e)
+
 pub accepted_programs_run_as_meant : AcceptedProgramsRunAsMeant
-accepted_programs_run_as_meant tree inputs turns few p = regions_are_handed_as_meant false tree inputs turns few
-    (every_task true tree inputs p (no_premise tree)) (the_run true tree inputs p (no_premise tree))
+accepted_programs_run_as_meant tree inputs turns few p = regions_are_handed_as_meant true tree inputs turns few
+    (every_task true true tree inputs p (no_premise tree) (no_pointers tree)) (the_run true true tree inputs p (no_premise tree) (no_pointers tree))
 
 pub accepted_programs_end_well : AcceptedProgramsEndWell
-accepted_programs_end_well tree inputs turns few p = handing_programs_end_well false tree inputs turns few
-    (every_task true tree inputs p (no_premise tree)) (the_run true tree inputs p (no_premise tree))
+accepted_programs_end_well tree inputs turns few p = handing_programs_end_well true tree inputs turns few
+    (every_task true true tree inputs p (no_premise tree) (no_pointers tree)) (the_run true true tree inputs p (no_premise tree) (no_pointers tree))
 
 -- ---- regions that are kept
 
@@ -116,12 +134,16 @@ takes_alone tree e i h t same =
     (subst (λ form. takes_scalars form ≡ true) same (all_of (λ i. takes_scalars i.form) tree e i h)) in
     record { params = is.0; clauses = is.1 }
 
+no_pointer_among : (tree : Tree) → list_all (λ (i : ItemTree). has_no_pointer i.form) tree ≡ true → (i : ItemTree) → Has tree i → (t : TaskTree) → i.form ≡ task_item t →
+    HasNoPointer t
+no_pointer_among tree e i h t same = subst (λ form. has_no_pointer form ≡ true) same (all_of (λ i. has_no_pointer i.form) tree e i h)
+
 -- such programs are typed without regions that are handed over
 module _ (tree : Tree) (inputs : List ℤ) (p : IsKeptProgramRun tree inputs) where
   pub kept_tasks : AreTypedTasks tree
   kept_tasks k t at =
-      let task = every_task false tree inputs p.run (λ q. takes_alone tree p.kept) k t at in
+      let task = every_task false false tree inputs p.run (λ q. takes_alone tree p.kept) (λ q. no_pointer_among tree p.plain) k t at in
       record { given = task.given; typed = task.typed; small = task.small }
 
   pub kept_run : IsTypedRun call_forms tree inputs
-  kept_run = the_run false tree inputs p.run (λ q. takes_alone tree p.kept)
+  kept_run = the_run false false tree inputs p.run (λ q. takes_alone tree p.kept) (λ q. no_pointer_among tree p.plain)

@@ -1,5 +1,5 @@
 -- What an accepted program has whose tasks hand regions over by name: its field spaces and its tasks.
-use Rattle.std.proofs.Common.{◌≡◌, Bool, List, [], ◌∷◌, ◌++◌, Some, true, false, refl, ap, sym, subst, ◌∙◌, ℕ, zero, suc, ◌≤◌, ◌<◌, ◌+◌, inl, inr, arith, cond}
+use Rattle.std.proofs.Common.{◌≡◌, Bool, List, [], ◌∷◌, ◌++◌, None, Some, true, false, refl, ap, sym, subst, ◌∙◌, ℕ, zero, suc, ◌≤◌, ◌<◌, ◌+◌, inl, inr, arith, cond}
 use Rattle.std.specs.Prelude.{bytes_eq, get_or, length, map, slice_get, ◌||◌}
 use Rattle.std.specs.List.{list_any}
 use Rattle.std.proofs.lemmas.Bool.{and_parts, or_parts}
@@ -10,7 +10,7 @@ use Rattle.regent_tree.proofs.Members.{Contains-from_Has, Has, Has-append_left, 
 use Rattle.regent_tree.specs.Limits.{WithinLimits, counted, parts_of_item, parts_of_program}
 use Rattle.regent_tree.specs.Scopes.{bound_params, scope_of}
 use Rattle.regent_tree.specs.StaticTypes.{Looking, among_params, looked_up, place_in, place_of_space, space_at, spaces_of, task_named, type_said}
-use Rattle.regent_tree.specs.Syntax.{ItemForm, ItemTree, Name, TaskTree, Tree, alias_item, import_item, space_item, start_item, task_item}
+use Rattle.regent_tree.specs.Syntax.{Arms, Block, Expression, Form, ItemForm, ItemTree, Name, Otherwise, TaskTree, Tree, a_statement, alias_item, an_arm, do_form, else_block, for_in_form, for_to_form, if_form, import_item, no_arm, no_else, no_statement, plain_initializer, region_initializer, space_item, start_item, task_item, then_statement, var_form, while_form}
 use Rattle.regent_tree.specs.declared.limits.Counted.TheVariants.{Fields}
 use Rattle.regent_tree.specs.declared.program.FieldSpace.{FieldSpace}
 use Rattle.regent_tree.specs.declared.types.Param.{Param}
@@ -27,9 +27,9 @@ use Rattle.check_rules.specs.first.FirstInItems.{first_declared, first_line}
 use Rattle.check_rules.specs.rules.Repeats.{Given, given_by, repeats, repeats_after, repeats_within, was_given}
 use Rattle.check_rules.specs.scopes.Sound.{StandsIn}
 use Rattle.code_rules.specs.Instructions.{tasks_of}
-use Rattle.local_form.specs.LocalForm.{Marked, are_local_params, are_scalar_params, is_among, is_local_block, is_local_item, is_local_program, is_local_task, is_region_term, marked_by_task, marked_in, marked_params, unmarked, with_region}
+use Rattle.local_form.specs.LocalForm.{Marked, are_local_params, are_scalar_params, is_among, is_local_block, is_local_item, is_local_program, is_local_task, gives_pointer, gives_scalar, is_region_name, is_region_term, marked_by, marked_by_arms, marked_by_else, marked_by_task, marked_in, marked_params, unmarked, with_either, with_region}
 use Rattle.code_laws.specs.Simple.{IsScalar, a_region_type, scalar_truth}
-use Rattle.code_laws.proofs.LocalNames.{AllKept, AreScalars, AreTakable, IsAlone, IsKept, IsLocalTree, kept_region, kept_scalar}
+use Rattle.code_laws.proofs.LocalNames.{AllKept, AreScalars, AreTakable, IsAlone, IsKept, IsLocalTree, kept_before, kept_region, kept_scalar}
 use Rattle.code_laws.proofs.LocalTypes.{IsTakable, takable_region, takable_scalar, term_scalar}
 use Rattle.code_laws.proofs.Openings.{types_cons, types_in}
 use Rattle.code_laws.proofs.Entries.{all_of, found, kept_all, kept_item, no_clauses}
@@ -119,15 +119,19 @@ term_takable (term.Pointer p) e tree look own = absurd (no_way_back e)
 term_takable (term.Ispace k) e tree look own = absurd (no_way_back e)
 term_takable (term.Partition d r c) e tree look own = absurd (no_way_back e)
 
+-- a name among some is among more
+among_left : (ns more : List Name) (n : Name) → is_among ns n ≡ true → is_among (ns ++ more) n ≡ true
+among_left ns more n h =
+    let found = Has-from_list_any (λ k. bytes_eq k n) ns h in
+    list_any-from_Has (λ k. bytes_eq k n) (ns ++ more) found.0 (Has-append_left ns more found.0 found.1) found.2
+
 -- the marks of parameters
 marked_later : (ps : List Param) (m : Marked) (n : Name) → is_among m.regions n ≡ true → is_among (marked_params ps m).regions n ≡ true
 marked_later [] m n h = h
 marked_later (p ∷ ps) m n h = marked_later ps (cond (is_region_term p.term) (with_region p.name m) m) n (chosen (is_region_term p.term))
   where
     chosen : (b : Bool) → is_among (cond b (with_region p.name m) m).regions n ≡ true
-    chosen true =
-        let found = Has-from_list_any (λ k. bytes_eq k n) m.regions h in
-        list_any-from_Has (λ k. bytes_eq k n) (m.regions ++ p.name ∷ []) found.0 (Has-append_left m.regions (p.name ∷ []) found.0 found.1) found.2
+    chosen true = among_left m.regions (p.name ∷ []) n h
     chosen false = h
 
 marked_region : (ps : List Param) (m : Marked) (p : Param) → Has ps p → is_region_term p.term ≡ true → is_among (marked_params ps m).regions p.name ≡ true
@@ -140,33 +144,74 @@ marked_region (q ∷ ps) m p (inl same) e =
     (list_any-from_Has (λ k. bytes_eq k p.name) (m.regions ++ q.name ∷ []) q.name (Has-append_right m.regions (q.name ∷ []) q.name (inl refl))
     ((bytes_eq-Decides q.name p.name).1 (ap (λ (x : Param). x.name) same))))
 
-module _ (tree : Tree) (all : List Param) (m : Marked) where
+module _ (keeping : Bool) (tree : Tree) (all : List Param) (m : Marked) where
   -- a parameter is kept as what its mark says
-  param_kept : (p : Param) (i : ℕ) (t : TypeTerm) → p.term ≡ t → (is_scalar_term t || is_region_term t) ≡ true →
-      (is_region_term p.term ≡ true → is_among m.regions p.name ≡ true) → IsKept m p.name i (type_said tree (among_params all) i t)
-  param_kept p i (term.Region k u) same e marked =
+  param_kept : (bs : List Bound) (p : Param) (i : ℕ) (t : TypeTerm) → p.term ≡ t → (is_scalar_term t || is_region_term t) ≡ true →
+      (is_region_term p.term ≡ true → is_among m.regions p.name ≡ true) → IsKept keeping m bs p.name i (type_said tree (among_params all) i t)
+  param_kept bs p i (term.Region k u) same e marked =
       kept_region k (place_of_space tree u.name) (map (looked_up (among_params all)) u.args) (marked (ap is_region_term same))
-  param_kept p i (term.Number n) same e marked = kept_scalar _ (term_scalar (term.Number n) (left_alone _ e) tree (among_params all) i)
-  param_kept p i term.Truth same e marked = kept_scalar _ scalar_truth
-  param_kept p i (term.Pointer q) same e marked = absurd (no_way_back e)
-  param_kept p i (term.Ispace k) same e marked = absurd (no_way_back e)
-  param_kept p i (term.Partition d r c) same e marked = absurd (no_way_back e)
+  param_kept bs p i (term.Number n) same e marked = kept_scalar _ (term_scalar (term.Number n) (left_alone _ e) tree (among_params all) i)
+  param_kept bs p i term.Truth same e marked = kept_scalar _ scalar_truth
+  param_kept bs p i (term.Pointer q) same e marked = absurd (no_way_back e)
+  param_kept bs p i (term.Ispace k) same e marked = absurd (no_way_back e)
+  param_kept bs p i (term.Partition d r c) same e marked = absurd (no_way_back e)
 
-  kept_behind_all : (bs : List Bound) (b : Bound) → AllKept m bs → IsKept m b.name b.number b.static_type → AllKept m (bs ++ b ∷ [])
+  kept_behind_all : (bs : List Bound) (b : Bound) → AllKept keeping m bs → IsKept keeping m [] b.name b.number b.static_type → AllKept keeping m (bs ++ b ∷ [])
   kept_behind_all [] b a k = (k, tt)
-  kept_behind_all (c ∷ bs) b a k = (a.0, kept_behind_all bs b a.1 k)
+  kept_behind_all (c ∷ bs) b a k = (kept_before keeping m bs (b ∷ []) c.name c.number c.static_type a.0, kept_behind_all bs b a.1 k)
 
   pub params_kept : (i : ℕ) (ps : List Param) → are_local_params ps ≡ true →
-      ((p : Param) → Has ps p → is_region_term p.term ≡ true → is_among m.regions p.name ≡ true) → AllKept m (bound_params tree all i ps)
+      ((p : Param) → Has ps p → is_region_term p.term ≡ true → is_among m.regions p.name ≡ true) → AllKept keeping m (bound_params tree all i ps)
   params_kept i [] e marked = tt
   params_kept i (p ∷ ps) e marked =
       let both = and_parts (is_scalar_term p.term || is_region_term p.term) (are_local_params ps) e in
       kept_behind_all (bound_params tree all (suc i) ps) _ (params_kept (suc i) ps both.1 (λ q h. marked q (inr h)))
-      (param_kept p i p.term refl both.0 (marked p (inl refl)))
+      (param_kept [] p i p.term refl both.0 (marked p (inl refl)))
+
+-- what is marked as a region's name stays so
+either_regions : (b : Bool) (n : Name) (m : Marked) → (with_either b n m).regions ≡ m.regions
+either_regions true n m = refl
+either_regions false n m = refl
+
+module _ (n : Name) where
+  abbrev Region : Marked → Type 0
+  Region m = is_among m.regions n ≡ true
+
+  value_marks : (k : Name) (e : Expression) (m : Marked) → Region m → Region (marked_by (var_form k None (Some (plain_initializer e))) m)
+  value_marks k e m h = chosen (gives_scalar m e)
+    where
+      chosen : (b : Bool) → Region (cond b m (with_either (gives_pointer m e) k m))
+      chosen true = h
+      chosen false = subst (λ rs. is_among rs n ≡ true) (sym (either_regions (gives_pointer m e) k m)) h
+
+  mutual
+    marks_stay : (form : Form) (m : Marked) → Region m → Region (marked_by form m)
+    marks_stay (var_form k None (Some (plain_initializer e))) m h = value_marks k e m h
+    marks_stay (var_form k None (Some (region_initializer e u))) m h = among_left m.regions (k ∷ []) n h
+    marks_stay (if_form arms other) m h = marks_stay_else other (marked_by_arms arms m) (marks_stay_arms arms m h)
+    marks_stay (while_form test body) m h = marks_stay_in body m h
+    marks_stay (for_in_form demanded k domain body) m h =
+        marks_stay_in body (with_either (is_region_name m domain) k m) (subst (λ rs. is_among rs n ≡ true) (sym (either_regions (is_region_name m domain) k m)) h)
+    marks_stay (for_to_form demanded k from to body) m h = marks_stay_in body m h
+    marks_stay (do_form body) m h = marks_stay_in body m h
+    marks_stay _ m h = h
+
+    marks_stay_in : (b : Block) (m : Marked) → Region m → Region (marked_in b m)
+    marks_stay_in no_statement m h = h
+    marks_stay_in (then_statement (a_statement line form) rest) m h = marks_stay_in rest (marked_by form m) (marks_stay form m h)
+
+    marks_stay_arms : (arms : Arms) (m : Marked) → Region m → Region (marked_by_arms arms m)
+    marks_stay_arms no_arm m h = h
+    marks_stay_arms (an_arm test body rest) m h = marks_stay_arms rest (marked_in body m) (marks_stay_in body m h)
+
+    marks_stay_else : (other : Otherwise) (m : Marked) → Region m → Region (marked_by_else other m)
+    marks_stay_else no_else m h = h
+    marks_stay_else (else_block body) m h = marks_stay_in body m h
 
 -- so where a task begins
-pub begins_kept : (tree : Tree) (t : TaskTree) → are_local_params t.params ≡ true → AllKept (marked_by_task t) (scope_of tree t).names
-begins_kept tree t e = params_kept tree t.params (marked_by_task t) 0 t.params e (λ p h r. marked_region t.params (marked_in t.body unmarked) p h r)
+pub begins_kept : (keeping : Bool) (tree : Tree) (t : TaskTree) → are_local_params t.params ≡ true → AllKept keeping (marked_by_task t) (scope_of tree t).names
+begins_kept keeping tree t e = params_kept keeping tree t.params (marked_by_task t) 0 t.params e
+    (λ p h r. marks_stay_in p.name t.body (marked_params t.params unmarked) (marked_region t.params unmarked p h r))
 
 abbrev AllTakable : List Bound → Type 0
 AllTakable [] = Unit {0}

@@ -1,5 +1,5 @@
 -- Numbers, truths, indices and index spaces where nothing is told of their types.
-use Rattle.std.proofs.Common.{◌≡◌, Bool, List, false, true, refl, ap, sym, subst, map, ℕ, ◌∙◌, cond, not, inl, inr, ◌⊎◌, ⊎_elim}
+use Rattle.std.proofs.Common.{◌≡◌, Bool, List, false, true, refl, sym, subst, map, ℕ, not, inl, inr, ◌⊎◌, ⊎_elim}
 use Rattle.std.specs.Prelude.{◌||◌, ◌&&◌, ◌==◌}
 use Rattle.std.proofs.lemmas.Bool.{and_parts, eqb-true, not-false}
 use Rattle.regent_tree.specs.StaticTypes.{Looking, kind_said, type_said}
@@ -8,21 +8,18 @@ use Rattle.regent_tree.specs.Typing.{are_pointers, counting_as, operated, owned,
 use Rattle.regent_tree.specs.declared.expression.Arithmetic.{Arithmetic}
 use Rattle.regent_tree.specs.declared.expression.Comparison.{Comparison}
 use Rattle.regent_tree.specs.declared.expression.Comparison.TheVariants as comparison
-use Rattle.regent_tree.specs.declared.expression.Operator.{Operator}
 use Rattle.regent_tree.specs.declared.expression.Operator.TheVariants.{Compute}
 use Rattle.regent_tree.specs.declared.facts.Known.{Known}
 use Rattle.regent_tree.specs.declared.types.NumberTerm.TheVariants as number
 use Rattle.regent_tree.specs.declared.types.TypeTerm.{TypeTerm}
 use Rattle.regent_tree.specs.declared.types.TypeTerm.TheVariants as term
 use Rattle.regent_tree.specs.declared.typing.StaticType.{StaticType}
-use Rattle.regent_tree.specs.declared.typing.StaticType.TheVariants.{Region as region_type, Truth as truth_type, Unknown as unknown_type}
+use Rattle.regent_tree.specs.declared.typing.StaticType.TheVariants.{Region as region_type, Truth as truth_type}
 use Rattle.check_rules.specs.rules.Standing.{param_spot, stands}
-use Rattle.check_rules.specs.rules.Types.{compares_with, computes_with, has_equality_with, has_order_with, may_stand, operates_on}
+use Rattle.check_rules.specs.rules.Types.{compares_with, computes_with, has_equality_with, has_order_with, may_stand}
 use Rattle.check_rules.specs.rules.Spaces.{differs}
 use Rattle.check_rules.specs.types.Fitting.{fits, is_region_like}
-use Rattle.check_rules.specs.types.KnownTypes.{known_type_after_operator}
 use Rattle.check_rules.specs.types.Sorts.{is_integer, is_number, is_partition, is_region, is_space, is_truth, is_unknown_type, may_be, same_kind}
-use Rattle.check_rules.specs.types.TypedForms.{computing}
 use Rattle.code_laws.specs.Simple.{AreAlike, AreComparable, AreRegions, FieldFits, IsInteger, IsNumber, IsRegion, IsScalar, IsSimple, IsSpace, IsTruth, a_region_type, a_space_type, a_truth_type, an_integer, compare_numbers, compare_truths, fits_32, fits_64, fits_truth, number_index, number_integer, scalar_integer, scalar_truth, simple_index, simple_integer, simple_space, simple_truth, two_integers, two_regions, two_truths}
 use Rattle.scalar_form.specs.ScalarForm.{is_scalar_term}
 use Rattle.code_laws.proofs.Typing.{no_way, no_way_back}
@@ -165,7 +162,7 @@ term_fits (term.Partition d r c) e tree look own = absurd (no_way_back e)
 
 -- ---- operators
 
-pub simple_truths : (t u : StaticType) → IsSimple t → IsSimple u → (may_be is_truth t && may_be is_truth u) ≡ true → IsTruth t × IsTruth u
+simple_truths : (t u : StaticType) → IsSimple t → IsSimple u → (may_be is_truth t && may_be is_truth u) ≡ true → IsTruth t × IsTruth u
 simple_truths t u a b e =
     let p = and_parts (may_be is_truth t) (may_be is_truth u) e in
     (simple_as_truth t a p.0, simple_as_truth u b p.1)
@@ -225,10 +222,3 @@ two_scalar o _ _ (an_integer v) (an_integer w) = scalar_integer _
 
 pub operated_number : (o : Arithmetic) (t u : StaticType) → IsNumber t → IsNumber u → IsScalar t → IsScalar u → IsScalar (operated (Compute o) t u)
 operated_number o t u a b x y = two_scalar o t u (scalar_number t x a) (scalar_number u y b)
-
-pub simple_after : (o : Operator) (t u : StaticType) → IsSimple t → IsSimple u → operates_on o t u ≡ true →
-    known_type_after_operator (computing o t u) ≡ operated o t u
-simple_after o t u a b e =
-    ap (λ c. cond (c || is_unknown_type u || not (operates_on o t u)) unknown_type (operated o t u)) (simple_known t a)
-    ∙ ap (λ c. cond (c || not (operates_on o t u)) unknown_type (operated o t u)) (simple_known u b)
-    ∙ ap (λ c. cond (not c) unknown_type (operated o t u)) e

@@ -1,6 +1,6 @@
 -- A program over scalars is of the form whose tasks hand regions over by name, since it has none; no name in it is marked.
 use Rattle.std.proofs.Common.{◌≡◌, ◌∙◌, Bool, List, [], ◌∷◌, None, Option, Some, true, false, refl, ap, subst, sym}
-use Rattle.std.specs.Prelude.{cond, ◌&&◌, ◌||◌, ◌==◌}
+use Rattle.std.specs.Prelude.{cond, not, ◌&&◌, ◌||◌, ◌==◌}
 use Rattle.std.specs.List.{list_all}
 use Rattle.std.proofs.lemmas.Bool.{and_parts}
 use Rattle.regent_tree.specs.Limits.{tasks_in}
@@ -11,8 +11,8 @@ use Rattle.regent_tree.specs.declared.statement.How.TheVariants as how
 use Rattle.regent_tree.specs.declared.types.Param.{Param}
 use Rattle.regent_tree.specs.declared.types.TypeTerm.{TypeTerm}
 use Rattle.regent_tree.specs.declared.types.TypeTerm.TheVariants as term
-use Rattle.local_form.specs.LocalForm.{Marked, are_local_arms, are_local_expressions, are_local_links, are_local_params, are_scalar_params, gives_scalar, is_local_block, is_local_else, is_local_expression, is_local_form, is_local_item, is_local_program, is_local_task, is_region_term, links_give, marked_by, marked_by_arms, marked_by_else, marked_by_task, marked_in, marked_params, unmarked, with_index, with_region}
-use Rattle.code_laws.specs.LocalPrograms.{takes_scalars}
+use Rattle.local_form.specs.LocalForm.{Marked, gives_pointer, keeps_pointer, is_name, with_either, are_local_arms, are_local_expressions, are_local_links, are_local_params, are_scalar_params, gives_scalar, is_local_block, is_local_else, is_local_expression, is_local_form, is_local_item, is_local_program, is_local_task, is_region_term, links_give, marked_by, marked_by_arms, marked_by_else, marked_by_task, marked_in, marked_params, unmarked, with_region}
+use Rattle.code_laws.specs.LocalPrograms.{has_no_pointer, takes_scalars}
 use Rattle.code_laws.proofs.Typing.{no_way_back}
 use Rattle.scalar_form.specs.ScalarForm.{are_scalar_arms, are_scalar_expressions, are_scalar_links, is_empty, is_scalar_block, is_scalar_else, is_scalar_expression, is_scalar_form, is_scalar_if_said, is_scalar_item, is_scalar_number, is_scalar_program, is_scalar_task, is_scalar_term}
 
@@ -74,6 +74,23 @@ expressions_local (an_expr e es) sc =
 
 -- ---- statements
 
+-- no name stands for a pointer
+none_points : (e : Expression) → gives_pointer unmarked e ≡ false
+none_points (access_expr n no_step) = refl
+none_points (chain_expr first no_link) = none_points first
+none_points (chain_expr first (a_link _ _ _)) = refl
+none_points (access_expr n (field_step _ _)) = refl
+none_points (access_expr n (at_step _ _)) = refl
+none_points (number_expr _ _) = refl
+none_points (truth_expr _) = refl
+none_points (prefix_expr _ _) = refl
+none_points (call_expr _ _) = refl
+none_points (convert_expr _ _) = refl
+none_points (is_null_expr _) = refl
+none_points (null_expr _) = refl
+none_points (cast_expr _ _) = refl
+none_points (space_expr _ _) = refl
+
 -- a statement is such, and marks no name
 abbrev IsLocalForm : Form → Type 0
 IsLocalForm form = (is_local_form unmarked form ≡ true) × (marked_by form unmarked ≡ unmarked)
@@ -83,8 +100,9 @@ var_local n None None sc = (refl, refl)
 var_local n (Some t) None sc = ((and_parts (is_scalar_term t) true sc).0, refl)
 var_local n None (Some (plain_initializer e)) sc =
     let a = expression_local e sc in (
-      ap (λ b. (b || false) && is_local_expression unmarked e) a.1 ∙ a.0,
-      ap (λ b. cond b unmarked (with_index n unmarked)) a.1,
+      ap (λ b. (b || false) && (keeps_pointer unmarked n e && is_local_expression unmarked e)) a.1
+          ∙ ap (λ b. (not b || (is_name e && false)) && is_local_expression unmarked e) (none_points e) ∙ a.0,
+      ap (λ b. cond b unmarked (with_either (gives_pointer unmarked e) n unmarked)) a.1,
     )
 var_local n (Some t) (Some (plain_initializer e)) sc =
     let s = and_parts (is_scalar_term t) (is_scalar_expression e) sc in
@@ -195,11 +213,14 @@ params_local (p ∷ ps) e =
     let both = and_parts (is_scalar_term p.term) (are_scalar_params ps) e in
     both_true (is_scalar_term p.term || is_region_term p.term) (are_local_params ps) (ap (λ b. b || is_region_term p.term) both.0) (params_local ps both.1)
 
+scalar_marks : (t : TaskTree) → IsScalarTask t → marked_by_task t ≡ unmarked
+scalar_marks t s = ap (marked_in t.body) (none_marked t.params unmarked s.params) ∙ (block_local t.body s.body).1
+
 task_is_local : (t : TaskTree) → is_scalar_task t ≡ true → is_local_task t ≡ true
 task_is_local t e =
     let s = scalar_task t e in
     let b = block_local t.body s.body in
-    let marks : marked_by_task t ≡ unmarked = ap (marked_params t.params) b.1 ∙ none_marked t.params unmarked s.params in
+    let marks = scalar_marks t s in
     both_true (are_local_params t.params) _ (params_local t.params s.params) (both_true (is_scalar_if_said t.result) _ s.result
     (subst (λ m. is_local_block m t.body ≡ true) (sym marks) b.0))
 
@@ -228,6 +249,22 @@ items_take : (tree : Tree) → list_all (λ (i : ItemTree). is_scalar_item i.for
 items_take [] e = refl
 items_take (i ∷ items) e =
     let s = and_parts (is_scalar_item i.form) _ e in both_true (takes_scalars i.form) _ (item_takes i.form s.0) (items_take items s.1)
+
+-- and keep no pointers
+item_keeps_none : (i : ItemForm) → is_scalar_item i ≡ true → has_no_pointer i ≡ true
+item_keeps_none import_item e = refl
+item_keeps_none (alias_item n) e = refl
+item_keeps_none (start_item n) e = refl
+item_keeps_none (space_item s) e = absurd (no_way_back e)
+item_keeps_none (task_item t) e = ap (λ (m : Marked). is_empty m.pointers) (scalar_marks t (scalar_task t e))
+
+items_keep_none : (tree : Tree) → list_all (λ (i : ItemTree). is_scalar_item i.form) tree ≡ true → list_all (λ (i : ItemTree). has_no_pointer i.form) tree ≡ true
+items_keep_none [] e = refl
+items_keep_none (i ∷ items) e =
+    let s = and_parts (is_scalar_item i.form) _ e in both_true (has_no_pointer i.form) _ (item_keeps_none i.form s.0) (items_keep_none items s.1)
+
+pub scalar_plain : (tree : Tree) → is_scalar_program tree ≡ true → list_all (λ (i : ItemTree). has_no_pointer i.form) tree ≡ true
+scalar_plain tree e = items_keep_none tree (and_parts (list_all (λ (i : ItemTree). is_scalar_item i.form) tree) (tasks_in tree == 1) e).0
 
 pub scalar_takes : (tree : Tree) → is_scalar_program tree ≡ true → list_all (λ (i : ItemTree). takes_scalars i.form) tree ≡ true
 scalar_takes tree e = items_take tree (and_parts (list_all (λ (i : ItemTree). is_scalar_item i.form) tree) (tasks_in tree == 1) e).0

@@ -12,7 +12,7 @@ use Rattle.code_laws.specs.ScalarPrograms.{IsScalarProgramRun, ScalarProgramsLea
 use Rattle.check_laws.proofs.Entries.{begins}
 use Rattle.code_laws.proofs.Entries.{all_of, found}
 use Rattle.code_laws.proofs.LocalRuns.{kept_run}
-use Rattle.code_laws.proofs.ScalarLocal.{scalar_local, scalar_takes, scalar_task}
+use Rattle.code_laws.proofs.ScalarLocal.{scalar_local, scalar_plain, scalar_takes, scalar_task}
 use Rattle.code_laws.proofs.ScalarTyped.{scalar_block}
 use Rattle.code_laws.proofs.Top.{scalars_leave_no_roots, scalars_run_as_meant}
 use Rattle.scalar_form.specs.ScalarForm.{is_scalar_item}
@@ -29,6 +29,7 @@ scalar_run tree inputs p =
     let run = kept_run tree inputs (record {
       run = record { within = p.within; accepted = p.accepted; local = scalar_local tree p.scalar; numbers = p.numbers };
       kept = scalar_takes tree p.scalar;
+      plain = scalar_plain tree p.scalar;
     }) in record {
       start = run.start;
       needs = run.needs;

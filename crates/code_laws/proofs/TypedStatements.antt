@@ -43,9 +43,9 @@ use Rattle.check_rules.specs.types.KnownTypes.{known_types}
 use Rattle.check_rules.specs.types.Sorts.{may_be, is_partition}
 use Rattle.check_rules.specs.declared.rule.Rule.TheVariants as rule
 use Rattle.check_rules.proofs.Untold.{rule_none}
-use Rattle.code_laws.specs.Simple.{AreAlike, IsInteger, IsScalar, IsSimple, an_integer, scalar_integer, scalar_truth}
+use Rattle.code_laws.specs.Simple.{AreAlike, IsInteger, IsScalar, an_integer, scalar_integer, scalar_truth}
 use Rattle.scalar_form.specs.ScalarForm.{is_scalar_if_said, is_scalar_term}
-use Rattle.code_laws.proofs.LocalTypes.{simple_fitting}
+use Rattle.code_laws.proofs.LocalValues.{IsValue, value_fitting}
 use Rattle.code_laws.proofs.Typing.{no_way, no_way_back}
 
 pub sum_scalar : (t u : StaticType) → IsInteger t → IsInteger u → IsScalar (arithmetic_type t u)
@@ -146,26 +146,26 @@ counted n None e = absurd (no_way_back e)
 counted n (Some m) e = ap Some (sym (eqb-true n m e))
 
 -- a declared type and what fits it
-pub declared_fits : (tree : Tree) (s : Scope) (t : TypeTerm) (from : StaticType) → is_scalar_term t ≡ true → IsSimple from →
+pub declared_fits : (keeping : Bool) (bs : List Bound) (tree : Tree) (s : Scope) (t : TypeTerm) (from : StaticType) → is_scalar_term t ≡ true → IsValue keeping bs from →
     fits s.known from (declared_type tree s t) ≡ true → AreAlike from (type_said tree (in_scope s) s.next t)
-declared_fits tree s (term.Number number.Int32) from sc scalar e = simple_fitting s.known from (integer_type W32) scalar (scalar_integer W32) e
-declared_fits tree s (term.Number number.Int64) from sc scalar e = simple_fitting s.known from (integer_type W64) scalar (scalar_integer W64) e
-declared_fits tree s (term.Number (number.Index k)) from sc scalar e = absurd (no_way_back sc)
-declared_fits tree s term.Truth from sc scalar e = simple_fitting s.known from truth_type scalar scalar_truth e
-declared_fits tree s (term.Pointer p) from sc scalar e = absurd (no_way_back sc)
-declared_fits tree s (term.Ispace k) from sc scalar e = absurd (no_way_back sc)
-declared_fits tree s (term.Region k u) from sc scalar e = absurd (no_way_back sc)
-declared_fits tree s (term.Partition d r c) from sc scalar e = absurd (no_way_back sc)
+declared_fits keeping bs tree s (term.Number number.Int32) from sc scalar e = value_fitting keeping bs s.known from (integer_type W32) scalar (scalar_integer W32) e
+declared_fits keeping bs tree s (term.Number number.Int64) from sc scalar e = value_fitting keeping bs s.known from (integer_type W64) scalar (scalar_integer W64) e
+declared_fits keeping bs tree s (term.Number (number.Index k)) from sc scalar e = absurd (no_way_back sc)
+declared_fits keeping bs tree s term.Truth from sc scalar e = value_fitting keeping bs s.known from truth_type scalar scalar_truth e
+declared_fits keeping bs tree s (term.Pointer p) from sc scalar e = absurd (no_way_back sc)
+declared_fits keeping bs tree s (term.Ispace k) from sc scalar e = absurd (no_way_back sc)
+declared_fits keeping bs tree s (term.Region k u) from sc scalar e = absurd (no_way_back sc)
+declared_fits keeping bs tree s (term.Partition d r c) from sc scalar e = absurd (no_way_back sc)
 
 -- a declared result and what fits it
-pub result_fits : (tree : Tree) (known : List Known) (r : Option TypeTerm) (from : StaticType) → is_scalar_if_said r ≡ true → is_none r ≡ false →
-    IsSimple from → fits known from (known_result tree r) ≡ true → AreAlike from (result_type tree r)
-result_fits tree known None from sc some scalar e = absurd (no_way some)
-result_fits tree known (Some (term.Number number.Int32)) from sc some scalar e = simple_fitting known from (integer_type W32) scalar (scalar_integer W32) e
-result_fits tree known (Some (term.Number number.Int64)) from sc some scalar e = simple_fitting known from (integer_type W64) scalar (scalar_integer W64) e
-result_fits tree known (Some (term.Number (number.Index k))) from sc some scalar e = absurd (no_way_back sc)
-result_fits tree known (Some term.Truth) from sc some scalar e = simple_fitting known from truth_type scalar scalar_truth e
-result_fits tree known (Some (term.Pointer p)) from sc some scalar e = absurd (no_way_back sc)
-result_fits tree known (Some (term.Ispace k)) from sc some scalar e = absurd (no_way_back sc)
-result_fits tree known (Some (term.Region k u)) from sc some scalar e = absurd (no_way_back sc)
-result_fits tree known (Some (term.Partition d r c)) from sc some scalar e = absurd (no_way_back sc)
+pub result_fits : (keeping : Bool) (bs : List Bound) (tree : Tree) (known : List Known) (r : Option TypeTerm) (from : StaticType) → is_scalar_if_said r ≡ true → is_none r ≡ false →
+    IsValue keeping bs from → fits known from (known_result tree r) ≡ true → AreAlike from (result_type tree r)
+result_fits keeping bs tree known None from sc some scalar e = absurd (no_way some)
+result_fits keeping bs tree known (Some (term.Number number.Int32)) from sc some scalar e = value_fitting keeping bs known from (integer_type W32) scalar (scalar_integer W32) e
+result_fits keeping bs tree known (Some (term.Number number.Int64)) from sc some scalar e = value_fitting keeping bs known from (integer_type W64) scalar (scalar_integer W64) e
+result_fits keeping bs tree known (Some (term.Number (number.Index k))) from sc some scalar e = absurd (no_way_back sc)
+result_fits keeping bs tree known (Some term.Truth) from sc some scalar e = value_fitting keeping bs known from truth_type scalar scalar_truth e
+result_fits keeping bs tree known (Some (term.Pointer p)) from sc some scalar e = absurd (no_way_back sc)
+result_fits keeping bs tree known (Some (term.Ispace k)) from sc some scalar e = absurd (no_way_back sc)
+result_fits keeping bs tree known (Some (term.Region k u)) from sc some scalar e = absurd (no_way_back sc)
+result_fits keeping bs tree known (Some (term.Partition d r c)) from sc some scalar e = absurd (no_way_back sc)

@@ -11,7 +11,7 @@ use Rattle.run_report.specs.Dumps.{fits_spaces}
 use Rattle.check_rules.specs.Acceptance.{input_widths}
 use Rattle.check_rules.specs.Breaches.{breaches}
 use Rattle.scalar_form.specs.ScalarForm.{is_empty}
-use Rattle.local_form.specs.LocalForm.{are_scalar_params, is_local_program}
+use Rattle.local_form.specs.LocalForm.{are_scalar_params, is_local_program, marked_by_task}
 use Rattle.code_laws.specs.Programs.{RunsAsMeant}
 use Rattle.code_laws.specs.ScalarPrograms.{AreInputs}
 
@@ -48,7 +48,13 @@ abbrev pub takes_scalars : ItemForm → Bool
 takes_scalars (task_item t) = are_scalar_params t.params && is_empty t.clauses
 takes_scalars item = true
 
--- such a program whose tasks keep their regions to themselves
+-- a task has no name that may stand for a pointer: none of its loops goes over a region
+abbrev pub has_no_pointer : ItemForm → Bool
+has_no_pointer (task_item t) = is_empty (marked_by_task t).pointers
+has_no_pointer item = true
+
+-- such a program whose tasks keep their regions to themselves, and have no pointers
 pub record IsKeptProgramRun (tree : Tree) (inputs : List ℤ) : Type 0 where
   pub run : IsLocalProgramRun tree inputs
   pub kept : list_all (λ (i : ItemTree). takes_scalars i.form) tree ≡ true
+  pub plain : list_all (λ (i : ItemTree). has_no_pointer i.form) tree ≡ true

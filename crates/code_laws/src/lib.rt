@@ -81,7 +81,8 @@ pub fn scalar_programs_leave_no_roots()
 {}
 
 /// So it is for each accepted program whose tasks hand regions over by name: each takes numbers, truths and regions, with
-/// privileges and constraints on them, and gives a number or truth, or nothing. Nothing is supposed of types.
+/// privileges and constraints on them, and gives a number or truth, or nothing; it may loop over its regions, and take
+/// fields of the pointers that it gets so. Nothing is supposed of types.
 #[tactic(auto, using(crate::proofs::LocalRuns::accepted_programs_run_as_meant))]
 pub fn accepted_programs_run_as_meant()
     ensures { AcceptedProgramsRunAsMeant }

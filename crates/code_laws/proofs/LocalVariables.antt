@@ -1,0 +1,187 @@
+-- Variables in a text with marked names, of which no breach is told, are typed.
+use Rattle.std.proofs.Common.{◌⊎◌, inr, ◌≡◌, Bool, [], ◌∷◌, ◌++◌, None, Option, Some, false, true, ap, sym, subst, ℕ, ◌∙◌, not, refl, ⊎_elim}
+use Rattle.std.specs.Prelude.{bytes_eq, map, ◌||◌, ◌&&◌}
+use Rattle.std.proofs.lemmas.Bool.{and_parts, not-false, or_parts}
+use Rattle.plain_values.proofs.Plain.{option_or_parts}
+use Rattle.regent_tree.specs.Limits.{parts_of_expression, parts_of_form, parts_of_type}
+use Rattle.regent_tree.specs.Lookup.{has_space, type_named}
+use Rattle.regent_tree.specs.Scopes.{Scope, bound_to, in_scope, known_of_type}
+use Rattle.regent_tree.specs.StaticTypes.{looked_up, place_of_space, spaces_of}
+use Rattle.regent_tree.specs.Syntax.{Expression, Initializer, Name, TaskTree, Tree, plain_initializer, region_initializer, var_form}
+use Rattle.regent_tree.specs.Typing.{kind_of_ispace, known_of_child, owned, result_type, scope_after, type_of, var_type}
+use Rattle.regent_tree.specs.declared.facts.Term.TheVariants as place
+use Rattle.regent_tree.specs.declared.program.FieldSpace.{FieldSpace}
+use Rattle.regent_tree.specs.declared.types.Kind.TheVariants.{Int1d}
+use Rattle.regent_tree.specs.declared.types.SpaceUse.{SpaceUse}
+use Rattle.regent_tree.specs.declared.types.TypeTerm.{TypeTerm}
+use Rattle.regent_tree.specs.declared.types.TypeTerm.TheVariants as term
+use Rattle.regent_tree.specs.declared.typing.StaticType.{StaticType}
+use Rattle.check_laws.proofs.Blocks.{head_known}
+use Rattle.check_laws.proofs.Parts.{unless_false}
+use Rattle.check_laws.proofs.Variables.{begun_sound, parts_of_form as told_of_form}
+use Rattle.check_laws.specs.SoundScopes.{IsSoundScope, Falls}
+use Rattle.check_rules.specs.declared.rule.Rule.TheVariants as rule
+use Rattle.check_rules.proofs.Untold.{rule_none}
+use Rattle.check_rules.specs.first.FirstInExpressions.{first_in_expression, first_in_type}
+use Rattle.check_rules.specs.first.FirstInStatements.{first_of_form, first_of_initializer}
+use Rattle.check_rules.specs.first.Rules.{first_in, rule_if}
+use Rattle.check_rules.specs.rules.Names.{unbound_name_in_type}
+use Rattle.check_rules.specs.rules.Standing.{Spot, space_spot, stands, typed_spot}
+use Rattle.check_rules.specs.rules.Types.{may_stand}
+use Rattle.check_rules.specs.scopes.Sound.{IsSound, IsSoundTask}
+use Rattle.check_rules.specs.scopes.Variables.{declared_type, is_flawed_initializer, known_initializer}
+use Rattle.check_rules.specs.types.Fitting.{fits}
+use Rattle.check_rules.specs.types.KnownTypes.{known_type}
+use Rattle.code_rules.specs.Slots.{Where, typed}
+use Rattle.local_form.specs.LocalForm.{Marked, gives_scalar, is_among, is_local_expression, is_local_form, gives_pointer, is_name, keeps_pointer}
+use Rattle.code_laws.specs.Handing.{forms_by, takes_by}
+use Rattle.code_laws.specs.Simple.{IsScalar, IsSimple}
+use Rattle.code_laws.specs.Steps.{Forms}
+use Rattle.code_laws.specs.Taking.{IsFresh}
+use Rattle.code_laws.specs.Typed.{IsTypedForm, IsKeepable, IsPointing}
+use Rattle.code_laws.proofs.KnownHeads.{IsReady, KnowsHead, head_made, head_named}
+use Rattle.code_laws.proofs.LocalPoints.{IsWell}
+use Rattle.code_laws.proofs.LocalExpressions.{local_well}
+use Rattle.code_laws.proofs.LocalNames.{IsKept, IsLocalTree, first_below, kept_region, kept_scalar, named_kept, no_kept_partition, kept_value}
+use Rattle.code_laws.proofs.LocalTypes.{either, term_scalar}
+use Rattle.code_laws.proofs.TypedStatements.{HasNoPartition, declared_fits, first_stands, initial_told}
+use Rattle.code_laws.proofs.Typing.{AreKept, kept_right, no_way, no_way_back}
+use Rattle.code_laws.proofs.Values.{scalar_simple}
+use Rattle.scalar_form.specs.ScalarForm.{is_scalar_if_said, is_scalar_term}
+use Rattle.code_laws.proofs.LocalValues.{IsValue, alike_begins, owned_value, simple_keepable, simple_no_pointer, value_pointer, value_simple, value_space, value_tells}
+use Rattle.code_laws.specs.Pointers.{IsPointer, a_pointer_type}
+use Rattle.code_laws.proofs.LocalParts.{named_alone}
+
+-- ---- a name's pointer
+
+points_by_name : (w : Where) (e : Expression) → Falls w.scope.next w.scope.names → is_name e ≡ true → IsPointing w e
+points_by_name w e falls h = let n = named_alone e h in subst (IsPointing w) (sym n.1) falls
+
+value_keepable : (b : Bool) (w : Where) (e : Expression) (t : StaticType) → typed w e ≡ t → Falls w.scope.next w.scope.names → is_name e ≡ true →
+    IsValue b w.scope.names t → IsKeepable b w e
+value_keepable b w e t same falls h (value_simple _ a) = simple_keepable b w e (subst IsSimple (sym same) a)
+value_keepable false w e _ same falls h (value_pointer k sp args i q r) = absurd (no_way_back q)
+value_keepable true w e _ same falls h (value_pointer k sp args i q r) =
+    inr (subst IsPointer (sym same) (a_pointer_type k sp args _ tt), points_by_name w e falls h)
+
+module _ (handing keeping : Bool) (tree : Tree) (task : TaskTree) (sound : IsSound tree) (sound_task : IsSoundTask tree task) (local : IsLocalTree handing tree)
+    (m : Marked) (params : ℕ) (result : is_scalar_if_said task.result ≡ true) where
+  abbrev pub forms : Forms
+  forms = forms_by handing keeping tree task
+
+  abbrev Ready : Scope → Type 0
+  Ready s = IsReady keeping tree task m s
+
+  -- a place of the body, on a line
+  abbrev pub at : Scope → ℕ → Where
+  at s line = record { tree = tree; scope = s; result = result_type tree task.result; params = params; line = line }
+
+  -- the head of a statement, told in a scope
+  pub headed : (s : Scope) (line : ℕ) (e : Expression) → is_local_expression m e ≡ true → AreKept (parts_of_expression e) →
+      (scope : IsSoundScope s) (ready : Ready s) → first_in_expression tree task s e ≡ None →
+      IsWell handing keeping task (at s line) sound sound_task local m scope ready.names ready.head e
+  headed s line e lo k scope ready told = local_well handing keeping task (at s line) sound sound_task local m scope ready.names ready.head e lo k told
+
+  -- what stands somewhere, by the meaning's type
+  pub stands_as : (s : Scope) (e : Expression) (p : Spot) → IsSoundScope s → first_in_expression tree task s e ≡ None →
+      may_stand s.known (stands (known_type tree s e) p) ≡ true → may_stand s.known (stands (type_of tree s e) p) ≡ true
+  stands_as s e p scope told may = subst (λ t. may_stand s.known (stands t p) ≡ true) (head_known tree task sound s scope e told).1 may
+
+  no_partitions : (s : Scope) → Ready s → HasNoPartition s.names
+  no_partitions s names n h = no_kept_partition keeping m s.names n (bound_to s.names n).number (type_named s.names n) (named_kept keeping m s.names n names.names h)
+
+  -- ---- variables
+
+  -- a variable, and what its name stands for
+  abbrev pub VarTyped : Scope → ℕ → Name → Option TypeTerm → Option Initializer → Type 0
+  VarTyped s line n t i = IsTypedForm forms (at s line) (var_form n t i) × IsKept keeping m s.names n s.next (var_type tree s t i)
+      × KnowsHead tree task (scope_after tree s (var_form n t i))
+
+  -- a variable begins with no pointer, or with a name's
+  begins_plainly : (s : Scope) (line : ℕ) (n : Name) (y : Expression) (points : Bool) → gives_pointer m y ≡ points → (gives_scalar m y ≡ true) ⊎ (is_among m.indices n ≡ true) →
+      keeps_pointer m n y ≡ true → (scope : IsSoundScope s) (ready : Ready s) →
+      IsWell handing keeping task (at s line) sound sound_task local m scope ready.names ready.head y →
+      IsKeepable keeping (at s line) y × IsKept keeping m s.names n s.next (type_of tree s y)
+  begins_plainly s line n y false none marked keeps scope ready a =
+      let simple = a.plain none in (
+        simple_keepable keeping (at s line) y simple,
+        ⊎_elim (λ h. kept_scalar (type_of tree s y) (a.scalar h))
+            (λ h. kept_value (type_of tree s y) (value_simple (type_of tree s y) simple) h (λ p. absurd (no_way (sym p ∙ simple_no_pointer (type_of tree s y) simple)))) marked,
+      )
+  begins_plainly s line n y true some marked keeps scope ready a =
+      let copy = and_parts (is_name y) (is_among m.pointers n) (subst (λ b. (not b || (is_name y && is_among m.pointers n)) ≡ true) some keeps) in (
+        value_keepable keeping (at s line) y (type_of tree s y) refl scope.numbers copy.0 a.value,
+        ⊎_elim (λ h. kept_scalar (type_of tree s y) (a.scalar h)) (λ h. kept_value (type_of tree s y) a.value h (λ p. copy.1)) marked,
+      )
+
+  pub plain_local : (s : Scope) (line : ℕ) (n : Name) (y : Expression) → is_local_form m (var_form n None (Some (plain_initializer y))) ≡ true →
+      AreKept (parts_of_expression y) → IsSoundScope s → Ready s →
+      first_of_form tree task s (var_form n None (Some (plain_initializer y))) ≡ None → VarTyped s line n None (Some (plain_initializer y))
+  plain_local s line n y lo k scope names e =
+      let both = and_parts (gives_scalar m y || is_among m.indices n) (keeps_pointer m n y && is_local_expression m y) lo in
+      let own = and_parts (keeps_pointer m n y) (is_local_expression m y) both.1 in
+      let told = initial_told tree task s (no_partitions s names) y (told_of_form tree task s sound scope (var_form n None (Some (plain_initializer y))) e).2 in
+      let a = headed s line y own.1 k scope names told in
+      let from = type_of tree s y in
+      let marked = either (gives_scalar m y) (is_among m.indices n) both.0 in
+      let begun = begins_plainly s line n y (gives_pointer m y) refl marked own.0 scope names a in
+      let none = value_tells keeping s.names s.next from a.value in (
+        (begun.0, a.is),
+        subst (IsKept keeping m s.names n s.next) (sym (owned_value keeping s.names s.next from a.value)) begun.1,
+        head_named tree task s n (owned s.next from) (known_of_child s.next from ++ known_of_type (owned s.next from)) names.head
+            (ap (λ ks. ks ++ known_of_type (owned s.next from)) none.0 ∙ none.1),
+      )
+
+  pub said_local : (s : Scope) (line : ℕ) (n : Name) (t : TypeTerm) (y : Expression) → is_local_form m (var_form n (Some t) (Some (plain_initializer y))) ≡ true →
+      AreKept (parts_of_form (var_form n (Some t) (Some (plain_initializer y)))) → IsSoundScope s → Ready s →
+      first_of_form tree task s (var_form n (Some t) (Some (plain_initializer y))) ≡ None → VarTyped s line n (Some t) (Some (plain_initializer y))
+  said_local s line n t y lo k scope names e =
+      let both = and_parts (is_scalar_term t) (is_local_expression m y) lo in
+      let parts = told_of_form tree task s sound scope (var_form n (Some t) (Some (plain_initializer y))) e in
+      let told = initial_told tree task s (no_partitions s names) y parts.2 in
+      let a = headed s line y both.1 (kept_right (parts_of_type (Some t)) (parts_of_expression y) k) scope names told in
+      let from = type_of tree s y in
+      let begun : known_initializer tree s (plain_initializer y) ≡ from =
+      unless_false (is_flawed_initializer tree s (plain_initializer y)) (owned s.next from)
+      (begun_sound tree task s sound scope n (Some t) (plain_initializer y) e).0 ∙ owned_value keeping s.names s.next from a.value in
+      let fit = (first_stands s.known (stands (known_initializer tree s (plain_initializer y)) (typed_spot (declared_type tree s t))) [] parts.4).0 in
+      let alike = declared_fits keeping s.names tree s t from both.0 a.value (ap (λ u. fits s.known u (declared_type tree s t)) (sym begun) ∙ fit) in
+      let wanted = var_type tree s (Some t) (Some (plain_initializer y)) in
+      let scalar : IsScalar wanted = term_scalar t both.0 tree (in_scope s) s.next in
+      let none = value_tells keeping s.names s.next wanted (value_simple wanted (scalar_simple wanted scalar)) in (
+        (alike_begins keeping s.names from wanted alike, a.is),
+        kept_scalar _ scalar,
+        head_named tree task s n wanted (known_of_child s.next from ++ known_of_type wanted) names.head
+            (ap (λ ks. ks ++ known_of_type wanted) (value_tells keeping s.names s.next from a.value).0 ∙ none.2),
+      )
+
+  -- what is made is named behind the parameters
+  fresh : (b : Bool) (s : Scope) → KnowsHead tree task s → IsFresh (takes_by b tree task) (place.Name s.next)
+  fresh false s h = tt
+  fresh true s h = h.next
+
+  pub region_local : (s : Scope) (line : ℕ) (n : Name) (y : Expression) (u : SpaceUse) → is_local_form m (var_form n None (Some (region_initializer y u))) ≡ true →
+      AreKept (parts_of_expression y) → IsSoundScope s → Ready s →
+      first_of_form tree task s (var_form n None (Some (region_initializer y u))) ≡ None → VarTyped s line n None (Some (region_initializer y u))
+  region_local s line n y u lo k scope names e =
+      let both = and_parts (is_among m.regions n) (is_local_expression m y) lo in
+      let parts = told_of_form tree task s sound scope (var_form n None (Some (region_initializer y u))) e in
+      let told = (option_or_parts (first_in_expression tree task s y) _ parts.2).0 in
+      let a = headed s line y both.1 k scope names told in
+      let space = stands_as s y space_spot scope told (first_stands s.known (stands (known_type tree s y) space_spot) [] parts.4).0 in
+      let begins = option_or_parts (first_of_initializer tree task s (region_initializer y u)) _ parts.3 in
+      let written = option_or_parts (first_in (first_in_type tree s.names) (term.Region Int1d u ∷ [])) _ begins.0 in
+      let type = option_or_parts (first_in_type tree s.names (term.Region Int1d u)) _ written.0 in
+      let bad = option_or_parts (rule_if (unbound_name_in_type tree s.names (term.Region Int1d u)) rule.Name) _ type.0 in
+      let there = not-false (has_space tree u.name)
+      (or_parts (not (has_space tree u.name)) _ (rule_none (unbound_name_in_type tree s.names (term.Region Int1d u)) rule.Name bad.0)).0 in (
+        (
+          refl,
+          value_space keeping s.names (type_of tree s y) a.value space,
+          a.is,
+          record { there = first_below (λ (f : FieldSpace). bytes_eq f.name u.name) (spaces_of tree) there; few = local.few (place_of_space tree u.name) },
+          fresh handing s names.head,
+        ),
+        kept_region (kind_of_ispace (type_of tree s y)) (place_of_space tree u.name) (map (looked_up (in_scope s)) u.args) both.0,
+        head_made tree task s n (var_type tree s None (Some (region_initializer y u))) names.head,
+      )
