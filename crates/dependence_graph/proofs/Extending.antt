@@ -1,9 +1,9 @@
 -- What is so behind an operation that is issued.
-use Rattle.std.specs.Prelude.{Contains, filter, None, Option, Some, nat_lt, not, ◌==◌}
-use Rattle.std.proofs.Common.{◌≡◌, ◌≢◌, ◌<◌, ◌≤◌, ◌+◌, ◌&&◌, ◌||◌, ◌⊎◌, ◌++◌, ◌∷◌, [], ◌∙◌, ℕ, suc, zero, Bool, true, false, cond, List, All, inl, inr, ⊎_elim, ap, sym, refl, subst, arith, get_or, length, set, take, map, eqb}
+use Rattle.std.specs.Prelude.{Contains, filter, Some, nat_lt, not, ◌==◌}
+use Rattle.std.proofs.Common.{◌≡◌, ◌<◌, ◌≤◌, ◌+◌, ◌&&◌, ◌||◌, ◌⊎◌, ◌++◌, ◌∷◌, [], ◌∙◌, ℕ, Bool, true, false, cond, List, All, inl, inr, ⊎_elim, ap, sym, refl, subst, arith, length, take, map}
 use Rattle.std.proofs.lemmas.Bool.{and_parts, cases_Bool, cases_eq, cases_lt, eq-eqb, eqb-true, false≢true, le-ltb, lt-ltb}
-use Rattle.std.proofs.lemmas.List.{get_or_append_left, get_or_past, get_or_push, length_push, length-take-le, get_or-take, take_all, take-append-le}
-use Rattle.std.proofs.lemmas.List.Elements.{All-cons, All-contains, All-filter, All-head, All-nil, All-tail, All-weaker}
+use Rattle.std.proofs.lemmas.List.{get_or_append_left, get_or_past, get_or_push, length_push}
+use Rattle.std.proofs.lemmas.List.Elements.{All-cons, All-contains, All-head, All-nil, All-tail, All-weaker}
 use Rattle.region_finder.specs.Listings.{IsListingOf, Listed, ArePlaced, IsPlaced, earlier, has_op, inserted, interferes_in, is_op, listed, placed, without}
 use Rattle.region_tree.specs.Trees.{RegionTree}
 use Rattle.region_tree.specs.declared.needs.Need.{Need}
@@ -12,13 +12,13 @@ use Rattle.region_tree.specs.declared.tree.OpNumber.{OpNumber}
 use Rattle.region_tree.specs.Needs.{AreNeeds, IsNeed}
 use Rattle.dependence_graph.specs.Entries.{Knot}
 use Rattle.dependence_graph.specs.Graphs.{Waits, issued, issued_one, knot_on}
-use Rattle.dependence_graph.specs.Issues.{AreAllNeeds, is_below, state}
+use Rattle.dependence_graph.specs.Issues.{is_below}
 use Rattle.dependence_graph.specs.Knots.{all_done, is_done, is_idle, is_ready, knot_at, no_knot, number, some_failed, stage_at}
 use Rattle.dependence_graph.specs.Links.{AreGrown, AreTold, IsIssued, IsLinked, WaitsFor, link_at, no_link, waiters_at}
 use Rattle.dependence_graph.specs.declared.link.Link.{Link}
 use Rattle.dependence_graph.specs.declared.stage.Stage.{Stage}
-use Rattle.dependence_graph.specs.declared.stage.Stage.TheVariants.{Begun, Done, Dropped, Failed, Parked, Stopped, Waiting}
-use Rattle.dependence_graph.proofs.Following.{all_done_same, idle_there, stage_in, stage_past}
+use Rattle.dependence_graph.specs.declared.stage.Stage.TheVariants.{Dropped, Parked, Waiting}
+use Rattle.dependence_graph.proofs.Following.{all_done_same, stage_in, stage_past}
 
 -- ---- what more operations leave
 

@@ -1,12 +1,11 @@
 -- What steps that end nothing as Done leave of the operations, and what is known of those that wait.
-use Rattle.std.specs.Prelude.{Contains, None, Option, Some, nat_lt}
-use Rattle.std.specs.List.{list_all, list_any}
-use Rattle.std.proofs.Common.{◌≡◌, ◌≢◌, ◌<◌, ◌≤◌, ◌+◌, ◌&&◌, ◌++◌, ◌∷◌, [], ◌∙◌, ℕ, suc, zero, Bool, true, false, cond, List, All, inl, inr, ⊎_elim, ap, sym, refl, subst, arith, get_or, length, set, take, ltb}
+use Rattle.std.specs.Prelude.{None, Option, Some, nat_lt}
+use Rattle.std.proofs.Common.{◌≡◌, ◌≢◌, ◌<◌, ◌≤◌, ◌&&◌, ◌∷◌, [], ◌∙◌, ℕ, Bool, true, false, cond, List, ⊎_elim, ap, sym, refl, subst, arith, length}
 use Rattle.std.proofs.lemmas.Bool.{and_parts, cases_Bool, cases_eq, cases_lt, false≢true, lt-ltb, le-ltb, or_cases}
-use Rattle.std.proofs.lemmas.List.{get_or-set_other, get_or-set_same, get_or_past, length-set, set_past}
+use Rattle.std.proofs.lemmas.List.{get_or-set_other, get_or-set_same, get_or_past, length-set}
 use Rattle.region_tree.specs.declared.tree.OpNumber.{OpNumber}
 use Rattle.dependence_graph.specs.Entries.{Knot}
-use Rattle.dependence_graph.specs.Knots.{all_done, give_up, give_up_each, given_up, has_failed, is_done, is_idle, is_in_progress, is_ready, knot_at, no_knot, number, same_stage, some_failed, stage_at, with_stage}
+use Rattle.dependence_graph.specs.Knots.{all_done, give_up, give_up_each, given_up, has_failed, is_done, is_idle, is_in_progress, is_ready, knot_at, no_knot, same_stage, some_failed, stage_at, with_stage}
 use Rattle.dependence_graph.specs.declared.stage.Stage.{Stage}
 use Rattle.dependence_graph.specs.declared.stage.Stage.TheVariants.{Begun, Done, Dropped, Failed, Parked, Stopped, Waiting}
 use Rattle.plain_values.specs.Points.{points}

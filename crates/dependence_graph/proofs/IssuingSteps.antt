@@ -1,6 +1,6 @@
 -- How an issue goes on, and how it is taken back.
-use Rattle.std.specs.Prelude.{Contains, filter, nat_lt}
-use Rattle.std.proofs.Common.{◌≡◌, ◌≢◌, ◌<◌, ◌≤◌, ◌+◌, ◌++◌, ◌∷◌, [], ◌∙◌, ℕ, suc, zero, Bool, true, false, cond, List, All, inl, inr, ⊎_elim, ap, sym, refl, subst, arith, get_or, length, take, min}
+use Rattle.std.specs.Prelude.{Contains, filter}
+use Rattle.std.proofs.Common.{◌≡◌, ◌<◌, ◌≤◌, ◌++◌, ◌∷◌, [], ◌∙◌, ℕ, List, All, ⊎_elim, ap, sym, subst, arith, length, take}
 use Rattle.std.proofs.lemmas.Bool.{cases_lt}
 use Rattle.std.proofs.lemmas.List.{get_or-take, get_or_past, length-take, take_all, take_at, take-append-le}
 use Rattle.std.proofs.lemmas.List.Elements.{All-weaker}
@@ -13,10 +13,10 @@ use Rattle.dependence_graph.specs.Entries.{Knot}
 use Rattle.dependence_graph.specs.Graphs.{Waits, issued_one, knot_on}
 use Rattle.dependence_graph.specs.Issues.{is_below, state}
 use Rattle.dependence_graph.specs.Knots.{number}
-use Rattle.dependence_graph.specs.Links.{AreGrown, AreTold, IsIssued, IsLinked, link_at, no_link, waiters_at}
+use Rattle.dependence_graph.specs.Links.{AreGrown, AreTold, IsIssued, IsLinked, link_at, no_link}
 use Rattle.dependence_graph.specs.declared.link.Link.{Link}
 use Rattle.dependence_graph.specs.declared.stage.Stage.TheVariants.{Dropped, Waiting}
-use Rattle.dependence_graph.proofs.Extending.{Extends, IsChild, IsIssuing, IsLeft, below_all, below_kept, extends_itself, extends_on, extends_push, found_children, issued_push, linked_push, listing_push, not_done_at_first, not_parked_at_first}
+use Rattle.dependence_graph.proofs.Extending.{IsChild, IsIssuing, IsLeft, below_all, below_kept, extends_itself, extends_on, extends_push, found_children, issued_push, linked_push, listing_push, not_done_at_first, not_parked_at_first}
 use Rattle.dependence_graph.proofs.Linked.{linked_grown}
 use Rattle.dependence_graph.proofs.Refreshing.{grown_itself, grown_on}
 

@@ -4,5 +4,6 @@ pub mod IssuingSteps
 pub mod Linked
 pub mod Parked
 pub mod Refreshing
+pub mod Spreading
 pub mod Stepping
 pub mod Vain

@@ -1,6 +1,6 @@
 -- What changes leave of the links, and of the set of ready operations.
-use Rattle.std.specs.Prelude.{Contains, Option, Some, not}
-use Rattle.std.proofs.Common.{◌≡◌, ◌≢◌, ◌<◌, ◌≤◌, ◌+◌, ◌&&◌, ◌⊎◌, ◌++◌, ◌∷◌, [], ◌∙◌, ℕ, suc, zero, Bool, true, false, cond, List, All, inl, inr, ⊎_elim, ap, sym, refl, subst, arith, get_or, length, set, take}
+use Rattle.std.specs.Prelude.{Contains, Some, not}
+use Rattle.std.proofs.Common.{◌≡◌, ◌≢◌, ◌<◌, ◌&&◌, ◌⊎◌, ◌∷◌, [], ◌∙◌, ℕ, suc, Bool, true, false, List, All, inl, inr, ⊎_elim, ap, sym, refl, subst, arith, length, set, take}
 use Rattle.std.proofs.lemmas.Bool.{and_parts, cases_Bool, cases_eq, cases_lt, false≢true}
 use Rattle.std.proofs.lemmas.List.{get_or-set_other, get_or-set_same, get_or_past, length-set}
 use Rattle.std.proofs.lemmas.List.Elements.{All-filter, All-weaker}
@@ -8,12 +8,12 @@ use Rattle.region_finder.specs.Listings.{Listed, is_op, without}
 use Rattle.region_tree.specs.declared.tree.OpNumber.{OpNumber}
 use Rattle.least_set.specs.Members.{has}
 use Rattle.dependence_graph.specs.Entries.{Knot}
-use Rattle.dependence_graph.specs.Knots.{all_done, given_up, is_done, is_idle, is_in_progress, is_ready, knot_at, no_knot, number, stage_at, with_stage}
-use Rattle.dependence_graph.specs.Links.{AreGrown, AreReady, HasAll, HasReady, IsIssued, IsKept, IsLinked, WaitsFor, link_at, no_link, restarted, waiters_at}
+use Rattle.dependence_graph.specs.Knots.{all_done, given_up, is_done, is_idle, is_in_progress, is_ready, knot_at, number, stage_at, with_stage}
+use Rattle.dependence_graph.specs.Links.{AreGrown, AreReady, HasAll, HasReady, IsIssued, IsKept, IsLinked, WaitsFor, link_at, waiters_at}
 use Rattle.dependence_graph.specs.declared.link.Link.{Link}
 use Rattle.dependence_graph.specs.declared.stage.Stage.{Stage}
 use Rattle.dependence_graph.specs.declared.stage.Stage.TheVariants.{Begun, Done, Dropped, Failed, Parked, Stopped, Waiting}
-use Rattle.dependence_graph.proofs.Following.{Follows, GivesUp, all_done_same, all_give_up, done_other, done_same, follows_on, follows_stage, idle_there, not_ready, progress_there, ready_same, stage_in, stage_other, stage_same}
+use Rattle.dependence_graph.proofs.Following.{Follows, GivesUp, all_done_same, all_give_up, done_other, done_same, follows_on, follows_stage, idle_there, not_ready, progress_there, ready_same, stage_other, stage_same}
 
 -- ---- flags
 

@@ -1,26 +1,25 @@
 -- What is so behind an operation that begins to wait for children.
-use Rattle.std.specs.Prelude.{Contains, None, Option, Some, nat_lt}
-use Rattle.std.proofs.Common.{◌≡◌, ◌≢◌, ◌<◌, ◌≤◌, ◌+◌, ◌&&◌, ◌∷◌, [], ◌∙◌, ℕ, Bool, true, false, cond, List, All, inl, inr, ⊎_elim, ap, sym, refl, subst, arith, get_or, length, set, take}
-use Rattle.std.proofs.lemmas.Bool.{and_parts, cases_Bool, cases_eq, cases_lt, false≢true}
-use Rattle.std.proofs.lemmas.List.{get_or-set_other, get_or-set_same, get_or_past, length-set}
+use Rattle.std.specs.Prelude.{Contains, None, Some, nat_lt}
+use Rattle.std.proofs.Common.{◌≡◌, ◌≢◌, ◌<◌, ◌&&◌, [], ◌∙◌, ℕ, Bool, true, false, cond, List, All, ⊎_elim, ap, sym, refl, subst, arith, length, set, take}
+use Rattle.std.proofs.lemmas.Bool.{cases_Bool, cases_eq, false≢true}
+use Rattle.std.proofs.lemmas.List.{get_or-set_other, get_or-set_same, length-set}
 use Rattle.std.proofs.lemmas.List.Elements.{All-cons, All-contains, All-nil, All-weaker}
-use Rattle.region_finder.specs.Listings.{Listed, earlier}
+use Rattle.region_finder.specs.Listings.{Listed}
 use Rattle.region_tree.specs.Trees.{RegionTree}
-use Rattle.region_tree.specs.declared.needs.Needs.{Needs}
 use Rattle.region_tree.specs.declared.tree.OpNumber.{OpNumber}
 use Rattle.least_set.specs.Members.{has}
 use Rattle.dependence_graph.specs.Entries.{Knot}
 use Rattle.dependence_graph.specs.Graphs.{knot_on, waited}
 use Rattle.dependence_graph.specs.Issues.{IsOwn}
 use Rattle.dependence_graph.specs.Knots.{all_done, is_done, is_idle, is_ready, knot_at, no_knot, number, some_failed, stage_at}
-use Rattle.dependence_graph.specs.Links.{AreReady, HasAll, IsIssued, IsKept, IsLinked, WaitsFor, link_at, no_link, restarted, waiters_at}
+use Rattle.dependence_graph.specs.Links.{AreReady, HasAll, IsIssued, IsLinked, WaitsFor, link_at, no_link, restarted, waiters_at}
 use Rattle.dependence_graph.specs.declared.link.Link.{Link}
 use Rattle.dependence_graph.specs.declared.stage.Stage.{Stage}
 use Rattle.dependence_graph.specs.declared.stage.Stage.TheVariants.{Begun, Parked, Stopped, Waiting}
 use Rattle.dependence_graph.specs.declared.stage.Waiting.{Waiting as Wait}
 use Rattle.dependence_graph.specs.declared.stage.Waiting.TheVariants.{Child, Nothing, Part}
 use Rattle.dependence_graph.proofs.Extending.{IsChild, found_children}
-use Rattle.dependence_graph.proofs.Following.{all_done_same, idle_there, stage_in}
+use Rattle.dependence_graph.proofs.Following.{all_done_same, stage_in}
 use Rattle.dependence_graph.proofs.Linked.{same_bools}
 use Rattle.dependence_graph.proofs.Refreshing.{waiters_set}
 

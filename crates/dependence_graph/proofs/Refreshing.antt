@@ -1,18 +1,17 @@
 -- How ready operations are found.
 use Rattle.std.specs.Prelude.{Contains}
-use Rattle.std.proofs.Common.{◌≡◌, ◌≢◌, ◌<◌, ◌≤◌, ◌+◌, ◌&&◌, ◌++◌, ◌∷◌, [], ◌∙◌, ℕ, suc, zero, Bool, true, false, cond, List, All, inl, inr, ⊎_elim, ap, sym, refl, subst, arith, get_or, length, set, take, leb}
-use Rattle.std.proofs.lemmas.Bool.{and_parts, cases_Bool, cases_eq, cases_lt, false≢true, le-leb, lt-leb}
-use Rattle.std.proofs.lemmas.List.{get_or_default, get_or-set_other, get_or-set_same, get_or_past, length-set, length_push, take_all, take_more}
+use Rattle.std.proofs.Common.{◌≡◌, ◌<◌, ◌+◌, ◌&&◌, ◌++◌, ◌∷◌, [], ◌∙◌, ℕ, Bool, true, false, List, ⊎_elim, ap, sym, refl, subst, arith, get_or, length, set, take, leb}
+use Rattle.std.proofs.lemmas.Bool.{and_parts, cases_eq, cases_lt, le-leb, lt-leb}
+use Rattle.std.proofs.lemmas.List.{get_or-set_other, get_or-set_same, get_or_past, length-set, take_all, take_more}
 use Rattle.std.proofs.lemmas.List.Elements.{Contains-append_left, Contains-push, Contains-push_cases}
 use Rattle.std.proofs.lemmas.List.Folds.{list_all_at}
 use Rattle.region_tree.specs.declared.tree.OpNumber.{OpNumber}
 use Rattle.least_set.specs.Members.{has}
 use Rattle.dependence_graph.specs.Entries.{Knot}
-use Rattle.dependence_graph.specs.Knots.{all_done, is_done, is_idle, is_ready, knot_at, no_knot, number, stage_at}
+use Rattle.dependence_graph.specs.Knots.{all_done, is_done, is_ready, knot_at, number, stage_at}
 use Rattle.dependence_graph.specs.Links.{AreGrown, AreReady, AreTold, HasAll, HasReady, IsLinked, link_at, no_link, waiters_at}
 use Rattle.dependence_graph.specs.declared.link.Link.{Link}
-use Rattle.dependence_graph.proofs.Following.{idle_there}
-use Rattle.dependence_graph.proofs.Linked.{has_set_other, has_set_same, linked_grown}
+use Rattle.dependence_graph.proofs.Linked.{has_set_other, has_set_same}
 
 -- ---- what is clear
 

@@ -1,6 +1,6 @@
 -- What a graph keeps behind each of its steps.
 use Rattle.std.specs.Prelude.{Contains}
-use Rattle.std.proofs.Common.{◌≡◌, ◌≢◌, ◌<◌, ◌≤◌, ◌+◌, ◌∷◌, [], ◌∙◌, ℕ, Bool, true, false, List, All, inl, inr, ⊎_elim, ap, sym, refl, subst, arith, length, set, suc, take, zero}
+use Rattle.std.proofs.Common.{◌≡◌, ◌<◌, ◌≤◌, ◌+◌, ◌∷◌, [], ◌∙◌, ℕ, Bool, true, false, List, All, ⊎_elim, ap, sym, refl, subst, arith, length, set, suc, take, zero}
 use Rattle.std.proofs.lemmas.Bool.{cases_lt, false≢true}
 use Rattle.std.proofs.lemmas.List.{get_or_past, length-set}
 use Rattle.std.proofs.lemmas.List.Elements.{All-nil}
@@ -15,13 +15,12 @@ use Rattle.dependence_graph.specs.Issues.{IsFirstReady, IsOwn, state}
 use Rattle.dependence_graph.specs.Knots.{all_done, is_done, is_idle, is_in_progress, is_ready, knot_at, no_knot, stage_at, with_stage}
 use Rattle.dependence_graph.specs.Links.{AreReady, HasAll, HasReady, IsIssued, IsKept, IsLinked, link_at, no_link, restarted, waiters_at}
 use Rattle.dependence_graph.specs.declared.link.Link.{Link}
-use Rattle.dependence_graph.specs.declared.stage.Stage.{Stage}
 use Rattle.dependence_graph.specs.declared.stage.Stage.TheVariants.{Begun, Done, Parked, Stopped}
 use Rattle.dependence_graph.specs.declared.stage.Waiting.{Waiting as Wait}
 use Rattle.dependence_graph.proofs.Extending.{Extends, IsChild, extends_issued, ready_extends, size_issued}
-use Rattle.dependence_graph.proofs.Following.{idle_there, not_ready, progress_there, stage_in}
+use Rattle.dependence_graph.proofs.Following.{not_ready, progress_there, stage_in}
 use Rattle.dependence_graph.proofs.Linked.{all_ready, issued_done, linked_done, progress_not_done, ready_done, same_bools}
-use Rattle.dependence_graph.proofs.Parked.{all_parked, issued_parked, linked_parked, own_children, parked_knots, ready_parked}
+use Rattle.dependence_graph.proofs.Parked.{all_parked, issued_parked, linked_parked, own_children, ready_parked}
 
 open_in : (ks : List Knot) (op : ℕ) → is_in_progress (knot_at ks op).stage ≡ true → is_done (stage_at ks op) ≡ false
 open_in ks op p =

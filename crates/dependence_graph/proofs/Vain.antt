@@ -1,17 +1,17 @@
 -- Behind a failure nothing waits in vain.
-use Rattle.std.specs.Prelude.{Contains, None, Option, Some, nat_lt}
-use Rattle.std.proofs.Common.{◌≡◌, ◌≢◌, ◌<◌, ◌≤◌, ◌+◌, ◌&&◌, ◌||◌, ◌⊎◌, ◌∷◌, [], ◌∙◌, ℕ, suc, zero, Bool, true, false, cond, List, inl, inr, ⊎_elim, ap, sym, refl, subst, arith, length}
-use Rattle.std.proofs.lemmas.Bool.{and_parts, cases_Bool, cases_eq, cases_lt, false≢true}
-use Rattle.std.proofs.lemmas.List.{get_or_past}
+use Rattle.std.specs.Prelude.{Contains, Some}
+use Rattle.std.proofs.Common.{◌≡◌, ◌≢◌, ◌<◌, ◌+◌, ◌&&◌, ◌||◌, ◌∷◌, [], ◌∙◌, ℕ, suc, zero, Bool, true, false, List, ⊎_elim, ap, sym, refl, subst, arith, length}
+use Rattle.std.proofs.lemmas.Bool.{cases_eq, false≢true}
 use Rattle.plain_values.specs.Points.{counted_from, points}
 use Rattle.region_tree.specs.declared.tree.OpNumber.{OpNumber}
 use Rattle.dependence_graph.specs.Entries.{Knot}
-use Rattle.dependence_graph.specs.Knots.{give_up, give_up_each, given_up, has_failed, is_idle, knot_at, no_knot, number, same_stage, some_failed, stage_at, with_stage}
+use Rattle.dependence_graph.specs.Knots.{give_up, give_up_each, given_up, has_failed, is_idle, knot_at, number, same_stage, some_failed, stage_at, with_stage}
 use Rattle.dependence_graph.specs.Laws.{FailuresReachAll, NoneWaitsInVain, WaitsForEarlier}
 use Rattle.dependence_graph.specs.declared.stage.Stage.{Stage}
-use Rattle.dependence_graph.specs.declared.stage.Stage.TheVariants.{Begun, Done, Dropped, Failed, Parked, Stopped, Waiting}
+use Rattle.dependence_graph.specs.declared.stage.Stage.TheVariants.{Dropped, Parked, Stopped, Waiting}
 use Rattle.dependence_graph.proofs.Following.{all_give_up, done_other, done_same, each_gives_up, idle_there, stage_in, stage_other, stage_same}
 use Rattle.dependence_graph.proofs.Linked.{idle_cases}
+use Rattle.dependence_graph.proofs.Spreading.{all_spread, same_is, up_cases}
 
 -- ---- what has failed of a list
 
@@ -24,36 +24,12 @@ failed_alike ks us (o ∷ ops) h =
     ∙ ap (λ (b : Bool). has_failed (stage_at ks o.0) || b)
     (failed_alike ks us ops (λ j c. h j (suc c.0, omega (arith, c.1), c.2)))
 
--- ---- one gives up, or not
+-- ---- stages of waiting
 
-up_cases : (ks : List Knot) (n : ℕ) (from to : Stage) →
-    ((give_up from to ks n ≡ with_stage ks n to) × (same_stage (knot_at ks n).stage from ≡ true))
-    ⊎ ((give_up from to ks n ≡ ks) × ((same_stage (knot_at ks n).stage from && some_failed ks (knot_at ks n).on) ≡ false))
-up_cases ks n from to = ⊎_elim
-    (λ e. inl (
-      ap (λ (b : Bool). cond b (with_stage ks n to) ks) e,
-      (and_parts (same_stage (knot_at ks n).stage from) (some_failed ks (knot_at ks n).on) e).0,
-    ))
-    (λ e. inr (ap (λ (b : Bool). cond b (with_stage ks n to) ks) e, e))
-    (cases_Bool (same_stage (knot_at ks n).stage from && some_failed ks (knot_at ks n).on))
-
-is_waiting : (s : Stage) → same_stage s Waiting ≡ true → s ≡ Waiting
-is_waiting Waiting h = refl
-is_waiting Parked h = absurd (false≢true h)
-is_waiting Begun h = absurd (false≢true h)
-is_waiting Stopped h = absurd (false≢true h)
-is_waiting Done h = absurd (false≢true h)
-is_waiting Failed h = absurd (false≢true h)
-is_waiting Dropped h = absurd (false≢true h)
-
-is_parked : (s : Stage) → same_stage s Parked ≡ true → s ≡ Parked
-is_parked Parked h = refl
-is_parked Waiting h = absurd (false≢true h)
-is_parked Begun h = absurd (false≢true h)
-is_parked Stopped h = absurd (false≢true h)
-is_parked Done h = absurd (false≢true h)
-is_parked Failed h = absurd (false≢true h)
-is_parked Dropped h = absurd (false≢true h)
+same_itself : (s : Stage) → is_idle s ≡ true → same_stage s s ≡ true
+same_itself Waiting h = refl
+same_itself Parked h = refl
+same_itself _ h = absurd (false≢true h)
 
 there : (ks : List Knot) (k : ℕ) (s : Stage) → is_idle s ≡ true → (knot_at ks k).stage ≡ s → k < length ks
 there ks k s i e = idle_there ks k (ap is_idle e ∙ i)
@@ -66,65 +42,82 @@ not_that : (ks : List Knot) (n k : ℕ) (to s : Stage) → n < length ks → (to
 not_that ks n k to s l d e same =
     d (sym (now ks n to l) ∙ ap (λ (m : ℕ). (knot_at (with_stage ks n to) m).stage) (sym same) ∙ e)
 
--- ---- those that have not begun, in order of issue
+-- ---- a sweep, in order of issue
 
-pub record Swept (i : ℕ) (ks : List Knot) : Type 0 where
-  pub order : WaitsForEarlier ks
-  pub vain : (k : ℕ) → k < i → (knot_at ks k).stage ≡ Waiting → some_failed ks (knot_at ks k).on ≡ false
+-- what is so of the operations, and those below a number that are in the stage don't wait in vain
+pub record Swept (from : Stage) (Kept : List Knot → Type 0) (i : ℕ) (ks : List Knot) : Type 0 where
+  pub kept : Kept ks
+  pub vain : (k : ℕ) → k < i → (knot_at ks k).stage ≡ from → some_failed ks (knot_at ks k).on ≡ false
 
-dropped_one : (ks : List Knot) (i : ℕ) → Swept i ks → (knot_at ks i).stage ≡ Waiting → Swept (suc i) (with_stage ks i Dropped)
-dropped_one ks i s w =
-    let here = there ks i Waiting refl w in
-    record {
-      order = λ k j e c. let n = apart here k e in
-          s.order k j (sym (ap (λ (x : Knot). x.stage) (stage_other ks i k Dropped n)) ∙ e)
-          (subst (λ (x : Knot). Contains x.on (number j)) (stage_other ks i k Dropped n) c);
-      vain = λ k b e. let n = apart here k e in
-          ap (λ (x : Knot). some_failed (with_stage ks i Dropped) x.on) (stage_other ks i k Dropped n)
-          ∙ failed_alike ks (with_stage ks i Dropped) (knot_at ks k).on
-          (λ j c. ap has_failed (done_other ks i j Dropped (before k n b (s.order k j (was k n e) c))))
-          ∙ s.vain k (omega (arith, b, n)) (was k n e);
-    }
-  where
-    apart : i < length ks → (k : ℕ) → (knot_at (with_stage ks i Dropped) k).stage ≡ Waiting → k ≢ i
-    apart here k e = not_that ks i k Dropped Waiting here (λ d. absurd cc) e
+module _ (from to : Stage) (Kept : List Knot → Type 0) (waits : is_idle from ≡ true) (leaves : to ≡ from → ⊥)
+    (keeps : (ks : List Knot) (i : ℕ) → Kept ks → (knot_at ks i).stage ≡ from → Kept (with_stage ks i to))
+    (alike : (ks : List Knot) (i k : ℕ) → Kept ks → (knot_at ks i).stage ≡ from → k < i → (knot_at ks k).stage ≡ from →
+    some_failed (with_stage ks i to) (knot_at ks k).on ≡ some_failed ks (knot_at ks k).on) where
+  given_one : (ks : List Knot) (i : ℕ) → Swept from Kept i ks → (knot_at ks i).stage ≡ from →
+      Swept from Kept (suc i) (with_stage ks i to)
+  given_one ks i s w = record {
+    kept = keeps ks i s.kept w;
+    vain = λ k b e. let n = not_that ks i k to from (there ks i from waits w) leaves e in
+        let below : k < i = omega (arith, b, n) in
+        let was = sym (ap (λ (x : Knot). x.stage) (stage_other ks i k to n)) ∙ e in
+        ap (λ (x : Knot). some_failed (with_stage ks i to) x.on) (stage_other ks i k to n)
+        ∙ alike ks i k s.kept w below was ∙ s.vain k below was;
+  }
 
-    was : (k : ℕ) → k ≢ i → (knot_at (with_stage ks i Dropped) k).stage ≡ Waiting → (knot_at ks k).stage ≡ Waiting
-    was k n e = sym (ap (λ (x : Knot). x.stage) (stage_other ks i k Dropped n)) ∙ e
+  passed_one : (ks : List Knot) (i : ℕ) → Swept from Kept i ks →
+      (same_stage (knot_at ks i).stage from && some_failed ks (knot_at ks i).on) ≡ false → Swept from Kept (suc i) ks
+  passed_one ks i s f = record {
+    kept = s.kept;
+    vain = λ k b e. ⊎_elim
+        (λ same. ap (λ (n : ℕ). some_failed ks (knot_at ks n).on) same
+        ∙ sym (ap (λ (b : Bool). b && some_failed ks (knot_at ks i).on)
+        (itself (knot_at ks i).stage (ap (λ (n : ℕ). (knot_at ks n).stage) (sym same) ∙ e))) ∙ f)
+        (λ n. s.vain k (omega (arith, b, n)) e)
+        (cases_eq k i);
+  }
+    where
+      itself : (st : Stage) → st ≡ from → same_stage st from ≡ true
+      itself st e = ap (λ (x : Stage). same_stage x from) e ∙ same_itself from waits
 
-    before : {j : ℕ} (k : ℕ) → k ≢ i → k < suc i → j < k → j ≢ i
-    before k n b c e = omega (arith, n, b, c, e)
+  swept_one : (ks : List Knot) (i : ℕ) → Swept from Kept i ks → Swept from Kept (suc i) (give_up from to ks i)
+  swept_one ks i s = ⊎_elim
+      (λ g. subst (Swept from Kept (suc i)) (sym g.0) (given_one ks i s (same_is (knot_at ks i).stage from g.1)))
+      (λ g. subst (Swept from Kept (suc i)) (sym g.0) (passed_one ks i s g.1))
+      (up_cases ks i from to)
 
-passed_one : (ks : List Knot) (i : ℕ) → Swept i ks →
-    (same_stage (knot_at ks i).stage Waiting && some_failed ks (knot_at ks i).on) ≡ false → Swept (suc i) ks
-passed_one ks i s f = record {
-  order = s.order;
-  vain = λ k b e. ⊎_elim
-      (λ same. ap (λ (n : ℕ). some_failed ks (knot_at ks n).on) same
-      ∙ sym (ap (λ (st : Stage). same_stage st Waiting && some_failed ks (knot_at ks i).on)
-      (ap (λ (n : ℕ). (knot_at ks n).stage) (sym same) ∙ e)) ∙ f)
-      (λ n. s.vain k (omega (arith, b, n)) e)
-      (cases_eq k i);
-}
+  swept_all : (m i : ℕ) (ks : List Knot) → Swept from Kept i ks →
+      Swept from Kept (i + m) (give_up_each from to ks (counted_from i m))
+  swept_all zero i ks s = subst (λ (n : ℕ). Swept from Kept n ks) (let e : i ≡ i + 0 = omega arith in e) s
+  swept_all (suc m) i ks s =
+      subst (λ (n : ℕ). Swept from Kept n (give_up_each from to (give_up from to ks i) (counted_from (suc i) m)))
+      (let e : suc i + m ≡ i + suc m = omega arith in e)
+      (swept_all m (suc i) (give_up from to ks i) (swept_one ks i s))
 
-swept_one : (ks : List Knot) (i : ℕ) → Swept i ks → Swept (suc i) (give_up Waiting Dropped ks i)
-swept_one ks i s = ⊎_elim
-    (λ g. subst (Swept (suc i)) (sym g.0) (dropped_one ks i s (is_waiting (knot_at ks i).stage g.1)))
-    (λ g. subst (Swept (suc i)) (sym g.0) (passed_one ks i s g.1))
-    (up_cases ks i Waiting Dropped)
+  sweep : (ks us : List Knot) → length us ≡ length ks → Kept us →
+      Swept from Kept (length ks) (give_up_each from to us (points (length ks)))
+  sweep ks us e k =
+      subst (λ (n : ℕ). Swept from Kept n (give_up_each from to us (points (length ks))))
+      (let e : 0 + length ks ≡ length ks = omega arith in e)
+      (swept_all (length ks) 0 us (record { kept = k; vain = λ k b e. absurd (omega (arith, b)) }))
 
-swept_all : (m i : ℕ) (ks : List Knot) → Swept i ks → Swept (i + m) (give_up_each Waiting Dropped ks (counted_from i m))
-swept_all zero i ks s = subst (λ (n : ℕ). Swept n ks) (let e : i ≡ i + 0 = omega arith in e) s
-swept_all (suc m) i ks s =
-    subst (λ (n : ℕ). Swept n (give_up_each Waiting Dropped (give_up Waiting Dropped ks i) (counted_from (suc i) m)))
-    (let e : suc i + m ≡ i + suc m = omega arith in e)
-    (swept_all m (suc i) (give_up Waiting Dropped ks i) (swept_one ks i s))
+-- ---- those that have not begun
+
+order_stays : (ks : List Knot) (i : ℕ) → WaitsForEarlier ks → (knot_at ks i).stage ≡ Waiting →
+    WaitsForEarlier (with_stage ks i Dropped)
+order_stays ks i order w k j e c =
+    let n = not_that ks i k Dropped Waiting (there ks i Waiting refl w) (λ d. absurd cc) e in
+    order k j (sym (ap (λ (x : Knot). x.stage) (stage_other ks i k Dropped n)) ∙ e)
+    (subst (λ (x : Knot). Contains x.on (number j)) (stage_other ks i k Dropped n) c)
+
+dropped_alike : (ks : List Knot) (i k : ℕ) → WaitsForEarlier ks → (knot_at ks i).stage ≡ Waiting → k < i →
+    (knot_at ks k).stage ≡ Waiting → some_failed (with_stage ks i Dropped) (knot_at ks k).on ≡ some_failed ks (knot_at ks k).on
+dropped_alike ks i k order w b e = failed_alike ks (with_stage ks i Dropped) (knot_at ks k).on
+    (λ j c. ap has_failed (done_other ks i j Dropped (omega (arith, b, order k j e c))))
 
 -- ---- those that have begun
 
-pub record Halted (i : ℕ) (ks : List Knot) : Type 0 where
-  pub waiting : (k : ℕ) → (knot_at ks k).stage ≡ Waiting → some_failed ks (knot_at ks k).on ≡ false
-  pub parked : (k : ℕ) → k < i → (knot_at ks k).stage ≡ Parked → some_failed ks (knot_at ks k).on ≡ false
+abbrev NoneWaiting : List Knot → Type 0
+NoneWaiting ks = (k : ℕ) → (knot_at ks k).stage ≡ Waiting → some_failed ks (knot_at ks k).on ≡ false
 
 stopped_alike : (ks : List Knot) (i : ℕ) → (knot_at ks i).stage ≡ Parked → (j : ℕ) →
     has_failed (stage_at (with_stage ks i Stopped) j) ≡ has_failed (stage_at ks j)
@@ -136,47 +129,15 @@ stopped_alike ks i p j =
     (λ n. ap has_failed (done_other ks i j Stopped n))
     (cases_eq j i)
 
-stopped_one : (ks : List Knot) (i : ℕ) → Halted i ks → (knot_at ks i).stage ≡ Parked → Halted (suc i) (with_stage ks i Stopped)
-stopped_one ks i h p =
-    let here = there ks i Parked refl p in
-    record {
-      waiting = λ k e. let n = not_that ks i k Stopped Waiting here (λ d. absurd cc) e in
-          same k n ∙ h.waiting k (was k n Waiting e);
-      parked = λ k b e. let n = not_that ks i k Stopped Parked here (λ d. absurd cc) e in
-          same k n ∙ h.parked k (omega (arith, b, n)) (was k n Parked e);
-    }
-  where
-    was : (k : ℕ) → k ≢ i → (s : Stage) → (knot_at (with_stage ks i Stopped) k).stage ≡ s → (knot_at ks k).stage ≡ s
-    was k n s e = sym (ap (λ (x : Knot). x.stage) (stage_other ks i k Stopped n)) ∙ e
+some_stopped_alike : (ks : List Knot) (i k : ℕ) → (knot_at ks i).stage ≡ Parked →
+    some_failed (with_stage ks i Stopped) (knot_at ks k).on ≡ some_failed ks (knot_at ks k).on
+some_stopped_alike ks i k p = failed_alike ks (with_stage ks i Stopped) (knot_at ks k).on (λ j c. stopped_alike ks i p j)
 
-    same : (k : ℕ) → k ≢ i → some_failed (with_stage ks i Stopped) (knot_at (with_stage ks i Stopped) k).on ≡ some_failed ks (knot_at ks k).on
-    same k n = ap (λ (x : Knot). some_failed (with_stage ks i Stopped) x.on) (stage_other ks i k Stopped n)
-        ∙ failed_alike ks (with_stage ks i Stopped) (knot_at ks k).on (λ j c. stopped_alike ks i p j)
-
-kept_one : (ks : List Knot) (i : ℕ) → Halted i ks →
-    (same_stage (knot_at ks i).stage Parked && some_failed ks (knot_at ks i).on) ≡ false → Halted (suc i) ks
-kept_one ks i h f = record {
-  waiting = h.waiting;
-  parked = λ k b e. ⊎_elim
-      (λ same. ap (λ (n : ℕ). some_failed ks (knot_at ks n).on) same
-      ∙ sym (ap (λ (st : Stage). same_stage st Parked && some_failed ks (knot_at ks i).on)
-      (ap (λ (n : ℕ). (knot_at ks n).stage) (sym same) ∙ e)) ∙ f)
-      (λ n. h.parked k (omega (arith, b, n)) e)
-      (cases_eq k i);
-}
-
-halted_one : (ks : List Knot) (i : ℕ) → Halted i ks → Halted (suc i) (give_up Parked Stopped ks i)
-halted_one ks i h = ⊎_elim
-    (λ g. subst (Halted (suc i)) (sym g.0) (stopped_one ks i h (is_parked (knot_at ks i).stage g.1)))
-    (λ g. subst (Halted (suc i)) (sym g.0) (kept_one ks i h g.1))
-    (up_cases ks i Parked Stopped)
-
-halted_all : (m i : ℕ) (ks : List Knot) → Halted i ks → Halted (i + m) (give_up_each Parked Stopped ks (counted_from i m))
-halted_all zero i ks h = subst (λ (n : ℕ). Halted n ks) (let e : i ≡ i + 0 = omega arith in e) h
-halted_all (suc m) i ks h =
-    subst (λ (n : ℕ). Halted n (give_up_each Parked Stopped (give_up Parked Stopped ks i) (counted_from (suc i) m)))
-    (let e : suc i + m ≡ i + suc m = omega arith in e)
-    (halted_all m (suc i) (give_up Parked Stopped ks i) (halted_one ks i h))
+none_stays : (ks : List Knot) (i : ℕ) → NoneWaiting ks → (knot_at ks i).stage ≡ Parked → NoneWaiting (with_stage ks i Stopped)
+none_stays ks i none p k e =
+    let n = not_that ks i k Stopped Waiting (there ks i Parked refl p) (λ d. absurd cc) e in
+    ap (λ (x : Knot). some_failed (with_stage ks i Stopped) x.on) (stage_other ks i k Stopped n)
+    ∙ some_stopped_alike ks i k p ∙ none k (sym (ap (λ (x : Knot). x.stage) (stage_other ks i k Stopped n)) ∙ e)
 
 -- ---- all
 
@@ -187,25 +148,25 @@ module _ (ks : List Knot) (order : WaitsForEarlier ks) where
   same_size : length us ≡ length ks
   same_size = (each_gives_up Waiting Dropped refl refl (points (length ks)) ks).follows.size
 
-  swept : Swept (length ks) us
-  swept = subst (λ (n : ℕ). Swept n us) (let e : 0 + length ks ≡ length ks = omega arith in e)
-      (swept_all (length ks) 0 ks (record { order = order; vain = λ k b e. absurd (omega (arith, b)) }))
+  dropped : Swept Waiting WaitsForEarlier (length ks) us
+  dropped = sweep Waiting Dropped WaitsForEarlier refl (λ d. absurd cc) order_stays dropped_alike ks ks refl order
 
-  halted : Halted (length ks) (given_up ks)
-  halted = subst (λ (n : ℕ). Halted n (given_up ks)) (let e : 0 + length ks ≡ length ks = omega arith in e)
-      (halted_all (length ks) 0 us (record {
-        waiting = λ k e. swept.vain k (omega (arith, there us k Waiting refl e, same_size)) e;
-        parked = λ k b e. absurd (omega (arith, b));
-      }))
+  stopped : Swept Parked NoneWaiting (length ks) (given_up ks)
+  stopped = sweep Parked Stopped NoneWaiting refl (λ d. absurd cc) none_stays (λ ks i k none p b e. some_stopped_alike ks i k p)
+      ks us same_size (λ k e. dropped.vain k (omega (arith, there us k Waiting refl e, same_size)) e)
 
   last_size : length (given_up ks) ≡ length ks
   last_size = (all_give_up ks).follows.size
 
   none_in_vain : NoneWaitsInVain (given_up ks)
   none_in_vain k i = ⊎_elim
-      (λ w. halted.waiting k w)
-      (λ p. halted.parked k (omega (arith, idle_there (given_up ks) k i, last_size)) p)
+      (λ w. stopped.kept k w)
+      (λ p. stopped.vain k (omega (arith, idle_there (given_up ks) k i, last_size)) p)
       (idle_cases (knot_at (given_up ks) k).stage i)
 
 pub failures_reach_all : FailuresReachAll
-failures_reach_all ks order = none_in_vain ks order
+failures_reach_all ks order = record {
+  size = (all_give_up ks).follows.size;
+  reached = none_in_vain ks order;
+  others = (all_spread ks).others;
+}

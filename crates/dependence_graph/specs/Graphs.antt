@@ -1,7 +1,6 @@
 -- The graph: operations with what they wait for, and those that have not ended with their needs.
-use Rattle.std.specs.Prelude.{◌≡◌, ◌∷◌, ◌++◌, List, [], cond, length, set, ℕ, All}
+use Rattle.std.specs.Prelude.{◌∷◌, ◌++◌, List, [], cond, length, set, ℕ}
 use Rattle.region_finder.specs.Listings.{Listed, earlier, inserted, listed, without}
-use Rattle.region_tree.specs.Needs.{AreNeeds}
 use Rattle.region_tree.specs.Trees.{RegionTree}
 use Rattle.region_tree.specs.declared.needs.Need.{Need}
 use Rattle.region_tree.specs.declared.needs.Needs.{Needs}

@@ -1,5 +1,5 @@
 -- Operations in order of issue, with what each waits for.
-use Rattle.std.specs.Prelude.{◌≡◌, ◌∷◌, ◌&&◌, ◌||◌, Bool, List, None, Option, Some, [], cond, false, get_or, length, nat_lt, set, suc, true, ℕ}
+use Rattle.std.specs.Prelude.{◌∷◌, ◌&&◌, Bool, List, None, Option, Some, [], cond, false, get_or, length, nat_lt, set, suc, true, ℕ}
 use Rattle.std.specs.List.{list_all, list_any}
 use Rattle.plain_values.specs.Points.{points}
 use Rattle.region_tree.specs.declared.tree.OpNumber.{OpNumber}

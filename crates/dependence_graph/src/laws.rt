@@ -2,8 +2,8 @@
 
 ghost use Rattle.dependence_graph.specs.Laws.{FailuresReachAll};
 
-/// Behind a failure nothing waits for what has failed or was dropped.
-#[tactic(auto, using(crate::proofs::Vain::failures_reach_all))]
+/// Behind a failure nothing waits for what has failed or was dropped, and no others have given up than those that
+/// wait for such.
 pub fn failures_reach_all()
     ensures { FailuresReachAll }
 {}

@@ -77,6 +77,7 @@ impl LeastSet {
         }
     }
 
+    /// Whether a number is in: one without room isn't.
     pub fn has(&self, number: usize) -> bool
         ensures { result ≡ has self.now number }
     {

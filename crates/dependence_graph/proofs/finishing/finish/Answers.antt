@@ -1,7 +1,6 @@
-use Rattle.std.proofs.Common.{◌∙◌, Bool, List, ap, arith, false, length, set, subst, sym, true, ◌≡◌, ℕ}
+use Rattle.std.proofs.Common.{◌∙◌, Bool, List, ap, false, length, subst, sym, ◌≡◌}
 use Rattle.std.proofs.lemmas.List.{get_or_read, length-set}
 use Rattle.least_set.specs.Members.{has}
-use Rattle.region_finder.specs.Listings.{Listed}
 use Rattle.region_tree.specs.declared.tree.OpNumber.{OpNumber}
 use Rattle.dependence_graph.specs.Entries.{Knot}
 use Rattle.dependence_graph.specs.Knots.{is_ready, knot_at, no_knot, with_stage}

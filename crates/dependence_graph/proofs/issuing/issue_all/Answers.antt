@@ -1,14 +1,12 @@
-use Rattle.std.proofs.Common.{◌≡◌, ◌∙◌, All, List, ap, arith, drop, length, refl, subst, sym, ℕ, ◌+◌}
+use Rattle.std.proofs.Common.{◌∙◌, All, List, ap, arith, drop, length, refl, subst, sym, ℕ, ◌+◌}
 use Rattle.std.proofs.lemmas.List.{at_drop_all, at_drop_more}
 use Rattle.std.proofs.lemmas.List.Elements.{All-get_or}
-use Rattle.region_finder.specs.Listings.{Listed}
 use Rattle.region_tree.specs.Needs.{AreNeeds}
 use Rattle.region_tree.specs.declared.needs.Needs.{Needs}
 use Rattle.dependence_graph.specs.Entries.{Knot}
 use Rattle.dependence_graph.specs.Graphs.{Waits, issued, issued_one}
 use Rattle.dependence_graph.specs.Issues.{state}
 use Rattle.dependence_graph.specs.Links.{IsIssued, IsLinked}
-use Rattle.dependence_graph.specs.declared.link.Link.{Link}
 use Rattle.dependence_graph.proofs.IssuingSteps.{back_linked, back_state, issuing_start, issuing_step, listed_below}
 use Rattle.dependence_graph.proofs.issuing.issue_all.Goals as goal
 

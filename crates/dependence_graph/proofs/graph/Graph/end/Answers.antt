@@ -1,4 +1,4 @@
-use Rattle.std.proofs.Common.{◌∙◌, Bool, List, ap, false, set, subst, sym}
+use Rattle.std.proofs.Common.{◌∙◌, Bool, List, ap, subst, sym}
 use Rattle.dependence_graph.specs.Entries.{Knot}
 use Rattle.dependence_graph.specs.Graphs.{Waits}
 use Rattle.dependence_graph.specs.Knots.{given_up, is_in_progress, knot_at, with_stage}

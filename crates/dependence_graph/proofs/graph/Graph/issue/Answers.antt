@@ -1,11 +1,9 @@
-use Rattle.std.proofs.Common.{◌≡◌, ◌≤◌, ◌+◌, ◌∙◌, All, List, ap, arith, length, subst, sym, true, ℕ}
-use Rattle.region_tree.specs.declared.needs.Needs.{Needs}
-use Rattle.least_set.specs.Members.{has}
+use Rattle.std.proofs.Common.{◌≡◌, ◌∙◌, List, ap, arith, length, subst, sym, ℕ}
 use Rattle.dependence_graph.specs.Entries.{Knot}
-use Rattle.dependence_graph.specs.Graphs.{Waits, issued}
+use Rattle.dependence_graph.specs.Graphs.{issued}
 use Rattle.dependence_graph.specs.Issues.{state}
 use Rattle.dependence_graph.specs.Knots.{is_ready}
-use Rattle.dependence_graph.specs.Links.{AreReady, IsKept, IsLinked}
+use Rattle.dependence_graph.specs.Links.{AreReady, IsLinked}
 use Rattle.dependence_graph.proofs.Stepping.{issued_ready, issued_size, kept_issued}
 use Rattle.dependence_graph.proofs.graph.Graph.issue.Goals as goal
 

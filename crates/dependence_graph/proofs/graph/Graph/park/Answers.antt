@@ -1,5 +1,5 @@
 use Rattle.std.proofs.Common.{◌≡◌, ◌∙◌, List, ap, set, subst, sym, true}
-use Rattle.region_finder.specs.Listings.{IsListingOf, Listed}
+use Rattle.region_finder.specs.Listings.{IsListingOf}
 use Rattle.region_tree.specs.declared.tree.OpNumber.{OpNumber}
 use Rattle.least_set.specs.Members.{has}
 use Rattle.dependence_graph.specs.Entries.{Knot}
@@ -7,7 +7,6 @@ use Rattle.dependence_graph.specs.Graphs.{Waits, knot_on, waited}
 use Rattle.dependence_graph.specs.Issues.{IsOwn}
 use Rattle.dependence_graph.specs.Knots.{is_ready, knot_at}
 use Rattle.dependence_graph.specs.Links.{AreReady, IsKept, IsLinked}
-use Rattle.dependence_graph.specs.declared.stage.Stage.{Stage}
 use Rattle.dependence_graph.specs.declared.stage.Stage.TheVariants.{Parked, Stopped}
 use Rattle.dependence_graph.proofs.Stepping.{kept_parked, waits_linked, waits_ready}
 use Rattle.dependence_graph.proofs.graph.Graph.park.Goals as goal
