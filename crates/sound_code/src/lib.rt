@@ -44,8 +44,8 @@ pub fn code_that_hands_regions_is_sound()
     ensures { HandingTasksAreSound }
 {}
 
-/// So is the code of each accepted program whose tasks keep their regions to themselves, and the frame in which its run
-/// begins fits, with any turns.
+/// So is the code of each accepted program whose tasks keep their regions to themselves and have no pointers, and the frame
+/// in which its run begins fits, with any turns.
 #[tactic(auto, using(crate::proofs::Rules::local_programs_are_sound))]
 pub fn local_programs_are_sound()
     ensures { LocalProgramsAreSound }
