@@ -1,0 +1,3 @@
+pub mod Above
+pub mod Growing
+pub mod Holding
