@@ -1,0 +1,9 @@
+//! Finders of earlier operations (the dependence analysis of Legion, SC 2012).
+#![tactic(auto)]
+
+mod conflicts;
+mod entry;
+mod placed;
+mod scan;
+
+pub use scan::ScanFinder;
