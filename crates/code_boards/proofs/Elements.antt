@@ -36,7 +36,7 @@ module _ (code : Code) where
       choice true = ap (λ zs. zs ++ numbers_in_parts code qs) (pieces_numbers m p z q.pieces)
       choice false = refl
 
-  parts_numbers : (ps : List (Element (regent_ground (spaces_of code)))) → numbers_in_parts code (parts_in code ps) ≡ numbers_of code ps
+  pub parts_numbers : (ps : List (Element (regent_ground (spaces_of code)))) → numbers_in_parts code (parts_in code ps) ≡ numbers_of code ps
   parts_numbers [] = refl
   parts_numbers (x ∷ ps) = onto_numbers x.location.root x.location.field (mode_in code x.mode) x.location.point x.number (parts_in code ps)
       ∙ ap (λ zs. x.number ∷ zs) (parts_numbers ps)
@@ -51,7 +51,7 @@ module _ (code : Code) where
     pieces_count hs,
   )
 
-  parts_count : (qs : List Part) → length (numbers_in_parts code (bare qs)) ≡ length (numbers_in_parts code qs)
+  pub parts_count : (qs : List Part) → length (numbers_in_parts code (bare qs)) ≡ length (numbers_in_parts code qs)
   parts_count [] = refl
   parts_count (q ∷ qs) = omega (
     arith,
@@ -61,7 +61,7 @@ module _ (code : Code) where
     parts_count qs,
   )
 
-  count_elements : (ps : List (Element (regent_ground (spaces_of code)))) → length (numbers_of code ps) ≡ length ps
+  pub count_elements : (ps : List (Element (regent_ground (spaces_of code)))) → length (numbers_of code ps) ≡ length ps
   count_elements [] = refl
   count_elements (x ∷ ps) = ap (λ n. suc n) (count_elements ps)
 

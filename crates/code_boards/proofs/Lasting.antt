@@ -31,7 +31,7 @@ use Rattle.regent_boards.specs.RegentMachine.{fields_of, grown_by, met_frame, me
 use Rattle.region_tree.specs.declared.needs.Needs.{Needs}
 use Rattle.machine_terms.specs.Parts.{is_needed}
 use Rattle.regent_boards.specs.Frames as board
-use Rattle.code_boards.specs.Views.{and_all, board_segment, called, called_all, called_with, calls_out, frame_in, frame_out, last_frame, made_out, needs_in, numbers_in_parts, opening_with, parts_in, spaces_of, region_in, required_all, value_in, value_out, with_numbers, yield_out, before_in}
+use Rattle.code_boards.specs.Views.{and_all, board_segment, called, called_all, called_with, calls_out, frame_in, frame_out, last_frame, made_out, needs_in, numbers_in_parts, opening_with, parts_in, spaces_of, region_in, region_out, required_all, value_in, value_out, with_numbers, yield_out, before_in}
 use Rattle.machine_terms.proofs.StepKinds.{Fixed, key_of, slot_of, pointer_key, region_key, aimed_key, still}
 use Rattle.machine_terms.proofs.Kept.{stop_fixed}
 use Rattle.order_laws.proofs.Waits.{AfterStop, Answers, AsksAlike, Passed, Within, twice}
@@ -39,12 +39,12 @@ use Rattle.order_laws.proofs.Rounds.{ends_soon}
 use Rattle.machine_terms.proofs.Fuel.{anywhere}
 use Rattle.order_laws.proofs.Ends.{stop_sooner}
 use Rattle.code_boards.proofs.Filled.{want_held}
-use Rattle.code_boards.proofs.Wanted.{WantIsNeeded, wants_are_needed}
+use Rattle.code_boards.proofs.Wanted.{IsAsked, segments_ask}
 
 -- ---- a frame that the board has seen asks for the same
 
 abbrev plain : RegionValue → RegionValue
-plain r = region_in r.root.0 r.points
+plain r = region_in (region_out r)
 
 region_seen : (o : Option Value) → region_of (option_map value_in (option_map value_out o)) ≡ option_map plain (region_of o)
 region_seen None = refl
@@ -304,7 +304,7 @@ module _ (code : Code) (turns : ℕ) where
           (omega (arith, deep, fx.depth)) found)
           (λ e. absurd cc)
 
-      by_yield : (y : Yield) (q : List (Element G)) → WantIsNeeded y x → AfterStop (Within code t.body n) y x →
+      by_yield : (y : Yield) (q : List (Element G)) → IsAsked y x → AfterStop (Within code t.body n) y x →
           (go_run G M (numbered_run G M k) p N i vs (last_frame f (frame_after y x.frame)) q (yield_out code turns f.depth y) c m).result ≡ spent → ⊥
       by_yield (yield.Calls cs) q wanted w = calls_done (called_all code turns f.depth cs) q (all_good f.depth cs)
           (ap (λ d. nat_lt d 64) (sym fx.depth) ∙ w.0) w.1
@@ -312,7 +312,7 @@ module _ (code : Code) (turns : ℕ) where
           let more_parts = q ++ filled G (M c) ((M c).wanted N (record { root = r.0; field = h })) m in
           on more_parts vs c m (w (here g more_parts) passed (asks_seen f x.frame)
           (want_held code (M c) m N r.0 h q (ap (λ (rs : List Requirement). is_needed (needs_in rs) r.0 h) (sym needs)
-          ∙ ap (λ (ns : Needs). is_needed ns.items r.0 h) (sym fx.needs) ∙ wanted)))
+          ∙ ap (λ (ns : Needs). is_needed ns.items r.0 h) (sym fx.needs) ∙ wanted.needed)))
       by_yield (yield.Await j) q wanted w =
           let v = answer_at G (M c) vs j in
           let met = met_frame (spaces_of code) g j v in
@@ -331,5 +331,5 @@ module _ (code : Code) (turns : ℕ) where
       let s = stop_sooner (before_in code f ps) t n found w in
       by_yield k (lasts k) e s.steps t p N i f ps vs c m found needs (omega (arith, room, s.fewer)) deep
       (stop_of (before_in code f ps)).machine (stop_fixed (before_in code f ps)) (stop_of (before_in code f ps)).ends
-      (with_numbers code ps (numbers_in_parts code (stop_of (before_in code f ps)).machine.parts)) (wants_are_needed (before_in code f ps)) s.goes_on
+      (with_numbers code ps (numbers_in_parts code (stop_of (before_in code f ps)).machine.parts)) (segments_ask (before_in code f ps)) s.goes_on
       (prefix_spent (stop_of (before_in code f ps)).text _ h)

@@ -16,6 +16,7 @@ use Rattle.machine_terms.specs.declared.outcome.Made.{Made}
 use Rattle.machine_terms.specs.declared.outcome.Made.TheVariants as made
 use Rattle.machine_terms.specs.declared.outcome.Yield.{Yield}
 use Rattle.machine_terms.specs.declared.outcome.Yield.TheVariants as yield
+use Rattle.machine_terms.specs.declared.value.RegionValue.{RegionValue}
 use Rattle.machine_terms.specs.declared.value.Value.{Value}
 use Rattle.machine_terms.specs.declared.value.Value.TheVariants as value
 use Rattle.machine_terms.specs.Parts.{is_part_of}
@@ -24,12 +25,12 @@ use Rattle.board_rules.specs.Running.{Call, Element, Yield as BoardYield, make, 
 use Rattle.board_rules.specs.Renaming.{after_to as board_after_to, calls_to, elements, yield_to as board_yield_to}
 use Rattle.regent_boards.specs.Laws as laws
 use Rattle.regent_boards.specs.RegentMachine.{base, kinds_of, regent_ground, regent_roots}
-use Rattle.regent_boards.specs.RootRenaming.{IsOneToOne as OneToOne, renamed_frame, renamed_made, renamed_value, renaming, requirement_to, root_to as board_root_to}
+use Rattle.regent_boards.specs.RootRenaming.{IsOneToOne as OneToOne, region_to as board_region_to, renamed_frame, renamed_made, renamed_value, renaming, requirement_to, root_to as board_root_to}
 use Rattle.regent_boards.specs.Frames as board
 use Rattle.regent_boards.proofs.RootRenaming.{kind_to, space_to, to_one}
 use Rattle.segment_renaming.specs.Renaming.{Names, IsOneToOne, after_to, before_to, call_to, frame_to, made_to, need_to, part_to, region_to, root_to, value_to, yield_to}
-use Rattle.code_boards.specs.Views.{after_out, and_all, before_in, board_segment, called, called_all, called_with, calls_out, frame_in, frame_out, last_frame, made_out, need_in, needs_in, numbers_in_parts, onto_parts, opening_with, part_with, parts_in, piece_with, mode_in, onto_pieces, spaces_of, region_in, required, required_all, root_in, value_in, value_out, with_numbers, yield_out}
-use Rattle.segment_renaming.proofs.Alike.{sets_alike, same_root}
+use Rattle.code_boards.specs.Views.{after_out, and_all, before_in, board_segment, called, called_all, called_with, calls_out, frame_in, frame_out, last_frame, made_out, need_in, needs_in, numbers_in_parts, onto_parts, opening_with, part_with, parts_in, piece_with, mode_in, onto_pieces, spaces_of, region_in, region_out, required, required_all, root_in, value_in, value_out, with_numbers, yield_out}
+use Rattle.segment_renaming.proofs.Alike.{same_root}
 use Rattle.segment_renaming.proofs.Segments.{segment_same}
 
 -- ---- parts are kept
@@ -53,10 +54,9 @@ module _ (code : Code) (name : ℕ → ℕ) (one : OneToOne name) where
   names_one : IsOneToOne names
   names_one a b e = to_one (spaces_of code) name one a b e
 
-  regions_in_to : (root : ℕ) (sets : List (List ℕ)) →
-      map (region_in (board_root_to name root)) sets ≡ map (region_to names) (map (region_in root) sets)
-  regions_in_to root [] = refl
-  regions_in_to root (s ∷ ss) = ap (λ rs. region_in (board_root_to name root) s ∷ rs) (regions_in_to root ss)
+  regions_in_to : (rs : List board.Region) → map region_in (map (board_region_to name) rs) ≡ map (region_to names) (map region_in rs)
+  regions_in_to [] = refl
+  regions_in_to (r ∷ rs) = ap (λ xs. region_in (board_region_to name r) ∷ xs) (regions_in_to rs)
 
   value_in_to : (v : board.Value) → value_in (renamed_value name v) ≡ value_to names (value_in v)
   value_in_to (board.a_number z) = refl
@@ -66,7 +66,7 @@ module _ (code : Code) (name : ℕ → ℕ) (one : OneToOne name) where
     root = record { 0 = board_root_to name p.root };
     disjoint = p.disjoint;
     children = rs;
-  })) (regions_in_to p.root p.sets)
+  })) (regions_in_to p.children)
   value_in_to (board.pending i) = refl
 
   values_in_to : (vs : List board.Value) → map value_in (map (renamed_value name) vs) ≡ map (value_to names) (map value_in vs)
@@ -103,15 +103,19 @@ module _ (code : Code) (name : ℕ → ℕ) (one : OneToOne name) where
 
   -- ---- and back
 
+  regions_out_to : (rs : List RegionValue) → map region_out (map (region_to names) rs) ≡ map (board_region_to name) (map region_out rs)
+  regions_out_to [] = refl
+  regions_out_to (r ∷ rs) = ap (λ xs. board_region_to name (region_out r) ∷ xs) (regions_out_to rs)
+
   value_out_to : (v : Value) → value_out (value_to names v) ≡ renamed_value name (value_out v)
   value_out_to (value.Number z) = refl
   value_out_to (value.Space k) = refl
   value_out_to (value.Region r) = refl
-  value_out_to (value.Partition p) = ap (λ ss. board.a_partition (record {
+  value_out_to (value.Partition p) = ap (λ rs. board.a_partition (record {
     root = board_root_to name p.root.0;
     disjoint = p.disjoint;
-    sets = ss;
-  })) (sets_alike names p)
+    children = rs;
+  })) (regions_out_to p.children)
   value_out_to (value.Pending i) = refl
 
   values_out_to : (vs : List Value) → map value_out (map (value_to names) vs) ≡ map (renamed_value name) (map value_out vs)

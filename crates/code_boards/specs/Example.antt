@@ -43,16 +43,20 @@ child_task = record {
       ∷ at_line (instr.Write (0 ∷ []) 0 W64) ∷ at_line instr.Return ∷ [];
 }
 
-abbrev pub job : Job
-job = record {
+-- a job of these tasks, with a field space of one field
+abbrev pub job_with : List TaskCode → Job
+job_with tasks = record {
   code = record {
-    tasks = main_task ∷ child_task ∷ [];
+    tasks = tasks;
     spaces = record { name = []; fields = record { name = []; kind = Int64 } ∷ [] } ∷ [];
     start = 0;
   };
   inputs = [];
   turns = 5;
 }
+
+abbrev pub job : Job
+job = job_with (main_task ∷ child_task ∷ [])
 
 abbrev pub text_of : Outcome (regent_ground (spaces_of job.code)) → Option (List ℕ)
 text_of (finished s m) = Some s
@@ -107,15 +111,7 @@ reading_task = record {
 }
 
 abbrev pub empty_job : Job
-empty_job = record {
-  code = record {
-    tasks = start_task ∷ reading_task ∷ [];
-    spaces = record { name = []; fields = record { name = []; kind = Int64 } ∷ [] } ∷ [];
-    start = 0;
-  };
-  inputs = [];
-  turns = 5;
-}
+empty_job = job_with (start_task ∷ reading_task ∷ [])
 
 abbrev pub stop_of : Outcome (regent_ground (spaces_of empty_job.code)) → Option Stop
 stop_of (finished s m) = None

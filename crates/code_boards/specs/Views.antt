@@ -25,7 +25,6 @@ use Rattle.machine_terms.specs.declared.value.RegionValue.{RegionValue}
 use Rattle.machine_terms.specs.declared.value.Value.{Value}
 use Rattle.machine_terms.specs.declared.value.Value.TheVariants as value
 use Rattle.machine_terms.specs.Parts.{is_part_of}
-use Rattle.machine_terms.specs.Regions.{sets_of}
 use Rattle.machine_terms.specs.Segments.{segment}
 use Rattle.board_rules.specs.Ground.{Mode, reads, reduces, writes}
 use Rattle.board_rules.specs.Running.{After as BoardAfter, Call, Element, Yield as BoardYield, await, calls, ends, make, stops, want}
@@ -42,17 +41,17 @@ spaces_of code = map (λ (s : SpaceCode). map (λ (f : FieldCode). f.kind) s.fie
 -- ---- frames: into the machine
 
 -- a region has node 0
-abbrev pub region_in : ℕ → List ℕ → RegionValue
-region_in root xs = record { root = record { 0 = root }; node = record { 0 = 0 }; points = xs }
+abbrev pub region_in : board.Region → RegionValue
+region_in r = record { root = record { 0 = r.root }; node = record { 0 = 0 }; points = r.points }
 
 abbrev pub value_in : board.Value → Value
 value_in (board.a_number z) = value.Number z
 value_in (board.a_space n) = value.Space n
-value_in (board.a_region r) = value.Region (region_in r.root r.points)
+value_in (board.a_region r) = value.Region (region_in r)
 value_in (board.a_partition p) = value.Partition (record {
   root = record { 0 = p.root };
   disjoint = p.disjoint;
-  children = map (region_in p.root) p.sets;
+  children = map region_in p.children;
 })
 value_in (board.pending i) = value.Pending i
 
@@ -83,11 +82,14 @@ frame_in f = record {
 
 -- ---- and back
 
+abbrev pub region_out : RegionValue → board.Region
+region_out r = record { root = r.root.0; points = r.points }
+
 abbrev pub value_out : Value → board.Value
 value_out (value.Number z) = board.a_number z
 value_out (value.Space n) = board.a_space n
-value_out (value.Region r) = board.a_region (record { root = r.root.0; points = r.points })
-value_out (value.Partition p) = board.a_partition (record { root = p.root.0; disjoint = p.disjoint; sets = sets_of p })
+value_out (value.Region r) = board.a_region (region_out r)
+value_out (value.Partition p) = board.a_partition (record { root = p.root.0; disjoint = p.disjoint; children = map region_out p.children })
 value_out (value.Pending i) = board.pending i
 
 -- What a segment never changes is that of the frame from which it ran: a need of the machine tells no
@@ -114,7 +116,7 @@ last_frame g (Some f) = frame_out g f
 abbrev pub made_out : Made → board.Made
 made_out (made.Root size space) = board.new_root space size
 made_out (made.Partition r sets disjoint) =
-    board.new_partition (record { root = r.root.0; points = r.points }) sets disjoint
+    board.new_partition (region_out r) sets disjoint
 
 module _ (code : Code) where
   -- ---- parts

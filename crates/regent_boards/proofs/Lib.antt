@@ -2,4 +2,5 @@ pub mod Boards
 pub mod ByNumber
 pub mod Folds
 pub mod NeedLaws
+pub mod NeedRenaming
 pub mod RootRenaming

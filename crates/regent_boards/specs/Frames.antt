@@ -17,7 +17,7 @@ pub record Region : Type 0 where
 pub record Partition : Type 0 where
   pub root : ℕ
   pub disjoint : Bool
-  pub sets : List (List ℕ)
+  pub children : List Region
 
 pub data Value : Type 0 where
   a_number : ℤ → Value

@@ -131,7 +131,9 @@ module _ (spaces : Spaces) where
     needs = f.needs ++ needs_of_root (root_of space size who) size (fields_of space);
     own = f.own ++ root_of space size who ∷ [];
   }
-  pushed_on who (new_partition r sets disjoint) f = record f { stack = a_partition (record { root = r.root; disjoint = disjoint; sets = sets }) ∷ f.stack }
+  pushed_on who (new_partition r sets disjoint) f = record f {
+    stack = a_partition (record { root = r.root; disjoint = disjoint; children = map (λ xs. record { root = r.root; points = xs }) sets }) ∷ f.stack;
+  }
 
   abbrev pub grown_by : ℕ → Made → List Requirement → List Requirement
   grown_by who (new_root space size) N = N ++ needs_of_root (root_of space size who) size (fields_of space)

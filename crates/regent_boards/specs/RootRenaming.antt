@@ -3,7 +3,7 @@ use Rattle.std.specs.Prelude.{◌≡◌, map, ℕ}
 use Rattle.region_tree.specs.Requirements.{Requirement}
 use Rattle.board_rules.specs.Renaming.{Renames}
 use Rattle.regent_boards.specs.RegentMachine.{base, regent_roots, root_of, size_of, space_of, who_of}
-use Rattle.regent_boards.specs.Frames.{Frame, Made, Spaces, Value, a_number, a_partition, a_region, a_space, new_partition, new_root, pending}
+use Rattle.regent_boards.specs.Frames.{Frame, Made, Region, Spaces, Value, a_number, a_partition, a_region, a_space, new_partition, new_root, pending}
 
 module _ (name : ℕ → ℕ) where
   abbrev pub IsOneToOne : Type 0
@@ -15,11 +15,14 @@ module _ (name : ℕ → ℕ) where
   abbrev pub requirement_to : Requirement → Requirement
   requirement_to r = record { root = root_to r.root; points = r.points; field = r.field; mode = r.mode }
 
+  abbrev pub region_to : Region → Region
+  region_to r = record { root = root_to r.root; points = r.points }
+
   abbrev pub renamed_value : Value → Value
   renamed_value (a_number z) = a_number z
   renamed_value (a_space n) = a_space n
-  renamed_value (a_region r) = a_region (record { root = root_to r.root; points = r.points })
-  renamed_value (a_partition q) = a_partition (record { root = root_to q.root; disjoint = q.disjoint; sets = q.sets })
+  renamed_value (a_region r) = a_region (region_to r)
+  renamed_value (a_partition q) = a_partition (record { root = root_to q.root; disjoint = q.disjoint; children = map region_to q.children })
   renamed_value (pending c) = pending c
 
   abbrev pub renamed_frame : Frame → Frame
@@ -38,7 +41,7 @@ module _ (name : ℕ → ℕ) where
 
   abbrev pub renamed_made : Made → Made
   renamed_made (new_root space size) = new_root space size
-  renamed_made (new_partition r sets disjoint) = new_partition (record { root = root_to r.root; points = r.points }) sets disjoint
+  renamed_made (new_partition r sets disjoint) = new_partition (region_to r) sets disjoint
 
   abbrev pub renaming : (spaces : Spaces) → Renames base (regent_roots spaces) (regent_roots spaces)
   renaming spaces = record {

@@ -173,7 +173,7 @@ module _ (n : Names) (one : IsOneToOne n) where
       tested true e = eq-eqb (n.root a) (n.root b) (ap n.root (eqb-true a b e)) ∙ sym e
       tested false e = ne_eqb (n.root a) (n.root b) (λ q. clash e (eq-eqb a b (one a b q))) ∙ sym e
 
-  needed_alike : (needs : List Need) (root field : ℕ) →
+  pub needed_alike : (needs : List Need) (root field : ℕ) →
       is_needed (map (need_to n) needs) (n.root root) field ≡ is_needed needs root field
   needed_alike [] root field = refl
   needed_alike (d ∷ ds) root field = λ i. same_root d.root.0 root i && (d.field == field) || needed_alike ds root field i
