@@ -59,11 +59,11 @@ module _ (x : Setting) where
 
   steps_grow : (ask : Asking) (i : Instance) (s : Stepped) → Kind ask (machine_of i) s → Grows i.frame.own (on_step x i s)
   steps_grow ask i _ (over y m o f) = stopped y m i o
-  steps_grow ask i _ (called cs m f a b c) =
+  steps_grow ask i _ (called o m f a b c) =
       each_map (λ j. j.frame ≡ m.frame) (λ j. HasMore i.frame.own j.frame.own)
       (λ j e. more_same i.frame.own j.frame.own (ap (λ g. g.own) e ∙ f.own))
-      (call_all x.code x.turns x.child cs (give_all (has_machine m i)))
-      (calls_frames x.code x.turns x.child cs m.frame (give_all (has_machine m i)) refl)
+      (call_all x.code x.turns x.child (o ∷ []) (give_all (has_machine m i)))
+      (calls_frames x.code x.turns x.child (o ∷ []) m.frame (give_all (has_machine m i)) refl)
   steps_grow ask i _ (makes d m f a b) = makes_more i.frame.own (has_machine m i) d f.own
   steps_grow ask i _ (wants r g m f a b c) = more_same i.frame.own m.frame.own f.own
   steps_grow ask i _ (awaits n a) = more_none i.frame.own

@@ -21,7 +21,7 @@ use Rattle.code_rules.specs.Programs.{task_code}
 use Rattle.code_laws.specs.Handing.{AreTypedBy, forms_by}
 use Rattle.local_form.specs.LocalForm.{are_scalar_params, is_among, marked_by_task}
 use Rattle.code_laws.specs.Simple.{IsInteger, an_integer}
-use Rattle.code_laws.specs.LocalPrograms.{AcceptedProgramsEndWell, AcceptedProgramsRunAsMeant, IsKeptProgramRun, IsLocalProgramRun, has_no_pointer, takes_scalars}
+use Rattle.code_laws.specs.LocalPrograms.{AcceptedProgramsEndWell, AcceptedProgramsRunAsMeant, IsKeptProgramRun, IsLocalProgramRun, IsPlainProgramRun, has_no_pointer, takes_scalars}
 use Rattle.code_laws.specs.Programs.{AreTypedTasks, IsGiven, IsTypedRun, call_forms, gives_nothing, gives_scalar}
 use Rattle.code_laws.proofs.LocalBlocks.{block_local}
 use Rattle.code_laws.proofs.DeclaredNeeds.{needs_none}
@@ -137,6 +137,14 @@ takes_alone tree e i h t same =
 no_pointer_among : (tree : Tree) → list_all (λ (i : ItemTree). has_no_pointer i.form) tree ≡ true → (i : ItemTree) → Has tree i → (t : TaskTree) → i.form ≡ task_item t →
     HasNoPointer t
 no_pointer_among tree e i h t same = subst (λ form. has_no_pointer form ≡ true) same (all_of (λ i. has_no_pointer i.form) tree e i h)
+
+-- programs without pointers are typed without kept ones
+module _ (tree : Tree) (inputs : List ℤ) (p : IsPlainProgramRun tree inputs) where
+  pub plain_tasks : AreTypedBy true false tree
+  plain_tasks = every_task true false tree inputs p.run (no_premise tree) (λ q. no_pointer_among tree p.plain)
+
+  pub plain_run : IsTypedRun (forms_by true false tree (task_named tree (entry_name tree))) tree inputs
+  plain_run = the_run true false tree inputs p.run (no_premise tree) (λ q. no_pointer_among tree p.plain)
 
 -- such programs are typed without regions that are handed over
 module _ (tree : Tree) (inputs : List ℤ) (p : IsKeptProgramRun tree inputs) where

@@ -43,17 +43,22 @@ abbrev pub AcceptedProgramsEndWell : Type 0
 AcceptedProgramsEndWell = (tree : Tree) (inputs : List ℤ) (turns : ℕ) → turns < 2 ^ 64 → IsLocalProgramRun tree inputs →
     EndsWell tree inputs turns
 
--- a task takes numbers and truths alone, and declares nothing
-abbrev pub takes_scalars : ItemForm → Bool
-takes_scalars (task_item t) = are_scalar_params t.params && is_empty t.clauses
-takes_scalars item = true
-
 -- a task has no name that may stand for a pointer: none of its loops goes over a region
 abbrev pub has_no_pointer : ItemForm → Bool
 has_no_pointer (task_item t) = is_empty (marked_by_task t).pointers
 has_no_pointer item = true
 
--- such a program whose tasks keep their regions to themselves, and have no pointers
+-- such a program whose tasks have no pointers
+pub record IsPlainProgramRun (tree : Tree) (inputs : List ℤ) : Type 0 where
+  pub run : IsLocalProgramRun tree inputs
+  pub plain : list_all (λ (i : ItemTree). has_no_pointer i.form) tree ≡ true
+
+-- a task takes numbers and truths alone, and declares nothing
+abbrev pub takes_scalars : ItemForm → Bool
+takes_scalars (task_item t) = are_scalar_params t.params && is_empty t.clauses
+takes_scalars item = true
+
+-- and keep their regions to themselves
 pub record IsKeptProgramRun (tree : Tree) (inputs : List ℤ) : Type 0 where
   pub run : IsLocalProgramRun tree inputs
   pub kept : list_all (λ (i : ItemTree). takes_scalars i.form) tree ≡ true

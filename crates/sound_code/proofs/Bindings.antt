@@ -1,5 +1,5 @@
 -- What loops and variables bind: widths, domains, and the shapes of roots.
-use Rattle.std.proofs.Common.{◌≡◌, ℕ, ℤ, pos, List, Bool, true, false, Some, refl, sym, ap, arith}
+use Rattle.std.proofs.Common.{◌≡◌, ℕ, ℤ, pos, List, Bool, false, refl, arith}
 use Rattle.std.proofs.lemmas.Int.{ints}
 use Rattle.lane_kernels.specs.declared.numbers.Width.{Width}
 use Rattle.lane_kernels.specs.declared.numbers.Width.TheVariants.{W32, W64}
@@ -9,7 +9,6 @@ use Rattle.regent_tree.specs.declared.typing.StaticType.{StaticType}
 use Rattle.regent_tree.specs.declared.typing.StaticType.TheVariants.{Integer as integer_type}
 use Rattle.regent_tree.specs.Syntax.{Expression, Name, if_form, Block, Arms, Otherwise}
 use Rattle.regent_tree.specs.Typing.{arithmetic_type, is_pointer, owned, taken_from}
-use Rattle.task_code.specs.declared.code.TaskCode.{TaskCode}
 use Rattle.task_code.specs.declared.instr.Instr.TheVariants as instr
 use Rattle.machine_terms.specs.declared.value.Value.{Value}
 use Rattle.code_rules.specs.Initializers.{new_place, plain_code}
@@ -23,18 +22,11 @@ use Rattle.fit_rules.specs.Shapes.{integer, World, Is, is_number}
 use Rattle.code_rules.specs.Expressions.{expr_code}
 use Rattle.code_laws.specs.Simple.{IsSimple, simple_integer, simple_truth, simple_space, simple_index, IsInteger, an_integer, IsSpace, a_space_type}
 use Rattle.fit_rules.specs.Shapes.{index, space}
-use Rattle.std.proofs.lemmas.Bool.{le-leb}
 use Rattle.regent_tree.specs.Scopes.{Scope}
-use Rattle.regent_tree.specs.StaticTypes.{Reach}
 use Rattle.regent_tree.specs.Syntax.{Tree}
 use Rattle.regent_tree.specs.Typing.{scope_after_arms}
-use Rattle.regent_tree.specs.declared.facts.Term.TheVariants as place
-use Rattle.regent_tree.specs.declared.types.Kind.{Kind}
-use Rattle.regent_tree.specs.declared.typing.StaticType.TheVariants.{Region as region_type}
 use Rattle.check_laws.specs.MeantVisits.{meant_in_arms, meant_in_else, meant_within}
-use Rattle.fit_rules.specs.Shapes.{region}
-use Rattle.sound_code.specs.Ways.{Way, all_made, by_rules, shape_in, shape_of}
-use Rattle.sound_code.proofs.Grounds.{Ground}
+use Rattle.sound_code.specs.Ways.{Way, shape_in, shape_of}
 use Rattle.sound_code.proofs.Told.{ToldAll, told_both}
 
 -- ---- widths

@@ -1,7 +1,7 @@
 -- What a called task's clauses tell of its parameters holds of what is handed over, since nothing is told of the call.
-use Rattle.std.proofs.Common.{◌≡◌, inl, inr, ℕ, zero, suc, ◌<◌, List, [], Bool, true, false, Some, refl, sym, ap, ◌∙◌, subst, arith, None}
+use Rattle.std.proofs.Common.{◌≡◌, inl, inr, ℕ, zero, suc, List, Bool, true, false, Some, refl, sym, ap, ◌∙◌, subst, arith, None}
 use Rattle.std.specs.Prelude.{slice_get}
-use Rattle.std.proofs.lemmas.Bool.{false≢true, not-false}
+use Rattle.std.proofs.lemmas.Bool.{not-false}
 use Rattle.std.proofs.lemmas.Option.{none-some, same_Some}
 use Rattle.plain_values.proofs.Plain.{option_or_parts}
 use Rattle.plain_values.specs.Points.{has}
@@ -14,7 +14,6 @@ use Rattle.regent_tree.specs.declared.facts.Known.{Known}
 use Rattle.regent_tree.specs.declared.facts.Term.TheVariants as term
 use Rattle.regent_tree.specs.declared.program.Clause.TheVariants as clause
 use Rattle.regent_tree.specs.declared.typing.StaticType.{StaticType}
-use Rattle.regent_tree.specs.declared.typing.StaticType.TheVariants.{Region as region_type}
 use Rattle.task_code.specs.declared.code.TaskCode.{TaskCode}
 use Rattle.machine_terms.specs.declared.value.RegionValue.{RegionValue}
 use Rattle.machine_terms.specs.declared.value.Value.{Value}
@@ -27,7 +26,6 @@ use Rattle.check_rules.specs.scopes.Sound.{IsSoundTask}
 use Rattle.check_rules.specs.types.KnownTypes.{known_types}
 use Rattle.check_rules.specs.types.Sorts.{is_region, type_at}
 use Rattle.check_rules.specs.types.TypedForms.{calling}
-use Rattle.check_laws.specs.SoundScopes.{IsSoundScope}
 use Rattle.expression_laws.proofs.Calls.{call_parts}
 use Rattle.expression_laws.proofs.Params.{none_has}
 use Rattle.fact_laws.specs.Regions.{SharesNoPoint}
@@ -46,7 +44,7 @@ use Rattle.sound_code.proofs.Claims.{claims_apart, claims_within, each_claimed, 
 use Rattle.sound_code.proofs.Grounds.{HasFacts, Kept, OfType}
 use Rattle.sound_code.proofs.Handed.{all_handed, argument_at, given_in, is_given_region, IsGiven, region_numbered}
 use Rattle.sound_code.proofs.Interpreting.{apart_by_number, meant, region_at}
-use Rattle.sound_code.proofs.Lying.{above, is_lower, Lower, number_of_name}
+use Rattle.sound_code.proofs.Lying.{above, is_lower, number_of_name}
 use Rattle.sound_code.proofs.Placing.{placed_at}
 use Rattle.sound_code.proofs.Told.{ToldCall}
 use Rattle.fit_laws.proofs.Lookup.{each_among}

@@ -1,6 +1,6 @@
 -- What the rules grant a task it may touch: through the slot of a region's name each access is allowed that is declared
 -- on a region within which it is known to lie, and any where the task made it.
-use Rattle.std.proofs.Common.{◌≡◌, ◌⊎◌, inl, inr, ℕ, ◌<◌, ◌≤◌, List, true, cond, ◌&&◌, Some, refl, sym, ap, ◌∙◌, subst, arith}
+use Rattle.std.proofs.Common.{◌≡◌, inl, inr, ℕ, ◌<◌, ◌≤◌, List, true, cond, ◌&&◌, Some, refl, sym, ap, ◌∙◌, subst, arith}
 use Rattle.std.specs.Prelude.{length, nat_le, slice_get, ◌==◌}
 use Rattle.std.proofs.lemmas.Bool.{and_parts, eqb-true, le-leb, or_cases}
 use Rattle.lane_kernels.specs.declared.numbers.Mode.TheVariants as mode
@@ -20,30 +20,27 @@ use Rattle.regent_tree.specs.declared.rights.Access.TheVariants.{Read, Write, Re
 use Rattle.regent_tree.specs.declared.rights.Right.{Right}
 use Rattle.regent_tree.specs.declared.typing.StaticType.{StaticType}
 use Rattle.regent_tree.specs.declared.typing.StaticType.TheVariants.{Region as region_type}
-use Rattle.regent_tree.proofs.Members.{Has, Has-from_Contains, Has-from_list_any}
+use Rattle.regent_tree.proofs.Members.{Has, Has-from_list_any}
 use Rattle.task_code.specs.declared.code.TaskCode.{TaskCode}
 use Rattle.machine_terms.specs.declared.value.RegionValue.{RegionValue}
 use Rattle.machine_terms.specs.declared.value.Value.{Value}
 use Rattle.machine_terms.specs.Pointers.{region_in}
-use Rattle.constraint_check.specs.Derivations.{IsBelow, same, told_within, through, child, variable}
-use Rattle.constraint_check.proofs.Table.{is_subregion-derivable}
 use Rattle.check_rules.specs.rules.Privileges.{made_above, may_do, rights_declared, wanting}
 use Rattle.code_laws.specs.Simple.{IsRegion, a_region_type}
 use Rattle.expression_laws.specs.Needs.{mode_of}
 use Rattle.lane_kernels.proofs.SameOps.{same_op-tells}
 use Rattle.fit_rules.specs.Shapes.{Among, region, argument, own_as, own_root, World}
-use Rattle.fit_rules.specs.Marks.{Holds, in_slot, lies, LiesAt, Mark, stacked, Suits}
+use Rattle.fit_rules.specs.Marks.{in_slot, LiesAt, Mark, stacked, Suits}
 use Rattle.fit_rules.specs.Fits.{Covers, declares_it, Declares, Program, reads_and_writes}
 use Rattle.fit_rules.specs.Sound.{Allowed}
 use Rattle.fit_laws.proofs.Allowing.{allowed_made}
-use Rattle.fit_laws.proofs.Lookup.{each_among}
 use Rattle.sound_code.specs.Named.{slot_at}
 use Rattle.sound_code.specs.Ways.{Way, all_made, by_rules, opening_facts, origin_in, shape_in}
 use Rattle.sound_code.proofs.Asked.{Known as KnownTasks}
 use Rattle.sound_code.proofs.Declaring.{is_need, need_of}
 use Rattle.sound_code.proofs.Elements.{field_there}
 use Rattle.sound_code.proofs.Lying.{is_lower, Lower, number_of_name}
-use Rattle.sound_code.proofs.Grounds.{Ground, HasFacts, IsTold, Kept, OfType, tells_made, tells_within}
+use Rattle.sound_code.proofs.Grounds.{Ground, HasFacts, IsTold, Kept, OfType, tells_made}
 
 -- the term of a region's type
 abbrev pub term_in : StaticType → Term

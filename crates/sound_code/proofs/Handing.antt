@@ -1,32 +1,24 @@
 -- Calls, also those that hand regions over: what is handed is what the called task needs, and the frame which the call
 -- opens suits the mark in which the task's body begins.
-use Rattle.std.proofs.Common.{◌≡◌, inl, inr, ℕ, suc, ◌+◌, ◌<◌, ◌≤◌, ◌-◌, pos, List, [], ◌∷◌, ◌++◌, map, true, false, Option, None, Some, refl, sym, ap, ◌∙◌, subst, arith, cond}
+use Rattle.std.proofs.Common.{◌≡◌, inl, inr, ℕ, suc, ◌+◌, ◌<◌, ◌-◌, pos, List, [], ◌∷◌, ◌++◌, map, true, Option, None, Some, refl, sym, ap, ◌∙◌, subst, arith, cond}
 use Rattle.std.specs.Prelude.{length, replicate, slice_get, ◌==◌, ◌&&◌}
 use Rattle.std.specs.List.{list_any}
-use Rattle.std.proofs.lemmas.Bool.{and_parts, eqb-true, false≢true, or_cases}
+use Rattle.std.proofs.lemmas.Bool.{and_parts, eqb-true, or_cases}
 use Rattle.std.proofs.lemmas.Option.{none-some, same_Some}
 use Rattle.lane_kernels.specs.declared.numbers.Mode.{Mode}
 use Rattle.lane_kernels.specs.declared.numbers.Mode.TheVariants as mode
 use Rattle.plain_values.specs.Points.{has}
 use Rattle.region_tree.proofs.Joins.{same_mode-tells}
 use Rattle.region_tree.specs.Requirements.{same_mode}
-use Rattle.constraint_check.proofs.Table.{is_subregion-derivable}
-use Rattle.constraint_check.specs.Derivations.{IsBelow, child, same, through, told_within, variable}
-use Rattle.regent_tree.proofs.Members.{Has, Has-from_Contains, Has-from_list_any}
+use Rattle.regent_tree.proofs.Members.{Has, Has-from_list_any}
 use Rattle.regent_tree.specs.Accesses.{space_in}
 use Rattle.regent_tree.specs.Facts.{is_subregion}
-use Rattle.regent_tree.specs.Scopes.{bound_params, scope_of}
-use Rattle.regent_tree.specs.StaticTypes.{Looking, among_params, space_at, task_named, type_said}
-use Rattle.regent_tree.specs.Syntax.{Expression, Expressions, Name, TaskTree, Tree, an_expr, no_expr}
+use Rattle.regent_tree.specs.Scopes.{scope_of}
+use Rattle.regent_tree.specs.StaticTypes.{space_at, task_named}
+use Rattle.regent_tree.specs.Syntax.{Expression, Expressions, Name, TaskTree, an_expr, no_expr}
 use Rattle.regent_tree.specs.Typing.{param_types}
-use Rattle.regent_tree.specs.declared.facts.Known.TheVariants.{PartOf, Within}
 use Rattle.regent_tree.specs.declared.facts.Term.{Term}
 use Rattle.regent_tree.specs.declared.facts.Term.TheVariants as term
-use Rattle.regent_tree.specs.declared.types.NumberTerm.TheVariants as number
-use Rattle.regent_tree.specs.declared.types.Param.{Param}
-use Rattle.regent_tree.specs.declared.types.TypeTerm.{TypeTerm}
-use Rattle.regent_tree.specs.declared.types.TypeTerm.TheVariants as typing
-use Rattle.regent_tree.specs.declared.typing.Bound.{Bound}
 use Rattle.regent_tree.specs.declared.typing.StaticType.{StaticType}
 use Rattle.regent_tree.specs.declared.typing.StaticType.TheVariants.{Region as region_type}
 use Rattle.task_code.specs.declared.code.NeedCode.{NeedCode}
@@ -46,9 +38,8 @@ use Rattle.code_laws.specs.Taking.{MayDo, allows, is_need, is_part, known_of_pai
 use Rattle.code_laws.specs.Typed.{AreMet, ArePassed, IsCallable, IsHanded, IsMet, IsTyped, name_at}
 use Rattle.code_laws.proofs.Arguments.{given_either, handed_name}
 use Rattle.code_laws.proofs.Calling.{code_there}
-use Rattle.code_laws.proofs.Openings.{types_cons, types_in}
 use Rattle.fit_rules.specs.Shapes.{Among, Are, are_more, are_none, awaited, Each, Is, is_number, is_region, IsRegion as IsRegionValue, region, Shape, World, unknown, argument, own_as}
-use Rattle.fit_rules.specs.Marks.{Holds, Mark, stacked, Suits}
+use Rattle.fit_rules.specs.Marks.{Mark, stacked, Suits}
 use Rattle.fit_rules.specs.Fits.{count_at, Declares, declares_it, made_it, Program}
 use Rattle.fit_rules.specs.Ends.{called, IsNeeded}
 use Rattle.fit_rules.specs.Sound.{Opens, Takes}
@@ -61,9 +52,8 @@ use Rattle.sound_code.proofs.Asked.{Asked, Hands, hands_none, hands_taken, Known
 use Rattle.sound_code.proofs.Calling.{alike_second, nothing_needed, onto, opening_suits, opens, passed_many, passed_scalars, some_body, takes_settled, types_many}
 use Rattle.sound_code.proofs.Combining.{both, Marked, nothing_done}
 use Rattle.sound_code.proofs.Elements.{field_there}
-use Rattle.sound_code.proofs.Granting.{InPlace}
 use Rattle.sound_code.proofs.Parameters.{AreAt, IsLow, IsOwnAt, params_low, params_own}
-use Rattle.sound_code.proofs.Placing.{named_at, placed_at}
+use Rattle.sound_code.proofs.Placing.{named_at}
 use Rattle.sound_code.proofs.Handed.{IsAny, IsArgument, all_handed, all_long, all_settled, any_given, argument_at, given_in, handed, is_given_region, region_handed, region_loaded, scalar_handed, scalars_handed}
 use Rattle.sound_code.proofs.Grounds.{Ground, HasFacts, Kept}
 use Rattle.sound_code.proofs.Interpreting.{not_below}

@@ -1,18 +1,15 @@
 -- The code of an accepted program whose tasks hand a region on is sound.
 use Rattle.std.proofs.Common.{◌≡◌, ℕ, zero, suc, pos, [], ◌∷◌, Some, inl, inr, false, true, refl, sym, subst, arith, ap}
-use Rattle.std.proofs.lemmas.Bool.{false≢true}
 use Rattle.std.proofs.lemmas.Int.{ints}
 use Rattle.std.proofs.lemmas.Option.{none-some, same_Some}
 use Rattle.lane_kernels.specs.declared.numbers.Width.TheVariants.{W64}
-use Rattle.machine_terms.specs.Makes.{region_with}
 use Rattle.code_laws.specs.Handing.{AreTypedBy, IsTypedBy}
 use Rattle.code_laws.specs.Programs.{gives_nothing, gives_scalar}
 use Rattle.code_laws.specs.Simple.{a_region_type, a_space_type, an_integer, fits_64, number_integer, scalar_integer, simple_integer, two_integers, two_regions}
-use Rattle.fit_rules.specs.Shapes.{Are, are_more, are_none, Each, integer, IsRegion, is_number, is_region, argument}
+use Rattle.fit_rules.specs.Shapes.{Are, are_more, are_none, integer, IsRegion, is_number, is_region, argument}
 use Rattle.fit_rules.specs.Ends.{called}
 use Rattle.fit_rules.proofs.Points.{counted_points}
-use Rattle.regent_tree.specs.Syntax.{TaskTree}
-use Rattle.sound_code.specs.HandingExample.{change, change_args, first_root, hands_program, HandsExampleHolds, second_root, two_roots}
+use Rattle.sound_code.specs.HandingExample.{change, change_args, first_root, HandedIsSound, hands_program, HandsExampleHolds, second_root, two_roots}
 use Rattle.sound_code.specs.Programs.{AreConstrained, argument_shapes, TasksKeepRules}
 use Rattle.code_laws.specs.HandingExample.{handing_program}
 use Rattle.code_laws.proofs.HandingExample.{handing_example_holds}
@@ -20,7 +17,7 @@ use Rattle.machine_terms.specs.declared.value.RegionValue.{RegionValue}
 use Rattle.machine_terms.specs.Pointers.{region_in}
 use Rattle.plain_values.specs.Points.{has, IsPoints}
 use Rattle.std.specs.Prelude.{slice_get}
-use Rattle.sound_code.proofs.Rules.{handing_tasks_are_sound}
+use Rattle.sound_code.proofs.Rules.{handing_tasks_are_sound, local_programs_are_sound}
 
 tasks : AreTypedBy true false hands_program
 tasks zero t e = subst (IsTypedBy true false hands_program) (same_Some _ t e) (record {
@@ -128,3 +125,6 @@ hands_example_holds = record {
   hands = refl;
   within = handing_tasks_are_sound handing_program handing_example_holds.accepted.accepted handing_example_holds.tasks;
 }
+
+pub handed_is_sound : HandedIsSound
+handed_is_sound = local_programs_are_sound handing_program (pos 2 ∷ []) (record { run = handing_example_holds.accepted; plain = refl })

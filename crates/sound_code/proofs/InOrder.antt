@@ -1,5 +1,5 @@
 -- A run in order of compiled code keeps all: each of its segments begins from a state that fits.
-use Rattle.std.proofs.Common.{◌≡◌, inl, ℕ, ◌<◌, ◌^◌, ℤ, pos, List, [], Option, Some, None, refl, sym, ap, ◌∙◌, subst, arith, map}
+use Rattle.std.proofs.Common.{◌≡◌, inl, ℕ, pos, Option, Some, None, refl, sym, ap, ◌∙◌, subst, arith, map}
 use Rattle.std.specs.Prelude.{get_or, option_map, slice_get, unwrap_or}
 use Rattle.std.proofs.lemmas.Option.{none-some, same_Some, slice_get-map, unwrap_or-slice_get}
 use Rattle.std.proofs.lemmas.Int.{ints}
@@ -14,7 +14,7 @@ use Rattle.task_code.specs.declared.code.TaskCode.{TaskCode}
 use Rattle.machine_terms.specs.declared.value.Value.TheVariants.{Number}
 use Rattle.code_rules.specs.Instructions.{tasks_of}
 use Rattle.code_rules.specs.Programs.{code_of, task_code}
-use Rattle.code_laws.specs.Programs.{gives_nothing, gives_scalar, IsGiven, IsTypedRun}
+use Rattle.code_laws.specs.Programs.{gives_nothing, gives_scalar, IsGiven}
 use Rattle.code_laws.specs.Simple.{scalar_integer, scalar_truth}
 use Rattle.code_laws.specs.Steps.{Forms}
 use Rattle.fit_rules.specs.Shapes.{NumberIs}

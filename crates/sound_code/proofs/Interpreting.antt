@@ -1,7 +1,7 @@
 -- What is known of regions at a place, read as claims on the regions of the task's arguments and on the roots that it made: it
 -- holds, and so does what is derived of it.
 use Rattle.std.proofs.Common.{◌≡◌, ◌≢◌, inl, inr, ℕ, ◌<◌, ◌≤◌, List, [], Bool, true, false, cond, Option, None, Some, refl, sym, ap, ◌∙◌, subst, arith, leb-true, negsuc}
-use Rattle.std.specs.Prelude.{Contains, nat_le, pos, slice_get}
+use Rattle.std.specs.Prelude.{nat_le, pos, slice_get}
 use Rattle.std.proofs.lemmas.Bool.{false≢true, le-leb}
 use Rattle.plain_values.specs.Points.{has}
 use Rattle.regent_tree.proofs.Members.{Has, Has-from_Contains}
@@ -15,7 +15,7 @@ use Rattle.machine_terms.specs.Pointers.{region_in}
 use Rattle.fact_laws.specs.Regions.{AllHold, Holds as FactHolds, Interpretation, IsIn, LiesWithin, SharesNoPoint, child_at}
 use Rattle.fact_laws.proofs.Facts.{answers_hold}
 use Rattle.fit_rules.specs.Shapes.{Among, KnowsRoots, World}
-use Rattle.fit_rules.specs.Marks.{apart, Fact, Holds, in_slot, lies, LiesAt}
+use Rattle.fit_rules.specs.Marks.{Fact, Holds, in_slot, LiesAt}
 use Rattle.marked_code.proofs.Placed.{below}
 use Rattle.sound_code.proofs.Grounds.{IsTold, tells_apart, tells_made, tells_part, tells_within}
 

@@ -1,6 +1,6 @@
 -- Roots that are made under the numbers of names: a root is made under a number that no name has.
-use Rattle.std.proofs.Common.{◌≡◌, ◌≢◌, inl, inr, ℕ, zero, suc, ◌<◌, ◌+◌, List, [], ◌∷◌, map, Bool, true, false, cond, Some, refl, sym, ap, ◌∙◌, subst, arith}
-use Rattle.std.specs.Prelude.{length, nat_le, slice_set}
+use Rattle.std.proofs.Common.{◌≡◌, ◌≢◌, inl, inr, ℕ, zero, suc, ◌<◌, ◌+◌, List, [], ◌∷◌, map, cond, Some, sym, ap, subst, arith}
+use Rattle.std.specs.Prelude.{slice_set}
 use Rattle.std.proofs.lemmas.Bool.{le-leb}
 use Rattle.regent_tree.specs.Scopes.{Scope}
 use Rattle.regent_tree.specs.StaticTypes.{Reach}
@@ -13,7 +13,7 @@ use Rattle.regent_tree.specs.declared.typing.StaticType.TheVariants.{Region as r
 use Rattle.machine_terms.specs.declared.value.Value.{Value}
 use Rattle.check_laws.specs.SoundScopes.{Falls}
 use Rattle.code_laws.specs.Simple.{IsSimple, simple_index, simple_integer, simple_space, simple_truth}
-use Rattle.fit_rules.specs.Shapes.{Among, Each, Shape, anything, integer, truth, index, pointer, space, region, partition, awaited, Origin, unknown, argument, own_root, own_as, World, Is, is_number, is_region, IsRegion}
+use Rattle.fit_rules.specs.Shapes.{Among, Each, Shape, anything, integer, truth, index, pointer, space, region, partition, awaited, unknown, argument, own_root, own_as, World, Is, is_number, is_region}
 use Rattle.fit_rules.specs.Sound.{IsOther}
 use Rattle.sound_code.specs.Named.{IsNumbered}
 use Rattle.sound_code.specs.Ways.{Way, all_made, by_rules, origin_in, shape_in}

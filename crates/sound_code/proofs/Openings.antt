@@ -22,9 +22,8 @@ use Rattle.code_laws.proofs.ScalarRuns.{scalar_run}
 use Rattle.fit_rules.specs.Shapes.{NumberIs, World, is_number, Are, are_none, are_more}
 use Rattle.fit_rules.specs.Marks.{Mark, Suits}
 use Rattle.fit_rules.specs.Ends.{called, opening_machine}
-use Rattle.fit_rules.specs.Fits.{Fits, Program}
+use Rattle.fit_rules.specs.Fits.{Fits}
 use Rattle.fit_rules.specs.Sound.{IsSound}
-use Rattle.task_code.specs.declared.code.TaskCode.{TaskCode}
 use Rattle.fit_laws.proofs.Calls.{opening_fits}
 use Rattle.fit_rules.specs.Shapes.{Each}
 use Rattle.fit_rules.specs.Marks.{Holds}

@@ -1,7 +1,7 @@
 -- The code of tasks of an accepted program is sound by the rules.
 use Rattle.std.proofs.Common.{◌≡◌, ℕ, ◌≤◌, ◌^◌, List, [], Some, false, true, refl}
 use Rattle.std.specs.Prelude.{length, slice_get}
-use Rattle.regent_tree.specs.StaticTypes.{entry_name, no_task}
+use Rattle.regent_tree.specs.StaticTypes.{entry_name, no_task, task_named}
 use Rattle.regent_tree.specs.Syntax.{TaskTree, Tree}
 use Rattle.check_rules.specs.Breaches.{breaches}
 use Rattle.check_laws.proofs.Bodies.{body_told}
@@ -9,7 +9,7 @@ use Rattle.code_rules.specs.Instructions.{tasks_of}
 use Rattle.code_laws.specs.Programs.{call_forms}
 use Rattle.fit_rules.specs.Marks.{Mark}
 use Rattle.marked_code.proofs.Remarked.{remarked}
-use Rattle.code_laws.proofs.LocalRuns.{kept_run, kept_tasks}
+use Rattle.code_laws.proofs.LocalRuns.{plain_run, plain_tasks}
 use Rattle.regent_tree.specs.Scopes.{scope_of}
 use Rattle.code_rules.specs.Pieces.{lines}
 use Rattle.code_rules.specs.Programs.{body_piece, place_of, task_code}
@@ -76,10 +76,11 @@ handing_tasks_are_sound tree none typed = tasks_keep_rules tree (λ k t there. (
 
 pub local_programs_are_sound : LocalProgramsAreSound
 local_programs_are_sound tree inputs p =
-    let tasks = accepted_tasks_are_sound tree p.run.accepted (kept_tasks tree inputs p) in
-    let run = kept_run tree inputs p in
+    let tasks = handing_tasks_are_sound tree p.run.accepted (plain_tasks tree inputs p) in
+    let run = plain_run tree inputs p in
+    let forms = forms_by true false tree (task_named tree (entry_name tree)) in
     record {
       tasks = tasks;
-      first = λ turns few. tasks.begins call_forms inputs turns run few;
-      runs = λ turns few. tasks.runs call_forms inputs turns run few;
+      first = λ turns few. tasks.begins forms inputs turns run few;
+      runs = λ turns few. tasks.runs forms inputs turns run few;
     }

@@ -1,6 +1,5 @@
 -- The code of an accepted program with a task that takes regions is sound, and the task's frame fits when it opens.
-use Rattle.std.proofs.Common.{◌≡◌, ℕ, zero, suc, pos, [], ◌∷◌, Some, false, refl, sym, subst, arith, ℕ}
-use Rattle.std.proofs.lemmas.Bool.{false≢true}
+use Rattle.std.proofs.Common.{◌≡◌, ℕ, zero, suc, pos, [], ◌∷◌, Some, refl, sym, subst, arith, ℕ}
 use Rattle.std.proofs.lemmas.Int.{ints}
 use Rattle.std.proofs.lemmas.Option.{none-some, same_Some}
 use Rattle.lane_kernels.specs.declared.numbers.Width.TheVariants.{W64}
@@ -97,4 +96,4 @@ rules_example_holds = record {
 }
 
 pub histogram_is_sound : HistogramIsSound
-histogram_is_sound = local_programs_are_sound local_program (pos 5 ∷ []) local_example_holds.kept
+histogram_is_sound = let kept = local_example_holds.kept in local_programs_are_sound local_program (pos 5 ∷ []) (record { run = kept.run; plain = kept.plain })

@@ -22,7 +22,7 @@ use Rattle.code_laws.specs.HandingExample.{handing_program}
 use Rattle.fit_rules.specs.Shapes.{World}
 use Rattle.fit_rules.specs.Ends.{called}
 use Rattle.fit_rules.specs.Fits.{BeforeFits}
-use Rattle.sound_code.specs.Programs.{TasksKeepRules}
+use Rattle.sound_code.specs.Programs.{LocalRunsSoundly, TasksKeepRules}
 use Rattle.sound_code.specs.RulesExample.{one_root}
 
 --     fspace f { x : int64 }
@@ -91,3 +91,7 @@ pub record HandsExampleHolds : Type 0 where
   pub fits : BeforeFits sound.program (called two_roots change_args) (task_code hands_program change) 1 change_before
   pub hands : (segment change_before).ends ≡ yield.Calls (record { task = 0; args = Region first_root ∷ Region second_root ∷ [] } ∷ [])
   pub within : TasksKeepRules handing_program
+
+-- so is the accepted one of code_laws, by its text alone
+abbrev pub HandedIsSound : Type 0
+HandedIsSound = LocalRunsSoundly handing_program (pos 2 ∷ [])

@@ -23,7 +23,7 @@ use Rattle.fit_runs.specs.Runs.{BeginsFitting, Comes}
 use Rattle.code_rules.specs.Instructions.{place_of_task, tasks_of}
 use Rattle.code_rules.specs.Programs.{code_of, task_code}
 use Rattle.code_laws.specs.Handing.{AreTypedBy}
-use Rattle.code_laws.specs.LocalPrograms.{IsKeptProgramRun}
+use Rattle.code_laws.specs.LocalPrograms.{IsPlainProgramRun}
 use Rattle.code_laws.specs.Programs.{AreTypedTasks, IsTypedRun, call_forms, job_of, region_forms, scalar_forms}
 use Rattle.code_laws.specs.ScalarPrograms.{IsScalarProgramRun}
 use Rattle.code_laws.specs.Simple.{IsSimple}
@@ -165,9 +165,9 @@ AcceptedTasksAreSound = (tree : Tree) → breaches tree ≡ [] → AreTypedTasks
 abbrev pub HandingTasksAreSound : Type 0
 HandingTasksAreSound = (tree : Tree) → breaches tree ≡ [] → AreTypedBy true false tree → TasksKeepRules tree
 
--- An accepted program whose tasks keep their regions to themselves, and numbers that fit its inputs: the code of each
--- task is sound, frames of its tasks fit when they open, and so does the one in which its run begins; and each segment
--- of its run in order keeps all.
+-- An accepted program whose tasks hand regions over by name and have no pointers, and numbers that fit its inputs: the
+-- code of each task is sound, frames of its tasks fit when they open, and so does the one in which its run begins; and
+-- each segment of its run in order keeps all.
 pub record LocalRunsSoundly (tree : Tree) (inputs : List ℤ) : Type 0 where
   pub tasks : TasksKeepRules tree
   pub first : (turns : ℕ) → turns < 2 ^ 64 → Fits tasks.program (first_world inputs) (entry_code tree) (entry_place tree)
@@ -175,4 +175,4 @@ pub record LocalRunsSoundly (tree : Tree) (inputs : List ℤ) : Type 0 where
   pub runs : (turns : ℕ) → turns < 2 ^ 64 → RunKeepsAll tree tasks.program inputs turns
 
 abbrev pub LocalProgramsAreSound : Type 0
-LocalProgramsAreSound = (tree : Tree) (inputs : List ℤ) → IsKeptProgramRun tree inputs → LocalRunsSoundly tree inputs
+LocalProgramsAreSound = (tree : Tree) (inputs : List ℤ) → IsPlainProgramRun tree inputs → LocalRunsSoundly tree inputs

@@ -1,5 +1,5 @@
 -- How the regions that a task names are its own, and what its clauses tell of its parameters.
-use Rattle.std.specs.Prelude.{ℕ, List, [], ◌∷◌, Bool, true, false, ◌&&◌, cond, flat_map, length, nat_le, nat_lt, None, Some}
+use Rattle.std.specs.Prelude.{ℕ, List, [], ◌∷◌, ◌&&◌, cond, flat_map, length, nat_le, nat_lt, None, Some}
 use Rattle.regent_tree.specs.Scopes.{scope_of}
 use Rattle.regent_tree.specs.Syntax.{TaskTree, Tree}
 use Rattle.regent_tree.specs.declared.facts.Known.{Known}

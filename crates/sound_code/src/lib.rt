@@ -4,7 +4,7 @@
 #![tactic(auto)]
 
 ghost use Rattle.sound_code.specs.Example.{CodeExampleHolds};
-ghost use Rattle.sound_code.specs.HandingExample.{HandsExampleHolds};
+ghost use Rattle.sound_code.specs.HandingExample.{HandedIsSound, HandsExampleHolds};
 ghost use Rattle.sound_code.specs.RulesExample.{HistogramIsSound, RulesExampleHolds};
 ghost use Rattle.sound_code.specs.Programs.{AcceptedTasksAreSound, CallsAreSound, HandingTasksAreSound, LocalProgramsAreSound, RegionTasksAreSound, ScalarProgramsAreSound, ScalarTasksAreSound};
 
@@ -44,8 +44,8 @@ pub fn code_that_hands_regions_is_sound()
     ensures { HandingTasksAreSound }
 {}
 
-/// So is the code of each accepted program whose tasks keep their regions to themselves and have no pointers, and the frame
-/// in which its run begins fits, with any turns.
+/// So is the code of each accepted program whose tasks hand regions over by name and have no pointers, without any premise
+/// on types, and the frame in which its run begins fits, with any turns.
 #[tactic(auto, using(crate::proofs::Rules::local_programs_are_sound))]
 pub fn local_programs_are_sound()
     ensures { LocalProgramsAreSound }
@@ -66,8 +66,9 @@ pub fn rules_example_holds()
 {}
 
 /// An accepted program whose tasks hand a region on, of which each premise holds, and a frame of one that fits when it
-/// opens, whose first segment ends with such a call.
-#[tactic(auto, using(crate::proofs::HandingExample::hands_example_holds))]
+/// opens, whose first segment ends with such a call; and the one of code_laws, which is sound by its text alone.
+#[tactic(auto, using(crate::proofs::HandingExample::hands_example_holds, crate::proofs::HandingExample::handed_is_sound))]
 pub fn handing_example_holds()
-    ensures { HandsExampleHolds }
+    ensures example { HandsExampleHolds }
+    ensures handed { HandedIsSound }
 {}
