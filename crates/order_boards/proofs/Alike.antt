@@ -1,0 +1,118 @@
+-- When a task instance of the run in order and an operation of the run by numbers are one: the same frame, parts and
+-- needs but for the numbers of roots, and what the roots hold.
+use Rattle.std.proofs.Common.{◌≡◌, ℕ, ◌+◌, ◌<◌, ◌≤◌, ℤ, List, ◌++◌, Option, refl, ◌∙◌, subst, map, arith, append_assoc, le_refl}
+use Rattle.std.specs.Prelude.{length}
+use Rattle.std.proofs.lemmas.List.{length-append}
+use Rattle.region_tree.specs.declared.tree.RootId.{RootId}
+use Rattle.region_tree.specs.Requirements.{Requirement}
+use Rattle.regent_tree.specs.Laws.{shape_of}
+use Rattle.task_code.specs.declared.code.Code.{Code}
+use Rattle.machine_terms.specs.declared.order.Contents.{Contents}
+use Rattle.machine_terms.specs.declared.order.Ended.{Ended}
+use Rattle.machine_terms.specs.declared.order.Ended.TheVariants.{CameBack, Broke}
+use Rattle.machine_terms.specs.declared.order.Instance.{Instance}
+use Rattle.machine_terms.specs.Contents.{image_of}
+use Rattle.machine_terms.specs.Orders.{result_of}
+use Rattle.machine_terms.proofs.FitParts.{PartsFit}
+use Rattle.memory_laws.specs.Closing.{AreOwn}
+use Rattle.board_rules.specs.Ground.{Ground}
+use Rattle.board_rules.specs.NumberedRuns.{Making, Run}
+use Rattle.board_rules.specs.Processes.{Map, Result, done, fails, prefix, spent}
+use Rattle.board_rules.specs.Running.{Element}
+use Rattle.regent_boards.specs.Frames as board
+use Rattle.regent_boards.specs.RegentMachine.{regent_ground, root_of}
+use Rattle.regent_boards.proofs.NeedRenaming.{moved}
+use Rattle.segment_renaming.specs.Renaming.{frame_to, part_to}
+use Rattle.code_boards.specs.Views.{frame_in, parts_in, spaces_of}
+use Rattle.order_boards.specs.Outcomes.{fault_of}
+use Rattle.order_boards.proofs.Given.{AreAsHeld}
+use Rattle.order_boards.proofs.Needs.{Covered, pointed}
+use Rattle.order_boards.proofs.Renumbering.{names}
+use Rattle.order_boards.proofs.Stands.{IsLive, Naming, Stands, live_below}
+
+-- roots came, and none went or changed its shape; those that were there are who they were
+pub record Grown (c : Contents) (who : ℕ → ℕ) (d : Contents) (who_now : ℕ → ℕ) : Type 0 where
+  pub made : c.made ≤ d.made
+  pub same : (r : ℕ) → r < c.made → who_now r ≡ who r
+  pub live : (r : ℕ) → IsLive c r → IsLive d r
+  pub shapes : (r : ℕ) → IsLive c r → shape_of (image_of d r) ≡ shape_of (image_of c r)
+
+pub grown_self : (c : Contents) (who : ℕ → ℕ) → Grown c who c who
+grown_self c who = record { made = le_refl c.made; same = λ r l. refl; live = λ r l. l; shapes = λ r l. refl }
+
+pub grown_then : (c d e : Contents) (who now later : ℕ → ℕ) → Grown c who d now → Grown d now e later → Grown c who e later
+grown_then c d e who now later a b = record {
+  made = omega (arith, a.made, b.made);
+  same = λ r l. b.same r (omega (arith, l, a.made)) ∙ a.same r l;
+  live = λ r l. b.live r (a.live r l);
+  shapes = λ r l. b.shapes r (a.live r l) ∙ a.shapes r l;
+}
+
+module _ (code : Code) where
+  abbrev G : Ground
+  G = regent_ground (spaces_of code)
+
+  -- what names the roots now named them before
+  pub naming_back : (c d : Contents) (who now : ℕ → ℕ) (n : ℕ) (m : Map G) → Stands code who n c m → Grown c who d now → (s : ℕ → ℕ) → Naming code d now s → Naming code c who s
+  naming_back c d who now n m st g s is = record {
+    one = is.one;
+    live = λ r l. is.live r (g.live r l)
+        ∙ (λ i. root_of (g.shapes r l i).space (g.shapes r l i).count (g.same r (live_below c r st.numbered l) i));
+  }
+
+  -- The roots that were there when the instance began are before. It stands for an operation with these needs, this
+  -- frame, these parts and answers, where there were so many makings.
+  pub record Alike (before : List ℕ) (who : ℕ → ℕ) (n : ℕ) (i : Instance) (N : List Requirement) (f : board.Frame) (ps : List (Element G))
+      (vs : List (Option ℤ)) (m : Map G) : Type 0 where
+    pub stands : Stands code who n i.contents m
+    pub own : AreOwn before i.frame.own i.contents
+    pub frame : (s : ℕ → ℕ) → Naming code i.contents who s → frame_in f ≡ frame_to (names s) i.frame
+    pub board_needs : f.needs ≡ N
+    pub parts : (s : ℕ → ℕ) → Naming code i.contents who s → parts_in code ps ≡ map (part_to (names s)) i.parts
+    pub needs : (s : ℕ → ℕ) → Naming code i.contents who s → pointed N ≡ map (moved s) i.needs
+    pub covered : Covered i.contents i.needs
+    pub results : map result_of vs ≡ i.results
+    pub fit : PartsFit i.parts
+    pub held : AreAsHeld code ps
+
+  -- ---- ends
+
+  -- an instance that came back, of contents and makings from which it began
+  pub record Came (before : List ℕ) (who : ℕ → ℕ) (n : ℕ) (c : Contents) (text : List ℕ) (v : Option ℤ) (roots : List RootId) (d : Contents) (u : List ℕ)
+      (k : ℕ) (w : Option ℤ) (t : List ℕ) (m : Map G) : Type 0 where
+    pub value : v ≡ w
+    pub says : u ≡ text ++ t
+    pub now : ℕ → ℕ
+    pub stands : Stands code now (n + k) d m
+    pub own : AreOwn before roots d
+    pub grown : Grown c who d now
+
+  -- the end of an instance, and what the run by numbers comes to
+  abbrev pub EndsAlike : List ℕ → (ℕ → ℕ) → ℕ → Contents → List ℕ → Ended → List Making → Result G (Option ℤ) → Type 0
+  EndsAlike before who n c text (CameBack v own d u) xs (done w t m) = Came before who n c text v own d u (length xs) w t m
+  EndsAlike before who n c text (Broke fault u) xs (fails x t) = (u ≡ text ++ t) × (fault ≡ fault_of x)
+  EndsAlike before who n c text (CameBack v own d u) xs (fails x t) = ⊥
+  EndsAlike before who n c text (Broke fault u) xs (done w t m) = ⊥
+  EndsAlike before who n c text (CameBack v own d u) xs spent = Unit {0}
+  EndsAlike before who n c text (Broke fault u) xs spent = Unit {0}
+
+  abbrev pub RunsAlike : List ℕ → (ℕ → ℕ) → ℕ → Contents → List ℕ → Ended → Run G (Option ℤ) → Type 0
+  RunsAlike before who n c text e r = EndsAlike before who n c text e r.made r.result
+
+  -- behind a text and more makings
+  pub ends_on : (before : List ℕ) (who now : ℕ → ℕ) (n : ℕ) (c d : Contents) (text t : List ℕ) (xs : List Making) → Grown c who d now →
+      (e : Ended) (ys : List Making) (r : Result G (Option ℤ)) → EndsAlike before now (n + length xs) d (text ++ t) e ys r →
+      EndsAlike before who n c text e (xs ++ ys) (prefix G t r)
+  ends_on before who now n c d text t xs g (CameBack v own a u) ys (done w y m) h = record {
+    value = h.value;
+    says = h.says ∙ append_assoc text t y;
+    now = h.now;
+    stands = subst (λ k. Stands code h.now k a m) (omega (arith, length-append xs ys)) h.stands;
+    own = h.own;
+    grown = grown_then c d a who now h.now g h.grown;
+  }
+  ends_on before who now n c d text t xs g (CameBack v own a u) ys (fails x y) h = absurd h
+  ends_on before who now n c d text t xs g (CameBack v own a u) ys spent h = tt
+  ends_on before who now n c d text t xs g (Broke fault u) ys (done w y m) h = absurd h
+  ends_on before who now n c d text t xs g (Broke fault u) ys (fails x y) h = (h.0 ∙ append_assoc text t y, h.1)
+  ends_on before who now n c d text t xs g (Broke fault u) ys spent h = tt

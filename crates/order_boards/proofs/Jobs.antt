@@ -1,0 +1,144 @@
+-- The run in order of a job, as the machine's definition gives it, is the run by numbers.
+use Rattle.std.proofs.Common.{◌≡◌, ℕ, zero, suc, ◌+◌, ℤ, pos, List, [], ◌∷◌, ◌++◌, true, cond, Option, None, refl, sym, ap, ◌∙◌, subst, map, arith, ◌==◌, eqb-true}
+use Rattle.std.specs.Prelude.{length, nat_le, replicate, ◌-◌}
+use Rattle.std.proofs.lemmas.Bool.{and_parts, false≢true}
+use Rattle.std.proofs.lemmas.List.{length-map, map-append}
+use Rattle.plain_values.specs.Points.{has}
+use Rattle.region_tree.specs.declared.tree.RootId.{RootId}
+use Rattle.regent_tree.specs.declared.outcome.Ending.TheVariants.{Finished}
+use Rattle.task_code.specs.declared.code.NeedCode.{NeedCode}
+use Rattle.task_code.specs.declared.code.TaskCode.{TaskCode}
+use Rattle.task_code.specs.declared.job.Job.{Job}
+use Rattle.machine_terms.specs.declared.order.Contents.{Contents}
+use Rattle.machine_terms.specs.declared.order.Ended.{Ended}
+use Rattle.machine_terms.specs.declared.order.Ended.TheVariants.{CameBack, Broke}
+use Rattle.machine_terms.specs.declared.value.Value.TheVariants.{Number}
+use Rattle.machine_terms.specs.Contents.{no_contents}
+use Rattle.machine_terms.specs.Jobs.{first_frame, may_start, order_run, outcome, void_outcome}
+use Rattle.machine_terms.specs.Orders.{begun, enough_segments}
+use Rattle.memory_laws.specs.Places.{numbers}
+use Rattle.memory_laws.proofs.Placing.{all_below}
+use Rattle.board_rules.specs.Journals.{shown, unfinished}
+use Rattle.board_rules.specs.NumberedRuns.{Making, numbered_run}
+use Rattle.board_rules.specs.Processes.{Result, done, fails, spent}
+use Rattle.regent_boards.specs.Frames as board
+use Rattle.regent_boards.specs.RegentMachine.{regent_ground}
+use Rattle.segment_renaming.specs.Renaming.{frame_to, value_to}
+use Rattle.order_laws.specs.Bounds.{AreLarge, Bounds, order_run_within, runs_within}
+use Rattle.order_laws.proofs.Whole.{jobs_run_whole}
+use Rattle.code_boards.specs.Laws.{machine_of, main_frame, ordered, room}
+use Rattle.code_boards.specs.Views.{frame_in, spaces_of, value_in}
+use Rattle.code_boards.proofs.Ends.{order_runs_end}
+use Rattle.order_boards.specs.Laws.{OrderRunsAgree}
+use Rattle.order_boards.specs.Outcomes.{IsOutcome}
+use Rattle.order_boards.proofs.Alike.{Alike, EndsAlike}
+use Rattle.order_boards.proofs.Images.{images_same, roots_of}
+use Rattle.order_boards.proofs.Renumbering.{names}
+use Rattle.order_boards.proofs.Runs.{claim}
+use Rattle.order_boards.proofs.Stands.{Stands, shown_live}
+
+-- ---- at the beginning
+
+no_needs : (ns : List NeedCode) → (length ns == 0) ≡ true → ns ≡ []
+no_needs [] e = refl
+no_needs (n ∷ ns) e = absurd (omega (arith, eqb-true (length (n ∷ ns)) 0 e))
+
+module _ (s : ℕ → ℕ) where
+  inputs_seen : (zs : List ℤ) → map value_in (map board.a_number zs) ≡ map (value_to (names s)) (map Number zs)
+  inputs_seen [] = refl
+  inputs_seen (z ∷ zs) = ap (λ vs. Number z ∷ vs) (inputs_seen zs)
+
+  zeros_seen : (k : ℕ) → map value_in (replicate k (board.a_number (pos 0))) ≡ map (value_to (names s)) (replicate k (Number (pos 0)))
+  zeros_seen zero = refl
+  zeros_seen (suc k) = ap (λ vs. Number (pos 0) ∷ vs) (zeros_seen k)
+
+module _ (job : Job) (t : TaskCode) (may : may_start job t ≡ true) where
+  none_needed : t.needs ≡ []
+  none_needed = no_needs t.needs (and_parts (length t.needs == 0) _ (and_parts _ (nat_le t.params t.slots) may).0).0
+
+  first_seen : (s : ℕ → ℕ) → frame_in (main_frame job t) ≡ frame_to (names s) (first_frame job t)
+  first_seen s =
+      let zs = job.inputs in
+      let slots : map value_in (map board.a_number zs ++ replicate (t.slots - length zs) (board.a_number (pos 0)))
+      ≡ map (value_to (names s)) (map Number zs ++ replicate (t.slots - length (map Number zs)) (Number (pos 0))) =
+      map-append value_in (map board.a_number zs) (replicate (t.slots - length zs) (board.a_number (pos 0)))
+      ∙ (λ i. inputs_seen s zs i ++ zeros_seen s (t.slots - length zs) i)
+      ∙ sym (map-append (value_to (names s)) (map Number zs) (replicate (t.slots - length zs) (Number (pos 0))))
+      ∙ ap (λ k. map (value_to (names s)) (map Number zs ++ replicate (t.slots - k) (Number (pos 0)))) (sym (length-map zs Number)) in
+      λ i. record (frame_to (names s) (first_frame job t)) {
+        slots = slots i;
+        needs = record {
+          items = ap (λ ns. map (Rattle.segment_renaming.specs.Renaming.need_to (names s))
+              (Rattle.machine_terms.specs.Opening.needs_on ns (map Number zs))) (sym none_needed) i;
+        };
+      }
+
+  nothing_stands : Stands job.code (λ r. 0) 0 no_contents (λ l. pos 0)
+  nothing_stands = record {
+    below = λ r l. absurd (omega (arith, l));
+    distinct = λ a b l k e. absurd (omega (arith, l));
+    numbered = record { rising = λ k l. absurd (omega (arith, l)); below = all_below 0 [] (λ x e. absurd (false≢true e)) };
+    shaped = λ r l. absurd (false≢true l);
+    same = λ r f p l. absurd (false≢true (shown_live no_contents r f p l));
+    fits = λ r f p l. absurd (false≢true (shown_live no_contents r f p l));
+  }
+
+  first_alike : Alike job.code [] (λ r. 0) 0 (begun (first_frame job t) [] no_contents) [] (main_frame job t) [] [] (λ l. pos 0)
+  first_alike = record {
+    stands = nothing_stands;
+    own = refl;
+    frame = λ s is. first_seen s;
+    board_needs = refl;
+    parts = λ s is. refl;
+    needs = λ s is. refl;
+    covered = tt;
+    results = refl;
+    fit = tt;
+    held = tt;
+  }
+
+  -- ---- at the end
+
+  own_live : (own : List RootId) (d : Contents) → numbers d ≡ map (λ (k : RootId). k.0) own → (r : ℕ) → has (map (λ (k : RootId). k.0) own) r ≡ true → has (numbers d) r ≡ true
+  own_live own d e r h = subst (λ ns. has ns r ≡ true) (sym e) h
+
+  by_end : (e : Ended) (xs : List Making) (r : Result (regent_ground (spaces_of job.code)) (Option ℤ)) → EndsAlike job.code [] (λ r. 0) 0 no_contents [] e xs r →
+      (shown (regent_ground (spaces_of job.code)) (machine_of job 0) r ≡ unfinished → ⊥) →
+      (roots : List ℕ) × IsOutcome (spaces_of job.code) roots (shown (regent_ground (spaces_of job.code)) (machine_of job 0) r) (outcome e)
+  by_end (CameBack v own d u) xs (done w y m) h n = (
+    roots_of job.code h.now (0 + length xs) d m h.stands own,
+    λ i. record {
+      text = h.says i;
+      ending = Finished (sym (images_same job.code h.now (0 + length xs) d m h.stands own (own_live own d h.own)) i);
+    },
+  )
+  by_end (CameBack v own d u) xs (fails x y) h n = absurd h
+  by_end (CameBack v own d u) xs spent h n = absurd (n refl)
+  by_end (Broke fault u) xs (done w y m) h n = absurd h
+  by_end (Broke fault u) xs (fails x y) h n = ([], λ i. record { text = h.0 i; ending = Rattle.machine_terms.specs.Jobs.ending_of (h.1 i) })
+  by_end (Broke fault u) xs spent h n = absurd (n refl)
+
+  -- bounds that are no less than those of both runs
+  abbrev bounds : Bounds
+  bounds = record {
+    segments = λ f. room job + enough_segments job.code f;
+    nested = suc (room job + 64);
+    spent = λ i. Broke None i.text;
+  }
+
+  are_large : AreLarge job.code bounds
+  are_large = record { segments = λ f. omega arith; nested = omega arith }
+
+pub order_runs_agree : OrderRunsAgree
+order_runs_agree job t found may =
+    let i = begun (first_frame job t) [] no_contents in
+    let e = runs_within job.code job.turns (bounds job t may) (suc (room job + 64)) i in
+    let r = numbered_run (regent_ground (spaces_of job.code)) (machine_of job) (room job) [] [] 0 (main_frame job t) [] [] 0 (λ l. pos 0) in
+    let same : order_run job ≡ outcome e = sym (jobs_run_whole job (bounds job t may) (are_large job t may))
+    ∙ ap (Rattle.order_laws.specs.Bounds.run_first_within (bounds job t may) job) found
+    ∙ ap (λ b. cond b (outcome e) void_outcome) may in
+    subst (λ o. (roots : List ℕ) × IsOutcome (spaces_of job.code) roots (ordered (room job) job t) o) (sym same)
+    (by_end job t may e r.made r.result
+    (claim job.code job.turns (bounds job t may) (room job) (λ f. omega arith) (room job) [] (λ r. 0) 0 i [] (main_frame job t) [] [] (λ l. pos 0)
+    [] 0 (room job + enough_segments job.code (first_frame job t)) (room job + 64) (first_alike job t may) (omega arith) (omega arith) (omega arith))
+    (order_runs_end job t found))
