@@ -1,7 +1,9 @@
 -- When a task instance of the run in order and an operation of the run by numbers are one: the same frame, parts and
 -- needs but for the numbers of roots, and what the roots hold.
-use Rattle.std.proofs.Common.{◌≡◌, ℕ, ◌+◌, ◌<◌, ◌≤◌, ℤ, List, ◌++◌, Option, refl, ◌∙◌, subst, map, arith, append_assoc, le_refl}
+use Rattle.std.proofs.Common.{◌≡◌, ◌⊎◌, ◌||◌, ⊎_elim, ℕ, zero, suc, ◌+◌, ◌<◌, ◌≤◌, ℤ, List, [], ◌∷◌, ◌++◌, Bool, true, false, Option, refl, ap, ◌∙◌, subst, map, arith, append_assoc, inl, inr, le_refl}
 use Rattle.std.specs.Prelude.{length}
+use Rattle.plain_values.specs.Points.{has}
+use Rattle.point_sets.proofs.Rising.{has-append}
 use Rattle.std.proofs.lemmas.List.{length-append}
 use Rattle.region_tree.specs.declared.tree.RootId.{RootId}
 use Rattle.region_tree.specs.Requirements.{Requirement}
@@ -15,6 +17,7 @@ use Rattle.machine_terms.specs.Contents.{image_of}
 use Rattle.machine_terms.specs.Orders.{result_of}
 use Rattle.machine_terms.proofs.FitParts.{PartsFit}
 use Rattle.memory_laws.specs.Closing.{AreOwn}
+use Rattle.memory_laws.proofs.Closing.{ids_of}
 use Rattle.board_rules.specs.Ground.{Ground}
 use Rattle.board_rules.specs.NumberedRuns.{Making, Run}
 use Rattle.board_rules.specs.Processes.{Map, Result, done, fails, prefix, spent}
@@ -24,7 +27,7 @@ use Rattle.regent_boards.specs.RegentMachine.{regent_ground, root_of}
 use Rattle.regent_boards.proofs.NeedRenaming.{moved}
 use Rattle.segment_renaming.specs.Renaming.{frame_to, part_to}
 use Rattle.code_boards.specs.Views.{frame_in, parts_in, spaces_of}
-use Rattle.order_boards.specs.Outcomes.{fault_of}
+use Rattle.order_boards.specs.Outcomes.{IsMadeBy, fault_of}
 use Rattle.order_boards.proofs.Given.{AreAsHeld}
 use Rattle.order_boards.proofs.Needs.{Covered, pointed}
 use Rattle.order_boards.proofs.Renumbering.{names}
@@ -47,6 +50,32 @@ grown_then c d e who now later a b = record {
   live = λ r l. b.live r (a.live r l);
   shapes = λ r l. b.shapes r (a.live r l) ∙ a.shapes r l;
 }
+
+-- ---- roots by their makers
+
+-- a root that was among the first own ones, or is one of these makings, by the operation at a place
+abbrev pub IsFirstOrNew : List ℕ → List RootId → ℕ → List Making → (ℕ → ℕ) → ℕ → Type 0
+IsFirstOrNew p first n xs now r = (has (ids_of first) r ≡ true) ⊎ ((k : ℕ) × (now r ≡ n + k) × IsMadeBy p xs k)
+
+made_before : (p : List ℕ) (xs ys : List Making) (k : ℕ) → IsMadeBy p xs k → IsMadeBy p (xs ++ ys) k
+made_before p [] ys k h = absurd h
+made_before p (x ∷ xs) ys zero h = h
+made_before p (x ∷ xs) ys (suc k) h = made_before p xs ys k h
+
+made_behind : (p : List ℕ) (xs ys : List Making) (k : ℕ) → IsMadeBy p ys k → IsMadeBy p (xs ++ ys) (length xs + k)
+made_behind p [] ys k h = subst (IsMadeBy p ys) (omega arith) h
+made_behind p (x ∷ xs) ys k h =
+    let e : suc (length xs + k) ≡ length (x ∷ xs) + k = omega arith in
+    subst (IsMadeBy p (x ∷ xs ++ ys)) e (made_behind p xs ys k h)
+
+-- with more makings behind those
+new_on : (p : List ℕ) (first own : List RootId) (n : ℕ) (xs ys : List Making) (now later : ℕ → ℕ) (r : ℕ) →
+    (has (ids_of own) r ≡ true → (later r ≡ now r) × IsFirstOrNew p first n xs now r) →
+    IsFirstOrNew p own (n + length xs) ys later r → IsFirstOrNew p first n (xs ++ ys) later r
+new_on p first own n xs ys now later r step (inl h) =
+    let s = step h in
+    ⊎_elim (λ e. inl e) (λ k. inr (k.0, s.0 ∙ k.1, made_before p xs ys k.0 k.2)) s.1
+new_on p first own n xs ys now later r step (inr k) = inr (length xs + k.0, k.1 ∙ omega arith, made_behind p xs ys k.0 k.2)
 
 module _ (code : Code) where
   abbrev G : Ground
@@ -77,42 +106,56 @@ module _ (code : Code) where
 
   -- ---- ends
 
-  -- an instance that came back, of contents and makings from which it began
-  pub record Came (before : List ℕ) (who : ℕ → ℕ) (n : ℕ) (c : Contents) (text : List ℕ) (v : Option ℤ) (roots : List RootId) (d : Contents) (u : List ℕ)
-      (k : ℕ) (w : Option ℤ) (t : List ℕ) (m : Map G) : Type 0 where
+  -- An instance that came back, of contents and makings from which it began. It stands at a place, and made its own
+  -- roots but for the first ones there.
+  pub record Came (p : List ℕ) (first : List RootId) (before : List ℕ) (who : ℕ → ℕ) (n : ℕ) (c : Contents) (text : List ℕ) (v : Option ℤ)
+      (roots : List RootId) (d : Contents) (u : List ℕ) (xs : List Making) (w : Option ℤ) (t : List ℕ) (m : Map G) : Type 0 where
     pub value : v ≡ w
     pub says : u ≡ text ++ t
     pub now : ℕ → ℕ
-    pub stands : Stands code now (n + k) d m
+    pub stands : Stands code now (n + length xs) d m
+    pub mine : (r : ℕ) → has (ids_of roots) r ≡ true → IsFirstOrNew p first n xs now r
     pub own : AreOwn before roots d
     pub grown : Grown c who d now
 
   -- the end of an instance, and what the run by numbers comes to
-  abbrev pub EndsAlike : List ℕ → (ℕ → ℕ) → ℕ → Contents → List ℕ → Ended → List Making → Result G (Option ℤ) → Type 0
-  EndsAlike before who n c text (CameBack v own d u) xs (done w t m) = Came before who n c text v own d u (length xs) w t m
-  EndsAlike before who n c text (Broke fault u) xs (fails x t) = (u ≡ text ++ t) × (fault ≡ fault_of x)
-  EndsAlike before who n c text (CameBack v own d u) xs (fails x t) = ⊥
-  EndsAlike before who n c text (Broke fault u) xs (done w t m) = ⊥
-  EndsAlike before who n c text (CameBack v own d u) xs spent = Unit {0}
-  EndsAlike before who n c text (Broke fault u) xs spent = Unit {0}
+  abbrev pub EndsAlike : List ℕ → List RootId → List ℕ → (ℕ → ℕ) → ℕ → Contents → List ℕ → Ended → List Making → Result G (Option ℤ) → Type 0
+  EndsAlike p first before who n c text (CameBack v own d u) xs (done w t m) = Came p first before who n c text v own d u xs w t m
+  EndsAlike p first before who n c text (Broke fault u) xs (fails x t) = (u ≡ text ++ t) × (fault ≡ fault_of x)
+  EndsAlike p first before who n c text (CameBack v own d u) xs (fails x t) = ⊥
+  EndsAlike p first before who n c text (Broke fault u) xs (done w t m) = ⊥
+  EndsAlike p first before who n c text (CameBack v own d u) xs spent = Unit {0}
+  EndsAlike p first before who n c text (Broke fault u) xs spent = Unit {0}
 
-  abbrev pub RunsAlike : List ℕ → (ℕ → ℕ) → ℕ → Contents → List ℕ → Ended → Run G (Option ℤ) → Type 0
-  RunsAlike before who n c text e r = EndsAlike before who n c text e r.made r.result
+  abbrev pub RunsAlike : List ℕ → List RootId → List ℕ → (ℕ → ℕ) → ℕ → Contents → List ℕ → Ended → Run G (Option ℤ) → Type 0
+  RunsAlike p first before who n c text e r = EndsAlike p first before who n c text e r.made r.result
 
   -- behind a text and more makings
-  pub ends_on : (before : List ℕ) (who now : ℕ → ℕ) (n : ℕ) (c d : Contents) (text t : List ℕ) (xs : List Making) → Grown c who d now →
-      (e : Ended) (ys : List Making) (r : Result G (Option ℤ)) → EndsAlike before now (n + length xs) d (text ++ t) e ys r →
-      EndsAlike before who n c text e (xs ++ ys) (prefix G t r)
-  ends_on before who now n c d text t xs g (CameBack v own a u) ys (done w y m) h = record {
+  pub ends_on : (p : List ℕ) (first own : List RootId) (before : List ℕ) (who now : ℕ → ℕ) (n : ℕ) (c d : Contents) (text t : List ℕ) (xs : List Making) → Grown c who d now →
+      ((r : ℕ) → has (ids_of own) r ≡ true → (r < d.made) × IsFirstOrNew p first n xs now r) →
+      (e : Ended) (ys : List Making) (r : Result G (Option ℤ)) → EndsAlike p own before now (n + length xs) d (text ++ t) e ys r →
+      EndsAlike p first before who n c text e (xs ++ ys) (prefix G t r)
+  ends_on p first own before who now n c d text t xs g mine (CameBack v roots a u) ys (done w y m) h = record {
     value = h.value;
     says = h.says ∙ append_assoc text t y;
     now = h.now;
     stands = subst (λ k. Stands code h.now k a m) (omega (arith, length-append xs ys)) h.stands;
+    mine = λ r l. new_on p first own n xs ys now h.now r (λ k. let step = mine r k in (h.grown.same r step.0, step.1)) (h.mine r l);
     own = h.own;
     grown = grown_then c d a who now h.now g h.grown;
   }
-  ends_on before who now n c d text t xs g (CameBack v own a u) ys (fails x y) h = absurd h
-  ends_on before who now n c d text t xs g (CameBack v own a u) ys spent h = tt
-  ends_on before who now n c d text t xs g (Broke fault u) ys (done w y m) h = absurd h
-  ends_on before who now n c d text t xs g (Broke fault u) ys (fails x y) h = (h.0 ∙ append_assoc text t y, h.1)
-  ends_on before who now n c d text t xs g (Broke fault u) ys spent h = tt
+  ends_on p first own before who now n c d text t xs g mine (CameBack v roots a u) ys (fails x y) h = absurd h
+  ends_on p first own before who now n c d text t xs g mine (CameBack v roots a u) ys spent h = tt
+  ends_on p first own before who now n c d text t xs g mine (Broke fault u) ys (done w y m) h = absurd h
+  ends_on p first own before who now n c d text t xs g mine (Broke fault u) ys (fails x y) h = (h.0 ∙ append_assoc text t y, h.1)
+  ends_on p first own before who now n c d text t xs g mine (Broke fault u) ys spent h = tt
+
+  -- own roots are there
+  pub own_below : (before : List ℕ) (who : ℕ → ℕ) (n : ℕ) (i : Instance) (N : List Requirement) (f : board.Frame) (ps : List (Element G))
+      (vs : List (Option ℤ)) (m : Map G) → Alike before who n i N f ps vs m → (r : ℕ) → has (ids_of i.frame.own) r ≡ true → r < i.contents.made
+  own_below before who n i N f ps vs m a r h = live_below i.contents r a.stands.numbered
+      (ap (λ ns. has ns r) a.own ∙ has-append before (ids_of i.frame.own) r ∙ ap (λ b. has before r || b) h ∙ always (has before r))
+    where
+      always : (b : Bool) → (b || true) ≡ true
+      always true = refl
+      always false = refl

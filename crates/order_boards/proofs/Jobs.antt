@@ -1,9 +1,10 @@
 -- The run in order of a job, as the machine's definition gives it, is the run by numbers.
-use Rattle.std.proofs.Common.{◌≡◌, ℕ, zero, suc, ◌+◌, ℤ, pos, List, [], ◌∷◌, ◌++◌, true, cond, Option, None, refl, sym, ap, ◌∙◌, subst, map, arith, ◌==◌, eqb-true}
+use Rattle.std.proofs.Common.{◌≡◌, ℕ, zero, suc, ◌+◌, ℤ, pos, List, [], ◌∷◌, ◌++◌, true, cond, Option, None, refl, sym, ap, ◌∙◌, ⊎_elim, subst, map, arith, ◌==◌, eqb-true}
 use Rattle.std.specs.Prelude.{length, nat_le, replicate, ◌-◌}
 use Rattle.std.proofs.lemmas.Bool.{and_parts, false≢true}
 use Rattle.std.proofs.lemmas.List.{length-map, map-append}
 use Rattle.plain_values.specs.Points.{has}
+use Rattle.point_sets.proofs.Rising.{has_head, has_tail}
 use Rattle.region_tree.specs.declared.tree.RootId.{RootId}
 use Rattle.regent_tree.specs.declared.outcome.Ending.TheVariants.{Finished}
 use Rattle.task_code.specs.declared.code.NeedCode.{NeedCode}
@@ -13,10 +14,11 @@ use Rattle.machine_terms.specs.declared.order.Contents.{Contents}
 use Rattle.machine_terms.specs.declared.order.Ended.{Ended}
 use Rattle.machine_terms.specs.declared.order.Ended.TheVariants.{CameBack, Broke}
 use Rattle.machine_terms.specs.declared.value.Value.TheVariants.{Number}
-use Rattle.machine_terms.specs.Contents.{no_contents}
+use Rattle.machine_terms.specs.Contents.{image_of, no_contents}
 use Rattle.machine_terms.specs.Jobs.{first_frame, may_start, order_run, outcome, void_outcome}
 use Rattle.machine_terms.specs.Orders.{begun, enough_segments}
 use Rattle.memory_laws.specs.Places.{numbers}
+use Rattle.memory_laws.proofs.Closing.{ids_of}
 use Rattle.memory_laws.proofs.Placing.{all_below}
 use Rattle.board_rules.specs.Journals.{shown, unfinished}
 use Rattle.board_rules.specs.NumberedRuns.{Making, numbered_run}
@@ -29,13 +31,13 @@ use Rattle.order_laws.proofs.Whole.{jobs_run_whole}
 use Rattle.code_boards.specs.Laws.{machine_of, main_frame, ordered, room}
 use Rattle.code_boards.specs.Views.{frame_in, spaces_of, value_in}
 use Rattle.code_boards.proofs.Ends.{order_runs_end}
-use Rattle.order_boards.specs.Laws.{OrderRunsAgree}
-use Rattle.order_boards.specs.Outcomes.{IsOutcome}
-use Rattle.order_boards.proofs.Alike.{Alike, EndsAlike}
+use Rattle.order_boards.specs.Laws.{AreOfFirstTask, OrderRunsAgree}
+use Rattle.order_boards.specs.Outcomes.{AreMadeBy, IsMadeBy, IsOutcome}
+use Rattle.order_boards.proofs.Alike.{Alike, EndsAlike, IsFirstOrNew}
 use Rattle.order_boards.proofs.Images.{images_same, roots_of}
 use Rattle.order_boards.proofs.Renumbering.{names}
 use Rattle.order_boards.proofs.Runs.{claim}
-use Rattle.order_boards.proofs.Stands.{Stands, shown_live}
+use Rattle.order_boards.proofs.Stands.{Stands, board_root, root_who, shown_live}
 
 -- ---- at the beginning
 
@@ -102,11 +104,21 @@ module _ (job : Job) (t : TaskCode) (may : may_start job t ≡ true) where
   own_live : (own : List RootId) (d : Contents) → numbers d ≡ map (λ (k : RootId). k.0) own → (r : ℕ) → has (map (λ (k : RootId). k.0) own) r ≡ true → has (numbers d) r ≡ true
   own_live own d e r h = subst (λ ns. has ns r ≡ true) (sym e) h
 
-  by_end : (e : Ended) (xs : List Making) (r : Result (regent_ground (spaces_of job.code)) (Option ℤ)) → EndsAlike job.code [] (λ r. 0) 0 no_contents [] e xs r →
+  by_first : (xs : List Making) (now : ℕ → ℕ) (c : Contents) (own : List RootId) →
+      ((r : ℕ) → has (ids_of own) r ≡ true → IsFirstOrNew [] [] 0 xs now r) → AreMadeBy [] xs (map (λ (r : RootId). board_root c now r.0) own)
+  by_first xs now c [] h = tt
+  by_first xs now c (r ∷ own) h = (
+    ⊎_elim (λ e. absurd (false≢true e))
+        (λ k. subst (IsMadeBy [] xs) (omega (arith, k.1, root_who (image_of c r.0).space (image_of c r.0).count (now r.0))) k.2) (h r.0 (has_head r.0 (ids_of own))),
+    by_first xs now c own (λ q e. h q (has_tail q r.0 (ids_of own) e)),
+  )
+
+  by_end : (e : Ended) (xs : List Making) (r : Result (regent_ground (spaces_of job.code)) (Option ℤ)) → EndsAlike job.code [] [] [] (λ r. 0) 0 no_contents [] e xs r →
       (shown (regent_ground (spaces_of job.code)) (machine_of job 0) r ≡ unfinished → ⊥) →
-      (roots : List ℕ) × IsOutcome (spaces_of job.code) roots (shown (regent_ground (spaces_of job.code)) (machine_of job 0) r) (outcome e)
+      (roots : List ℕ) × AreMadeBy [] xs roots × IsOutcome (spaces_of job.code) roots (shown (regent_ground (spaces_of job.code)) (machine_of job 0) r) (outcome e)
   by_end (CameBack v own d u) xs (done w y m) h n = (
     roots_of job.code h.now (0 + length xs) d m h.stands own,
+    by_first xs h.now d own h.mine,
     λ i. record {
       text = h.says i;
       ending = Finished (sym (images_same job.code h.now (0 + length xs) d m h.stands own (own_live own d h.own)) i);
@@ -115,7 +127,7 @@ module _ (job : Job) (t : TaskCode) (may : may_start job t ≡ true) where
   by_end (CameBack v own d u) xs (fails x y) h n = absurd h
   by_end (CameBack v own d u) xs spent h n = absurd (n refl)
   by_end (Broke fault u) xs (done w y m) h n = absurd h
-  by_end (Broke fault u) xs (fails x y) h n = ([], λ i. record { text = h.0 i; ending = Rattle.machine_terms.specs.Jobs.ending_of (h.1 i) })
+  by_end (Broke fault u) xs (fails x y) h n = ([], tt, λ i. record { text = h.0 i; ending = Rattle.machine_terms.specs.Jobs.ending_of (h.1 i) })
   by_end (Broke fault u) xs spent h n = absurd (n refl)
 
   -- bounds that are no less than those of both runs
@@ -137,7 +149,7 @@ order_runs_agree job t found may =
     let same : order_run job ≡ outcome e = sym (jobs_run_whole job (bounds job t may) (are_large job t may))
     ∙ ap (Rattle.order_laws.specs.Bounds.run_first_within (bounds job t may) job) found
     ∙ ap (λ b. cond b (outcome e) void_outcome) may in
-    subst (λ o. (roots : List ℕ) × IsOutcome (spaces_of job.code) roots (ordered (room job) job t) o) (sym same)
+    subst (λ o. (roots : List ℕ) × AreOfFirstTask job t roots × IsOutcome (spaces_of job.code) roots (ordered (room job) job t) o) (sym same)
     (by_end job t may e r.made r.result
     (claim job.code job.turns (bounds job t may) (room job) (λ f. omega arith) (room job) [] (λ r. 0) 0 i [] (main_frame job t) [] [] (λ l. pos 0)
     [] 0 (room job + enough_segments job.code (first_frame job t)) (room job + 64) (first_alike job t may) (omega arith) (omega arith) (omega arith))

@@ -16,3 +16,4 @@ pub mod Runs
 pub mod Images
 pub mod Jobs
 pub mod Finished
+pub mod Example

@@ -13,9 +13,10 @@ use Rattle.board_rules.specs.Journals.{told}
 use Rattle.board_rules.specs.NumberedBoards.{Board, Step, board_of, entries, start}
 use Rattle.regent_boards.specs.Frames.{Location, Stop}
 use Rattle.regent_boards.specs.Laws.{by_maker, to_makers}
-use Rattle.regent_boards.specs.RegentMachine.{base, regent_ground, regent_roots}
+use Rattle.regent_boards.specs.RegentMachine.{base, regent_ground, regent_roots, size_of, space_of}
 use Rattle.code_boards.specs.Laws.{machine_of, main_of, room}
 use Rattle.code_boards.specs.Views.{board_segment, spaces_of}
+use Rattle.order_boards.specs.Laws.{AreOfFirstTask}
 use Rattle.order_boards.specs.Outcomes.{fault_of, image_on}
 
 module _ (job : Job) (t : TaskCode) (steps : List Step) (b : Board (regent_ground (spaces_of job.code))) where
@@ -35,17 +36,17 @@ module _ (job : Job) (t : TaskCode) (steps : List Step) (b : Board (regent_groun
   abbrev pub AreTwins : ℕ → ℕ → Type 0
   AreTwins ours theirs = (board_name (record { root = ours; field = 0; point = 0 })).root ≡ (order_name (record { root = theirs; field = 0; point = 0 })).root
 
-  -- the board's twin of each root holds its image
+  -- each root has its image's field space and size, and its twin on the board holds the image
   abbrev pub HoldImages : List ℕ → List RootImage → Type 0
   HoldImages [] [] = Unit {0}
-  HoldImages (theirs ∷ roots) (image ∷ images) =
-      ((ours : ℕ) → AreTwins ours theirs → image_on (spaces_of job.code) b.state.map ours ≡ image) × HoldImages roots images
+  HoldImages (theirs ∷ roots) (image ∷ images) = (space_of theirs ≡ image.space) × (size_of theirs ≡ image.count)
+      × ((ours : ℕ) → AreTwins ours theirs → image_on (spaces_of job.code) b.state.map ours ≡ image) × HoldImages roots images
   HoldImages _ _ = ⊥
 
-  -- Without a fault the outcome has images, each of which the board's twin of a root of the run in order holds; else
-  -- it has the fault, or is Broken.
+  -- Without a fault the outcome has images of the first task's roots, which their twins on the board hold; else it has
+  -- the fault, or is Broken.
   abbrev pub HasEnding : Option Stop → Ending → Type 0
-  HasEnding None e = (roots : List ℕ) × (images : List RootImage) × (e ≡ Finished images) × HoldImages roots images
+  HasEnding None e = (roots : List ℕ) × (images : List RootImage) × (e ≡ Finished images) × AreOfFirstTask job t roots × HoldImages roots images
   HasEnding (Some x) e = e ≡ ending_of (fault_of x)
 
   -- the board's text and ending, read by place

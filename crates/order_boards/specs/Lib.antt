@@ -1,3 +1,5 @@
 pub mod Outcomes
-pub mod Finished
 pub mod Laws
+pub mod Finished
+pub mod Jobs
+pub mod Example

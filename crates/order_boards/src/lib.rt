@@ -4,7 +4,8 @@
 //! What is said stands under specs/. Each function has an empty body; its contract is a law.
 #![tactic(auto)]
 
-ghost use Rattle.order_boards.specs.Finished.{FinishedBoardsAgree};
+ghost use Rattle.order_boards.specs.Example.{BothAreBroken, FirstRootHolds};
+ghost use Rattle.order_boards.specs.Jobs.{BoardsAgree};
 ghost use Rattle.order_boards.specs.Laws.{OrderRunsAgree};
 
 /// Of each job that isn't void, compiled or not: the machine's run in order has the text, the root images, and the
@@ -14,8 +15,15 @@ pub fn order_runs_agree()
     ensures { OrderRunsAgree }
 {}
 
-/// Whatever steps the seats of a board make, once it is finished it has the outcome of the machine's run in order of
-/// its job.
-pub fn finished_boards_agree()
-    ensures { FinishedBoardsAgree }
+/// Of every job, compiled or not, and whatever steps the seats of its board make: once the board is finished it has
+/// the outcome of the machine's run in order; a void job is Broken from the beginning.
+pub fn boards_agree()
+    ensures { BoardsAgree }
+{}
+
+/// A job with a root and a child, and one whose child needs an empty region alone: the machine's run in order has the
+/// outcome of the run by numbers.
+pub fn small_jobs()
+    ensures root { FirstRootHolds }
+    ensures empty_need { BothAreBroken }
 {}
