@@ -56,7 +56,7 @@ module _ (before : List ℕ) (own : List RootId) (d : Contents) (is : AreOwn bef
       let shown : (r f p : ℕ) → p < length (column_of (closed own d) r f) → p < length (column_of d r f) =
       λ r f p l. subst (λ (i : RootImage). p < length (get_or i.fields f [])) (image r f p l) l in record {
         below = s.below;
-        distinct = s.distinct;
+        rising = s.rising;
         numbered = subst (IsPoints d.made) (sym left) (record {
           rising = first.rising;
           below = all_below d.made before (λ x e. omega (arith, more, each_below k before first.below x e));

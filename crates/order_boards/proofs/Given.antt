@@ -291,7 +291,7 @@ module _ (code : Code) where
       let there : (r f p : ℕ) → p < length (column_of d r f) → p < length (column_of (contents_to s one d) (s r) f) =
       λ r f p l. subst (λ (i : RootImage). p < length (get_or i.fields f [])) (sym (image_to s one d r)) l in record {
         below = λ r l. st.below r (subst (λ k. r < k) alike.1 l);
-        distinct = λ a b l k. st.distinct a b (subst (λ j. a < j) alike.1 l) (subst (λ j. b < j) alike.1 k);
+        rising = λ a b l k. st.rising a b l (subst (λ j. b < j) alike.1 k);
         numbered = subst (λ ns. Rattle.plain_values.specs.Points.IsPoints d.made ns) (sym alike.0)
             (subst (λ k. Rattle.plain_values.specs.Points.IsPoints k (numbers c)) (sym alike.1) st.numbered);
         shaped = λ r l. subst (Rattle.order_boards.proofs.Stands.IsShaped code) (sym (alike.2 r)) (st.shaped r (live r l));

@@ -1,10 +1,11 @@
 -- The run in order of a job, as the machine's definition gives it, is the run by numbers.
-use Rattle.std.proofs.Common.{◌≡◌, ℕ, zero, suc, ◌+◌, ℤ, pos, List, [], ◌∷◌, ◌++◌, true, cond, Option, None, refl, sym, ap, ◌∙◌, ⊎_elim, subst, map, arith, ◌==◌, eqb-true}
+use Rattle.std.proofs.Common.{◌≡◌, ℕ, zero, suc, ◌+◌, ◌<◌, ℤ, pos, List, [], ◌∷◌, ◌++◌, true, cond, Option, None, refl, sym, ap, ◌∙◌, ⊎_elim, subst, map, arith, ◌==◌, eqb-true}
 use Rattle.std.specs.Prelude.{length, nat_le, replicate, ◌-◌}
+use Rattle.std.specs.List.Sorted.{IsStrictlyIncreasing}
 use Rattle.std.proofs.lemmas.Bool.{and_parts, false≢true}
 use Rattle.std.proofs.lemmas.List.{length-map, map-append}
 use Rattle.plain_values.specs.Points.{has}
-use Rattle.point_sets.proofs.Rising.{has_head, has_tail}
+use Rattle.point_sets.proofs.Rising.{Each, has-cons_cases, has_head, has_tail, rising_cons, rising_head, rising_tail}
 use Rattle.region_tree.specs.declared.tree.RootId.{RootId}
 use Rattle.regent_tree.specs.declared.outcome.Ending.TheVariants.{Finished}
 use Rattle.task_code.specs.declared.code.NeedCode.{NeedCode}
@@ -19,12 +20,12 @@ use Rattle.machine_terms.specs.Jobs.{first_frame, may_start, order_run, outcome,
 use Rattle.machine_terms.specs.Orders.{begun, enough_segments}
 use Rattle.memory_laws.specs.Places.{numbers}
 use Rattle.memory_laws.proofs.Closing.{ids_of}
-use Rattle.memory_laws.proofs.Placing.{all_below}
+use Rattle.memory_laws.proofs.Placing.{all_below, each_below}
 use Rattle.board_rules.specs.Journals.{shown, unfinished}
 use Rattle.board_rules.specs.NumberedRuns.{Making, numbered_run}
 use Rattle.board_rules.specs.Processes.{Result, done, fails, spent}
 use Rattle.regent_boards.specs.Frames as board
-use Rattle.regent_boards.specs.RegentMachine.{regent_ground}
+use Rattle.regent_boards.specs.RegentMachine.{regent_ground, who_of}
 use Rattle.segment_renaming.specs.Renaming.{frame_to, value_to}
 use Rattle.order_laws.specs.Bounds.{AreLarge, Bounds, order_run_within, runs_within}
 use Rattle.order_laws.proofs.Whole.{jobs_run_whole}
@@ -78,7 +79,7 @@ module _ (job : Job) (t : TaskCode) (may : may_start job t ≡ true) where
   nothing_stands : Stands job.code (λ r. 0) 0 no_contents (λ l. pos 0)
   nothing_stands = record {
     below = λ r l. absurd (omega (arith, l));
-    distinct = λ a b l k e. absurd (omega (arith, l));
+    rising = λ a b l k. absurd (omega (arith, k));
     numbered = record { rising = λ k l. absurd (omega (arith, l)); below = all_below 0 [] (λ x e. absurd (false≢true e)) };
     shaped = λ r l. absurd (false≢true l);
     same = λ r f p l. absurd (false≢true (shown_live no_contents r f p l));
@@ -113,12 +114,33 @@ module _ (job : Job) (t : TaskCode) (may : may_start job t ≡ true) where
     by_first xs now c own (λ q e. h q (has_tail q r.0 (ids_of own) e)),
   )
 
+  names_are : (now : ℕ → ℕ) (c : Contents) (own : List RootId) → map who_of (map (λ (r : RootId). board_root c now r.0) own) ≡ map now (ids_of own)
+  names_are now c [] = refl
+  names_are now c (r ∷ own) = λ i. root_who (image_of c r.0).space (image_of c r.0).count (now r.0) i ∷ names_are now c own i
+
+  in_turn : (k : ℕ) (now : ℕ → ℕ) → ((a b : ℕ) → a < b → b < k → now a < now b) → (xs : List ℕ) → IsStrictlyIncreasing xs → Each (λ x. x < k) xs →
+      IsStrictlyIncreasing (map now xs)
+  in_turn k now up [] h low = λ j l. absurd (omega (arith, l))
+  in_turn k now up (x ∷ xs) h low = rising_cons (now x) (map now xs)
+      (λ y e. let z = of_map xs y e in subst (λ w. now x < w) z.1 (up x z.0 (rising_head x xs h z.0 z.2) (low z.0 (has_tail z.0 x xs z.2))))
+      (in_turn k now up xs (rising_tail x xs h) (λ y e. low y (has_tail y x xs e)))
+    where
+      of_map : (xs : List ℕ) (y : ℕ) → has (map now xs) y ≡ true → (z : ℕ) × (now z ≡ y) × (has xs z ≡ true)
+      of_map [] y e = absurd (false≢true e)
+      of_map (x ∷ xs) y e = ⊎_elim (λ q. (x, sym q, has_head x xs)) (λ q. let z = of_map xs y q in (z.0, z.1, has_tail z.0 x xs z.2))
+          (has-cons_cases y (now x) (map now xs) e)
+
   by_end : (e : Ended) (xs : List Making) (r : Result (regent_ground (spaces_of job.code)) (Option ℤ)) → EndsAlike job.code [] [] [] (λ r. 0) 0 no_contents [] e xs r →
       (shown (regent_ground (spaces_of job.code)) (machine_of job 0) r ≡ unfinished → ⊥) →
-      (roots : List ℕ) × AreMadeBy [] xs roots × IsOutcome (spaces_of job.code) roots (shown (regent_ground (spaces_of job.code)) (machine_of job 0) r) (outcome e)
+      (roots : List ℕ) × (IsStrictlyIncreasing (map who_of roots) × AreMadeBy [] xs roots) × IsOutcome (spaces_of job.code) roots (shown (regent_ground (spaces_of job.code)) (machine_of job 0) r) (outcome e)
   by_end (CameBack v own d u) xs (done w y m) h n = (
     roots_of job.code h.now (0 + length xs) d m h.stands own,
-    by_first xs h.now d own h.mine,
+    (
+      subst IsStrictlyIncreasing (sym (names_are h.now d own)) (in_turn d.made h.now h.stands.rising (ids_of own)
+          (subst IsStrictlyIncreasing h.own h.stands.numbered.rising)
+          (subst (Each (λ x. x < d.made)) h.own (each_below d.made (numbers d) h.stands.numbered.below))),
+      by_first xs h.now d own h.mine,
+    ),
     λ i. record {
       text = h.says i;
       ending = Finished (sym (images_same job.code h.now (0 + length xs) d m h.stands own (own_live own d h.own)) i);
@@ -127,7 +149,7 @@ module _ (job : Job) (t : TaskCode) (may : may_start job t ≡ true) where
   by_end (CameBack v own d u) xs (fails x y) h n = absurd h
   by_end (CameBack v own d u) xs spent h n = absurd (n refl)
   by_end (Broke fault u) xs (done w y m) h n = absurd h
-  by_end (Broke fault u) xs (fails x y) h n = ([], tt, λ i. record { text = h.0 i; ending = Rattle.machine_terms.specs.Jobs.ending_of (h.1 i) })
+  by_end (Broke fault u) xs (fails x y) h n = ([], (λ j l. absurd (omega (arith, l)), tt), λ i. record { text = h.0 i; ending = Rattle.machine_terms.specs.Jobs.ending_of (h.1 i) })
   by_end (Broke fault u) xs spent h n = absurd (n refl)
 
   -- bounds that are no less than those of both runs

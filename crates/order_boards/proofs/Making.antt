@@ -182,11 +182,9 @@ module _ (code : Code) where
     unfolding Holds
     stands_made = record {
       below = λ r l. ⊎_elim (λ e. omega (arith, who_old r e, s.below r e)) (λ e. omega (arith, ap (who_more c who n) e ∙ who_new)) (old_of r l);
-      distinct = λ a b l k e. ⊎_elim
-          (λ x. ⊎_elim (λ y. s.distinct a b x y (sym (who_old a x) ∙ e ∙ who_old b y))
-          (λ y. absurd (omega (arith, s.below a x, sym (who_old a x) ∙ e ∙ ap (who_more c who n) y ∙ who_new))) (old_of b k))
-          (λ x. ⊎_elim (λ y. absurd (omega (arith, s.below b y, sym (who_old b y) ∙ sym e ∙ ap (who_more c who n) x ∙ who_new)))
-          (λ y. x ∙ sym y) (old_of b k)) (old_of a l);
+      rising = λ a b l k. ⊎_elim
+          (λ x. omega (arith, who_old a (omega (arith, l, x)), who_old b x, s.rising a b l x))
+          (λ e. let old : a < c.made = omega (arith, l, e) in omega (arith, who_old a old, s.below a old, ap (who_more c who n) e ∙ who_new)) (old_of b k);
       numbered = made.numbered_more c (new_root space size (kinds_of code space)) s.numbered;
       shaped = λ r l. ⊎_elim
           (λ k. subst (λ i. IsShaped code (shape_of i)) (sym (image_old r (live_below c r s.numbered k))) (s.shaped r k))

@@ -1,7 +1,7 @@
 -- When a map has what the roots hold, each root by its number on the board.
 use Rattle.std.proofs.Common.{◌≡◌, ℕ, ◌+◌, ◌<◌, ◌≤◌, List, [], ◌∷◌, Bool, true, false, cond, refl, sym, ap, ◌∙◌, subst, map, arith, ◌==◌, ◌||◌, get_or, ⊎_elim}
 use Rattle.std.specs.Prelude.{length, replicate}
-use Rattle.std.proofs.lemmas.Bool.{cases_lt, eqb-false, ne_eqb}
+use Rattle.std.proofs.lemmas.Bool.{cases_lt, cases_order, eqb-false, ne_eqb}
 use Rattle.std.proofs.lemmas.List.{get_or-replicate, get_or_default, length-replicate}
 use Rattle.std.proofs.Math.ListN.{get_or-eq_default, get_or-map}
 use Rattle.plain_values.specs.Points.{IsPoints, has}
@@ -115,7 +115,7 @@ module _ (code : Code) where
   -- place of a root that is there what the root holds, and the numbers fit.
   pub record Stands (who : ℕ → ℕ) (n : ℕ) (c : Contents) (m : Map (regent_ground (spaces_of code))) : Type 0 where
     pub below : (r : ℕ) → r < c.made → who r < n
-    pub distinct : (a b : ℕ) → a < c.made → b < c.made → who a ≡ who b → a ≡ b
+    pub rising : (a b : ℕ) → a < b → b < c.made → who a < who b
     pub numbered : IsPoints c.made (numbers c)
     pub shaped : (r : ℕ) → IsLive c r → IsShaped (shape_of (image_of c r))
     pub same : (r f p : ℕ) → p < length (column_of c r f) → kept_at c r f p ≡ m (at (board_root c who r) f p)
@@ -131,7 +131,7 @@ module _ (code : Code) where
   pub stands_on : (who : ℕ → ℕ) (n k : ℕ) (c : Contents) (m : Map (regent_ground (spaces_of code))) → n ≤ k → Stands who n c m → Stands who k c m
   stands_on who n k c m l s = record {
     below = λ r h. omega (arith, l, s.below r h);
-    distinct = s.distinct;
+    rising = s.rising;
     numbered = s.numbered;
     shaped = s.shaped;
     same = s.same;
@@ -161,7 +161,9 @@ module _ (code : Code) where
         chosen false = root_who 0 0 (n + a + r)
 
     one_who : (x y : ℕ) (b d : Bool) → has (numbers c) x ≡ b → has (numbers c) y ≡ d → cond b (who x) (n + a + x) ≡ cond d (who y) (n + a + y) → x ≡ y
-    one_who x y true true e f q = s.distinct x y (live_below c x s.numbered e) (live_below c y s.numbered f) q
+    one_who x y true true e f q = ⊎_elim (λ e. e) (λ more. ⊎_elim
+        (λ l. absurd (omega (arith, q, s.rising x y l (live_below c y s.numbered f))))
+        (λ l. absurd (omega (arith, q, s.rising y x l (live_below c x s.numbered e)))) more) (cases_order x y)
     one_who x y true false e f q = absurd (omega (arith, q, s.below x (live_below c x s.numbered e)))
     one_who x y false true e f q = absurd (omega (arith, q, s.below y (live_below c y s.numbered f)))
     one_who x y false false e f q = omega (arith, q)

@@ -1,19 +1,20 @@
 -- The run in order of a job is that of the machine.
-use Rattle.std.specs.Prelude.{◌≡◌, ℕ, List, [], Some, slice_get, true}
+use Rattle.std.specs.Prelude.{◌≡◌, ℕ, List, [], Some, map, slice_get, true}
+use Rattle.std.specs.List.Sorted.{IsStrictlyIncreasing}
 use Rattle.task_code.specs.declared.code.TaskCode.{TaskCode}
 use Rattle.task_code.specs.declared.job.Job.{Job}
 use Rattle.machine_terms.specs.Jobs.{may_start, order_run}
 use Rattle.board_rules.specs.ByNumber.{made_in_order}
 use Rattle.regent_boards.specs.Laws.{by_maker, to_makers}
-use Rattle.regent_boards.specs.RegentMachine.{base, regent_roots}
+use Rattle.regent_boards.specs.RegentMachine.{base, regent_roots, who_of}
 use Rattle.code_boards.specs.Laws.{machine_of, main_of, ordered, room}
 use Rattle.code_boards.specs.Views.{board_segment, spaces_of}
 use Rattle.order_boards.specs.Outcomes.{AreMadeBy, IsOutcome}
 
--- the first task made these roots in the run in order
+-- the first task made these roots in the run in order, one after the other
 abbrev pub AreOfFirstTask : Job → TaskCode → List ℕ → Type 0
-AreOfFirstTask job t = AreMadeBy [] (made_in_order base (regent_roots (spaces_of job.code)) (regent_roots (spaces_of job.code)) (machine_of job)
-    (by_maker (spaces_of job.code) (board_segment job.code job.turns)) (to_makers (spaces_of job.code) (board_segment job.code job.turns)) (room job) (main_of job t))
+AreOfFirstTask job t roots = IsStrictlyIncreasing (map who_of roots) × AreMadeBy [] (made_in_order base (regent_roots (spaces_of job.code)) (regent_roots (spaces_of job.code)) (machine_of job)
+    (by_maker (spaces_of job.code) (board_segment job.code job.turns)) (to_makers (spaces_of job.code) (board_segment job.code job.turns)) (room job) (main_of job t)) roots
 
 -- Of each job that isn't void: the run that the machine's definition gives has the outcome of the run by numbers of
 -- which the laws of boards speak.
