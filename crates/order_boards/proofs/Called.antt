@@ -22,7 +22,7 @@ use Rattle.machine_terms.specs.Orders.{Runner, after_call, begun, breaks, call_a
 use Rattle.memory_laws.specs.Places.{numbers}
 use Rattle.memory_laws.proofs.Shapes.{length_of}
 use Rattle.board_rules.specs.Ground.{Ground}
-use Rattle.board_rules.specs.NumberedRuns.{Making, Run, bind_run, children_run, go_run, go_then, just, numbered_run, says_run}
+use Rattle.board_rules.specs.NumberedRuns.{Making, Run, bind_run, go_run, go_then, just, numbered_run, faulty}
 use Rattle.board_rules.specs.Processes.{Map, Result, done, fails, spent}
 use Rattle.board_rules.specs.Running.{Call, Machine as BoardMachine}
 use Rattle.regent_boards.specs.Frames as board
@@ -183,7 +183,7 @@ module _ (code : Code) (turns : ℕ) where
             (bind_run (G code) M (λ n m. cond b
             (bind_run (G code) M (numbered_run (G code) M k (length vs ∷ p) ours 0 (x ours).frame [] [])
             (λ v. bind_run (G code) M (just (G code) M []) (λ ws. just (G code) M (v ∷ ws))) n m)
-            (Rattle.board_rules.specs.NumberedRuns.faulty (G code) M board.broken n m)) (λ ws. numbered_run (G code) M k p N j f [] (vs ++ ws)) n m)
+            (faulty (G code) M board.broken n m)) (λ ws. numbered_run (G code) M k p N j f [] (vs ++ ws)) n m)
         by_test needs ours e d true l =
             let r = numbered_run (G code) M k (length vs ∷ p) ours 0 (x ours).frame [] [] n m in
             behind (child (begun frame needs i.contents)) r.made r.result
@@ -204,7 +204,7 @@ module _ (code : Code) (turns : ℕ) where
             (bind_run (G code) M (λ n m. cond b
             (bind_run (G code) M (numbered_run (G code) M k (length vs ∷ p) ours 0 (x ours).frame [] [])
             (λ v. bind_run (G code) M (just (G code) M []) (λ ws. just (G code) M (v ∷ ws))) n m)
-            (Rattle.board_rules.specs.NumberedRuns.faulty (G code) M board.broken n m)) (λ ws. numbered_run (G code) M k p N j f [] (vs ++ ws)) n m))
+            (faulty (G code) M board.broken n m)) (λ ws. numbered_run (G code) M k p N j f [] (vs ++ ws)) n m))
             (sym (within_same needs ours (same_Some _ _ l)))
             (by_test needs ours e d (is_within needs i.needs) refl)
 

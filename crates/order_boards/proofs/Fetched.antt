@@ -1,5 +1,5 @@
 -- A part that is wanted, as it is copied out of the roots and as the board fills it.
-use Rattle.std.proofs.Common.{◌≡◌, ℕ, suc, ◌<◌, ℤ, List, [], ◌∷◌, ◌++◌, Bool, true, false, cond, None, Some, Option, refl, sym, ap, ◌∙◌, subst, map, arith}
+use Rattle.std.proofs.Common.{◌≡◌, ℕ, suc, ℤ, List, [], ◌∷◌, ◌++◌, true, false, None, Some, Option, refl, sym, ap, ◌∙◌, subst, map, zero}
 use Rattle.std.specs.Prelude.{length, replicate}
 use Rattle.std.proofs.lemmas.Bool.{false≢true}
 use Rattle.plain_values.specs.Points.{has}
@@ -48,21 +48,21 @@ all_distinct = (
   ((refl, (refl, (refl, (refl, tt)))), ((refl, (refl, (refl, tt))), ((refl, (refl, tt)), ((refl, tt), (tt, tt))))),
 )
 
+some_mode : (m : Mode) (o : Option Mode) → is_mode m o ≡ true → o ≡ None → ⊥
+some_mode m None e d = false≢true e
+some_mode m (Some n) e d = absurd cc
+
 module _ (needs : List Requirement) (root field : ℕ) where
   parts_have : (P : ℕ → Type 0) → ((p : ℕ) → (mode_at needs root field p ≡ None → ⊥) → P p) → (ms : List Mode) → AllHave P (parts_of_modes needs root field ms)
   unfolding AllHave
   parts_have P h [] = tt
   parts_have P h (m ∷ ms) = split (points_joined needs root field m) refl (parts_have P h ms)
     where
-      none : (o : Option Mode) → is_mode m o ≡ true → o ≡ None → ⊥
-      none None e d = false≢true e
-      none (Some n) e d = absurd cc
-
       split : (xs : List ℕ) → points_joined needs root field m ≡ xs → AllHave P (parts_of_modes needs root field ms) →
           AllHave P (part_of_mode xs m (parts_of_modes needs root field ms))
       split [] e more = more
       split (x ∷ xs) e more = (
-        λ p q. h p (none (mode_at needs root field p)
+        λ p q. h p (some_mode m (mode_at needs root field p)
             (sym (has-points_joined needs root field m p) ∙ subst (λ ys. has ys p ≡ true) (sym e) q)),
         more,
       )
@@ -71,17 +71,13 @@ module _ (needs : List Requirement) (root field : ℕ) where
   some_needed [] n = absurd (n refl)
   some_needed (m ∷ ms) n = split (points_joined needs root field m) refl n (some_needed ms)
     where
-      none : (o : Option Mode) → is_mode m o ≡ true → o ≡ None → ⊥
-      none None e d = false≢true e
-      none (Some k) e d = absurd cc
-
       split : (xs : List ℕ) → points_joined needs root field m ≡ xs → (part_of_mode xs m (parts_of_modes needs root field ms) ≡ [] → ⊥) →
           ((parts_of_modes needs root field ms ≡ [] → ⊥) → (p : ℕ) × (mode_at needs root field p ≡ None → ⊥)) →
           (p : ℕ) × (mode_at needs root field p ≡ None → ⊥)
       split [] e n more = more n
       split (x ∷ xs) e n more = (
         x,
-        none (mode_at needs root field x) (sym (has-points_joined needs root field m x) ∙ ap (λ ys. has ys x) e ∙ has_head x xs),
+        some_mode m (mode_at needs root field x) (sym (has-points_joined needs root field m x) ∙ ap (λ ys. has ys x) e ∙ has_head x xs),
       )
 
   -- a part that isn't empty has a point that is needed
@@ -222,7 +218,7 @@ module _ (code : Code) where
     each_fits (x ∷ xs) h = (h x (has_head x xs), each_fits xs (λ p e. h p (has_tail p x xs e)))
 
     same_fits : (n : ℕ) (z : ℤ) → FitsWidth (width_of kind) z → AllFit (width_of kind) (replicate n z)
-    same_fits Rattle.std.proofs.Common.zero z f = tt
+    same_fits zero z f = tt
     same_fits (suc n) z f = (f, same_fits n z f)
 
     piece_fits : (md : Mode) (xs : List ℕ) → ((p : ℕ) → has xs p ≡ true → FitsWidth (width_of kind) (kept_at c root field p)) →

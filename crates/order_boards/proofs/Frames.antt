@@ -25,6 +25,7 @@ use Rattle.code_boards.specs.Views.{frame_in, frame_out, need_in, needs_in, regi
 use Rattle.order_boards.proofs.Needs.{pointed}
 use Rattle.order_boards.proofs.Renumbering.{names}
 use Rattle.order_boards.proofs.Stands.{kinds_same}
+use Rattle.region_tree.specs.declared.needs.Needs.{Needs}
 
 -- ---- a frame that a segment left
 
@@ -54,7 +55,7 @@ module _ (s : ℕ → ℕ) where
     stack = values_seen x.frame.stack i;
     turns = x.frame.turns;
     depth = x.frame.depth;
-    needs = (ap (λ (h : Frame). h.needs) e ∙ ap (λ n. record { items = map (need_to (names s)) n }) (ap (λ (n : Rattle.region_tree.specs.declared.needs.Needs.Needs). n.items) (sym fixed.needs))) i;
+    needs = (ap (λ (h : Frame). h.needs) e ∙ ap (λ n. record { items = map (need_to (names s)) n }) (ap (λ (n : Needs). n.items) (sym fixed.needs))) i;
     own = (ap (λ (h : Frame). h.own) e ∙ ap (map (root_to (names s))) (sym fixed.own)) i;
     children = x.frame.children;
     later = (ap (λ (h : Frame). h.later) e ∙ sym fixed.later) i;

@@ -1,5 +1,5 @@
 -- Parts that go back into the roots, and into the map.
-use Rattle.std.proofs.Common.{◌≡◌, ℕ, ◌<◌, ◌≤◌, ℤ, pos, List, [], ◌∷◌, Bool, true, false, cond, refl, sym, ap, ◌∙◌, subst, map, arith, ◌==◌, ◌&&◌, get_or, ⊎_elim, eqb-true}
+use Rattle.std.proofs.Common.{◌≡◌, ℕ, ◌<◌, ◌≤◌, ℤ, pos, List, [], ◌∷◌, Bool, true, false, cond, refl, sym, ap, ◌∙◌, subst, map, arith, ◌==◌, ◌&&◌, get_or, ⊎_elim, eqb-true, suc, zero}
 use Rattle.std.specs.Prelude.{length, slice_set}
 use Rattle.std.proofs.lemmas.Bool.{and_parts, cases_lt}
 use Rattle.std.proofs.lemmas.List.{set-get_or}
@@ -21,17 +21,24 @@ use Rattle.machine_terms.specs.Parts.{is_part_of}
 use Rattle.machine_terms.proofs.FitParts.{PartsFit, PiecesFit}
 use Rattle.memory_laws.specs.Places.{column_of, numbers}
 use Rattle.memory_laws.proofs.Keeping.{image_kept, kept_set, length_kept}
-use Rattle.memory_laws.proofs.Shapes.{alike_parts, length_of}
+use Rattle.memory_laws.proofs.Shapes.{alike_parts, length_of, kind_same}
 use Rattle.board_rules.specs.Ground.{Ground}
 use Rattle.board_rules.specs.Processes.{Map, run_all}
-use Rattle.board_rules.specs.Running.{Element, Machine, puts}
+use Rattle.board_rules.specs.Running.{Element, Machine, puts, back_with}
 use Rattle.regent_boards.specs.Folds.{folded}
 use Rattle.regent_boards.specs.RegentMachine.{as_held, kind_of, regent_ground}
 use Rattle.regent_boards.proofs.Folds.{folds_are_applied}
 use Rattle.segment_renaming.specs.Renaming.{part_to}
 use Rattle.code_boards.specs.Views.{mode_in, onto_parts, onto_pieces, part_with, parts_in, piece_with, spaces_of}
 use Rattle.order_boards.proofs.Renumbering.{contents_to, image_to, kept_to, names, parts_given_to}
-use Rattle.order_boards.proofs.Stands.{IsLive, Naming, Stands, at, board_root_same, shown_kind, shown_live}
+use Rattle.order_boards.proofs.Stands.{IsLive, Naming, Stands, at, board_root_same, shown_kind, shown_live, IsShaped, board_root}
+use Rattle.plain_values.specs.Points.{IsPoints, has}
+
+-- a number set beyond a list changes nothing
+set_beyond : (xs : List ℤ) (p : ℕ) (z : ℤ) → length xs ≤ p → slice_set xs p z ≡ xs
+set_beyond [] p z k = refl
+set_beyond (x ∷ xs) zero z k = absurd (omega (arith, k))
+set_beyond (x ∷ xs) (suc p) z k = ap (λ ys. x ∷ ys) (set_beyond xs p z (omega (arith, k)))
 
 module _ (code : Code) where
   abbrev G : Ground
@@ -140,16 +147,8 @@ module _ (code : Code) where
     kept_beyond : (c : Contents) (root f p : ℕ) (z : ℤ) (r : ℕ) → length (column_of c root f) ≤ p → image_of (keep c root f p z) r ≡ image_of c r
     kept_beyond c root f p z r l = image_kept c root f p z r ∙ chosen (root == r) refl
       where
-        beyond : (xs : List ℤ) → length xs ≤ p → slice_set xs p z ≡ xs
-        beyond xs k = set_beyond xs p k
-          where
-            set_beyond : (xs : List ℤ) (p : ℕ) → length xs ≤ p → slice_set xs p z ≡ xs
-            set_beyond [] p k = refl
-            set_beyond (x ∷ xs) Rattle.std.proofs.Common.zero k = absurd (omega (arith, k))
-            set_beyond (x ∷ xs) (Rattle.std.proofs.Common.suc p) k = ap (λ ys. x ∷ ys) (set_beyond xs p (omega (arith, k)))
-
         unchanged : (i : RootImage) → length (get_or i.fields f []) ≤ p → with_number i f p z ≡ i
-        unchanged i k = ap (λ xs. record i { fields = slice_set i.fields f xs }) (beyond (get_or i.fields f []) k)
+        unchanged i k = ap (λ xs. record i { fields = slice_set i.fields f xs }) (set_beyond (get_or i.fields f []) p z k)
             ∙ ap (λ fs. record i { fields = fs }) (set-get_or i.fields f [])
 
         chosen : (b : Bool) → (root == r) ≡ b → cond b (with_number (image_of c r) f p z) (image_of c r) ≡ image_of c r
@@ -239,13 +238,13 @@ module _ (code : Code) where
           subst (λ d. Agrees d (run_all G (puts G K (x ∷ ps)) m))
           (sym (onto_given l.root l.field (mode_in code x.mode) l.point x.number (parts_in code ps) c (are_kinds ps)))
           (subst (λ k. Agrees (give_parts (parts_in code ps) (give_back (kind_of (spaces_of code) l.root l.field) (mode_in code x.mode) l.root l.field l.point x.number c))
-          (run_all G (Rattle.board_rules.specs.Running.back_with G K k l x.number (puts G K ps)) m)) (sym held.0)
+          (run_all G (back_with G K k l x.number (puts G K ps)) m)) (sym held.0)
           (by_mode (mode_in code x.mode) both.0 (λ d u h. given_back ps held.1 both.1 d u h)))
         where
           by_mode : (md : Mode) → FitsWidth (width_of (kind_of (spaces_of code) x.location.root x.location.field)) x.number →
               ((d : Contents) (u : Map G) → Agrees d u → Agrees (give_parts (parts_in code ps) d) (run_all G (puts G K ps) u)) →
               Agrees (give_parts (parts_in code ps) (give_back (kind_of (spaces_of code) x.location.root x.location.field) md x.location.root x.location.field x.location.point x.number c))
-              (run_all G (Rattle.board_rules.specs.Running.back_with G K (as_held (spaces_of code) x.location.root x.location.field md) x.location x.number (puts G K ps)) m)
+              (run_all G (back_with G K (as_held (spaces_of code) x.location.root x.location.field md) x.location x.number (puts G K ps)) m)
           by_mode mode.Read one more = more c m a
           by_mode mode.Write one more = more (keep c x.location.root x.location.field x.location.point x.number)
               (λ k. cond (G.same x.location k) x.number (m k))
@@ -283,23 +282,23 @@ module _ (code : Code) where
       let given : Agrees s (contents_to s one d) u =
       subst (λ x. Agrees s x u) (ap (λ rs. give_parts rs (contents_to s one c)) e ∙ parts_given_to s one qs c)
       (given_back s K ps held (subst PartsFit (sym e) (parts_fit_to s qs fit)) (contents_to s one c) m first) in
-      let live : (r : ℕ) → IsLive d r → IsLive c r = λ r l. subst (λ ns. Rattle.plain_values.specs.Points.has ns r ≡ true) alike.0 l in
+      let live : (r : ℕ) → IsLive d r → IsLive c r = λ r l. subst (λ ns. has ns r ≡ true) alike.0 l in
       let shown : (r f p : ℕ) → p < length (column_of d r f) → p < length (column_of c r f) =
       λ r f p l. subst (λ k. p < k) (length_of (image_of d r) (image_of c r) f (alike.2 r)) l in
-      let named : (r f p : ℕ) → p < length (column_of d r f) → s r ≡ Rattle.order_boards.proofs.Stands.board_root d who r =
+      let named : (r f p : ℕ) → p < length (column_of d r f) → s r ≡ board_root d who r =
       λ r f p l. names_of.live r (shown_live c r f p (shown r f p l)) ∙ sym (board_root_same c d who r (alike.2 r)) in
       let there : (r f p : ℕ) → p < length (column_of d r f) → p < length (column_of (contents_to s one d) (s r) f) =
       λ r f p l. subst (λ (i : RootImage). p < length (get_or i.fields f [])) (sym (image_to s one d r)) l in record {
         below = λ r l. st.below r (subst (λ k. r < k) alike.1 l);
         rising = λ a b l k. st.rising a b l (subst (λ j. b < j) alike.1 k);
-        numbered = subst (λ ns. Rattle.plain_values.specs.Points.IsPoints d.made ns) (sym alike.0)
-            (subst (λ k. Rattle.plain_values.specs.Points.IsPoints k (numbers c)) (sym alike.1) st.numbered);
-        shaped = λ r l. subst (Rattle.order_boards.proofs.Stands.IsShaped code) (sym (alike.2 r)) (st.shaped r (live r l));
+        numbered = subst (λ ns. IsPoints d.made ns) (sym alike.0)
+            (subst (λ k. IsPoints k (numbers c)) (sym alike.1) st.numbered);
+        shaped = λ r l. subst (IsShaped code) (sym (alike.2 r)) (st.shaped r (live r l));
         same = λ r f p l. sym (kept_to s one d r f p) ∙ (given r f p (there r f p l)).0 ∙ ap (λ R. u (at R f p)) (named r f p l);
         fits = λ r f p l. subst (λ k. FitsWidth (width_of k) (kept_at d r f p))
             (ap (λ R. kind_of (spaces_of code) R f) (names_of.live r (shown_live c r f p (shown r f p l)))
             ∙ shown_kind code who n c m st r f p (shown r f p l)
-            ∙ sym (Rattle.memory_laws.proofs.Shapes.kind_same code c d alike.2 r f))
+            ∙ sym (kind_same code c d alike.2 r f))
             (subst (FitsWidth (width_of (kind_of (spaces_of code) (s r) f))) (kept_to s one d r f p) (given r f p (there r f p l)).1);
       }
     where

@@ -3,7 +3,7 @@ use Rattle.std.proofs.Common.{◌≡◌, ℕ, ◌<◌, pos, List, [], ◌∷◌,
 use Rattle.std.specs.Prelude.{length}
 use Rattle.std.proofs.lemmas.List.{ext_get_or, get_or-map, length-map, length-replicate}
 use Rattle.plain_values.specs.Points.{has, points}
-use Rattle.point_sets.proofs.Rising.{get_or-counted_from, length-counted_from}
+use Rattle.point_sets.proofs.Rising.{get_or-counted_from, length-counted_from, has_head, has_tail}
 use Rattle.region_tree.specs.declared.tree.RootId.{RootId}
 use Rattle.regent_tree.specs.declared.outcome.RootImage.{RootImage}
 use Rattle.task_code.specs.declared.code.Code.{Code}
@@ -57,5 +57,5 @@ module _ (code : Code) (who : ℕ → ℕ) (n : ℕ) (c : Contents) (m : Map (re
   pub images_same : (own : List RootId) → ((r : ℕ) → has (map (λ (k : RootId). k.0) own) r ≡ true → IsLive c r) →
       map (image_on (spaces_of code) m) (roots_of own) ≡ map (λ (r : RootId). image_of c r.0) own
   images_same [] live = refl
-  images_same (r ∷ own) live = λ i. image_same r.0 (live r.0 (Rattle.point_sets.proofs.Rising.has_head r.0 (map (λ (k : RootId). k.0) own))) i
-      ∷ images_same own (λ k e. live k (Rattle.point_sets.proofs.Rising.has_tail k r.0 (map (λ (x : RootId). x.0) own) e)) i
+  images_same (r ∷ own) live = λ i. image_same r.0 (live r.0 (has_head r.0 (map (λ (k : RootId). k.0) own))) i
+      ∷ images_same own (λ k e. live k (has_tail k r.0 (map (λ (x : RootId). x.0) own) e)) i

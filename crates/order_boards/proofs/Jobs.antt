@@ -16,7 +16,7 @@ use Rattle.machine_terms.specs.declared.order.Ended.{Ended}
 use Rattle.machine_terms.specs.declared.order.Ended.TheVariants.{CameBack, Broke}
 use Rattle.machine_terms.specs.declared.value.Value.TheVariants.{Number}
 use Rattle.machine_terms.specs.Contents.{image_of, no_contents}
-use Rattle.machine_terms.specs.Jobs.{first_frame, may_start, order_run, outcome, void_outcome}
+use Rattle.machine_terms.specs.Jobs.{first_frame, may_start, order_run, outcome, void_outcome, ending_of}
 use Rattle.machine_terms.specs.Orders.{begun, enough_segments}
 use Rattle.memory_laws.specs.Places.{numbers}
 use Rattle.memory_laws.proofs.Closing.{ids_of}
@@ -26,8 +26,8 @@ use Rattle.board_rules.specs.NumberedRuns.{Making, numbered_run}
 use Rattle.board_rules.specs.Processes.{Result, done, fails, spent}
 use Rattle.regent_boards.specs.Frames as board
 use Rattle.regent_boards.specs.RegentMachine.{regent_ground, who_of}
-use Rattle.segment_renaming.specs.Renaming.{frame_to, value_to}
-use Rattle.order_laws.specs.Bounds.{AreLarge, Bounds, order_run_within, runs_within}
+use Rattle.segment_renaming.specs.Renaming.{frame_to, value_to, need_to}
+use Rattle.order_laws.specs.Bounds.{AreLarge, Bounds, runs_within, run_first_within}
 use Rattle.order_laws.proofs.Whole.{jobs_run_whole}
 use Rattle.code_boards.specs.Laws.{machine_of, main_frame, ordered, room}
 use Rattle.code_boards.specs.Views.{frame_in, spaces_of, value_in}
@@ -39,6 +39,7 @@ use Rattle.order_boards.proofs.Images.{images_same, roots_of}
 use Rattle.order_boards.proofs.Renumbering.{names}
 use Rattle.order_boards.proofs.Runs.{claim}
 use Rattle.order_boards.proofs.Stands.{Stands, board_root, root_who, shown_live}
+use Rattle.machine_terms.specs.Opening.{needs_on}
 
 -- ---- at the beginning
 
@@ -71,8 +72,8 @@ module _ (job : Job) (t : TaskCode) (may : may_start job t ≡ true) where
       λ i. record (frame_to (names s) (first_frame job t)) {
         slots = slots i;
         needs = record {
-          items = ap (λ ns. map (Rattle.segment_renaming.specs.Renaming.need_to (names s))
-              (Rattle.machine_terms.specs.Opening.needs_on ns (map Number zs))) (sym none_needed) i;
+          items = ap (λ ns. map (need_to (names s))
+              (needs_on ns (map Number zs))) (sym none_needed) i;
         };
       }
 
@@ -149,7 +150,7 @@ module _ (job : Job) (t : TaskCode) (may : may_start job t ≡ true) where
   by_end (CameBack v own d u) xs (fails x y) h n = absurd h
   by_end (CameBack v own d u) xs spent h n = absurd (n refl)
   by_end (Broke fault u) xs (done w y m) h n = absurd h
-  by_end (Broke fault u) xs (fails x y) h n = ([], (λ j l. absurd (omega (arith, l)), tt), λ i. record { text = h.0 i; ending = Rattle.machine_terms.specs.Jobs.ending_of (h.1 i) })
+  by_end (Broke fault u) xs (fails x y) h n = ([], (λ j l. absurd (omega (arith, l)), tt), λ i. record { text = h.0 i; ending = ending_of (h.1 i) })
   by_end (Broke fault u) xs spent h n = absurd (n refl)
 
   -- bounds that are no less than those of both runs
@@ -169,7 +170,7 @@ order_runs_agree job t found may =
     let e = runs_within job.code job.turns (bounds job t may) (suc (room job + 64)) i in
     let r = numbered_run (regent_ground (spaces_of job.code)) (machine_of job) (room job) [] [] 0 (main_frame job t) [] [] 0 (λ l. pos 0) in
     let same : order_run job ≡ outcome e = sym (jobs_run_whole job (bounds job t may) (are_large job t may))
-    ∙ ap (Rattle.order_laws.specs.Bounds.run_first_within (bounds job t may) job) found
+    ∙ ap (run_first_within (bounds job t may) job) found
     ∙ ap (λ b. cond b (outcome e) void_outcome) may in
     subst (λ o. (roots : List ℕ) × AreOfFirstTask job t roots × IsOutcome (spaces_of job.code) roots (ordered (room job) job t) o) (sym same)
     (by_end job t may e r.made r.result

@@ -1,5 +1,5 @@
 -- A root that is made, in the run in order and on the map.
-use Rattle.std.proofs.Common.{◌≡◌, ◌⊎◌, ℕ, zero, suc, ◌+◌, ◌<◌, ◌≤◌, ℤ, pos, List, [], ◌∷◌, ◌++◌, Bool, true, false, cond, refl, sym, ap, ◌∙◌, subst, map, arith, ◌==◌, ◌&&◌, get_or, ⊎_elim, inl, inr, eq-eqb, eqb-true, ne_eqb}
+use Rattle.std.proofs.Common.{◌≡◌, ◌⊎◌, ℕ, suc, ◌+◌, ◌<◌, ◌≤◌, ℤ, pos, List, [], ◌∷◌, ◌++◌, Bool, true, false, cond, refl, sym, ap, ◌∙◌, subst, map, arith, ◌==◌, ◌&&◌, get_or, ⊎_elim, inl, inr, eq-eqb, eqb-true, ne_eqb, ◌||◌}
 use Rattle.std.specs.Prelude.{length, replicate}
 use Rattle.std.proofs.lemmas.Bool.{and_from, and_parts, cases_lt, le-leb, lt-ltb}
 use Rattle.std.proofs.lemmas.List.{length-map, length-replicate}
@@ -24,6 +24,7 @@ use Rattle.regent_boards.specs.Frames.{Location}
 use Rattle.regent_boards.specs.RegentMachine.{fields_of, kind_of, regent_ground, root_of, who_of, zero_of, zeros_of}
 use Rattle.code_boards.specs.Views.{spaces_of}
 use Rattle.order_boards.proofs.Stands.{IsLive, IsShaped, Stands, at, board_root, kind_same, kinds_same, live_below, root_who, shown_live}
+use Rattle.std.proofs.Math.ListN.{get_or-eq_default}
 
 pub has_point : (size p : ℕ) → p < size → has (points size) p ≡ true
 has_point size p l = has-counted_from 0 size p ∙ and_from _ _ (le-leb 0 p (omega arith)) (lt-ltb p (0 + size) (omega (arith, l)))
@@ -112,7 +113,7 @@ module _ (code : Code) where
 
     pub live_more : (r : ℕ) → IsLive c r → IsLive d r
     live_more r l = ap (λ ns. has ns r) (made.numbers_more c (new_root space size (kinds_of code space)) s.numbered)
-        ∙ has-append (numbers c) (c.made ∷ []) r ∙ ap (λ b. Rattle.std.proofs.Common.◌||◌ b (has (c.made ∷ []) r)) l
+        ∙ has-append (numbers c) (c.made ∷ []) r ∙ ap (λ b. b || has (c.made ∷ []) r) l
 
     old_or_new : (r : ℕ) → IsLive d r → IsLive c r ⊎ (r ≡ c.made)
     old_or_new r l = ⊎_elim (λ e. inl e) (λ e. ⊎_elim (λ k. inr k) (λ k. absurd (false≢true k)) (has-cons_cases r c.made [] e))
@@ -167,7 +168,7 @@ module _ (code : Code) where
         )
       where
         none : (f : ℕ) → length (kinds_of code space) ≤ f → length (get_or (made.zeros size (kinds_of code space)) f []) ≡ 0
-        none f l = ap length (Rattle.std.proofs.Math.ListN.get_or-eq_default (made.zeros size (kinds_of code space)) []
+        none f l = ap length (get_or-eq_default (made.zeros size (kinds_of code space)) []
             (subst (λ k. k ≤ f) (sym (length-map (kinds_of code space) (λ k. replicate size (kept_zero k)))) l))
 
     holds : (r f p : ℕ) → p < length (column_of d r f) → Holds r f p

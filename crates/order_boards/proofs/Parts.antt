@@ -2,7 +2,7 @@
 use Rattle.std.proofs.Common.{◌≡◌, ℕ, zero, suc, ℤ, pos, List, [], ◌∷◌, ◌++◌, Bool, true, false, cond, Option, Some, None, refl, sym, ap, ◌∙◌, take, drop, arith, ◌==◌, eq-eqb, eqb-true}
 use Rattle.std.specs.Prelude.{length}
 use Rattle.std.proofs.lemmas.Bool.{and_from, and_parts}
-use Rattle.std.proofs.lemmas.List.{length-map}
+use Rattle.std.proofs.lemmas.List.{length-map, length-append}
 use Rattle.lane_kernels.specs.declared.numbers.Mode.{Mode}
 use Rattle.region_tree.specs.declared.piece.Part.{Part}
 use Rattle.region_tree.specs.Pieces.{Held}
@@ -62,8 +62,8 @@ module _ (code : Code) where
   count_bare [] = refl
   count_bare (h ∷ hs) = omega (
     arith,
-    Rattle.std.proofs.lemmas.List.length-append (zeroed h.values) (numbers_in_pieces code (bare_pieces hs)),
-    Rattle.std.proofs.lemmas.List.length-append h.values (numbers_in_pieces code hs),
+    length-append (zeroed h.values) (numbers_in_pieces code (bare_pieces hs)),
+    length-append h.values (numbers_in_pieces code hs),
     as_many h.values,
     count_bare hs,
   )

@@ -1,11 +1,11 @@
 -- What an instance waited for, given to it and to its operation.
-use Rattle.std.proofs.Common.{◌≡◌, ℕ, zero, suc, ◌+◌, ◌<◌, ℤ, pos, List, [], ◌∷◌, ◌++◌, Bool, true, false, cond, Option, Some, None, refl, sym, ap, ◌∙◌, subst, map, option_map, arith, get_or, ◌==◌, ◌&&◌, eq-eqb, leb, ltb}
+use Rattle.std.proofs.Common.{◌≡◌, ℕ, zero, suc, ◌+◌, ◌<◌, ℤ, pos, List, [], ◌∷◌, ◌++◌, Bool, true, false, cond, Option, None, refl, sym, ap, ◌∙◌, subst, map, option_map, arith, get_or, ◌==◌, ◌&&◌, eq-eqb, leb, ltb, not, ◌||◌}
 use Rattle.std.specs.List.{list_all}
 use Rattle.std.specs.Prelude.{length}
 use Rattle.std.proofs.lemmas.Bool.{and_from, ltb-true, and_parts}
 use Rattle.std.proofs.lemmas.List.{map-append}
 use Rattle.plain_values.specs.Points.{has, meets, points, within}
-use Rattle.point_sets.proofs.Rising.{has-counted_from}
+use Rattle.point_sets.proofs.Rising.{has-counted_from, has-append, has_head}
 use Rattle.lane_kernels.specs.declared.numbers.Mode.{Mode}
 use Rattle.lane_kernels.specs.declared.numbers.Mode.TheVariants.{Write}
 use Rattle.lane_kernels.specs.Numbers.{width_of}
@@ -24,7 +24,7 @@ use Rattle.machine_terms.specs.Makes.{are_apart, fields_needed, is_sound, make_p
 use Rattle.machine_terms.specs.Orders.{await, fetch_part, result_of}
 use Rattle.machine_terms.specs.Parts.{is_needed, part_of}
 use Rattle.machine_terms.proofs.FitParts.{PartsFit, PiecesFit}
-use Rattle.memory_laws.specs.Places.{column_of}
+use Rattle.memory_laws.specs.Places.{column_of, numbers}
 use Rattle.memory_laws.proofs.Making.{made_is_own}
 use Rattle.board_rules.specs.Ground.{Ground}
 use Rattle.board_rules.specs.Processes.{Map, run_all}
@@ -50,6 +50,7 @@ use Rattle.order_boards.proofs.Needs.{Covered, covered_append, covered_at, cover
 use Rattle.order_boards.proofs.Parts.{part_behind}
 use Rattle.order_boards.proofs.Renumbering.{names}
 use Rattle.order_boards.proofs.Stands.{IsLive, Naming, Stands, at, column_length, live_below, shown_kind, shown_live, stands_on}
+use Rattle.memory_laws.proofs.Made.{numbers_more}
 
 -- ---- lists
 
@@ -64,7 +65,7 @@ requirements_moved s root xs (suc k) = map-append (moved s) (root_requirements r
 
 apart_same : (spaces : board.Spaces) (sets : List (List ℕ)) → apart_all spaces sets ≡ are_apart sets
 apart_same spaces [] = refl
-apart_same spaces (x ∷ sets) = ap (λ b. list_all (λ t. Rattle.std.proofs.Common.not (meets x t)) sets && b) (apart_same spaces sets)
+apart_same spaces (x ∷ sets) = ap (λ b. list_all (λ t. not (meets x t)) sets && b) (apart_same spaces sets)
 
 pub sound_same : (spaces : board.Spaces) (r : RegionValue) (sets : List (List ℕ)) (d : Bool) →
     regent.is_sound spaces (board.new_partition (region_out r) sets d) ≡ is_sound r.points sets d
@@ -224,14 +225,14 @@ module _ (code : Code) (turns : ℕ) where
       }
 
       live_new : IsLive then.contents i.contents.made
-      live_new = has_last (Rattle.memory_laws.specs.Places.numbers i.contents) i.contents.made
-          (Rattle.memory_laws.proofs.Made.numbers_more i.contents _ a.stands.numbered)
+      live_new = has_last (numbers i.contents) i.contents.made
+          (numbers_more i.contents _ a.stands.numbered)
         where
           has_last : (xs : List ℕ) (x : ℕ) {ys : List ℕ} → ys ≡ xs ++ x ∷ [] → has ys x ≡ true
-          has_last xs x e = ap (λ zs. has zs x) e ∙ Rattle.point_sets.proofs.Rising.has-append xs (x ∷ []) x
-              ∙ ap (λ b. Rattle.std.proofs.Common.◌||◌ (has xs x) b) (Rattle.point_sets.proofs.Rising.has_head x []) ∙ always (has xs x)
+          has_last xs x e = ap (λ zs. has zs x) e ∙ has-append xs (x ∷ []) x
+              ∙ ap (λ b. has xs x || b) (has_head x []) ∙ always (has xs x)
             where
-              always : (b : Bool) → Rattle.std.proofs.Common.◌||◌ b true ≡ true
+              always : (b : Bool) → (b || true) ≡ true
               always true = refl
               always false = refl
 
