@@ -1,4 +1,4 @@
-/* What C does where the kernels of crates/lanes are measured: 400 rounds over 1,000,000 numbers, by the first word. */
+/* What C does where the kernels of crates/lane_kernels are measured: 400 rounds over 1,000,000 numbers, by the first word. */
 #include <stdint.h>
 #include <stdio.h>
 #include <stdlib.h>

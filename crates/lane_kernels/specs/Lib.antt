@@ -1,3 +1,5 @@
+pub mod Fronts
+pub mod Kernels
 pub mod Laws
 pub mod Modes
 pub mod Numbers
