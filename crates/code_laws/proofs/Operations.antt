@@ -4,7 +4,7 @@ use Rattle.regent_tree.specs.declared.types.Kind.{Kind}
 use Rattle.std.proofs.Common.{◌≡◌, ◌⊎◌, inl, inr, ℕ, suc, ◌^◌, ◌<◌, ℤ, negsuc, pos, List, ◌∷◌, Bool, true, false, Option, Some, None, refl, sym, ap, ◌∙◌, arith}
 use Rattle.lane_kernels.specs.declared.numbers.Width.TheVariants.{W32, W64}
 use Rattle.regent_tree.specs.declared.types.NumberTerm.{NumberTerm}
-use Rattle.std.proofs.lemmas.Int.{SFits-int_wrap}
+use Rattle.std.proofs.lemmas.Int.{SFits-int_wrap, int_wrap_fits}
 use Rattle.lane_kernels.specs.Numbers.{FitsWidth, std_width}
 use Rattle.std.specs.Prelude.{get_or, length, not, nat_le, nat_lt, slice_get}
 use Rattle.std.proofs.lemmas.Bool.{leb-true, ltb-true}
@@ -316,9 +316,18 @@ module _ (x : Setting) (params slots : ℕ) (fit : SlotsFit x slots) (aside : As
       Stands x.body pc (converted_code (where_of params h) t u) →
       Comes x (valued pc st v i) (valued (past (converted_code (where_of params h) t u) pc) st)
       (Good x params slots fit aside h u) (converted h t u rs v s)
-  converted_runs h _ _ rs _ s pc st i (two_integers a b) (of_integer _ z _) g f =
-      pushes x params slots fit aside h (integer_type b) _ s pc _ st i (instr.Wrap b) h.line f
-      (of_integer b _ (SFits-int_wrap (std_width b) z)) g refl
+  converted_runs h _ _ rs _ s pc st i (two_integers W32 W32) (of_integer _ z p) g f =
+      subst (λ y. Comes x (valued pc st (a_number W32 z) i) (valued pc st) (Good x params slots fit aside h (integer_type W32)) (gives (a_number W32 y) s))
+      (sym (int_wrap_fits (std_width W32) z p)) (i, leads_none x _, (of_integer W32 z p, g))
+  converted_runs h _ _ rs _ s pc st i (two_integers W32 W64) (of_integer _ z _) g f =
+      pushes x params slots fit aside h (integer_type W64) _ s pc _ st i (instr.Wrap W64) h.line f
+      (of_integer W64 _ (SFits-int_wrap (std_width W64) z)) g refl
+  converted_runs h _ _ rs _ s pc st i (two_integers W64 W32) (of_integer _ z _) g f =
+      pushes x params slots fit aside h (integer_type W32) _ s pc _ st i (instr.Wrap W32) h.line f
+      (of_integer W32 _ (SFits-int_wrap (std_width W32) z)) g refl
+  converted_runs h _ _ rs _ s pc st i (two_integers W64 W64) (of_integer _ z p) g f =
+      subst (λ y. Comes x (valued pc st (a_number W64 z) i) (valued pc st) (Good x params slots fit aside h (integer_type W64)) (gives (a_number W64 y) s))
+      (sym (int_wrap_fits (std_width W64) z p)) (i, leads_none x _, (of_integer W64 z p, g))
   converted_runs h _ _ rs _ s pc st i two_truths (of_truth b) g f =
       (i, leads_none x _, (of_truth b, g))
 

@@ -1,5 +1,5 @@
 -- Writing to a field of a region's point, and folding a number into it.
-use Rattle.lane_kernels.specs.declared.numbers.Width.TheVariants.{W64}
+use Rattle.lane_kernels.specs.declared.numbers.Width.TheVariants.{W32, W64}
 use Rattle.std.proofs.Common.{◌≡◌, ◌≢◌, ℕ, suc, ◌<◌, ℤ, pos, negsuc, List, [], ◌∷◌, ◌++◌, Bool, true, false, Some, refl, sym, ap, ◌∙◌, subst, arith}
 use Rattle.std.specs.Prelude.{get_or, length}
 use Rattle.std.proofs.lemmas.Int.{SFits-int_wrap, ints, int_wrap_fits}
@@ -348,11 +348,29 @@ module _ (x : Setting) (params slots : ℕ) (fit : SlotsFit x slots) (aside : As
   pub converted_at : (h : Here) (from t : StaticType) (v : Value) (s : State) (pc : ℕ) (st : List MachineValue) (i : Instance) →
       Fills from t → IsOf from v → Stands x.body pc (converted_code (where_of params h) from t) →
       ConvertedAt h from t v s pc st i
-  converted_at h _ _ _ s pc st i (fills_alike _ _ (two_integers a b)) (of_integer _ z _) f = record {
-    value = a_number b (wrapped b z);
+  converted_at h _ _ _ s pc st i (fills_alike _ _ (two_integers W32 W32)) (of_integer _ z p) f = record {
+    value = a_number W32 z;
+    gives_it = ap (λ y. gives (a_number W32 y) s) (int_wrap_fits (std_width W32) z p);
+    leads = leads_none x _;
+    typed = of_integer W32 z p;
+  }
+  converted_at h _ _ _ s pc st i (fills_alike _ _ (two_integers W32 W64)) (of_integer _ z _) f = record {
+    value = a_number W64 (wrapped W64 z);
     gives_it = refl;
-    leads = leads_by x _ _ (instr.Wrap b) h.line f refl;
-    typed = of_integer b _ (SFits-int_wrap (std_width b) z);
+    leads = leads_by x _ _ (instr.Wrap W64) h.line f refl;
+    typed = of_integer W64 _ (SFits-int_wrap (std_width W64) z);
+  }
+  converted_at h _ _ _ s pc st i (fills_alike _ _ (two_integers W64 W32)) (of_integer _ z _) f = record {
+    value = a_number W32 (wrapped W32 z);
+    gives_it = refl;
+    leads = leads_by x _ _ (instr.Wrap W32) h.line f refl;
+    typed = of_integer W32 _ (SFits-int_wrap (std_width W32) z);
+  }
+  converted_at h _ _ _ s pc st i (fills_alike _ _ (two_integers W64 W64)) (of_integer _ z p) f = record {
+    value = a_number W64 z;
+    gives_it = ap (λ y. gives (a_number W64 y) s) (int_wrap_fits (std_width W64) z p);
+    leads = leads_none x _;
+    typed = of_integer W64 z p;
   }
   converted_at h _ _ _ s pc st i (fills_alike _ _ two_truths) (of_truth b) f = record {
     value = a_truth b;

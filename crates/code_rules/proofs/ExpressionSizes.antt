@@ -15,7 +15,9 @@ use Rattle.regent_tree.specs.declared.types.NumberTerm.TheVariants as number
 use Rattle.regent_tree.specs.declared.typing.StaticType.{StaticType}
 use Rattle.regent_tree.specs.declared.typing.StaticType.TheVariants as type
 use Rattle.code_rules.specs.Expressions.{expr_code, exprs_code, links_code, steps_code}
-use Rattle.code_rules.specs.Instructions.{as_number_code, cast_code, converted_code, element_code, field_code, kept_code, load_code, operand_code, sign_code, signs_code, slot_after, standing_code}
+use Rattle.lane_kernels.specs.declared.numbers.Width.{Width}
+use Rattle.lane_kernels.specs.declared.numbers.Width.TheVariants.{W32, W64}
+use Rattle.code_rules.specs.Instructions.{as_number_code, cast_code, converted_code, element_code, field_code, kept_code, load_code, operand_code, sign_code, signs_code, slot_after, standing_code, width_code}
 use Rattle.code_rules.specs.Slots.{Where, bound, own_slot, slot_named, typed}
 use Rattle.code_rules.proofs.Sizes.{size}
 
@@ -46,8 +48,22 @@ operand_size : (w : Where) (b : Bool) (t : StaticType) → size (operand_code w 
 operand_size w true t = omega arith
 operand_size w false t = standing_size w t
 
+width_size : (w : Where) (from : StaticType) (v : Width) → size (width_code w from v) ≤ 1
+width_size w (type.Integer W32) W32 = omega arith
+width_size w (type.Integer W32) W64 = omega arith
+width_size w (type.Integer W64) W32 = omega arith
+width_size w (type.Integer W64) W64 = omega arith
+width_size w type.Truth v = omega arith
+width_size w (type.Index k) v = omega arith
+width_size w (type.Pointer k s args rs) v = omega arith
+width_size w (type.Ispace k) v = omega arith
+width_size w (type.Region k s args t) v = omega arith
+width_size w (type.Partition d r p) v = omega arith
+width_size w type.Nothing v = omega arith
+width_size w type.Unknown v = omega arith
+
 pub converted_size : (w : Where) (from to : StaticType) → size (converted_code w from to) ≤ 1
-converted_size w from (type.Integer v) = omega arith
+converted_size w from (type.Integer v) = width_size w from v
 converted_size w from type.Truth = omega arith
 converted_size w from (type.Index k) = standing_size w from
 converted_size w from (type.Pointer k s args rs) = omega arith

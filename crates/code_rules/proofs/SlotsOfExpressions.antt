@@ -1,6 +1,7 @@
 -- The code of an expression names low slots: those of names in scope, and of children in use by their depth.
 use Rattle.std.proofs.Common.{◌≤◌, ◌+◌, ◌*◌, ℕ, suc, List, [], ◌∷◌, length, arith, Bool, true, false}
 use Rattle.lane_kernels.specs.declared.numbers.Width.{Width}
+use Rattle.lane_kernels.specs.declared.numbers.Width.TheVariants.{W32, W64}
 use Rattle.regent_tree.specs.Evaluation.{first_type, other_types}
 use Rattle.regent_tree.specs.Limits.{nodes, number_of_nodes, parts_of_expression, parts_of_links, parts_of_expressions, parts_of_steps, parts_of_pointer}
 use Rattle.regent_tree.specs.Operators.{compares_pointers}
@@ -21,7 +22,7 @@ use Rattle.regent_tree.specs.declared.typing.StaticType.{StaticType}
 use Rattle.regent_tree.specs.declared.typing.StaticType.TheVariants as type
 use Rattle.task_code.specs.declared.instr.Instr.TheVariants as instr
 use Rattle.code_rules.specs.Expressions.{expr_code, exprs_code, links_code, steps_code}
-use Rattle.code_rules.specs.Instructions.{as_number_code, cast_code, comparing, computing, converted_code, element_code, field_code, kept_code, load_code, one, operand_code, sign_code, signs_code, slot_after, standing_code}
+use Rattle.code_rules.specs.Instructions.{as_number_code, cast_code, comparing, computing, converted_code, element_code, field_code, kept_code, load_code, one, operand_code, sign_code, signs_code, slot_after, standing_code, width_code}
 use Rattle.code_rules.specs.Pieces.{empty}
 use Rattle.code_rules.specs.Slots.{Where, bound, own_slot, slot_named, spare, stays, typed}
 use Rattle.code_rules.specs.Used.{slots_used}
@@ -45,8 +46,22 @@ operand_fits : (m : ℕ) (w : Where) (b : Bool) (t : StaticType) → Fits m (ope
 operand_fits m w true t = tt
 operand_fits m w false t = standing_fits m w t
 
+width_fits : (m : ℕ) (w : Where) (from : StaticType) (v : Width) → Fits m (width_code w from v)
+width_fits m w (type.Integer W32) W32 = tt
+width_fits m w (type.Integer W32) W64 = free m
+width_fits m w (type.Integer W64) W32 = free m
+width_fits m w (type.Integer W64) W64 = tt
+width_fits m w type.Truth v = free m
+width_fits m w (type.Index k) v = free m
+width_fits m w (type.Pointer k s args rs) v = free m
+width_fits m w (type.Ispace k) v = free m
+width_fits m w (type.Region k s args t) v = free m
+width_fits m w (type.Partition d r p) v = free m
+width_fits m w type.Nothing v = free m
+width_fits m w type.Unknown v = free m
+
 pub converted_fits : (m : ℕ) (w : Where) (from to : StaticType) → Fits m (converted_code w from to)
-converted_fits m w from (type.Integer v) = free m
+converted_fits m w from (type.Integer v) = width_fits m w from v
 converted_fits m w from type.Truth = tt
 converted_fits m w from (type.Index k) = standing_fits m w from
 converted_fits m w from (type.Pointer k s args rs) = free m

@@ -51,9 +51,15 @@ abbrev pub operand_code : Where → Bool → StaticType → Piece
 operand_code w true t = empty
 operand_code w false t = standing_code w t
 
+-- a number where an integer is wanted: it is wrapped, unless it has that width already
+abbrev pub width_code : Where → StaticType → Width → Piece
+width_code w (integer_type W32) W32 = empty
+width_code w (integer_type W64) W64 = empty
+width_code w from v = one w (instr.Wrap v)
+
 -- a value of a type where another type is wanted
 abbrev pub converted_code : Where → StaticType → StaticType → Piece
-converted_code w from (integer_type v) = one w (instr.Wrap v)
+converted_code w from (integer_type v) = width_code w from v
 converted_code w from (index_type k) = standing_code w from
 converted_code w from (pointer_type k sp args reaches) =
     one w (instr.Move (positions w.scope.known (reaches_of from) reaches))

@@ -7,7 +7,7 @@ ghost use Rattle.regent_tree.specs.Accesses.{space_in};
 ghost use Rattle.regent_tree.specs.Typing.{are_pointers, position_of, positions, reaches_of};
 ghost use Rattle.code_rules.specs.Emitted.{emitted};
 ghost use Rattle.compile_types.specs.Here.{where_of};
-ghost use Rattle.code_rules.specs.Instructions.{as_number_code, cast_code, comparing, computing, converted_code, element_code, field_code, kept_code, load_code, one, operand_code, operating, place_of_task, sign_code, signs_code, slot_after, standing_code};
+ghost use Rattle.code_rules.specs.Instructions.{as_number_code, cast_code, comparing, computing, converted_code, element_code, field_code, kept_code, load_code, one, operand_code, operating, place_of_task, sign_code, signs_code, slot_after, standing_code, width_code};
 
 use crate::body::Body;
 use compile_types::{Here, positions, stays, width_computed, width_of_type};
@@ -46,6 +46,22 @@ pub fn operand(here: &Here, body: &mut Body, stays: bool, t: &StaticType) -> Res
     }
 }
 
+/// A number where an integer is wanted. One that has that width already stays as it is.
+fn fitted(
+    here: &Here,
+    body: &mut Body,
+    from: &StaticType,
+    width: Width,
+) -> Result<(), AllocError>
+    ensures { OnOk result (body.new ≡ emitted body.old (width_code (where_of here.now) from.now width)) }
+{
+    match (from, width) {
+        (StaticType::Integer(Width::W32), Width::W32)
+        | (StaticType::Integer(Width::W64), Width::W64) => Ok(()),
+        _ => one(here, body, Instr::Wrap(width)),
+    }
+}
+
 /// A value of a type where another type is wanted.
 pub fn converted(
     here: &Here,
@@ -56,7 +72,7 @@ pub fn converted(
     ensures { OnOk result (body.new ≡ emitted body.old (converted_code (where_of here.now) from.now to.now)) }
 {
     match to {
-        StaticType::Integer(width) => one(here, body, Instr::Wrap(*width)),
+        StaticType::Integer(width) => fitted(here, body, from, *width),
         StaticType::Index(_) => standing(here, body, from),
         StaticType::Pointer { regions, .. } => {
             let moved = positions(here.alloc(), here.facts, from, regions.as_slice())?;

@@ -10,7 +10,7 @@ use Rattle.lane_kernels.specs.declared.numbers.Op.{Op}
 use Rattle.lane_kernels.specs.declared.numbers.Width.{Width}
 use Rattle.lane_kernels.specs.Modes.{same_op}
 use Rattle.lane_kernels.specs.Numbers.{FitsWidth, applied, wrapped, std_width, width_of}
-use Rattle.lane_kernels.proofs.Operators.{closed, associative}
+use Rattle.lane_kernels.proofs.Operators.{associative}
 use Rattle.lane_kernels.proofs.SameOps.{same_op-tells}
 use Rattle.region_tree.specs.declared.piece.Part.{Part}
 use Rattle.region_tree.specs.Requirements.{mode_at}
@@ -19,6 +19,7 @@ use Rattle.task_code.specs.declared.code.Code.{Code}
 use Rattle.machine_terms.specs.Contents.{kept_at, kind_of}
 use Rattle.machine_terms.specs.Parts.{Cell, Found, cell_at, is_needed, part_of, refused, missing, found, found_cell, found_in, find}
 use Rattle.machine_terms.specs.Pointers.{written}
+use Rattle.machine_terms.proofs.FitParts.{written_fits}
 use Rattle.memory_laws.specs.Finding.{FoundIsRead}
 use Rattle.memory_laws.specs.Memory.{IsKept, Memory, Holds}
 use Rattle.memory_laws.specs.Places.{number_at}
@@ -127,21 +128,6 @@ found_is_read code store m r f n kind c h e covers =
     by old (mode.Reduce o) s = absurd (none o s)
 
 -- ---- writes and reductions
-
--- a number that is set fits
-pub written_fits : (a md : Mode) (w : Width) (old z y : ℤ) → written a md w old z ≡ Some y → FitsWidth w y
-written_fits mode.Read md w old z y e = absurd (none-some y e)
-written_fits mode.Write mode.Read w old z y e = absurd (none-some y e)
-written_fits mode.Write mode.Write w old z y e = subst (FitsWidth w) (same_Some _ y e) (SFits-int_wrap (std_width w) z)
-written_fits mode.Write (mode.Reduce p) w old z y e = absurd (none-some y e)
-written_fits (mode.Reduce o) mode.Read w old z y e = absurd (none-some y e)
-written_fits (mode.Reduce o) mode.Write w old z y e =
-    subst (FitsWidth w) (same_Some _ y e) (closed o w old (wrapped w z))
-written_fits (mode.Reduce o) (mode.Reduce p) w old z y e = chosen (same_op o p) e
-  where
-    chosen : (b : Bool) → cond b (Some (applied o w old (wrapped w z))) None ≡ Some y → FitsWidth w y
-    chosen true e = subst (FitsWidth w) (same_Some _ y e) (closed o w old (wrapped w z))
-    chosen false e = absurd (none-some y e)
 
 -- and isn't held for reading
 pub written_unread : (a md : Mode) (w : Width) (old z y : ℤ) → written a md w old z ≡ Some y → md ≡ mode.Read → ⊥

@@ -104,8 +104,12 @@ simple_settled _ (simple_index c) = settled_number _ numeric_index
 -- a value is converted to an alike type
 pub converted_at : (g : Program) (t : TaskCode) (k : ℕ) (w : Where) (m : Mark) (u v : StaticType) (us : List Shape) → AreAlike u v →
     Marked g t k (stacked m (shape_of u ∷ us)) (converted_code w u v) (stacked m (shape_of v ∷ us))
-converted_at g t k w m _ _ us (two_integers a b) =
-    does g t k (stacked m (integer a ∷ us)) (instr.Wrap b) w.line _ (does_wrap b (integer a) us (numeric_integer a))
+converted_at g t k w m _ _ us (two_integers W32 W32) = nothing_done g t k _
+converted_at g t k w m _ _ us (two_integers W32 W64) =
+    does g t k (stacked m (integer W32 ∷ us)) (instr.Wrap W64) w.line _ (does_wrap W64 (integer W32) us (numeric_integer W32))
+converted_at g t k w m _ _ us (two_integers W64 W32) =
+    does g t k (stacked m (integer W64 ∷ us)) (instr.Wrap W32) w.line _ (does_wrap W32 (integer W64) us (numeric_integer W64))
+converted_at g t k w m _ _ us (two_integers W64 W64) = nothing_done g t k _
 converted_at g t k w m _ _ us two_truths = nothing_done g t k _
 
 module _ (g : Program) (t : TaskCode) (k slots : ℕ) (have : HasSlots t slots) (forms : Forms) (way : Way) (w : Where) (m : Mark)
