@@ -5,7 +5,7 @@ use Rattle.std.proofs.lemmas.Bool.{cases_eq, cases_lt}
 use Rattle.std.proofs.lemmas.List.{get_or-append-add, map-append}
 use Rattle.plain_values.specs.Points.{within}
 use Rattle.region_tree.proofs.Apart.{apart_from_separated}
-use Rattle.region_tree.proofs.Growth.{child_read, length-children, points_of_region, tree-with_partition, tree-with_root, tree_empty, within_itself}
+use Rattle.region_tree.proofs.Growth.{points_of_region, tree-with_partition, tree-with_root, tree_empty, within_itself}
 use Rattle.region_tree.specs.Entries.{TreeNode}
 use Rattle.region_tree.specs.Kept.{DividesRegion, Grows, IsTree}
 use Rattle.region_tree.specs.Paths.{child_number}
@@ -147,6 +147,19 @@ module _ (t : RegionTree) (points : List ℕ) where
 
 -- ---- a partition
 
+length_children : (d : TreeNode) (p colour : ℕ) (sets : List (List ℕ)) → length (children d p colour sets) ≡ length sets
+length_children d p colour [] = refl
+length_children d p colour (set ∷ sets) = ap suc (length_children d p (colour + 1) sets)
+
+child_read : (d : TreeNode) (p colour : ℕ) (sets : List (List ℕ)) (i : ℕ) → i < length sets →
+    get_or (children d p colour sets) i no_node ≡ child_of d p (colour + i) (set_of_colour sets i)
+child_read d p colour [] i l = absurd (omega (arith, l))
+child_read d p colour (set ∷ sets) zero l =
+    ap (λ (n : ℕ). child_of d p n set) (let e : colour ≡ colour + 0 = omega arith in e)
+child_read d p colour (set ∷ sets) (suc i) l =
+    child_read d p (colour + 1) sets i (omega (arith, l))
+    ∙ ap (λ (n : ℕ). child_of d p n (set_of_colour sets i)) (let e : colour + 1 + i ≡ colour + suc i = omega arith in e)
+
 module _ (t : RegionTree) (region : Node) (sets : List (List ℕ)) (disjoint : Bool) (tree : IsTree t)
     (divided : IsRegion t region.0) (inside : AreWithin (set_at t region.0) sets) (apart : disjoint ≡ true → AreDisjoint sets)
     (g : Grows t (with_partition t region.0 sets disjoint)) where
@@ -163,7 +176,7 @@ module _ (t : RegionTree) (region : Node) (sets : List (List ℕ)) (disjoint : B
   new = partition_nodes d region.0 p sets disjoint
 
   size : length u.nodes ≡ p + 1 + length sets
-  size = omega (arith, length-append t.nodes new, length-children d p 0 sets)
+  size = omega (arith, length-append t.nodes new, length_children d p 0 sets)
 
   grown : IsTree u
   grown = tree-with_partition t region.0 sets disjoint tree divided inside apart

@@ -179,12 +179,12 @@ tree-with_root t points tree = record {
 
 -- ---- a partition
 
-pub length-children : (d : TreeNode) (p c : ℕ) (sets : List (List ℕ)) →
+length-children : (d : TreeNode) (p c : ℕ) (sets : List (List ℕ)) →
     length (children d p c sets) ≡ length sets
 length-children d p c [] = refl
 length-children d p c (set ∷ sets) = ap suc (length-children d p (c + 1) sets)
 
-pub child_read : (d : TreeNode) (p c : ℕ) (sets : List (List ℕ)) (i : ℕ) → i < length sets →
+child_read : (d : TreeNode) (p c : ℕ) (sets : List (List ℕ)) (i : ℕ) → i < length sets →
     get_or (children d p c sets) i no_node ≡ child_of d p (c + i) (set_of_colour sets i)
 child_read d p c [] i l = absurd (omega arith)
 child_read d p c (set ∷ sets) zero l =
