@@ -98,8 +98,6 @@ abbrev pub wrong_starts_breaks : Type 0
 wrong_starts_breaks =
     breaches wrong_starts_program ≡ breaks 18 3 ∷ breaks 18 1 ∷ []
 
--- The sample program: its loops under `__demand` are all that is wrong, until there are index
--- launches.
+-- The sample program: its loops under `__demand` are index launches.
 abbrev pub demanded_loops_breaks : Type 0
-demanded_loops_breaks = breaches sample_program ≡
-    breaks 19 28 ∷ breaks 19 32 ∷ breaks 19 34 ∷ breaks 19 37 ∷ []
+demanded_loops_breaks = breaches sample_program ≡ []

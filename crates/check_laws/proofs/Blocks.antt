@@ -7,7 +7,7 @@ use Rattle.regent_tree.specs.Typing.{arithmetic_type, scope_after, scope_after_a
 use Rattle.regent_tree.specs.declared.typing.StaticType.{StaticType}
 use Rattle.regent_tree.specs.declared.typing.StaticType.TheVariants.{Integer as integer_type, Truth as truth_type, Index as index_type, Pointer as pointer_type, Ispace as ispace_type, Region as region_type, Partition as partition_type, Nothing as no_type, Unknown as unknown_type}
 use Rattle.check_rules.specs.first.FirstInExpressions.{first_in_expression}
-use Rattle.check_rules.specs.first.FirstInStatements.{first_in_arms, first_in_block, first_in_else, first_of_form, first_within, told_on}
+use Rattle.check_rules.specs.first.FirstInStatements.{first_in_arms, first_in_block, first_in_else, first_of_demand, first_of_form, first_within, told_on}
 use Rattle.check_rules.specs.types.KnownTypes.{known_type}
 use Rattle.check_rules.specs.types.Sorts.{is_integer, is_region, is_space}
 use Rattle.check_rules.specs.scopes.Sound.{IsSound}
@@ -142,8 +142,9 @@ module _ (tree : Tree) (task : TaskTree) (sound : IsSound tree) where
     block_known s (then_statement (a_statement line form) rest) scope e =
         let parts = option_or_parts (told_on line (first_of_form tree task s form)) _ e in
         let more = option_or_parts (first_within tree task s form) _ parts.1 in
+        let behind = option_or_parts (told_on line (first_of_demand tree s form)) _ more.1 in
         let here = form_known s form scope (told_none line _ parts.0) more.0 in
-        let after = block_known (known_scope_after tree s form) rest here.1 more.1 in
+        let after = block_known (known_scope_after tree s form) rest here.1 behind.1 in
         (after.0 ∙ ap (λ x. scope_after_block tree x rest) here.0, after.1)
 
     pub arms_known : (s : Scope) (arms : Arms) → IsSoundScope s → first_in_arms tree task s arms ≡ None →

@@ -2,7 +2,7 @@
 use Rattle.std.proofs.Common.{None, ◌++◌, ◌∷◌, ◌≡◌, ap, refl, ◌∙◌}
 use Rattle.regent_tree.specs.Scopes.{Scope, past}
 use Rattle.regent_tree.specs.Syntax.{Arms, Block, Form, Otherwise, TaskTree, Tree, a_statement, an_arm, assert_form, assign_form, call_form, do_form, else_block, fill_form, for_in_form, for_to_form, if_form, no_arm, no_else, no_statement, print_form, return_form, then_statement, var_form, while_form}
-use Rattle.check_rules.specs.first.FirstInStatements.{first_in_arms, first_in_block, first_in_else, first_of_form, first_within, told_on}
+use Rattle.check_rules.specs.first.FirstInStatements.{first_in_arms, first_in_block, first_in_else, first_of_demand, first_of_form, first_within, told_on}
 use Rattle.check_rules.specs.scopes.Sound.{IsSound}
 use Rattle.check_rules.specs.scopes.Variables.{known_scope_after, known_scope_after_arms, known_scope_after_block, scope_in_count, scope_in_loop}
 use Rattle.check_rules.specs.scopes.Visits.{Visit, visits_in, visits_in_arms, visits_in_else, visits_within}
@@ -20,10 +20,11 @@ module _ (tree : Tree) (task : TaskTree) (sound : IsSound tree) where
     block_meant s (then_statement (a_statement line form) rest) scope e =
         let parts = option_or_parts (told_on line (first_of_form tree task s form)) _ e in
         let more = option_or_parts (first_within tree task s form) _ parts.1 in
+        let behind = option_or_parts (told_on line (first_of_demand tree s form)) _ more.1 in
         let here = told_none line _ parts.0 in
         let after = form_known tree task sound s form scope here more.0 in
         let inside = within_meant s form scope here more.0 in
-        let others = block_meant (known_scope_after tree s form) rest after.1 more.1
+        let others = block_meant (known_scope_after tree s form) rest after.1 behind.1
         ∙ ap (λ x. meant_in tree task x rest) after.0 in
         let visit : Visit = record { task = task; scope = s; line = line; form = form } in
         λ j. (visit ∷ inside j) ++ others j

@@ -4,7 +4,7 @@ use Rattle.std.proofs.Common.{None, subst, ℕ, ◌≡◌}
 use Rattle.regent_tree.specs.Scopes.{Scope, past}
 use Rattle.regent_tree.specs.Syntax.{Arms, Block, Expression, Form, Otherwise, TaskTree, Tree, a_statement, an_arm, if_form, then_statement}
 use Rattle.regent_tree.specs.Typing.{scope_after, scope_after_arms, scope_after_block}
-use Rattle.check_rules.specs.first.FirstInStatements.{first_in_arms, first_in_block, first_in_else, first_of_form, first_within, told_on}
+use Rattle.check_rules.specs.first.FirstInStatements.{first_in_arms, first_in_block, first_in_else, first_of_demand, first_of_form, first_within, told_on}
 use Rattle.check_rules.specs.scopes.Sound.{IsSound}
 use Rattle.check_rules.proofs.Untold.{told_none}
 use Rattle.check_laws.specs.SoundScopes.{IsSoundScope}
@@ -17,9 +17,10 @@ module _ (tree : Tree) (task : TaskTree) (sound : IsSound tree) where
   block_next s line form rest scope e =
       let parts = option_or_parts (told_on line (first_of_form tree task s form)) _ e in
       let more = option_or_parts (first_within tree task s form) _ parts.1 in
+      let after = (option_or_parts (told_on line (first_of_demand tree s form)) _ more.1).1 in
       let told = told_none line _ parts.0 in
       let here = form_known tree task sound s form scope told more.0 in
-      (told, more.0, subst IsSoundScope here.0 here.1, subst (λ t. first_in_block tree task t rest ≡ None) here.0 more.1)
+      (told, more.0, subst IsSoundScope here.0 here.1, subst (λ t. first_in_block tree task t rest ≡ None) here.0 after)
 
   pub arm_next : (s : Scope) (test : Expression) (body : Block) (rest : Arms) → IsSoundScope s → first_in_arms tree task s (an_arm test body rest) ≡ None →
       (first_in_block tree task s body ≡ None) × IsSoundScope (past s (scope_after_block tree s body))

@@ -15,7 +15,7 @@ use Rattle.check_rules.specs.Breaches.{breaches}
 use Rattle.check_rules.specs.types.Declarations.{is_flawed_type}
 use Rattle.check_rules.specs.first.FirstInExpressions.{first_in_expression, first_in_target}
 use Rattle.check_rules.specs.first.FirstInItems.{first_breach, first_declared, first_in_body, first_of_said, first_of_saying}
-use Rattle.check_rules.specs.first.FirstInStatements.{first_in_arms, first_in_block, first_in_else, first_in_targets, first_of_form, first_within, told_on}
+use Rattle.check_rules.specs.first.FirstInStatements.{first_in_arms, first_in_block, first_in_else, first_in_targets, first_of_demand, first_of_form, first_within, told_on}
 use Rattle.check_rules.specs.rules.Names.{unbound_name_in_type}
 use Rattle.check_rules.specs.rules.Repeats.{given_by, repeats}
 use Rattle.check_rules.specs.types.Parts.{subexpressions}
@@ -107,6 +107,7 @@ module _ (tree : Tree) (task : TaskTree) (sound : IsSound tree) where
     visit_block s (then_statement (a_statement line form) rest) scope e v h =
         let parts = option_or_parts (told_on line (first_of_form tree task s form)) _ e in
         let more = option_or_parts (first_within tree task s form) _ parts.1 in
+        let behind = option_or_parts (told_on line (first_of_demand tree s form)) _ more.1 in
         let here = told_none line _ parts.0 in
         let after = form_known tree task sound s form scope here more.0 in
         elim (Has-append_cases (record { task = task; scope = s; line = line; form = form } ∷ visits_within tree task s form)
@@ -115,7 +116,7 @@ module _ (tree : Tree) (task : TaskTree) (sound : IsSound tree) where
             | inl is ↦ subst IsAllKnown is (at_form s line form scope here)
             | inr k ↦ visit_within s form scope here more.0 v k
           ]
-          | inr g ↦ visit_block (known_scope_after tree s form) rest after.1 more.1 v g
+          | inr g ↦ visit_block (known_scope_after tree s form) rest after.1 behind.1 v g
         ]
 
     visit_within : (s : Scope) (form : Form) → IsSoundScope s → first_of_form tree task s form ≡ None → first_within tree task s form ≡ None →

@@ -313,7 +313,6 @@ module _ (tree : Tree) where
   joined_whole rule.Start =
       ap (λ ls. wrong_entry_lines tree ++ ls) (undeclared (all_stated rule.Start))
       ∙ unstated (wrong_entry_lines tree)
-  joined_whole rule.Interferes = undeclared (all_stated rule.Interferes) ∙ unstated []
   joined_whole q = undeclared (all_stated q)
 
   text_whole : (q : Rule) → part_lines text_parts q ≡ rule_lines tree q

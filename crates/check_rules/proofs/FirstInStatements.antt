@@ -17,10 +17,10 @@ use Rattle.check_rules.specs.rules.Constraints.{breaks_constraint}
 use Rattle.check_rules.specs.rules.Counts.{miscounts_call, miscounts_in_type}
 use Rattle.check_rules.specs.types.Declarations.{params_of}
 use Rattle.check_rules.specs.first.FirstInExpressions.{first_in_expression}
-use Rattle.check_rules.specs.first.FirstInStatements.{first_in_arms, first_in_block, first_in_else, first_in_targets, first_of_form, first_of_initializer, first_within, told_on}
+use Rattle.check_rules.specs.first.FirstInStatements.{first_in_arms, first_in_block, first_in_else, first_in_targets, first_of_demand, first_of_form, first_of_initializer, first_within, told_on}
 use Rattle.check_rules.specs.rules.Formats.{misprints_form}
 use Rattle.check_rules.specs.types.KnownTypes.{known_types}
-use Rattle.check_rules.specs.rules.Launches.{is_demanded}
+use Rattle.check_rules.specs.launches.Shapes.{demands_interference, demands_no_launch}
 use Rattle.check_rules.specs.rules.Names.{has_unbound_name, unbound_name_in_form, unbound_name_in_type, unbound_name_in_initializer, is_unknown_task}
 use Rattle.check_rules.specs.rules.Partitions.{miscolours_in_type, miscolours_initializer, mispartitions_call, mispartitions_initializer}
 use Rattle.check_rules.specs.types.Parts.{subexpressions}
@@ -40,7 +40,7 @@ use Rattle.check_rules.specs.declared.rule.Rule.{Rule}
 use Rattle.check_rules.specs.declared.rule.Rule.TheVariants as rule
 use Rattle.check_rules.proofs.Exchange.{Finding, Tells, any_finding, asked, asked_of_all, by_test, list_any_either, list_any_flat, list_any_never, list_any_same, not_all, only, or_nothing, or_regrouped, or_same, tells_all, tells_same}
 use Rattle.check_rules.proofs.FirstInExpressions.{call_test, found, found-append, lacks_flat, of_call, of_standing, of_type, typed_form_test, standing_test, target_test, tells_expression, tells_target, type_test}
-use Rattle.check_rules.proofs.Lines.{TellsLine, line_if, line_or, line_told, line_two, lines_passing, lines_passing-append, lines_passing-cons}
+use Rattle.check_rules.proofs.Lines.{TellsLine, line_behind, line_if, line_or, line_same, line_told, line_two, lines_passing, lines_passing-append, lines_passing-cons}
 use Rattle.check_rules.proofs.Joined.{join_alone, join_calls, join_names, join_partitions, join_places, join_reads, join_types, join_written}
 
 -- what is wanted for two lists
@@ -183,27 +183,26 @@ called_stands tree task s test form = refl
 -- ---- statements
 
 module _ (tree : Tree) (v : Visit) where
-  -- the test of each rule on a statement
-  abbrev pub form_test : Rule → Bool
-  form_test rule.Name = unbound_name_at tree v
-  form_test rule.Type = mistypes_at tree v
-  form_test rule.Count = miscounts_at tree v
-  form_test rule.Place = misplaces_at tree v
-  form_test rule.Target = mistargets_form tree v.task v.scope v.form
-  form_test rule.Format = misprints_form tree v.scope v.form
-  form_test rule.Read = lacks tree v.task v.scope (reads_at tree v)
-  form_test rule.Write = lacks tree v.task v.scope (writes_by tree v.scope v.form)
-  form_test rule.Reduce = lacks tree v.task v.scope (reductions_by tree v.scope v.form)
-  form_test rule.CallPrivilege =
+  -- the test of each rule on a statement, but for the demand on it
+  abbrev own_test : Rule → Bool
+  own_test rule.Name = unbound_name_at tree v
+  own_test rule.Type = mistypes_at tree v
+  own_test rule.Count = miscounts_at tree v
+  own_test rule.Place = misplaces_at tree v
+  own_test rule.Target = mistargets_form tree v.task v.scope v.form
+  own_test rule.Format = misprints_form tree v.scope v.form
+  own_test rule.Read = lacks tree v.task v.scope (reads_at tree v)
+  own_test rule.Write = lacks tree v.task v.scope (writes_by tree v.scope v.form)
+  own_test rule.Reduce = lacks tree v.task v.scope (reductions_by tree v.scope v.form)
+  own_test rule.CallPrivilege =
       lacks tree v.task v.scope (flat_map (wanted_by_call tree) (calls_at tree v))
-  form_test rule.CallConstraint =
+  own_test rule.CallConstraint =
       list_any (breaks_constraint tree v.scope.known) (calls_at tree v)
-  form_test rule.Pointer = wrong_pointer_at tree v
-  form_test rule.Spaces = misfits_at tree v
-  form_test rule.Partition = mispartitions_at tree v
-  form_test rule.Return = misreturns v.task v.form
-  form_test rule.NotLaunch = is_demanded v.form
-  form_test q = false
+  own_test rule.Pointer = wrong_pointer_at tree v
+  own_test rule.Spaces = misfits_at tree v
+  own_test rule.Partition = mispartitions_at tree v
+  own_test rule.Return = misreturns v.task v.form
+  own_test q = false
 
   -- what is asked of a statement beside its expressions and targets
   abbrev form_tail : List Finding
@@ -217,7 +216,6 @@ module _ (tree : Tree) (v : Visit) where
       ∷ asked (lacks tree v.task v.scope (writes_by tree v.scope v.form)) rule.Write
       ∷ asked (lacks tree v.task v.scope (reductions_by tree v.scope v.form)) rule.Reduce
       ∷ asked (misreturns v.task v.form) rule.Return
-      ∷ asked (is_demanded v.form) rule.NotLaunch
       ∷ []
 
   abbrev form_findings : List Finding
@@ -297,7 +295,7 @@ module _ (tree : Tree) (v : Visit) where
       (list_any_never (initializer_at v.form)) (list_any_never (call_of_form tree v.scope v.form))
       (list_any_never (standing_in_form tree v.task v.scope v.form))
 
-  joined_parts : (q : Rule) → joined_test q ≡ form_test q
+  joined_parts : (q : Rule) → joined_test q ≡ own_test q
   joined_parts rule.Name = let names = v.scope.names in
       join_names (declared_test rule.Name) (typed_forms_test rule.Name)
       (unbound_name_in_form tree names v.form) (initializers_test rule.Name) (called_test rule.Name)
@@ -436,11 +434,10 @@ module _ (tree : Tree) (v : Visit) where
   joined_parts rule.Reduce = alone (asked_at rule.Reduce)
       (lacks tree v.task v.scope (reductions_by tree v.scope v.form))
   joined_parts rule.Return = alone (asked_at rule.Return) (misreturns v.task v.form)
-  joined_parts rule.NotLaunch = alone (asked_at rule.NotLaunch) (is_demanded v.form)
   joined_parts q = alone (asked_at q) false
 
   -- a statement's own test, and its expressions' and targets' in one
-  form_parts : (q : Rule) → any_finding form_findings q ≡ form_test q
+  form_parts : (q : Rule) → any_finding form_findings q ≡ own_test q
   form_parts q = ap (λ b. declared_test q || (only rule.Type (has_no_type v.form) q || b))
       (sym (or_regrouped
       (list_any (λ e. found tree v.task v.scope (subexpressions e) q) (heads_of v.scope.names v.form))
@@ -448,9 +445,29 @@ module _ (tree : Tree) (v : Visit) where
       ∙ ap (λ b. b || any_finding form_tail q) (found_in_all tree v.task v.scope v.form q))
       ∙ joined_parts q
 
-  pub tells_form : Tells (first_of_form tree v.task v.scope v.form) form_test
+  tells_form : Tells (first_of_form tree v.task v.scope v.form) own_test
   tells_form = tells_same (first_of_form tree v.task v.scope v.form) (any_finding form_findings)
-      form_test form_parts (tells_all form_findings)
+      own_test form_parts (tells_all form_findings)
+
+  -- the demand on a loop
+  abbrev demand_findings : List Finding
+  demand_findings = asked (demands_no_launch tree v.scope v.form) rule.NotLaunch
+      ∷ asked (demands_interference tree v.scope v.form) rule.Interferes
+      ∷ []
+
+  tells_demand : Tells (first_of_demand tree v.scope v.form) (any_finding demand_findings)
+  tells_demand = tells_all demand_findings
+
+  -- the test of each rule
+  abbrev pub form_test : Rule → Bool
+  form_test rule.NotLaunch = demands_no_launch tree v.scope v.form
+  form_test rule.Interferes = demands_interference tree v.scope v.form
+  form_test q = own_test q
+
+  test_parts : (q : Rule) → (own_test q || any_finding demand_findings q) ≡ form_test q
+  test_parts rule.NotLaunch = or_nothing _
+  test_parts rule.Interferes = or_nothing _
+  test_parts q = or_nothing _
 
 -- ---- statements in order
 
@@ -464,11 +481,13 @@ module _ (tree : Tree) where
   lines_at-append vs others q = sym (lines_passing-append (λ (v : Visit). v.line)
       (λ v. form_test tree v q) vs others)
 
+  -- a statement's own line, those in its blocks, and those behind it
   statement_whole : (v : Visit) (within rest : List Visit) (q : Rule) →
-      line_if (form_test tree v q) v.line ++ (lines_at within q ++ lines_at rest q)
+      line_if (own_test tree v q || any_finding (demand_findings tree v) q) v.line ++ (lines_at within q ++ lines_at rest q)
       ≡ lines_at ((v ∷ within) ++ rest) q
   statement_whole v within rest q =
-      ap (λ ls. line_if (form_test tree v q) v.line ++ ls) (lines_at-append within rest q)
+      ap (λ b. line_if b v.line ++ (lines_at within q ++ lines_at rest q)) (test_parts tree v q)
+      ∙ ap (λ ls. line_if (form_test tree v q) v.line ++ ls) (lines_at-append within rest q)
       ∙ lines_passing-cons (λ (w : Visit). w.line) (λ w. form_test tree w q) v (within ++ rest)
 
   mutual
@@ -480,13 +499,17 @@ module _ (tree : Tree) where
         let within = visits_within tree task s form in
         let after = visits_in tree task (known_scope_after tree s form) rest in
         let rest_told = first_in_block tree task (known_scope_after tree s form) rest in
-        line_two (told_on line (first_of_form tree task s form))
-        (option_or (first_within tree task s form) rest_told)
-        (λ q. line_if (form_test tree v q) line) (λ q. lines_at within q ++ lines_at after q)
-        (lines_at ((v ∷ within) ++ after)) (statement_whole v within after)
-        (line_told line (first_of_form tree task s form) (form_test tree v) (tells_form tree v))
-        (line_or (first_within tree task s form) rest_told (lines_at within) (lines_at after)
-        (tells_within task s form) (tells_block task (known_scope_after tree s form) rest))
+        let demanded = told_on line (first_of_demand tree s form) in
+        let told = option_or (told_on line (first_of_form tree task s form))
+        (option_or (first_within tree task s form) (option_or demanded rest_told)) in
+        line_same told _ (lines_at ((v ∷ within) ++ after)) (statement_whole v within after)
+        (line_behind told line (own_test tree v) (any_finding (demand_findings tree v)) (lines_at within) (lines_at after)
+        (line_or (told_on line (first_of_form tree task s form)) _ (λ q. line_if (own_test tree v q) line) _
+        (line_told line (first_of_form tree task s form) (own_test tree v) (tells_form tree v))
+        (line_or (first_within tree task s form) _ (lines_at within) _ (tells_within task s form)
+        (line_or demanded rest_told (λ q. line_if (any_finding (demand_findings tree v) q) line) (lines_at after)
+        (line_told line (first_of_demand tree s form) (any_finding (demand_findings tree v)) (tells_demand tree v))
+        (tells_block task (known_scope_after tree s form) rest)))))
 
     tells_within : (task : TaskTree) (s : Scope) (form : Form) →
         TellsLine (first_within tree task s form) (lines_at (visits_within tree task s form))

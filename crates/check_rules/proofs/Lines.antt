@@ -1,12 +1,12 @@
 -- The first breach in a part of a text, against the lines on which each rule is breached there.
-use Rattle.std.proofs.Common.{◌≡◌, ℕ, Bool, true, false, cond, List, [], ◌∷◌, ◌++◌, map, refl, ap, sym, ◌∙◌, subst, inl}
+use Rattle.std.proofs.Common.{◌≡◌, ℕ, Bool, true, false, cond, List, [], ◌∷◌, ◌++◌, ◌||◌, map, refl, ap, sym, ◌∙◌, subst, inl, inr}
 use Rattle.std.specs.List.{filter, flat_map}
 use Rattle.std.specs.Option.{option_or}
 use Rattle.std.specs.Prelude.{Option, Some, None, ◌==◌}
 use Rattle.std.proofs.lemmas.Bool.{eq-eqb}
 use Rattle.std.proofs.lemmas.List.{map-append}
 use Rattle.std.proofs.lemmas.List.Elements.{filter-append}
-use Rattle.regent_tree.proofs.Members.{Has, Has-append_left, Has-append_right}
+use Rattle.regent_tree.proofs.Members.{Has, Has-append_cases, Has-append_left, Has-append_right}
 use Rattle.check_rules.specs.Breaches.{Breach, breaks}
 use Rattle.check_rules.specs.first.FirstInItems.{first_line}
 use Rattle.check_rules.specs.first.FirstInStatements.{told_on}
@@ -57,6 +57,37 @@ pub line_told : (line : ℕ) (r : Option Rule) (test : Rule → Bool) → Tells 
 line_told line None test t = λ q. ap (λ b. line_if b line) (t q)
 line_told line (Some q) test t =
     (q, line, subst (λ b. Has (line_if b line) line) (sym t) (inl refl), refl)
+
+-- ---- the same lines in another order
+
+either_line : (a b : Bool) (line : ℕ) (within rest : List ℕ) (x : ℕ) → Has (line_if a line ++ (within ++ (line_if b line ++ rest))) x →
+    Has (line_if (a || b) line ++ (within ++ rest)) x
+either_line true true line within rest x (inl e) = inl e
+either_line true true line within rest x (inr h) = elim (Has-append_cases within (line ∷ rest) x h) [
+  | inl g ↦ inr (Has-append_left within rest x g)
+  | inr g ↦ elim g [ inl e ↦ inl e | inr k ↦ inr (Has-append_right within rest x k) ]
+]
+either_line true false line within rest x h = h
+either_line false true line within rest x h = elim (Has-append_cases within (line ∷ rest) x h) [
+  | inl g ↦ inr (Has-append_left within rest x g)
+  | inr g ↦ elim g [ inl e ↦ inl e | inr k ↦ inr (Has-append_right within rest x k) ]
+]
+either_line false false line within rest x h = h
+
+neither_line : (a b : Bool) (line : ℕ) (within rest : List ℕ) → line_if a line ++ (within ++ (line_if b line ++ rest)) ≡ [] →
+    line_if (a || b) line ++ (within ++ rest) ≡ []
+neither_line true b line within rest e = absurd cc
+neither_line false true line [] rest e = absurd cc
+neither_line false true line (w ∷ within) rest e = absurd cc
+neither_line false false line within rest e = e
+
+-- of two tests on one line, one is asked behind what stands within
+pub line_behind : (r : Option Breach) (line : ℕ) (test later : Rule → Bool) (within rest : Rule → List ℕ) →
+    TellsLine r (λ q. line_if (test q) line ++ (within q ++ (line_if (later q) line ++ rest q))) →
+    TellsLine r (λ q. line_if (test q || later q) line ++ (within q ++ rest q))
+line_behind None line test later within rest t = λ q. neither_line (test q) (later q) line (within q) (rest q) (t q)
+line_behind (Some b) line test later within rest t =
+    (t.0, t.1, either_line (test t.0) (later t.0) line (within t.0) (rest t.0) t.1 t.2, t.3)
 
 -- ---- lines of elements that pass a test
 

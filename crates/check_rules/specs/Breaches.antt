@@ -24,7 +24,7 @@ use Rattle.check_rules.specs.rules.Constraints.{breaks_constraint}
 use Rattle.check_rules.specs.rules.Counts.{miscounts_call, miscounts_in_type}
 use Rattle.check_rules.specs.types.Declarations.{is_no_field_type, params_of}
 use Rattle.check_rules.specs.rules.Formats.{misprints_form}
-use Rattle.check_rules.specs.rules.Launches.{is_demanded}
+use Rattle.check_rules.specs.launches.Shapes.{demands_interference, demands_no_launch}
 use Rattle.check_rules.specs.rules.Names.{has_unbound_name, unbound_name_in_form, unbound_name_in_type, unbound_name_in_initializer}
 use Rattle.check_rules.specs.rules.Partitions.{miscolours_in_type, miscolours_initializer, mispartitions_call, mispartitions_initializer}
 use Rattle.check_rules.specs.rules.Places.{lacks_initializer, has_wrong_initializer, misplaces, misplaces_in}
@@ -198,13 +198,12 @@ return_lines tree = lines_of_items tree misdeclares_result
 abbrev pub entry_lines : Tree → List ℕ
 entry_lines tree = wrong_entry_lines tree
 
--- 19: in loops
+-- 19 and 20: in loops
 abbrev pub launch_lines : Tree → List ℕ
-launch_lines tree = lines_where tree (λ (v : Visit). is_demanded v.form)
+launch_lines tree = lines_where tree (λ (v : Visit). demands_no_launch tree v.scope v.form)
 
--- 20, Interferes: it is asked of index launches alone, and there are none
 abbrev pub interference_lines : Tree → List ℕ
-interference_lines tree = []
+interference_lines tree = lines_where tree (λ (v : Visit). demands_interference tree v.scope v.form)
 
 -- ---- all rules
 

@@ -15,4 +15,3 @@ pub mod Clauses
 pub mod Results
 pub mod Repeats
 pub mod Entries
-pub mod Launches

@@ -1,10 +1,14 @@
 //! Programs that are accepted.
 
-ghost use Rattle.std.specs.Prelude.{◌≡◌};
+ghost use Rattle.std.specs.Prelude.{◌≡◌, IfNone, IfSome, None, Some};
 ghost use Rattle.regent_tree.specs.PlainProgram.{tree_of};
 ghost use Rattle.check_rules.specs.Acceptance.{IsAccepted, input_widths};
+ghost use Rattle.check_rules.specs.launches.Shapes.{nth_on, shape_on};
 
+use crate::loop_shape::LoopShape;
+use index_launch::LaunchShape;
 use lane_kernels::Width;
+use plain_values::Sequence;
 use regent_tree::Program;
 use std::marker::Model;
 
@@ -13,6 +17,7 @@ use std::marker::Model;
 pub struct Accepted {
     program: Program,
     inputs: Vec<Width>,
+    loops: Sequence<LoopShape>,
 }
 
 impl Model for Accepted {
@@ -27,17 +32,21 @@ impl Model for Accepted {
 
     ghost view = { λ a. a.program };
 
-    ghost invariant = { λ a. IsAccepted (tree_of a.program) a.inputs.items };
+    ghost invariant = { λ a. IsAccepted (tree_of a.program) a.inputs.items a.loops };
 }
 
 impl Accepted {
     /// A program of which it is known that it is within the limits and keeps the rules, with the
-    /// widths of its inputs.
-    pub fn new(program: Program, inputs: Vec<Width>) -> Accepted
-        requires { IsAccepted (tree_of program) inputs.items }
+    /// widths of its inputs and the shapes of its loops.
+    pub fn new(program: Program, inputs: Vec<Width>, loops: Sequence<LoopShape>) -> Accepted
+        requires { IsAccepted (tree_of program) inputs.items loops }
         ensures { result ≡ program }
     {
-        Accepted { program, inputs }
+        Accepted {
+            program,
+            inputs,
+            loops,
+        }
     }
 
     /// The program.
@@ -53,4 +62,29 @@ impl Accepted {
     {
         self.inputs.as_slice()
     }
+
+    /// The shape of a loop: of the nth `for` that begins on a line, counted from 0 in the order of the text.
+    pub fn shape(&self, line: u32, nth: u32) -> Option<&LaunchShape>
+        ensures some { IfSome result (λ s. shape_on (tree_of self.now) line nth ≡ Some s.now) }
+        ensures none { IfNone result (shape_on (tree_of self.now) line nth ≡ None) }
+    {
+        nth_on(self.loops.as_slice(), line, nth)
+    }
+}
+
+/// The shape of the nth of these loops that begins on a line.
+fn nth_on(loops: &[LoopShape], line: u32, nth: u32) -> Option<&LaunchShape>
+    ensures some { IfSome result (λ s. nth_on loops.now line nth ≡ Some s.now) }
+    ensures none { IfNone result (nth_on loops.now line nth ≡ None) }
+{
+    let mut before = nth;
+    for one in loops {
+        if one.line == line {
+            if before == 0 {
+                return Some(&one.shape);
+            }
+            before -= 1;
+        }
+    }
+    None
 }

@@ -7,9 +7,11 @@
 ghost use Rattle.check_rules.specs.Laws.{TypesAsMeant, PairsKept, FirstIsOne, NoneWithoutFirst};
 
 mod accepted;
+mod loop_shape;
 mod rule;
 
 pub use accepted::Accepted;
+pub use loop_shape::LoopShape;
 pub use rule::Rule;
 
 /// An expression has the type that the meaning of programs gives it, or an unknown one.

@@ -4,7 +4,7 @@ use Rattle.std.specs.Option.{option_or}
 use Rattle.regent_tree.specs.PlainProgram.{block_in}
 use Rattle.regent_tree.specs.declared.statement.Stmt.{Stmt}
 use Rattle.check_rules.specs.declared.rule.Rule.{Rule}
-use Rattle.launch_rules.specs.Views.{only_call}
+use Rattle.check_rules.specs.launches.Views.{only_call}
 
 -- a body of more than one statement isn't one call
 pub longer_is_none : (body : List Stmt) → 2 ≤ length body → only_call (block_in body) ≡ None

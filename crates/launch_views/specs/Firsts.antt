@@ -7,7 +7,7 @@ use Rattle.check_rules.specs.declared.rule.Rule.{Rule}
 use Rattle.check_rules.specs.first.FirstInExpressions.{first_in_args, first_of_call}
 use Rattle.check_rules.specs.types.KnownTypes.{known_types}
 use Rattle.check_rules.specs.types.TypedForms.{calling}
-use Rattle.launch_rules.specs.Views.{CallSeen}
+use Rattle.check_rules.specs.launches.Views.{CallSeen}
 
 abbrev pub first_of_only : Tree → TaskTree → Scope → Option CallSeen → Option Rule
 first_of_only tree task s None = None

@@ -4,7 +4,7 @@ ghost use Rattle.std.specs.Prelude.{◌≡◌, ◌++◌, ◌<◌, ◌^◌, IfOk,
 ghost use Rattle.regent_tree.specs.Lookup.{type_named};
 ghost use Rattle.regent_tree.specs.Plain.{expression_of, expressions_in, steps_in};
 ghost use Rattle.regent_tree.specs.Syntax.{access_expr};
-ghost use Rattle.launch_rules.specs.Views.{are_apart, pairs_apart, pairs_with, parent_of, region_of, term_across, terms_across};
+ghost use Rattle.check_rules.specs.launches.Views.{are_apart, pairs_apart, pairs_with, parent_of, region_of, term_across, terms_across};
 
 use check_expressions::Scope;
 use constraint_check::Facts;

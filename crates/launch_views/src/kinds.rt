@@ -4,7 +4,7 @@ ghost use Rattle.std.specs.Prelude.{◌≡◌, false};
 ghost use Rattle.regent_tree.specs.Plain.{expression_of, steps_in};
 ghost use Rattle.regent_tree.specs.Lookup.{type_named};
 ghost use Rattle.regent_tree.specs.Syntax.{access_expr};
-ghost use Rattle.launch_rules.specs.Views.{is_variable, kind_of, kind_of_element, kind_of_name};
+ghost use Rattle.check_rules.specs.launches.Views.{is_variable, kind_of, kind_of_element, kind_of_name};
 
 use check_expressions::Scope;
 use index_launch::ArgKind;

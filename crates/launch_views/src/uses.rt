@@ -1,7 +1,7 @@
 //! How the called task uses the regions of arguments.
 
 ghost use Rattle.std.specs.Prelude.{◌≡◌, IfOk};
-ghost use Rattle.launch_rules.specs.Views.{mode_of, space_of, uses_of, uses_on};
+ghost use Rattle.check_rules.specs.launches.Views.{mode_of, space_of, uses_of, uses_on};
 
 use lane_kernels::Mode;
 use plain_values::Sequence;

@@ -12,7 +12,7 @@ ghost use Rattle.regent_tree.specs.declared.typing.StaticType.TheVariants.{Unkno
 ghost use Rattle.check_expressions.specs.Seen.{seen};
 ghost use Rattle.check_expressions.specs.Sites.{HoldsDeclared, task_at, tree_at};
 ghost use Rattle.static_types.specs.Telling.{Tells};
-ghost use Rattle.launch_rules.specs.Views.{CallSeen, argument_view, argument_views, call_in, loop_view, only_call, view_of_call};
+ghost use Rattle.check_rules.specs.launches.Views.{CallSeen, argument_view, argument_views, call_in, loop_view, only_call, view_of_call};
 ghost use Rattle.launch_views.specs.Firsts.{first_of_only};
 
 use crate::apart::{pairs_apart, terms_across};

@@ -1,5 +1,5 @@
 -- The first rule that a statement breaches, in the order in which the checker goes: what stands in
--- the statement itself, and then its blocks.
+-- the statement itself, then its blocks, and then the demand on it.
 use Rattle.std.specs.Option.{option_map, option_or}
 use Rattle.std.specs.Prelude.{None, Option, [], ℕ, ◌∷◌}
 use Rattle.regent_tree.specs.Scopes.{Scope, past}
@@ -7,7 +7,7 @@ use Rattle.regent_tree.specs.Syntax.{Arms, Block, Form, Otherwise, Initializer, 
 use Rattle.check_rules.specs.Breaches.{Breach, breaks, has_no_type, wrong_initializer_at}
 use Rattle.check_rules.specs.first.FirstInExpressions.{first_in_expression, first_in_target, first_in_type, first_of_call, first_of_standing}
 use Rattle.check_rules.specs.rules.Formats.{misprints_form}
-use Rattle.check_rules.specs.rules.Launches.{is_demanded}
+use Rattle.check_rules.specs.launches.Shapes.{demands_interference, demands_no_launch}
 use Rattle.check_rules.specs.rules.Names.{unbound_name_in_form, unbound_name_in_initializer}
 use Rattle.check_rules.specs.rules.Partitions.{miscolours_initializer, mispartitions_initializer}
 use Rattle.check_rules.specs.rules.Privileges.{lacks, reads_in_initializer, reductions_by, writes_by}
@@ -50,7 +50,12 @@ first_of_form tree task s form =
     ∷ rule_if (lacks tree task s (writes_by tree s form)) rule.Write
     ∷ rule_if (lacks tree task s (reductions_by tree s form)) rule.Reduce
     ∷ rule_if (misreturns task form) rule.Return
-    ∷ rule_if (is_demanded form) rule.NotLaunch
+    ∷ [])
+
+-- the demand on a loop
+abbrev pub first_of_demand : Tree → Scope → Form → Option Rule
+first_of_demand tree s form = first_of (rule_if (demands_no_launch tree s form) rule.NotLaunch
+    ∷ rule_if (demands_interference tree s form) rule.Interferes
     ∷ [])
 
 -- a rule that is breached on a line
@@ -64,7 +69,8 @@ abbrev mutual
   first_in_block tree task s (then_statement (a_statement line form) rest) =
       option_or (told_on line (first_of_form tree task s form))
       (option_or (first_within tree task s form)
-      (first_in_block tree task (known_scope_after tree s form) rest))
+      (option_or (told_on line (first_of_demand tree s form))
+      (first_in_block tree task (known_scope_after tree s form) rest)))
 
   -- in the blocks of a statement
   pub first_within : Tree → TaskTree → Scope → Form → Option Breach

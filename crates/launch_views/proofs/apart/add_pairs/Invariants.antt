@@ -1,6 +1,6 @@
 use Rattle.std.proofs.Common.{◌≡◌, drop}
 use Rattle.std.specs.Prelude.{◌++◌, get_or, None}
-use Rattle.launch_rules.specs.Views.{pairs_with}
+use Rattle.check_rules.specs.launches.Views.{pairs_with}
 use Rattle.launch_views.proofs.apart.add_pairs.Given as goal
 
 abbrev pub invariant-loop-second : goal.invariant-loop-second

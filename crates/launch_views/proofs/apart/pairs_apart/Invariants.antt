@@ -1,6 +1,6 @@
 use Rattle.std.proofs.Common.{◌≡◌, drop}
 use Rattle.std.specs.Prelude.{◌++◌}
-use Rattle.launch_rules.specs.Views.{pairs_apart}
+use Rattle.check_rules.specs.launches.Views.{pairs_apart}
 use Rattle.launch_views.proofs.apart.pairs_apart.Given as goal
 
 abbrev pub invariant-loop-first : goal.invariant-loop-first

@@ -1,7 +1,7 @@
 use Rattle.std.proofs.Common.{◌≡◌, drop}
 use Rattle.std.specs.Prelude.{◌++◌}
 use Rattle.regent_tree.specs.Plain.{expressions_in}
-use Rattle.launch_rules.specs.Views.{terms_across}
+use Rattle.check_rules.specs.launches.Views.{terms_across}
 use Rattle.launch_views.proofs.apart.terms_across.Given as goal
 
 abbrev pub invariant-loop-arg : goal.invariant-loop-arg

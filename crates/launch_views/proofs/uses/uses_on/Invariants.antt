@@ -1,5 +1,5 @@
 use Rattle.std.proofs.Common.{◌≡◌, take}
-use Rattle.launch_rules.specs.Views.{uses_on}
+use Rattle.check_rules.specs.launches.Views.{uses_on}
 use Rattle.launch_views.proofs.uses.uses_on.Given as goal
 
 abbrev pub invariant-loop-right : goal.invariant-loop-right

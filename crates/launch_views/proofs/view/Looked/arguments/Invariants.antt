@@ -1,7 +1,7 @@
 use Rattle.std.proofs.Common.{◌≡◌, drop}
 use Rattle.std.specs.Prelude.{◌++◌}
 use Rattle.regent_tree.specs.Plain.{expressions_in}
-use Rattle.launch_rules.specs.Views.{argument_views}
+use Rattle.check_rules.specs.launches.Views.{argument_views}
 use Rattle.launch_views.proofs.view.Looked.arguments.Given as goal
 
 abbrev pub invariant-loop-place : goal.invariant-loop-place
