@@ -2,7 +2,8 @@
 use Rattle.std.proofs.Common.{◌≡◌, ◌≢◌, ◌∙◌, ◌≤◌, ◌<◌, ◌+◌, ◌==◌, ◌++◌, ◌||◌, Bool, true, false, cond, not, List, [], ◌∷◌, None, Option, Some, ap, arith, filter, get_or, length, map, refl, slice_get, suc, sym, zero, ℕ}
 use Rattle.std.specs.Prelude.{slice_set}
 use Rattle.std.specs.List.{list_any, position, position_from}
-use Rattle.std.specs.Option.{IfNone}
+use Rattle.std.specs.Borrow.{Bor}
+use Rattle.std.specs.Option.{IfNone, IfSome, option_copied}
 use Rattle.std.proofs.Math.ListN.{get_or-map}
 use Rattle.std.proofs.lemmas.Bool.{eqb-true, ne_eqb}
 use Rattle.std.proofs.lemmas.Iterator.Adapters.{position_from-zero}
@@ -11,7 +12,7 @@ use Rattle.std.proofs.lemmas.List.Quantifiers.{position-Some}
 use Rattle.std.proofs.lemmas.Option.{get_or_from_slice_get, slice_get_within}
 use Rattle.lane_kernels.specs.declared.numbers.FieldKind.{FieldKind}
 use Rattle.logical_map.specs.Maps.{Column, IsThere, LiveRoot, closed, column_of, columns_of, new_column, no_column, on_column, on_field, opened}
-use Rattle.physical_instances.specs.Fields.{KeepsRoom, with_field}
+use Rattle.physical_instances.specs.Fields.{KeepsRoom, column_if, with_field}
 use Rattle.physical_instances.specs.Kept.{FieldContents, KeepsSpare, RootContents, column_in, field_of, fields_of, is_kept, live_root, map_of, no_field, spare_of}
 
 -- ---- fields of a root
@@ -293,6 +294,12 @@ given_nowhere roots root field f e = column_absent roots root field f (none_kept
 pub IfNone_then : {X : Type 0} (o : Option X) {P Q : Type 0} → IfNone o P → (P → Q) → IfNone o Q
 IfNone_then None p f = f p
 IfNone_then (Some x) p f = p
+
+-- what is found of a field, and nothing else where it isn't there
+pub column_if_found : (c : Column) (o : Option (Bor FieldContents)) → IfSome o (λ f. c ≡ f.now.column) → IfNone o (c ≡ no_column) →
+    c ≡ column_if (option_copied o)
+column_if_found c None found none = none
+column_if_found c (Some f) found none = found
 
 -- ---- room that was made
 

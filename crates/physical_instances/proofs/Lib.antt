@@ -1,5 +1,5 @@
 pub mod Examples
-mod Filling
+pub mod Filling
 mod Giving
 mod Keeping
 mod Room

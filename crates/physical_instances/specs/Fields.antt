@@ -1,8 +1,8 @@
 -- A field of a root that changes.
-use Rattle.std.specs.Prelude.{◌≤◌, Bool, true, false, List, filter, get_or, ℕ}
+use Rattle.std.specs.Prelude.{◌≤◌, Bool, true, false, List, Option, Some, None, filter, get_or, ℕ}
 use Rattle.region_tree.specs.Pieces.{Held}
 use Rattle.logical_map.specs.Gives.{give_pieces, is_reduction, is_write}
-use Rattle.logical_map.specs.Maps.{Column, LiveRoot, LogicalMap, on_field}
+use Rattle.logical_map.specs.Maps.{Column, LiveRoot, LogicalMap, no_column, on_field}
 use Rattle.physical_instances.specs.Kept.{FieldContents, no_field}
 
 -- pieces for writing, or reductions
@@ -12,6 +12,11 @@ is_given false h = is_write h
 
 abbrev pub give_kind : Bool → ℕ → ℕ → List Held → LogicalMap → LogicalMap
 give_kind reducing root field pieces roots = give_pieces root field (filter (is_given reducing) pieces) roots
+
+-- the field that was found, or that of a root that lacks it
+abbrev pub column_if : Option FieldContents → Column
+column_if None = no_column
+column_if (Some f) = f.column
 
 -- ---- one root
 

@@ -91,18 +91,16 @@ impl Contents {
         Fill::new(alloc, root, field, kind, pieces)
     }
 
-    /// Moves the next 4,096 elements, or all that are left. It takes no memory.
+    /// Moves the next 4,096 elements, or all that are left. Of a field that isn't there an element gets 0, or the
+    /// identity of a reduction of truths. It takes no memory.
+    #[tactic(auto, using(crate::proofs::Keeping::column_if_found))]
     pub fn fill_chunk(&mut self, fill: &mut Fill) -> Filled
-        requires { IsThere (map_of self.old) fill.old.root fill.old.field }
         ensures fill { fill.new ≡ chunk_moved (map_of self.old) fill.old }
         ensures full { (result ≡ Full) ↔ IsFull fill.new }
         ensures map { map_of self.new ≡ map_of self.old }
         ensures spare { KeepsSpare self.old self.new }
     {
-        let Some(field) = self.field_of(fill.root(), fill.field()) else {
-            unreachable!()
-        };
-        fill.advance(field)
+        fill.advance(self.field_of(fill.root(), fill.field()))
     }
 
     /// Writes the pieces for writing. It takes no memory.

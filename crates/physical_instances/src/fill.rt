@@ -1,10 +1,13 @@
 //! A part that is filled in chunks.
 
-ghost use Rattle.std.specs.Prelude.{◌≡◌, ◌↔◌, ◌<◌, ◌≤◌, ◌+◌, min, IfOk, IfSome, length, map};
-ghost use Rattle.logical_map.specs.Fills.{blank, chunk, elements_of, moved_piece, moved_pieces};
+ghost use Rattle.std.specs.Prelude.{◌≡◌, ◌↔◌, ◌<◌, ◌≤◌, ◌+◌, ◌-◌, min, IfOk, IfSome, length, map};
+ghost use Rattle.std.specs.Option.{option_copied};
+ghost use Rattle.logical_map.specs.Fills.{blank, chunk, elements_of, moved_piece, moved_pieces, number_for};
+ghost use Rattle.physical_instances.specs.Fields.{column_if};
 ghost use Rattle.physical_instances.specs.Kept.{IsFull};
 ghost use Rattle.physical_instances.specs.declared.fill.Filled.TheVariants.{Full};
 
+use crate::copying::copy_pieces;
 use crate::instances::FieldInstances;
 use lane_kernels::{FieldKind, Mode};
 use plain_values::Sequence;
@@ -94,6 +97,28 @@ impl Fill {
         self.field
     }
 
+    /// How many elements are left to be moved.
+    pub fn left(&self) -> usize
+        ensures { result ≡ elements_of self.now.pieces - self.now.moved }
+    {
+        self.count - self.moved
+    }
+
+    /// The same fill once more.
+    pub fn copy(&self) -> Result<Fill, AllocError>
+        ensures { IfOk result (λ copy. copy ≡ self.now) }
+    {
+        let alloc = *self.pieces.allocator();
+        Ok(Fill {
+            root: self.root,
+            field: self.field,
+            kind: self.kind,
+            pieces: copy_pieces(alloc, self.pieces.as_slice())?,
+            moved: self.moved,
+            count: self.count,
+        })
+    }
+
     /// The part. It takes no memory.
     pub fn part(self) -> Part
         ensures root { result.root.0 ≡ self.root }
@@ -118,9 +143,9 @@ impl Fill {
 
     /// Moves the next elements from a field.
     #[tactic(auto, using(crate::proofs::Filling::same_elements))]
-    pub(crate) fn advance(&mut self, field: &FieldInstances) -> Filled
+    pub(crate) fn advance(&mut self, field: Option<&FieldInstances>) -> Filled
         ensures fill { self.new ≡ record self.old {
-          pieces = moved_pieces field.now.column self.old.moved chunk self.old.pieces;
+          pieces = moved_pieces (column_if (option_copied field.entry)) self.old.moved chunk self.old.pieces;
           moved = min (self.old.moved + chunk) (elements_of self.old.pieces);
         } }
         ensures full { (result ≡ Full) ↔ IsFull self.new }
@@ -187,8 +212,8 @@ fn count_elements(pieces: &[Piece]) -> Option<usize>
 }
 
 /// Moves the next chunk of the elements of pieces, where so many were moved before.
-fn move_pieces(field: &FieldInstances, moved: usize, pieces: &mut Vec<Piece>)
-    ensures { pieces.new.items ≡ moved_pieces field.now.column moved chunk pieces.old.items }
+fn move_pieces(field: Option<&FieldInstances>, moved: usize, pieces: &mut Vec<Piece>)
+    ensures { pieces.new.items ≡ moved_pieces (column_if (option_copied field.entry)) moved chunk pieces.old.items }
 {
     let mut behind = moved;
     let mut next = CHUNK;
@@ -202,8 +227,8 @@ fn move_pieces(field: &FieldInstances, moved: usize, pieces: &mut Vec<Piece>)
 }
 
 /// Moves so many elements of a piece, behind so many that were moved before.
-fn move_piece(field: &FieldInstances, behind: usize, next: usize, piece: &mut Piece)
-    ensures { piece.new ≡ moved_piece field.now.column behind next piece.old }
+fn move_piece(field: Option<&FieldInstances>, behind: usize, next: usize, piece: &mut Piece)
+    ensures { piece.new ≡ moved_piece (column_if (option_copied field.entry)) behind next piece.old }
 {
     let count = piece.points.len();
     let first = behind.min(count as usize) as u32;
@@ -212,6 +237,18 @@ fn move_piece(field: &FieldInstances, behind: usize, next: usize, piece: &mut Pi
         let Some(point) = piece.points.at(place) else {
             unreachable!()
         };
-        piece.set(place as usize, field.number_for(piece.mode, point));
+        piece.set(place as usize, number_for(field, piece.mode, point));
+    }
+}
+
+/// What an element gets at a point that is filled in a mode; of a field that isn't there 0, and for a reduction the
+/// identity at the width of a truth.
+fn number_for(field: Option<&FieldInstances>, mode: Mode, point: u32) -> i64
+    ensures { result ≡ number_for (column_if (option_copied field.entry)) mode point }
+{
+    match (field, mode) {
+        (Some(found), _) => found.number_for(mode, point),
+        (None, Mode::Reduce(op)) => op.identity(FieldKind::Truth.width()),
+        (None, _) => 0,
     }
 }

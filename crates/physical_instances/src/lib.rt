@@ -5,6 +5,7 @@
 #![tactic(auto)]
 
 mod contents;
+mod copying;
 mod counts;
 mod fill;
 mod instances;
@@ -13,4 +14,5 @@ mod roots;
 mod tests;
 
 pub use contents::Contents;
+pub use copying::copy_part;
 pub use fill::{Fill, Filled};

@@ -1,4 +1,6 @@
 use Rattle.std.proofs.Common.{rules, ◌≡◌, ◌∙◌, ◌<◌, ◌-◌, ◌+◌, Some, ap, arith, get_or, length, min, refl, suc, sym, of_z, to_z, w64, ℕ}
+use Rattle.std.specs.Option.{option_copied}
+use Rattle.physical_instances.specs.Fields.{column_if}
 use Rattle.std.specs.Prelude.{slice_get, slice_set}
 use Rattle.std.proofs.lemmas.Option.{get_or_from_slice_get}
 use Rattle.logical_map.proofs.Moving.{moved_nothing, one_more}
@@ -10,7 +12,7 @@ pub loop-place-init : goal.loop-place-init
 loop-place-init c =
     let h = c.args.piece.now in
     let first = c.min-first.result in
-    let f = number_for c.args.field.now.column h.mode in
+    let f = number_for (column_if (option_copied c.args.field)) h.mode in
     let none : first - first ≡ 0 = omega arith in
     record {
       points = refl;
@@ -27,7 +29,7 @@ loop-place-preserved c =
     let i = c.loop-place.place in
     let now = c.loop-place.piece in
     let new = c.set-in-loop-place.new.self in
-    let f = number_for c.args.field.now.column h.mode in
+    let f = number_for (column_if (option_copied c.args.field)) h.mode in
     let counted : c.len-count.result ≡ length h.points = search (rules) in
     let below : i < length h.points = search (rules) in
     let whole : length h.points ≡ length h.values = search (rules) in
@@ -53,12 +55,12 @@ returns c =
     let first = c.min-first.result in
     let end = c.min-end.result in
     let i = c.loop-place.place in
-    let f = number_for c.args.field.now.column h.mode in
+    let f = number_for (column_if (option_copied c.args.field)) h.mode in
     let counted : c.len-count.result ≡ length h.points = search (rules) in
     let whole : length h.points ≡ length h.values = search (rules) in
     let begun : first ≡ min c.args.behind (length h.points) = search (rules) in
     let ended : end ≡ min (c.args.behind + c.args.next) (length h.points) = search (rules) in
     let last : i ≡ end = search (rules) in
-    piece_moved c.args.field.now.column c.args.behind c.args.next first end c.loop-place.piece h whole begun ended
+    piece_moved (column_if (option_copied c.args.field)) c.args.behind c.args.next first end c.loop-place.piece h whole begun ended
     c.loop-place.invariant.points c.loop-place.invariant.mode
     (c.loop-place.invariant.values ∙ ap (λ (k : ℕ). moved_beside f first (k - first) h.points h.values) last)

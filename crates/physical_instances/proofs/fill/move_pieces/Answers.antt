@@ -1,4 +1,6 @@
 use Rattle.std.proofs.Common.{rules, ◌≡◌, ◌∙◌, ◌<◌, ◌-◌, ◌++◌, ap, drop, get_or, length, suc, sym, take, ℕ}
+use Rattle.std.specs.Option.{option_copied}
+use Rattle.physical_instances.specs.Fields.{column_if}
 use Rattle.std.specs.Prelude.{slice_set}
 use Rattle.std.proofs.Math.Numerals.{suc-eq-add-one}
 use Rattle.region_tree.specs.Pieces.{Held}
@@ -8,7 +10,7 @@ use Rattle.physical_instances.proofs.fill.move_pieces.Goals as goal
 
 pub loop-place-preserved : goal.loop-place-preserved
 loop-place-preserved c =
-    let column = c.args.field.now.column in
+    let column = (column_if (option_copied c.args.field)) in
     let hs = c.loop-place.pieces.items in
     let i = c.loop-place.place in
     let h = c.index_mut-piece.result.now in
