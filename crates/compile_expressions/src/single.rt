@@ -47,12 +47,7 @@ pub fn operand(here: &Here, body: &mut Body, stays: bool, t: &StaticType) -> Res
 }
 
 /// A number where an integer is wanted. One that has that width already stays as it is.
-fn fitted(
-    here: &Here,
-    body: &mut Body,
-    from: &StaticType,
-    width: Width,
-) -> Result<(), AllocError>
+fn fitted(here: &Here, body: &mut Body, from: &StaticType, width: Width) -> Result<(), AllocError>
     ensures { OnOk result (body.new ≡ emitted body.old (width_code (where_of here.now) from.now width)) }
 {
     match (from, width) {
