@@ -102,7 +102,7 @@ abbrev ok_value : {A : Type 0} → A → Result A Halt → A
 ok_value y (Ok x) = x
 ok_value y (Err h) = y
 
-abbrev err_value : {A : Type 0} → Halt → Result A Halt → Halt
+abbrev pub err_value : {A : Type 0} → Halt → Result A Halt → Halt
 err_value g (Ok x) = g
 err_value g (Err h) = h
 

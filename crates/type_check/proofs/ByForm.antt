@@ -28,7 +28,7 @@ use Rattle.static_types.specs.Telling.{IsTold, Tells}
 use Rattle.static_types.specs.declared.stop.Stop.{Stop}
 use Rattle.static_types.proofs.Telling.{told_here}
 use Rattle.type_check.specs.Heads.{first_of_bounds, first_of_call_alone, first_of_domain, first_of_fill, first_of_filled, first_of_print, first_of_test, first_of_tests}
-use Rattle.plain_values.proofs.Plain.{option_or_assoc, option_or_none}
+use Rattle.plain_values.proofs.Plain.{option_or_none}
 
 module _ (tree : Tree) (task : TaskTree) (s : Scope) where
   abbrev told : Expression → Option Rule
@@ -54,27 +54,23 @@ module _ (tree : Tree) (task : TaskTree) (s : Scope) where
   pub tests_first : (arms : Arms) (other : Otherwise) → first_of_form tree task s (if_form arms other) ≡ first_of_tests tree task s (tests_of arms)
   tests_first arms other = ap (λ o. option_or (first_in (first_in_expression tree task s) (tests_of arms)) (option_or o None)) (same_tests (tests_of arms))
 
-  three : (a b c : Option Rule) → option_or (option_or a None) (option_or (option_or b None) (option_or c None)) ≡ option_or a (option_or b (option_or c None))
-  three None b c = option_or_assoc b None (option_or c None)
-  three (Some x) b c = refl
-
   pub domain_first : (demanded : Bool) (n : Name) (e : Expression) (body : Block) →
-      first_of_form tree task s (for_in_form demanded n e body) ≡ first_of_domain tree task s demanded e
-  domain_first demanded n e body = three (told e) (first_of_standing [] (stands (known_type tree s e) domain_spot)) (rule_if demanded rule.NotLaunch)
+      first_of_form tree task s (for_in_form demanded n e body) ≡ first_of_domain tree task s e
+  domain_first demanded n e body = two (told e) (first_of_standing [] (stands (known_type tree s e) domain_spot))
 
-  five : (a b c d e : Option Rule) → option_or (option_or a (option_or b None)) (option_or (option_or c (option_or d None)) (option_or e None))
-      ≡ option_or a (option_or b (option_or c (option_or d (option_or e None))))
-  five None None None None e = refl
-  five None None None (Some x) e = refl
-  five None None (Some x) d e = refl
-  five None (Some x) c d e = refl
-  five (Some x) b c d e = refl
+  four : (a b c d : Option Rule) → option_or (option_or a (option_or b None)) (option_or (option_or c (option_or d None)) None)
+      ≡ option_or a (option_or b (option_or c (option_or d None)))
+  four None None None None = refl
+  four None None None (Some x) = refl
+  four None None (Some x) d = refl
+  four None (Some x) c d = refl
+  four (Some x) b c d = refl
 
   pub bounds_first : (demanded : Bool) (n : Name) (from to : Expression) (body : Block) →
-      first_of_form tree task s (for_to_form demanded n from to body) ≡ first_of_bounds tree task s demanded from to
-  bounds_first demanded n from to body = five (told from) (told to)
+      first_of_form tree task s (for_to_form demanded n from to body) ≡ first_of_bounds tree task s from to
+  bounds_first demanded n from to body = four (told from) (told to)
       (first_of_standing [] (stands (known_type tree s from) integer_spot))
-      (first_of_standing [] (stands (known_type tree s to) integer_spot)) (rule_if demanded rule.NotLaunch)
+      (first_of_standing [] (stands (known_type tree s to) integer_spot))
 
   -- ---- arguments
 

@@ -6,4 +6,5 @@ pub mod Following
 pub mod Differences
 pub mod InitializerForms
 pub mod Alone
+pub mod LoopBlocks
 pub mod Whole

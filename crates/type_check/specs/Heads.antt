@@ -34,19 +34,17 @@ first_of_tests tree task s es = first_of (first_in (first_in_expression tree tas
     ∷ [])
 
 -- the head of a loop over a region or an index space
-abbrev pub first_of_domain : Tree → TaskTree → Scope → Bool → Expression → Option Rule
-first_of_domain tree task s demanded e = first_of (first_in_expression tree task s e
+abbrev pub first_of_domain : Tree → TaskTree → Scope → Expression → Option Rule
+first_of_domain tree task s e = first_of (first_in_expression tree task s e
     ∷ first_of_standing [] (stands (known_type tree s e) domain_spot)
-    ∷ rule_if demanded rule.NotLaunch
     ∷ [])
 
 -- the head of a loop between two bounds
-abbrev pub first_of_bounds : Tree → TaskTree → Scope → Bool → Expression → Expression → Option Rule
-first_of_bounds tree task s demanded from to = first_of (first_in_expression tree task s from
+abbrev pub first_of_bounds : Tree → TaskTree → Scope → Expression → Expression → Option Rule
+first_of_bounds tree task s from to = first_of (first_in_expression tree task s from
     ∷ first_in_expression tree task s to
     ∷ first_of_standing [] (stands (known_type tree s from) integer_spot)
     ∷ first_of_standing [] (stands (known_type tree s to) integer_spot)
-    ∷ rule_if demanded rule.NotLaunch
     ∷ [])
 
 -- ---- statements without blocks

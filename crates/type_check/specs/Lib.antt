@@ -6,3 +6,4 @@ pub mod Variables
 pub mod Lines
 pub mod Refusals
 pub mod Items
+pub mod Loops

@@ -4,20 +4,24 @@ ghost use Rattle.std.specs.Prelude.{◌≡◌, [], IfOk, OnOk, ◌++◌, length,
 ghost use Rattle.regent_tree.specs.PlainProgram.{item_tree_of, task_of, tree_of};
 ghost use Rattle.regent_tree.specs.Scopes.{bound_params, knowing, known_of_clause, known_of_clauses, known_of_params, param_term};
 ghost use Rattle.regent_tree.specs.Syntax.{ItemTree};
+ghost use Rattle.check_rules.specs.launches.Shapes.{loops};
 ghost use Rattle.check_rules.specs.scopes.Bodies.{body_scope};
 ghost use Rattle.check_rules.specs.first.FirstInItems.{first_in_body};
 ghost use Rattle.check_rules.specs.first.FirstInStatements.{first_in_block};
 ghost use Rattle.check_rules.specs.first.Rules.{first_in};
 ghost use Rattle.check_rules.specs.scopes.Sound.{StandsIn};
+ghost use Rattle.check_rules.specs.scopes.Visits.{visits_in};
 ghost use Rattle.check_items.specs.Halting.{TellsAt};
 ghost use Rattle.check_expressions.specs.Seen.{seen};
 ghost use Rattle.check_expressions.specs.Sites.{HoldsDeclared};
-ghost use Rattle.static_types.specs.Telling.{Anything};
+ghost use Rattle.type_check.specs.Loops.{loops_of};
 
 use crate::statements::block;
 use crate::variables::{bind, know};
 use check_expressions::{Declared, Scope, Site, held_by, rights_declared};
 use check_items::Halt;
+use check_rules::LoopShape;
+use plain_values::Sequence;
 use program_tables::{Tables, copy_name};
 use regent_tree::{Clause, ItemKind, Known, Name, Param, Task, Term};
 use static_types::{Among, number_at, place_in, type_said};
@@ -95,20 +99,29 @@ fn body_scope(alloc: Global, declared: &Declared, task: &Task) -> Result<Scope, 
 }
 
 /// Checks the body of a task at its site.
-fn body_at(site: &Site) -> Result<(), Halt>
+fn body_at(site: &Site, found: &mut Sequence<LoopShape>) -> Result<(), Halt>
     requires stands { StandsIn (tree_of site.now.declared.now) (task_of site.now.task.now) }
     requires held { HoldsDeclared site.now }
-    ensures { TellsAt Anything result (first_in_block (tree_of site.now.declared.now) (task_of site.now.task.now)
+    ensures { TellsAt (λ _. found.new ≡ found.old ++ loops_of (tree_of site.now.declared.now) (visits_in (tree_of site.now.declared.now)
+        (task_of site.now.task.now) (body_scope (tree_of site.now.declared.now) (task_of site.now.task.now)) (task_of site.now.task.now).body)) result
+        (first_in_block (tree_of site.now.declared.now) (task_of site.now.task.now)
         (body_scope (tree_of site.now.declared.now) (task_of site.now.task.now)) (task_of site.now.task.now).body) }
 {
     let mut scope = body_scope(site.alloc, site.declared, site.task)?;
-    block(site, &mut scope, site.task.body.as_slice())
+    block(site, &mut scope, found, site.task.body.as_slice())
 }
 
 /// Checks the body of a task of the program.
-fn check_body(alloc: Global, declared: &Declared, task: &Task) -> Result<(), Halt>
+fn check_body(
+    alloc: Global,
+    declared: &Declared,
+    found: &mut Sequence<LoopShape>,
+    task: &Task,
+) -> Result<(), Halt>
     requires { StandsIn (tree_of declared.now) (task_of task.now) }
-    ensures { TellsAt Anything result (first_in_block (tree_of declared.now) (task_of task.now)
+    ensures { TellsAt (λ _. found.new ≡ found.old ++ loops_of (tree_of declared.now) (visits_in (tree_of declared.now) (task_of task.now)
+        (body_scope (tree_of declared.now) (task_of task.now)) (task_of task.now).body)) result
+        (first_in_block (tree_of declared.now) (task_of task.now)
         (body_scope (tree_of declared.now) (task_of task.now)) (task_of task.now).body) }
 {
     let types = declared.param_types(alloc, task)?;
@@ -119,18 +132,20 @@ fn check_body(alloc: Global, declared: &Declared, task: &Task) -> Result<(), Hal
         task,
         held: held_by(alloc, &rights)?,
     };
-    body_at(&site)
+    body_at(&site, found)
 }
 
-/// Checks the bodies of all tasks.
-pub fn check_bodies(alloc: Global, declared: &Declared) -> Result<(), Halt>
-    ensures { TellsAt Anything result (first_in (λ (i : ItemTree). first_in_body (tree_of declared.now) i.form) (tree_of declared.now)) }
+/// Checks the bodies of all tasks, and finds the shapes of their loops.
+pub fn check_bodies(alloc: Global, declared: &Declared) -> Result<Sequence<LoopShape>, Halt>
+    ensures { TellsAt (λ found. found ≡ loops (tree_of declared.now)) result
+        (first_in (λ (i : ItemTree). first_in_body (tree_of declared.now) i.form) (tree_of declared.now)) }
 {
+    let mut found = Sequence::new(alloc);
     let program = declared.tables().program();
     for item in &program.items {
         if let ItemKind::Task(task) = &item.what {
-            check_body(alloc, declared, task)?;
+            check_body(alloc, declared, &mut found, task)?;
         }
     }
-    Ok(())
+    Ok(found)
 }

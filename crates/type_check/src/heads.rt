@@ -6,6 +6,7 @@ ghost use Rattle.regent_tree.specs.PlainProgram.{arms_in};
 ghost use Rattle.regent_tree.specs.Typing.{taken_from};
 ghost use Rattle.check_rules.specs.first.FirstInExpressions.{first_in_expression, first_of_standing};
 ghost use Rattle.check_rules.specs.types.KnownTypes.{known_type};
+ghost use Rattle.check_rules.specs.types.Sorts.{is_space, may_be};
 ghost use Rattle.check_rules.specs.types.Parts.{tests_of};
 ghost use Rattle.check_rules.specs.first.Rules.{first_in};
 ghost use Rattle.check_rules.specs.rules.Standing.{stands, truth_spot};
@@ -14,9 +15,9 @@ ghost use Rattle.check_expressions.specs.Seen.{seen};
 ghost use Rattle.check_expressions.specs.Sites.{HoldsDeclared, task_at, tree_at};
 ghost use Rattle.static_types.specs.Telling.{Anything, Tells};
 ghost use Rattle.type_check.specs.Heads.{first_of_bounds, first_of_domain, first_of_test, first_of_tests};
+ghost use Rattle.type_check.specs.Loops.{head_between, head_over};
 
 use check_expressions::{Scope, Site, expression, spots};
-use check_rules::Rule;
 use plain_values::Sequence;
 use regent_tree::{Arm, Expr, StaticType};
 use static_types::{Stop, arithmetic_type, is_integer};
@@ -93,16 +94,36 @@ fn taken_from(alloc: Global, t: StaticType) -> Result<StaticType, AllocError>
     }
 }
 
-/// The head of a loop over a region or an index space: the type of its variable.
-pub fn domain(site: &Site, scope: &Scope, demanded: bool, e: &Expr) -> Result<StaticType, Stop>
+/// What the head of a loop says: whether an index launch is demanded, the type of its variable, and whether
+/// it is over an index space.
+#[derive(Drop)]
+pub struct LoopHead {
+    pub demanded: bool,
+    pub taken: StaticType,
+    pub over_space: bool,
+}
+
+/// Whether a loop over a thing of a type is over an index space: what isn't known is taken for one.
+fn may_be_space(t: &StaticType) -> bool
+    ensures { result ≡ may_be is_space t.now }
+{
+    matches!(t, StaticType::Unknown | StaticType::Ispace(_))
+}
+
+/// The head of a loop over a region or an index space.
+pub fn domain(site: &Site, scope: &Scope, demanded: bool, e: &Expr) -> Result<LoopHead, Stop>
     requires { HoldsDeclared site.now }
-    ensures { Tells (λ u. u ≡ taken_from (known_type (tree_at site.now) (seen scope.now) (expression_of e.now))) result
-        (first_of_domain (tree_at site.now) (task_at site.now) (seen scope.now) demanded (expression_of e.now)) }
+    ensures { Tells (λ h. h ≡ head_over (tree_at site.now) (seen scope.now) demanded (expression_of e.now)) result
+        (first_of_domain (tree_at site.now) (task_at site.now) (seen scope.now) (expression_of e.now)) }
 {
     let t = expression(site, scope, e)?;
     spots::domain(&t)?;
-    Stop::at(demanded, Rule::NotLaunch)?;
-    Ok(taken_from(site.alloc, t)?)
+    let over_space = may_be_space(&t);
+    Ok(LoopHead {
+        demanded,
+        taken: taken_from(site.alloc, t)?,
+        over_space,
+    })
 }
 
 /// The type of the variable of a loop between two bounds.
@@ -116,24 +137,25 @@ fn counted_type(from: StaticType, to: StaticType) -> StaticType
     }
 }
 
-/// The head of a loop between two bounds: the type of its variable.
+/// The head of a loop between two bounds.
 pub fn bounds(
     site: &Site,
     scope: &Scope,
     demanded: bool,
     from: &Expr,
     to: &Expr,
-) -> Result<StaticType, Stop>
+) -> Result<LoopHead, Stop>
     requires { HoldsDeclared site.now }
-    ensures { Tells (λ u. u ≡ counted_type (known_type (tree_at site.now) (seen scope.now) (expression_of from.now))
-        (known_type (tree_at site.now) (seen scope.now) (expression_of to.now))) result
-        (first_of_bounds (tree_at site.now) (task_at site.now) (seen scope.now) demanded
-        (expression_of from.now) (expression_of to.now)) }
+    ensures { Tells (λ h. h ≡ head_between (tree_at site.now) (seen scope.now) demanded (expression_of from.now) (expression_of to.now)) result
+        (first_of_bounds (tree_at site.now) (task_at site.now) (seen scope.now) (expression_of from.now) (expression_of to.now)) }
 {
     let first = expression(site, scope, from)?;
     let last = expression(site, scope, to)?;
     spots::integer(&first)?;
     spots::integer(&last)?;
-    Stop::at(demanded, Rule::NotLaunch)?;
-    Ok(counted_type(first, last))
+    Ok(LoopHead {
+        demanded,
+        taken: counted_type(first, last),
+        over_space: false,
+    })
 }

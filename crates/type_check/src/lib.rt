@@ -7,6 +7,7 @@ ghost use Rattle.regent_tree.specs.PlainProgram.{tree_of};
 ghost use Rattle.check_rules.specs.Acceptance.{input_widths};
 ghost use Rattle.check_rules.specs.Breaches.{breaches};
 ghost use Rattle.check_rules.specs.first.FirstInItems.{first_breach};
+ghost use Rattle.check_rules.specs.launches.Shapes.{loops};
 ghost use Rattle.check_items.specs.Halting.{TellsAt};
 ghost use Rattle.type_check.specs.Items.{first_in_items};
 ghost use Rattle.type_check.specs.Refusals.{Refuses};
@@ -20,6 +21,7 @@ mod forms;
 mod heads;
 mod initializers;
 mod lines;
+mod loops;
 mod named;
 mod partition_initializers;
 mod statements;
@@ -30,7 +32,9 @@ use check_expressions::Declared;
 pub use check_fault::CheckFault;
 use check_items::{Halt, check_declarations, check_entry, check_names, input_widths};
 pub use check_rules::Accepted;
+use check_rules::LoopShape;
 use lane_kernels::Width;
+use plain_values::Sequence;
 use program_tables::Tables;
 use regent_tree::Program;
 use std::alloc::Global;
@@ -47,18 +51,25 @@ fn items_checked(alloc: Global, tables: &Tables) -> Result<Vec<Width>, Halt>
     Ok(input_widths(alloc, tables)?)
 }
 
-/// The first breach of a program, or the widths of its inputs: the items, and then the bodies of the
+/// What is found in a program: the widths of its inputs, and the shapes of its loops.
+#[derive(Drop)]
+struct Findings {
+    inputs: Vec<Width>,
+    loops: Sequence<LoopShape>,
+}
+
+/// The first breach of a program, or what is found in it: the items, and then the bodies of the
 /// tasks.
 #[tactic(auto, using(check_rules::proofs::Written::all_is_sound))]
-fn checked(alloc: Global, program: &Program) -> Result<Vec<Width>, Halt>
-    ensures { TellsAt (λ ws. ws.items ≡ input_widths (tree_of program.now)) result
+fn checked(alloc: Global, program: &Program) -> Result<Findings, Halt>
+    ensures { TellsAt (λ found. (found.inputs.items ≡ input_widths (tree_of program.now)) × (found.loops ≡ loops (tree_of program.now))) result
         (first_breach (tree_of program.now)) }
 {
     let tables = Tables::new(alloc, program)?;
     let inputs = items_checked(alloc, &tables)?;
     let declared = Declared::new(tables);
-    check_bodies(alloc, &declared)?;
-    Ok(inputs)
+    let loops = check_bodies(alloc, &declared)?;
+    Ok(Findings { inputs, loops })
 }
 
 /// Whether a program keeps the rules.
@@ -75,7 +86,7 @@ pub fn check(alloc: Global, program: Program) -> Result<Accepted, CheckFault>
     ensures refused { IfErr result (Refuses program) }
 {
     match checked(alloc, &program) {
-        Ok(inputs) => Ok(Accepted::new(program, inputs)),
+        Ok(found) => Ok(Accepted::new(program, found.inputs, found.loops)),
         Err(Halt::Breach { rule, line }) => Err(CheckFault::Refused {
             program,
             rule: rule.number(),

@@ -1,37 +1,50 @@
 //! Statements, one after the other, and the blocks in them.
 
 ghost use Rattle.std.specs.Option.{option_or};
-ghost use Rattle.std.specs.Prelude.{◌≡◌, false, true};
+ghost use Rattle.std.specs.Prelude.{◌≡◌, ◌++◌, ◌∷◌, false, true};
 ghost use Rattle.regent_tree.specs.PlainProgram.{arms_in, block_in, form_of, otherwise_in};
 ghost use Rattle.regent_tree.specs.Scopes.{past, with_name};
-ghost use Rattle.check_rules.specs.first.FirstInStatements.{first_in_arms, first_in_block, first_in_else, first_of_form, first_within, told_on};
-ghost use Rattle.check_rules.specs.scopes.Variables.{known_scope_after, known_scope_after_arms, known_scope_after_block, known_scope_after_else};
+ghost use Rattle.check_rules.specs.first.FirstInStatements.{first_in_arms, first_in_block, first_of_form, told_on};
+ghost use Rattle.check_rules.specs.scopes.Variables.{known_scope_after, known_scope_after_arms, known_scope_after_block};
+ghost use Rattle.check_rules.specs.scopes.Visits.{visits_in, visits_in_arms};
 ghost use Rattle.check_items.specs.Halting.{TellsAt};
 ghost use Rattle.check_expressions.specs.Seen.{seen};
 ghost use Rattle.check_expressions.specs.Sites.{HoldsDeclared, task_at, tree_at};
 ghost use Rattle.static_types.specs.Telling.{Tells};
 ghost use Rattle.type_check.specs.Heads.{has_block};
+ghost use Rattle.type_check.specs.Loops.{first_of_shape, first_of_statement, loops_of, shape_in, visits_of};
 
 use crate::assignments::assign;
 use crate::forms::{call_alone, fill, print, return_any};
-use crate::heads::{bounds, domain, test, tests};
+use crate::heads::{LoopHead, bounds, domain, test, tests};
 use crate::lines::on_line;
+use crate::loops::{demand, shape_of};
 use crate::variables::variable;
 use check_expressions::{Scope, Site};
 use check_items::Halt;
+use check_rules::LoopShape;
+use index_launch::LaunchShape;
+use plain_values::Sequence;
 use program_tables::copy_name;
-use regent_tree::{Arm, Name, StaticType, Stmt, What};
+use regent_tree::{Arm, Name, Stmt, What};
 use static_types::Stop;
 
-/// Checks statements, from the first on.
+/// Checks statements, from the first on. The shapes of their loops are added to those that were found, in the
+/// order of the text.
 #[cycle(statement)]
-pub fn block(site: &Site, scope: &mut Scope, body: &[Stmt]) -> Result<(), Halt>
+pub fn block(
+    site: &Site,
+    scope: &mut Scope,
+    found: &mut Sequence<LoopShape>,
+    body: &[Stmt],
+) -> Result<(), Halt>
     requires { HoldsDeclared site.now }
-    ensures { TellsAt (λ _. seen scope.new ≡ known_scope_after_block (tree_at site.now) (seen scope.old) (block_in body.now)) result
+    ensures { TellsAt (λ _. (seen scope.new ≡ known_scope_after_block (tree_at site.now) (seen scope.old) (block_in body.now))
+        × (found.new ≡ found.old ++ loops_of (tree_at site.now) (visits_in (tree_at site.now) (task_at site.now) (seen scope.old) (block_in body.now)))) result
         (first_in_block (tree_at site.now) (task_at site.now) (seen scope.old) (block_in body.now)) }
 {
     for stmt in body {
-        statement(site, scope, stmt)?;
+        statement(site, scope, found, stmt)?;
     }
     Ok(())
 }
@@ -74,25 +87,30 @@ fn without_block(site: &Site, scope: &mut Scope, what: &What) -> Result<(), Stop
 
 /// A statement, with the blocks in it.
 #[cycle(statement)]
-fn statement(site: &Site, scope: &mut Scope, stmt: &Stmt) -> Result<(), Halt>
+fn statement(
+    site: &Site,
+    scope: &mut Scope,
+    found: &mut Sequence<LoopShape>,
+    stmt: &Stmt,
+) -> Result<(), Halt>
     requires { HoldsDeclared site.now }
-    ensures { TellsAt (λ _. seen scope.new ≡ known_scope_after (tree_at site.now) (seen scope.old) (form_of stmt.now.what)) result
-        (option_or (told_on stmt.now.line (first_of_form (tree_at site.now) (task_at site.now) (seen scope.old) (form_of stmt.now.what)))
-        (first_within (tree_at site.now) (task_at site.now) (seen scope.old) (form_of stmt.now.what))) }
+    ensures { TellsAt (λ _. (seen scope.new ≡ known_scope_after (tree_at site.now) (seen scope.old) (form_of stmt.now.what))
+        × (found.new ≡ found.old ++ loops_of (tree_at site.now) (visits_of (tree_at site.now) (task_at site.now) (seen scope.old) stmt.now))) result
+        (first_of_statement (tree_at site.now) (task_at site.now) (seen scope.old) stmt.now) }
 {
     let line = stmt.line;
     match &stmt.what {
         What::If { arms, other } => {
             on_line(line, tests(site, scope, arms.as_slice()))?;
-            arm_blocks(site, scope, arms.as_slice())?;
+            arm_blocks(site, scope, found, arms.as_slice())?;
             match other {
-                Some(body) => nested(site, scope, body.as_slice()),
+                Some(body) => nested(site, scope, found, body.as_slice()),
                 None => Ok(()),
             }
         }
         What::While { test: e, body } => {
             on_line(line, test(site, scope, e))?;
-            nested(site, scope, body.as_slice())
+            nested(site, scope, found, body.as_slice())
         }
         What::ForIn {
             demanded,
@@ -100,8 +118,8 @@ fn statement(site: &Site, scope: &mut Scope, stmt: &Stmt) -> Result<(), Halt>
             domain: e,
             body,
         } => {
-            let taken = on_line(line, domain(site, scope, *demanded, e))?;
-            loop_body(site, scope, name, taken, body.as_slice())
+            let head = on_line(line, domain(site, scope, *demanded, e))?;
+            check_loop(site, scope, found, line, head, name, body.as_slice())
         }
         What::ForTo {
             demanded,
@@ -110,59 +128,105 @@ fn statement(site: &Site, scope: &mut Scope, stmt: &Stmt) -> Result<(), Halt>
             to,
             body,
         } => {
-            let counted = on_line(line, bounds(site, scope, *demanded, from, to))?;
-            loop_body(site, scope, name, counted, body.as_slice())
+            let head = on_line(line, bounds(site, scope, *demanded, from, to))?;
+            check_loop(site, scope, found, line, head, name, body.as_slice())
         }
-        What::Do { body } => nested(site, scope, body.as_slice()),
+        What::Do { body } => nested(site, scope, found, body.as_slice()),
         what => on_line(line, without_block(site, scope, what)),
     }
 }
 
 /// The blocks of the tests of an `if`.
 #[cycle(statement)]
-fn arm_blocks(site: &Site, scope: &mut Scope, arms: &[Arm]) -> Result<(), Halt>
+fn arm_blocks(
+    site: &Site,
+    scope: &mut Scope,
+    found: &mut Sequence<LoopShape>,
+    arms: &[Arm],
+) -> Result<(), Halt>
     requires { HoldsDeclared site.now }
-    ensures { TellsAt (λ _. seen scope.new ≡ known_scope_after_arms (tree_at site.now) (seen scope.old) (arms_in arms.now)) result
+    ensures { TellsAt (λ _. (seen scope.new ≡ known_scope_after_arms (tree_at site.now) (seen scope.old) (arms_in arms.now))
+        × (found.new ≡ found.old ++ loops_of (tree_at site.now) (visits_in_arms (tree_at site.now) (task_at site.now) (seen scope.old) (arms_in arms.now)))) result
         (first_in_arms (tree_at site.now) (task_at site.now) (seen scope.old) (arms_in arms.now)) }
 {
     for arm in arms {
-        nested(site, scope, arm.body.as_slice())?;
+        nested(site, scope, found, arm.body.as_slice())?;
     }
     Ok(())
 }
 
 /// A block within a block: its names end with it.
 #[cycle(statement)]
-fn nested(site: &Site, scope: &mut Scope, body: &[Stmt]) -> Result<(), Halt>
+fn nested(
+    site: &Site,
+    scope: &mut Scope,
+    found: &mut Sequence<LoopShape>,
+    body: &[Stmt],
+) -> Result<(), Halt>
     requires { HoldsDeclared site.now }
-    ensures { TellsAt (λ _. seen scope.new ≡ past (seen scope.old)
-        (known_scope_after_block (tree_at site.now) (seen scope.old) (block_in body.now))) result
+    ensures { TellsAt (λ _. (seen scope.new ≡ past (seen scope.old)
+        (known_scope_after_block (tree_at site.now) (seen scope.old) (block_in body.now)))
+        × (found.new ≡ found.old ++ loops_of (tree_at site.now) (visits_in (tree_at site.now) (task_at site.now) (seen scope.old) (block_in body.now)))) result
         (first_in_block (tree_at site.now) (task_at site.now) (seen scope.old) (block_in body.now)) }
 {
     let len = scope.names().len();
-    block(site, scope, body)?;
+    block(site, scope, found, body)?;
     scope.leave(len);
     Ok(())
 }
 
-/// The block of a loop, with the loop's variable.
+/// The block of a loop in the loop's own scope, whose names stay, and behind it the loop's shape.
 #[cycle(statement)]
-fn loop_body(
+fn loop_block(
     site: &Site,
     scope: &mut Scope,
+    found: &mut Sequence<LoopShape>,
+    line: u32,
     name: &Name,
-    taken: StaticType,
+    over_space: bool,
+    body: &[Stmt],
+) -> Result<LaunchShape, Halt>
+    requires { HoldsDeclared site.now }
+    ensures { TellsAt (λ shape. (seen scope.new ≡ known_scope_after_block (tree_at site.now) (seen scope.old) (block_in body.now))
+        × (found.new ≡ found.old ++ loops_of (tree_at site.now) (visits_in (tree_at site.now) (task_at site.now) (seen scope.old) (block_in body.now)))
+        × (shape ≡ shape_in (tree_at site.now) (seen scope.old) name.now over_space (block_in body.now))) result
+        (first_in_block (tree_at site.now) (task_at site.now) (seen scope.old) (block_in body.now)) }
+{
+    block(site, scope, found, body)?;
+    on_line(line, shape_of(site, scope, name, over_space, body))
+}
+
+/// A loop behind its head: its block, with the loop's variable, and then the demand on it.
+#[cycle(statement)]
+fn check_loop(
+    site: &Site,
+    scope: &mut Scope,
+    found: &mut Sequence<LoopShape>,
+    line: u32,
+    head: LoopHead,
+    name: &Name,
     body: &[Stmt],
 ) -> Result<(), Halt>
     requires { HoldsDeclared site.now }
-    ensures { TellsAt (λ _. seen scope.new ≡ past (seen scope.old)
-        (known_scope_after_block (tree_at site.now) (with_name (seen scope.old) name.now taken true) (block_in body.now))) result
-        (first_in_block (tree_at site.now) (task_at site.now) (with_name (seen scope.old) name.now taken true) (block_in body.now)) }
+    ensures { let tree = tree_at site.now in
+        let own = with_name (seen scope.old) name.now head.taken true in
+        let shape = shape_in tree own name.now head.over_space (block_in body.now) in
+        TellsAt (λ _. (seen scope.new ≡ past (seen scope.old) (known_scope_after_block tree own (block_in body.now)))
+        × (found.new ≡ found.old ++ record { line = line; shape = shape } ∷ loops_of tree (visits_in tree (task_at site.now) own (block_in body.now)))) result
+        (option_or (first_in_block tree (task_at site.now) own (block_in body.now)) (told_on line (first_of_shape head.demanded shape))) }
 {
     let outer = scope.names().len();
-    let name = copy_name(site.alloc, name)?;
-    scope.bind(name, taken, true)?;
-    block(site, scope, body)?;
+    let place = found.len();
+    let name_bound = copy_name(site.alloc, name)?;
+    scope.bind(name_bound, head.taken, true)?;
+    // The loop stands before those in its block, and its shape is known behind them.
+    found.push(LoopShape {
+        line,
+        shape: LaunchShape::Launch,
+    })?;
+    let shape = loop_block(site, scope, found, line, name, head.over_space, body)?;
+    on_line(line, demand(head.demanded, shape))?;
+    found.set(place, LoopShape { line, shape });
     scope.leave(outer);
     Ok(())
 }
