@@ -4,9 +4,13 @@ use Rattle.code_laws.proofs.States.{stored}
 use Rattle.code_laws.proofs.Prints.{pushed_all}
 use Rattle.code_laws.proofs.Results.{results_run}
 use Rattle.code_laws.proofs.Calling.{HasResult, calls_run, pending}
-use Rattle.code_laws.proofs.Handing.{AreGivenBy, IsGivenBy, arguments_keep_names, call_takes, handed_run, value_stays}
+use Rattle.code_laws.proofs.Handing.{AreGivenBy, IndexRuns, IsGivenBy, Stays, arguments_keep_names, handed_run, part_passed, value_stays}
+use Rattle.code_laws.proofs.CallTakes.{call_takes}
+use Rattle.code_laws.proofs.Cuts.{colours_run}
+use Rattle.code_laws.proofs.Pointing.{named_pointed}
+use Rattle.code_laws.specs.Arguments.{IsCutName}
 use Rattle.code_laws.proofs.Operations.{alike_right, and_runs, converted_runs, fetch_small, named_runs, or_runs, space_runs, truth_of_type}
-use Rattle.code_laws.proofs.Arguments.{given_either}
+use Rattle.code_laws.proofs.Arguments.{given_by}
 use Rattle.code_laws.proofs.Accesses.{access_reads}
 use Rattle.code_laws.proofs.Behind.{behind_reads}
 use Rattle.code_laws.proofs.Comparing.{compared_runs, left_fits, operand_runs, right_fits}
@@ -15,7 +19,7 @@ use Rattle.code_laws.proofs.PointerValues.{cast_runs, element_runs, null_runs}
 use Rattle.code_laws.proofs.Counting.{counted_runs, number_runs, stands_runs}
 use Rattle.code_laws.proofs.Wider.{any_field, compared, converting, counting, signed_as}
 use Rattle.regent_tree.proofs.Laws.{expressions_keep_names}
-use Rattle.std.proofs.Common.{◌≡◌, ℕ, suc, ◌<◌, ◌≤◌, negsuc, List, [], ◌∷◌, false, inl, inr, refl, sym, ap, subst, arith}
+use Rattle.std.proofs.Common.{◌≡◌, ℕ, suc, ◌<◌, ◌≤◌, negsuc, List, [], ◌∷◌, false, inl, inr, refl, sym, ap, subst, arith, ⊎_elim}
 use Rattle.std.specs.Prelude.{get_or, length}
 use Rattle.regent_tree.specs.declared.expression.Operator.TheVariants.{Or, And, Compare, Compute}
 use Rattle.regent_tree.specs.declared.typing.StaticType.{StaticType}
@@ -39,7 +43,7 @@ use Rattle.code_laws.specs.Steps.{Leads, Setting, placed}
 use Rattle.code_laws.specs.Standing.{Comes, Stands, machine_value, IsInside, IsOf, of_integer, of_pointer, of_truth, nothing, Aside, SlotsFit, where_of, Agrees}
 use Rattle.code_laws.specs.Simple.{AreAlike}
 use Rattle.regent_tree.specs.StaticTypes.{task_named}
-use Rattle.code_laws.specs.Typed.{ArePassed, IsTyped, AreTypedLinks, element_field}
+use Rattle.code_laws.specs.Typed.{ArePassed, IsIndexed, IsTyped, AreTypedLinks, element_field}
 use Rattle.code_laws.proofs.Runs.{comes_on, leads_none, then, then_led, comes_said}
 use Rattle.code_laws.proofs.Good.{valued, Good, Gives, pushes}
 use Rattle.code_laws.proofs.Values.{past_later, named, scalar_simple, simple_inside}
@@ -104,7 +108,13 @@ module _ (x : Setting) (params slots : ℕ) (fit : SlotsFit x slots) (aside : As
         let r = results_run x params slots fit aside h t d j.frame.children v s2 (suc a) h.line st j2 low fine.1 o k2.0 k2.1 f.1.1.0 f.1.1.1 in
         (stored (spare w d) (machine_value j2.contents v) j2, r.0, (o, r.1))))
     value_runs h d low (access_expr n (field_step name no_step)) s pc st i fine g f =
-        behind_reads x params slots fit aside h d n name _ s pc st i fine.1 fine.2 g f
+        ⊎_elim
+        (λ behind. behind_reads x params slots fit aside h d n name _ s pc st i behind.0 behind.1 g f)
+        (λ (cut : IsCutName (where_of params h) n).
+        let b = bound_to h.scope.names n in
+        let m = named IsOf h.scope.names s.names n g.typed cut.named in
+        colours_run x params slots fit aside h d b.static_type b.place (get_or s.names b.place nothing) name s pc st i cut.partition m.holding
+        (named_pointed h.scope.next h.scope.names s.names n cut.numbers g.pointed cut.named) refl (omega (arith, m.below, g.count)) g f) fine.1
     value_runs h d low (access_expr n (field_step _ (field_step _ _))) s pc st i fine g f = absurd fine
     value_runs h d low (access_expr n (field_step _ (at_step _ _))) s pc st i fine g f = absurd fine
     value_runs h d low (access_expr n (at_step e (field_step name no_step))) s pc st i fine g f =
@@ -144,6 +154,25 @@ module _ (x : Setting) (params slots : ℕ) (fit : SlotsFit x slots) (aside : As
         then x (comes_said x _ _) _ _ _ (value h e s) _ (value_runs h d low e s pc st i fine.0 g f.0)
         (λ v s1 j k1. space_runs x params slots fit aside h k (typed w e) v s1 _ st j fine.1 k1.0 k1.1 f.1)
 
+    -- what stands for the colour of a part
+    indexed_runs : (h : Here) (d : ℕ) → params ≤ length h.scope.names → (e : Expression) (s : State) (st : List MachineValue) (i : Instance) →
+        IsIndexed x.forms (where_of params h) e → Agrees x params slots aside h s i → IndexRuns x params slots fit aside h d e s st i
+    indexed_runs h d low (access_expr n (at_step e no_step)) s st i fine g = (λ pc f. value_runs h d low e s pc st i fine.0 g f, fine.1)
+    indexed_runs h d low (access_expr n no_step) s st i fine g = absurd fine
+    indexed_runs h d low (access_expr n (field_step _ _)) s st i fine g = absurd fine
+    indexed_runs h d low (access_expr n (at_step _ (field_step _ _))) s st i fine g = absurd fine
+    indexed_runs h d low (access_expr n (at_step _ (at_step _ _))) s st i fine g = absurd fine
+    indexed_runs h d low (number_expr _ _) s st i fine g = absurd fine
+    indexed_runs h d low (truth_expr _) s st i fine g = absurd fine
+    indexed_runs h d low (chain_expr _ _) s st i fine g = absurd fine
+    indexed_runs h d low (prefix_expr _ _) s st i fine g = absurd fine
+    indexed_runs h d low (call_expr _ _) s st i fine g = absurd fine
+    indexed_runs h d low (convert_expr _ _) s st i fine g = absurd fine
+    indexed_runs h d low (is_null_expr _) s st i fine g = absurd fine
+    indexed_runs h d low (null_expr _) s st i fine g = absurd fine
+    indexed_runs h d low (cast_expr _ _) s st i fine g = absurd fine
+    indexed_runs h d low (space_expr _ _) s st i fine g = absurd fine
+
     -- arguments in a row on the stack
     pub args_run : (h : Here) (d : ℕ) → params ≤ length h.scope.names → (ts ps : List StaticType) (args : Expressions)
         (s : State) (pc : ℕ) (st : List MachineValue) (i : Instance) → ArePassed x.forms (where_of params h) ts ps args →
@@ -158,26 +187,30 @@ module _ (x : Setting) (params slots : ℕ) (fit : SlotsFit x slots) (aside : As
         let done = past (exprs_code w d (t ∷ ts) (an_expr e es)) pc in
         let shape : List Value → Instance → Instance = λ vs j. placed done (pushed_all j.contents vs st) j in
         let said = comes_said x shape (AreGiven h (p ∷ ps) (an_expr e es)) in
-        let rest : (u : Value) (s2 : State) (j2 : Instance) (b : StaticType) → IsGivenBy x params slots fit aside h p e u s2.names →
-        IsOf b u → IsInside x s2.store b u → Agrees x params slots aside h s2 j2 →
+        let rest : (u : Value) (s2 : State) (j2 : Instance) → IsGivenBy x params slots fit aside h p e u s2.names →
+        Stays x params slots fit aside h s2 j2 u → Agrees x params slots aside h s2 j2 →
         Comes x (valued a st u j2) shape (AreGiven h (p ∷ ps) (an_expr e es)) (and_then (values h ts es s2) (λ us. given (u ∷ us))) =
-        λ u s2 j2 b is o inside g2. then_led x said SameNames _ _ (valued a st u j2) s2 (values h ts es s2) _ (arguments_keep_names h ts es s2)
+        λ u s2 j2 is stays g2. then_led x said SameNames _ _ (valued a st u j2) s2 (values h ts es s2) _ (arguments_keep_names h ts es s2)
         (args_run h d low ts ps es s2 a (machine_value j2.contents u ∷ st) j2 fine.1 g2 f.1.1)
         (λ us s3 j3 names led k. (
           j3,
           subst (λ m. Leads x (placed done (pushed_all j3.contents us (machine_value j2.contents u ∷ st)) j3) (placed done (pushed_all j3.contents us (m ∷ st)) j3))
-              (value_stays x params slots fit aside h s2 s3 j2 j3 g2 k.2 led.own b u o inside) (leads_none x _),
+              (stays s3 j3 k.2 led.own) (leads_none x _),
           ((subst (IsGivenBy x params slots fit aside h p e u) (sym names) is, k.0), ap suc k.1, k.2),
         )) in
-        given_either x.forms.takes w t p e (IsTyped x.forms w e) (Comes x (placed pc st i) shape (AreGiven h (p ∷ ps) (an_expr e es)) (values h (t ∷ ts) (an_expr e es) s))
+        given_by x.forms.keeps x.forms.takes w t p e (IsTyped x.forms w e) (IsIndexed x.forms w e) (Comes x (placed pc st i) shape (AreGiven h (p ∷ ps) (an_expr e es)) (values h (t ∷ ts) (an_expr e es) s))
         (λ alike same typed_e. then x said _ _ _ (value h e s) _ (value_runs h d low e s pc st i typed_e g f.0)
         (λ v s1 j k. then x said (valued a st) (Good x params slots fit aside h t) _ (converted h (typed w e) t [] v s1) _
         (converted_runs x params slots fit aside h (typed w e) t [] v s1 _ st j alike k.0 k.1 f.1.0)
-        (λ u s2 j2 k2. rest u s2 j2 t
+        (λ u s2 j2 k2. rest u s2 j2
         (inl (subst (λ q. AreAlike (typed w e) q × IsOf q u) same (alike, k2.0)))
-        k2.0 (simple_inside x s2.store t u (scalar_simple t (alike_right x params slots fit aside (typed w e) t alike))) k2.1)))
+        (value_stays x params slots fit aside h s2 j2 k2.1 t u k2.0
+        (simple_inside x s2.store t u (scalar_simple t (alike_right x params slots fit aside (typed w e) t alike)))) k2.1)))
         (λ y takes handed. handed_run x params slots fit aside said h d y t p e s pc st i _ takes handed g f.0
-        (λ v b j is o inside g2. rest v s j b (inr is) o inside g2)) fine.0
+        (λ v j is stays g2. rest v s j (inr (inl is)) stays g2))
+        (λ part. part_passed x params slots fit aside said h d t p e (IsIndexed x.forms w e) s pc st i _ part g
+        (indexed_runs h d low e s st i part.part g) f.0
+        (λ v s2 j is stays g2. rest v s2 j (inr (inr is)) stays g2)) fine.0
     args_run h d low _ _ _ s pc st i fine g f = absurd fine
 
     pub linked_runs : (h : Here) (d : ℕ) → params ≤ length h.scope.names →

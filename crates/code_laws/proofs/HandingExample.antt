@@ -32,7 +32,7 @@ main_typed = (
     (
       refl,
       (refl, ((refl, a_region_type _ _ _ _, omega arith, λ low. absurd (omega (arith, low))), ((refl, a_region_type _ _ _ _, omega arith, λ low. absurd (omega (arith, low))), tt)), ((refl, refl, a_region_type _ _ _ _, a_region_type _ _ _ _, inl refl), tt)),
-      (inr (refl, refl, two_regions _ _ _ _ _ _ _), (inr (refl, refl, two_regions _ _ _ _ _ _ _), (inl (two_integers _ _, refl, omega (arith, ints)), tt))),
+      (inr (inl (refl, refl, two_regions _ _ _ _ _ _ _)), (inr (inl (refl, refl, two_regions _ _ _ _ _ _ _)), (inl (two_integers _ _, refl, omega (arith, ints)), tt))),
     ),
     (
       -- and again, behind a call that takes it
@@ -40,9 +40,9 @@ main_typed = (
         refl,
         (refl, ((refl, a_region_type _ _ _ _, omega arith, λ low. absurd (omega (arith, low))), ((refl, a_region_type _ _ _ _, omega arith, λ low. absurd (omega (arith, low))), tt)), ((refl, refl, a_region_type _ _ _ _, a_region_type _ _ _ _, inl refl), tt)),
         (
-          inr (refl, refl, two_regions _ _ _ _ _ _ _),
+          inr (inl (refl, refl, two_regions _ _ _ _ _ _ _)),
           (
-            inr (refl, refl, two_regions _ _ _ _ _ _ _),
+            inr (inl (refl, refl, two_regions _ _ _ _ _ _ _)),
             (
               inl (
                 two_integers _ _,
@@ -51,7 +51,7 @@ main_typed = (
                   refl,
                   scalar_integer _,
                   (refl, ((refl, a_region_type _ _ _ _, omega arith, λ low. absurd (omega (arith, low))), tt), ((refl, refl, a_region_type _ _ _ _, a_region_type _ _ _ _, inl refl), tt)),
-                  (inr (refl, refl, two_regions _ _ _ _ _ _ _), (inr (refl, refl, two_regions _ _ _ _ _ _ _), tt)),
+                  (inr (inl (refl, refl, two_regions _ _ _ _ _ _ _)), (inr (inl (refl, refl, two_regions _ _ _ _ _ _ _)), tt)),
                 ),
               ),
               tt,
@@ -114,7 +114,7 @@ tasks (suc zero) t e = subst (IsTypedBy true false handing_program) (same_Some _
             ((refl, a_region_type _ _ _ _, omega arith, λ low. refl), tt),
             ((refl, refl, a_region_type _ _ _ _, a_region_type _ _ _ _, inr (omega arith, omega arith, refl)), tt),
           ),
-          (inr (refl, refl, two_regions _ _ _ _ _ _ _), (inr (refl, refl, two_regions _ _ _ _ _ _ _), tt)),
+          (inr (inl (refl, refl, two_regions _ _ _ _ _ _ _)), (inr (inl (refl, refl, two_regions _ _ _ _ _ _ _)), tt)),
         ),
         omega (arith, ints),
         number_integer _,

@@ -1,5 +1,5 @@
--- What is known at a place of a task's body, where each region in it has a name: what the task's head tells of its
--- parameters, and what was made behind them. So what the rules allow may be done.
+-- What is known at a place of a task's body, where each region in it has a name or is a part: what the task's head tells
+-- of its parameters, what was made behind them, and of which regions partitions are. So what the rules allow may be done.
 use Rattle.std.proofs.Common.{◌≡◌, Bool, List, [], ◌∷◌, false, true, refl, ap, sym, subst, ℕ, ◌<◌, ◌≤◌, ◌∙◌, cond, arith, ◌⊎◌, inl, inr, ⊎_elim}
 use Rattle.std.specs.Prelude.{length, ◌&&◌}
 use Rattle.std.specs.List.{Contains}
@@ -7,7 +7,7 @@ use Rattle.std.proofs.lemmas.Bool.{and_parts, not-false, or_parts}
 use Rattle.regent_tree.proofs.Members.{Contains-from_Has, Has, Has-append_cases, Has-from_Contains}
 use Rattle.regent_tree.specs.Accesses.{space_in}
 use Rattle.regent_tree.specs.Lookup.{has_field}
-use Rattle.regent_tree.specs.Scopes.{Scope, bound_as, knowing, known_of_clause, known_of_clauses, known_of_params, past, scope_of, with_name}
+use Rattle.regent_tree.specs.Scopes.{Scope, bound_as, knowing, known_of_clause, known_of_clauses, known_of_params, known_of_type, past, scope_of, with_name}
 use Rattle.regent_tree.specs.StaticTypes.{field_place, place_in}
 use Rattle.regent_tree.specs.Syntax.{Expression, Name, TaskTree, Tree, truth_expr}
 use Rattle.regent_tree.specs.Typing.{reaches_of, type_of_element}
@@ -34,11 +34,11 @@ use Rattle.code_rules.specs.Slots.{Where, bound}
 use Rattle.code_laws.specs.Simple.{IsRegion, a_region_type, term_in}
 use Rattle.code_laws.specs.Typed.{MayGo, MayReach}
 use Rattle.regent_tree.specs.declared.typing.Bound.{Bound}
-use Rattle.regent_tree.specs.declared.typing.StaticType.TheVariants.{Region as region_type}
+use Rattle.regent_tree.specs.declared.typing.StaticType.TheVariants.{Partition as partition_type, Region as region_type}
 use Rattle.code_laws.proofs.LocalValues.{found_among, value_other}
 use Rattle.code_laws.specs.Taking.{MayDo, pairs_in}
 use Rattle.code_laws.proofs.DeclaredNeeds.{none_made, none_within, pair_listed, region_param}
-use Rattle.code_laws.proofs.LocalNames.{AllKept, IsAimed, IsKept, kept_region, kept_scalar, kept_value}
+use Rattle.code_laws.proofs.LocalNames.{AllKept, IsAimed, IsKept, kept_partition, kept_region, kept_scalar, kept_value}
 use Rattle.code_laws.proofs.Privileges.{allowed_is_needed, mode_in}
 use Rattle.code_laws.proofs.LocalTypes.{simple_other}
 use Rattle.code_laws.proofs.Values.{scalar_simple}
@@ -53,11 +53,23 @@ pub record IsPair (tree : Tree) (task : TaskTree) (a b : Term) : Type 0 where
   pub high : upper < length task.params
   pub among : Contains (pairs_in (scope_of tree task).known) (lower, upper)
 
--- At a place of a task's body nothing is known but what its head tells of its parameters, and which regions were made
--- behind them. Names that are bound there are behind them too.
+-- A partition's number isn't used again, and the name that is bound with it, if it is in scope still, has its type.
+pub record IsPartHere (s : Scope) (p r : ℕ) (d : Bool) : Type 0 where
+  pub low : p < s.next
+  pub one : (b : Bound) → Has s.names b → b.number ≡ p → b.static_type ≡ partition_type d r p
+
+abbrev pub IsToldHere : Scope → Known → Type 0
+IsToldHere s (PartOf p r d) = IsPartHere s p r d
+IsToldHere s (Within a b) = Unit {0}
+IsToldHere s (Apart a b) = Unit {0}
+IsToldHere s (Made i) = Unit {0}
+
+-- At a place of a task's body nothing is known but what its head tells of its parameters, which regions were made behind
+-- them, and of which regions partitions are. Names that are bound there are behind them too.
 pub record KnowsHead (tree : Tree) (task : TaskTree) (s : Scope) : Type 0 where
   pub within : (a b : Term) → Contains s.known (Within a b) → IsPair tree task a b
   pub made : (i : ℕ) → Contains s.known (Made i) → length task.params ≤ i
+  pub parts : (k : Known) → Has s.known k → IsToldHere s k
   pub next : length task.params ≤ s.next
 
 abbrev number_in : Term → ℕ
@@ -88,6 +100,7 @@ pub kept_may : (handing keeping : Bool) (tree : Tree) (task : TaskTree) (s : Sco
 kept_may handing keeping tree task s sound h m bs n i t (kept_scalar _ k) r field a e = absurd (simple_other t (scalar_simple t k) r)
 kept_may handing keeping tree task s sound h m bs n i t (kept_value _ k _ _) r field a e = absurd (value_other keeping bs t k r)
 kept_may handing keeping tree task s sound h m bs n i _ (kept_region k sp args _) r field a e = may_touch handing tree task s sound h i field a e
+kept_may handing keeping tree task s sound h m bs n i _ (kept_partition d p keeps among _) r field a e = absurd (elim r [ ])
 
 -- what is wanted of a field of an element is allowed where nothing is told
 pub granted_at : (tree : Tree) (task : TaskTree) (s : Scope) (t : StaticType) (e : Expression) (f : Name) (a : Access) → IsRegion t →
@@ -133,6 +146,12 @@ IsApart (Within a b) = ⊥
 IsApart (Made i) = ⊥
 IsApart (PartOf p r d) = ⊥
 
+abbrev IsPartFact : Known → Type 0
+IsPartFact (PartOf p r d) = Unit {0}
+IsPartFact (Within a b) = ⊥
+IsPartFact (Apart a b) = ⊥
+IsPartFact (Made i) = ⊥
+
 abbrev lower_term : Known → Term
 lower_term (Within a b) = a
 lower_term (Apart a b) = a
@@ -145,9 +164,10 @@ upper_term (Apart a b) = b
 upper_term (Made i) = place.Name i
 upper_term (PartOf p r d) = place.Name r
 
--- where a body begins
-pub head_begins : (tree : Tree) (t : TaskTree) → IsSoundTask tree t → KnowsHead tree t (scope_of tree t)
-head_begins tree t sound = record {
+-- where a body begins, of a task that takes no partitions
+pub head_begins : (tree : Tree) (t : TaskTree) → IsSoundTask tree t → ((b : Bound) → Has (scope_of tree t).names b → known_of_type b.static_type ≡ []) →
+    KnowsHead tree t (scope_of tree t)
+head_begins tree t sound plain = record {
   within = λ a b c. ⊎_elim
       (λ p. let d = known_param (scope_of tree t).names (Within a b) p in absurd (none_within d.0.static_type (Within a b) d.2 a b refl))
       (λ p. let d = known_clause t.params t.clauses (Within a b) p in
@@ -157,9 +177,23 @@ head_begins tree t sound = record {
       (λ p. let d = known_param (scope_of tree t).names (Made i) p in absurd (none_made d.0.static_type (Made i) d.2 i refl))
       (λ p. let d = known_clause t.params t.clauses (Made i) p in absurd (none_told i d.0 d.2))
       (Has-append_cases (known_of_params (scope_of tree t).names) (known_of_clauses t.params t.clauses) (Made i) (Has-from_Contains (scope_of tree t).known (Made i) c));
+  parts = λ k c. ⊎_elim
+      (λ p. let d = known_param (scope_of tree t).names k p in absurd (subst (λ ks. Has ks k) (plain d.0 d.1) d.2))
+      (λ p. let d = known_clause t.params t.clauses k p in by_kind k d.0 d.2)
+      (Has-append_cases (known_of_params (scope_of tree t).names) (known_of_clauses t.params t.clauses) k c);
   next = omega (arith);
 }
   where
+    by_kind : (k : Known) (c : Clause) → Has (known_of_clause t.params c) k → IsToldHere (scope_of tree t) k
+    by_kind (Within a b) c h = tt
+    by_kind (Apart a b) c h = tt
+    by_kind (Made i) c h = tt
+    by_kind (PartOf p r d) (clause.Within a b) (inl same) = absurd (subst IsPartFact (sym same) tt)
+    by_kind (PartOf p r d) (clause.Within a b) (inr g) = absurd g
+    by_kind (PartOf p r d) (clause.Apart a b) (inl same) = absurd (subst IsPartFact (sym same) tt)
+    by_kind (PartOf p r d) (clause.Apart a b) (inr g) = absurd g
+    by_kind (PartOf p r d) (clause.Grants grants places) g = absurd g
+
     none_told : (i : ℕ) (c : Clause) → Has (known_of_clause t.params c) (Made i) → ⊥
     none_told i (clause.Within a b) (inl same) = absurd (subst IsMade (sym same) tt)
     none_told i (clause.Within a b) (inr g) = g
@@ -195,32 +229,91 @@ pub record IsReady (keeping : Bool) (tree : Tree) (task : TaskTree) (m : Marked)
   pub names : AllKept keeping m s.names
   pub head : KnowsHead tree task s
 
+-- a fact that is told at a place is told behind it, where names that came have numbers of their own
+told_behind : (s u : Scope) → s.next ≤ u.next → ((b : Bound) → Has u.names b → Has s.names b ⊎ (b.number ≡ s.next)) → (k : Known) → IsToldHere s k → IsToldHere u k
+told_behind s u less names (Within a b) told = tt
+told_behind s u less names (Apart a b) told = tt
+told_behind s u less names (Made i) told = tt
+told_behind s u less names (PartOf p r d) told =
+    let low = told.low in record {
+      low = omega (arith, low, less);
+      one = λ b h e. ⊎_elim (λ old. told.one b old e) (λ new. absurd (omega (arith, low, new, e))) (names b h);
+    }
+
 -- behind a place nothing more is known but that a region was made there
 pub head_behind : (tree : Tree) (task : TaskTree) (s u : Scope) → KnowsHead tree task s → s.next ≤ u.next →
+    ((b : Bound) → Has u.names b → Has s.names b ⊎ (b.number ≡ s.next)) →
     ((k : Known) → Has u.known k → Has s.known k ⊎ (k ≡ Made s.next)) → KnowsHead tree task u
-head_behind tree task s u h less known = record {
+head_behind tree task s u h less names known = record {
   within = λ a b c. ⊎_elim
       (λ old. h.within a b (Contains-from_Has s.known (Within a b) old))
       (λ new. absurd (subst IsMade (sym new) tt)) (known (Within a b) (Has-from_Contains u.known (Within a b) c));
   made = λ i c. ⊎_elim
       (λ old. h.made i (Contains-from_Has s.known (Made i) old))
       (λ new. let l = h.next in let same : i ≡ s.next = ap made_in new in omega (arith, l, same)) (known (Made i) (Has-from_Contains u.known (Made i) c));
+  parts = λ k c. ⊎_elim (λ old. told_behind s u less names k (h.parts k old)) (λ new. subst (IsToldHere u) (sym new) tt) (known k c);
   next = let l = h.next in omega (arith, l, less);
 }
 
-pub head_past : (tree : Tree) (task : TaskTree) (s inner : Scope) → KnowsHead tree task inner → KnowsHead tree task (past s inner)
-head_past tree task s inner h = record { within = h.within; made = h.made; next = h.next }
+-- behind a block the names are those before it
+told_past : (s inner : Scope) → ((b : Bound) → Has s.names b → Has inner.names b) → (k : Known) → IsToldHere inner k → IsToldHere (past s inner) k
+told_past s inner names (Within a b) told = tt
+told_past s inner names (Apart a b) told = tt
+told_past s inner names (Made i) told = tt
+told_past s inner names (PartOf p r d) told = record { low = told.low; one = λ b h e. told.one b (names b h) e }
+
+pub head_past : (tree : Tree) (task : TaskTree) (s inner : Scope) → ((b : Bound) → Has s.names b → Has inner.names b) → KnowsHead tree task inner →
+    KnowsHead tree task (past s inner)
+head_past tree task s inner names h =
+    record { within = h.within; made = h.made; parts = λ k c. told_past s inner names k (h.parts k c); next = h.next }
+
+-- one more name has a number of its own
+one_more : (s : Scope) (n : Name) (t : StaticType) (by_loop : Bool) (b : Bound) → Has (with_name s n t by_loop).names b → Has s.names b ⊎ (b.number ≡ s.next)
+one_more s n t by_loop b (inl same) = inr (sym (ap (λ (c : Bound). c.number) same))
+one_more s n t by_loop b (inr h) = inl h
 
 pub head_looping : (tree : Tree) (task : TaskTree) (s : Scope) (n : Name) (t : StaticType) → KnowsHead tree task s → KnowsHead tree task (with_name s n t true)
-head_looping tree task s n t h = head_behind tree task s (with_name s n t true) h (omega (arith)) (λ k a. inl a)
+head_looping tree task s n t h = head_behind tree task s (with_name s n t true) h (omega (arith)) (one_more s n t true) (λ k a. inl a)
 
 -- one more name, with which nothing is known, or that a region was made
 pub head_named : (tree : Tree) (task : TaskTree) (s : Scope) (n : Name) (t : StaticType) (more : List Known) → KnowsHead tree task s → more ≡ [] →
     KnowsHead tree task (knowing (with_name s n t false) more)
-head_named tree task s n t more h none = head_behind tree task s (knowing (with_name s n t false) more) h (omega (arith))
+head_named tree task s n t more h none = head_behind tree task s (knowing (with_name s n t false) more) h (omega (arith)) (one_more s n t false)
     (λ k a. ⊎_elim (λ old. inl old) (λ new. absurd (subst (λ ks. Has ks k) none new)) (Has-append_cases s.known more k a))
 
 pub head_made : (tree : Tree) (task : TaskTree) (s : Scope) (n : Name) (t : StaticType) → KnowsHead tree task s →
     KnowsHead tree task (knowing (with_name s n t false) (Made s.next ∷ []))
-head_made tree task s n t h = head_behind tree task s (knowing (with_name s n t false) (Made s.next ∷ [])) h (omega (arith))
+head_made tree task s n t h = head_behind tree task s (knowing (with_name s n t false) (Made s.next ∷ [])) h (omega (arith)) (one_more s n t false)
     (λ k a. ⊎_elim (λ old. inl old) (λ new. ⊎_elim (λ same. inr (sym same)) (λ none. absurd none) new) (Has-append_cases s.known (Made s.next ∷ []) k a))
+
+-- or one of a partition, of which is known of which region it is
+pub head_cut : (tree : Tree) (task : TaskTree) (s : Scope) (n : Name) (d : Bool) (r : ℕ) → Falls s.next s.names → KnowsHead tree task s →
+    KnowsHead tree task (knowing (with_name s n (partition_type d r s.next) false) (PartOf s.next r d ∷ []))
+head_cut tree task s n d r falls h = record {
+  within = λ a b c. ⊎_elim
+      (λ old. h.within a b (Contains-from_Has s.known (Within a b) old))
+      (λ new. ⊎_elim (λ same. absurd (subst IsPartFact same tt)) (λ none. absurd none) new) (cases (Within a b) (Has-from_Contains u.known (Within a b) c));
+  made = λ i c. ⊎_elim
+      (λ old. h.made i (Contains-from_Has s.known (Made i) old))
+      (λ new. ⊎_elim (λ same. absurd (subst IsPartFact same tt)) (λ none. absurd none) new) (cases (Made i) (Has-from_Contains u.known (Made i) c));
+  parts = λ k c. ⊎_elim
+      (λ old. told_behind s u (omega (arith)) (one_more s n t false) k (h.parts k old))
+      (λ new. ⊎_elim (λ same. subst (IsToldHere u) same own) (λ none. absurd none) new) (cases k c);
+  next = let l = h.next in omega (arith, l);
+}
+  where
+    t : StaticType
+    t = partition_type d r s.next
+
+    u : Scope
+    u = knowing (with_name s n t false) (PartOf s.next r d ∷ [])
+
+    cases : (k : Known) → Has u.known k → Has s.known k ⊎ Has (PartOf s.next r d ∷ []) k
+    cases k c = Has-append_cases s.known (PartOf s.next r d ∷ []) k c
+
+    typed : (b : Bound) → Has u.names b → b.number ≡ s.next → b.static_type ≡ t
+    typed b (inl same) e = sym (ap (λ (c : Bound). c.static_type) same)
+    typed b (inr old) e = let less = (found_among s.next s.names b falls old).1 in absurd (omega (arith, less, e))
+
+    own : IsPartHere u s.next r d
+    own = record { low = omega (arith); one = typed }

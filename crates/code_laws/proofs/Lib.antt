@@ -22,7 +22,10 @@ pub mod Results
 pub mod Operations
 pub mod Requiring
 pub mod Arguments
+pub mod Cuts
+pub mod Parts
 pub mod Handing
+pub mod CallTakes
 pub mod Counting
 pub mod Through
 pub mod Going
@@ -55,6 +58,8 @@ pub mod Privileges
 pub mod DeclaredNeeds
 pub mod LocalNames
 pub mod KnownHeads
+pub mod KnownParts
+pub mod LocalGiven
 pub mod LocalCalls
 pub mod LocalParts
 pub mod LocalPoints

@@ -1,45 +1,51 @@
 -- Arguments of calls in a text with marked names, of which no breach is told, are typed, and the calls may be made.
-use Rattle.std.proofs.Common.{◌≡◌, Bool, List, None, false, true, refl, ap, sym, subst, ◌∙◌, ◌⊎◌, inl, inr, not, ⊎_elim}
+use Rattle.std.proofs.Common.{◌≡◌, ℕ, Bool, List, [], ◌∷◌, None, Some, false, true, refl, ap, sym, subst, ◌∙◌, ◌⊎◌, inl, inr, not, ⊎_elim}
 use Rattle.std.specs.Prelude.{length, ◌&&◌, ◌==◌, ◌||◌}
 use Rattle.std.specs.List.{list_any}
 use Rattle.std.proofs.lemmas.Bool.{eqb-true, not-false}
 use Rattle.plain_values.proofs.Plain.{option_or_parts}
 use Rattle.regent_tree.specs.Lookup.{has_task, is_bound}
-use Rattle.regent_tree.specs.Scopes.{scope_of}
-use Rattle.regent_tree.specs.StaticTypes.{task_named}
-use Rattle.regent_tree.specs.Syntax.{Expression, Expressions, Name, TaskTree, access_expr, no_step}
-use Rattle.regent_tree.specs.Typing.{param_types, params_at, put_in}
+use Rattle.regent_tree.specs.Scopes.{bound_as, scope_of}
+use Rattle.regent_tree.specs.StaticTypes.{Reach, task_named}
+use Rattle.regent_tree.specs.Syntax.{Expression, Expressions, Name, TaskTree, access_expr, at_step, no_step}
+use Rattle.regent_tree.specs.Typing.{child_type, colour_of, param_types, params_at, put_in, type_of_element}
+use Rattle.regent_tree.specs.declared.facts.Term.{Term}
 use Rattle.regent_tree.specs.declared.facts.Term.TheVariants as term
+use Rattle.regent_tree.specs.declared.types.Kind.{Kind}
 use Rattle.regent_tree.specs.declared.typing.StaticType.{StaticType}
+use Rattle.regent_tree.specs.declared.typing.StaticType.TheVariants.{Partition as partition_type, Pointer as pointer_type}
 use Rattle.check_laws.specs.SoundScopes.{IsSoundScope}
-use Rattle.check_rules.specs.first.FirstInExpressions.{first_in_args, first_in_expression, first_of_call}
+use Rattle.check_rules.specs.first.FirstInExpressions.{first_in_args, first_in_expression, first_of_call, first_of_standing, first_of_step, first_of_taking}
 use Rattle.check_rules.specs.first.Rules.{rule_if}
 use Rattle.check_rules.specs.rules.Spaces.{differs, misfit_in}
-use Rattle.check_rules.specs.rules.Standing.{param_spot, stand_at, stands}
+use Rattle.check_rules.specs.rules.Standing.{number_spot, param_spot, stand_at, stands}
 use Rattle.check_rules.specs.rules.Types.{is_ill_typed_at_place, may_stand}
 use Rattle.check_rules.specs.scopes.Sound.{IsSound, IsSoundTask}
 use Rattle.check_rules.specs.types.Declarations.{params_of}
 use Rattle.check_rules.specs.types.KnownTypes.{known_type, known_types}
 use Rattle.check_rules.specs.types.Params.{types_in_order}
-use Rattle.check_rules.specs.types.Sorts.{is_region}
-use Rattle.check_rules.specs.types.TypedForms.{calling}
+use Rattle.check_rules.specs.types.Sorts.{is_number, is_region, may_be}
+use Rattle.check_rules.specs.types.TypedForms.{calling, element_of}
 use Rattle.check_rules.specs.declared.rule.Rule.TheVariants as rule
 use Rattle.check_rules.proofs.Untold.{rule_none}
 use Rattle.code_rules.specs.Slots.{Where, bound, typed}
-use Rattle.local_form.specs.LocalForm.{Marked, is_local_expression, is_name}
+use Rattle.local_form.specs.LocalForm.{Marked, is_local_expression, is_name, is_part}
 use Rattle.code_laws.specs.Handing.{forms_by, takes_by}
-use Rattle.code_laws.specs.Simple.{AreAlike, AreRegions, IsRegion, IsScalar, a_region_type}
+use Rattle.code_laws.specs.Pointers.{CountsAs, IsCounting}
+use Rattle.code_laws.specs.Simple.{AreAlike, AreRegions, IsPartition, IsRegion, IsScalar, a_partition_type, a_region_type, scalar_integer, scalar_truth}
 use Rattle.code_laws.specs.Steps.{Forms}
-use Rattle.code_laws.specs.Typed.{ArePassed, IsCallable, IsHanded, IsPassed, IsTyped}
+use Rattle.code_laws.specs.Arguments.{IsCutName, IsHanded, IsHandedPart}
+use Rattle.code_laws.specs.Typed.{ArePassed, IsCallable, IsIndexed, IsPassed, IsTyped}
 use Rattle.expression_laws.proofs.Calls.{IsFlawless, call_parts}
 use Rattle.code_laws.proofs.KnownHeads.{KnowsHead}
 use Rattle.code_laws.proofs.LocalCalls.{may_call}
 use Rattle.code_laws.proofs.LocalParts.{and_then, named_alone, put_region, put_scalar}
-use Rattle.code_laws.proofs.LocalNames.{AllKept, IsKept, IsLocalTree, kept_region, kept_scalar, named_kept, kept_value, value_kept, kept_plain}
+use Rattle.code_laws.proofs.LocalNames.{AllKept, IsKept, IsLocalTree, kept_partition, kept_region, kept_scalar, named_kept, kept_value, region_of_number, taking_told, value_kept, value_no_region, kept_plain}
 use Rattle.code_laws.proofs.LocalTypes.{IsTakable, either, region_for_scalar, regions_alike, simple_other, takable_region, takable_scalar}
 use Rattle.code_laws.proofs.Openings.{params_length, types_length}
+use Rattle.code_laws.proofs.Typing.{no_way, no_way_back, stands_well}
 use Rattle.code_laws.proofs.Values.{scalar_simple}
-use Rattle.code_laws.proofs.LocalValues.{IsValue, value_for_region, value_param, value_read, value_simple}
+use Rattle.code_laws.proofs.LocalValues.{IsValue, value_counts, value_for_region, value_param, value_read, value_simple}
 use Rattle.code_laws.proofs.LocalPoints.{IsWell, local_known}
 
 module _ (handing keeping : Bool) (task : TaskTree) (w : Where) (sound : IsSound w.tree) (sound_task : IsSoundTask w.tree task) (local : IsLocalTree handing w.tree)
@@ -97,27 +103,94 @@ module _ (handing keeping : Bool) (task : TaskTree) (w : Where) (sound : IsSound
         plain = λ q. kept_plain keeping m w.scope.names n (bound w n).number t kept q value;
       }
 
-  -- an argument has a value of its own, or it is a region that has a name
+  -- an argument has a value of its own, or it is a region that has a name, a part, or nothing that is taken
   pub record IsRegionName (e : Expression) : Type 0 where
     pub name : Name
     pub is : e ≡ access_expr name no_step
     pub there : is_bound w.scope.names name ≡ true
     pub region : IsRegion (bound w name).static_type
 
+  pub record IsPartName (e : Expression) : Type 0 where
+    pub name : Name
+    pub index : Expression
+    pub is : e ≡ access_expr name (at_step index no_step)
+    pub keeps : keeping ≡ true
+    pub cut : IsCutName w name
+    pub region : IsRegion (typed w (access_expr name (at_step index no_step)))
+    pub indexed : IsTyped forms w index
+    pub counts : IsCounting (typed w index)
+
+  pub data IsOther : StaticType → Type 0 where
+    other_partition : (d : Bool) (r p : ℕ) → IsOther (partition_type d r p)
+    other_pointer : (k : Kind) (sp : ℕ) (args rs : List Reach) → IsOther (pointer_type k sp args rs)
+
   abbrev pub IsArgument : Expression → Type 0
-  IsArgument e = Well e ⊎ IsRegionName e
+  IsArgument e = Well e ⊎ (IsRegionName e ⊎ (IsPartName e ⊎ IsOther (typed w e)))
+
+  -- no parameter takes a partition or a pointer
+  none_takes : (t p : StaticType) → IsOther t → IsTakable p → may_stand w.scope.known (stands t (param_spot p)) ≡ true → ⊥
+  none_takes _ _ (other_partition d r q) (takable_scalar _ (scalar_integer v)) e = no_way_back e
+  none_takes _ _ (other_partition d r q) (takable_scalar _ scalar_truth) e = no_way_back e
+  none_takes _ _ (other_partition d r q) (takable_region _ (a_region_type k sp args u)) e = no_way_back e
+  none_takes _ _ (other_pointer k sp args rs) (takable_scalar _ (scalar_integer v)) e = no_way_back e
+  none_takes _ _ (other_pointer k sp args rs) (takable_scalar _ scalar_truth) e = no_way_back e
+  none_takes _ _ (other_pointer k sp args rs) (takable_region _ (a_region_type j sq brgs u)) e = no_way_back e
+
+  -- a parameter's type is the same with all arguments
+  put_takable : (types : List StaticType) (p : StaticType) → IsTakable p → put_in types p ≡ p
+  put_takable types p (takable_scalar _ s) = put_scalar types p s
+  put_takable types p (takable_region _ r) = put_region types p r
 
   name_argument : (n : Name) → is_bound w.scope.names n ≡ true → (t : StaticType) → (bound w n).static_type ≡ t → IsKept keeping m w.scope.names n (bound w n).number t →
       IsArgument (access_expr n no_step)
   name_argument n there t same (kept_scalar _ a) = inl (name_well n there (subst (IsValue keeping w.scope.names) (sym same) (value_simple t (scalar_simple t a))))
   name_argument n there t same (kept_value _ a h p) = inl (name_well n there (subst (IsValue keeping w.scope.names) (sym same) a))
   name_argument n there _ same (kept_region k sp args h) =
-      inr (record { name = n; is = refl; there = there; region = subst IsRegion (sym same) (a_region_type k sp args (term.Name (bound w n).number)) })
+      inr (inl (record { name = n; is = refl; there = there; region = subst IsRegion (sym same) (a_region_type k sp args (term.Name (bound w n).number)) }))
+  name_argument n there _ same (kept_partition d r q among h) = inr (inr (inr (subst IsOther (sym same) (other_partition d r (bound w n).number))))
+
+  child_region : (t : StaticType) (r : Term) → IsRegion t → IsRegion (child_type t r)
+  child_region _ r (a_region_type k sp args q) = a_region_type k sp args r
+
+  -- what counts as a number, where pointers are kept
+  counts_kept : (b : Bool) (t : StaticType) → b ≡ true → CountsAs b t → IsCounting t
+  counts_kept false t q c = absurd (no_way_back q)
+  counts_kept true t q c = c
+
+  -- what is taken of a name at a place
+  part_argument : (n : Name) (e : Expression) → (there : is_bound w.scope.names n ≡ true) → (t : StaticType) → (bound w n).static_type ≡ t →
+      IsKept keeping m w.scope.names n (bound w n).number t → first_of_taking w.tree (element_of t (known_type w.tree w.scope e)) ≡ None →
+      first_in_expression w.tree task w.scope e ≡ None → Well e → IsArgument (access_expr n (at_step e no_step))
+  part_argument n e there t same (kept_scalar _ a) taking told well =
+      absurd (no_way (sym (not-false _ (taking_told w.tree (element_of t (known_type w.tree w.scope e)) taking).1)
+      ∙ value_no_region keeping w.scope.names t (value_simple t (scalar_simple t a))))
+  part_argument n e there t same (kept_value _ a h p) taking told well =
+      absurd (no_way (sym (not-false _ (taking_told w.tree (element_of t (known_type w.tree w.scope e)) taking).1) ∙ value_no_region keeping w.scope.names t a))
+  part_argument n e there _ same (kept_region k sp args h) taking told well =
+      inr (inr (inr (subst IsOther (sym (ap (λ t. type_of_element w.scope t e) same)) (other_pointer k sp args (Some (term.Name (bound w n).number) ∷ [])))))
+  part_argument n e there _ same (kept_partition d r keeps among h) taking told well =
+      let at = known_type w.tree w.scope e in
+      let stood = (option_or_parts (first_of_standing [] (stands at number_spot)) _
+      (taking_told w.tree (element_of (partition_type d r (bound w n).number) at) taking).2).0 in
+      let number = value_counts keeping w.scope.names (typed w e) well.value
+      (subst (λ u. may_be is_number u ≡ true) (known e told) (stands_well [] at number_spot stood)) in
+      let parent = region_of_number w.scope.next w.scope.names r scope.numbers among in
+      inr (inr (inl (record {
+        name = n;
+        index = e;
+        is = refl;
+        keeps = keeps;
+        cut = record { named = there; numbers = scope.numbers; partition = subst IsPartition (sym same) (a_partition_type d r (bound w n).number) };
+        region = subst (λ t. IsRegion (type_of_element w.scope t e)) (sym same)
+            (child_region (bound_as w.scope.names r).static_type (term.Child (bound w n).number (colour_of w.scope e)) parent.0);
+        indexed = well.is;
+        counts = counts_kept keeping (typed w e) keeps number;
+      })))
 
   -- it is passed to a parameter of its type
   pub given_one : (all types : List StaticType) (e : Expression) (p : StaticType) → IsArgument e → IsTakable p → (handing ≡ false → IsScalar p) →
       first_in_expression w.tree task w.scope e ≡ None → may_stand w.scope.known (stands (known_type w.tree w.scope e) (param_spot (put_in all p))) ≡ true →
-      (is_region p && differs all p (known_type w.tree w.scope e)) ≡ false → IsPassed forms w (put_in types p) p e (IsTyped forms w e)
+      (is_region p && differs all p (known_type w.tree w.scope e)) ≡ false → IsPassed forms w (put_in types p) p e (IsTyped forms w e) (IsIndexed forms w e)
   given_one all types e p (inl a) (takable_scalar _ s) alone told may fits =
       let same = put_scalar types p s in
       let stood = subst (λ q. may_stand w.scope.known (stands (known_type w.tree w.scope e) (param_spot q)) ≡ true) (put_scalar all p s) may in
@@ -128,12 +201,33 @@ module _ (handing keeping : Bool) (task : TaskTree) (w : Where) (sound : IsSound
       let stood = subst (λ q. may_stand w.scope.known (stands (known_type w.tree w.scope e) (param_spot q)) ≡ true) (put_region all p r) may in
       absurd (value_for_region keeping w.scope.names w.scope.known (typed w e) p a.value r
       (subst (λ u. may_stand w.scope.known (stands u (param_spot p)) ≡ true) (known e told) stood))
-  given_one all types e p (inr r) (takable_scalar _ s) alone told may fits =
+  given_one all types e p (inr (inr (inr other))) takable alone told may fits =
+      let stood = subst (λ q. may_stand w.scope.known (stands (known_type w.tree w.scope e) (param_spot q)) ≡ true) (put_takable all p takable) may in
+      absurd (none_takes (typed w e) p other takable (subst (λ u. may_stand w.scope.known (stands u (param_spot p)) ≡ true) (known e told) stood))
+  given_one all types e p (inr (inr (inl r))) (takable_scalar _ s) alone told may fits =
+      let stood = subst (λ q. may_stand w.scope.known (stands (known_type w.tree w.scope e) (param_spot q)) ≡ true) (put_scalar all p s) may in
+      absurd (region_for_scalar w.scope.known (typed w (access_expr r.name (at_step r.index no_step))) p r.region s
+      (subst (λ u. may_stand w.scope.known (stands u (param_spot p)) ≡ true) (known e told ∙ ap (typed w) r.is) stood))
+  given_one all types e p (inr (inr (inl r))) (takable_region _ region) alone told may fits =
+      subst (λ y. IsPassed forms w (put_in types p) p y (IsTyped forms w y) (IsIndexed forms w y)) (sym r.is) (inr (inr (part handing refl keeping r.keeps)))
+    where
+      from : Expression
+      from = access_expr r.name (at_step r.index no_step)
+
+      regions : AreRegions (typed w from) p
+      regions = regions_alike all p (typed w from) region r.region
+          (subst (λ u. (is_region p && differs all p u) ≡ false) (known e told ∙ ap (typed w) r.is) fits)
+
+      part : (b : Bool) → handing ≡ b → (c : Bool) → c ≡ true → IsHandedPart c (takes_by b w.tree task) w (put_in types p) p from (IsIndexed forms w from)
+      part false q c k = absurd (simple_other p (scalar_simple p (alone q)) region)
+      part true q false k = absurd (no_way_back k)
+      part true q true k = (r.cut, put_region types p region, regions, (r.indexed, r.counts))
+  given_one all types e p (inr (inl r)) (takable_scalar _ s) alone told may fits =
       let stood = subst (λ q. may_stand w.scope.known (stands (known_type w.tree w.scope e) (param_spot q)) ≡ true) (put_scalar all p s) may in
       absurd (region_for_scalar w.scope.known (bound w r.name).static_type p r.region s
       (subst (λ y. may_stand w.scope.known (stands (known_type w.tree w.scope y) (param_spot p)) ≡ true) r.is stood))
-  given_one all types e p (inr n) (takable_region _ r) alone told may fits =
-      subst (λ y. IsPassed forms w (put_in types p) p y (IsTyped forms w y)) (sym n.is) (inr (handed handing refl))
+  given_one all types e p (inr (inl n)) (takable_region _ r) alone told may fits =
+      subst (λ y. IsPassed forms w (put_in types p) p y (IsTyped forms w y) (IsIndexed forms w y)) (sym n.is) (inr (inl (handed handing refl)))
     where
       regions : AreRegions (bound w n.name).static_type p
       regions = regions_alike all p (bound w n.name).static_type r n.region
@@ -143,16 +237,28 @@ module _ (handing keeping : Bool) (task : TaskTree) (w : Where) (sound : IsSound
       handed false q = absurd (simple_other p (scalar_simple p (alone q)) r)
       handed true q = (n.there, put_region types p r, regions)
 
-  pub argument_of : (e : Expression) → (is_name e || is_local_expression m e) ≡ true → first_in_expression w.tree task w.scope e ≡ None →
-      (is_local_expression m e ≡ true → Well e) → IsArgument e
-  argument_of e lo told well = ⊎_elim
+  pub argument_of : (e : Expression) → (is_name e || (is_part m e || is_local_expression m e)) ≡ true → first_in_expression w.tree task w.scope e ≡ None →
+      (is_part m e ≡ true → IsArgument e) → (is_local_expression m e ≡ true → Well e) → IsArgument e
+  argument_of e lo told part well = ⊎_elim
       (λ alone.
       let n = named_alone e alone in
       let unbound = option_or_parts (rule_if (not (is_bound w.scope.names n.0)) rule.Name) _
       (subst (λ y. first_in_expression w.tree task w.scope y ≡ None) n.1 told) in
       let there = not-false (is_bound w.scope.names n.0) (rule_none (not (is_bound w.scope.names n.0)) rule.Name unbound.0) in
       subst IsArgument (sym n.1) (name_argument n.0 there (bound w n.0).static_type refl (named_kept keeping m w.scope.names n.0 names there)))
-      (λ own. inl (well own)) (either (is_name e) (is_local_expression m e) lo)
+      (λ own. ⊎_elim part (λ own. inl (well own)) (either (is_part m e) (is_local_expression m e) own)) (either (is_name e) _ lo)
+
+  -- a part, by what is told of it
+  pub part_of_name : (n : Name) (e : Expression) → first_in_expression w.tree task w.scope (access_expr n (at_step e no_step)) ≡ None →
+      (first_in_expression w.tree task w.scope e ≡ None → Well e) → IsArgument (access_expr n (at_step e no_step))
+  part_of_name n e told well =
+      let t = (bound w n).static_type in
+      let named = option_or_parts (rule_if (not (is_bound w.scope.names n)) rule.Name) _ told in
+      let there = not-false (is_bound w.scope.names n) (rule_none (not (is_bound w.scope.names n)) rule.Name named.0) in
+      let index = option_or_parts (first_in_expression w.tree task w.scope e) _ named.1 in
+      let step = option_or_parts (first_of_step w.tree task w.scope (element_of t (known_type w.tree w.scope e))) _ index.1 in
+      part_argument n e there t refl (named_kept keeping m w.scope.names n names there)
+      (option_or_parts (first_of_taking w.tree (element_of t (known_type w.tree w.scope e))) _ step.0).0 index.0 (well index.0)
 
   -- a call that is given its arguments
   pub call_well : (n : Name) (args : Expressions) → first_in_args w.tree task w.scope args ≡ None →

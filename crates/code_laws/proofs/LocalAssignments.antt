@@ -1,5 +1,5 @@
 -- Assignments in a text with marked names, of which no breach is told, are typed.
-use Rattle.std.proofs.Common.{◌≡◌, Bool, [], None, false, true, ap, subst, ℕ, ◌∙◌, not}
+use Rattle.std.proofs.Common.{◌≡◌, Bool, [], None, false, true, ap, subst, sym, ℕ, ◌∙◌, not, ◌||◌}
 use Rattle.std.specs.Prelude.{cond}
 use Rattle.std.proofs.lemmas.Bool.{and_parts, not-false, or_parts}
 use Rattle.plain_values.proofs.Plain.{option_or_parts}
@@ -14,7 +14,8 @@ use Rattle.regent_tree.specs.Typing.{type_of, type_of_element, type_of_field}
 use Rattle.regent_tree.specs.declared.rights.Access.{Access}
 use Rattle.regent_tree.specs.declared.rights.Access.TheVariants as access
 use Rattle.regent_tree.specs.declared.statement.How.TheVariants as how
-use Rattle.regent_tree.specs.declared.typing.StaticType.TheVariants.{Unknown as unknown_type}
+use Rattle.regent_tree.specs.declared.typing.StaticType.TheVariants.{Ispace as ispace_type, Partition as partition_type, Unknown as unknown_type}
+use Rattle.regent_tree.specs.declared.types.Kind.TheVariants.{Int1d}
 use Rattle.check_laws.proofs.Variables.{target_of_form, parts_of_form as told_of_form}
 use Rattle.check_laws.specs.SoundScopes.{IsSoundScope}
 use Rattle.check_rules.specs.declared.rule.Rule.TheVariants as rule
@@ -29,12 +30,13 @@ use Rattle.check_rules.specs.rules.Targets.{is_no_target, mistargets}
 use Rattle.check_rules.specs.rules.Types.{may_stand}
 use Rattle.check_rules.specs.scopes.Sound.{IsSound, IsSoundTask}
 use Rattle.check_rules.specs.types.KnownTypes.{known_type, known_type_after_step}
-use Rattle.check_rules.specs.types.Sorts.{is_integer, may_be}
+use Rattle.check_rules.specs.types.Params.{type_unless}
+use Rattle.check_rules.specs.types.Sorts.{is_integer, is_space, may_be}
 use Rattle.check_rules.specs.types.TypedForms.{element_of, field_of}
 use Rattle.code_rules.specs.Slots.{Where}
-use Rattle.local_form.specs.LocalForm.{Marked, is_among, is_local_expression, is_local_form}
+use Rattle.local_form.specs.LocalForm.{Marked, is_among, is_kept_apart, is_local_expression, is_local_form}
 use Rattle.code_laws.specs.Handing.{forms_by}
-use Rattle.code_laws.specs.Simple.{IsScalar}
+use Rattle.code_laws.specs.Simple.{IsPartition, IsScalar, a_partition_type}
 use Rattle.code_laws.specs.Steps.{Forms}
 use Rattle.code_laws.specs.Typed.{GoesThrough, IsTyped, IsTypedForm, MayTouch, element_field, IsBehind, IsFieldOf, MayGo, field_behind}
 use Rattle.code_laws.proofs.KnownHeads.{IsReady}
@@ -42,13 +44,14 @@ use Rattle.code_laws.proofs.LocalPoints.{at_point, behind_name, gone, is_behind,
 use Rattle.code_laws.proofs.LocalValues.{alike_assigned, alike_fits, field_kept, value_fitting, value_integer}
 use Rattle.code_laws.specs.Pointers.{CountsAs, fills_alike, into_plain}
 use Rattle.code_laws.proofs.Privileges.{mode_in}
-use Rattle.code_laws.proofs.LocalNames.{kept_integer, IsLocalTree, kept_as_value, named_kept, named_place, value_kept}
+use Rattle.code_laws.proofs.LocalNames.{kept_integer, IsLocalTree, kept_as_value, named_kept, named_place, taking_told, value_kept}
 use Rattle.code_laws.proofs.LocalTypes.{simple_as_integer}
 use Rattle.code_laws.proofs.TypedStatements.{first_stands, told_later, told_privileges}
-use Rattle.code_laws.proofs.Typing.{AreKept}
+use Rattle.code_laws.proofs.Typing.{AreKept, no_way}
 use Rattle.code_laws.proofs.Values.{scalar_simple}
 use Rattle.scalar_form.specs.ScalarForm.{is_scalar_if_said}
 use Rattle.code_laws.proofs.LocalVariables.{at, headed, stands_as}
+use Rattle.regent_tree.specs.declared.typing.StaticType.{StaticType}
 
 module _ (handing keeping : Bool) (tree : Tree) (task : TaskTree) (sound : IsSound tree) (sound_task : IsSoundTask tree task) (local : IsLocalTree handing tree)
     (m : Marked) (params : ℕ) (result : is_scalar_if_said task.result ≡ true) where
@@ -66,7 +69,7 @@ module _ (handing keeping : Bool) (tree : Tree) (task : TaskTree) (sound : IsSou
       IsTypedForm forms (here s line) (assign_form n no_step how.Set y)
   set_local s line n y lo k scope names e =
       let form = assign_form n no_step how.Set y in
-      let one = and_parts (not (is_among m.regions n)) _ lo in
+      let one = and_parts (not (is_kept_apart m n)) _ lo in
       let two = and_parts (not (is_among m.indices n)) (is_local_expression m y) one.1 in
       let parts = told_of_form tree task s sound scope form e in
       let told = (option_or_parts (first_in_expression tree task s y) _ parts.2).0 in
@@ -192,12 +195,20 @@ module _ (handing keeping : Bool) (tree : Tree) (task : TaskTree) (sound : IsSou
     known : known_type tree s (access_expr n (field_step f no_step)) ≡ field_behind (here s line) n f
     may : (a : Access) → lacks tree task s (wanted_of_step tree a (field_of (bound_to s.names n).static_type f)) ≡ false → MayGo forms (here s line) n f (mode_in a)
 
-  target_behind : (s : Scope) (line : ℕ) (n f : Name) → IsSoundScope s → Ready s → first_in_target tree task s n (field_step f no_step) ≡ None → IsTargetBehind s line n f
-  target_behind s line n f scope names none =
+  -- the colours of a partition are no target
+  colours_told : (s : Scope) (n f : Name) (t : StaticType) → IsPartition t → first_of_taking tree (field_of t f) ≡ None →
+      is_space (known_type_after_step tree (field_of t f) (type_of_field tree t f)) ≡ true
+  colours_told s n f _ (a_partition_type d r p) e =
+      ap (λ b. is_space (type_unless (false || b || false || false) (ispace_type Int1d))) (taking_told tree (field_of (partition_type d r p) f) e).0
+
+  target_behind : (s : Scope) (line : ℕ) (n f : Name) → IsSoundScope s → Ready s → first_in_target tree task s n (field_step f no_step) ≡ None →
+      is_space (known_type tree s (access_expr n (field_step f no_step))) ≡ false → IsTargetBehind s line n f
+  target_behind s line n f scope names none other =
       let w = here s line in
       let told = option_or_parts (rule_if (not (is_bound s.names n)) rule.Name) _ none in
       let there = not-false (is_bound s.names n) (rule_none (not (is_bound s.names n)) rule.Name told.0) in
-      let p = behind_name handing keeping task w sound sound_task local m scope names.names names.head n f there told.1 in record {
+      let p = behind_name handing keeping task w sound sound_task local m scope names.names names.head n f there
+      (λ cut. no_way (sym (colours_told s n f (bound_to s.names n).static_type cut told.1) ∙ other)) told.1 in record {
         keeps = p.keeps;
         behind = is_behind handing keeping task w sound sound_task local m scope names.names names.head n f there p;
         scalar = p.scalar;
@@ -214,9 +225,10 @@ module _ (handing keeping : Bool) (tree : Tree) (task : TaskTree) (sound : IsSou
       let parts = told_of_form tree task s sound scope form none in
       let told = (option_or_parts (first_in_expression tree task s y) _ parts.2).0 in
       let a = headed handing keeping tree task sound sound_task local m params result s line y lo k scope names told in
-      let target = target_behind s line n f scope names (target_of_form tree task s sound scope form none) in
       let out = field_behind (here s line) n f in
       let u = known_type tree s (access_expr n steps) in
+      let target = target_behind s line n f scope names (target_of_form tree task s sound scope form none)
+      (or_parts (is_no_target task s.names n steps u) _ (told_later tree task s form none).0).0 in
       let spot = ap (λ b. typed_spot (cond b unknown_type u)) (told_later tree task s form none).0 ∙ ap typed_spot target.known in
       let fit = stands_as handing keeping tree task sound sound_task local m params result s y (typed_spot out) scope told (subst (λ p. may_stand s.known (stands (known_type tree s y) p) ≡ true) spot
       (first_stands s.known (stands (known_type tree s y) (spot_of_target (mistargets task s.names n steps how.Set u) how.Set u)) [] parts.4).0) in (
@@ -236,9 +248,10 @@ module _ (handing keeping : Bool) (tree : Tree) (task : TaskTree) (sound : IsSou
       let parts = told_of_form tree task s sound scope form none in
       let told = (option_or_parts (first_in_expression tree task s y) _ parts.2).0 in
       let a = headed handing keeping tree task sound sound_task local m params result s line y lo k scope names told in
-      let target = target_behind s line n f scope names (target_of_form tree task s sound scope form none) in
       let out = field_behind (here s line) n f in
       let u = known_type tree s (access_expr n steps) in
+      let target = target_behind s line n f scope names (target_of_form tree task s sound scope form none)
+      (or_parts (is_no_target task s.names n steps u) _ (told_later tree task s form none).0).0 in
       let whole = subst (λ v. may_be is_integer v ≡ true) target.known
       (not-false (may_be is_integer u) (or_parts (is_no_target task s.names n steps u) (not (may_be is_integer u)) (told_later tree task s form none).0).1) in
       let may = stands_as handing keeping tree task sound sound_task local m params result s y integer_spot scope told (first_stands s.known (stands (known_type tree s y) integer_spot) [] parts.4).0 in (

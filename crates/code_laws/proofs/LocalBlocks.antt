@@ -1,5 +1,5 @@
 -- Bodies of a text with marked names, of which no breach is told, are typed.
-use Rattle.std.proofs.Common.{◌≡◌, Bool, [], ◌∷◌, ◌++◌, None, Option, Some, false, true, sym, subst, ℕ, ◌∙◌}
+use Rattle.std.proofs.Common.{◌≡◌, ◌⊎◌, inl, inr, Bool, List, [], ◌∷◌, ◌++◌, None, Option, Some, false, true, sym, subst, ℕ, ◌∙◌}
 use Rattle.std.specs.List.{list_any}
 use Rattle.std.proofs.lemmas.Bool.{and_parts}
 use Rattle.plain_values.proofs.Plain.{option_or_parts}
@@ -33,16 +33,23 @@ use Rattle.code_laws.proofs.LocalNames.{AllKept, IsLocalTree, kept_scalar}
 use Rattle.code_laws.proofs.LocalAssignments.{reduce_behind_local, reduce_field_local, reduce_local, set_behind_local, set_field_local, set_local}
 use Rattle.code_laws.proofs.LocalStatements.{bound_local, call_local, domain_local, fill_local, print_local, return_local, test_local}
 use Rattle.code_laws.proofs.LocalValues.{scalar_begins, value_simple, value_tells}
-use Rattle.code_laws.proofs.LocalVariables.{at, plain_local, region_local, said_local}
+use Rattle.code_laws.proofs.LocalVariables.{at, equal_local, plain_local, region_local, said_local}
 use Rattle.code_laws.proofs.LocalTypes.{term_scalar}
-use Rattle.code_laws.proofs.Names.{arms_names, else_names}
+use Rattle.code_laws.proofs.Names.{Grown, arms_names, block_grown, else_names}
+use Rattle.regent_tree.proofs.Members.{Has, Has-append_right}
+use Rattle.regent_tree.specs.declared.typing.Bound.{Bound}
+use Rattle.regent_tree.specs.declared.typing.StaticType.{StaticType}
 use Rattle.code_laws.proofs.TypedStatements.{first_stands, sum_scalar}
 use Rattle.code_laws.proofs.Values.{scalar_simple}
 use Rattle.code_laws.proofs.Typing.{AreKept, kept_behind, kept_left, kept_right, no_way, no_way_back}
 use Rattle.scalar_form.specs.ScalarForm.{is_scalar_if_said}
 
+-- names are among those that have grown of them
+grown_has : {before after : List Bound} → Grown before after → (b : Bound) → Has before b → Has after b
+grown_has {before = before} g b h = subst (λ bs. Has bs b) (sym g.are) (Has-append_right g.more before b h)
+
 module _ (handing keeping : Bool) (tree : Tree) (task : TaskTree) (sound : IsSound tree) (sound_task : IsSoundTask tree task) (local : IsLocalTree handing tree)
-    (m : Marked) (keeps : (n : Name) → is_among m.pointers n ≡ true → keeping ≡ true) (params : ℕ) (result : is_scalar_if_said task.result ≡ true) where
+    (m : Marked) (keeps : (n : Name) → (is_among m.pointers n ≡ true) ⊎ (is_among m.partitions n ≡ true) → keeping ≡ true) (params : ℕ) (result : is_scalar_if_said task.result ≡ true) where
   abbrev forms : Forms
   forms = forms_by handing keeping tree task
 
@@ -61,8 +68,17 @@ module _ (handing keeping : Bool) (tree : Tree) (task : TaskTree) (sound : IsSou
   BlockTyped s line body = IsTypedBlock forms (here s line) body × KnowsHead tree task (scope_after_block tree s body)
 
   -- behind a block the names are those before it
-  behind : (s inner : Scope) → Ready s → KnowsHead tree task inner → Ready (past s inner)
-  behind s inner ready head = record { names = ready.names; head = head_past tree task s inner head }
+  behind : (s inner : Scope) → Grown s.names inner.names → Ready s → KnowsHead tree task inner → Ready (past s inner)
+  behind s inner grown ready head = record { names = ready.names; head = head_past tree task s inner (grown_has grown) head }
+
+  -- so behind the block of a loop, which began with one name more
+  behind_loop : (s : Scope) (n : Name) (t : StaticType) (body : Block) → Ready s → KnowsHead tree task (scope_after_block tree (with_name s n t true) body) →
+      Ready (past s (scope_after_block tree (with_name s n t true) body))
+  behind_loop s n t body ready head = record {
+    names = ready.names;
+    head = head_past tree task s (scope_after_block tree (with_name s n t true) body)
+        (λ b h. grown_has (block_grown tree (with_name s n t true) body) b (inr h)) head;
+  }
 
   var_local : (s : Scope) (line : ℕ) (n : Name) (t : Option TypeTerm) (i : Option Initializer) → is_local_form m (var_form n t i) ≡ true →
       AreKept (parts_of_form (var_form n t i)) → IsSoundScope s → Ready s → first_of_form tree task s (var_form n t i) ≡ None →
@@ -83,7 +99,9 @@ module _ (handing keeping : Bool) (tree : Tree) (task : TaskTree) (sound : IsSou
         },
       )
   var_local s line n None None lo k scope names e = absurd (no_way (told_of_form tree task s sound scope (var_form n None None) e).1)
-  var_local s line n None (Some (equal_initializer _ _)) lo k scope names e = absurd (no_way_back lo)
+  var_local s line n None (Some (equal_initializer r y)) lo k scope names e =
+      let v = equal_local handing keeping tree task sound sound_task local m params result (λ q h. keeps q (inr h)) s line n r y lo k scope names e in
+      (v.0, record { names = (v.1, names.names); head = v.2 })
   var_local s line n None (Some (by_field_initializer _ _ _)) lo k scope names e = absurd (no_way_back lo)
   var_local s line n None (Some (image_initializer _ _ _ _)) lo k scope names e = absurd (no_way_back lo)
   var_local s line n None (Some (preimage_initializer _ _ _ _)) lo k scope names e = absurd (no_way_back lo)
@@ -153,7 +171,7 @@ module _ (handing keeping : Bool) (tree : Tree) (task : TaskTree) (sound : IsSou
               (first_stands s.known (stands (known_type tree s y) truth_spot) [] parts.4).0,
           names,
         )
-    form_local s line (do_form body) lo k scope names e w = let b = block_local s line body lo k scope names w in (b.0, behind s (scope_after_block tree s body) names b.1)
+    form_local s line (do_form body) lo k scope names e w = let b = block_local s line body lo k scope names w in (b.0, behind s (scope_after_block tree s body) (block_grown tree s body) names b.1)
     form_local s line (while_form test body) lo k scope names e w =
         let both = and_parts (is_local_expression m test) (is_local_block m body) lo in
         let parts = told_of_form tree task s sound scope (while_form test body) e in
@@ -161,13 +179,13 @@ module _ (handing keeping : Bool) (tree : Tree) (task : TaskTree) (sound : IsSou
         let t = test_local handing keeping tree task sound sound_task local m params result s line test both.0 (kept_left (parts_of_expression test) (parts_of_block body) k) scope names told
         (first_stands s.known (stands (known_type tree s test) truth_spot) [] parts.4).0 in
         let b = block_local s line body both.1 (kept_right (parts_of_expression test) (parts_of_block body) k) scope names w in
-        ((t.0, t.1, b.0), behind s (scope_after_block tree s body) names b.1)
+        ((t.0, t.1, b.0), behind s (scope_after_block tree s body) (block_grown tree s body) names b.1)
     form_local s line (for_in_form demanded n domain body) lo k scope names e w =
         let one = and_parts (is_among m.indices n) _ lo in
         let two = and_parts (is_local_domain m n domain) (is_local_block m body) one.1 in
         let parts = told_of_form tree task s sound scope (for_in_form demanded n domain body) e in
         let told = (option_or_parts (first_in_expression tree task s domain) _ parts.2).0 in
-        let d = domain_local handing keeping tree task sound sound_task local m params result keeps s line n domain one.0 two.0
+        let d = domain_local handing keeping tree task sound sound_task local m params result (λ q h. keeps q (inl h)) s line n domain one.0 two.0
         (kept_left (parts_of_expression domain) (parts_of_block body) k) scope names told (first_stands s.known (stands (known_type tree s domain) domain_spot) [] parts.4).0 in
         let inner = loop_scope tree task sound s demanded n domain body scope e in
         let ty = taken_from (type_of tree s domain) in
@@ -176,7 +194,7 @@ module _ (handing keeping : Bool) (tree : Tree) (task : TaskTree) (sound : IsSou
         (subst IsSoundScope inner.0 inner.1)
         (record { names = (d.taken, names.names); head = head_looping tree task s n ty names.head })
         (subst (λ u. first_in_block tree task u body ≡ None) inner.0 w) in
-        ((d.over, d.is, block.0), behind s (scope_after_block tree first body) names block.1)
+        ((d.over, d.is, block.0), behind_loop s n ty body names block.1)
     form_local s line (for_to_form demanded n from to body) lo k scope names e w =
         let one = and_parts (is_local_expression m from) _ lo in
         let two = and_parts (is_local_expression m to) (is_local_block m body) one.1 in
@@ -196,7 +214,7 @@ module _ (handing keeping : Bool) (tree : Tree) (task : TaskTree) (sound : IsSou
         (subst IsSoundScope inner.0 inner.1)
         (record { names = (kept_scalar ty (sum_scalar (type_of tree s from) (type_of tree s to) a.0 b.0), names.names); head = head_looping tree task s n ty names.head })
         (subst (λ u. first_in_block tree task u body ≡ None) inner.0 w) in
-        ((a.0, b.0, a.1, b.1, block.0), behind s (scope_after_block tree loop body) names block.1)
+        ((a.0, b.0, a.1, b.1, block.0), behind_loop s n ty body names block.1)
     form_local s line (if_form arms other) lo k scope names e w =
         let both = and_parts (are_local_arms m arms) (is_local_else m other) lo in
         let parts = told_of_form tree task s sound scope (if_form arms other) e in
@@ -228,14 +246,14 @@ module _ (handing keeping : Bool) (tree : Tree) (task : TaskTree) (sound : IsSou
         (kept_left (parts_of_expression test) (parts_of_block body ++ parts_of_arms rest) k) oscope onames tests.0 stood.0 in
         let b = block_local s line body two.0 (kept_left (parts_of_block body) (parts_of_arms rest) k2) scope names next.0 in
         let r = arms_local own (past s (scope_after_block tree s body)) line rest two.1 (kept_right (parts_of_block body) (parts_of_arms rest) k2)
-        oscope onames next.1 (behind s (scope_after_block tree s body) names b.1) next.2 tests.1 stood.1 in
+        oscope onames next.1 (behind s (scope_after_block tree s body) (block_grown tree s body) names b.1) next.2 tests.1 stood.1 in
         ((t.0, t.1, b.0, r.0), r.1)
 
     else_local : (s : Scope) (line : ℕ) (other : Otherwise) → is_local_else m other ≡ true → AreKept (parts_of_otherwise other) → IsSoundScope s →
         Ready s → first_in_else tree task s other ≡ None → IsTypedElse forms (here s line) other × KnowsHead tree task (scope_after_else tree s other)
     else_local s line no_else lo k scope names e = (tt, names.head)
     else_local s line (else_block body) lo k scope names e =
-        let b = block_local s line body lo k scope names e in (b.0, head_past tree task s (scope_after_block tree s body) b.1)
+        let b = block_local s line body lo k scope names e in (b.0, head_past tree task s (scope_after_block tree s body) (grown_has (block_grown tree s body)) b.1)
 
     pub block_local : (s : Scope) (line : ℕ) (body : Block) → is_local_block m body ≡ true → AreKept (parts_of_block body) → IsSoundScope s →
         Ready s → first_in_block tree task s body ≡ None → BlockTyped s line body

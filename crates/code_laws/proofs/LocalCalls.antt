@@ -1,21 +1,22 @@
 -- Where nothing is told of a call that hands regions over, what the called task needs may be done with them, and its
 -- constraints hold of them.
 use Rattle.std.proofs.Common.{◌≡◌, ◌⊎◌, ℕ, zero, suc, ◌<◌, ◌≤◌, List, [], ◌∷◌, inl, inr, Bool, true, false, Option, Some, None, refl, sym, ap, ◌∙◌, subst, arith, ⊎_elim}
-use Rattle.std.specs.Prelude.{bytes_eq, cond, length, slice_get, ◌||◌}
+use Rattle.std.specs.Prelude.{length, not, slice_get, cond}
 use Rattle.std.proofs.lemmas.Bool.{cases_lt, eq-eqb, not-false}
 use Rattle.std.proofs.lemmas.Option.{none-some}
-use Rattle.std.proofs.lemmas.Slice.Eq.{bytes_eq-Decides}
 use Rattle.plain_values.proofs.Plain.{option_or_parts}
 use Rattle.constraint_check.proofs.Table.{is_subregion-derivable}
 use Rattle.constraint_check.specs.Derivations.{IsBelow, child, same, through, told_within, variable}
 use Rattle.regent_tree.proofs.Members.{Has}
 use Rattle.regent_tree.specs.Accesses.{space_in}
-use Rattle.regent_tree.specs.Facts.{is_subregion}
+use Rattle.regent_tree.specs.Facts.{is_subregion, is_unknown}
 use Rattle.regent_tree.specs.Lookup.{is_bound}
-use Rattle.regent_tree.specs.Scopes.{bound_as, bound_to, scope_of}
+use Rattle.regent_tree.specs.Scopes.{bound_as, scope_of}
 use Rattle.regent_tree.specs.StaticTypes.{place_in, space_at, task_named}
-use Rattle.regent_tree.specs.Syntax.{Expression, Expressions, Name, TaskTree, an_expr, no_expr}
-use Rattle.regent_tree.specs.Typing.{param_types, params_at}
+use Rattle.regent_tree.specs.Syntax.{Expression, Expressions, Name, TaskTree, access_expr, an_expr, at_step, no_expr, no_step}
+use Rattle.regent_tree.specs.Typing.{child_type, colour_of, is_disjoint, param_types, params_at, parent_of, type_of_element}
+use Rattle.regent_tree.specs.declared.facts.Colour.{Colour}
+use Rattle.regent_tree.specs.declared.facts.Colour.TheVariants.{Unknown}
 use Rattle.regent_tree.specs.declared.facts.Known.{Known}
 use Rattle.regent_tree.specs.declared.facts.Term.{Term}
 use Rattle.regent_tree.specs.declared.facts.Term.TheVariants as term
@@ -45,16 +46,19 @@ use Rattle.code_rules.specs.Programs.{task_code}
 use Rattle.code_rules.specs.Slots.{Where, bound, typed}
 use Rattle.local_form.specs.LocalForm.{Marked}
 use Rattle.code_laws.specs.Handing.{forms_by}
-use Rattle.code_laws.specs.Simple.{AreRegions, IsRegion, IsScalar, a_region_type, scalar_integer, scalar_truth, term_in, two_regions}
+use Rattle.code_laws.specs.Simple.{AreRegions, IsRegion, a_region_type, term_in, two_regions}
 use Rattle.code_laws.specs.Steps.{Forms, Taking}
 use Rattle.code_laws.specs.Taking.{MayDo, known_of_pairs, pairs_in}
-use Rattle.code_laws.specs.Typed.{AreMet, AreParted, ArePassed, IsCallable, IsHanded, IsMet, IsPart, IsParted, IsPassed, IsTyped, name_at, name_of}
-use Rattle.code_laws.proofs.Arguments.{alike_scalar, first_region, handed_name, named_typed}
-use Rattle.code_laws.proofs.DeclaredNeeds.{need_declared, pair_constrained}
-use Rattle.code_laws.proofs.KnownHeads.{KnowsHead, kept_may, known_behind}
-use Rattle.code_laws.proofs.LocalNames.{AllKept, IsKept, IsLocalTask, IsLocalTree, kept_region, kept_scalar, kept_value, named_kept}
+use Rattle.code_laws.specs.Arguments.{AreMet, AreParted, IsCutName, IsMet, IsMetAt, IsMetPart, IsPart, IsPartBelow, IsParted, IsPartedAt, name_at, name_of, parent_bound, part_at}
+use Rattle.code_laws.specs.Typed.{ArePassed, IsCallable}
+use Rattle.code_laws.proofs.Arguments.{first_region, named_typed, part_is, part_space}
+use Rattle.code_laws.proofs.DeclaredNeeds.{IsDeclared, need_declared, pair_constrained}
+use Rattle.code_laws.proofs.KnownHeads.{KnowsHead, kept_may, known_behind, may_touch}
+use Rattle.code_laws.proofs.KnownParts.{names_below, part_below, part_over, whole_may, whole_within}
+use Rattle.code_laws.proofs.LocalGiven.{IsGivenAt, IsHandedAt, IsPartAt, handed_at, one_colour, same_name, IsCutBy, child_term}
+use Rattle.code_laws.proofs.LocalNames.{AllKept, IsKept, IsLocalTask, IsLocalTree, kept_partition, kept_region, kept_scalar, kept_value, named_kept, parent_among, region_of_number}
 use Rattle.code_laws.proofs.LocalTypes.{simple_other}
-use Rattle.code_laws.proofs.LocalValues.{value_other}
+use Rattle.code_laws.proofs.LocalValues.{bound_among, value_other}
 use Rattle.code_laws.proofs.Privileges.{part_of}
 use Rattle.code_laws.proofs.Typing.{no_way_back}
 use Rattle.code_laws.proofs.Values.{scalar_simple}
@@ -69,9 +73,13 @@ abbrev IsName : Term → Type 0
 IsName (term.Name j) = Unit {0}
 IsName (term.Child q c) = ⊥
 
-scalar_sort : (t : StaticType) → IsScalar t → is_region t ≡ true → ⊥
-scalar_sort _ (scalar_integer w) e = no_way_back e
-scalar_sort _ scalar_truth e = no_way_back e
+abbrev partition_in : Term → ℕ
+partition_in (term.Name j) = 0
+partition_in (term.Child q c) = q
+
+abbrev colour_in : Term → Colour
+colour_in (term.Name j) = Unknown
+colour_in (term.Child q c) = c
 
 same_space : (t p : StaticType) → AreRegions t p → space_in p ≡ space_in t
 same_space _ _ (two_regions k l sp args brgs r u) = refl
@@ -87,60 +95,45 @@ lies_within : (known : List Known) (t u : StaticType) → IsRegion t → IsRegio
 lies_within known _ _ (a_region_type k sp args r) (a_region_type l sq brgs q) e = not-false (is_subregion known r q) e
 
 -- the term of a name's region is its own number
-kept_term : (keeping : Bool) (m : Marked) (bs : List Bound) (n : Name) (i : ℕ) (t : StaticType) → IsKept keeping m bs n i t → IsRegion t → term_in t ≡ term.Name i
+pub kept_term : (keeping : Bool) (m : Marked) (bs : List Bound) (n : Name) (i : ℕ) (t : StaticType) → IsKept keeping m bs n i t → IsRegion t → term_in t ≡ term.Name i
 kept_term keeping m bs n i t (kept_scalar _ a) r = absurd (simple_other t (scalar_simple t a) r)
 kept_term keeping m bs n i t (kept_value _ a h p) r = absurd (value_other keeping bs t a r)
 kept_term keeping m bs n i _ (kept_region k sp args h) r = refl
+kept_term keeping m bs n i _ (kept_partition d q keeps among h) r = absurd (elim r [ ])
 
--- a name is that of what it is bound to
-bound_name : (bs : List Bound) (n : Name) → is_bound bs n ≡ true → (bound_to bs n).name ≡ n
-bound_name [] n e = absurd (no_way_back e)
-bound_name (b ∷ bs) n e = chosen (bytes_eq b.name n) refl e (bound_name bs n)
-  where
-    chosen : (c : Bool) → bytes_eq b.name n ≡ c → (c || is_bound bs n) ≡ true → (is_bound bs n ≡ true → (bound_to bs n).name ≡ n) →
-        (cond c b (bound_to bs n)).name ≡ n
-    chosen true q e more = (bytes_eq-Decides b.name n).0 q
-    chosen false q e more = more e
+all_met : (keeps : Bool) (o : Option Taking) (w : Where) (es : Expressions) (ns : List NeedCode) → ((n : NeedCode) → Has ns n → IsMetAt keeps o w es n) →
+    AreMet keeps o w es ns
+all_met keeps o w es [] h = tt
+all_met keeps o w es (n ∷ ns) h = (h n (inl refl), all_met keeps o w es ns (λ k g. h k (inr g)))
 
--- ---- arguments
+all_parted : (keeps : Bool) (y : Taking) (w : Where) (es : Expressions) (ps : List (ℕ × ℕ)) →
+    ((p : ℕ × ℕ) → Has ps p → IsPartedAt keeps y w es p) → AreParted keeps (Some y) w es ps
+all_parted keeps y w es [] h = tt
+all_parted keeps y w es (p ∷ ps) h = (h p (inl refl), all_parted keeps y w es ps (λ q g. h q (inr g)))
 
--- an argument that is the name of a region
-pub record IsHandedAt (w : Where) (es : Expressions) (k : ℕ) (p : StaticType) : Type 0 where
-  pub name : Name
-  pub at : name_at es k ≡ Some name
-  pub there : is_bound w.scope.names name ≡ true
-  pub regions : AreRegions (bound w name).static_type p
+-- by a name, or by a part
+met_name : (keeps : Bool) (o : Option Taking) (w : Where) (es : Expressions) (n : NeedCode) → IsMet o w n (name_at es n.param) → IsMetAt keeps o w es n
+met_name false o w es n m = m
+met_name true o w es n m = inl m
 
-module _ (forms : Forms) (y : Taking) (takes : forms.takes ≡ Some y) (w : Where) where
-  handed_first : (t p : StaticType) (e : Expression) (es : Expressions) → is_region p ≡ true → IsPassed forms w t p e (IsTyped forms w e) →
-      IsHandedAt w (an_expr e es) 0 p
-  handed_first t p e es region (inl c) = absurd (scalar_sort p (subst IsScalar c.1 (alike_scalar (typed w e) t c.0)) region)
-  handed_first t p e es region (inr h) =
-      let n = handed_name y w t p e (subst (λ o. IsHanded o w t p e) takes h) in
-      record { name = n.0; at = ap name_of n.1; there = n.2; regions = n.4 }
+met_part : (keeps : Bool) (o : Option Taking) (w : Where) (es : Expressions) (n : NeedCode) → keeps ≡ true → IsMetPart o w n (part_at es n.param) → IsMetAt keeps o w es n
+met_part false o w es n e m = absurd (no_way_back e)
+met_part true o w es n e m = inr m
 
-  handed_later : (e : Expression) (es : Expressions) (k : ℕ) (p : StaticType) → IsHandedAt w es k p → IsHandedAt w (an_expr e es) (suc k) p
-  handed_later e es k p h = record { name = h.name; at = h.at; there = h.there; regions = h.regions }
+parted_names : (keeps : Bool) (y : Taking) (w : Where) (es : Expressions) (p : ℕ × ℕ) → IsParted y w (name_at es p.0) (name_at es p.1) → IsPartedAt keeps y w es p
+parted_names false y w es p m = m
+parted_names true y w es p m = inl m
 
-  pub handed_at : (ts ps : List StaticType) (es : Expressions) → ArePassed forms w ts ps es → (k : ℕ) → is_region (type_at ps k) ≡ true →
-      IsHandedAt w es k (type_at ps k)
-  handed_at [] [] no_expr a k e = absurd (no_way_back e)
-  handed_at (t ∷ ts) (p ∷ ps) (an_expr e es) a zero region = handed_first t p e es region a.0
-  handed_at (t ∷ ts) (p ∷ ps) (an_expr e es) a (suc k) region = handed_later e es k (type_at ps k) (handed_at ts ps es a.1 k region)
-  handed_at [] [] (an_expr e es) a k region = absurd a
-  handed_at [] (p ∷ ps) es a k region = absurd a
-  handed_at (t ∷ ts) [] es a k region = absurd a
-  handed_at (t ∷ ts) (p ∷ ps) no_expr a k region = absurd a
+parted_below : (keeps : Bool) (y : Taking) (w : Where) (es : Expressions) (p : ℕ × ℕ) → keeps ≡ true →
+    IsPartBelow y w (part_at es p.0) (name_at es p.1) (part_at es p.1) → IsPartedAt keeps y w es p
+parted_below false y w es p e m = absurd (no_way_back e)
+parted_below true y w es p e m = inr m
 
-all_met : (o : Option Taking) (w : Where) (es : Expressions) (ns : List NeedCode) → ((n : NeedCode) → Has ns n → IsMet o w n (name_at es n.param)) →
-    AreMet o w es ns
-all_met o w es [] h = tt
-all_met o w es (n ∷ ns) h = (h n (inl refl), all_met o w es ns (λ k g. h k (inr g)))
-
-all_parted : (y : Taking) (w : Where) (es : Expressions) (ps : List (ℕ × ℕ)) →
-    ((p : ℕ × ℕ) → Has ps p → IsParted y w (name_at es p.0) (name_at es p.1)) → AreParted (Some y) w es ps
-all_parted y w es [] h = tt
-all_parted y w es (p ∷ ps) h = (h p (inl refl), all_parted y w es ps (λ q g. h q (inr g)))
+-- what isn't a name is a part
+no_name : (es : Expressions) (k : ℕ) (p : Name × Expression) → part_at es k ≡ Some p → name_at es k ≡ None
+no_name no_expr k p e = refl
+no_name (an_expr e es) zero p at = ap name_of (part_is e p at)
+no_name (an_expr e es) (suc k) p at = no_name es k p at
 
 -- ---- a call
 
@@ -166,14 +159,29 @@ module _ (keeping : Bool) (task : TaskTree) (w : Where) (sound : IsSound w.tree)
   name_type (an_expr e es) (suc k) n told at =
       name_type es k n (option_or_parts (first_in_expression w.tree task w.scope e) _ told).1 at
 
-  -- names that are bound with one number are one
-  one_name : (a b : Name) → is_bound w.scope.names a ≡ true → is_bound w.scope.names b ≡ true → (bound w a).number ≡ (bound w b).number → a ≡ b
-  one_name a b ha hb equal =
-      sym (bound_name w.scope.names a ha)
-      ∙ ap (λ (c : Bound). c.name)
-      (sym (found_by_number w.scope.next w.scope.names a scope.numbers ha).0 ∙ ap (bound_as w.scope.names) equal
-      ∙ (found_by_number w.scope.next w.scope.names b scope.numbers hb).0)
-      ∙ bound_name w.scope.names b hb
+  -- the checker's type of an argument that is a part
+  part_type : (es : Expressions) (k : ℕ) (p : Name × Expression) → first_in_args w.tree task w.scope es ≡ None → part_at es k ≡ Some p →
+      type_at (known_types w.tree w.scope es) k ≡ typed w (access_expr p.0 (at_step p.1 no_step))
+  part_type no_expr k p told at = absurd (none-some p at)
+  part_type (an_expr e es) zero p told at =
+      (head_known w.tree task sound w.scope scope e (option_or_parts (first_in_expression w.tree task w.scope e) _ told).0).1 ∙ ap (typed w) (part_is e p at)
+  part_type (an_expr e es) (suc k) p told at =
+      part_type es k p (option_or_parts (first_in_expression w.tree task w.scope e) _ told).1 at
+
+  cut_by : (n : Name) → IsCutName w n → IsCutBy w n
+  cut_by n cut =
+      let t = (bound w n).static_type in
+      let i = (bound w n).number in
+      let among = parent_among keeping m w.scope.names n i t (named_kept keeping m w.scope.names n names cut.named) cut.partition in
+      let parent = region_of_number w.scope.next w.scope.names (parent_of t) scope.numbers among.0 in
+      let child : (e : Expression) → type_of_element w.scope t e ≡ child_type (parent_bound w n).static_type (term.Child i (colour_of w.scope e)) =
+      λ e. ap (λ u. type_of_element w.scope u e) among.1 in record {
+        is = among.1;
+        parent = parent.0;
+        named = parent.1;
+        part = λ e. ap term_in (child e) ∙ (child_term (parent_bound w n).static_type (term.Child i (colour_of w.scope e)) parent.0).1;
+        like = λ e. subst IsRegion (sym (child e)) (child_term (parent_bound w n).static_type (term.Child i (colour_of w.scope e)) parent.0).0;
+      }
 
   module _ (n : Name) (args : Expressions) (told : first_in_args w.tree task w.scope args ≡ None)
       (parts : IsFlawless w.tree task w.scope (calling n (known_types w.tree w.scope args)))
@@ -192,35 +200,61 @@ module _ (keeping : Bool) (task : TaskTree) (w : Where) (sound : IsSound w.tree)
     abbrev types : List StaticType
     types = known_types w.tree w.scope args
 
-    region_at : (k : ℕ) → is_region (type_at ps k) ≡ true → IsHandedAt w args k (type_at ps k)
-    region_at k region = handed_at (forms_by true keeping w.tree task) y refl w (params_at w.tree w.scope t args) ps args passed k region
+    abbrev forms : Forms
+    forms = forms_by true keeping w.tree task
+
+    region_at : (k : ℕ) → is_region (type_at ps k) ≡ true → IsGivenAt forms y refl w args k (type_at ps k)
+    region_at k region = handed_at forms y refl w (params_at w.tree w.scope t args) ps args passed k region
 
     order : params_of w.tree n ≡ ps
     order = ap types_in_order (sound.params n)
 
-    met : (d : NeedCode) → Has (task_code w.tree t).needs d → IsMet (Some y) w d (name_at args d.param)
-    met d h =
-        let is = need_declared w.tree t callee_sound callee_named d h in
-        let a = region_at d.param is.region in
-        let b = (bound w a.name).static_type in
-        let region = first_region b (type_at ps d.param) a.regions in
+    -- what is wanted of an argument of a type may be done with it
+    allowed : (d : NeedCode) (is : IsDeclared w.tree t callee_sound callee_named d) (b : StaticType) → AreRegions b (type_at ps d.param) → type_at types d.param ≡ b →
+        may_do (rights_declared w.tree task) w.scope.known (wanting d.field is.access (term_in b)) ≡ true
+    allowed d is b regions typed_b =
         let right = a_right d.param d.field is.access in
         let want = wanting d.field is.access (term_in b) in
         let given : Has (wanted_of_argument (type_at (params_of w.tree n) d.param) (type_at types d.param) right) want =
         subst (λ ts. Has (wanted_of_argument (type_at ts d.param) (type_at types d.param) right) want) (sym order)
-        (subst (λ u. Has (wanted_of_argument (type_at ps d.param) u right) want) (sym (name_type args d.param a.name told a.at))
-        (wants b (type_at ps d.param) a.regions right)) in
+        (subst (λ u. Has (wanted_of_argument (type_at ps d.param) u right) want) (sym typed_b) (wants b (type_at ps d.param) regions right)) in
         let wanted = flat_has (λ (v : Right). wanted_of_argument (type_at (params_of w.tree n) v.region) (type_at types v.region) v) (rights_told w.tree t)
         right want (subst (λ rs. Has rs right) (sym (rights_soundly w.tree t callee_sound.clauses)) is.right) given in
-        let may = all_has (may_do (rights_declared w.tree task) w.scope.known) (wanted_by_call w.tree (calling n types)) want (not-false _ parts.allowed) wanted in
+        all_has (may_do (rights_declared w.tree task) w.scope.known) (wanted_by_call w.tree (calling n types)) want (not-false _ parts.allowed) wanted
+
+    met : (d : NeedCode) → Has (task_code w.tree t).needs d → IsMetAt keeping (Some y) w args d
+    met d h =
+        let is = need_declared w.tree t callee_sound callee_named d h in
+        ⊎_elim
+        (λ (a : IsHandedAt w args d.param (type_at ps d.param)).
+        let b = (bound w a.name).static_type in
+        let region = first_region b (type_at ps d.param) a.regions in
         let done = kept_may true keeping w.tree task w.scope sound_task head m w.scope.names a.name (bound w a.name).number b (named_kept keeping m w.scope.names a.name names a.there) region
-        d.field is.access may in
-        subst (IsMet (Some y) w d) (sym a.at) (
+        d.field is.access (allowed d is b a.regions (name_type args d.param a.name told a.at)) in
+        met_name keeping (Some y) w args d (subst (IsMet (Some y) w d) (sym a.at) (
           a.there,
           region,
           subst (λ sp. d.field < length (space_at w.tree sp).fields) (same_space b (type_at ps d.param) a.regions) is.field,
           subst (MayDo (Some y) (term_in b) d.field) is.mode done,
-        )
+        )))
+        (λ (a : IsPartAt forms w args d.param (type_at ps d.param)).
+        let b = typed w (access_expr a.name (at_step a.index no_step)) in
+        let p : Name × Expression = (a.name, a.index) in
+        let c = cut_by a.name a.cut in
+        let parent = (parent_bound w a.name).static_type in
+        let r = parent_of (bound w a.name).static_type in
+        let may = whole_may w.tree task w.scope head (bound w a.name).number r (colour_of w.scope a.index) (is_disjoint (bound w a.name).static_type) (bound w a.name)
+        (bound_among w.scope.names a.name a.cut.named) refl c.is (rights_declared w.tree task) d.field is.access
+        (subst (λ u. may_do (rights_declared w.tree task) w.scope.known (wanting d.field is.access u) ≡ true) (c.part a.index)
+        (allowed d is b a.regions (part_type args d.param p told a.at))) in
+        let done = may_touch true w.tree task w.scope sound_task head r d.field is.access may in
+        met_part keeping (Some y) w args d a.keeps (subst (IsMetPart (Some y) w d) (sym a.at) (
+          a.cut,
+          subst (λ sp. d.field < length (space_at w.tree sp).fields)
+              (same_space b (type_at ps d.param) a.regions ∙ part_space w (access_expr a.name (at_step a.index no_step)) p refl a.cut c.parent) is.field,
+          subst (λ u. MayDo (Some y) u d.field d.mode) (sym c.named) (subst (MayDo (Some y) (term.Name r) d.field) is.mode done),
+        )))
+        (region_at d.param is.region)
 
     -- by the numbers of two names
     parted_by : (a b : Name) → is_bound w.scope.names a ≡ true → is_bound w.scope.names b ≡ true → (i j : ℕ) → (bound w a).number ≡ i → (bound w b).number ≡ j →
@@ -232,37 +266,121 @@ module _ (keeping : Bool) (task : TaskTree) (w : Where) (sound : IsSound w.tree)
         (λ (high : length task.params ≤ i).
         let below = ((is_subregion-derivable w.scope.known (term.Name i) (term.Name j)).0 e).below in
         let number : j ≡ i = ap number_in (below_made (term.Name i) (term.Name j) below i refl high) in
-        inl (one_name a b ha hb (ia ∙ sym number ∙ sym jb)))
+        inl (same_name w scope.numbers a b ha hb (ia ∙ sym number ∙ sym jb)))
         (cases_lt i (length task.params))
 
-    parted : (p : ℕ × ℕ) → Has (pairs_in (scope_of w.tree t).known) p → IsParted y w (name_at args p.0) (name_at args p.1)
-    parted p h =
-        let c = pair_constrained w.tree t callee_sound p h in
-        let a = region_at (place_in t.params c.lower) c.low.region in
-        let b = region_at (place_in t.params c.upper) c.high.region in
+    -- where nothing is told, one argument lies within another
+    argument_within : (lower upper : Name) (ta tb : StaticType) → IsRegion ta → IsRegion tb → type_at types (place_in t.params lower) ≡ ta →
+        type_at types (place_in t.params upper) ≡ tb → Has t.clauses (clause.Within lower upper) → is_subregion w.scope.known (term_in ta) (term_in tb) ≡ true
+    argument_within lower upper ta tb ra rb a b said =
+        let whole = none_has (breaks_clause w.scope.known t.params types) _ (clause.Within lower upper) parts.constrained
+        (subst (λ cs. Has cs (clause.Within lower upper)) (sym (told_soundly w.tree t callee_sound.clauses)) said) in
+        lies_within w.scope.known ta tb ra rb
+        (subst (λ u. is_not_within w.scope.known ta u ≡ false) b
+        (subst (λ u. is_not_within w.scope.known u (type_at types (place_in t.params upper)) ≡ false) a whole))
+
+    -- by what stands at the places of a constraint
+    parted_as : (p : ℕ × ℕ) (lower upper : Name) → Has t.clauses (clause.Within lower upper) → (place_in t.params lower ≡ p.0) → (place_in t.params upper ≡ p.1) →
+        IsGivenAt forms y refl w args (place_in t.params lower) (type_at ps (place_in t.params lower)) →
+        IsGivenAt forms y refl w args (place_in t.params upper) (type_at ps (place_in t.params upper)) → IsPartedAt keeping y w args p
+    parted_as p lower upper said low high (inl a) (inl b) =
         let ta = (bound w a.name).static_type in
         let tb = (bound w b.name).static_type in
         let ra = first_region ta _ a.regions in
         let rb = first_region tb _ b.regions in
         let kept_a = kept_term keeping m w.scope.names a.name (bound w a.name).number ta (named_kept keeping m w.scope.names a.name names a.there) ra in
         let kept_b = kept_term keeping m w.scope.names b.name (bound w b.name).number tb (named_kept keeping m w.scope.names b.name names b.there) rb in
-        let whole = none_has (breaks_clause w.scope.known t.params types) _ (clause.Within c.lower c.upper) parts.constrained
-        (subst (λ cs. Has cs (clause.Within c.lower c.upper)) (sym (told_soundly w.tree t callee_sound.clauses)) c.told) in
-        let lies = lies_within w.scope.known ta tb ra rb
-        (subst (λ u. is_not_within w.scope.known ta u ≡ false) (name_type args (place_in t.params c.upper) b.name told b.at)
-        (subst (λ u. is_not_within w.scope.known u (type_at types (place_in t.params c.upper)) ≡ false) (name_type args (place_in t.params c.lower) a.name told a.at) whole)) in
+        let lies = argument_within lower upper ta tb ra rb (name_type args (place_in t.params lower) a.name told a.at)
+        (name_type args (place_in t.params upper) b.name told b.at) said in
         let by = parted_by a.name b.name a.there b.there (bound w a.name).number (bound w b.name).number refl refl
         (subst (λ r. is_subregion w.scope.known (term.Name (bound w a.name).number) r ≡ true) kept_b
         (subst (λ r. is_subregion w.scope.known r (term_in tb) ≡ true) kept_a lies)) in
         let part : (a.name ≡ b.name) ⊎ IsPart y (term_in ta) (term_in tb) = ⊎_elim (λ q. inl q)
         (λ is. inr (subst (λ r. IsPart y r (term_in tb)) (sym kept_a) (subst (IsPart y (term.Name (bound w a.name).number)) (sym kept_b) is))) by in
-        subst (λ i. IsParted y w (name_at args i) (name_at args p.1)) c.are.0
-        (subst (λ j. IsParted y w (name_at args (place_in t.params c.lower)) (name_at args j)) c.are.1
-        (subst (λ o. IsParted y w o (name_at args (place_in t.params c.upper))) (sym a.at)
-        (subst (IsParted y w (Some a.name)) (sym b.at) (a.there, b.there, ra, rb, part))))
+        parted_names keeping y w args p (subst (λ i. IsParted y w (name_at args i) (name_at args p.1)) low
+        (subst (λ j. IsParted y w (name_at args (place_in t.params lower)) (name_at args j)) high
+        (subst (λ o. IsParted y w o (name_at args (place_in t.params upper))) (sym a.at)
+        (subst (IsParted y w (Some a.name)) (sym b.at) (a.there, b.there, ra, rb, part)))))
+    parted_as p lower upper said low high (inr a) (inl b) =
+        let ca = cut_by a.name a.cut in
+        let i = (bound w a.name).number in
+        let r = parent_of (bound w a.name).static_type in
+        let tb = (bound w b.name).static_type in
+        let j = (bound w b.name).number in
+        let rb = first_region tb _ b.regions in
+        let kept_b = kept_term keeping m w.scope.names b.name j tb (named_kept keeping m w.scope.names b.name names b.there) rb in
+        let lies = argument_within lower upper (typed w (access_expr a.name (at_step a.index no_step))) tb (ca.like a.index) rb
+        (part_type args (place_in t.params lower) (a.name, a.index) told a.at) (name_type args (place_in t.params upper) b.name told b.at) said in
+        let over = whole_within w.tree task w.scope head i r (colour_of w.scope a.index) (is_disjoint (bound w a.name).static_type) (bound w a.name)
+        (bound_among w.scope.names a.name a.cut.named) refl ca.is j
+        (subst (λ u. is_subregion w.scope.known (term.Child i (colour_of w.scope a.index)) u ≡ true) kept_b
+        (subst (λ u. is_subregion w.scope.known u (term_in tb) ≡ true) (ca.part a.index) lies)) in
+        let found = (found_by_number w.scope.next w.scope.names b.name scope.numbers b.there).0 in
+        let by : ((parent_bound w a.name).place ≡ (bound w b.name).place) ⊎ IsPart y (term_in (parent_bound w a.name).static_type) (term_in tb) =
+        ⊎_elim
+        (λ (l : r < length task.params).
+        let p = part_of w.tree task sound_task w.scope.known (known_behind w.tree task w.scope head) r j l over in
+        inr (subst (λ u. IsPart y u (term_in tb)) (sym ca.named) (subst (IsPart y (term.Name r)) (sym kept_b) (l, p.0, p.1))))
+        (λ (h : length task.params ≤ r).
+        let below = ((is_subregion-derivable w.scope.known (term.Name r) (term.Name j)).0 over).below in
+        let number : j ≡ r = ap number_in (below_made (term.Name r) (term.Name j) below r refl h) in
+        inl (ap (λ k. (bound_as w.scope.names k).place) (sym number) ∙ ap (λ (c : Bound). c.place) found))
+        (cases_lt r (length task.params)) in
+        parted_below keeping y w args p a.keeps (subst (λ i. IsPartBelow y w (part_at args i) (name_at args p.1) (part_at args p.1)) low
+        (subst (λ j. IsPartBelow y w (part_at args (place_in t.params lower)) (name_at args j) (part_at args j)) high
+        (subst (λ o. IsPartBelow y w o (name_at args (place_in t.params upper)) (part_at args (place_in t.params upper))) (sym a.at)
+        (subst (λ o. IsPartBelow y w (Some (a.name, a.index)) o (part_at args (place_in t.params upper))) (sym b.at)
+        (a.cut, record { named = b.there; numbers = scope.numbers; region = rb }, by)))))
+    parted_as p lower upper said low high (inr a) (inr b) =
+        let ca = cut_by a.name a.cut in
+        let cb = cut_by b.name b.cut in
+        let i = (bound w a.name).number in
+        let r = parent_of (bound w a.name).static_type in
+        let j = (bound w b.name).number in
+        let ka = colour_of w.scope a.index in
+        let kb = colour_of w.scope b.index in
+        let lies = argument_within lower upper (typed w (access_expr a.name (at_step a.index no_step))) (typed w (access_expr b.name (at_step b.index no_step)))
+        (ca.like a.index) (cb.like b.index) (part_type args (place_in t.params lower) (a.name, a.index) told a.at)
+        (part_type args (place_in t.params upper) (b.name, b.index) told b.at) said in
+        let q = (is_subregion-derivable w.scope.known (term.Child i ka) (term.Child j kb)).0
+        (subst (λ u. is_subregion w.scope.known (term.Child i ka) u ≡ true) (cb.part b.index)
+        (subst (λ u. is_subregion w.scope.known u (term_in (typed w (access_expr b.name (at_step b.index no_step)))) ≡ true) (ca.part a.index) lies)) in
+        let alike : term.Child j kb ≡ term.Child i ka =
+        ⊎_elim (λ e. e)
+        (λ below. absurd (subst IsName (sym (names_below w.tree task w.scope head (term.Name r) (term.Child j kb) below r refl).1) tt))
+        (part_over w.tree task w.scope head i r ka (is_disjoint (bound w a.name).static_type) (bound w a.name)
+        (bound_among w.scope.names a.name a.cut.named) refl ca.is (term.Child j kb)
+        (part_below w.tree task w.scope head (term.Child i ka) (term.Child j kb) q.below i ka refl)) in
+        let name = same_name w scope.numbers a.name b.name a.cut.named b.cut.named (sym (ap partition_in alike)) in
+        let colour = one_colour forms w scope.numbers a.index b.index a.indexed b.indexed (sym (ap colour_in alike))
+        (subst (λ c. not (is_unknown c) ≡ true) (ap colour_in alike) q.certain) in
+        parted_below keeping y w args p a.keeps (subst (λ i. IsPartBelow y w (part_at args i) (name_at args p.1) (part_at args p.1)) low
+        (subst (λ j. IsPartBelow y w (part_at args (place_in t.params lower)) (name_at args j) (part_at args j)) high
+        (subst (λ o. IsPartBelow y w o (name_at args (place_in t.params upper)) (part_at args (place_in t.params upper))) (sym a.at)
+        (subst (λ o. IsPartBelow y w (Some (a.name, a.index)) o (part_at args (place_in t.params upper))) (sym (no_name args (place_in t.params upper) (b.name, b.index) b.at))
+        (subst (IsPartBelow y w (Some (a.name, a.index)) None) (sym b.at) (a.cut, name, colour))))))
+    parted_as p lower upper said low high (inl a) (inr b) =
+        let cb = cut_by b.name b.cut in
+        let ta = (bound w a.name).static_type in
+        let i = (bound w a.name).number in
+        let ra = first_region ta _ a.regions in
+        let kept_a = kept_term keeping m w.scope.names a.name i ta (named_kept keeping m w.scope.names a.name names a.there) ra in
+        let j = (bound w b.name).number in
+        let kb = colour_of w.scope b.index in
+        let lies = argument_within lower upper ta (typed w (access_expr b.name (at_step b.index no_step))) ra (cb.like b.index)
+        (name_type args (place_in t.params lower) a.name told a.at) (part_type args (place_in t.params upper) (b.name, b.index) told b.at) said in
+        let q = (is_subregion-derivable w.scope.known (term.Name i) (term.Child j kb)).0
+        (subst (λ u. is_subregion w.scope.known (term.Name i) u ≡ true) (cb.part b.index)
+        (subst (λ u. is_subregion w.scope.known u (term_in (typed w (access_expr b.name (at_step b.index no_step)))) ≡ true) kept_a lies)) in
+        absurd (subst IsName (sym (names_below w.tree task w.scope head (term.Name i) (term.Child j kb) q.below i refl).1) tt)
+
+    parted : (p : ℕ × ℕ) → Has (pairs_in (scope_of w.tree t).known) p → IsPartedAt keeping y w args p
+    parted p h =
+        let c = pair_constrained w.tree t callee_sound p h in
+        parted_as p c.lower c.upper c.told c.are.0 c.are.1 (region_at (place_in t.params c.lower) c.low.region) (region_at (place_in t.params c.upper) c.high.region)
 
     pub calls_handed : slice_get (tasks_of w.tree) (place_of_task w.tree n) ≡ Some t → IsCallable (forms_by true keeping w.tree task) w n args
-    calls_handed at = (at, all_met (Some y) w args (task_code w.tree t).needs met, all_parted y w args (pairs_in (scope_of w.tree t).known) parted)
+    calls_handed at = (at, all_met keeping (Some y) w args (task_code w.tree t).needs met, all_parted keeping y w args (pairs_in (scope_of w.tree t).known) parted)
 
 -- with regions that are handed over, or without
 pub may_call : (handing keeping : Bool) (task : TaskTree) (w : Where) → IsSound w.tree → IsSoundTask w.tree task → IsLocalTree handing w.tree → (m : Marked) →
@@ -271,6 +389,6 @@ pub may_call : (handing keeping : Bool) (task : TaskTree) (w : Where) → IsSoun
     ArePassed (forms_by handing keeping w.tree task) w (params_at w.tree w.scope (task_named w.tree n) args) (param_types w.tree (task_named w.tree n)) args →
     IsCallable (forms_by handing keeping w.tree task) w n args
 may_call false keeping task w sound sound_task local m scope names head n args l told parts passed =
-    (l.called, subst (AreMet None w args) (sym (l.alone refl).needs) tt, tt)
+    (l.called, subst (AreMet keeping None w args) (sym (l.alone refl).needs) tt, tt)
 may_call true keeping task w sound sound_task local m scope names head n args l told parts passed =
     calls_handed keeping task w sound sound_task m scope names head n args told parts (sound.tasks (task_named w.tree n) l.stands) local.named passed l.called

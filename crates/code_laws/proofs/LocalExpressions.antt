@@ -1,18 +1,20 @@
 -- Expressions of a text with marked names, of which no breach is told, are typed.
-use Rattle.std.proofs.Common.{◌≡◌, Bool, List, [], ◌∷◌, ◌++◌, None, false, true, refl, ap, subst, ◌∙◌, ◌⊎◌, inl, inr, not, arith, ⊎_elim}
+use Rattle.std.proofs.Common.{◌≡◌, Bool, List, [], ◌∷◌, ◌++◌, None, false, true, refl, ap, subst, sym, ◌∙◌, ◌⊎◌, inl, inr, not, arith, ⊎_elim}
 use Rattle.std.specs.Prelude.{is_none, length, map, ◌&&◌, ◌||◌}
 use Rattle.std.specs.List.{list_any}
-use Rattle.std.proofs.lemmas.Bool.{and_parts, not-false, or_parts}
+use Rattle.std.proofs.lemmas.Bool.{and_parts, not-false, not-true, or_parts}
 use Rattle.plain_values.proofs.Plain.{option_or_parts}
 use Rattle.regent_tree.specs.Limits.{literal, node, nodes, parts_of_expression, parts_of_expressions, parts_of_links}
 use Rattle.regent_tree.specs.Lookup.{has_task, is_bound}
 use Rattle.regent_tree.specs.StaticTypes.{task_named}
-use Rattle.regent_tree.specs.Syntax.{Expression, Expressions, Links, Name, TaskTree, a_link, access_expr, an_expr, at_step, call_expr, cast_expr, chain_expr, convert_expr, field_step, is_null_expr, no_expr, no_link, no_step, null_expr, number_expr, prefix_expr, space_expr, truth_expr}
-use Rattle.regent_tree.specs.Typing.{linked_type, operated, param_types, put_in, type_of_element, types_of}
+use Rattle.regent_tree.specs.Syntax.{Expression, Expressions, Links, Name, TaskTree, Tree, a_link, access_expr, an_expr, at_step, call_expr, cast_expr, chain_expr, convert_expr, field_step, is_null_expr, no_expr, no_link, no_step, null_expr, number_expr, prefix_expr, space_expr, truth_expr}
+use Rattle.regent_tree.specs.Typing.{linked_type, operated, param_types, put_in, type_of_element, type_of_field, types_of}
 use Rattle.regent_tree.specs.declared.expression.Operator.{Operator}
 use Rattle.regent_tree.specs.declared.expression.Operator.TheVariants.{And, Compare, Compute, Or}
 use Rattle.regent_tree.specs.declared.rights.Access.TheVariants as access
+use Rattle.regent_tree.specs.declared.types.Kind.TheVariants.{Int1d}
 use Rattle.regent_tree.specs.declared.typing.StaticType.{StaticType}
+use Rattle.regent_tree.specs.declared.typing.StaticType.TheVariants.{Ispace as ispace_type}
 use Rattle.check_laws.specs.SoundScopes.{IsSoundScope}
 use Rattle.check_rules.specs.first.FirstInExpressions.{first_in_args, first_in_expression, first_in_links, first_of_call, first_of_operator, first_of_signs, first_of_standing, first_of_step, first_of_taking}
 use Rattle.check_rules.specs.first.Rules.{rule_if}
@@ -26,23 +28,23 @@ use Rattle.check_rules.specs.types.TypedForms.{calling, computing, element_of, f
 use Rattle.check_rules.specs.declared.rule.Rule.TheVariants as rule
 use Rattle.check_rules.proofs.Untold.{rule_none}
 use Rattle.code_rules.specs.Slots.{Where, bound, typed}
-use Rattle.local_form.specs.LocalForm.{Marked, are_local_arguments, are_local_expressions, are_local_links, gives_scalar, is_local_expression, is_name, links_give, gives_pointer}
+use Rattle.local_form.specs.LocalForm.{Marked, are_local_arguments, are_local_expressions, are_local_links, gives_scalar, is_among, is_local_expression, is_name, is_part, links_give, gives_pointer}
 use Rattle.code_laws.specs.Handing.{forms_by}
-use Rattle.code_laws.specs.Simple.{IsScalar, IsSimple, scalar_integer, scalar_truth, simple_space, simple_truth}
+use Rattle.code_laws.specs.Simple.{IsPartition, IsScalar, IsSimple, a_partition_type, scalar_integer, scalar_truth, simple_space, simple_truth}
 use Rattle.code_laws.specs.Steps.{Forms}
 use Rattle.code_laws.specs.Typed.{AreNumbers, ArePassed, AreTypedLinks, element_field}
 use Rattle.code_laws.proofs.KnownHeads.{KnowsHead}
 use Rattle.code_laws.proofs.LocalParts.{and_then, given_result}
-use Rattle.code_laws.proofs.LocalNames.{AllKept, AreScalars, AreTakable, IsLocalTree, named_kept, named_place, kept_as_value}
+use Rattle.code_laws.proofs.LocalNames.{AllKept, AreScalars, AreTakable, IsLocalTree, named_kept, named_place, no_partition_kept, kept_as_value, partition_keeps, partition_or}
 use Rattle.code_laws.proofs.LocalTypes.{operated_number, simple_computed}
 use Rattle.code_laws.proofs.TypedStatements.{first_stands}
 use Rattle.check_laws.proofs.Widths.{literal_fits}
-use Rattle.code_laws.proofs.Typing.{AreKept, integer_term, kept_behind, kept_left, kept_right, no_way_back, number_scalar, operates, signed_scalar, signs_fit, stands_well}
+use Rattle.code_laws.proofs.Typing.{AreKept, integer_term, kept_behind, kept_left, kept_right, no_way, no_way_back, number_scalar, operates, signed_scalar, signs_fit, stands_well}
 use Rattle.code_laws.proofs.Values.{scalar_simple}
 use Rattle.scalar_form.specs.ScalarForm.{is_scalar_number}
 use Rattle.code_laws.proofs.LocalValues.{IsValue, field_kept, integer_converts, signs_as, value_after, value_compared, value_computed, value_counts, value_integer, value_operated, value_simple, value_truths}
-use Rattle.code_laws.proofs.LocalPoints.{IsWell, at_point, behind_name, gone, is_behind, local_known, name_there, scalar_well, touched}
-use Rattle.code_laws.proofs.LocalArguments.{IsCallWell, argument_of, call_well, given_one, name_well}
+use Rattle.code_laws.proofs.LocalPoints.{IsWell, at_point, behind_name, cut_name, gone, is_behind, local_known, name_there, scalar_well, touched}
+use Rattle.code_laws.proofs.LocalArguments.{IsArgument, IsCallWell, argument_of, call_well, given_one, name_well, part_of_name}
 
 module _ (handing keeping : Bool) (task : TaskTree) (w : Where) (sound : IsSound w.tree) (sound_task : IsSoundTask w.tree task) (local : IsLocalTree handing w.tree)
     (m : Marked) (scope : IsSoundScope w.scope) (names : AllKept keeping m w.scope.names) (head : KnowsHead w.tree task w.scope) where
@@ -105,6 +107,21 @@ module _ (handing keeping : Bool) (task : TaskTree) (w : Where) (sound : IsSound
       let n = simple_computed t (typed w e) (scalar_simple t x) (scalar_simple (typed w e) y) does in operated_number o t (typed w e) n.0 n.1 x y) in
       record { are = (both.0, both.1, a.is, r.are); value = r.value; scalar = r.scalar; plain = λ c. r.plain (inr simple) }
 
+  colours_typed : (tree : Tree) (t : StaticType) (f : Name) → IsPartition t → type_of_field tree t f ≡ ispace_type Int1d
+  colours_typed tree _ f (a_partition_type d r p) = refl
+
+  -- the colours of a partition are an index space
+  colours_well : (n f : Name) → is_bound w.scope.names n ≡ true → IsPartition (bound w n).static_type → keeping ≡ true → is_among m.partitions n ≡ true →
+      Well (access_expr n (field_step f no_step))
+  colours_well n f there cut keeps marked =
+      let space : IsSimple (type_of_field w.tree (bound w n).static_type f) =
+      subst IsSimple (sym (colours_typed w.tree (bound w n).static_type f cut)) (simple_space Int1d) in record {
+        is = (keeps, inr (cut_name handing keeping task w sound sound_task local m scope names head n there cut));
+        value = value_simple _ space;
+        scalar = λ q. absurd (no_way (sym marked ∙ not-true (is_among m.partitions n) q));
+        plain = λ q. space;
+      }
+
   mutual
     pub local_well : (e : Expression) → is_local_expression m e ≡ true → AreKept (parts_of_expression e) →
         first_in_expression w.tree task w.scope e ≡ None → Well e
@@ -136,9 +153,16 @@ module _ (handing keeping : Bool) (task : TaskTree) (w : Where) (sound : IsSound
         let there = name_there handing keeping task w sound sound_task local m scope names head n told.0 in
         let step = (option_or_parts (first_of_step w.tree task w.scope (field_of t f)) _ told.1).0 in
         let reading = option_or_parts (first_of_taking w.tree (field_of t f)) _ step in
-        let p = behind_name handing keeping task w sound sound_task local m scope names head n f there reading.0 in
+        let kept = named_kept keeping m w.scope.names n names there in
+        ⊎_elim
+        (λ cut. colours_well n f there cut (partition_keeps keeping m w.scope.names n (bound w n).number t kept cut)
+        (no_partition_kept keeping m w.scope.names n (bound w n).number t kept cut))
+        (λ other.
+        let p = behind_name handing keeping task w sound sound_task local m scope names head n f there other reading.0 in
         let may = gone handing keeping task w sound sound_task local m scope names head n f access.Read p (rule_none _ rule.Read reading.1) in
-        scalar_well handing keeping task w sound sound_task local m scope names head (access_expr n (field_step f no_step)) (p.keeps, is_behind handing keeping task w sound sound_task local m scope names head n f there p, may) p.scalar
+        scalar_well handing keeping task w sound sound_task local m scope names head (access_expr n (field_step f no_step))
+        (p.keeps, inl (is_behind handing keeping task w sound sound_task local m scope names head n f there p, may)) p.scalar)
+        (partition_or keeping m w.scope.names n (bound w n).number t kept)
     local_well (access_expr n (at_step e (field_step f no_step))) lo k none =
         let t = (bound w n).static_type in
         let told = option_or_parts (rule_if (not (is_bound w.scope.names n)) rule.Name) _ none in
@@ -195,6 +219,29 @@ module _ (handing keeping : Bool) (task : TaskTree) (w : Where) (sound : IsSound
     local_well (null_expr _) lo k e = absurd (no_way_back lo)
     local_well (cast_expr _ _) lo k e = absurd (no_way_back lo)
 
+    -- a part that stands as an argument
+    local_part : (e : Expression) → is_part m e ≡ true → AreKept (parts_of_expression e) → first_in_expression w.tree task w.scope e ≡ None →
+        IsArgument handing keeping task w sound sound_task local m scope names head e
+    local_part (access_expr n (at_step e no_step)) lo k told =
+        let both = and_parts (is_among m.partitions n) (is_local_expression m e) lo in
+        let parts = kept_behind node (parts_of_expression e ++ []) (kept_behind node (node ∷ (parts_of_expression e ++ [])) k) in
+        part_of_name handing keeping task w sound sound_task local m scope names head n e told
+        (λ own. local_well e both.1 (kept_left (parts_of_expression e) [] parts) own)
+    local_part (access_expr n no_step) lo k told = absurd (no_way_back lo)
+    local_part (access_expr n (field_step _ _)) lo k told = absurd (no_way_back lo)
+    local_part (access_expr n (at_step _ (field_step _ _))) lo k told = absurd (no_way_back lo)
+    local_part (access_expr n (at_step _ (at_step _ _))) lo k told = absurd (no_way_back lo)
+    local_part (number_expr _ _) lo k told = absurd (no_way_back lo)
+    local_part (truth_expr _) lo k told = absurd (no_way_back lo)
+    local_part (chain_expr _ _) lo k told = absurd (no_way_back lo)
+    local_part (prefix_expr _ _) lo k told = absurd (no_way_back lo)
+    local_part (call_expr _ _) lo k told = absurd (no_way_back lo)
+    local_part (convert_expr _ _) lo k told = absurd (no_way_back lo)
+    local_part (is_null_expr _) lo k told = absurd (no_way_back lo)
+    local_part (null_expr _) lo k told = absurd (no_way_back lo)
+    local_part (cast_expr _ _) lo k told = absurd (no_way_back lo)
+    local_part (space_expr _ _) lo k told = absurd (no_way_back lo)
+
     local_links : (left : Bool) (t : StaticType) (ls : Links) → are_local_links m ls ≡ true → AreKept (parts_of_links ls) → Value t →
         (left ≡ true → IsScalar t) → first_in_links w.tree task w.scope t ls ≡ None → AreWellLinks left t ls
     local_links left t no_link lo k value scalar e =
@@ -222,9 +269,11 @@ module _ (handing keeping : Bool) (task : TaskTree) (w : Where) (sound : IsSound
     local_given all types (p ∷ ps) no_expr lo k takable alone told standing fits many = absurd (omega (arith, many))
     local_given all types [] (an_expr e es) lo k takable alone told standing fits many = absurd (omega (arith, many))
     local_given all types (p ∷ ps) (an_expr e es) lo k takable alone told standing fits many =
-        let s = and_parts (is_name e || is_local_expression m e) (are_local_arguments m es) lo in
+        let s = and_parts (is_name e || (is_part m e || is_local_expression m e)) (are_local_arguments m es) lo in
         let parts = option_or_parts (first_in_expression w.tree task w.scope e) _ told in
-        let a = argument_of handing keeping task w sound sound_task local m scope names head e s.0 parts.0 (λ own. local_well e own (kept_left (parts_of_expression e) (parts_of_expressions es) k) parts.0) in
+        let k_e = kept_left (parts_of_expression e) (parts_of_expressions es) k in
+        let a = argument_of handing keeping task w sound sound_task local m scope names head e s.0 parts.0 (λ part. local_part e part k_e parts.0)
+        (λ own. local_well e own k_e parts.0) in
         let type = known_type w.tree w.scope e in
         let stood = first_stands w.scope.known (stands type (param_spot (put_in all p))) (stand_at all ps (known_types w.tree w.scope es)) standing in
         let fit = or_parts (is_region p && differs all p type) _ fits in (

@@ -1,22 +1,23 @@
 -- What names stand for in a text whose names of regions and indices are marked, and the fields of such regions.
-use Rattle.std.proofs.Common.{◌≡◌, Bool, List, [], ◌∷◌, None, false, true, refl, ap, sym, subst, ℕ, ◌<◌, ◌≤◌, ◌∙◌, cond, not}
+use Rattle.std.proofs.Common.{◌≡◌, ◌⊎◌, inl, inr, Bool, List, [], ◌∷◌, None, false, true, refl, ap, sym, subst, ℕ, ◌<◌, ◌≤◌, ◌∙◌, cond, not}
 use Rattle.std.specs.Prelude.{Some, bytes_eq, length, slice_get, ◌||◌, ◌++◌}
-use Rattle.std.proofs.lemmas.Bool.{not-false}
+use Rattle.std.proofs.lemmas.Bool.{not-false, not-true, or_parts}
 use Rattle.std.proofs.lemmas.Slice.Eq.{bytes_eq-Decides}
 use Rattle.plain_values.proofs.Plain.{option_or_parts}
 use Rattle.regent_tree.specs.Accesses.{args_in, space_in}
 use Rattle.regent_tree.specs.Lookup.{has_field, has_task, is_bound}
-use Rattle.regent_tree.specs.Scopes.{bound_to}
+use Rattle.regent_tree.specs.Scopes.{bound_as, bound_to}
 use Rattle.regent_tree.proofs.Members.{Has}
 use Rattle.regent_tree.specs.StaticTypes.{Reach, among_args, field_kind, field_place, field_term, field_type, space_at, task_named}
 use Rattle.regent_tree.specs.Syntax.{Expression, Name, TaskTree, Tree}
-use Rattle.regent_tree.specs.Typing.{is_pointer, param_types, type_of_element, type_of_field}
+use Rattle.regent_tree.specs.Typing.{child_type, colour_of, is_disjoint, is_pointer, param_types, parent_of, type_of_element, type_of_field}
+use Rattle.regent_tree.specs.declared.facts.Term.{Term}
 use Rattle.regent_tree.specs.declared.facts.Term.TheVariants as place
 use Rattle.regent_tree.specs.declared.types.Kind.{Kind}
 use Rattle.regent_tree.specs.declared.types.Param.{Param}
 use Rattle.regent_tree.specs.declared.typing.Bound.{Bound}
 use Rattle.regent_tree.specs.declared.typing.StaticType.{StaticType}
-use Rattle.regent_tree.specs.declared.typing.StaticType.TheVariants.{Index as index_type, Integer as integer_type, Ispace as ispace_type, Pointer as pointer_type, Region as region_type, Truth as truth_type}
+use Rattle.regent_tree.specs.declared.typing.StaticType.TheVariants.{Index as index_type, Integer as integer_type, Ispace as ispace_type, Partition as partition_type, Pointer as pointer_type, Region as region_type, Truth as truth_type}
 use Rattle.check_rules.specs.first.FirstInExpressions.{first_of_standing, first_of_taking}
 use Rattle.check_rules.specs.first.Rules.{first_in}
 use Rattle.check_rules.specs.rules.Names.{is_unknown_field}
@@ -33,17 +34,17 @@ use Rattle.check_rules.specs.types.TypedForms.{Taking, element_of, field_of}
 use Rattle.check_rules.specs.declared.rule.Rule.TheVariants as rule
 use Rattle.check_rules.proofs.Untold.{rule_none}
 use Rattle.check_laws.proofs.Scopes.{found_by_number}
-use Rattle.check_laws.specs.SoundScopes.{IsSoundScope}
+use Rattle.check_laws.specs.SoundScopes.{Falls, IsSoundScope}
 use Rattle.code_rules.specs.Slots.{Where, bound, slot, slot_bound, slot_named, slots_of}
 use Rattle.scalar_form.specs.ScalarForm.{is_scalar_if_said, is_scalar_term}
-use Rattle.local_form.specs.LocalForm.{Marked, is_among}
-use Rattle.code_laws.specs.Simple.{FieldFits, IsInteger, IsRegion, IsScalar, IsSimple, a_region_type, simple_index, simple_integer, simple_space, simple_truth}
+use Rattle.local_form.specs.LocalForm.{Marked, is_among, is_kept_apart}
+use Rattle.code_laws.specs.Simple.{FieldFits, IsInteger, IsPartition, IsRegion, IsScalar, IsSimple, a_partition_type, a_region_type, simple_index, simple_integer, simple_space, simple_truth, term_in}
 use Rattle.code_rules.specs.Instructions.{place_of_task, tasks_of}
 use Rattle.code_rules.specs.Programs.{task_code}
 use Rattle.code_laws.specs.Typed.{GoesThrough, IsField, element_field}
 use Rattle.code_laws.specs.Pointers.{IsPointer, a_pointer_type}
-use Rattle.code_laws.proofs.LocalValues.{IsRegionAmong, IsValue, value_before, value_behind, value_integer, value_is_no_region, value_no_partition, value_pointer, value_simple}
-use Rattle.code_laws.proofs.LocalTypes.{IsTakable, simple_as_integer, simple_is_no_region, simple_no_partition, term_fits, term_scalar}
+use Rattle.code_laws.proofs.LocalValues.{IsRegionAmong, IsValue, found_among, region_before, region_behind, value_before, value_behind, value_integer, value_is_no_region, value_no_partition, value_not_partition, value_pointer, value_simple}
+use Rattle.code_laws.proofs.LocalTypes.{IsTakable, simple_as_integer, simple_is_no_region, simple_no_partition, simple_not_partition, term_fits, term_scalar}
 use Rattle.code_laws.proofs.Typing.{no_way, no_way_back}
 pub use Rattle.code_laws.proofs.Typing.{first_below}
 use Rattle.code_laws.proofs.Values.{scalar_simple}
@@ -81,13 +82,16 @@ pub record IsLocalTree (handing : Bool) (tree : Tree) : Type 0 where
 -- ---- names
 
 -- A name is bound with a number to a number or truth; or to an index, an index space or a pointer, and is marked so; or
--- to the region of that number, and is marked so. A pointer goes to a region that was bound before.
+-- to the region or the partition of that number, and is marked so. A pointer goes to a region that was bound before, and a
+-- partition is of one.
 pub data IsKept (keeping : Bool) (m : Marked) (bs : List Bound) (n : Name) (i : ℕ) : StaticType → Type 0 where
   kept_scalar : (t : StaticType) → IsScalar t → IsKept keeping m bs n i t
   kept_value : (t : StaticType) → IsValue keeping bs t → is_among m.indices n ≡ true → (is_pointer t ≡ true → is_among m.pointers n ≡ true) →
       IsKept keeping m bs n i t
   kept_region : (k : Kind) (sp : ℕ) (args : List Reach) → is_among m.regions n ≡ true →
       IsKept keeping m bs n i (region_type k sp args (place.Name i))
+  kept_partition : (d : Bool) (r : ℕ) → keeping ≡ true → IsRegionAmong bs r → is_among m.partitions n ≡ true →
+      IsKept keeping m bs n i (partition_type d r i)
 
 abbrev pub AllKept : Bool → Marked → List Bound → Type 0
 AllKept keeping m [] = Unit {0}
@@ -98,11 +102,13 @@ module _ (keeping : Bool) (m : Marked) where
   kept_behind_one b bs n i t (kept_scalar _ a) = kept_scalar t a
   kept_behind_one b bs n i t (kept_value _ a h p) = kept_value t (value_behind keeping bs b t a) h p
   kept_behind_one b bs n i _ (kept_region k sp args h) = kept_region k sp args h
+  kept_behind_one b bs n i _ (kept_partition d r q a h) = kept_partition d r q (region_behind b bs r a) h
 
   pub kept_before : (bs more : List Bound) (n : Name) (i : ℕ) (t : StaticType) → IsKept keeping m bs n i t → IsKept keeping m (bs ++ more) n i t
   kept_before bs more n i t (kept_scalar _ a) = kept_scalar t a
   kept_before bs more n i t (kept_value _ a h p) = kept_value t (value_before keeping bs more t a) h p
   kept_before bs more n i _ (kept_region k sp args h) = kept_region k sp args h
+  kept_before bs more n i _ (kept_partition d r q a h) = kept_partition d r q (region_before bs more r a) h
 
   pub named_kept : (bs : List Bound) (n : Name) → AllKept keeping m bs → is_bound bs n ≡ true →
       IsKept keeping m bs n (bound_to bs n).number (bound_to bs n).static_type
@@ -117,16 +123,21 @@ module _ (keeping : Bool) (m : Marked) where
       chosen false q more e = kept_behind_one b bs n (bound_to bs n).number (bound_to bs n).static_type (more e)
 
   module _ (bs : List Bound) (n : Name) (i : ℕ) where
-    pub kept_as_value : (t : StaticType) → IsKept keeping m bs n i t → not (is_among m.regions n) ≡ true → IsValue keeping bs t
+    apart_from : not (is_kept_apart m n) ≡ true → (is_among m.regions n ≡ false) × (is_among m.partitions n ≡ false)
+    apart_from e = or_parts (is_among m.regions n) (is_among m.partitions n) (not-true (is_kept_apart m n) e)
+
+    pub kept_as_value : (t : StaticType) → IsKept keeping m bs n i t → not (is_kept_apart m n) ≡ true → IsValue keeping bs t
     kept_as_value t (kept_scalar _ a) e = value_simple t (scalar_simple t a)
     kept_as_value t (kept_value _ a h p) e = a
-    kept_as_value _ (kept_region k sp args h) e = absurd (no_way_back (ap not (sym h) ∙ e))
+    kept_as_value _ (kept_region k sp args h) e = absurd (no_way (sym h ∙ (apart_from e).0))
+    kept_as_value _ (kept_partition d r q a h) e = absurd (no_way (sym h ∙ (apart_from e).1))
 
     pub value_kept : (t : StaticType) → IsKept keeping m bs n i t → not (is_among m.indices n) ≡ true → IsValue keeping bs t → IsScalar t
     value_kept t (kept_scalar _ a) e s = a
     value_kept t (kept_value _ a h p) e s = absurd (no_way_back (ap not (sym h) ∙ e))
     value_kept _ (kept_region k sp args h) e s =
         absurd (no_way (value_is_no_region keeping bs (region_type k sp args (place.Name i)) s))
+    value_kept _ (kept_partition d r q a h) e s = absurd (no_way (value_no_partition keeping bs (partition_type d r i) s))
 
     -- a name that doesn't stand for a pointer
     pub kept_plain : (t : StaticType) → IsKept keeping m bs n i t → is_among m.pointers n ≡ false → IsValue keeping bs t → IsSimple t
@@ -134,12 +145,48 @@ module _ (keeping : Bool) (m : Marked) where
     kept_plain _ (kept_scalar _ a) e (value_pointer k sp args j q r) = scalar_simple _ a
     kept_plain _ (kept_value _ a h p) e (value_pointer k sp args j q r) = absurd (no_way (sym (p refl) ∙ e))
 
-    pub no_kept_partition : (t : StaticType) → IsKept keeping m bs n i t → may_be is_partition t ≡ false
-    no_kept_partition t (kept_scalar _ a) = simple_no_partition t (scalar_simple t a)
-    no_kept_partition t (kept_value _ a h p) = value_no_partition keeping bs t a
-    no_kept_partition _ (kept_region k sp args h) = refl
+    pub no_kept_partition : (t : StaticType) → IsKept keeping m bs n i t → not (is_kept_apart m n) ≡ true → may_be is_partition t ≡ false
+    no_kept_partition t k e = value_no_partition keeping bs t (kept_as_value t k e)
 
-value_no_region : (keeping : Bool) (bs : List Bound) (t : StaticType) → IsValue keeping bs t → may_be (λ u. is_region u || is_partition u) t ≡ false
+    -- what a name that isn't marked as a partition's is bound to
+    pub no_partition_kept : (t : StaticType) → IsKept keeping m bs n i t → IsPartition t → is_among m.partitions n ≡ true
+    no_partition_kept _ (kept_scalar _ a) (a_partition_type d r p) = absurd (no_way (simple_no_partition _ (scalar_simple _ a)))
+    no_partition_kept _ (kept_value _ a h q) (a_partition_type d r p) = absurd (no_way (value_no_partition keeping bs _ a))
+    no_partition_kept _ (kept_region k sp args h) p = elim p [ ]
+    no_partition_kept _ (kept_partition _ _ q a h) (a_partition_type d r p) = h
+
+-- what is bound to a name that stands for a partition or not
+pub partition_or : (keeping : Bool) (m : Marked) (bs : List Bound) (n : Name) (i : ℕ) (t : StaticType) → IsKept keeping m bs n i t →
+    IsPartition t ⊎ (IsPartition t → ⊥)
+partition_or keeping m bs n i t (kept_scalar _ a) = inr (λ p. simple_not_partition t (scalar_simple t a) p)
+partition_or keeping m bs n i t (kept_value _ a h q) = inr (λ p. value_not_partition keeping bs t a p)
+partition_or keeping m bs n i _ (kept_region k sp args h) = inr (λ p. elim p [ ])
+partition_or keeping m bs n i _ (kept_partition d r q a h) = inl (a_partition_type d r i)
+
+-- where partitions are, pointers are kept
+pub partition_keeps : (keeping : Bool) (m : Marked) (bs : List Bound) (n : Name) (i : ℕ) (t : StaticType) → IsKept keeping m bs n i t → IsPartition t →
+    keeping ≡ true
+partition_keeps keeping m bs n i t (kept_scalar _ a) p = absurd (simple_not_partition t (scalar_simple t a) p)
+partition_keeps keeping m bs n i t (kept_value _ a h q) p = absurd (value_not_partition keeping bs t a p)
+partition_keeps keeping m bs n i _ (kept_region k sp args h) p = absurd (elim p [ ])
+partition_keeps keeping m bs n i _ (kept_partition d r q a h) p = q
+
+-- the parent of a partition, by its number
+pub parent_among : (keeping : Bool) (m : Marked) (bs : List Bound) (n : Name) (i : ℕ) (t : StaticType) → IsKept keeping m bs n i t → IsPartition t →
+    IsRegionAmong bs (parent_of t) × (t ≡ partition_type (is_disjoint t) (parent_of t) i)
+parent_among keeping m bs n i t (kept_scalar _ a) p = absurd (simple_not_partition t (scalar_simple t a) p)
+parent_among keeping m bs n i t (kept_value _ a h q) p = absurd (value_not_partition keeping bs t a p)
+parent_among keeping m bs n i _ (kept_region k sp args h) p = absurd (elim p [ ])
+parent_among keeping m bs n i _ (kept_partition d r q a h) p = (a, refl)
+
+-- a region that is bound is found by its number
+pub region_of_number : (next : ℕ) (bs : List Bound) (r : ℕ) → Falls next bs → IsRegionAmong bs r →
+    IsRegion (bound_as bs r).static_type × (term_in (bound_as bs r).static_type ≡ place.Name r)
+region_of_number next bs r falls a =
+    let found : bound_as bs r ≡ a.named = subst (λ j. bound_as bs j ≡ a.named) a.number (found_among next bs a.named falls a.among).0 in
+    (subst (λ (b : Bound). IsRegion b.static_type) (sym found) a.region, ap (λ (b : Bound). term_in b.static_type) found ∙ a.term)
+
+pub value_no_region : (keeping : Bool) (bs : List Bound) (t : StaticType) → IsValue keeping bs t → may_be (λ u. is_region u || is_partition u) t ≡ false
 value_no_region keeping bs _ (value_simple _ (simple_integer w)) = refl
 value_no_region keeping bs _ (value_simple _ simple_truth) = refl
 value_no_region keeping bs _ (value_simple _ (simple_space k)) = refl
@@ -188,16 +235,24 @@ module _ (handing keeping : Bool) (w : Where) (sound : IsSound w.tree) (local : 
   element_known n i t at e (kept_scalar _ a) num told =
       absurd (none_taken t (value_simple t (scalar_simple t a)) (taken n i t at (kept_scalar t a) told))
   element_known n i t at e (kept_value _ a h p) num told = absurd (none_taken t a (taken n i t at (kept_value t a h p) told))
+  element_known n i _ at e (kept_partition d r q among h) num told =
+      ap (λ b. type_unless (not b || false || false || false) (type_of_element w.scope (partition_type d r i) e)) num
   element_known n i _ at e (kept_region k sp args h) num told =
       ap (λ b. type_unless (not b || false || false || false) (type_of_element w.scope (region_type k sp args (place.Name i)) e)) num
 
-  pub place_is : (n : Name) (i : ℕ) (t at : StaticType) (e : Expression) (f : Name) → Kept n i t →
+  -- no field is taken of a part
+  part_taken : (t : StaticType) (r : Term) (f : Name) → IsRegion t → first_of_taking w.tree (field_of (child_type t r) f) ≡ None → ⊥
+  part_taken _ r f (a_region_type k sp args u) e = no_way (taking_told w.tree (field_of (region_type k sp args r) f) e).1
+
+  pub place_is : Falls w.scope.next w.scope.names → (n : Name) (i : ℕ) (t at : StaticType) (e : Expression) (f : Name) → Kept n i t →
       first_of_taking w.tree (element_of t at) ≡ None → first_of_taking w.tree (field_of (type_of_element w.scope t e) f) ≡ None →
       IsPlace w i t e f
-  place_is n i t at e f (kept_scalar _ a) told field =
+  place_is falls n i _ at e f (kept_partition d r q among h) told field =
+      absurd (part_taken (bound_as w.scope.names r).static_type (place.Child i (colour_of w.scope e)) f (region_of_number w.scope.next w.scope.names r falls among).0 field)
+  place_is falls n i t at e f (kept_scalar _ a) told field =
       absurd (none_taken t (value_simple t (scalar_simple t a)) (taken n i t at (kept_scalar t a) told))
-  place_is n i t at e f (kept_value _ a h p) told field = absurd (none_taken t a (taken n i t at (kept_value t a h p) told))
-  place_is n i _ at e f (kept_region k sp args h) told field =
+  place_is falls n i t at e f (kept_value _ a h p) told field = absurd (none_taken t a (taken n i t at (kept_value t a h p) told))
+  place_is falls n i _ at e f (kept_region k sp args h) told field =
       let t = region_type k sp args (place.Name i) in
       let there = not-false (has_field w.tree sp f) (taking_told w.tree (field_of (type_of_element w.scope t e) f) field).0 in
       let term = field_term w.tree sp (field_place w.tree sp f) in
@@ -264,10 +319,12 @@ module _ (handing keeping : Bool) (tree : Tree) (sound : IsSound tree) (local : 
             ∙ ap (λ b. type_unless (not b || false || false) (type_of_field tree t f)) there;
       }
 
-  pub aimed_at : (t : StaticType) (f : Name) → IsKept keeping m bs n i t → first_of_taking tree (field_of t f) ≡ None → IsAimed keeping tree bs t f
-  aimed_at t f (kept_scalar _ a) e = aimed_value t f (value_simple t (scalar_simple t a)) e
-  aimed_at t f (kept_value _ a h p) e = aimed_value t f a e
-  aimed_at _ f (kept_region k sp args h) e = absurd (no_way (taking_told tree (field_of (region_type k sp args (place.Name i)) f) e).1)
+  pub aimed_at : (t : StaticType) (f : Name) → IsKept keeping m bs n i t → (IsPartition t → ⊥) → first_of_taking tree (field_of t f) ≡ None →
+      IsAimed keeping tree bs t f
+  aimed_at t f (kept_scalar _ a) other e = aimed_value t f (value_simple t (scalar_simple t a)) e
+  aimed_at t f (kept_value _ a h p) other e = aimed_value t f a e
+  aimed_at _ f (kept_partition d r q a h) other e = absurd (other (a_partition_type d r i))
+  aimed_at _ f (kept_region k sp args h) other e = absurd (no_way (taking_told tree (field_of (region_type k sp args (place.Name i)) f) e).1)
 
 -- ---- regions and their fields
 
@@ -277,6 +334,7 @@ pub kept_integer : (keeping : Bool) (m : Marked) (bs : List Bound) (n : Name) (i
 kept_integer keeping m bs n i t (kept_scalar _ a) e = simple_as_integer t (scalar_simple t a) e
 kept_integer keeping m bs n i t (kept_value _ a h p) e = value_integer keeping bs t a e
 kept_integer keeping m bs n i _ (kept_region k sp args h) e = absurd (no_way_back e)
+kept_integer keeping m bs n i _ (kept_partition d r q a h) e = absurd (no_way_back e)
 
 -- a field of a region of a type
 pub record IsFieldOf (tree : Tree) (t : StaticType) (f : Name) : Type 0 where
@@ -292,10 +350,12 @@ module _ (handing keeping : Bool) (tree : Tree) (sound : IsSound tree) (local : 
   region_is t (kept_scalar _ a) e = absurd (no_way (sym e ∙ simple_is_no_region t (scalar_simple t a)))
   region_is t (kept_value _ a h p) e = absurd (no_way (sym e ∙ value_is_no_region keeping bs t a))
   region_is _ (kept_region k sp args h) e = a_region_type k sp args (place.Name i)
+  region_is _ (kept_partition d r q a h) e = absurd (no_way_back e)
 
   pub field_is : (t : StaticType) (f : Name) → IsKept keeping m bs n i t → may_be is_region t ≡ true → region_has tree t f ≡ true → IsFieldOf tree t f
   field_is t f (kept_scalar _ a) e has = absurd (no_way (sym e ∙ simple_is_no_region t (scalar_simple t a)))
   field_is t f (kept_value _ a h p) e has = absurd (no_way (sym e ∙ value_is_no_region keeping bs t a))
+  field_is _ f (kept_partition d r q a h) e has = absurd (no_way_back e)
   field_is _ f (kept_region k sp args h) e has =
       let term = field_term tree sp (field_place tree sp f) in
       let says = local.fields sp (field_place tree sp f) in record {

@@ -25,7 +25,8 @@ use Rattle.check_rules.proofs.Untold.{rule_none}
 use Rattle.code_rules.specs.Slots.{Where, bound, typed}
 use Rattle.local_form.specs.LocalForm.{Marked, gives_scalar, gives_pointer}
 use Rattle.code_laws.specs.Handing.{forms_by}
-use Rattle.code_laws.specs.Simple.{IsScalar, IsSimple}
+use Rattle.code_laws.specs.Arguments.{IsCutName}
+use Rattle.code_laws.specs.Simple.{IsPartition, IsScalar, IsSimple}
 use Rattle.code_laws.specs.Steps.{Forms}
 use Rattle.code_laws.specs.Typed.{IsTyped, MayTouch, IsBehind, MayGo, field_behind}
 use Rattle.code_laws.proofs.KnownHeads.{KnowsHead, granted_at, kept_may, aimed_may}
@@ -86,7 +87,7 @@ module _ (handing keeping : Bool) (task : TaskTree) (w : Where) (sound : IsSound
       (subst (λ u. may_be is_number u ≡ true) (local_known e told) (stands_well [] at number_spot stood)) in
       let element = element_known handing keeping w sound local m n i t at e kept (ap is_number (local_known e told) ∙ counts_is keeping (typed w e) number) first in record {
         number = number;
-        place = place_is handing keeping w sound local m n i t at e f kept first (subst (λ u. first_of_taking w.tree (field_of u f) ≡ None) element field);
+        place = place_is handing keeping w sound local m scope.numbers n i t at e f kept first (subst (λ u. first_of_taking w.tree (field_of u f) ≡ None) element field);
         element = element;
       }
 
@@ -102,10 +103,14 @@ module _ (handing keeping : Bool) (task : TaskTree) (w : Where) (sound : IsSound
       (subst (λ u. lacks w.tree task w.scope (wanted_of_step w.tree a (field_of u f)) ≡ false) p.element lacking))
 
   -- a field of what a name's pointer goes to
-  pub behind_name : (n f : Name) → is_bound w.scope.names n ≡ true → first_of_taking w.tree (field_of (bound w n).static_type f) ≡ None →
-      IsAimed keeping w.tree w.scope.names (bound w n).static_type f
-  behind_name n f there told = aimed_at handing keeping w.tree sound local m w.scope.names n (bound w n).number (bound w n).static_type f
-      (named_kept keeping m w.scope.names n names there) told
+  pub behind_name : (n f : Name) → is_bound w.scope.names n ≡ true → (IsPartition (bound w n).static_type → ⊥) →
+      first_of_taking w.tree (field_of (bound w n).static_type f) ≡ None → IsAimed keeping w.tree w.scope.names (bound w n).static_type f
+  behind_name n f there other told = aimed_at handing keeping w.tree sound local m w.scope.names n (bound w n).number (bound w n).static_type f
+      (named_kept keeping m w.scope.names n names there) other told
+
+  -- or the colours of its partition
+  pub cut_name : (n : Name) → is_bound w.scope.names n ≡ true → IsPartition (bound w n).static_type → IsCutName w n
+  cut_name n there p = record { named = there; numbers = scope.numbers; partition = p }
 
   pub is_behind : (n f : Name) → is_bound w.scope.names n ≡ true → IsAimed keeping w.tree w.scope.names (bound w n).static_type f → IsBehind w n f (field_behind w n f)
   is_behind n f there p = record { named = there; numbers = scope.numbers; pointer = p.pointer; field = p.field; keeps = keeps_plain _ _ p.fits }

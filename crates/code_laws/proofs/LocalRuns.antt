@@ -1,6 +1,6 @@
 -- An accepted program whose tasks hand regions over by name runs as it means.
-use Rattle.std.proofs.Common.{◌≡◌, ◌∙◌, Bool, List, [], ◌∷◌, None, Option, Some, true, false, ap, subst, refl, inr, ℕ, zero, suc, ℤ, length, arith}
-use Rattle.std.specs.Prelude.{option_map, ◌++◌}
+use Rattle.std.proofs.Common.{◌≡◌, ◌⊎◌, inl, ◌∙◌, Bool, List, [], ◌∷◌, None, Option, Some, true, false, ap, subst, refl, inr, ℕ, zero, suc, ℤ, length, arith}
+use Rattle.std.specs.Prelude.{option_map, ◌++◌, ◌&&◌}
 use Rattle.std.specs.List.{list_all}
 use Rattle.std.proofs.lemmas.Bool.{and_parts}
 use Rattle.std.proofs.lemmas.List.{length-map}
@@ -26,7 +26,7 @@ use Rattle.code_laws.specs.Programs.{AreTypedTasks, IsGiven, IsTypedRun, call_fo
 use Rattle.code_laws.proofs.LocalBlocks.{block_local}
 use Rattle.code_laws.proofs.DeclaredNeeds.{needs_none}
 use Rattle.code_laws.proofs.KnownHeads.{IsReady, head_begins}
-use Rattle.code_laws.proofs.LocalTrees.{TakesScalars, begins_kept, local_tree, item_of_form, item_stands, task_stands}
+use Rattle.code_laws.proofs.LocalTrees.{TakesScalars, begins_kept, local_tree, item_of_form, item_stands, params_tell, task_stands}
 use Rattle.code_laws.proofs.LocalTypes.{term_scalar}
 use Rattle.code_laws.proofs.Openings.{params_length, types_length}
 use Rattle.check_laws.proofs.Entries.{begins}
@@ -49,18 +49,22 @@ integers_no_region [] a i = refl
 integers_no_region (t ∷ ts) a zero = integer_no_region t a.0
 integers_no_region (t ∷ ts) a (suc i) = integers_no_region ts a.1 i
 
--- a task that marks no name as a pointer's
+-- a task that marks no name as a pointer's or a partition's
 abbrev pub HasNoPointer : TaskTree → Type 0
-HasNoPointer t = is_empty (marked_by_task t).pointers ≡ true
+HasNoPointer t = (is_empty (marked_by_task t).pointers && is_empty (marked_by_task t).partitions) ≡ true
 
 none_among : (ns : List Name) → is_empty ns ≡ true → (n : Name) → is_among ns n ≡ true → ⊥
 none_among [] e n h = no_way_back h
 none_among (k ∷ ns) e n h = no_way_back e
 
--- where a name may stand for a pointer, pointers are kept
-pointers_kept : (keeping : Bool) (t : TaskTree) → (keeping ≡ false → HasNoPointer t) → (n : Name) → is_among (marked_by_task t).pointers n ≡ true → keeping ≡ true
+-- where a name may stand for a pointer or a partition, pointers are kept
+pointers_kept : (keeping : Bool) (t : TaskTree) → (keeping ≡ false → HasNoPointer t) → (n : Name) →
+    (is_among (marked_by_task t).pointers n ≡ true) ⊎ (is_among (marked_by_task t).partitions n ≡ true) → keeping ≡ true
 pointers_kept true t none n h = refl
-pointers_kept false t none n h = absurd (none_among (marked_by_task t).pointers (none refl) n h)
+pointers_kept false t none n (inl h) =
+    absurd (none_among (marked_by_task t).pointers (and_parts (is_empty (marked_by_task t).pointers) (is_empty (marked_by_task t).partitions) (none refl)).0 n h)
+pointers_kept false t none n (inr h) =
+    absurd (none_among (marked_by_task t).partitions (and_parts (is_empty (marked_by_task t).pointers) (is_empty (marked_by_task t).partitions) (none refl)).1 n h)
 
 -- a program of which nothing is told, whose tasks hand regions over or not, and keep pointers or not
 module _ (handing keeping : Bool) (tree : Tree) (inputs : List ℤ) (p : IsLocalProgramRun tree inputs)
@@ -80,7 +84,7 @@ module _ (handing keeping : Bool) (tree : Tree) (inputs : List ℤ) (p : IsLocal
       let short = short_body tree k t p.within at in
       let local = local_tree handing tree p.within p.accepted p.local alone in
       let ready : IsReady keeping tree t (marked_by_task t) (scope_of tree t) =
-      record { names = begins_kept keeping tree t is.params; head = head_begins tree t told.sound_task } in
+      record { names = begins_kept keeping tree t is.params; head = head_begins tree t told.sound_task (params_tell tree t is.params) } in
       let keeps = pointers_kept keeping t (λ q. plain q item s.1 t s.2) in record {
         given = given_scalar tree t.result is.result;
         typed = (block_local handing keeping tree t told.sound told.sound_task local (marked_by_task t) keeps (length t.params) is.result (scope_of tree t) 0 t.body is.body body

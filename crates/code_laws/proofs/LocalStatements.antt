@@ -46,7 +46,7 @@ use Rattle.expression_laws.proofs.Steps.{all_has}
 use Rattle.code_laws.proofs.KnownHeads.{IsReady, KnowsHead, kept_may}
 use Rattle.code_laws.proofs.LocalParts.{all_behind, none_given, region_wants, region_named}
 use Rattle.code_laws.proofs.LocalExpressions.{local_call, local_numbers}
-use Rattle.code_laws.proofs.LocalNames.{field_is, region_is, IsKept, IsLocalTree, kept_region, kept_scalar, named_kept, kept_value}
+use Rattle.code_laws.proofs.LocalNames.{field_is, region_is, IsKept, IsLocalTree, kept_region, kept_scalar, named_kept, kept_value, kept_partition}
 use Rattle.code_laws.proofs.LocalTypes.{either}
 use Rattle.code_laws.proofs.TypedStatements.{count_types, counted, first_stands, listed_told, result_fits, told_later, told_names, told_privileges}
 use Rattle.code_laws.proofs.Typing.{AreKept, no_way_back}
@@ -227,6 +227,8 @@ module _ (handing keeping : Bool) (tree : Tree) (task : TaskTree) (sound : IsSou
       space_domain s line n (access_expr r no_step) marked (there, value_read keeping s.names (bound_to s.names r).static_type value) value may
   named_domain s line n r scope there marked points keeps may _ same (kept_region k sp args h) =
       region_domain s line n r scope there marked points keeps k sp args same
+  named_domain s line n r scope there marked points keeps may _ same (kept_partition d q kept among h) =
+      absurd (no_way_back (subst (λ t. may_stand s.known (stands t domain_spot) ≡ true) same may))
 
   pub domain_local : ((q : Name) → is_among m.pointers q ≡ true → keeping ≡ true) → (s : Scope) (line : ℕ) (n : Name) (y : Expression) → is_among m.indices n ≡ true →
       is_local_domain m n y ≡ true → AreKept (parts_of_expression y) → IsSoundScope s → Ready s → first_in_expression tree task s y ≡ None →

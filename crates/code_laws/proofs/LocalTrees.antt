@@ -8,9 +8,9 @@ use Rattle.std.proofs.lemmas.Slice.Eq.{bytes_eq-Decides}
 use Rattle.plain_values.proofs.Plain.{option_or_parts}
 use Rattle.regent_tree.proofs.Members.{Contains-from_Has, Has, Has-append_left, Has-append_right, Has-from_list_any, Has-map, list_any-from_Has}
 use Rattle.regent_tree.specs.Limits.{WithinLimits, counted, parts_of_item, parts_of_program}
-use Rattle.regent_tree.specs.Scopes.{bound_params, scope_of}
+use Rattle.regent_tree.specs.Scopes.{bound_params, known_of_type, scope_of}
 use Rattle.regent_tree.specs.StaticTypes.{Looking, among_params, looked_up, place_in, place_of_space, space_at, spaces_of, task_named, type_said}
-use Rattle.regent_tree.specs.Syntax.{Arms, Block, Expression, Form, ItemForm, ItemTree, Name, Otherwise, TaskTree, Tree, a_statement, alias_item, an_arm, do_form, else_block, for_in_form, for_to_form, if_form, import_item, no_arm, no_else, no_statement, plain_initializer, region_initializer, space_item, start_item, task_item, then_statement, var_form, while_form}
+use Rattle.regent_tree.specs.Syntax.{Arms, Block, Expression, Form, ItemForm, ItemTree, Name, Otherwise, TaskTree, Tree, a_statement, alias_item, an_arm, do_form, else_block, equal_initializer, for_in_form, for_to_form, if_form, import_item, no_arm, no_else, no_statement, plain_initializer, region_initializer, space_item, start_item, task_item, then_statement, var_form, while_form}
 use Rattle.regent_tree.specs.declared.limits.Counted.TheVariants.{Fields}
 use Rattle.regent_tree.specs.declared.program.FieldSpace.{FieldSpace}
 use Rattle.regent_tree.specs.declared.types.Param.{Param}
@@ -28,7 +28,7 @@ use Rattle.check_rules.specs.rules.Repeats.{Given, given_by, repeats, repeats_af
 use Rattle.check_rules.specs.scopes.Sound.{StandsIn}
 use Rattle.code_rules.specs.Instructions.{tasks_of}
 use Rattle.local_form.specs.LocalForm.{Marked, are_local_params, are_scalar_params, is_among, is_local_block, is_local_item, is_local_program, is_local_task, gives_pointer, gives_scalar, is_region_name, is_region_term, marked_by, marked_by_arms, marked_by_else, marked_by_task, marked_in, marked_params, unmarked, with_either, with_region}
-use Rattle.code_laws.specs.Simple.{IsScalar, a_region_type, scalar_truth}
+use Rattle.code_laws.specs.Simple.{IsScalar, a_region_type, scalar_integer, scalar_truth}
 use Rattle.code_laws.proofs.LocalNames.{AllKept, AreScalars, AreTakable, IsAlone, IsKept, IsLocalTree, kept_before, kept_region, kept_scalar}
 use Rattle.code_laws.proofs.LocalTypes.{IsTakable, takable_region, takable_scalar, term_scalar}
 use Rattle.code_laws.proofs.Openings.{types_cons, types_in}
@@ -188,6 +188,7 @@ module _ (n : Name) where
     marks_stay : (form : Form) (m : Marked) → Region m → Region (marked_by form m)
     marks_stay (var_form k None (Some (plain_initializer e))) m h = value_marks k e m h
     marks_stay (var_form k None (Some (region_initializer e u))) m h = among_left m.regions (k ∷ []) n h
+    marks_stay (var_form k None (Some (equal_initializer r e))) m h = h
     marks_stay (if_form arms other) m h = marks_stay_else other (marked_by_arms arms m) (marks_stay_arms arms m h)
     marks_stay (while_form test body) m h = marks_stay_in body m h
     marks_stay (for_in_form demanded k domain body) m h =
@@ -226,6 +227,21 @@ params_takable tree all i [] e = tt
 params_takable tree all i (p ∷ ps) e =
     let both = and_parts (is_scalar_term p.term || is_region_term p.term) (are_local_params ps) e in
     takable_behind (bound_params tree all (suc i) ps) _ (params_takable tree all (suc i) ps both.1) (term_takable p.term both.0 tree (among_params all) i)
+
+-- what such a parameter is tells nothing of regions
+takable_tells : (t : StaticType) → IsTakable t → known_of_type t ≡ []
+takable_tells _ (takable_scalar _ (scalar_integer w)) = refl
+takable_tells _ (takable_scalar _ scalar_truth) = refl
+takable_tells _ (takable_region _ (a_region_type k sp args r)) = refl
+
+all_tell : (bs : List Bound) → AllTakable bs → (b : Bound) → Has bs b → known_of_type b.static_type ≡ []
+all_tell [] a b h = absurd h
+all_tell (c ∷ bs) a b (inl same) = subst (λ (b : Bound). known_of_type b.static_type ≡ []) same (takable_tells c.static_type a.0)
+all_tell (c ∷ bs) a b (inr h) = all_tell bs a.1 b h
+
+pub params_tell : (tree : Tree) (t : TaskTree) → are_local_params t.params ≡ true → (b : Bound) → Has (scope_of tree t).names b →
+    known_of_type b.static_type ≡ []
+params_tell tree t e = all_tell (scope_of tree t).names (params_takable tree t.params 0 t.params e)
 
 takable_types_behind : (ts : List StaticType) (t : StaticType) → AreTakable ts → IsTakable t → AreTakable (ts ++ t ∷ [])
 takable_types_behind [] t a i = (i, tt)

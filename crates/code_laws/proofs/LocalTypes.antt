@@ -20,7 +20,7 @@ use Rattle.check_rules.specs.rules.Types.{compares_with, computes_with, has_equa
 use Rattle.check_rules.specs.rules.Spaces.{differs}
 use Rattle.check_rules.specs.types.Fitting.{fits, is_region_like}
 use Rattle.check_rules.specs.types.Sorts.{is_integer, is_number, is_partition, is_region, is_space, is_truth, is_unknown_type, may_be, same_kind}
-use Rattle.code_laws.specs.Simple.{AreAlike, AreComparable, AreRegions, FieldFits, IsInteger, IsNumber, IsRegion, IsScalar, IsSimple, IsSpace, IsTruth, a_region_type, a_space_type, a_truth_type, an_integer, compare_numbers, compare_truths, fits_32, fits_64, fits_truth, number_index, number_integer, scalar_integer, scalar_truth, simple_index, simple_integer, simple_space, simple_truth, two_integers, two_regions, two_truths}
+use Rattle.code_laws.specs.Simple.{AreAlike, AreComparable, AreRegions, FieldFits, IsInteger, IsNumber, IsRegion, IsScalar, IsSimple, IsSpace, IsTruth, a_region_type, a_space_type, a_truth_type, an_integer, compare_numbers, compare_truths, fits_32, fits_64, fits_truth, number_index, number_integer, scalar_integer, scalar_truth, simple_index, simple_integer, simple_space, simple_truth, two_integers, two_regions, two_truths, IsPartition, a_partition_type}
 use Rattle.scalar_form.specs.ScalarForm.{is_scalar_term}
 use Rattle.code_laws.proofs.Typing.{no_way, no_way_back}
 
@@ -77,6 +77,9 @@ simple_no_partition _ (simple_integer w) = refl
 simple_no_partition _ simple_truth = refl
 simple_no_partition _ (simple_space k) = refl
 simple_no_partition _ (simple_index k) = refl
+
+pub simple_not_partition : (t : StaticType) → IsSimple t → IsPartition t → ⊥
+simple_not_partition _ a (a_partition_type d r p) = no_way (simple_no_partition _ a)
 
 pub simple_is_no_region : (t : StaticType) → IsSimple t → may_be is_region t ≡ false
 simple_is_no_region _ (simple_integer w) = refl

@@ -32,7 +32,7 @@ use Rattle.check_rules.specs.types.Sorts.{is_integer, is_number, is_partition, i
 use Rattle.check_rules.specs.types.TypedForms.{computing}
 use Rattle.code_rules.specs.Slots.{Where, typed}
 use Rattle.code_laws.specs.Pointers.{BeginsAs, BeginsWith, ConvertsTo, CountsAs, FillsInto, FitsInto, IsAssigned, IsCompared, IsRead, SignedAs, assigned_plain, begins_plain, compared_different, compared_equal, compared_left, compared_plain, compared_right, a_pointer_type, counts_number, counts_pointer, fills_alike, into_plain, itself_plain, signs_plain, term_integer, zero_scalar}
-use Rattle.code_laws.specs.Simple.{AreAlike, AreComparable, IsInteger, IsIntegerTerm, IsNumber, IsRegion, IsScalar, IsSimple, IsSpace, IsTruth, SignsFit, a_region_type, scalar_integer, scalar_truth, simple_index, simple_integer, simple_space, simple_truth, term_in}
+use Rattle.code_laws.specs.Simple.{AreAlike, AreComparable, IsInteger, IsIntegerTerm, IsNumber, IsRegion, IsScalar, IsSimple, IsSpace, IsTruth, SignsFit, a_region_type, scalar_integer, scalar_truth, simple_index, simple_integer, simple_space, simple_truth, term_in, IsPartition, a_partition_type}
 use Rattle.code_laws.specs.Typed.{IsField, IsFieldOf, IsKeepable, LoopsOver}
 use Rattle.code_laws.proofs.LocalTypes.{either, number_is, operated_simple, owned_simple, param_fitting, simple_as_domain, simple_as_integer, simple_as_number, simple_as_space, simple_as_truth, simple_compared, simple_computed, simple_fitting, simple_for_region, simple_is_no_region, simple_known, simple_no_partition}
 use Rattle.code_laws.proofs.Typing.{no_way, no_way_back}
@@ -138,6 +138,9 @@ module _ (keeping : Bool) (bs : List Bound) where
   pub value_no_partition : (t : StaticType) → Value t → may_be is_partition t ≡ false
   value_no_partition t (value_simple _ a) = simple_no_partition t a
   value_no_partition _ (value_pointer k sp args i q r) = refl
+
+  pub value_not_partition : (t : StaticType) → Value t → IsPartition t → ⊥
+  value_not_partition _ a (a_partition_type d r p) = no_way (value_no_partition _ a)
 
   pub value_is_no_region : (t : StaticType) → Value t → may_be is_region t ≡ false
   value_is_no_region t (value_simple _ a) = simple_is_no_region t a

@@ -4,10 +4,11 @@ use Rattle.std.specs.Prelude.{bytes_eq, map, ◌||◌, ◌&&◌}
 use Rattle.std.proofs.lemmas.Bool.{and_parts, not-false, or_parts}
 use Rattle.plain_values.proofs.Plain.{option_or_parts}
 use Rattle.regent_tree.specs.Limits.{parts_of_expression, parts_of_form, parts_of_type}
-use Rattle.regent_tree.specs.Lookup.{has_space, type_named}
+use Rattle.regent_tree.specs.Lookup.{has_space, is_bound, type_named}
+use Rattle.regent_tree.specs.Partitions.{equal_flag}
 use Rattle.regent_tree.specs.Scopes.{Scope, bound_to, in_scope, known_of_type}
 use Rattle.regent_tree.specs.StaticTypes.{looked_up, place_of_space, spaces_of}
-use Rattle.regent_tree.specs.Syntax.{Expression, Initializer, Name, TaskTree, Tree, plain_initializer, region_initializer, var_form}
+use Rattle.regent_tree.specs.Syntax.{Expression, Initializer, Name, TaskTree, Tree, access_expr, at_step, call_expr, cast_expr, chain_expr, convert_expr, equal_initializer, field_step, is_null_expr, no_step, null_expr, number_expr, plain_initializer, prefix_expr, region_initializer, space_expr, truth_expr, var_form}
 use Rattle.regent_tree.specs.Typing.{kind_of_ispace, known_of_child, owned, result_type, scope_after, type_of, var_type}
 use Rattle.regent_tree.specs.declared.facts.Term.TheVariants as place
 use Rattle.regent_tree.specs.declared.program.FieldSpace.{FieldSpace}
@@ -33,24 +34,27 @@ use Rattle.check_rules.specs.scopes.Variables.{declared_type, is_flawed_initiali
 use Rattle.check_rules.specs.types.Fitting.{fits}
 use Rattle.check_rules.specs.types.KnownTypes.{known_type}
 use Rattle.code_rules.specs.Slots.{Where, typed}
-use Rattle.local_form.specs.LocalForm.{Marked, gives_scalar, is_among, is_local_expression, is_local_form, gives_pointer, is_name, keeps_pointer}
+use Rattle.local_form.specs.LocalForm.{Marked, are_local_links, gives_scalar, is_among, is_kept_apart, is_local_expression, is_local_form, gives_pointer, is_name, keeps_pointer}
 use Rattle.code_laws.specs.Handing.{forms_by, takes_by}
 use Rattle.code_laws.specs.Simple.{IsScalar, IsSimple}
 use Rattle.code_laws.specs.Steps.{Forms}
 use Rattle.code_laws.specs.Taking.{IsFresh}
 use Rattle.code_laws.specs.Typed.{IsTypedForm, IsKeepable, IsPointing}
-use Rattle.code_laws.proofs.KnownHeads.{IsReady, KnowsHead, head_made, head_named}
+use Rattle.code_laws.proofs.KnownHeads.{IsReady, KnowsHead, head_cut, head_made, head_named}
+use Rattle.code_laws.proofs.LocalCalls.{kept_term}
 use Rattle.code_laws.proofs.LocalPoints.{IsWell}
 use Rattle.code_laws.proofs.LocalExpressions.{local_well}
-use Rattle.code_laws.proofs.LocalNames.{IsKept, IsLocalTree, first_below, kept_region, kept_scalar, named_kept, no_kept_partition, kept_value}
+use Rattle.code_laws.proofs.LocalNames.{IsKept, IsLocalTree, first_below, kept_partition, kept_region, kept_scalar, named_kept, no_kept_partition, kept_value, region_is}
 use Rattle.code_laws.proofs.LocalTypes.{either, term_scalar}
 use Rattle.code_laws.proofs.TypedStatements.{HasNoPartition, declared_fits, first_stands, initial_told}
 use Rattle.code_laws.proofs.Typing.{AreKept, kept_right, no_way, no_way_back}
 use Rattle.code_laws.proofs.Values.{scalar_simple}
 use Rattle.scalar_form.specs.ScalarForm.{is_scalar_if_said, is_scalar_term}
-use Rattle.code_laws.proofs.LocalValues.{IsValue, alike_begins, owned_value, simple_keepable, simple_no_pointer, value_pointer, value_simple, value_space, value_tells}
+use Rattle.code_laws.proofs.LocalValues.{IsValue, alike_begins, bound_among, owned_value, simple_keepable, simple_no_pointer, value_pointer, value_simple, value_space, value_tells}
 use Rattle.code_laws.specs.Pointers.{IsPointer, a_pointer_type}
 use Rattle.code_laws.proofs.LocalParts.{named_alone}
+use Rattle.check_rules.specs.types.Sorts.{is_region, may_be}
+use Rattle.check_rules.specs.types.Lookup.{names_a}
 
 -- ---- a name's pointer
 
@@ -87,8 +91,33 @@ module _ (handing keeping : Bool) (tree : Tree) (task : TaskTree) (sound : IsSou
       may_stand s.known (stands (known_type tree s e) p) ≡ true → may_stand s.known (stands (type_of tree s e) p) ≡ true
   stands_as s e p scope told may = subst (λ t. may_stand s.known (stands t p) ≡ true) (head_known tree task sound s scope e told).1 may
 
-  no_partitions : (s : Scope) → Ready s → HasNoPartition s.names
-  no_partitions s names n h = no_kept_partition keeping m s.names n (bound_to s.names n).number (type_named s.names n) (named_kept keeping m s.names n names.names h)
+  -- no partition's name stands in an expression
+  no_partitions : (s : Scope) → Ready s → (y : Expression) → is_local_expression m y ≡ true → HasNoPartition s.names y
+  no_partitions s names (chain_expr (access_expr p no_step) rest) lo = λ h.
+      no_kept_partition keeping m s.names p (bound_to s.names p).number (type_named s.names p) (named_kept keeping m s.names p names.names h)
+      (and_parts (not (is_kept_apart m p)) (are_local_links m rest) lo).0
+  no_partitions s names (chain_expr (access_expr p (field_step _ _)) rest) lo = tt
+  no_partitions s names (chain_expr (access_expr p (at_step _ _)) rest) lo = tt
+  no_partitions s names (chain_expr (number_expr _ _) rest) lo = tt
+  no_partitions s names (chain_expr (truth_expr _) rest) lo = tt
+  no_partitions s names (chain_expr (chain_expr _ _) rest) lo = tt
+  no_partitions s names (chain_expr (prefix_expr _ _) rest) lo = tt
+  no_partitions s names (chain_expr (call_expr _ _) rest) lo = tt
+  no_partitions s names (chain_expr (convert_expr _ _) rest) lo = tt
+  no_partitions s names (chain_expr (is_null_expr _) rest) lo = tt
+  no_partitions s names (chain_expr (null_expr _) rest) lo = tt
+  no_partitions s names (chain_expr (cast_expr _ _) rest) lo = tt
+  no_partitions s names (chain_expr (space_expr _ _) rest) lo = tt
+  no_partitions s names (access_expr _ _) lo = tt
+  no_partitions s names (number_expr _ _) lo = tt
+  no_partitions s names (truth_expr _) lo = tt
+  no_partitions s names (prefix_expr _ _) lo = tt
+  no_partitions s names (call_expr _ _) lo = tt
+  no_partitions s names (convert_expr _ _) lo = tt
+  no_partitions s names (is_null_expr _) lo = tt
+  no_partitions s names (null_expr _) lo = tt
+  no_partitions s names (cast_expr _ _) lo = tt
+  no_partitions s names (space_expr _ _) lo = tt
 
   -- ---- variables
 
@@ -120,7 +149,7 @@ module _ (handing keeping : Bool) (tree : Tree) (task : TaskTree) (sound : IsSou
   plain_local s line n y lo k scope names e =
       let both = and_parts (gives_scalar m y || is_among m.indices n) (keeps_pointer m n y && is_local_expression m y) lo in
       let own = and_parts (keeps_pointer m n y) (is_local_expression m y) both.1 in
-      let told = initial_told tree task s (no_partitions s names) y (told_of_form tree task s sound scope (var_form n None (Some (plain_initializer y))) e).2 in
+      let told = initial_told tree task s y (no_partitions s names y own.1) (told_of_form tree task s sound scope (var_form n None (Some (plain_initializer y))) e).2 in
       let a = headed s line y own.1 k scope names told in
       let from = type_of tree s y in
       let marked = either (gives_scalar m y) (is_among m.indices n) both.0 in
@@ -138,7 +167,7 @@ module _ (handing keeping : Bool) (tree : Tree) (task : TaskTree) (sound : IsSou
   said_local s line n t y lo k scope names e =
       let both = and_parts (is_scalar_term t) (is_local_expression m y) lo in
       let parts = told_of_form tree task s sound scope (var_form n (Some t) (Some (plain_initializer y))) e in
-      let told = initial_told tree task s (no_partitions s names) y parts.2 in
+      let told = initial_told tree task s y (no_partitions s names y both.1) parts.2 in
       let a = headed s line y both.1 (kept_right (parts_of_type (Some t)) (parts_of_expression y) k) scope names told in
       let from = type_of tree s y in
       let begun : known_initializer tree s (plain_initializer y) ≡ from =
@@ -184,4 +213,34 @@ module _ (handing keeping : Bool) (tree : Tree) (task : TaskTree) (sound : IsSou
         ),
         kept_region (kind_of_ispace (type_of tree s y)) (place_of_space tree u.name) (map (looked_up (in_scope s)) u.args) both.0,
         head_made tree task s n (var_type tree s None (Some (region_initializer y u))) names.head,
+      )
+
+  -- an equal partition of a region that has a name
+  pub equal_local : ((q : Name) → is_among m.partitions q ≡ true → keeping ≡ true) → (s : Scope) (line : ℕ) (n r : Name) (y : Expression) →
+      is_local_form m (var_form n None (Some (equal_initializer r y))) ≡ true → AreKept (parts_of_expression y) →
+      IsSoundScope s → Ready s → first_of_form tree task s (var_form n None (Some (equal_initializer r y))) ≡ None →
+      VarTyped s line n None (Some (equal_initializer r y))
+  equal_local keeps s line n r y lo k scope names e =
+      let form = var_form n None (Some (equal_initializer r y)) in
+      let both = and_parts (is_among m.partitions n) (is_local_expression m y) lo in
+      let parts = told_of_form tree task s sound scope form e in
+      let told = (option_or_parts (first_in_expression tree task s y) _ parts.2).0 in
+      let a = headed s line y both.1 k scope names told in
+      let space = stands_as s y space_spot scope told (first_stands s.known (stands (known_type tree s y) space_spot) [] parts.4).0 in
+      let begins = option_or_parts (first_of_initializer tree task s (equal_initializer r y)) _ parts.3 in
+      let named = not-false (names_a is_region s.names r)
+      (rule_none (not (names_a is_region s.names r)) rule.Name (option_or_parts (rule_if (not (names_a is_region s.names r)) rule.Name) _ begins.0).0) in
+      let there = and_parts (is_bound s.names r) (may_be is_region (type_named s.names r)) named in
+      let b = bound_to s.names r in
+      let kept = named_kept keeping m s.names r names.names there.0 in
+      let region = region_is handing keeping tree sound local m s.names r b.number b.static_type kept there.1 in (
+        (keeps n both.0, value_space keeping s.names (type_of tree s y) a.value space, a.is, record { named = there.0; numbers = scope.numbers; region = region }),
+        kept_partition equal_flag b.number (keeps n both.0) (record {
+          named = b;
+          among = bound_among s.names r there.0;
+          number = refl;
+          region = region;
+          term = kept_term keeping m s.names r b.number b.static_type kept region;
+        }) both.0,
+        head_cut tree task s n equal_flag b.number scope.numbers names.head,
       )

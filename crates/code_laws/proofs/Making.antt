@@ -6,8 +6,8 @@ use Rattle.std.proofs.lemmas.List.{length-map}
 use Rattle.std.proofs.lemmas.Option.{slice_get-get_or}
 use Rattle.std.proofs.Math.ListN.{get_or-append}
 use Rattle.std.proofs.Math.Seq.{get_or-append_seam}
-use Rattle.plain_values.specs.Points.{has, points}
-use Rattle.point_sets.proofs.Rising.{has-counted_from}
+use Rattle.plain_values.specs.Points.{IsPoints, has, points}
+use Rattle.point_sets.proofs.Rising.{get_or-counted_from, has-counted_from, length-counted_from, rising-counted_from}
 use Rattle.regent_tree.specs.Running.{Here, State}
 use Rattle.regent_tree.specs.StaticTypes.{field_kinds, kind_said, space_at}
 use Rattle.regent_tree.specs.Store.{Store, new_root, no_root}
@@ -61,6 +61,7 @@ module _ (x : Setting) (store : Store) (image : RootImage) where
         of_space = ap (λ (r : RootImage). r.space) same ∙ l.of_space;
         points = λ f n low h. subst (λ (r : RootImage). n < length (get_or r.fields f [])) (sym same) (l.points f n low h);
         small = l.small;
+        set = l.set;
       }
 
   inside_more : (t : StaticType) (v : Value) → IsOf t v → IsInside x store t v → IsInside x (store ++ image ∷ []) t v
@@ -111,6 +112,15 @@ point_below : (size n : ℕ) → has (points size) n ≡ true → n < size
 point_below size n e =
     omega (arith, ltb-true n (0 + size) (and_parts (leb 0 n) (ltb n (0 + size)) (sym (has-counted_from 0 size n) ∙ e)).1)
 
+-- the points of an index space that isn't too large
+counted_points : (size : ℕ) → size ≤ 4194304 → IsPoints 4194304 (points size)
+counted_points size small = record {
+  rising = rising-counted_from 0 size;
+  below = λ k d l.
+      let under : k < size = omega (arith, l, length-counted_from 0 size) in
+      rw (get_or-counted_from 0 size k d under) (omega (arith, under, small));
+}
+
 -- the region of all points of a new root lies in it
 new_lies : (code : Code) (store : Store) (sp size : ℕ) → size ≤ 4194304 →
     LiesIn code (store ++ new_root sp size (kinds_of code sp) ∷ []) sp (record { root = length store; points = points size })
@@ -122,6 +132,7 @@ new_lies code store sp size small =
       points = λ f n low h. subst (λ (r : RootImage). n < length (get_or r.fields f [])) (sym seam)
           (subst (λ k. n < k) (sym (size_of (kinds_of code sp) size f low)) (point_below size n h));
       small = λ n h. omega (arith, point_below size n h, small);
+      set = counted_points size small;
     }
 
 module _ (x : Setting) (params slots : ℕ) (aside : Aside) where

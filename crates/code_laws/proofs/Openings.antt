@@ -97,7 +97,7 @@ entered_plain s vs (t ∷ ts) (u ∷ us) a b = (one t u a.0 b.0, entered_plain s
     one _ _ (of_pointer k sp args rs t regions p) b = absurd b
     one _ _ (of_space k n l) b = tt
     one _ _ (of_region k sp args r q) b = tt
-    one _ _ (of_partition d r p q) b = tt
+    one _ _ (of_partition d r p q) b = absurd b
 entered_plain s vs [] (u ∷ us) a b = absurd a
 entered_plain s vs (t ∷ ts) [] a b = absurd a
 

@@ -54,7 +54,7 @@ tasks zero t e = subst (IsTypedTaskOf all_forms totals_program) (same_Some _ t e
           (
             inr (a_region_type _ _ _ _, record { number = 1; numbered = refl; place = refl; typed = a_region_type _ _ _ _; space = refl; is = refl }),
             (refl, tt),
-            ((an_integer _, an_integer _, (refl, record { named = refl; numbers = (omega arith, (omega arith, (omega arith, (omega arith, tt)))); pointer = a_pointer_type _ _ _ _ tt; field = omega arith; keeps = keeps_plain _ _ fits_32 }, (tt, tt)), refl), tt),
+            ((an_integer _, an_integer _, (refl, inl (record { named = refl; numbers = (omega arith, (omega arith, (omega arith, (omega arith, tt)))); pointer = a_pointer_type _ _ _ _ tt; field = omega arith; keeps = keeps_plain _ _ fits_32 }, (tt, tt))), refl), tt),
           ),
           ((two_integers _ _, (refl, tt)), tt),
         ),

@@ -1,5 +1,5 @@
 -- The premises of the law on pointers hold of a program.
-use Rattle.std.proofs.Common.{inr, ℤ, pos, negsuc, [], ◌∷◌, refl, arith}
+use Rattle.std.proofs.Common.{inl, inr, ℤ, pos, negsuc, [], ◌∷◌, refl, arith}
 use Rattle.std.proofs.lemmas.Int.{ints}
 use Rattle.lane_kernels.specs.declared.numbers.Width.TheVariants.{W32}
 use Rattle.lane_kernels.specs.Numbers.{FitsWidth}
@@ -63,8 +63,8 @@ runs z fits = record {
                 (
                   an_integer _,
                   an_integer _,
-                  (refl, record { named = refl; numbers = (omega arith, (omega arith, (omega arith, (omega arith, tt)))); pointer = a_pointer_type _ _ _ _ tt; field = omega arith; keeps = keeps_plain _ _ fits_32 }, (tt, tt)),
-                  (refl, record { named = refl; numbers = (omega arith, (omega arith, (omega arith, (omega arith, tt)))); pointer = a_pointer_type _ _ _ _ tt; field = omega arith; keeps = keeps_index _ }, (tt, tt)),
+                  (refl, inl (record { named = refl; numbers = (omega arith, (omega arith, (omega arith, (omega arith, tt)))); pointer = a_pointer_type _ _ _ _ tt; field = omega arith; keeps = keeps_plain _ _ fits_32 }, (tt, tt))),
+                  (refl, inl (record { named = refl; numbers = (omega arith, (omega arith, (omega arith, (omega arith, tt)))); pointer = a_pointer_type _ _ _ _ tt; field = omega arith; keeps = keeps_index _ }, (tt, tt))),
                   counts_number _ (number_index _),
                   refl,
                   record { named = refl; region = a_region_type _ _ _ _; field = omega arith; keeps = keeps_plain _ _ fits_32 },

@@ -11,19 +11,19 @@ use Rattle.regent_tree.specs.Lookup.{is_bound}
 use Rattle.regent_tree.specs.Scopes.{bound_as, bound_to}
 use Rattle.regent_tree.specs.StaticTypes.{Reach}
 use Rattle.regent_tree.specs.Syntax.{Name}
-use Rattle.regent_tree.specs.Typing.{reaches_of, taken_from}
-use Rattle.regent_tree.specs.Values.{Region, Value, a_number, a_partition, a_pointer, a_region, a_space, a_truth, an_index}
+use Rattle.regent_tree.specs.Typing.{parent_of, reaches_of, taken_from}
+use Rattle.regent_tree.specs.Values.{Partition, Region, Value, a_number, a_partition, a_pointer, a_region, a_space, a_truth, an_index}
 use Rattle.regent_tree.specs.declared.facts.Term.TheVariants as term
 use Rattle.regent_tree.specs.declared.typing.Bound.{Bound}
 use Rattle.regent_tree.specs.declared.typing.StaticType.{StaticType}
-use Rattle.code_laws.specs.Pointers.{ArePointed, AreReached, IsOfName, IsPointed}
+use Rattle.code_laws.specs.Pointers.{ArePointed, AreReached, IsCut, IsCutAs, IsOfName, IsPointed}
 use Rattle.code_laws.specs.Simple.{IsRegion, IsSimple, a_region_type, simple_index, simple_integer, simple_space, simple_truth}
 use Rattle.code_laws.specs.Standing.{AreOf, IsOf, RegionsStay, nothing, of_index, of_integer, of_region, of_space, of_truth}
 use Rattle.code_laws.specs.Typed.{IsOwnRegion}
 use Rattle.code_rules.specs.Slots.{Where}
 use Rattle.code_laws.proofs.Values.{not_true}
 
--- ---- values that are no pointers
+-- ---- values that are no pointers, and no partitions
 
 abbrev pub IsPlain : Value → Type 0
 IsPlain (a_pointer t rs) = ⊥
@@ -32,7 +32,7 @@ IsPlain (a_truth b) = Unit {0}
 IsPlain (an_index z) = Unit {0}
 IsPlain (a_space n) = Unit {0}
 IsPlain (a_region q) = Unit {0}
-IsPlain (a_partition p) = Unit {0}
+IsPlain (a_partition p) = ⊥
 
 pub plain_pointed : (bs : List Bound) (names : List Value) (t : StaticType) (v : Value) → IsPlain v → IsPointed bs names t v
 plain_pointed bs names t (a_pointer target rs) p = absurd p
@@ -41,7 +41,7 @@ plain_pointed bs names t (a_truth b) p = tt
 plain_pointed bs names t (an_index z) p = tt
 plain_pointed bs names t (a_space n) p = tt
 plain_pointed bs names t (a_region q) p = tt
-plain_pointed bs names t (a_partition q) p = tt
+plain_pointed bs names t (a_partition q) p = absurd p
 
 pub simple_plain : (t : StaticType) (v : Value) → IsSimple t → IsOf t v → IsPlain v
 simple_plain _ _ (simple_integer w) (of_integer _ z p) = tt
@@ -78,6 +78,23 @@ reached_stays bs names after sp (Some (term.Child p c) ∷ rs) (q ∷ qs) stay a
 reached_stays bs names after sp (None ∷ rs) (q ∷ qs) stay a = reached_stays bs names after sp rs qs stay a
 reached_stays bs names after sp _ _ stay a = absurd a
 
+-- so of a partition's parent
+cut_stays : (bs : List Bound) (names after : List Value) (r : ℕ) (q : Partition) → RegionsStay (length bs) names after →
+    IsCut bs names r q → IsCut bs after r q
+cut_stays bs names after r q stay c = record {
+  parent = c.parent;
+  is = record {
+    numbered = c.is.numbered;
+    region = c.is.region;
+    space = c.is.space;
+    below = c.is.below;
+    value = stay (bound_as bs r).place c.parent c.is.below c.is.value;
+  };
+  root = c.root;
+  sets = c.sets;
+  few = c.few;
+}
+
 pointed_stays : (bs : List Bound) (names after : List Value) (t : StaticType) (v : Value) → RegionsStay (length bs) names after →
     IsPointed bs names t v → IsPointed bs after t v
 pointed_stays bs names after t (a_pointer target qs) stay a = reached_stays bs names after (space_in t) (reaches_of t) qs stay a
@@ -86,7 +103,7 @@ pointed_stays bs names after t (a_truth b) stay a = tt
 pointed_stays bs names after t (an_index z) stay a = tt
 pointed_stays bs names after t (a_space n) stay a = tt
 pointed_stays bs names after t (a_region q) stay a = tt
-pointed_stays bs names after t (a_partition q) stay a = tt
+pointed_stays bs names after t (a_partition q) stay a = cut_stays bs names after (parent_of t) q stay a
 
 -- where the values below a place are the same
 pointed_same : (bs : List Bound) (names after : List Value) (n : ℕ) → length bs ≤ n →
@@ -197,6 +214,27 @@ reached_wider b bs names sp (Some (term.Child p c) ∷ rs) (q ∷ qs) f a = reac
 reached_wider b bs names sp (None ∷ rs) (q ∷ qs) f a = reached_wider b bs names sp rs qs f a
 reached_wider b bs names sp _ _ f a = absurd a
 
+-- so of a partition's parent
+cut_wider : (b : Bound) (bs : List Bound) (names : List Value) (r : ℕ) (q : Partition) → Falls b.number bs → IsCut bs names r q →
+    IsCut (b ∷ bs) names r q
+cut_wider b bs names r q f c =
+    wider (b.number == r) (ne_eqb b.number r (λ e. omega (arith, e, c.is.numbered, found_below b.number bs r f c.is.region)))
+  where
+    wider : (d : Bool) → d ≡ false → IsCutAs (cond d b (bound_as bs r)) (length (b ∷ bs)) names r q
+    wider d e = subst (λ d. IsCutAs (cond d b (bound_as bs r)) (length (b ∷ bs)) names r q) (sym e) (record {
+      parent = c.parent;
+      is = record {
+        numbered = c.is.numbered;
+        region = c.is.region;
+        space = c.is.space;
+        below = omega (arith, c.is.below);
+        value = c.is.value;
+      };
+      root = c.root;
+      sets = c.sets;
+      few = c.few;
+    })
+
 pointed_wider : (b : Bound) (bs : List Bound) (names : List Value) (t : StaticType) (v : Value) → Falls b.number bs →
     IsPointed bs names t v → IsPointed (b ∷ bs) names t v
 pointed_wider b bs names t (a_pointer target qs) f a = reached_wider b bs names (space_in t) (reaches_of t) qs f a
@@ -205,7 +243,7 @@ pointed_wider b bs names t (a_truth c) f a = tt
 pointed_wider b bs names t (an_index z) f a = tt
 pointed_wider b bs names t (a_space n) f a = tt
 pointed_wider b bs names t (a_region q) f a = tt
-pointed_wider b bs names t (a_partition q) f a = tt
+pointed_wider b bs names t (a_partition q) f a = cut_wider b bs names (parent_of t) q f a
 
 -- the pointer of a name goes to regions of names in scope
 pub named_pointed : (next : ℕ) (bs : List Bound) (names : List Value) (n : Name) → Falls next bs → ArePointed bs names →

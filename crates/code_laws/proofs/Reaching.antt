@@ -75,6 +75,7 @@ lies_stays code store after sp q same l = record {
       (sym (length_of (get_or after q.root no_root) (get_or store q.root no_root) f (shapes_at store after q.root same)))
       (l.points f n low h);
   small = l.small;
+  set = l.set;
 }
 
 pub inside_stays : (x : Setting) (store after : Store) (t : StaticType) (v : Value) → SameRoots store after → IsOf t v →

@@ -256,7 +256,7 @@ item_keeps_none import_item e = refl
 item_keeps_none (alias_item n) e = refl
 item_keeps_none (start_item n) e = refl
 item_keeps_none (space_item s) e = absurd (no_way_back e)
-item_keeps_none (task_item t) e = ap (λ (m : Marked). is_empty m.pointers) (scalar_marks t (scalar_task t e))
+item_keeps_none (task_item t) e = ap (λ (m : Marked). is_empty m.pointers && is_empty m.partitions) (scalar_marks t (scalar_task t e))
 
 items_keep_none : (tree : Tree) → list_all (λ (i : ItemTree). is_scalar_item i.form) tree ≡ true → list_all (λ (i : ItemTree). has_no_pointer i.form) tree ≡ true
 items_keep_none [] e = refl

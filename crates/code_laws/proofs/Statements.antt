@@ -8,7 +8,8 @@ use Rattle.code_laws.proofs.Wider.{any_field, assigned, beginning, counting, goi
 use Rattle.code_laws.proofs.States.{ready_value}
 use Rattle.code_laws.proofs.Variables.{GoodInside, binds, fill_runs, region_runs}
 use Rattle.code_laws.proofs.Elements.{folds_element, sets_element}
-use Rattle.regent_tree.specs.Initializers.{initial_value, make_root}
+use Rattle.regent_tree.specs.Initializers.{colours, initial_value, make_root, partitioned, region_named}
+use Rattle.regent_tree.specs.Partitions.{equal_flag, equal_sets}
 use Rattle.code_laws.proofs.Folds.{folds}
 use Rattle.code_laws.proofs.Loops.{counting_runs, integer_kept, loop_typed, turning_runs, from_fits, to_fits}
 use Rattle.code_rules.specs.Instructions.{place_of_task}
@@ -22,7 +23,7 @@ use Rattle.regent_tree.specs.Scopes.{bound_to}
 use Rattle.regent_tree.specs.Syntax.{no_step, field_step, at_step, plain_initializer, a_statement, Form, var_form, if_form, while_form, for_to_form, do_form, assert_form, assign_form, return_form, call_form, fill_form, Block, no_statement, then_statement, Arms, no_arm, an_arm, Otherwise, no_else, else_block, both_initializer, by_field_initializer, either_initializer, equal_initializer, image_initializer, preimage_initializer, region_initializer, print_form, for_in_form}
 use Rattle.regent_tree.specs.Typing.{taken_from, param_types, params_at, scope_after_block, arithmetic_type, width_of_type, var_type}
 use Rattle.regent_tree.specs.Values.{number_of, size_of}
-use Rattle.regent_tree.specs.Running.{State, Here, Run}
+use Rattle.regent_tree.specs.Running.{State, Here, Run, and_then, given}
 use Rattle.regent_tree.specs.Accesses.{converted}
 use Rattle.regent_tree.specs.Evaluation.{called, value, values}
 use Rattle.regent_tree.specs.Execution.{Going, scoped, right_side, bind, looping, exec, exec_arms, exec_else, exec_block, on_line, after_statement, after_arm, after_arms}
@@ -44,7 +45,8 @@ use Rattle.code_laws.proofs.Values.{past_later}
 use Rattle.code_laws.proofs.Good.{valued, Good}
 use Rattle.code_laws.proofs.Operations.{converted_runs, fetch_small, alike_right, truth_of_type}
 use Rattle.code_laws.proofs.Expressions.{AreGiven, args_run, value_runs}
-use Rattle.code_laws.proofs.Handing.{call_takes}
+use Rattle.code_laws.proofs.CallTakes.{call_takes}
+use Rattle.code_laws.proofs.Cuts.{GoodCut, equal_runs}
 use Rattle.code_laws.proofs.Calling.{HasResult, calls_run, pending}
 use Rattle.code_laws.proofs.Prints.{pushed_all}
 use Rattle.regent_tree.specs.StaticTypes.{task_named}
@@ -201,7 +203,18 @@ module _ (x : Setting) (params slots : ℕ) (fit : SlotsFit x slots) (counts : C
         (λ v s1 j k. binds x params slots fit counts aside h n None start v s1 (suc a) j low k.0 k.1
         (region_pointed h.scope.names s1.names t v (a_region_type _ _ _ _) k.0) k.2 f.1)
     form_runs aside h (var_form n (Some t) (Some (region_initializer _ _))) s pc i low fine g f = absurd fine
-    form_runs aside h (var_form n None (Some (equal_initializer _ _))) s pc i low fine g f = absurd fine
+    form_runs aside h (var_form n None (Some (equal_initializer r e))) s pc i low fine g f =
+        let w = where_of params h in
+        let start = Some (equal_initializer r e) in
+        let t = var_type h.tree h.scope None start in
+        let a = past (expr_code w 0 e) pc in
+        then x (does_said x params slots fit counts aside (suc (suc a)) (after_statement h (var_form n None start))) (valued (suc a) [])
+        (GoodCut x params slots fit aside h t) _ (initial_value h None t start s) (λ v. bind v)
+        (then x (comes_said x _ _) (valued a []) (Good x params slots fit aside h (typed w e)) _ (value h e s)
+        (λ v. λ s1. and_then (colours h v s1) (λ k. λ s2. and_then (region_named h r s2) (λ q. given (partitioned q.root equal_flag (equal_sets q.points k)))))
+        (value_runs x params slots fit aside h 0 low e s pc [] i fine.2 g f.0.0)
+        (λ v s1 j k. equal_runs x params slots fit aside h (typed w e) v r h.scope.next s1 a j fine.1 fine.3 k.0 k.1 f.0.1 (fetch_small x.body (suc a) _ f.1)))
+        (λ v s1 j k. binds x params slots fit counts aside h n None start v s1 (suc a) j low k.0 k.1 k.2 k.3 f.1)
     form_runs aside h (var_form n (Some t) (Some (equal_initializer _ _))) s pc i low fine g f = absurd fine
     form_runs aside h (var_form n None (Some (by_field_initializer _ _ _))) s pc i low fine g f = absurd fine
     form_runs aside h (var_form n (Some t) (Some (by_field_initializer _ _ _))) s pc i low fine g f = absurd fine

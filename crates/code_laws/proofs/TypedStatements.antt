@@ -24,7 +24,7 @@ use Rattle.plain_values.proofs.Plain.{option_or_parts}
 use Rattle.regent_tree.specs.Lookup.{is_bound, type_named}
 use Rattle.regent_tree.specs.Scopes.{Scope, in_scope}
 use Rattle.regent_tree.specs.StaticTypes.{type_said}
-use Rattle.regent_tree.specs.Syntax.{Expression, Expressions, Form, Name, TaskTree, Tree, access_expr, an_expr, no_expr, no_step, chain_expr, a_link, no_link}
+use Rattle.regent_tree.specs.Syntax.{Expression, Expressions, Form, TaskTree, Tree, access_expr, an_expr, no_expr, no_step, chain_expr, a_link, no_link}
 use Rattle.regent_tree.specs.Typing.{arithmetic_type, result_type}
 use Rattle.regent_tree.specs.declared.facts.Known.{Known}
 use Rattle.regent_tree.specs.declared.types.NumberTerm.TheVariants as number
@@ -53,27 +53,29 @@ sum_scalar _ _ (an_integer v) (an_integer w) = scalar_integer _
 
 -- ---- what nothing is told of
 
-abbrev pub HasNoPartition : List Bound → Type 0
-HasNoPartition bs = (n : Name) → is_bound bs n ≡ true → may_be is_partition (type_named bs n) ≡ false
+-- no partition stands first in a chain
+abbrev pub HasNoPartition : List Bound → Expression → Type 0
+HasNoPartition bs (chain_expr (access_expr p no_step) rest) = is_bound bs p ≡ true → may_be is_partition (type_named bs p) ≡ false
+HasNoPartition bs e = Unit {0}
 
 module _ (tree : Tree) (task : TaskTree) (s : Scope) where
   abbrev told : Expression → Option Rule
   told e = first_in_expression tree task s e
 
-  -- an initializer is told whole, where no name is a partition
-  no_difference : HasNoPartition s.names → (e : Expression) → is_difference s.names e ≡ true → first_in told (members_of e) ≡ None → ⊥
-  no_difference names (chain_expr (access_expr p no_step) (a_link (Compute Subtract) (access_expr q no_step) no_link)) d e =
+  -- an initializer is told whole, where it is no difference of partitions
+  no_difference : (e : Expression) → HasNoPartition s.names e → is_difference s.names e ≡ true → first_in told (members_of e) ≡ None → ⊥
+  no_difference (chain_expr (access_expr p no_step) (a_link (Compute Subtract) (access_expr q no_step) no_link)) names d e =
       let bound = rule_none (not (is_bound s.names p)) rule.Name (option_or_parts _ _ (option_or_parts (told (access_expr p no_step)) _ e).0).0 in
       no_way (sym (and_parts (may_be is_partition (type_named s.names p)) (may_be is_partition (type_named s.names q)) d).0
-      ∙ names p (not-false (is_bound s.names p) bound))
-  no_difference names _ d e = absurd cc
+      ∙ names (not-false (is_bound s.names p) bound))
+  no_difference _ names d e = absurd cc
 
-  pub initial_told : HasNoPartition s.names → (e : Expression) →
+  pub initial_told : (e : Expression) → HasNoPartition s.names e →
       first_in told (cond (is_difference s.names e) (members_of e) (e ∷ [])) ≡ None → told e ≡ None
-  initial_told names e heads = chosen (is_difference s.names e) refl heads
+  initial_told e names heads = chosen (is_difference s.names e) refl heads
     where
       chosen : (b : Bool) → is_difference s.names e ≡ b → first_in told (cond b (members_of e) (e ∷ [])) ≡ None → told e ≡ None
-      chosen true q heads = absurd (no_difference names e q heads)
+      chosen true q heads = absurd (no_difference e names q heads)
       chosen false q heads = (option_or_parts (told e) _ heads).0
 
   -- arguments, one after the other

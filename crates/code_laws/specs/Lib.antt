@@ -3,6 +3,7 @@ pub mod Simple
 pub mod Taking
 pub mod Pointers
 pub mod Standing
+pub mod Arguments
 pub mod Typed
 pub mod Programs
 pub mod Handing

@@ -43,12 +43,12 @@ abbrev pub AcceptedProgramsEndWell : Type 0
 AcceptedProgramsEndWell = (tree : Tree) (inputs : List ℤ) (turns : ℕ) → turns < 2 ^ 64 → IsLocalProgramRun tree inputs →
     EndsWell tree inputs turns
 
--- a task has no name that may stand for a pointer: none of its loops goes over a region
+-- a task has no name that may stand for a pointer, since none of its loops goes over a region, and none for a partition
 abbrev pub has_no_pointer : ItemForm → Bool
-has_no_pointer (task_item t) = is_empty (marked_by_task t).pointers
+has_no_pointer (task_item t) = is_empty (marked_by_task t).pointers && is_empty (marked_by_task t).partitions
 has_no_pointer item = true
 
--- such a program whose tasks have no pointers
+-- such a program whose tasks have no pointers and no partitions
 pub record IsPlainProgramRun (tree : Tree) (inputs : List ℤ) : Type 0 where
   pub run : IsLocalProgramRun tree inputs
   pub plain : list_all (λ (i : ItemTree). has_no_pointer i.form) tree ≡ true

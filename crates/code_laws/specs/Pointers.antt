@@ -1,4 +1,4 @@
--- Pointers that are kept: the types that have them, and to which regions they go.
+-- Pointers that are kept: the types that have them, and to which regions they go; and of which regions partitions are.
 use Rattle.std.specs.Prelude.{◌≡◌, ℕ, ◌<◌, ◌≤◌, ◌^◌, Bool, true, false, List, [], ◌∷◌, length, get_or, Some, None}
 use Rattle.lane_kernels.specs.declared.numbers.FieldKind.{FieldKind}
 use Rattle.lane_kernels.specs.declared.numbers.FieldKind.TheVariants.{Index}
@@ -13,11 +13,12 @@ use Rattle.regent_tree.specs.declared.types.NumberTerm.TheVariants as number
 use Rattle.regent_tree.specs.declared.typing.Bound.{Bound}
 use Rattle.regent_tree.specs.declared.typing.StaticType.{StaticType}
 use Rattle.regent_tree.specs.declared.typing.StaticType.TheVariants.{Index as index_type, Pointer as pointer_type}
+use Rattle.partitions.specs.Laws.{ArePartsOf}
 use Rattle.regent_tree.specs.Accesses.{space_in}
 use Rattle.regent_tree.specs.Scopes.{bound_as}
 use Rattle.regent_tree.specs.StaticTypes.{Reach}
-use Rattle.regent_tree.specs.Typing.{reaches_of}
-use Rattle.regent_tree.specs.Values.{Region, Target, Value, a_pointer, a_region, a_truth, null_target, point_target}
+use Rattle.regent_tree.specs.Typing.{parent_of, reaches_of}
+use Rattle.regent_tree.specs.Values.{Partition, Region, Target, Value, a_partition, a_pointer, a_region, a_truth, null_target, point_target}
 use Rattle.code_laws.specs.Simple.{AreAlike, AreComparable, FieldFits, IsIntegerTerm, IsNumber, IsRegion, IsScalar, IsSimple, SignsFit}
 
 -- ---- types
@@ -176,9 +177,21 @@ AreReached bs names sp (Some (term.Child p c) ∷ rs) (q ∷ qs) = AreReached bs
 AreReached bs names sp (None ∷ rs) (q ∷ qs) = AreReached bs names sp rs qs
 AreReached bs names sp _ _ = ⊥
 
--- the regions of a pointer are those that its type names
+-- a partition of the region of a name that has a number: each set lies within the region, and there aren't too many
+pub record IsCutAs (b : Bound) (upto : ℕ) (names : List Value) (r : ℕ) (q : Partition) : Type 0 where
+  pub parent : Region
+  pub is : IsOfName b upto names (space_in b.static_type) r parent
+  pub root : q.root ≡ parent.root
+  pub sets : ArePartsOf parent.points q.sets
+  pub few : length q.sets ≤ 65536
+
+abbrev pub IsCut : List Bound → List Value → ℕ → Partition → Type 0
+IsCut bs names r q = IsCutAs (bound_as bs r) (length bs) names r q
+
+-- the regions of a pointer are those that its type names, and a partition is one of the region that its type names
 abbrev pub IsPointed : List Bound → List Value → StaticType → Value → Type 0
 IsPointed bs names t (a_pointer target qs) = AreReached bs names (space_in t) (reaches_of t) qs
+IsPointed bs names t (a_partition q) = IsCut bs names (parent_of t) q
 IsPointed bs names t _ = Unit {0}
 
 -- so of each name's value, among the names that were bound before it

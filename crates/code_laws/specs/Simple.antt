@@ -1,5 +1,5 @@
 -- Kinds of static types: numbers and truths, index spaces, regions, and what fields keep.
-use Rattle.std.specs.Prelude.{ℕ, List, [], ◌∷◌}
+use Rattle.std.specs.Prelude.{Bool, ℕ, List, [], ◌∷◌}
 use Rattle.lane_kernels.specs.declared.numbers.FieldKind.{FieldKind}
 use Rattle.lane_kernels.specs.declared.numbers.FieldKind.TheVariants.{Int32, Int64, Truth}
 use Rattle.lane_kernels.specs.declared.numbers.Width.{Width}
@@ -12,7 +12,7 @@ use Rattle.regent_tree.specs.declared.types.Kind.{Kind}
 use Rattle.regent_tree.specs.declared.types.NumberTerm.{NumberTerm}
 use Rattle.regent_tree.specs.declared.types.NumberTerm.TheVariants as number
 use Rattle.regent_tree.specs.declared.typing.StaticType.{StaticType}
-use Rattle.regent_tree.specs.declared.typing.StaticType.TheVariants.{Integer as integer_type, Truth as truth_type, Index as index_type, Ispace as ispace_type, Region as region_type}
+use Rattle.regent_tree.specs.declared.typing.StaticType.TheVariants.{Integer as integer_type, Truth as truth_type, Index as index_type, Ispace as ispace_type, Region as region_type, Partition as partition_type}
 use Rattle.regent_tree.specs.StaticTypes.{Reach}
 
 pub data IsInteger : StaticType → Type 0 where
@@ -43,6 +43,9 @@ pub data IsSpace : StaticType → Type 0 where
 
 pub data IsRegion : StaticType → Type 0 where
   a_region_type : (k : Kind) (sp : ℕ) (args : List Reach) (r : Term) → IsRegion (region_type k sp args r)
+
+pub data IsPartition : StaticType → Type 0 where
+  a_partition_type : (d : Bool) (r p : ℕ) → IsPartition (partition_type d r p)
 
 -- two regions of one field space
 pub data AreRegions : StaticType → StaticType → Type 0 where

@@ -1,7 +1,7 @@
 -- Where code stands, and how an instance agrees with a state of the meaning.
 use Rattle.std.specs.Prelude.{◌≡◌, ℕ, suc, ◌+◌, ◌^◌, ◌<◌, ◌≤◌, ℤ, pos, false, true, List, [], ◌∷◌, map, length, Option, Some, get_or, nat_le, slice_get, take, Bool}
 use Rattle.std.specs.List.{Contains}
-use Rattle.plain_values.specs.Points.{has}
+use Rattle.plain_values.specs.Points.{IsPoints, has}
 use Rattle.lane_kernels.specs.Numbers.{FitsWidth}
 use Rattle.lane_kernels.specs.declared.numbers.Width.TheVariants.{W64}
 use Rattle.lane_kernels.specs.declared.numbers.Width.{Width}
@@ -128,13 +128,14 @@ AreOf Holding (b ∷ bs) names = (b.place ≡ length bs) × Holding b.static_typ
     × AreOf Holding bs names
 
 -- A region lies in a root of the store: that is of a field space, and each of its fields has a number at each
--- of the region's points.
+-- of the region's points, which are a rising list.
 pub record LiesIn (code : Code) (store : Store) (space : ℕ) (q : Region) : Type 0 where
   pub there : q.root < length store
   pub of_space : (get_or store q.root no_root).space ≡ space
   pub points : (field n : ℕ) → field < length (kinds_of code space) → has q.points n ≡ true →
       n < length (column store q.root field)
   pub small : (n : ℕ) → has q.points n ≡ true → n < 2 ^ 32
+  pub set : IsPoints 4194304 q.points
 
 -- a value stays within the store: regions lie in it and are the task's own or given, and partitions are of its roots
 abbrev pub IsInside : Setting → Store → StaticType → Value → Type 0

@@ -1,11 +1,10 @@
 -- Well-typed expressions and statements of numbers and truths, also those of fields at points of regions that
--- have names, of indices, and of loops over index spaces: no partition. Roots are made, tasks called, regions handed
--- over, and pointers kept, where the forms allow it.
-use Rattle.std.specs.Prelude.{◌≡◌, ◌⊎◌, Bool, ℕ, zero, suc, Option, ◌<◌, ◌≤◌, ℤ, pos, ◌+ℤ◌, int_lt, length, slice_get, List, [], ◌∷◌, true, false, Some, None}
+-- have names, of indices, and of loops over index spaces. Roots are made, tasks called, regions handed over, and
+-- pointers and partitions kept, where the forms allow it.
+use Rattle.std.specs.Prelude.{◌≡◌, ◌⊎◌, Bool, ℕ, suc, ◌<◌, ◌≤◌, ℤ, pos, ◌+ℤ◌, int_lt, length, slice_get, List, [], ◌∷◌, true, false, Some, None}
 use Rattle.lane_kernels.specs.Numbers.{FitsWidth}
 use Rattle.lane_kernels.specs.declared.numbers.Mode.{Mode}
 use Rattle.lane_kernels.specs.declared.numbers.Mode.TheVariants as mode
-use Rattle.task_code.specs.declared.code.NeedCode.{NeedCode}
 use Rattle.regent_tree.specs.declared.expression.Operator.TheVariants.{Or, And, Compare, Compute}
 use Rattle.regent_tree.specs.declared.statement.How.TheVariants as how
 use Rattle.regent_tree.specs.declared.facts.Term.TheVariants as term
@@ -16,18 +15,17 @@ use Rattle.regent_tree.specs.Accesses.{args_in, space_in}
 use Rattle.regent_tree.specs.StaticTypes.{Reach, field_kind, field_place, field_type, place_of_space, space_at, spaces_of, task_named}
 use Rattle.regent_tree.specs.Lookup.{is_bound}
 use Rattle.regent_tree.specs.Scopes.{scope_of}
-use Rattle.regent_tree.specs.declared.facts.Term.{Term}
-use Rattle.regent_tree.specs.declared.facts.Term.TheVariants as term
 use Rattle.regent_tree.specs.Numbers.{distance}
-use Rattle.regent_tree.specs.Syntax.{a_statement, Form, var_form, if_form, while_form, for_in_form, for_to_form, do_form, assert_form, print_form, assign_form, return_form, Block, no_statement, then_statement, Arms, no_arm, an_arm, Otherwise, no_else, else_block, plain_initializer, region_initializer, Name, Tree, fill_form, call_form, call_expr, Expression, number_expr, truth_expr, chain_expr, prefix_expr, access_expr, convert_expr, Expressions, no_expr, an_expr, Links, no_link, a_link, no_step, field_step, at_step, space_expr, is_null_expr, null_expr, cast_expr}
+use Rattle.regent_tree.specs.Syntax.{a_statement, Form, var_form, if_form, while_form, for_in_form, for_to_form, do_form, assert_form, print_form, assign_form, return_form, Block, no_statement, then_statement, Arms, no_arm, an_arm, Otherwise, no_else, else_block, equal_initializer, plain_initializer, region_initializer, Name, Tree, fill_form, call_form, call_expr, Expression, number_expr, truth_expr, chain_expr, prefix_expr, access_expr, convert_expr, Expressions, no_expr, an_expr, Links, no_link, a_link, no_step, field_step, at_step, space_expr, is_null_expr, null_expr, cast_expr}
 use Rattle.regent_tree.specs.Scopes.{bound_as}
 use Rattle.regent_tree.specs.Typing.{arithmetic_type, operated, param_types, params_at, reaches_of, result_type, taken_from, type_of_element, type_of_field, var_type}
+use Rattle.code_laws.specs.Arguments.{AreMet, AreParted, IsCutName, IsHanded, IsHandedPart, IsParent}
 use Rattle.code_laws.specs.Pointers.{BeginsAs, BeginsWith, ConvertsTo, CountsAs, FieldKeeps, FillsInto, FitsInto, GoesInto, IsAssigned, IsCompared, IsCounting, IsPointer, IsRead, IsWritten, SignedAs}
-use Rattle.code_laws.specs.Simple.{IsInteger, IsTruth, IsScalar, IsSimple, IsSpace, IsRegion, AreAlike, FieldFits, AreRegions, term_in}
+use Rattle.code_laws.specs.Simple.{IsInteger, IsTruth, IsScalar, IsSimple, IsSpace, IsRegion, AreAlike, FieldFits, term_in}
 use Rattle.code_rules.specs.Instructions.{place_of_task, tasks_of}
 use Rattle.code_rules.specs.Programs.{task_code}
-use Rattle.code_laws.specs.Steps.{Forms, Taking}
-use Rattle.code_laws.specs.Taking.{IsFresh, MayDo, is_part, pairs_in}
+use Rattle.code_laws.specs.Steps.{Forms}
+use Rattle.code_laws.specs.Taking.{IsFresh, MayDo, pairs_in}
 use Rattle.code_rules.specs.Slots.{Where, typed, bound, slot_named, slots_of}
 use Rattle.code_rules.specs.Expressions.{count}
 use Rattle.code_rules.specs.Statements.{on_line, after_form, after_arm, after_arms, looping}
@@ -143,61 +141,17 @@ abbrev pub MayGo : Forms → Where → Name → Name → Mode → Type 0
 MayGo forms w n f a = MayReach forms w (reaches_of (bound w n).static_type)
     (field_place w.tree (space_in (bound w n).static_type) f) a
 
--- a name that stands as an argument
-abbrev pub name_of : Expression → Option Name
-name_of (access_expr n no_step) = Some n
-name_of e = None
-
-abbrev pub name_at : Expressions → ℕ → Option Name
-name_at no_expr k = None
-name_at (an_expr e es) zero = name_of e
-name_at (an_expr e es) (suc k) = name_at es k
-
--- a region that has a name is handed over, as one of its field space
-abbrev pub IsHanded : Option Taking → Where → StaticType → StaticType → Expression → Type 0
-IsHanded (Some y) w t p (access_expr n no_step) =
-    (is_bound w.scope.names n ≡ true) × (t ≡ p) × AreRegions (bound w n).static_type p
-IsHanded takes w t p e = ⊥
-
--- what the called task needs of the region with a name may be done with it
-abbrev pub IsMet : Option Taking → Where → NeedCode → Option Name → Type 0
-IsMet None w need o = ⊥
-IsMet (Some y) w need None = ⊥
-IsMet (Some y) w need (Some n) = (is_bound w.scope.names n ≡ true) × IsRegion (bound w n).static_type
-    × (need.field < length (space_at w.tree (space_in (bound w n).static_type)).fields)
-    × MayDo (Some y) (term_in (bound w n).static_type) need.field need.mode
-
-abbrev pub AreMet : Option Taking → Where → Expressions → List NeedCode → Type 0
-AreMet takes w args [] = Unit {0}
-AreMet takes w args (n ∷ ns) = IsMet takes w n (name_at args n.param) × AreMet takes w args ns
-
--- a region lies within another: they have one name, or are parameters' of which that follows
-abbrev pub IsPart : Taking → Term → Term → Type 0
-IsPart y (term.Name i) (term.Name j) = (i < y.params) × (j < y.params) × (is_part y i j ≡ true)
-IsPart y _ _ = ⊥
-
-abbrev pub IsParted : Taking → Where → Option Name → Option Name → Type 0
-IsParted y w (Some m) (Some n) = (is_bound w.scope.names m ≡ true) × (is_bound w.scope.names n ≡ true)
-    × IsRegion (bound w m).static_type × IsRegion (bound w n).static_type
-    × ((m ≡ n) ⊎ IsPart y (term_in (bound w m).static_type) (term_in (bound w n).static_type))
-IsParted y w _ _ = ⊥
-
--- the called task's constraints hold of the regions that are handed over
-abbrev pub AreParted : Option Taking → Where → Expressions → List (ℕ × ℕ) → Type 0
-AreParted None w args ps = Unit {0}
-AreParted (Some y) w args [] = Unit {0}
-AreParted (Some y) w args (p ∷ ps) = IsParted y w (name_at args p.0) (name_at args p.1) × AreParted (Some y) w args ps
-
 -- a task of the program, whose needs are met, and of whose parameters the constraints hold
 abbrev pub IsCallable : Forms → Where → Name → Expressions → Type 0
 IsCallable forms w task args =
     (slice_get (tasks_of w.tree) (place_of_task w.tree task) ≡ Some (task_named w.tree task))
-    × AreMet forms.takes w args (task_code w.tree (task_named w.tree task)).needs
-    × AreParted forms.takes w args (pairs_in (scope_of w.tree (task_named w.tree task)).known)
+    × AreMet forms.keeps forms.takes w args (task_code w.tree (task_named w.tree task)).needs
+    × AreParted forms.keeps forms.takes w args (pairs_in (scope_of w.tree (task_named w.tree task)).known)
 
--- a number or truth, or a region, is given to a parameter
-abbrev pub IsPassed : Forms → Where → StaticType → StaticType → Expression → Type 0 → Type 0
-IsPassed forms w t p e Typed = (AreAlike (typed w e) t × (t ≡ p) × Typed) ⊎ IsHanded forms.takes w t p e
+-- a number or truth, a region that has a name, or a part of a partition that has one is given to a parameter
+abbrev pub IsPassed : Forms → Where → StaticType → StaticType → Expression → Type 0 → Type 0 → Type 0
+IsPassed forms w t p e Typed Part =
+    (AreAlike (typed w e) t × (t ≡ p) × Typed) ⊎ (IsHanded forms.takes w t p e ⊎ IsHandedPart forms.keeps forms.takes w t p e Part)
 
 abbrev mutual
   pub IsTyped : Forms → Where → Expression → Type 0
@@ -207,8 +161,8 @@ abbrev mutual
   IsTyped forms w (prefix_expr signs e) = IsTyped forms w e × SignedAs forms.keeps (typed w e) signs
   IsTyped forms w (access_expr n no_step) =
       (is_bound w.scope.names n ≡ true) × IsRead forms.keeps (bound w n).static_type
-  IsTyped forms w (access_expr n (field_step f no_step)) = (forms.keeps ≡ true) × IsBehind w n f (field_behind w n f)
-      × MayGo forms w n f mode.Read
+  IsTyped forms w (access_expr n (field_step f no_step)) = (forms.keeps ≡ true)
+      × ((IsBehind w n f (field_behind w n f) × MayGo forms w n f mode.Read) ⊎ IsCutName w n)
   IsTyped forms w (access_expr n (at_step e no_step)) = (forms.keeps ≡ true) × IsTyped forms w e × IsCounting (typed w e)
       × (is_bound w.scope.names n ≡ true) × IsRegion (bound w n).static_type
       × IsOwnRegion w (bound w n) (bound w n).static_type
@@ -238,11 +192,16 @@ abbrev mutual
   AreTypedLinks forms w t (a_link (Compute o) e rest) = CountsAs forms.keeps t × CountsAs forms.keeps (typed w e) × IsTyped forms w e
       × AreTypedLinks forms w (operated (Compute o) t (typed w e)) rest
 
+  -- what stands for the colour of a part
+  pub IsIndexed : Forms → Where → Expression → Type 0
+  IsIndexed forms w (access_expr n (at_step e no_step)) = IsTyped forms w e × IsCounting (typed w e)
+  IsIndexed forms w _ = ⊥
+
   -- what is given to parameters of these types
   pub ArePassed : Forms → Where → List StaticType → List StaticType → Expressions → Type 0
   ArePassed forms w [] [] no_expr = Unit {0}
   ArePassed forms w (t ∷ ts) (p ∷ ps) (an_expr e es) =
-      IsPassed forms w t p e (IsTyped forms w e) × ArePassed forms w ts ps es
+      IsPassed forms w t p e (IsTyped forms w e) (IsIndexed forms w e) × ArePassed forms w ts ps es
   ArePassed forms w _ _ _ = ⊥
 
 -- numbers that are printed
@@ -269,6 +228,8 @@ abbrev mutual
   IsTypedForm forms w (var_form n None (Some (plain_initializer e))) = IsKeepable forms.keeps w e × IsTyped forms w e
   IsTypedForm forms w (var_form n None (Some (region_initializer e u))) = (forms.makes ≡ true) × IsSpace (typed w e)
       × IsTyped forms w e × IsMakable w.tree (place_of_space w.tree u.name) × IsFresh forms.takes (term.Name w.scope.next)
+  IsTypedForm forms w (var_form n None (Some (equal_initializer r e))) = (forms.keeps ≡ true) × IsSpace (typed w e)
+      × IsTyped forms w e × IsParent w r
   IsTypedForm forms w (var_form n (Some t) (Some (plain_initializer e))) =
       BeginsWith forms.keeps w.scope.names (typed w e) (var_type w.tree w.scope (Some t) (Some (plain_initializer e)))
       × IsTyped forms w e

@@ -14,8 +14,8 @@ use Rattle.regent_tree.specs.Plain.{expression_of, links_in, steps_in}
 use Rattle.regent_tree.specs.PlainProgram.{arms_in, block_in}
 use Rattle.regent_tree.specs.Syntax.{Expression, Name, Steps, access_expr, assign_form, at_step, chain_expr, field_step, no_step}
 use Rattle.regent_tree.proofs.Rows.{arm_read}
-use Rattle.local_form.specs.LocalForm.{Marked, are_local_arms, gives_pointer, is_among, is_local_block, is_local_expression, is_local_form, is_name, marked_by_arms, marked_in}
-use Rattle.local_form.specs.Seen.{assigns_beside, is_behind, is_beside, is_local_arm}
+use Rattle.local_form.specs.LocalForm.{Marked, are_local_arms, gives_pointer, is_among, is_local_block, is_local_expression, is_local_form, is_name, is_part, marked_by_arms, marked_in}
+use Rattle.local_form.specs.Seen.{assigns_beside, is_behind, is_behind_read, is_beside, is_local_arm}
 
 pub list_any-map : {A B : Type 0} (p : B → Bool) (f : A → B) (xs : List A) → list_any p (map f xs) ≡ list_any (λ x. p (f x)) xs
 list_any-map p f [] = refl
@@ -83,11 +83,30 @@ two_behind m n (Field f ∷ Field g ∷ rest) many = refl
 two_behind m n (Field f ∷ At d ∷ rest) many = refl
 two_behind m n (At e ∷ rest) many = refl
 
--- an access is behind a pointer or beside it
+pub two_read : (m : Marked) (n : Name) (steps : List Step) → 2 ≤ length steps → false ≡ is_behind_read m n (steps_in steps)
+two_read m n [] many = absurd (omega (arith, many))
+two_read m n (Field f ∷ []) many = absurd (omega (arith, many))
+two_read m n (Field f ∷ Field g ∷ rest) many = refl
+two_read m n (Field f ∷ At d ∷ rest) many = refl
+two_read m n (At e ∷ rest) many = refl
+
+-- no part has no step, or more than one
+pub none_part : (m : Marked) (n : Name) (steps : List Step) → length steps < 1 → false ≡ is_part m (access_expr n (steps_in steps))
+none_part m n [] few = refl
+none_part m n (step ∷ rest) few = absurd (omega (arith, few))
+
+pub two_part : (m : Marked) (n : Name) (steps : List Step) → 2 ≤ length steps → false ≡ is_part m (access_expr n (steps_in steps))
+two_part m n [] many = absurd (omega (arith, many))
+two_part m n (Field f ∷ rest) many = refl
+two_part m n (At e ∷ []) many = absurd (omega (arith, many))
+two_part m n (At e ∷ Field g ∷ rest) many = refl
+two_part m n (At e ∷ At d ∷ rest) many = refl
+
+-- an access is behind a pointer or a partition, or beside them
 pub either_access : (m : Marked) (n : Name) (steps : Steps) →
-    (is_behind m n steps || is_beside m n steps) ≡ is_local_expression m (access_expr n steps)
+    (is_behind_read m n steps || is_beside m n steps) ≡ is_local_expression m (access_expr n steps)
 either_access m n no_step = refl
-either_access m n (field_step f no_step) = or_none (is_among m.pointers n)
+either_access m n (field_step f no_step) = or_none (is_among m.pointers n || is_among m.partitions n)
 either_access m n (field_step f (field_step _ _)) = refl
 either_access m n (field_step f (at_step _ _)) = refl
 either_access m n (at_step e no_step) = refl

@@ -1,10 +1,10 @@
 -- Programs whose tasks know each region by a local name, that of a parameter or of a variable that begins with
--- region(..), and hand it over by that name: each task takes numbers, truths and regions, and gives a number or truth,
--- or nothing. Which names stand for regions, and which may stand for an index, an index space or a pointer, is read from
--- the text of a task.
+-- region(..), and hand it over by that name, or by parts of equal partitions: each task takes numbers, truths and
+-- regions, and gives a number or truth, or nothing. Which names stand for regions and partitions, and which may stand for
+-- an index, an index space or a pointer, is read from the text of a task.
 use Rattle.std.specs.Prelude.{Bool, true, false, List, [], ◌∷◌, ◌++◌, Some, None, bytes_eq, not, cond, ◌&&◌, ◌||◌}
 use Rattle.std.specs.List.{list_all, list_any}
-use Rattle.regent_tree.specs.Syntax.{Arms, Block, Expression, Expressions, Form, ItemForm, ItemTree, Links, Name, Otherwise, TaskTree, Tree, a_link, a_statement, access_expr, alias_item, an_arm, an_expr, assert_form, assign_form, at_step, call_expr, call_form, chain_expr, convert_expr, do_form, else_block, field_step, fill_form, for_in_form, for_to_form, if_form, import_item, no_arm, no_else, no_expr, no_link, no_statement, no_step, number_expr, plain_initializer, prefix_expr, print_form, region_initializer, return_form, space_expr, space_item, start_item, task_item, then_statement, truth_expr, var_form, while_form}
+use Rattle.regent_tree.specs.Syntax.{Arms, Block, Expression, Expressions, Form, ItemForm, ItemTree, Links, Name, Otherwise, TaskTree, Tree, a_link, a_statement, access_expr, alias_item, an_arm, an_expr, assert_form, assign_form, at_step, call_expr, call_form, chain_expr, convert_expr, do_form, else_block, equal_initializer, field_step, fill_form, for_in_form, for_to_form, if_form, import_item, no_arm, no_else, no_expr, no_link, no_statement, no_step, number_expr, plain_initializer, prefix_expr, print_form, region_initializer, return_form, space_expr, space_item, start_item, task_item, then_statement, truth_expr, var_form, while_form}
 use Rattle.regent_tree.specs.declared.expression.Operator.TheVariants.{Compute}
 use Rattle.regent_tree.specs.declared.statement.How.TheVariants as how
 use Rattle.regent_tree.specs.declared.types.Param.{Param}
@@ -14,10 +14,11 @@ use Rattle.scalar_form.specs.ScalarForm.{is_scalar_if_said, is_scalar_number, is
 
 -- ---- names
 
--- the names of regions in a task, those that may stand for an index, an index space or a pointer, and those among them
--- that may stand for a pointer
+-- the names of regions in a task, those of partitions, those that may stand for an index, an index space or a pointer,
+-- and those among them that may stand for a pointer
 pub record Marked : Type 0 where
   pub regions : List Name
+  pub partitions : List Name
   pub indices : List Name
   pub pointers : List Name
 
@@ -35,7 +36,7 @@ abbrev mutual
   gives_scalar m (prefix_expr signs e) = true
   gives_scalar m (access_expr n no_step) = not (is_among m.indices n)
   gives_scalar m (access_expr n (at_step e rest)) = true
-  gives_scalar m (access_expr n (field_step f rest)) = true
+  gives_scalar m (access_expr n (field_step f rest)) = not (is_among m.partitions n)
   gives_scalar m (call_expr task args) = true
   gives_scalar m (convert_expr t e) = true
   gives_scalar m e = false
@@ -62,18 +63,22 @@ gives_pointer m (access_expr n no_step) = is_among m.pointers n
 gives_pointer m (chain_expr first no_link) = gives_pointer m first
 gives_pointer m e = false
 
--- Numbers and truths, indices, index spaces and pointers, calls, and fields at points of regions that have names, and
--- those that a name's pointer goes to. A region itself stands in an argument alone, or is what a loop goes over, and a
--- prefix stands before numbers and truths.
+-- whether a name is a region's or a partition's, which stands in no expression by itself
+abbrev pub is_kept_apart : Marked → Name → Bool
+is_kept_apart m n = is_among m.regions n || is_among m.partitions n
+
+-- Numbers and truths, indices, index spaces and pointers, calls, fields at points of regions that have names, and those
+-- that a name's pointer goes to, and the colours of partitions. A region itself stands in an argument alone, or is what a
+-- loop goes over, a part of a partition stands in an argument alone, and a prefix stands before numbers and truths.
 abbrev mutual
   pub is_local_expression : Marked → Expression → Bool
   is_local_expression m (number_expr z w) = true
   is_local_expression m (truth_expr b) = true
   is_local_expression m (chain_expr first rest) = is_local_expression m first && are_local_links m rest
   is_local_expression m (prefix_expr signs e) = gives_scalar m e && is_local_expression m e
-  is_local_expression m (access_expr n no_step) = not (is_among m.regions n)
+  is_local_expression m (access_expr n no_step) = not (is_kept_apart m n)
   is_local_expression m (access_expr n (at_step e (field_step f no_step))) = is_local_expression m e
-  is_local_expression m (access_expr n (field_step f no_step)) = is_among m.pointers n
+  is_local_expression m (access_expr n (field_step f no_step)) = is_among m.pointers n || is_among m.partitions n
   is_local_expression m (call_expr task args) = are_local_arguments m args
   is_local_expression m (convert_expr t e) = is_scalar_number t && is_local_expression m e
   is_local_expression m (space_expr k e) = is_local_expression m e
@@ -83,10 +88,15 @@ abbrev mutual
   are_local_links m no_link = true
   are_local_links m (a_link o e rest) = is_local_expression m e && are_local_links m rest
 
-  -- an argument is a name, of a region or of anything else, or such an expression
+  -- a part of a partition that has a name
+  pub is_part : Marked → Expression → Bool
+  is_part m (access_expr n (at_step e no_step)) = is_among m.partitions n && is_local_expression m e
+  is_part m e = false
+
+  -- an argument is a name, of a region or of anything else, a part of a partition, or such an expression
   pub are_local_arguments : Marked → Expressions → Bool
   are_local_arguments m no_expr = true
-  are_local_arguments m (an_expr e es) = (is_name e || is_local_expression m e) && are_local_arguments m es
+  are_local_arguments m (an_expr e es) = (is_name e || (is_part m e || is_local_expression m e)) && are_local_arguments m es
 
 abbrev pub are_local_expressions : Marked → Expressions → Bool
 are_local_expressions m no_expr = true
@@ -103,8 +113,8 @@ abbrev pub is_local_domain : Marked → Name → Expression → Bool
 is_local_domain m n domain = (is_region_name m domain && is_among m.pointers n) || is_local_expression m domain
 
 -- A variable of a written type is a number or truth. One without it begins with region(..), and its name is a
--- region's; or with an expression, and where that may give an index, an index space or a pointer, so may the name. None
--- of these is assigned.
+-- region's; or with an equal partition, and its name is a partition's; or with an expression, and where that may give an
+-- index, an index space or a pointer, so may the name. None of these is assigned.
 abbrev mutual
   pub is_local_form : Marked → Form → Bool
   is_local_form m (var_form n t None) = is_scalar_if_said t
@@ -112,6 +122,7 @@ abbrev mutual
   is_local_form m (var_form n None (Some (plain_initializer e))) =
       (gives_scalar m e || is_among m.indices n) && (keeps_pointer m n e && is_local_expression m e)
   is_local_form m (var_form n None (Some (region_initializer e u))) = is_among m.regions n && is_local_expression m e
+  is_local_form m (var_form n None (Some (equal_initializer r e))) = is_among m.partitions n && is_local_expression m e
   is_local_form m (if_form arms other) = are_local_arms m arms && is_local_else m other
   is_local_form m (while_form test body) = is_local_expression m test && is_local_block m body
   is_local_form m (for_in_form demanded n domain body) =
@@ -124,7 +135,7 @@ abbrev mutual
   is_local_form m (print_form alias format args) = are_local_expressions m args
   is_local_form m (call_form task args) = are_local_arguments m args
   is_local_form m (assign_form n no_step how.Set e) =
-      not (is_among m.regions n) && (not (is_among m.indices n) && is_local_expression m e)
+      not (is_kept_apart m n) && (not (is_among m.indices n) && is_local_expression m e)
   is_local_form m (assign_form n no_step (how.Reduce o) e) = is_local_expression m e
   is_local_form m (assign_form n (at_step e (field_step f no_step)) h y) =
       is_local_expression m e && is_local_expression m y
@@ -149,10 +160,13 @@ abbrev mutual
 -- ---- which names are marked
 
 abbrev pub unmarked : Marked
-unmarked = record { regions = []; indices = []; pointers = [] }
+unmarked = record { regions = []; partitions = []; indices = []; pointers = [] }
 
 abbrev pub with_region : Name → Marked → Marked
 with_region n m = record m { regions = m.regions ++ n ∷ [] }
+
+abbrev pub with_partition : Name → Marked → Marked
+with_partition n m = record m { partitions = m.partitions ++ n ∷ [] }
 
 abbrev pub with_index : Name → Marked → Marked
 with_index n m = record m { indices = m.indices ++ n ∷ [] }
@@ -170,6 +184,7 @@ abbrev mutual
   marked_by (var_form n None (Some (plain_initializer e))) m =
       cond (gives_scalar m e) m (with_either (gives_pointer m e) n m)
   marked_by (var_form n None (Some (region_initializer e u))) m = with_region n m
+  marked_by (var_form n None (Some (equal_initializer r e))) m = with_partition n m
   marked_by (if_form arms other) m = marked_by_else other (marked_by_arms arms m)
   marked_by (while_form test body) m = marked_in body m
   marked_by (for_in_form demanded n domain body) m = marked_in body (with_either (is_region_name m domain) n m)

@@ -8,14 +8,14 @@ use Rattle.regent_tree.specs.Plain.{expression_of}
 use Rattle.regent_tree.specs.PlainProgram.{block_in}
 use Rattle.regent_tree.specs.Syntax.{Expression, Name, Steps, TaskTree, at_step, field_step, no_step}
 use Rattle.scalar_form.specs.ScalarForm.{is_scalar_if_said, is_scalar_term}
-use Rattle.local_form.specs.LocalForm.{Marked, are_local_params, gives_pointer, gives_scalar, is_among, is_local_block, is_local_expression, is_name, is_region_name, is_region_term, with_either, with_region}
+use Rattle.local_form.specs.LocalForm.{Marked, are_local_params, gives_pointer, gives_scalar, is_among, is_kept_apart, is_local_block, is_local_expression, is_name, is_part, is_region_name, is_region_term, with_either, with_region}
 
 abbrev pub is_local_arm : Marked → Arm → Bool
 is_local_arm m a =
     is_local_expression m (expression_of (out-Arm a).test) && is_local_block m (block_in (out-Arm a).body.items)
 
 abbrev pub is_local_argument : Marked → Expression → Bool
-is_local_argument m e = is_name e || is_local_expression m e
+is_local_argument m e = is_name e || (is_part m e || is_local_expression m e)
 
 -- a variable without a written type that begins with an expression
 abbrev pub marked_by_value : Name → Expression → Marked → Marked
@@ -42,16 +42,21 @@ abbrev pub is_behind : Marked → Name → Steps → Bool
 is_behind m n (field_step f no_step) = is_among m.pointers n
 is_behind m n steps = false
 
--- a name that is no region's, or a field at a point
+-- one that is read, or the colours of a name's partition
+abbrev pub is_behind_read : Marked → Name → Steps → Bool
+is_behind_read m n (field_step f no_step) = is_among m.pointers n || is_among m.partitions n
+is_behind_read m n steps = false
+
+-- a name that is no region's and no partition's, or a field at a point
 abbrev pub is_beside : Marked → Name → Steps → Bool
-is_beside m n no_step = not (is_among m.regions n)
+is_beside m n no_step = not (is_kept_apart m n)
 is_beside m n (at_step e (field_step f no_step)) = is_local_expression m e
 is_beside m n steps = false
 
 -- the same of what is assigned to
 abbrev pub assigns_beside : Marked → Name → Steps → How → Expression → Bool
 assigns_beside m n no_step how.Set e =
-    not (is_among m.regions n) && (not (is_among m.indices n) && is_local_expression m e)
+    not (is_kept_apart m n) && (not (is_among m.indices n) && is_local_expression m e)
 assigns_beside m n no_step (how.Reduce o) e = is_local_expression m e
 assigns_beside m n (at_step e (field_step f no_step)) h y = is_local_expression m e && is_local_expression m y
 assigns_beside m n steps h e = false

@@ -4,16 +4,16 @@ ghost use Rattle.std.specs.Prelude.{◌≡◌};
 ghost use Rattle.regent_tree.specs.Plain.{expression_of, expressions_in, links_in, steps_in};
 ghost use Rattle.regent_tree.specs.Syntax.{access_expr};
 ghost use Rattle.local_form.specs.LocalForm.{are_local_arguments, are_local_expressions};
-ghost use Rattle.local_form.specs.LocalForm.{are_local_links, is_local_expression, is_name, is_region_name};
-ghost use Rattle.local_form.specs.Seen.{is_behind, is_beside, is_local_argument};
+ghost use Rattle.local_form.specs.LocalForm.{are_local_links, is_local_expression, is_name, is_part, is_region_name};
+ghost use Rattle.local_form.specs.Seen.{is_behind, is_behind_read, is_beside, is_local_argument};
 
 use crate::giving::gives_scalar;
 use crate::marked::Marked;
 use regent_tree::{Expr, Link, Name, Step};
 use scalar_form::is_scalar_number;
 
-/// Whether a task may have an expression: numbers, truths, indices, index spaces and pointers, and fields at points of
-/// regions and of what pointers go to.
+/// Whether a task may have an expression: numbers, truths, indices, index spaces and pointers, fields at points of
+/// regions and of what pointers go to, and the colours of partitions.
 #[cycle(expression)]
 pub fn is_local_expression(marked: &Marked<'_>, e: &Expr) -> bool
     ensures { result ≡ is_local_expression marked.now (expression_of e.now) }
@@ -46,13 +46,23 @@ pub fn is_behind(marked: &Marked<'_>, name: &Name, steps: &[Step]) -> bool
     }
 }
 
-/// Whether it is a name that is no region's, or a field at a point of a region.
+/// Whether it is one, or the colours of a name's partition.
+fn is_behind_read(marked: &Marked<'_>, name: &Name, steps: &[Step]) -> bool
+    ensures { result ≡ is_behind_read marked.now name.now (steps_in steps.now) }
+{
+    match steps {
+        [Step::Field(_)] => marked.is_pointer(name) || marked.is_partition(name),
+        _ => false,
+    }
+}
+
+/// Whether it is a name that is no region's and no partition's, or a field at a point of a region.
 #[cycle(expression)]
 fn is_beside(marked: &Marked<'_>, name: &Name, steps: &[Step]) -> bool
     ensures { result ≡ is_beside marked.now name.now (steps_in steps.now) }
 {
     match steps {
-        [] => !marked.is_region(name),
+        [] => !marked.is_kept_apart(name),
         [Step::At(place), Step::Field(_)] => is_local_expression(marked, place),
         _ => false,
     }
@@ -63,7 +73,7 @@ fn is_beside(marked: &Marked<'_>, name: &Name, steps: &[Step]) -> bool
 fn is_local_access(marked: &Marked<'_>, name: &Name, steps: &[Step]) -> bool
     ensures { result ≡ is_local_expression marked.now (access_expr name.now (steps_in steps.now)) }
 {
-    is_behind(marked, name, steps) || is_beside(marked, name, steps)
+    is_behind_read(marked, name, steps) || is_beside(marked, name, steps)
 }
 
 /// Whether such are the further members of a chain.
@@ -109,12 +119,34 @@ pub fn is_region_name(marked: &Marked<'_>, e: &Expr) -> bool
     }
 }
 
-/// Whether an argument is a name, a region's or any other, or such an expression.
+/// Whether an access is a part of a partition.
+#[cycle(expression)]
+fn names_part(marked: &Marked<'_>, name: &Name, steps: &[Step]) -> bool
+    ensures { result ≡ is_part marked.now (access_expr name.now (steps_in steps.now)) }
+{
+    match steps {
+        [Step::At(colour)] => marked.is_partition(name) && is_local_expression(marked, colour),
+        _ => false,
+    }
+}
+
+/// Whether an expression is a part of a partition that has a name.
+#[cycle(expression)]
+fn is_part(marked: &Marked<'_>, e: &Expr) -> bool
+    ensures { result ≡ is_part marked.now (expression_of e.now) }
+{
+    match e {
+        Expr::Access { name, steps } => names_part(marked, name, steps.as_slice()),
+        _ => false,
+    }
+}
+
+/// Whether an argument is a name, a region's or any other, a part of a partition, or such an expression.
 #[cycle(expression)]
 fn is_local_argument(marked: &Marked<'_>, arg: &Expr) -> bool
     ensures { result ≡ is_local_argument marked.now (expression_of arg.now) }
 {
-    is_name(arg) || is_local_expression(marked, arg)
+    is_name(arg) || is_part(marked, arg) || is_local_expression(marked, arg)
 }
 
 /// Whether such are all arguments of a call.

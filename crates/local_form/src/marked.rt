@@ -1,18 +1,19 @@
 //! The names that a task marks.
 
 ghost use Rattle.std.specs.Prelude.{◌≡◌, List, OnOk, bytes_eq, map, ℕ};
-ghost use Rattle.local_form.specs.LocalForm.{is_among, unmarked, with_either, with_index};
-ghost use Rattle.local_form.specs.LocalForm.{with_pointer, with_region};
+ghost use Rattle.local_form.specs.LocalForm.{is_among, is_kept_apart, unmarked, with_either, with_index};
+ghost use Rattle.local_form.specs.LocalForm.{with_partition, with_pointer, with_region};
 
 use regent_tree::Name;
 use std::alloc::{AllocError, Global};
 use std::marker::Model;
 
-/// The names of regions in a task, those that may stand for an index, an index space or a pointer, and those among them
-/// that may stand for a pointer.
+/// The names of regions in a task, those of partitions, those that may stand for an index, an index space or a pointer,
+/// and those among them that may stand for a pointer.
 #[derive(Drop)]
 pub struct Marked<'t> {
     regions: Vec<&'t Name>,
+    partitions: Vec<&'t Name>,
     indices: Vec<&'t Name>,
     pointers: Vec<&'t Name>,
 }
@@ -25,6 +26,7 @@ impl<'t> Model for Marked<'t> {
 
     ghost view = { λ s. record {
       regions = map (λ n. n.now) s.regions.items;
+      partitions = map (λ n. n.now) s.partitions.items;
       indices = map (λ n. n.now) s.indices.items;
       pointers = map (λ n. n.now) s.pointers.items;
     } };
@@ -43,6 +45,7 @@ impl<'t> Marked<'t> {
     {
         Marked {
             regions: Vec::new(alloc),
+            partitions: Vec::new(alloc),
             indices: Vec::new(alloc),
             pointers: Vec::new(alloc),
         }
@@ -52,6 +55,19 @@ impl<'t> Marked<'t> {
         ensures { result ≡ is_among self.now.regions name.now }
     {
         is_among(self.regions.as_slice(), name)
+    }
+
+    pub fn is_partition(&self, name: &Name) -> bool
+        ensures { result ≡ is_among self.now.partitions name.now }
+    {
+        is_among(self.partitions.as_slice(), name)
+    }
+
+    /// Whether a name is a region's or a partition's.
+    pub fn is_kept_apart(&self, name: &Name) -> bool
+        ensures { result ≡ is_kept_apart self.now name.now }
+    {
+        self.is_region(name) || self.is_partition(name)
     }
 
     pub fn is_index(&self, name: &Name) -> bool
@@ -70,6 +86,13 @@ impl<'t> Marked<'t> {
         ensures { OnOk result (self.new ≡ with_region name.now self.old) }
     {
         self.regions.push(name)?;
+        Ok(())
+    }
+
+    pub fn add_partition(&mut self, name: &'t Name) -> Result<(), AllocError>
+        ensures { OnOk result (self.new ≡ with_partition name.now self.old) }
+    {
+        self.partitions.push(name)?;
         Ok(())
     }
 

@@ -47,6 +47,7 @@ fn mark_variable<'t>(
     match (term, init) {
         (None, Some(Init::Plain(value))) => mark_value(marked, name, value),
         (None, Some(Init::Region { .. })) => marked.add_region(name),
+        (None, Some(Init::Equal { .. })) => marked.add_partition(name),
         _ => Ok(()),
     }
 }

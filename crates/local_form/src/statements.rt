@@ -33,7 +33,8 @@ fn is_local_domain(marked: &Marked<'_>, name: &Name, domain: &Expr) -> bool
         || is_local_expression(marked, domain)
 }
 
-/// Whether a variable is a number or truth, an index, an index space, a pointer or a region, each known as what it is.
+/// Whether a variable is a number or truth, an index, an index space, a pointer, a region or a partition, each known as
+/// what it is.
 fn is_local_variable(
     marked: &Marked<'_>,
     name: &Name,
@@ -56,6 +57,9 @@ fn is_local_variable(
         (None, Some(Init::Region { space, .. })) => {
             marked.is_region(name) && is_local_expression(marked, space)
         }
+        (None, Some(Init::Equal { colours, .. })) => {
+            marked.is_partition(name) && is_local_expression(marked, colours)
+        }
         _ => false,
     }
 }
@@ -73,7 +77,7 @@ fn assigns_beside(
 {
     match (steps, how) {
         ([], How::Set) => {
-            !marked.is_region(target)
+            !marked.is_kept_apart(target)
                 && !marked.is_index(target)
                 && is_local_expression(marked, value)
         }

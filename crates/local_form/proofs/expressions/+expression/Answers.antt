@@ -1,6 +1,6 @@
 use Rattle.std.proofs.Common.{◌∙◌, sym}
 use Rattle.regent_tree.proofs.Rows.{expressions_of_vec, links_of_vec, steps_of_vec}
-use Rattle.local_form.proofs.Laws.{one_beside, second_tells, three_beside}
+use Rattle.local_form.proofs.Laws.{one_beside, second_tells, three_beside, two_part}
 use Rattle.local_form.proofs.expressions.+expression.Goals as goal
 
 pub is_beside-returns-in_default : goal.is_beside-returns-in_default
@@ -22,3 +22,9 @@ is_local_expression-returns-in-Access t c =
 pub is_local_expression-returns-in-Call : goal.is_local_expression-returns-in-Call
 is_local_expression-returns-in-Call t c =
     rw (c.in-Call.is, expressions_of_vec c.in-Call.args, ← c.as_slice-in-Call.ensures.value) c.are_local_arguments.ensures
+
+pub is_part-returns-in-Access : goal.is_part-returns-in-Access
+is_part-returns-in-Access t c = rw (c.in-Access.is, steps_of_vec c.in-Access.steps, ← c.as_slice.ensures.value) c.names_part.ensures
+
+pub names_part-returns-in_default-3 : goal.names_part-returns-in_default-3
+names_part-returns-in_default-3 t c = two_part c.args.marked.now c.args.name.now c.args.steps.now c.in_default.len_at_least

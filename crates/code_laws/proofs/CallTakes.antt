@@ -1,0 +1,372 @@
+-- What a call takes: what the called task requires of its arguments is there, and lies within what the caller has, and
+-- its constraints hold of them.
+use Rattle.std.proofs.Common.{◌≡◌, ℕ, zero, suc, ◌<◌, ℤ, List, [], ◌∷◌, inl, inr, Bool, true, false, Option, Some, None, refl, sym, ap, ◌∙◌, subst, arith, ⊎_elim}
+use Rattle.std.specs.Prelude.{get_or, length, map, nat_abs, option_map, slice_get}
+use Rattle.std.proofs.lemmas.Option.{get_or_from_slice_get, none-some, same_Some, slice_get-map}
+use Rattle.plain_values.specs.Points.{has}
+use Rattle.partitions.specs.Laws.{ArePartsOf}
+use Rattle.region_tree.specs.Requirements.{is_within, mode_at}
+use Rattle.regent_tree.proofs.Members.{Has, Has-from_Contains}
+use Rattle.regent_tree.specs.Accesses.{space_in}
+use Rattle.regent_tree.specs.Laws.{Shape}
+use Rattle.regent_tree.specs.Lookup.{is_bound}
+use Rattle.regent_tree.specs.Running.{Here, State}
+use Rattle.regent_tree.specs.Scopes.{bound_to, scope_of}
+use Rattle.regent_tree.specs.StaticTypes.{space_at, task_named}
+use Rattle.regent_tree.specs.Store.{no_root}
+use Rattle.regent_tree.specs.Syntax.{Expression, Expressions, Name, an_expr, no_expr}
+use Rattle.regent_tree.specs.Typing.{param_types, parent_of}
+use Rattle.regent_tree.specs.Values.{Partition, Region, Value, a_region, a_truth, partition_of, region_of}
+use Rattle.regent_tree.specs.declared.facts.Term.{Term}
+use Rattle.regent_tree.specs.declared.facts.Term.TheVariants as term
+use Rattle.regent_tree.specs.declared.typing.StaticType.{StaticType}
+use Rattle.task_code.specs.declared.code.NeedCode.{NeedCode}
+use Rattle.machine_terms.specs.declared.order.Instance.{Instance}
+use Rattle.machine_terms.specs.Contents.{kinds_of}
+use Rattle.machine_terms.specs.Copies.{give_parts}
+use Rattle.machine_terms.specs.Makes.{region_with}
+use Rattle.machine_terms.specs.Pointers.{region_in}
+use Rattle.machine_terms.specs.declared.value.RegionValue.{RegionValue}
+use Rattle.memory_laws.proofs.Given.{given_stands}
+use Rattle.memory_laws.specs.Memory.{memory_of}
+use Rattle.memory_laws.specs.Places.{number_at}
+use Rattle.memory_laws.specs.Touches.{Covers}
+use Rattle.fact_laws.specs.Regions.{LiesWithin}
+use Rattle.code_rules.specs.Programs.{task_code}
+use Rattle.code_rules.specs.Slots.{Where, typed}
+use Rattle.code_laws.specs.Arguments.{AreMet, AreOneColour, AreParted, IsPartBelow, IsCutName, IsMet, IsMetAt, IsMetPart, IsPart, IsParted, IsPartedAt, name_at, one_name, one_number, parent_bound, part_at}
+use Rattle.code_laws.specs.Simple.{AreRegions, IsRegion, term_in, two_regions}
+use Rattle.code_laws.specs.Standing.{Agrees, AreTaken, Aside, IsInside, IsOf, IsTaken, LiesIn, SlotsFit, Takes, machine_value, nothing, takes_region, takes_scalar, where_of}
+use Rattle.code_laws.specs.Steps.{Setting, Taking}
+use Rattle.code_laws.specs.Taking.{AreParts, IsHad, IsHadBy, MayDo, given_region, pairs_in, pairs_taken}
+use Rattle.code_laws.specs.Typed.{IsCallable}
+use Rattle.code_laws.proofs.Arguments.{alike_other, alike_scalar, first_region, named_typed, no_both, part_other, part_space, region_other}
+use Rattle.code_laws.proofs.Calling.{given_number}
+use Rattle.code_laws.proofs.Handing.{AreGivenBy, IsGivenBy, IsHandedAs, IsPartAs}
+use Rattle.code_laws.proofs.Parts.{IsColoured, colour_seen, cut_of, parent_inside, part_at_colour, part_lies_in, part_within, point_of}
+use Rattle.code_laws.proofs.Reaching.{a_region_there, field_there, part_lies, region_covered, region_had, region_lies_in}
+use Rattle.code_laws.proofs.Requiring.{covered_within, requirements_there}
+use Rattle.code_laws.proofs.Values.{named}
+
+module _ (x : Setting) (params slots : ℕ) (fit : SlotsFit x slots) (aside : Aside) where
+  abbrev AreGiven : Here → List StaticType → Expressions → List Value → List Value → Type 0
+  AreGiven h ps es vs names = AreGivenBy x params slots fit aside h ps es vs names
+
+  -- ---- arguments by their places
+
+  -- the value of an argument that is a region's name
+  value_at : (h : Here) (ps : List StaticType) (es : Expressions) (vs names : List Value) (k : ℕ) (n : Name) → AreGiven h ps es vs names →
+      name_at es k ≡ Some n → IsRegion (bound_to h.scope.names n).static_type →
+      slice_get vs k ≡ Some (get_or names (bound_to h.scope.names n).place nothing)
+  value_at h ps no_expr vs names k n a e r = absurd (none-some n e)
+  value_at h (p ∷ ps) (an_expr e es) (v ∷ vs) names (suc k) n a at r = value_at h ps es vs names k n a.1 at r
+  value_at h (p ∷ ps) (an_expr e es) (v ∷ vs) names zero n a at r =
+      ⊎_elim
+      (λ scalar. absurd (region_other (typed (where_of params h) e)
+      (subst IsRegion (sym (named_typed (where_of params h) e n at)) r) (alike_other (typed (where_of params h) e) p scalar.0)))
+      (λ given. ⊎_elim
+      (λ (is : IsHandedAs x params slots fit aside h p e v names).
+      let same : is.name ≡ n = same_Some is.name n (sym is.stands ∙ at) in
+      ap (λ u. Some u) (is.is ∙ ap (λ m. get_or names (bound_to h.scope.names m).place nothing) same))
+      (λ (is : IsPartAs x params slots fit aside h p e v names). absurd (no_both e n (is.name, is.index) at is.stands)) given) a.0
+  value_at h [] (an_expr e es) vs names k n a at r = absurd a
+  value_at h (p ∷ ps) (an_expr e es) [] names k n a at r = absurd a
+
+  -- and of one that is a part
+  record ByPart (h : Here) (vs : List Value) (k : ℕ) (p : Name × Expression) (names : List Value) : Type 0 where
+    value : Value
+    at : slice_get vs k ≡ Some value
+    coloured : IsColoured h p.0 p.1 value names
+
+  by_part : (h : Here) (ps : List StaticType) (es : Expressions) (vs names : List Value) (k : ℕ) (q : Name × Expression) → AreGiven h ps es vs names →
+      part_at es k ≡ Some q → IsCutName (where_of params h) q.0 → ByPart h vs k q names
+  by_part h ps no_expr vs names k q a e cut = absurd (none-some q e)
+  by_part h (p ∷ ps) (an_expr e es) (v ∷ vs) names (suc k) q a at cut =
+      let r = by_part h ps es vs names k q a.1 at cut in record { value = r.value; at = r.at; coloured = r.coloured }
+  by_part h (p ∷ ps) (an_expr e es) (v ∷ vs) names zero q a at cut =
+      ⊎_elim
+      (λ scalar. absurd (part_other (where_of params h) e p q at cut scalar.0))
+      (λ given. ⊎_elim
+      (λ (is : IsHandedAs x params slots fit aside h p e v names). absurd (no_both e is.name q is.stands at))
+      (λ (is : IsPartAs x params slots fit aside h p e v names). record {
+        value = v;
+        at = refl;
+        coloured = subst (λ (q : Name × Expression). IsColoured h q.0 q.1 v names) (same_Some (is.name, is.index) q (sym is.stands ∙ at)) is.coloured;
+      }) given) a.0
+  by_part h [] (an_expr e es) vs names k q a at cut = absurd a
+  by_part h (p ∷ ps) (an_expr e es) [] names k q a at cut = absurd a
+
+  -- ---- needs
+
+  met_at : (keeps : Bool) (o : Option Taking) (w : Where) (es : Expressions) (ns : List NeedCode) (n : NeedCode) → AreMet keeps o w es ns → Has ns n →
+      IsMetAt keeps o w es n
+  met_at keeps o w es [] n a h = absurd h
+  met_at keeps o w es (k ∷ ns) n a (inl e) = subst (λ k. IsMetAt keeps o w es k) e a.0
+  met_at keeps o w es (k ∷ ns) n a (inr h) = met_at keeps o w es ns n a.1 h
+
+  -- the region that a need is on lies within one that a name has
+  record OnRegion (h : Here) (s : State) (vs : List Value) (n : NeedCode) : Type 0 where
+    type : StaticType
+    region : IsRegion type
+    field : n.field < length (space_at h.tree (space_in type)).fields
+    may : MayDo x.forms.takes (term_in type) n.field n.mode
+    whole : Region
+    inside : IsInside x s.store type (a_region whole)
+    points : Region
+    is : slice_get vs n.param ≡ Some (a_region points)
+    root : points.root ≡ whole.root
+    within : (k : ℕ) → has points.points k ≡ true → has whole.points k ≡ true
+
+  on_name : (h : Here) (s : State) (i : Instance) (ps : List StaticType) (es : Expressions) (vs : List Value) (n : NeedCode) →
+      (takes : Option Taking) → x.forms.takes ≡ takes → (o : Option Name) → name_at es n.param ≡ o → IsMet takes (where_of params h) n o →
+      AreGiven h ps es vs s.names → Agrees x params slots aside h s i → OnRegion h s vs n
+  on_name h s i ps es vs n None e o at m a g = absurd m
+  on_name h s i ps es vs n (Some y) e None at m a g = absurd m
+  on_name h s i ps es vs n (Some y) e (Some name) at m a g =
+      let b = bound_to h.scope.names name in
+      let v = get_or s.names b.place nothing in
+      let q = a_region_there b.static_type v m.1 (named IsOf h.scope.names s.names name g.typed m.0).holding in record {
+        type = b.static_type;
+        region = m.1;
+        field = m.2;
+        may = subst (λ o. MayDo o (term_in b.static_type) n.field n.mode) (sym e) m.3;
+        whole = q.0;
+        inside = subst (IsInside x s.store b.static_type) q.2 (named (IsInside x s.store) h.scope.names s.names name g.inside_store m.0).holding;
+        points = q.0;
+        is = value_at h ps es vs s.names n.param name a at m.1 ∙ ap (λ u. Some u) q.2;
+        root = refl;
+        within = λ k e. e;
+      }
+
+  on_part : (h : Here) (s : State) (i : Instance) (ps : List StaticType) (es : Expressions) (vs : List Value) (n : NeedCode) →
+      (takes : Option Taking) → x.forms.takes ≡ takes → (o : Option (Name × Expression)) → part_at es n.param ≡ o →
+      IsMetPart takes (where_of params h) n o → AreGiven h ps es vs s.names → Agrees x params slots aside h s i → OnRegion h s vs n
+  on_part h s i ps es vs n None e o at m a g = absurd m
+  on_part h s i ps es vs n (Some y) e None at m a g = absurd m
+  on_part h s i ps es vs n (Some y) e (Some p) at m a g =
+      let t = (parent_bound (where_of params h) p.0).static_type in
+      let b = by_part h ps es vs s.names n.param p a at m.0 in
+      let k = b.coloured in
+      let c = cut_of x params slots fit aside h s i p.0 k.partition m.0 k.has_it g in record {
+        type = t;
+        region = c.is.region;
+        field = m.1;
+        may = subst (λ o. MayDo o (term_in t) n.field n.mode) (sym e) m.2;
+        whole = c.parent;
+        inside = parent_inside x params slots fit aside h s i (parent_of (bound_to h.scope.names p.0).static_type) k.partition c g;
+        points = part_at_colour k.partition k.colour;
+        is = b.at ∙ ap (λ u. Some u) k.is;
+        root = c.root;
+        within = λ point e. part_within c.parent.points k.partition.sets k.colour point c.sets k.low e;
+      }
+
+  on_region : (h : Here) (s : State) (i : Instance) (ps : List StaticType) (es : Expressions) (vs : List Value) (n : NeedCode) → (keeps : Bool) →
+      IsMetAt keeps x.forms.takes (where_of params h) es n → AreGiven h ps es vs s.names → Agrees x params slots aside h s i → OnRegion h s vs n
+  on_region h s i ps es vs n false m a g = on_name h s i ps es vs n x.forms.takes refl (name_at es n.param) refl m a g
+  on_region h s i ps es vs n true (inl m) a g = on_name h s i ps es vs n x.forms.takes refl (name_at es n.param) refl m a g
+  on_region h s i ps es vs n true (inr m) a g = on_part h s i ps es vs n x.forms.takes refl (part_at es n.param) refl m a g
+
+  taken_by : (h : Here) (s : State) (i : Instance) (ps : List StaticType) (es : Expressions) (vs : List Value) → AreGiven h ps es vs s.names →
+      Agrees x params slots aside h s i → AreTaken (IsTaken x.forms.takes x.code s.store) ps vs
+  taken_by h s i [] no_expr [] a g = tt
+  taken_by h s i (p ∷ ps) (an_expr e es) (v ∷ vs) a g = (one a.0, taken_by h s i ps es vs a.1 g)
+    where
+      region : (b p : StaticType) (q : Region) (y : Taking) → x.forms.takes ≡ Some y → AreRegions b p → LiesIn x.code s.store (space_in b) q →
+          IsTaken x.forms.takes x.code s.store p (a_region q)
+      region _ _ q y takes (two_regions k l sp args brgs r u) lies = takes_region y l sp brgs u q takes lies
+
+      one : IsGivenBy x params slots fit aside h p e v s.names → IsTaken x.forms.takes x.code s.store p v
+      one (inl c) = takes_scalar p v (alike_scalar (typed (where_of params h) e) p c.0) c.1
+      one (inr (inr is)) =
+          let w = where_of params h in
+          let k = is.coloured in
+          let r = parent_of (bound_to h.scope.names is.name).static_type in
+          let t = (parent_bound w is.name).static_type in
+          let c = cut_of x params slots fit aside h s i is.name k.partition is.cut k.has_it g in
+          let lies = part_lies_in x.code s.store (space_in t) c.parent k.partition k.colour c.root c.sets k.low
+          (region_lies_in x s.store t c.parent c.is.region (parent_inside x params slots fit aside h s i r k.partition c g)) in
+          subst (IsTaken x.forms.takes x.code s.store p) (sym k.is)
+          (region (typed w e) p (part_at_colour k.partition k.colour) is.taking is.takes is.regions
+          (subst (λ sp. LiesIn x.code s.store sp (part_at_colour k.partition k.colour))
+          (sym (part_space w e (is.name, is.index) is.stands is.cut c.is.region)) lies))
+      one (inr (inl is)) =
+          let b = bound_to h.scope.names is.name in
+          let u = get_or s.names b.place nothing in
+          let q = a_region_there b.static_type u (first_region b.static_type p is.regions) (named IsOf h.scope.names s.names is.name g.typed is.there).holding in
+          subst (IsTaken x.forms.takes x.code s.store p) (sym (is.is ∙ q.2))
+          (region b.static_type p q.0 is.taking is.takes is.regions
+          (region_lies_in x s.store b.static_type q.0 (first_region b.static_type p is.regions)
+          (subst (IsInside x s.store b.static_type) q.2 (named (IsInside x s.store) h.scope.names s.names is.name g.inside_store is.there).holding)))
+  taken_by h s i [] no_expr (v ∷ vs) a g = absurd a
+  taken_by h s i [] (an_expr e es) vs a g = absurd a
+  taken_by h s i (p ∷ ps) no_expr vs a g = absurd a
+  taken_by h s i (p ∷ ps) (an_expr e es) [] a g = absurd a
+
+  -- ---- constraints
+
+  abbrev number_in : Term → ℕ
+  number_in (term.Name i) = i
+  number_in (term.Child p c) = 0
+
+  -- what a parameter's name stands for is its argument
+  given_as : (y : Taking) (i : ℕ) (q : Region) → i < y.params → IsHadBy (Some y) x (term.Name i) q → given_region x.args i ≡ q
+  given_as y i q low (inl own) = absurd (omega (arith, low, own.1))
+  given_as y i q low (inr g) = ap (given_region x.args) (ap number_in g.named) ∙ g.is
+
+  part_given : (y : Taking) (r u : Term) (q p : Region) → x.forms.takes ≡ Some y → IsPart y r u → IsHad x r q → IsHad x u p →
+      AreParts x.args (pairs_taken x.forms.takes) → LiesWithin q p
+  part_given y (term.Name i) (term.Name j) q p e is had there parts =
+      subst (λ a. LiesWithin a p) (given_as y i q is.0 (subst (λ o. IsHadBy o x (term.Name i) q) e had))
+      (subst (LiesWithin (given_region x.args i)) (given_as y j p is.1 (subst (λ o. IsHadBy o x (term.Name j) p) e there))
+      (part_lies y x.args i j (subst (λ o. AreParts x.args (pairs_taken o)) e parts) is.2))
+  part_given y (term.Name i) (term.Child _ _) q p e is had there parts = absurd is
+  part_given y (term.Child _ _) u q p e is had there parts = absurd is
+
+  -- the region of a name that stands as an argument
+  record ByName (h : Here) (s : State) (vs : List Value) (k : ℕ) (n : Name) : Type 0 where
+    region : Region
+    is : given_region vs k ≡ region
+    value : get_or s.names (bound_to h.scope.names n).place nothing ≡ a_region region
+    had : IsHad x (term_in (bound_to h.scope.names n).static_type) region
+
+  by_name : (h : Here) (s : State) (i : Instance) (ps : List StaticType) (es : Expressions) (vs : List Value) (k : ℕ) (n : Name) →
+      name_at es k ≡ Some n → is_bound h.scope.names n ≡ true → IsRegion (bound_to h.scope.names n).static_type →
+      AreGiven h ps es vs s.names → Agrees x params slots aside h s i → ByName h s vs k n
+  by_name h s i ps es vs k n at there region a g =
+      let b = bound_to h.scope.names n in
+      let v = get_or s.names b.place nothing in
+      let q = a_region_there b.static_type v region (named IsOf h.scope.names s.names n g.typed there).holding in record {
+        region = q.0;
+        is = ap region_of (get_or_from_slice_get vs k v (a_truth false) (value_at h ps es vs s.names k n a at region)) ∙ q.1;
+        value = q.2;
+        had = region_had x s.store b.static_type q.0 region
+            (subst (IsInside x s.store b.static_type) q.2 (named (IsInside x s.store) h.scope.names s.names n g.inside_store there).holding);
+      }
+
+  parted_lies : (h : Here) (s : State) (i : Instance) (ps : List StaticType) (es : Expressions) (vs : List Value) (y : Taking) (j k : ℕ) (o u : Option Name) →
+      x.forms.takes ≡ Some y → name_at es j ≡ o → name_at es k ≡ u → IsParted y (where_of params h) o u → AreGiven h ps es vs s.names →
+      Agrees x params slots aside h s i → LiesWithin (given_region vs j) (given_region vs k)
+  parted_lies h s i ps es vs y j k None u e at there is a g = absurd is
+  parted_lies h s i ps es vs y j k (Some m) None e at there is a g = absurd is
+  parted_lies h s i ps es vs y j k (Some m) (Some n) e at there is a g =
+      let b = by_name h s i ps es vs j m at is.0 is.2 a g in
+      let c = by_name h s i ps es vs k n there is.1 is.3 a g in
+      subst (λ q. LiesWithin q (given_region vs k)) (sym b.is)
+      (subst (LiesWithin b.region) (sym c.is)
+      (⊎_elim
+      (λ same. subst (LiesWithin b.region)
+      (ap region_of (sym b.value ∙ ap (λ n. get_or s.names (bound_to h.scope.names n).place nothing) same ∙ c.value)) (λ root point in_it. in_it))
+      (λ part. part_given y (term_in (bound_to h.scope.names m).static_type) (term_in (bound_to h.scope.names n).static_type) b.region c.region e
+      part b.had c.had g.framed.parts) is.4))
+
+  -- a part lies within what its whole lies within, and within the part of the same colour
+  within_whole : (parent : Region) (q : Partition) (c : ℕ) → q.root ≡ parent.root → ArePartsOf parent.points q.sets → c < length q.sets →
+      LiesWithin (part_at_colour q c) parent
+  within_whole parent q c root parts low r point e = (sym root ∙ e.0, part_within parent.points q.sets c point parts low e.1)
+
+  one_seen : (h : Here) (e f : Expression) (names : List Value) → AreOneColour e f →
+      (y : ℤ) × (colour_seen h e names ≡ Some y) × (colour_seen h f names ≡ Some y)
+  one_seen h _ _ names (one_number z v w) = (z, refl, refl)
+  one_seen h _ _ names (one_name n) = (point_of (get_or names (bound_to h.scope.names n).place nothing), refl, refl)
+
+  below_lies : (h : Here) (s : State) (i : Instance) (ps : List StaticType) (es : Expressions) (vs : List Value) (y : Taking) (j k : ℕ)
+      (p : Option (Name × Expression)) (o : Option Name) (u : Option (Name × Expression)) → x.forms.takes ≡ Some y → part_at es j ≡ p → name_at es k ≡ o →
+      part_at es k ≡ u → IsPartBelow y (where_of params h) p o u → AreGiven h ps es vs s.names → Agrees x params slots aside h s i →
+      LiesWithin (given_region vs j) (given_region vs k)
+  below_lies h s i ps es vs y j k None o u e at there other is a g = absurd is
+  below_lies h s i ps es vs y j k (Some p) None None e at there other is a g = absurd is
+  below_lies h s i ps es vs y j k (Some p) (Some n) u e at there other is a g =
+      let r = parent_of (bound_to h.scope.names p.0).static_type in
+      let t = (parent_bound (where_of params h) p.0).static_type in
+      let b = by_part h ps es vs s.names j p a at is.0 in
+      let c = b.coloured in
+      let d = cut_of x params slots fit aside h s i p.0 c.partition is.0 c.has_it g in
+      let outer = by_name h s i ps es vs k n there is.1.named is.1.region a g in
+      let whole : LiesWithin d.parent outer.region =
+      ⊎_elim
+      (λ same. subst (LiesWithin d.parent)
+      (ap region_of (sym d.is.value ∙ ap (λ m. get_or s.names m nothing) same ∙ outer.value)) (λ root point in_it. in_it))
+      (λ part. part_given y (term_in t) (term_in (bound_to h.scope.names n).static_type) d.parent outer.region e part
+      (region_had x s.store t d.parent d.is.region (parent_inside x params slots fit aside h s i r c.partition d g)) outer.had g.framed.parts) is.2 in
+      subst (λ q. LiesWithin q (given_region vs k))
+      (sym (ap region_of (get_or_from_slice_get vs j b.value (a_truth false) b.at ∙ c.is)))
+      (subst (LiesWithin (part_at_colour c.partition c.colour)) (sym outer.is)
+      (λ root point e. whole root point (within_whole d.parent c.partition c.colour d.root d.sets c.low root point e)))
+  below_lies h s i ps es vs y j k (Some p) None (Some q) e at there other is a g =
+      let b = by_part h ps es vs s.names j p a at is.0 in
+      let c = by_part h ps es vs s.names k q a other (subst (IsCutName (where_of params h)) is.1 is.0) in
+      let bc = b.coloured in
+      let cc = c.coloured in
+      let partitions : bc.partition ≡ cc.partition =
+      ap partition_of (sym bc.has_it ∙ ap (λ n. get_or s.names (bound_to h.scope.names n).place nothing) is.1 ∙ cc.has_it) in
+      let o = one_seen h p.1 q.1 s.names is.2 in
+      let colours : bc.colour ≡ cc.colour = ap nat_abs (sym (bc.seen o.0 o.1) ∙ cc.seen o.0 o.2) in
+      let same : given_region vs j ≡ given_region vs k =
+      ap region_of (get_or_from_slice_get vs j b.value (a_truth false) b.at ∙ bc.is)
+      ∙ ap (λ q. part_at_colour q bc.colour) partitions ∙ ap (part_at_colour cc.partition) colours
+      ∙ sym (ap region_of (get_or_from_slice_get vs k c.value (a_truth false) c.at ∙ cc.is)) in
+      subst (LiesWithin (given_region vs j)) same (λ root point in_it. in_it)
+
+  parted_at : (keeps : Bool) (y : Taking) (w : Where) (es : Expressions) (ps : List (ℕ × ℕ)) (p : ℕ × ℕ) → AreParted keeps (Some y) w es ps → Has ps p →
+      IsPartedAt keeps y w es p
+  parted_at keeps y w es [] p a h = absurd h
+  parted_at keeps y w es (k ∷ ps) p a (inl e) = subst (IsPartedAt keeps y w es) e a.0
+  parted_at keeps y w es (k ∷ ps) p a (inr h) = parted_at keeps y w es ps p a.1 h
+
+  all_lies : (h : Here) (s : State) (i : Instance) (ps : List StaticType) (es : Expressions) (vs : List Value) (y : Taking) (p : ℕ × ℕ) (keeps : Bool) →
+      x.forms.takes ≡ Some y → IsPartedAt keeps y (where_of params h) es p → AreGiven h ps es vs s.names → Agrees x params slots aside h s i →
+      LiesWithin (given_region vs p.0) (given_region vs p.1)
+  all_lies h s i ps es vs y p false e is a g = parted_lies h s i ps es vs y p.0 p.1 (name_at es p.0) (name_at es p.1) e refl refl is a g
+  all_lies h s i ps es vs y p true e (inl is) a g = parted_lies h s i ps es vs y p.0 p.1 (name_at es p.0) (name_at es p.1) e refl refl is a g
+  all_lies h s i ps es vs y p true e (inr is) a g =
+      below_lies h s i ps es vs y p.0 p.1 (part_at es p.0) (name_at es p.1) (part_at es p.1) e refl refl refl is a g
+
+  -- a call takes what its arguments are, and requires no more than its caller has
+  pub record CallTakes (h : Here) (task : Name) (vs : List Value) (s : State) (i : Instance) : Type 0 where
+    pub takes : Takes x.forms.takes x.code h.tree task vs s.store (give_parts i.parts i.contents)
+    pub within : is_within takes.needs i.needs ≡ true
+
+  pub call_takes : (h : Here) (task : Name) (es : Expressions) (vs : List Value) (s : State) (i : Instance) →
+      IsCallable x.forms (where_of params h) task es → AreGiven h (param_types h.tree (task_named h.tree task)) es vs s.names →
+      Agrees x params slots aside h s i → CallTakes h task vs s i
+  call_takes h task es vs s i fine a g =
+      let w = where_of params h in
+      let ps = param_types h.tree (task_named h.tree task) in
+      let ns = (task_code h.tree (task_named h.tree task)).needs in
+      let c = give_parts i.parts i.contents in
+      let args = map (machine_value c) vs in
+      let stands = given_stands x.code s.store (memory_of i) g.memory in
+      let on : (n : NeedCode) → Has ns n → OnRegion h s vs n =
+      λ n k. on_region h s i ps es vs n x.forms.keeps (met_at x.forms.keeps x.forms.takes w es ns n fine.1 k) a g in
+      let region : (n : NeedCode) (k : Has ns n) → region_in (slice_get args n.param)
+      ≡ Some (region_with (number_at c (on n k).points.root) (on n k).points.points) =
+      λ n k. ap region_in (slice_get-map (machine_value c) vs n.param ∙ ap (option_map (machine_value c)) (on n k).is) in
+      let there = requirements_there x.code c args ns (λ n k.
+      let o = on n k in
+      record {
+        region = region_with (number_at c o.points.root) o.points.points;
+        at = region n k;
+        field = subst (λ sp. n.field < length (kinds_of x.code sp))
+            (sym (ap (λ (s : Shape). s.space) (stands.shape o.points.root) ∙ ap (λ r. (get_or s.store r no_root).space) o.root
+            ∙ (region_lies_in x s.store o.type o.whole o.region o.inside).of_space))
+            (field_there x.code h.tree (space_in o.type) n.field g.spaces o.field);
+      }) in
+      let parts : (y : Taking) → x.forms.takes ≡ Some y → AreParts vs (pairs_in (scope_of h.tree (task_named h.tree task)).known) =
+      λ y e p k. all_lies h s i ps es vs y p x.forms.keeps e
+      (parted_at x.forms.keeps y w es (pairs_in (scope_of h.tree (task_named h.tree task)).known) p
+      (subst (λ o. AreParted x.forms.keeps o w es (pairs_in (scope_of h.tree (task_named h.tree task)).known)) e fine.2)
+      (Has-from_Contains (pairs_in (scope_of h.tree (task_named h.tree task)).known) p k)) a g in record {
+        takes = record { there = fine.0; taken = taken_by h s i ps es vs a g; parts = parts; needs = there.0; required = there.1 };
+        within = covered_within x.code c args ns there.0 i.needs there.1 (λ root field point m k.
+            let n = k.need in
+            let o = on n k.among in
+            let same : region_with (number_at c o.points.root) o.points.points ≡ k.region = same_Some _ k.region (sym (region n k.among) ∙ k.at) in
+            let root_is : number_at i.contents o.whole.root ≡ root =
+            given_number i.parts i.contents o.whole.root ∙ ap (number_at c) (sym o.root) ∙ ap (λ (v : RegionValue). v.root.0) same ∙ k.root_is in
+            let covers : Covers n.mode (mode_at i.needs (number_at i.contents o.whole.root) n.field point) =
+            region_covered x s.store (memory_of i) i.frame.own o.type o.whole n.field point n.mode o.region o.inside o.may g.framed
+            (o.within point (ap (λ (v : RegionValue). has v.points point) same ∙ k.has_it)) (field_there x.code h.tree (space_in o.type) n.field g.spaces o.field) in
+            subst (λ m. Covers m (mode_at i.needs root field point)) k.mode_is
+            (subst (λ f. Covers n.mode (mode_at i.needs root f point)) k.field_is
+            (subst (λ r. Covers n.mode (mode_at i.needs r n.field point)) root_is covers)));
+      }
