@@ -22,7 +22,8 @@ use Rattle.code_rules.specs.Slots.{Where}
 use Rattle.code_laws.specs.Simple.{AreAlike, two_integers, two_truths, IsScalar, scalar_integer, scalar_truth, IsSimple, simple_integer, simple_truth, simple_index, simple_space}
 use Rattle.task_code.specs.declared.code.NeedCode.{NeedCode}
 use Rattle.code_laws.specs.Steps.{Forms, Taking, without_pointers}
-use Rattle.code_laws.specs.Typed.{AreMet, ArePassed, IsHanded, IsMet, name_at}
+use Rattle.code_laws.specs.Arguments.{AreMet, IsHanded, IsMet, name_at}
+use Rattle.code_laws.specs.Typed.{ArePassed}
 use Rattle.code_laws.proofs.Openings.{params_length, types_length}
 use Rattle.fit_rules.specs.Shapes.{Each, Shape, anything, Numeric, numeric_integer, numeric_truth, World, Is, is_anything, is_number, is_space, Are, are_none, are_more}
 use Rattle.fit_rules.specs.Marks.{Mark, Suits}
@@ -179,7 +180,7 @@ pub passed_scalars : (forms : Forms) (plain : forms.takes ≡ None) (w : Where) 
     Each IsScalar ps
 passed_scalars forms plain w [] [] no_expr h = tt
 passed_scalars forms plain w (t ∷ ts) (p ∷ ps) (an_expr e es) h = (
-  ⊎_elim (λ a. subst IsScalar a.1 (alike_second _ t a.0)) (λ r. absurd (subst (λ o. IsHanded o w t p e) plain r)) h.0,
+  ⊎_elim (λ a. subst IsScalar a.1 (alike_second _ t a.0)) (λ r. ⊎_elim (λ q. absurd (subst (λ o. IsHanded o w t p e) plain q)) (λ none. absurd none) r) h.0,
   passed_scalars forms plain w ts ps es h.1,
 )
 passed_scalars forms plain w [] [] (an_expr e es) h = absurd h
@@ -197,7 +198,7 @@ passed_many forms w (t ∷ ts) [] es h = absurd h
 passed_many forms w (t ∷ ts) (p ∷ ps) no_expr h = absurd h
 
 -- where no regions are handed over, a task that is called needs nothing
-pub nothing_needed : (o : Option Taking) → o ≡ None → (w : Where) (es : Expressions) (ns : List NeedCode) → AreMet o w es ns → ns ≡ []
+pub nothing_needed : (o : Option Taking) → o ≡ None → (w : Where) (es : Expressions) (ns : List NeedCode) → AreMet false o w es ns → ns ≡ []
 nothing_needed o e w es [] a = refl
 nothing_needed o e w es (n ∷ ns) a = absurd (subst (λ o. IsMet o w n (name_at es n.param)) e a.0)
 

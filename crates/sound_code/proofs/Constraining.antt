@@ -1,7 +1,7 @@
 -- What a called task's clauses tell of its parameters holds of what is handed over, since nothing is told of the call.
-use Rattle.std.proofs.Common.{◌≡◌, inl, inr, ℕ, zero, suc, List, Bool, true, false, Some, refl, sym, ap, ◌∙◌, subst, arith, None}
+use Rattle.std.proofs.Common.{◌≡◌, inl, inr, ℕ, zero, suc, List, Bool, true, false, Some, refl, sym, ap, ◌∙◌, subst, arith, None, ⊎_elim}
 use Rattle.std.specs.Prelude.{slice_get}
-use Rattle.std.proofs.lemmas.Bool.{not-false}
+use Rattle.std.proofs.lemmas.Bool.{false≢true, not-false}
 use Rattle.std.proofs.lemmas.Option.{none-some, same_Some}
 use Rattle.plain_values.proofs.Plain.{option_or_parts}
 use Rattle.plain_values.specs.Points.{has}
@@ -32,9 +32,10 @@ use Rattle.fact_laws.specs.Regions.{SharesNoPoint}
 use Rattle.code_rules.specs.Slots.{Where, bound}
 use Rattle.code_laws.specs.Simple.{IsRegion, a_region_type, term_in}
 use Rattle.code_laws.specs.Steps.{Forms, Taking, without_pointers}
-use Rattle.code_laws.specs.Typed.{ArePassed, IsCallable, name_at}
+use Rattle.code_laws.specs.Arguments.{name_at}
+use Rattle.code_laws.specs.Typed.{ArePassed, IsCallable}
 use Rattle.code_laws.proofs.Arguments.{first_region, named_typed}
-use Rattle.code_laws.proofs.LocalCalls.{handed_at}
+use Rattle.code_laws.proofs.LocalGiven.{IsHandedAt, handed_at}
 use Rattle.fit_rules.specs.Shapes.{Among, Are, Each, Is, KnowsRoots, World}
 use Rattle.fit_rules.specs.Marks.{Fact, Holds, LiesIn, Mark, Suits}
 use Rattle.marked_code.proofs.Placed.{below}
@@ -106,7 +107,7 @@ module _ (task : TaskTree) (t : TaskCode) (w : Where) (kept : Kept t task w.tree
       held : (k : Fact) → Among ks k → Holds k vs
       held k h = each_among (λ f. Holds f vs) m.facts k (facts k h) suits.facts
 
-  module _ (forms : Forms) (y : Taking) (takes : forms.takes ≡ Some y) (name : Name) (ts : List StaticType) (es : Expressions) (is : IsCallable forms w name es)
+  module _ (forms : Forms) (y : Taking) (takes : forms.takes ≡ Some y) (name : Name) (ts : List StaticType) (es : Expressions) (is : IsCallable (without_pointers forms) w name es)
       (passed : ArePassed (without_pointers forms) w ts (param_types w.tree (task_named w.tree name)) es)
       (are : Are x (all_handed w (param_types w.tree (task_named w.tree name)) es) ws) (told : ToldCall (by_rules task) w.tree w.scope name es) where
     abbrev callee : TaskTree
@@ -137,18 +138,20 @@ module _ (task : TaskTree) (t : TaskCode) (w : Where) (kept : Kept t task w.tree
       numbered : IsNumbered type value
 
     region_argument : (k : ℕ) → is_region (type_at types k) ≡ true → IsRegionArgument k
-    region_argument k e =
-        let a = handed_at (without_pointers forms) y takes w ts types es passed k e in
-        let u = (bound w a.name).static_type in
-        let r = first_region u (type_at types k) a.regions in
-        let v = argument_at forms w x ts types es ws k a.name passed are a.at r in record {
-          type = u;
-          value = v.it;
-          at = v.at;
-          region = r;
-          typed = name_type es k a.name told.1 a.at;
-          numbered = as_numbered (bound w a.name).place u v.it r (placed_at t (by_rules task) w.tree w.params w.scope a.name kept a.there) v.of;
-        }
+    region_argument k e = ⊎_elim of_name (λ h. absurd (false≢true h.keeps)) (handed_at (without_pointers forms) y takes w ts types es passed k e)
+      where
+        of_name : IsHandedAt w es k (type_at types k) → IsRegionArgument k
+        of_name a =
+            let u = (bound w a.name).static_type in
+            let r = first_region u (type_at types k) a.regions in
+            let v = argument_at forms w x ts types es ws k a.name passed are a.at r in record {
+              type = u;
+              value = v.it;
+              at = v.at;
+              region = r;
+              typed = name_type es k a.name told.1 a.at;
+              numbered = as_numbered (bound w a.name).place u v.it r (placed_at t (by_rules task) w.tree w.params w.scope a.name kept a.there) v.of;
+            }
 
     region_of : (k : ℕ) (a : IsRegionArgument k) → region_in (slice_get ws k) ≡ Some a.numbered.given.it
     region_of k a = ap region_in (a.at ∙ ap Some a.numbered.given.is)

@@ -20,7 +20,8 @@ use Rattle.code_rules.specs.Pieces.{empty, op}
 use Rattle.code_rules.specs.Slots.{Where, bound, typed}
 use Rattle.code_laws.specs.Simple.{AreRegions, IsRegion, IsScalar, a_region_type, scalar_integer, scalar_truth, two_regions}
 use Rattle.code_laws.specs.Steps.{Forms, Taking, without_pointers}
-use Rattle.code_laws.specs.Typed.{ArePassed, IsHanded, IsTyped, name_at, name_of}
+use Rattle.code_laws.specs.Arguments.{IsHanded, name_at, name_of}
+use Rattle.code_laws.specs.Typed.{ArePassed, IsTyped}
 use Rattle.code_laws.proofs.Arguments.{IsNoRegion, alike_other, first_region, given_either, handed_name, named_typed, region_other}
 use Rattle.fit_rules.specs.Shapes.{argument, Are, are_more, Each, Is, is_number, is_region, IsRegion as IsRegionValue, IsWhole, Origin, own_as, region, Shape, unknown, World}
 use Rattle.fit_rules.specs.Marks.{Mark, stacked}

@@ -1,6 +1,6 @@
 -- Calls, also those that hand regions over: what is handed is what the called task needs, and the frame which the call
 -- opens suits the mark in which the task's body begins.
-use Rattle.std.proofs.Common.{◌≡◌, inl, inr, ℕ, suc, ◌+◌, ◌<◌, ◌-◌, pos, List, [], ◌∷◌, ◌++◌, map, true, Option, None, Some, refl, sym, ap, ◌∙◌, subst, arith, cond}
+use Rattle.std.proofs.Common.{◌≡◌, inl, inr, ℕ, suc, ◌+◌, ◌<◌, ◌-◌, pos, List, [], ◌∷◌, ◌++◌, map, false, true, Option, None, Some, refl, sym, ap, ◌∙◌, subst, arith, cond}
 use Rattle.std.specs.Prelude.{length, replicate, slice_get, ◌==◌, ◌&&◌}
 use Rattle.std.specs.List.{list_any}
 use Rattle.std.proofs.lemmas.Bool.{and_parts, eqb-true, or_cases}
@@ -35,7 +35,8 @@ use Rattle.code_rules.specs.Slots.{Where, bound, slot_named}
 use Rattle.code_laws.specs.Simple.{AreRegions, IsRegion, IsScalar, a_region_type, scalar_integer, scalar_truth, term_in, two_regions}
 use Rattle.code_laws.specs.Steps.{Forms, Taking, without_pointers}
 use Rattle.code_laws.specs.Taking.{MayDo, allows, is_need, is_part, known_of_pairs, pairs_in}
-use Rattle.code_laws.specs.Typed.{AreMet, ArePassed, IsCallable, IsHanded, IsMet, IsTyped, name_at}
+use Rattle.code_laws.specs.Arguments.{AreMet, IsHanded, IsMet, name_at}
+use Rattle.code_laws.specs.Typed.{ArePassed, IsCallable, IsTyped}
 use Rattle.code_laws.proofs.Arguments.{given_either, handed_name}
 use Rattle.code_laws.proofs.Calling.{code_there}
 use Rattle.fit_rules.specs.Shapes.{Among, Are, are_more, are_none, awaited, Each, Is, is_number, is_region, IsRegion as IsRegionValue, region, Shape, World, unknown, argument, own_as}
@@ -64,7 +65,7 @@ use Rattle.sound_code.proofs.Constraining.{facts_told}
 
 -- ---- what the called task needs
 
-met_at : (o : Option Taking) (w : Where) (es : Expressions) (ns : List NeedCode) (n : NeedCode) → Among ns n → AreMet o w es ns →
+met_at : (o : Option Taking) (w : Where) (es : Expressions) (ns : List NeedCode) (n : NeedCode) → Among ns n → AreMet false o w es ns →
     IsMet o w n (name_at es n.param)
 met_at o w es [] n h a = absurd h
 met_at o w es (m ∷ ns) n (inl e) a = subst (λ (d : NeedCode). IsMet o w d (name_at es d.param)) e a.0
@@ -210,7 +211,7 @@ module _ (g : Program) (t : TaskCode) (k slots : ℕ) (forms : Forms) (way : Way
           (named_at way w.params m.slots w.scope.names q.0 asked.ready.named q.2 ∙ ap (λ v. Some (shape_in v w.params b.static_type)) by)))
           (nothing_done g t k _))
 
-  module _ (name : Name) (ts : List StaticType) (es : Expressions) (us : List Shape) (is : IsCallable forms w name es)
+  module _ (name : Name) (ts : List StaticType) (es : Expressions) (us : List Shape) (is : IsCallable (without_pointers forms) w name es)
       (passed : ArePassed (without_pointers forms) w ts (param_types w.tree (task_named w.tree name)) es) (told : ToldCall way w.tree w.scope name es) where
     abbrev callee : TaskTree
     callee = task_named w.tree name
@@ -229,7 +230,7 @@ module _ (g : Program) (t : TaskCode) (k slots : ℕ) (forms : Forms) (way : Way
 
     need_at : (y : Taking) → forms.takes ≡ Some y → (n : NeedCode) → Among (task_code w.tree callee).needs n → IsNeedOf y w n (name_at es n.param)
     need_at y takes n h = need_of y w n (name_at es n.param) (met_at (Some y) w es (task_code w.tree callee).needs n h
-        (subst (λ o. AreMet o w es (task_code w.tree callee).needs) takes is.1))
+        (subst (λ o. AreMet false o w es (task_code w.tree callee).needs) takes is.1))
 
     need_place : (y : Taking) (x : World) (ws : List Value) → Are x shapes ws → (n : NeedCode) (q : IsNeedOf y w n (name_at es n.param)) →
         IsArgument x ws n.param (given_in w.params (bound w q.name).static_type)

@@ -223,7 +223,7 @@ module _ (g : Program) (t : TaskCode) (k slots : ℕ) (have : HasSlots t slots) 
       (does g t k (stacked m (truth ∷ [])) instr.Assert w.line [] (does_assert truth [] numeric_truth)))
 
   -- a call whose result is left
-  pub call_marked : (task : Name) (args : Expressions) → IsCallable forms w task args →
+  pub call_marked : (task : Name) (args : Expressions) → IsCallable (without_pointers forms) w task args →
       ArePassed (without_pointers forms) w (params_at w.tree w.scope (task_named w.tree task) args) (param_types w.tree (task_named w.tree task)) args →
       ToldCall way w.tree w.scope task args → ToldArgs way w.tree w.scope args →
       (pc : ℕ) → Stands t.body pc (form_code w (call_form task args)) →
