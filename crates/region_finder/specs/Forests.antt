@@ -1,8 +1,8 @@
 -- Region trees seen from below: what stands above a node.
-use Rattle.std.specs.Prelude.{◌≡◌, ◌<◌, ◌++◌, ℕ, true, false, List, [], ◌∷◌, Option, Some, None, length}
+use Rattle.std.specs.Prelude.{◌≡◌, ◌<◌, ◌++◌, ℕ, true, false, List, [], ◌∷◌, Option, Some, None, length, not}
 use Rattle.std.specs.Prelude.{suc, zero}
 use Rattle.plain_values.specs.Points.{meets, within}
-use Rattle.region_tree.specs.Trees.{RegionTree, IsNode, node_at, path_at, points_at, root_at, separated}
+use Rattle.region_tree.specs.Trees.{RegionTree, IsNode, is_region, node_at, path_at, points_at, root_at, separated}
 use Rattle.region_tree.specs.declared.content.Content.{Content}
 use Rattle.region_tree.specs.declared.content.Content.TheVariants.{Region, Partition}
 use Rattle.region_tree.specs.declared.content.Node.{Node}
@@ -32,12 +32,14 @@ abbrev pub path_from : Content → List Step → Upward → List Step
 path_from (Region points) path s = path ++ record { partition = s.0; colour = s.1 } ∷ []
 path_from (Partition region disjoint colours) path s = path
 
--- what stands above a node has a smaller number, its root, and all its points
+-- what stands above a node has a smaller number, its root, and all its points; partitions stand above regions,
+-- and regions above partitions
 pub record StandsAbove (t : RegionTree) (n : ℕ) (s : Upward) : Type 0 where
   pub smaller : s.0.0 < n
   pub root : root_at t s.0.0 ≡ root_at t n
   pub points : within (points_at t n) (points_at t s.0.0) ≡ true
   pub path : path_at t n ≡ path_from (node_at t n).content (path_at t s.0.0) s
+  pub kind : is_region (node_at t s.0.0).content ≡ not (is_region (node_at t n).content)
 
 -- A tree in which one can go up: beside what stands above nodes, two roots have two numbers, and separated
 -- nodes share no point.

@@ -1,6 +1,6 @@
 -- A forest stays one where roots and partitions are added.
 use Rattle.std.specs.Prelude.{None, Some}
-use Rattle.std.proofs.Common.{◌≡◌, ◌<◌, ◌≤◌, ◌+◌, ◌-◌, ◌++◌, ◌∷◌, [], ◌∙◌, ◌⊎◌, ℕ, suc, zero, Bool, true, List, inl, inr, ⊎_elim, ap, sym, refl, subst, arith, get_or, length, length-append, map}
+use Rattle.std.proofs.Common.{◌≡◌, ◌<◌, ◌≤◌, ◌+◌, ◌-◌, ◌++◌, ◌∷◌, [], ◌∙◌, ◌⊎◌, ℕ, suc, zero, Bool, true, List, inl, inr, ⊎_elim, ap, sym, refl, subst, arith, get_or, length, length-append, map, not}
 use Rattle.std.proofs.lemmas.Bool.{cases_eq, cases_lt}
 use Rattle.std.proofs.lemmas.List.{get_or-append-add, map-append}
 use Rattle.plain_values.specs.Points.{within}
@@ -46,6 +46,8 @@ stands_stay t u g tree n s l a =
       path = ap (λ (x : TreeNode). x.path) (g.same n l) ∙ a.path
           ∙ ap (λ (x : TreeNode). path_from x.content (path_at t s.0.0) s) (sym (g.same n l))
           ∙ ap (λ (x : TreeNode). path_from (node_at u n).content x.path s) (sym (g.same s.0.0 m));
+      kind = ap (λ (x : TreeNode). is_region x.content) (g.same s.0.0 m) ∙ a.kind
+          ∙ ap (λ (x : TreeNode). not (is_region x.content)) (sym (g.same n l));
     }
 
 above_stays : (t u : RegionTree) → Grows t u → (n : ℕ) → n < length t.nodes → above u n ≡ above t n
@@ -209,6 +211,8 @@ module _ (t : RegionTree) (region : Node) (sets : List (List ℕ)) (disjoint : B
         ∙ within_itself (set_at u region.0);
     path = ap (λ (x : TreeNode). x.path) node_own ∙ ap (λ (x : TreeNode). x.path) (sym node_divided)
         ∙ sym (ap (λ (x : TreeNode). path_from x.content (path_at u region.0) (region, 0)) node_own);
+    kind = ap (λ (x : TreeNode). is_region x.content) node_divided ∙ divided.kind
+        ∙ sym (ap (λ (x : TreeNode). not (is_region x.content)) node_own);
   }
 
   stands_child : (i : ℕ) → i < length sets → StandsAbove u (child_number p i) (record { 0 = p }, i)
@@ -224,6 +228,8 @@ module _ (t : RegionTree) (region : Node) (sets : List (List ℕ)) (disjoint : B
         ∙ ap (λ (ss : List Step). ss ++ record { partition = record { 0 = p }; colour = i } ∷ [])
         (sym (ap (λ (x : TreeNode). x.path) node_own))
         ∙ sym (ap (λ (x : TreeNode). path_from x.content (path_at u p) (record { 0 = p }, i)) (node_child i l));
+    kind = ap (λ (x : TreeNode). is_region x.content) node_own
+        ∙ sym (ap (λ (x : TreeNode). not (is_region x.content)) (node_child i l));
   }
 
   above_own : above u p ≡ Some (region, 0)
