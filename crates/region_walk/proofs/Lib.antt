@@ -1,2 +1,16 @@
+pub mod Bounding
 pub mod Climbing
+pub mod Descending
+pub mod Examples
+pub mod Exact
+pub mod Indexing
+pub mod Keys
+pub mod Leaving
+pub mod Meeting
+pub mod Nearness
+pub mod Ordering
+pub mod Passing
+pub mod Permuting
 pub mod Rising
+pub mod Skipping
+pub mod Turning

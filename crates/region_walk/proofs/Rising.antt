@@ -31,7 +31,7 @@ all_inserted P e (l ∷ ls) h a = ⊎_elim
     (All-cons P l (inserted e ls) (All-head P l ls a) (all_inserted P e ls h (All-tail P l ls a))))
     (cases_Bool (nat_lt e.op.0 l.op.0))
 
-or_no : (a b : Bool) → (a || b) ≡ false → (a ≡ false) × (b ≡ false)
+pub or_no : (a b : Bool) → (a || b) ≡ false → (a ≡ false) × (b ≡ false)
 or_no true b h = absurd (false≢true (sym h))
 or_no false b h = (refl, h)
 

@@ -1,6 +1,6 @@
 //! Whether needs conflict.
 
-ghost use Rattle.std.specs.Prelude.{◌≡◌, ◌≤◌, All};
+ghost use Rattle.std.specs.Prelude.{◌≡◌, ◌≤◌, ◌+◌, All};
 ghost use Rattle.std.specs.List.{list_any};
 ghost use Rattle.region_tree.specs.Needs.{AreNeeds, IsNeed, requirement_of, requirements_of};
 ghost use Rattle.region_tree.specs.Requirements.{conflict, interfere};
@@ -13,7 +13,7 @@ use region_tree::Need;
 use std::sync::ledger::Ledger;
 
 /// Whether two needs conflict. The points of their nodes are tested last.
-fn conflict<L: Ledger, P: Probe<L>>(
+pub fn conflict<L: Ledger, P: Probe<L>>(
     tree: &P,
     one: &Need,
     other: &Need,
@@ -24,6 +24,7 @@ fn conflict<L: Ledger, P: Probe<L>>(
     ensures value { result ≡ conflict (requirement_of (P.Paths.forest tree.now) one.now)
         (requirement_of (P.Paths.forest tree.now) other.now) }
     ensures steps { steps.old ≤ steps.new }
+    ensures bound { steps.new ≤ steps.old + 1 }
 {
     one.root.0 == other.root.0
         && one.field == other.field

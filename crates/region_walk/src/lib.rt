@@ -3,7 +3,13 @@
 
 mod conflicts;
 mod entry;
+mod found;
 mod placed;
 mod scan;
+mod user;
+mod users;
+mod walk;
+mod ways;
 
 pub use scan::ScanFinder;
+pub use walk::WalkFinder;

@@ -1,9 +1,9 @@
 //! Needs with the ways up from their nodes.
 
-ghost use Rattle.std.specs.Prelude.{◌≡◌, IfOk, map};
+ghost use Rattle.std.specs.Prelude.{◌≡◌, IfOk, map, reverse};
 ghost use Rattle.region_tree.specs.Needs.{AreNeeds, IsNeed};
 ghost use Rattle.region_tree.specs.Trees.{IsNode};
-ghost use Rattle.region_finder.specs.Forests.{way_up};
+ghost use Rattle.region_finder.specs.Forests.{IsForest, way_up};
 ghost use Rattle.region_finder.specs.Listings.{placed};
 
 use region_finder::Paths;
@@ -44,6 +44,21 @@ impl Placed {
     }
 }
 
+/// The way from the root's region down to a node: what stands above it, from the top.
+pub fn way_down<P: Paths>(
+    alloc: Global,
+    tree: &P,
+    node: Node,
+) -> Result<SmallVec<(Node, u32), 4>, AllocError>
+    requires { IsNode (P.forest tree.now) node.0 }
+    ensures way { IfOk result (λ w. w.items ≡ reverse (way_up (P.forest tree.now) node.0)) }
+    ensures forest { IfOk result (λ _. IsForest (P.forest tree.now)) }
+{
+    let mut way = way_up(alloc, tree, node)?;
+    way.as_mut_slice().reverse();
+    Ok(way)
+}
+
 /// What stands above a node, what stands above that, and so on.
 fn way_up<P: Paths>(
     alloc: Global,
@@ -51,7 +66,8 @@ fn way_up<P: Paths>(
     node: Node,
 ) -> Result<SmallVec<(Node, u32), 4>, AllocError>
     requires { IsNode (P.forest tree.now) node.0 }
-    ensures { IfOk result (λ w. w.items ≡ way_up (P.forest tree.now) node.0) }
+    ensures way { IfOk result (λ w. w.items ≡ way_up (P.forest tree.now) node.0) }
+    ensures forest { IfOk result (λ _. IsForest (P.forest tree.now)) }
 {
     let mut way = SmallVec::new(alloc);
     let mut at = node;

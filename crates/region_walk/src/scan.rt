@@ -39,6 +39,11 @@ impl ScanFinder {
             entries: Vec::new(alloc),
         })
     }
+
+    /// Where the finder takes its memory from.
+    pub fn allocator(&self) -> Global {
+        *self.entries.allocator()
+    }
 }
 
 /// The place of an operation in a list in rising order: behind all with smaller numbers.
