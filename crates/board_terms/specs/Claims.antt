@@ -35,14 +35,17 @@ fill_for s o _ = None
 abbrev pub claim_on : State → ℕ → ℕ → Claim
 claim_on s k seat = record { op = number k; seat = seat; turn = s.turns }
 
--- an operation that is ready, and no other
-abbrev pub claimed : State → ℕ → ℕ → Option State
-claimed s k seat = cond (may_be_claimed s k)
-    (Some (record (doing s k (fills (claim_on s k seat) (fill_for s (operation_at s k) (operation_at s k).wait))) {
+-- it is being filled, and has begun
+abbrev pub claim_made : State → ℕ → ℕ → State
+claim_made s k seat =
+    record (doing s k (fills (claim_on s k seat) (fill_for s (operation_at s k) (operation_at s k).wait))) {
       waits = begun s.waits k;
       turns = suc s.turns;
-    }))
-    None
+    }
+
+-- an operation that is ready, and no other
+abbrev pub claimed : State → ℕ → ℕ → Option State
+claimed s k seat = cond (may_be_claimed s k) (Some (claim_made s k seat)) None
 
 -- ---- what a segment is run from
 

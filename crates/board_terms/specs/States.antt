@@ -10,16 +10,12 @@ use Rattle.task_code.specs.declared.code.TaskCode.{TaskCode}
 use Rattle.task_code.specs.declared.job.Job.{Job}
 use Rattle.machine_terms.specs.declared.frame.Frame.{Frame}
 use Rattle.machine_terms.specs.Jobs.{first_frame, may_start}
+use Rattle.board_terms.specs.declared.extent.Extent.{Extent}
 use Rattle.board_terms.specs.declared.operation.Ending.TheVariants.{Broken}
 use Rattle.board_terms.specs.declared.operation.Operation.{Operation}
 use Rattle.board_terms.specs.declared.operation.Activity.{Activity}
 use Rattle.board_terms.specs.declared.operation.Activity.TheVariants.{Closing, Idle}
 use Rattle.board_terms.specs.declared.operation.Wait.TheVariants.{Beginning}
-
--- of a root its field space and how many points it has
-pub record Extent : Type 0 where
-  pub space : ℕ
-  pub count : ℕ
 
 abbrev pub no_extent : Extent
 no_extent = record { space = 0; count = 0 }

@@ -3,9 +3,11 @@
 #![tactic(auto)]
 
 mod claim;
+mod extent;
 mod laws;
 mod operation;
 
 pub use claim::Claim;
+pub use extent::Extent;
 pub use laws::example_comes_out;
 pub use operation::{Activity, Ending, Operation, Said, Wait};
