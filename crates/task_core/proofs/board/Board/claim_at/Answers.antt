@@ -1,0 +1,30 @@
+use Rattle.std.proofs.Common.{rules, ◌≡◌, ◌∙◌, ◌+◌, ◌-◌, ◌++◌, ◌∷◌, [], List, Option, ap, arith, suc, sym}
+use Rattle.logical_map.specs.Fills.{Filling}
+use Rattle.run_journal.specs.declared.entry.Entry.{Entry}
+use Rattle.run_journal.specs.declared.entry.StepKind.TheVariants as step
+use Rattle.board_state.specs.Owed.{copies_left}
+use Rattle.task_core.proofs.Steps.{claim_board}
+use Rattle.task_core.specs.Boards.{step_by}
+use Rattle.task_core.proofs.board.Board.claim_at.Goals as goal
+
+pub invariant_of-self-2 : goal.invariant_of-self-2
+invariant_of-self-2 c =
+    let more = ap (λ (f : Option Filling). c.self.inside.owed + suc (copies_left f)) c.in_ok-fill.ensures.fill in
+    let counted : c.in_ok-owed.owed ≡ c.self.inside.owed + suc (suc (copies_left c.in_ok-fill.fill)) = c.in_ok-owed.ensures in
+    let left : c.in_ok-owed.owed - 1 ≡ c.self.inside.owed + suc (copies_left c.in_ok-fill.fill) = omega (arith, counted) in (
+      claim_board c.self.inside.job c.self.inside.journal.items c.push_reserved.new.self.items c.self.inside.state c.claim-claim.new.self
+          c.self.inside.outcome c.self.inside.owed (c.in_ok-owed.owed - 1) c.args.op c.args.seat c.self.invariant.0 c.is_ready.ensures.kept
+          (sym c.is_ready.ensures.ready ∙ c.if-not-is_ready.false) (search (rules))
+          (c.push_reserved.ensures.items ∙ ap (λ (es : List Entry). es ++ step_by step.Claim c.args.op c.args.seat ∷ []) c.in_ok-reserve.ensures.items)
+          (left ∙ more),
+      omega (
+        arith,
+        counted,
+        c.self.invariant.1,
+        c.push_reserved.ensures.len,
+        c.push_reserved.ensures.capacity,
+        c.in_ok-reserve.ensures.ok,
+        c.in_ok-reserve.ensures.len,
+        c.in_ok-reserve.ensures.capacity,
+      ),
+    )

@@ -1,0 +1,69 @@
+//! Boards.
+
+ghost use Rattle.std.specs.Prelude.{◌≡◌, Some, IfOk};
+ghost use Rattle.board_terms.specs.Outcomes.{result as result_of};
+ghost use Rattle.board_terms.specs.Replays.{replay};
+ghost use Rattle.board_terms.specs.Stages.{all_in_progress};
+ghost use Rattle.std.specs.Option.{option_copied};
+
+use board_state::BoardState;
+use regent_tree::Outcome;
+use region_tree::OpNumber;
+use run_journal::Entry;
+use std::alloc::AllocError;
+use std::marker::Model;
+use task_code::Job;
+
+/// The state that one lock keeps, with the job, and the journal of the steps that were made. Its type keeps that the
+/// state is what the journal leads to for the job.
+#[derive(Drop)]
+pub struct Board {
+    pub(crate) job: Job,
+    pub(crate) journal: Vec<Entry>,
+    pub(crate) state: BoardState,
+    pub(crate) outcome: Option<Outcome>,
+    pub(crate) owed: usize,
+}
+
+impl Model for Board {
+    ghost use Rattle.std.specs.Prelude.{vec_capacity, vec_len};
+    ghost use Rattle.task_core.specs.Boards.{HasRoom, IsBoard, Standing};
+
+    ghost Value = { Standing };
+
+    ghost view = { λ b. record { job = b.job; journal = b.journal.items; state = b.state } };
+
+    ghost invariant = { λ b. IsBoard b.job b.journal.items b.state b.outcome b.owed
+        × HasRoom (vec_len b.journal) b.owed (vec_capacity b.journal) };
+}
+
+impl Board {
+    /// The steps that were made, in order. The state is what they lead to for the job.
+    pub fn journal(&self) -> &[Entry]
+        ensures journal { result.now ≡ self.now.journal }
+        ensures replayed { replay self.now.job self.now.journal ≡ Some self.now.state }
+    {
+        self.journal.as_slice()
+    }
+
+    /// The job.
+    pub fn job(&self) -> &Job
+        ensures { result.now ≡ self.now.job }
+    {
+        &self.job
+    }
+
+    /// What the board comes to, exactly where no operation is left that isn't over.
+    pub fn result(&self) -> Option<&Outcome>
+        ensures { option_copied result ≡ result_of self.now.state }
+    {
+        self.outcome.as_ref()
+    }
+
+    /// The operations that have begun and aren't over, in rising order.
+    pub fn in_progress(&self) -> Result<Vec<OpNumber>, AllocError>
+        ensures { IfOk result (λ v. v.items ≡ all_in_progress self.now.state) }
+    {
+        self.state.in_progress()
+    }
+}
