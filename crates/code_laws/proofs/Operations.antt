@@ -1,7 +1,7 @@
 -- Single operations of expressions: arithmetic, comparisons, prefixes, names, jumps and conversions.
 use Rattle.machine_terms.specs.Machine.{faults, next, when}
 use Rattle.regent_tree.specs.declared.types.Kind.{Kind}
-use Rattle.std.proofs.Common.{◌≡◌, ◌⊎◌, inl, inr, ℕ, suc, ◌^◌, ◌<◌, ℤ, negsuc, pos, List, ◌∷◌, Bool, true, false, Option, Some, None, refl, sym, ap, ◌∙◌, arith}
+use Rattle.std.proofs.Common.{◌≡◌, ◌⊎◌, inl, inr, ℕ, suc, ◌^◌, ◌<◌, ℤ, negsuc, pos, List, ◌∷◌, Bool, true, false, Option, Some, None, refl, subst, sym, ap, ◌∙◌, arith}
 use Rattle.lane_kernels.specs.declared.numbers.Width.TheVariants.{W32, W64}
 use Rattle.regent_tree.specs.declared.types.NumberTerm.{NumberTerm}
 use Rattle.std.proofs.lemmas.Int.{SFits-int_wrap, int_wrap_fits}
