@@ -6,7 +6,7 @@ use Rattle.regent_tree.specs.declared.types.NumberTerm.TheVariants.{Int64}
 use Rattle.index_launch.specs.declared.view.LaunchShape.TheVariants.{Launch, Plain}
 use Rattle.index_launch.specs.declared.view.Reason.TheVariants as reason
 use Rattle.worked_examples.specs.Words.{access, at, call, count, each, equal, field_space, fields, get, grants, int, item, launch, line, new_region, number, param, region, space, space_of, task, var, var_from}
-use Rattle.check_rules.specs.Breaches.{breaches, breaks}
+use Rattle.check_rules.specs.Breaches.{interference_lines, launch_lines}
 use Rattle.check_rules.specs.launches.Shapes.{shape_on}
 
 --     fspace f { x : int64 }
@@ -61,7 +61,7 @@ loops_program =
     ∷ []
 
 abbrev pub LoopsAreTold : Type 0
-LoopsAreTold = breaches loops_program ≡ breaks 19 20 ∷ breaks 19 21 ∷ breaks 19 22 ∷ breaks 20 18 ∷ breaks 20 19 ∷ []
+LoopsAreTold = (launch_lines loops_program ≡ 20 ∷ 21 ∷ 22 ∷ []) × (interference_lines loops_program ≡ 18 ∷ 19 ∷ [])
 
 -- shapes are told of all loops, whether they are under a demand or not
 abbrev pub ShapesAreTold : Type 0
