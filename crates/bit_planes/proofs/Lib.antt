@@ -1,0 +1,10 @@
+mod Bits
+mod Counts
+mod Joining
+mod Masks
+mod Placed
+mod Rising
+mod Searches
+mod Sharing
+mod Stretches
+mod Trimming
