@@ -43,18 +43,24 @@ fn every(alloc: Global, step: u32) -> Result<Plane, AllocError>
 }
 
 /// Whether a plane has these points, each at its place.
-fn has_points(plane: &Plane, want: &[u32]) -> bool {
-    for (place, point) in want.iter().enumerate() {
-        let place = place as u32;
-        if !plane.has(*point) || plane.at(place) != Some(*point) {
-            return false;
-        }
-        if plane.place_of(*point) != Some(place) {
-            return false;
+fn has_points(alloc: Global, plane: &Plane, want: &[u32]) -> Result<bool, AllocError> {
+    let mut points = Vec::new(alloc);
+    for place in 0..plane.len() {
+        if let Some(point) = plane.at(place) {
+            if plane.has(point) && plane.place_of(point) == Some(place) {
+                points.push(point)?;
+            }
         }
     }
-    let size = want.len() as u32;
-    plane.len() == size && plane.at(size) == None
+    Ok(points.as_slice() == want)
+}
+
+/// How many points either of two planes has, both have, and the first alone has.
+fn sizes(a: &Plane, b: &Plane) -> Result<[u32; 3], AllocError> {
+    let either = a.union(b)?;
+    let both = a.meet(b)?;
+    let rest = a.minus(b)?;
+    Ok([either.len(), both.len(), rest.len()])
 }
 
 #[test]
@@ -92,9 +98,9 @@ fn small_planes(rt: HostRuntime) -> Result<(), AllocError> {
     for (left, right, either, both, rest) in rows {
         let a = made(alloc, left)?;
         let b = made(alloc, right)?;
-        assert!(rt; has_points(&a.union(&b)?, either), "{either:?}");
-        assert!(rt; has_points(&a.meet(&b)?, both), "{both:?}");
-        assert!(rt; has_points(&a.minus(&b)?.copy()?, rest), "{rest:?}");
+        assert!(rt; has_points(alloc, &a.union(&b)?, either)?, "{either:?}");
+        assert!(rt; has_points(alloc, &a.meet(&b)?, both)?, "{both:?}");
+        assert!(rt; has_points(alloc, &a.minus(&b)?, rest)?, "{rest:?}");
         assert_eq!(rt; a.meets(&b), !both.is_empty());
         assert_eq!(rt; a.within(&b), rest.is_empty());
     }
@@ -112,54 +118,65 @@ fn of_list(alloc: Global, points: &[u32]) -> Result<Plane, AllocError>
 fn lists_and_words(rt: HostRuntime) -> Result<(), AllocError> {
     let alloc = rt.alloc();
     let plane = of_list(alloc, &[3, 63, 64, 200])?;
-    assert!(rt; has_points(&plane, &[3, 63, 64, 200]));
-    assert_eq!(rt; (plane.words(), plane.stretches()), (4, 3));
-    let rest = plane.minus(&made(alloc, &[(0, 65)])?)?;
-    assert!(rt; has_points(&rest, &[200]));
-    assert_eq!(rt; (rest.words(), rest.stretches()), (1, 1));
-    assert_eq!(rt; plane.stretch_from(0), Some(3..4));
-    assert_eq!(rt; plane.stretch_from(4), Some(63..65));
-    assert_eq!(rt; plane.stretch_from(64), Some(64..65));
-    assert_eq!(rt; plane.stretch_from(65), Some(200..201));
-    assert_eq!(rt; plane.stretch_from(201), None);
+    let rest = plane.minus(&made(alloc, &[(0, 65)])?)?.copy()?;
+    assert!(rt; has_points(alloc, &plane, &[3, 63, 64, 200])?);
+    assert!(rt; has_points(alloc, &rest, &[200])?);
     let none = of_list(alloc, &[])?;
-    assert_eq!(rt; (none.words(), none.stretches(), none.len()), (0, 0, 0));
-    assert_eq!(rt; none.stretch_from(0), None);
+    let rows = [(&plane, 4, 3), (&rest, 1, 1), (&none, 0, 0)];
+    for (set, words, stretches) in rows {
+        assert_eq!(rt; (set.words(), set.stretches()), (words, stretches));
+    }
+    let from = [
+        (0, Some(3..4)),
+        (4, Some(63..65)),
+        (64, Some(64..65)),
+        (65, Some(200..201)),
+        (201, None),
+    ];
+    for (point, stretch) in from {
+        assert_eq!(rt; plane.stretch_from(point), stretch);
+    }
     Ok(())
 }
 
 #[test]
-fn whole_planes(rt: HostRuntime) -> Result<(), AllocError> {
+fn even_and_third_points(rt: HostRuntime) -> Result<(), AllocError> {
+    let alloc = rt.alloc();
+    let even = every(alloc, 2)?;
+    let third = every(alloc, 3)?;
+    assert_eq!(rt;
+        [even.len(), third.len(), even.stretches()],
+        [2_097_152, 1_398_102, 2_097_152]
+    );
+    assert_eq!(rt; sizes(&even, &third)?, [2_796_203, 699_051, 1_398_101]);
+    assert_eq!(rt; [even.meets(&third), even.within(&third)], [true, false]);
+    assert_eq!(rt;
+        [even.at(1_000_000), even.at(2_097_152)],
+        [Some(2_000_000), None]
+    );
+    assert_eq!(rt;
+        [even.place_of(4_194_302), even.place_of(3)],
+        [Some(2_097_151), None]
+    );
+    Ok(())
+}
+
+#[test]
+fn all_points(rt: HostRuntime) -> Result<(), AllocError> {
     let alloc = rt.alloc();
     let all = range(alloc, 0, LIMIT)?;
+    let even = every(alloc, 2)?;
+    let odd = all.minus(&even)?;
     assert_eq!(rt;
         (all.len(), all.words(), all.stretches()),
         (LIMIT, 65_536, 1)
     );
+    assert_eq!(rt; sizes(&odd, &even)?, [LIMIT, 0, 2_097_152]);
+    assert_eq!(rt;
+        [odd.meets(&even), odd.within(&all), all.within(&odd)],
+        [false, true, false]
+    );
     assert_eq!(rt; all.stretch_from(100), Some(100..LIMIT));
-    let even = every(alloc, 2)?;
-    let third = every(alloc, 3)?;
-    assert_eq!(rt; (even.len(), even.stretches()), (2_097_152, 2_097_152));
-    assert_eq!(rt; third.len(), 1_398_102);
-    assert_eq!(rt; even.union(&third)?.len(), 2_796_203);
-    assert_eq!(rt; even.meet(&third)?.len(), 699_051);
-    assert_eq!(rt; even.minus(&third)?.len(), 1_398_101);
-    assert_eq!(rt; (even.meets(&third), even.within(&third)), (true, false));
-    assert_eq!(rt; (even.within(&all), all.within(&even)), (true, false));
-    let odd = all.minus(&even)?;
-    assert_eq!(rt; (odd.meets(&even), odd.len()), (false, 2_097_152));
-    assert_eq!(rt;
-        (even.at(1_000_000), even.at(2_097_152)),
-        (Some(2_000_000), None)
-    );
-    assert_eq!(rt;
-        (even.place_of(4_194_302), even.place_of(3)),
-        (Some(2_097_151), None)
-    );
-    assert_eq!(rt;
-        (even.stretch_from(3), odd.stretch_from(4_194_303)),
-        (Some(4..5), Some(4_194_303..LIMIT))
-    );
-    assert_eq!(rt; even.has(LIMIT), false);
+    assert_eq!(rt; all.has(LIMIT), false);
     Ok(())
 }
