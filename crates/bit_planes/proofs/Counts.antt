@@ -1,5 +1,5 @@
 -- How many numbers pass a test.
-use Rattle.std.proofs.Common.{◌≡◌, ℕ, zero, suc, ◌+◌, ◌*◌, ◌%◌, ◌^◌, ◌<◌, ◌≤◌, Bool, true, false, cond, eqb, refl, sym, ap, ◌∙◌, arith}
+use Rattle.std.proofs.Common.{◌≡◌, ℕ, zero, suc, ◌+◌, ◌-◌, ◌*◌, ◌%◌, ◌^◌, ◌<◌, ◌≤◌, Bool, true, false, cond, eqb, refl, sym, ap, ◌∙◌, arith}
 use Rattle.std.specs.Int.{bit_at}
 use Rattle.std.specs.Int.RustNames.{count_ones}
 use Rattle.std.proofs.lemmas.Bool.{cond-false}
@@ -75,3 +75,8 @@ pub count_word : (p : ℕ → Bool) (k w : ℕ) → w < 2 ^ 64 → ((i : ℕ) �
 count_word p k w l same =
     ap (count_below p) (let e : 64 * (k + 1) ≡ 64 * k + 64 = omega arith in e) ∙ count_below-+ p (64 * k) 64
     ∙ ap (λ c. count_below p (64 * k) + c) (count_same (λ z. p (64 * k + z)) (has_point w) 64 same ∙ sym (ones_of_word w l))
+
+pub count_rises : (p : ℕ → Bool) (m n : ℕ) → m ≤ n → count_below p m ≤ count_below p n
+count_rises p m n l =
+    let split = ap (count_below p) (let e : n ≡ m + (n - m) = omega arith in e) ∙ count_below-+ p m (n - m) in
+    omega (arith, split)

@@ -7,4 +7,5 @@ mod Rising
 mod Searches
 mod Sharing
 mod Stretches
+mod Totals
 mod Trimming

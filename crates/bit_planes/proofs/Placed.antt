@@ -4,7 +4,7 @@ use Rattle.std.proofs.lemmas.Bool.{cases_lt, not-true, not-false, false≢true, 
 use Rattle.std.specs.Prelude.{bit_and}
 use Rattle.std.specs.Int.RustNames.{count_ones}
 use Rattle.std.proofs.lemmas.Nat.{and_mask, one_shl}
-use Rattle.std.proofs.lemmas.List.{get_or_past, get_or-take, get_or-drop, length-take, length-take-le}
+use Rattle.std.proofs.lemmas.List.{get_or_past, get_or-take, get_or-drop, length-take-le}
 use Rattle.bit_planes.specs.Planes.{has_point, count_below, is_last, IsStretch, IsPlace}
 use Rattle.bit_planes.specs.Words.{number_of, placed, word_at, IsFirst, IsBetween, IsWindow}
 use Rattle.bit_planes.specs.declared.TheConstants.{WORD_LIMIT}
@@ -127,26 +127,12 @@ place_in_word ws h k i left place l one counted sum = record {
   before = count_below-+ (has_point (number_of ws)) (64 * k) i ∙ ap (λ c. count_below (has_point (number_of ws)) (64 * k) + c) (count_same (λ z. has_point (number_of ws) (64 * k + z)) (has_point (get_or ws k 0)) i (λ z g. has_word ws h k z (omega arith)) ∙ counted) ∙ (let e : count_below (has_point (number_of ws)) (64 * k) + left ≡ place = omega (arith, sum) in e);
 }
 
--- the words before one, and how many points they have
-take_fits : (ws : List ℕ) → AreWords ws → (k : ℕ) → AreWords (take k ws)
-take_fits ws h k j =
-    ⊎_elim (λ l. rw (get_or-take k ws j 0 l) (h j)) (λ o. rw (get_or_past (take k ws) j 0 (omega (arith, length-take k ws))) (omega arith)) (cases_lt j k)
-
-count_front : (ws : List ℕ) → AreWords ws → (k : ℕ) → k ≤ length ws → count_below (has_point (number_of (take k ws))) (64 * length (take k ws)) ≡ count_below (has_point (number_of ws)) (64 * k)
-count_front ws h k l =
-    ap (λ n. count_below (has_point (number_of (take k ws))) (64 * n)) (length-take-le k ws l) ∙ count_same (has_point (number_of (take k ws))) (has_point (number_of ws)) (64 * k) same
-  where
-    same : (z : ℕ) → z < 64 * k → has_point (number_of (take k ws)) z ≡ has_point (number_of ws) z
-    same z u =
-        let at : z ≡ 64 * (z / 64) + z % 64 = omega arith in
-        ap (has_point (number_of (take k ws))) at ∙ has_word (take k ws) (take_fits ws h k) (z / 64) (z % 64) (omega arith) ∙ ap (λ w. has_point w (z % 64)) (get_or-take k ws (z / 64) 0 (omega arith)) ∙ sym (ap (has_point (number_of ws)) at ∙ has_word ws h (z / 64) (z % 64) (omega arith))
-
 -- the points before one: those of the words before its own, and the ones below it
-pub count_to_point : (ws : List ℕ) → AreWords ws → (point : ℕ) → point < 64 * length ws → count_below (has_point (number_of (take (point / 64) ws))) (64 * length (take (point / 64) ws)) + count_ones (bit_and (get_or ws (point / 64) 0) (1 * 2 ^ (point % 64) % 2 ^ 64 - 1)) ≡ count_below (has_point (number_of ws)) point
-count_to_point ws h point l =
+pub count_to_point : (ws : List ℕ) → AreWords ws → (point : ℕ) → count_below (has_point (number_of ws)) (64 * (point / 64)) + count_ones (bit_and (get_or ws (point / 64) 0) (1 * 2 ^ (point % 64) % 2 ^ 64 - 1)) ≡ count_below (has_point (number_of ws)) point
+count_to_point ws h point =
     let k = point / 64 in
     let i = point % 64 in
     let w = get_or ws (point / 64) 0 in
     let mask : bit_and w (1 * 2 ^ i % 2 ^ 64 - 1) ≡ w % 2 ^ i = ap (λ m. bit_and w (m - 1)) (one_shl i 64 (omega arith)) ∙ and_mask w i in
-    ap (λ c. c + count_ones (bit_and w (1 * 2 ^ i % 2 ^ 64 - 1))) (count_front ws h k (omega arith)) ∙ ap (λ c. count_below (has_point (number_of ws)) (64 * k) + c) (ap count_ones mask ∙ sym (ones_below w i) ∙ sym (count_same (λ z. has_point (number_of ws) (64 * k + z)) (has_point w) i (λ z u. has_word ws h k z (omega arith))))
+    ap (λ c. count_below (has_point (number_of ws)) (64 * k) + c) (ap count_ones mask ∙ sym (ones_below w i) ∙ sym (count_same (λ z. has_point (number_of ws) (64 * k + z)) (has_point w) i (λ z u. has_word ws h k z (omega arith))))
     ∙ sym (count_below-+ (has_point (number_of ws)) (64 * k) i) ∙ ap (count_below (has_point (number_of ws))) (let e : 64 * (point / 64) + point % 64 ≡ point = omega arith in e)

@@ -5,9 +5,8 @@ use Rattle.std.proofs.lemmas.Bool.{cases_lt, cond-true, cond-false, lt-ltb, le-l
 use Rattle.std.proofs.lemmas.List.{get_or_past, get_or-take, get_or-drop, length-take-le}
 use Rattle.std.proofs.lemmas.Nat.{leading_top, le-div, div_below, pow_pos}
 use Rattle.std.proofs.Math.Nat.{pow-succ'}
-use Rattle.bit_planes.specs.Planes.{has_point, count_below, AreEnds, IsSpan}
+use Rattle.bit_planes.specs.Planes.{has_point, AreEnds, IsSpan}
 use Rattle.bit_planes.specs.Words.{number_of, placed, word_at, ArePlane, IsFirst}
-use Rattle.bit_planes.specs.declared.TheConstants.{WORD_LIMIT}
 use Rattle.bit_planes.proofs.Bits.{AreWords, has_at, has_within, at_each, same_from_points, has_above, has_before}
 use Rattle.bit_planes.proofs.Masks.{lowest_one, lowest_within}
 use Rattle.bit_planes.proofs.Placed.{none_behind}
@@ -43,24 +42,6 @@ module _ (ws : List ℕ) (low high : ℕ) (order : low ≤ high) (within : high 
     trimmed h g =
         same_from_points (placed (first + low) (take (high - low) (drop low ws))) (placed first ws) (at_each (λ z. has_point (placed (first + low) (take (high - low) (drop low ws))) z ≡ has_point (placed first ws) z) (λ q i l. has_at (first + low) (take (high - low) (drop low ws)) g q i l ∙ ap (λ w. has_point w i) (word_same q) ∙ sym (has_at first ws h q i l)))
 
-  pub kept_plane : (first count : ℕ) → first + length ws ≤ WORD_LIMIT → AreWords (take (high - low) (drop low ws)) → (low < length ws → 0 < get_or ws low 0) → (low < high → 0 < get_or ws (high - 1) 0) → count ≡ count_below (has_point (number_of (take (high - low) (drop low ws)))) (64 * length (take (high - low) (drop low ws))) → ArePlane (first + low) (take (high - low) (drop low ws)) count
-  kept_plane first count l g starts ends counted = record {
-    within = omega (arith, kept_size);
-    fit = g;
-    first_holds = λ some. at_low (omega (arith, kept_size));
-    last_holds = λ some. at_high (omega (arith, kept_size));
-    counted = counted;
-  }
-    where
-      at_low : low < high → 0 < get_or (take (high - low) (drop low ws)) 0 0
-      at_low u =
-          omega (arith, starts (omega arith), kept_word 0 (omega arith), ap (λ k. get_or ws k 0) (let e : low + 0 ≡ low = omega arith in e))
-
-      at_high : low < high → 0 < get_or (take (high - low) (drop low ws)) (length (take (high - low) (drop low ws)) - 1) 0
-      at_high u =
-          let size = kept_size in
-          omega (arith, ends u, ap (λ n. get_or (take (high - low) (drop low ws)) (n - 1) 0) size, kept_word (high - low - 1) (omega arith), ap (λ k. get_or ws k 0) (let e : low + (high - low - 1) ≡ high - 1 = omega arith in e))
-
 -- ---- the ends of a plane
 
 top_bit : (w p : ℕ) → 0 < p → p ≤ w → w < 2 * p → w / p % 2 ≡ 1
@@ -83,7 +64,7 @@ no_words : (ws : List ℕ) → length ws ≡ 0 → number_of ws ≡ 0
 no_words [] e = refl
 no_words (w ∷ ws) e = absurd (omega (arith, e))
 
-module _ (first : ℕ) (ws : List ℕ) (count : ℕ) (plane : ArePlane first ws count) (some : 0 < length ws) (i j : ℕ) (i_in : i < 64) (j_in : j < 64) (lowest : IsFirst (has_point (get_or ws 0 0)) 0 64 i) (highest : has_point (get_or ws (length ws - 1) 0) j ≡ true) (top : get_or ws (length ws - 1) 0 < 2 ^ suc j) where
+module _ (first : ℕ) (ws : List ℕ) (totals : List ℕ) (plane : ArePlane first ws totals) (some : 0 < length ws) (i j : ℕ) (i_in : i < 64) (j_in : j < 64) (lowest : IsFirst (has_point (get_or ws 0 0)) 0 64 i) (highest : has_point (get_or ws (length ws - 1) 0) j ≡ true) (top : get_or ws (length ws - 1) 0 < 2 ^ suc j) where
   none_before : (z : ℕ) → z < 64 * (first + 0) + i → has_point (placed first ws) z ≡ false
   none_before z l =
       ⊎_elim (λ u. has_before first (number_of ws) z u) (λ o. ap (has_point (placed first ws)) (let e : z ≡ 64 * (first + 0) + (z - 64 * first) = omega arith in e) ∙ has_within first ws plane.fit 0 (z - 64 * first) (omega arith) ∙ lowest.none (z - 64 * first) (omega arith) (omega arith)) (cases_lt z (64 * first))
@@ -100,8 +81,8 @@ module _ (first : ℕ) (ws : List ℕ) (count : ℕ) (plane : ArePlane first ws 
     none_behind = none_after;
   }
 
-pub span_of : (first : ℕ) (ws : List ℕ) (count : ℕ) → ArePlane first ws count → IsSpan (placed first ws) (length ws)
-span_of first ws count plane = record {
+pub span_of : (first : ℕ) (ws : List ℕ) (totals : List ℕ) → ArePlane first ws totals → IsSpan (placed first ws) (length ws)
+span_of first ws totals plane = record {
   none = λ e. ap (λ n. n * 2 ^ (64 * first)) (no_words ws e) ∙ omega arith;
   some = λ some. ends some;
 }
@@ -111,7 +92,7 @@ span_of first ws count plane = record {
         let low = lowest_one (get_or ws 0 0) (plane.first_holds some) (plane.fit 0) in
         let i_in : count_trailing_zeros 64 (get_or ws 0 0) < 64 = lowest_within (get_or ws 0 0) (plane.first_holds some) (plane.fit 0) in
         let high = highest_one (get_or ws (length ws - 1) 0) (plane.last_holds some) (plane.fit (length ws - 1)) in
-        (64 * (first + 0) + count_trailing_zeros 64 (get_or ws 0 0), 64 * (first + (length ws - 1)) + high.0, ends_found first ws count plane some (count_trailing_zeros 64 (get_or ws 0 0)) high.0 i_in high.1 low high.2 high.3, same_reach (count_trailing_zeros 64 (get_or ws 0 0)) high.0 i_in high.1)
+        (64 * (first + 0) + count_trailing_zeros 64 (get_or ws 0 0), 64 * (first + (length ws - 1)) + high.0, ends_found first ws totals plane some (count_trailing_zeros 64 (get_or ws 0 0)) high.0 i_in high.1 low high.2 high.3, same_reach (count_trailing_zeros 64 (get_or ws 0 0)) high.0 i_in high.1)
       where
         same_reach : (i j : ℕ) → i < 64 → j < 64 → (64 * (first + 0) + i) / 64 + length ws ≡ (64 * (first + (length ws - 1)) + j) / 64 + 1
         same_reach i j l g = omega arith

@@ -16,13 +16,18 @@ placed first words = number_of words * 2 ^ (64 * first)
 abbrev pub word_at : ℕ → List ℕ → ℕ → ℕ
 word_at first words number = if nat_lt number first then 0 else slice_index words (number - first)
 
--- words from the first point's to the last point's, and how many points they hold
-pub record ArePlane (first : ℕ) (words : List ℕ) (count : ℕ) : Type 0 where
+-- how many points the words hold up to the end of each
+pub record AreTotals (words totals : List ℕ) : Type 0 where
+  pub size : length totals ≡ length words
+  pub each : (k : ℕ) → k < length words → slice_index totals k ≡ count_below (has_point (number_of words)) (64 * (k + 1))
+
+-- words from the first point's to the last point's, with their totals
+pub record ArePlane (first : ℕ) (words totals : List ℕ) : Type 0 where
   pub within : first + length words ≤ WORD_LIMIT
   pub fit : (k : ℕ) → slice_index words k < 2 ^ 64
   pub first_holds : 0 < length words → 0 < slice_index words 0
   pub last_holds : 0 < length words → 0 < slice_index words (length words - 1)
-  pub counted : count ≡ count_below (has_point (number_of words)) (64 * length words)
+  pub counted : AreTotals words totals
 
 -- the first place from a number to below an end where a test holds, or the end
 pub record IsFirst (p : ℕ → Bool) (from end place : ℕ) : Type 0 where

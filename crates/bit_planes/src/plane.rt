@@ -7,9 +7,9 @@ ghost use Rattle.bit_planes.specs.Words.{IsBetween, IsWindow, placed};
 
 use crate::WORD_LIMIT;
 use crate::builder::PlaneBuilder;
-use crate::places::{count_before, point_at, stretch_in};
+use crate::places::{count_ahead, count_before, point_at, stretch_in, totals_of};
 use crate::windows::{are_within, end_of_ones, share_a_point, window, zeros_ahead};
-use crate::words::{count_points, count_stretches, has_bit, word_at};
+use crate::words::{count_stretches, has_bit, word_at};
 use lane_kernels::{and_words, minus_words, or_words};
 use std::alloc::{AllocError, Global};
 use std::marker::Model;
@@ -22,8 +22,8 @@ pub struct Plane {
     /// The number of the first word, which has the points from 64 times that on.
     first: usize,
     words: Vec<u64>,
-    /// How many points there are.
-    count: u32,
+    /// How many points there are up to the end of each word.
+    totals: Vec<u32>,
 }
 
 impl Model for Plane {
@@ -34,7 +34,7 @@ impl Model for Plane {
 
     ghost view = { λ a. placed a.first a.words.items };
 
-    ghost invariant = { λ a. ArePlane a.first a.words.items a.count };
+    ghost invariant = { λ a. ArePlane a.first a.words.items a.totals.items };
 }
 
 impl Plane {
@@ -55,11 +55,13 @@ impl Plane {
     pub fn copy(&self) -> Result<Plane, AllocError>
         ensures { IfOk result (λ r. r ≡ self.now) }
     {
-        let words = Vec::from_slice(*self.words.allocator(), self.words.as_slice())?;
+        let alloc = *self.words.allocator();
+        let words = Vec::from_slice(alloc, self.words.as_slice())?;
+        let totals = Vec::from_slice(alloc, self.totals.as_slice())?;
         Ok(Plane {
             first: self.first,
             words,
-            count: self.count,
+            totals,
         })
     }
 
@@ -150,7 +152,8 @@ impl Plane {
         ensures value { result ≡ count_below (has_point self.now) (64 * WORD_LIMIT) }
         ensures below { IsBelow (64 * WORD_LIMIT) self.now }
     {
-        self.count
+        let words = self.words.as_slice();
+        count_ahead(words, self.totals.as_slice(), words.len())
     }
 
     /// How many stretches of points without a gap there are.
@@ -173,7 +176,7 @@ impl Plane {
         ensures none { IfNone result
             (count_below (has_point self.now) (64 * WORD_LIMIT) ≤ place) }
     {
-        let point = point_at(self.words.as_slice(), place)?;
+        let point = point_at(self.words.as_slice(), self.totals.as_slice(), place)?;
         Some((64 * self.first + point) as u32)
     }
 
@@ -185,7 +188,9 @@ impl Plane {
         if !self.has(point) {
             return None;
         }
-        Some(count_before(self.words.as_slice(), point as usize - 64 * self.first))
+        let words = self.words.as_slice();
+        let place = point as usize - 64 * self.first;
+        Some(count_before(words, self.totals.as_slice(), place))
     }
 
     /// The first stretch of points without a gap that stands at a point or behind it: from its start to below its
@@ -206,12 +211,13 @@ impl Plane {
     {
         let low = zeros_ahead(words.as_slice());
         let high = end_of_ones(words.as_slice(), low);
-        let kept = Vec::from_slice(*words.allocator(), &words[low..high])?;
-        let count = count_points(kept.as_slice());
+        let alloc = *words.allocator();
+        let kept = Vec::from_slice(alloc, &words[low..high])?;
+        let totals = totals_of(alloc, kept.as_slice())?;
         Ok(Plane {
             first: first + low,
             words: kept,
-            count,
+            totals,
         })
     }
 

@@ -90,18 +90,6 @@ pub fn first_bit(words: &[u64], one: bool, from: usize) -> usize
     end
 }
 
-/// How many ones words have.
-pub fn count_points(words: &[u64]) -> u32
-    requires { length words.now ≤ WORD_LIMIT }
-    ensures { result ≡ count_below (has_point (number_of words.now)) (64 * length words.now) }
-{
-    let mut total = 0;
-    for word in words {
-        total += word.count_ones();
-    }
-    total
-}
-
 /// The ones of a word behind which a zero stands, where it is known which word is the next.
 fn last_ones(word: u64, next: u64) -> u64
     ensures { (i : ℕ) → i < 64 → has_point result i ≡ is_last (next * 2 ^ 64 + word) i }

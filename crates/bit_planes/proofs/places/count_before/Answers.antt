@@ -11,9 +11,9 @@ use Rattle.bit_planes.proofs.places.count_before.Goals as goal
 pub overflow_add-result : goal.overflow_add-result
 overflow_add-result c =
     let ws = c.args.words.now in
-    omega (arith, c.count_points.ensures, count_to_point ws (are_words ws c.type_inv.words) c.args.point c.requires.inside, count_at_most (has_point (number_of ws)) c.args.point)
+    omega (arith, c.count_ahead.ensures, count_to_point ws (are_words ws c.type_inv.words) c.args.point, count_at_most (has_point (number_of ws)) c.args.point)
 
 pub returns : goal.returns
 returns c =
     let ws = c.args.words.now in
-    ap (λ n. n + count_ones (bit_and (get_or ws (c.args.point / 64) 0) (1 * 2 ^ (c.args.point % 64) % 2 ^ 64 - 1))) c.count_points.ensures ∙ count_to_point ws (are_words ws c.type_inv.words) c.args.point c.requires.inside
+    ap (λ n. n + count_ones (bit_and (get_or ws (c.args.point / 64) 0) (1 * 2 ^ (c.args.point % 64) % 2 ^ 64 - 1))) c.count_ahead.ensures ∙ count_to_point ws (are_words ws c.type_inv.words) c.args.point

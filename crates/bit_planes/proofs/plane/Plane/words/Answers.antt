@@ -7,4 +7,4 @@ pub returns : goal.returns
 returns c =
     let p = c.self.inside in
     let len : c.len.result ≡ length p.words.items = omega (arith, p.words.ok.0) in
-    rw len (subst (λ s. IsSpan s (length p.words.items)) c.self.view_is (span_of p.first p.words.items p.count c.self.invariant))
+    rw len (subst (λ s. IsSpan s (length p.words.items)) c.self.view_is (span_of p.first p.words.items p.totals.items c.self.invariant))
