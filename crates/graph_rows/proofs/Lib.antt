@@ -1,0 +1,2 @@
+mod Relisting
+mod Staying
