@@ -1,18 +1,18 @@
 -- Roots that are kept, and the logical map that they stand for.
-use Rattle.std.proofs.Common.{◌≡◌, ◌≢◌, ◌∙◌, ◌≤◌, ◌<◌, ◌+◌, ◌==◌, ◌++◌, ◌||◌, Bool, true, false, cond, not, List, [], ◌∷◌, None, Option, Some, ap, arith, filter, get_or, length, map, refl, slice_get, suc, sym, zero, ℕ}
+use Rattle.std.proofs.Common.{◌≡◌, ◌≢◌, ◌∙◌, ◌≤◌, ◌<◌, ◌+◌, ◌==◌, ◌++◌, ◌||◌, ◌&&◌, ◌⊎◌, inl, inr, Bool, true, false, cond, not, List, [], ◌∷◌, None, Option, Some, ap, arith, filter, get_or, length, map, refl, slice_get, suc, sym, zero, ℕ}
 use Rattle.std.specs.Prelude.{slice_set}
 use Rattle.std.specs.List.{list_any, position, position_from}
 use Rattle.std.specs.Borrow.{Bor}
 use Rattle.std.specs.Option.{IfNone, IfSome, option_copied}
 use Rattle.std.proofs.Math.ListN.{get_or-map}
-use Rattle.std.proofs.lemmas.Bool.{eqb-true, ne_eqb}
+use Rattle.std.proofs.lemmas.Bool.{cases_Bool, eqb-true, ne_eqb}
 use Rattle.std.proofs.lemmas.Iterator.Adapters.{position_from-zero}
 use Rattle.std.proofs.lemmas.List.{length-map, map-append}
 use Rattle.std.proofs.lemmas.List.Quantifiers.{position-Some}
 use Rattle.std.proofs.lemmas.Option.{get_or_from_slice_get, slice_get_within}
 use Rattle.lane_kernels.specs.declared.numbers.FieldKind.{FieldKind}
 use Rattle.logical_map.specs.Maps.{Column, IsThere, LiveRoot, closed, column_of, columns_of, new_column, no_column, on_column, on_field, opened}
-use Rattle.physical_instances.specs.Fields.{KeepsRoom, column_if, with_field}
+use Rattle.physical_instances.specs.Fields.{KeepsRoom, LowersRoom, LowersSpare, column_if, with_field}
 use Rattle.physical_instances.specs.Kept.{FieldContents, KeepsSpare, RootContents, column_in, field_of, fields_of, is_kept, live_root, map_of, no_field, spare_of}
 
 -- ---- fields of a root
@@ -100,6 +100,43 @@ spare_kept (q ∷ qs) (suc place) r x l e same room root field =
     by_case : (b : Bool) → spare_of qs root field ≤ spare_of (slice_set qs place x) root field →
         (get_or (cond b q.fields (fields_of qs root)) field no_field).spare
         ≤ (get_or (cond b q.fields (fields_of (slice_set qs place x) root)) field no_field).spare
+    by_case true rest = omega arith
+    by_case false rest = rest
+
+-- the first root with a number takes fewer reductions on one field
+pub spare_lowered : (roots : List RootContents) (root field place less : ℕ) (r x : RootContents) → IsAt roots root place r → x.root ≡ r.root →
+    LowersRoom field less r.fields x.fields → LowersSpare root field less roots (slice_set roots place x)
+spare_lowered [] root field place less r x at same room n f = absurd (omega (arith, at.below))
+spare_lowered (q ∷ qs) root field zero less r x at same room n f =
+    by_case (q.root == n) (cases_Bool (q.root == n)) (ap (λ (k : ℕ). k == n) (same ∙ ap (λ (s : RootContents). s.root) at.here))
+  where
+    by_case : (b : Bool) → ((q.root == n) ≡ true) ⊎ ((q.root == n) ≡ false) → (x.root == n) ≡ (q.root == n) →
+        spare_of (q ∷ qs) n f ≤ spare_of (x ∷ qs) n f + cond ((root == n) && (field == f)) less 0
+    by_case b (inl h) e =
+        let is : (root == n) ≡ true = ap (λ (k : ℕ). k == n) (sym (eqb-true r.root root at.kept) ∙ ap (λ (s : RootContents). s.root) at.here) ∙ h in
+        let before : spare_of (q ∷ qs) n f ≡ (get_or r.fields f no_field).spare =
+        ap (λ t. (get_or (cond t q.fields (fields_of qs n)) f no_field).spare) h ∙ sym (ap (λ (s : RootContents). (get_or s.fields f no_field).spare) at.here) in
+        let after : spare_of (x ∷ qs) n f ≡ (get_or x.fields f no_field).spare =
+        ap (λ t. (get_or (cond t x.fields (fields_of qs n)) f no_field).spare) (e ∙ h) in
+        let much : cond ((root == n) && (field == f)) less 0 ≡ cond (field == f) less 0 = ap (λ t. cond (t && (field == f)) less 0) is in
+        let most : (get_or r.fields f no_field).spare ≤ (get_or x.fields f no_field).spare + cond (field == f) less 0 = room f in
+        omega (arith, before, after, much, most)
+    by_case b (inr h) e =
+        let before : spare_of (q ∷ qs) n f ≡ spare_of qs n f = ap (λ t. (get_or (cond t q.fields (fields_of qs n)) f no_field).spare) h in
+        let after : spare_of (x ∷ qs) n f ≡ spare_of qs n f = ap (λ t. (get_or (cond t x.fields (fields_of qs n)) f no_field).spare) (e ∙ h) in
+        omega (arith, before, after)
+spare_lowered (q ∷ qs) root field (suc place) less r x at same room n f =
+    let rest : IsAt qs root place r = record {
+      below = omega (arith, at.below);
+      here = at.here;
+      kept = at.kept;
+      before = λ k l. at.before (suc k) (omega (arith, l));
+    } in
+    by_case (q.root == n) (spare_lowered qs root field place less r x rest same room n f)
+  where
+    by_case : (b : Bool) → spare_of qs n f ≤ spare_of (slice_set qs place x) n f + cond ((root == n) && (field == f)) less 0 →
+        (get_or (cond b q.fields (fields_of qs n)) f no_field).spare
+        ≤ (get_or (cond b q.fields (fields_of (slice_set qs place x) n)) f no_field).spare + cond ((root == n) && (field == f)) less 0
     by_case true rest = omega arith
     by_case false rest = rest
 

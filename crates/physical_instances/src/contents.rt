@@ -1,19 +1,19 @@
 //! The contents of all live roots.
 
 ghost use Rattle.std.specs.Prelude.{◌≡◌, ◌≢◌, ◌↔◌, ◌≤◌, ◌+◌, ◌<◌, [], IfNone, IfOk, IfSome, IsOk, IsOkAnd, OnErr, OnOk};
-ghost use Rattle.std.specs.Prelude.{filter, length, ℕ};
+ghost use Rattle.std.specs.Prelude.{filter, length, not, ℕ};
 ghost use Rattle.logical_map.specs.Fills.{chunk_moved, started};
-ghost use Rattle.logical_map.specs.Gives.{add_reduction, is_reduction, put_back, reductions_in, reductions_on, without_reductions};
+ghost use Rattle.logical_map.specs.Gives.{add_reduction, give_pieces, is_reduction, put_back, reductions_in, reductions_on, without_reductions};
 ghost use Rattle.logical_map.specs.Maps.{IsThere, closed, column_of, no_column, number_at, opened};
 ghost use Rattle.physical_instances.specs.Kept.{IsFull};
-ghost use Rattle.physical_instances.specs.Fields.{give_kind};
+ghost use Rattle.physical_instances.specs.Fields.{LowersSpare};
 ghost use Rattle.physical_instances.specs.Kept.{KeepsSpare, is_kept, map_of, spare_of};
 ghost use Rattle.physical_instances.specs.declared.fill.Filled.TheVariants.{Full};
 ghost use Rattle.std.specs.List.{position};
 
-use crate::counts::count_on;
+use crate::fields::FieldInstances;
 use crate::fill::{Fill, Filled};
-use crate::instances::{FieldInstances, is_reduction};
+use crate::folding::{count_on, is_reduction};
 use crate::roots::RootInstances;
 use lane_kernels::{FieldKind, Mode};
 use plain_values::Sequence;
@@ -86,6 +86,9 @@ impl Contents {
         ensures map { map_of self.new ≡ map_of self.old }
         ensures spare { KeepsSpare self.old self.new }
     {
+        if pieces.iter().any(|piece| matches!(piece.1, Mode::Write)) {
+            self.settle(root, field);
+        }
         let alloc = *self.roots.allocator();
         let kind = self.kind_of(root, field);
         Fill::new(alloc, root, field, kind, pieces)
@@ -108,7 +111,10 @@ impl Contents {
         ensures map { map_of self.new ≡ put_back part (map_of self.old) }
         ensures spare { KeepsSpare self.old self.new }
     {
-        self.give(part.root, part.field, part.pieces.as_slice(), false);
+        if let Some(place) = self.place_of(part.root) {
+            let kept = &mut self.roots[place];
+            kept.put_back(part.field, part.pieces.into_vec());
+        }
     }
 
     /// Makes room for the reductions of these parts. More of them on a field than a number counts count as a
@@ -123,7 +129,7 @@ impl Contents {
             let Some(count) = count_on(parts, part.root, part.field) else {
                 return Err(AllocError);
             };
-            self.reserve_on(part.root, part.field, count);
+            self.reserve_on(part.root, part.field, count)?;
         }
         Ok(())
     }
@@ -137,12 +143,11 @@ impl Contents {
         ensures sure { length (filter is_reduction part.old.pieces) ≤ spare_of self.old part.old.root.0 part.old.field → IsOk result }
         ensures spare { (root field : ℕ) → spare_of self.old root field ≤ spare_of self.new root field + reductions_in root field part.old }
     {
-        self.give(part.root, part.field, part.pieces.as_slice(), true);
         let alloc = *self.roots.allocator();
         let mut pieces = mem::replace(&mut part.pieces, Sequence::new(alloc)).into_vec();
-        pieces.retain(|piece| !is_reduction(piece));
+        let added = self.add_reductions(part.root, part.field, &mut pieces);
         part.pieces = Sequence::from_vec(pieces);
-        Ok(())
+        added
     }
 
     /// The number at a point; 0 where there is none. It takes no memory.
@@ -206,26 +211,49 @@ impl Contents {
         }
     }
 
-    /// Writes the numbers of a field's pieces for writing, or folds those of the reductions in.
-    fn give(&mut self, root: RootId, field: u8, pieces: &[Piece], reducing: bool)
-        ensures map { map_of self.new ≡ give_kind reducing root.0 field pieces.now (map_of self.old) }
+    /// Folds the reductions in that wait on a field.
+    fn settle(&mut self, root: RootId, field: u8)
+        ensures map { map_of self.new ≡ map_of self.old }
         ensures spare { KeepsSpare self.old self.new }
     {
         if let Some(place) = self.place_of(root) {
             let kept = &mut self.roots[place];
-            kept.give(field, pieces, reducing);
+            kept.settle(field);
         }
     }
 
-    /// Makes room for so many reductions more on a field.
-    fn reserve_on(&mut self, root: RootId, field: u8, more: usize)
-        ensures map { map_of self.new ≡ map_of self.old }
-        ensures spare { KeepsSpare self.old self.new }
-        ensures more { IsThere (map_of self.old) root.0 field → more ≤ spare_of self.new root.0 field }
+    /// Takes the reductions in and out of the pieces; where the root or field isn't there they are dropped.
+    fn add_reductions(
+        &mut self,
+        root: RootId,
+        field: u8,
+        pieces: &mut Vec<Piece>,
+    ) -> Result<(), AllocError>
+        ensures map { OnOk result (map_of self.new ≡ give_pieces root.0 field (filter is_reduction pieces.old.items) (map_of self.old)) }
+        ensures pieces { OnOk result (pieces.new.items ≡ filter (λ h. not (is_reduction h)) pieces.old.items) }
+        ensures err { OnErr result ((self.new ≡ self.old) × (pieces.new.items ≡ pieces.old.items)) }
+        ensures sure { length (filter is_reduction pieces.old.items) ≤ spare_of self.old root.0 field → IsOk result }
+        ensures spare { LowersSpare root.0 field (length (filter is_reduction pieces.old.items)) self.old self.new }
     {
         if let Some(place) = self.place_of(root) {
             let kept = &mut self.roots[place];
-            kept.reserve(field, more);
+            kept.add_reductions(field, pieces)?;
+        } else {
+            pieces.retain(|piece| !is_reduction(piece));
         }
+        Ok(())
+    }
+
+    /// Makes room for so many reductions more on a field.
+    fn reserve_on(&mut self, root: RootId, field: u8, more: usize) -> Result<(), AllocError>
+        ensures map { map_of self.new ≡ map_of self.old }
+        ensures spare { KeepsSpare self.old self.new }
+        ensures more { OnOk result (IsThere (map_of self.old) root.0 field → more ≤ spare_of self.new root.0 field) }
+    {
+        if let Some(place) = self.place_of(root) {
+            let kept = &mut self.roots[place];
+            kept.reserve(field, more)?;
+        }
+        Ok(())
     }
 }

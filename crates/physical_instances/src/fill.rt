@@ -8,7 +8,7 @@ ghost use Rattle.physical_instances.specs.Kept.{IsFull};
 ghost use Rattle.physical_instances.specs.declared.fill.Filled.TheVariants.{Full};
 
 use crate::copying::copy_pieces;
-use crate::instances::FieldInstances;
+use crate::fields::FieldInstances;
 use lane_kernels::{FieldKind, Mode};
 use plain_values::Sequence;
 use point_sets::PointSet;

@@ -1,221 +1,202 @@
-//! One field of a root.
+//! The numbers of a field in instances (physical instances and their valid sets: Legion, SC 2012).
 
-ghost use Rattle.std.specs.Prelude.{◌≡◌, ◌≤◌, ◌∷◌, [], IfOk, Some, filter, length, slice_get};
-ghost use Rattle.logical_map.specs.Fills.{number_for};
-ghost use Rattle.physical_instances.specs.Fields.{is_given};
-ghost use Rattle.logical_map.specs.Gives.{given, given_at, given_beside, is_reduction, is_write, with_pieces};
-ghost use Rattle.logical_map.specs.Maps.{new_column, number_beside, number_in_column, zero_of};
+ghost use Rattle.std.specs.Prelude.{◌≡◌, ◌≤◌, [], IfNone, IfOk, IfSome, filter, length, replicate};
+ghost use Rattle.lane_kernels.specs.declared.numbers.Width.{Width};
+ghost use Rattle.logical_map.specs.Gives.{given_beside, is_write};
+ghost use Rattle.logical_map.specs.Maps.{number_beside};
+ghost use Rattle.physical_instances.specs.Instances.{current, current_beside, trimmed, written};
+ghost use Rattle.reduction_folds.specs.Folds.{all_beside};
 
-use lane_kernels::{FieldKind, Mode, Width};
+use crate::current::{clear, current, gather, no_pieces, trim, write};
+use crate::marks::{free_place, mark};
+use lane_kernels::{Mode, Width};
 use plain_values::Shared;
 use point_sets::PointSet;
+use reduction_folds::Pending;
 use region_tree::Piece;
 use std::alloc::{AllocError, Global};
 use std::marker::Model;
 
-/// The numbers of a field beside the points of its root, and for how many reductions more there is room.
+/// How many further instances a field has at most.
+const FURTHER: usize = 7;
+
+/// A base with a number beside each point of the root, and up to seven further instances, each a piece that came back.
+/// `valid` tells which is current beside each point: 0 is the base, and k + 1 the further one at place k; `counts`
+/// tells at how many points each is.
 #[derive(Drop)]
-pub(crate) struct FieldInstances {
+pub(crate) struct Instances {
     points: Shared<PointSet>,
-    kind: FieldKind,
-    numbers: Vec<i64>,
-    room: usize,
+    base: Vec<i64>,
+    valid: Vec<u8>,
+    further: Vec<Option<Piece>>,
+    counts: Vec<usize>,
 }
 
-impl Model for FieldInstances {
+impl Model for Instances {
     ghost use Rattle.std.specs.Prelude.{◌≡◌, length};
-    ghost use Rattle.physical_instances.specs.Kept.{FieldContents};
+    ghost use Rattle.std.specs.List.Sorted.{IsStrictlyIncreasing};
+    ghost use Rattle.physical_instances.specs.Instances.{AreCounts, Beside, current_beside};
 
-    ghost Value = { FieldContents };
+    ghost Value = { Beside };
 
-    ghost view = { λ f. record {
-      column = record { points = f.points; kind = f.kind; numbers = f.numbers.items };
-      spare = f.room;
+    ghost view = { λ i. record {
+      points = i.points;
+      numbers = current_beside i.further.items i.points i.valid.items i.base.items;
     } };
 
-    ghost invariant = { λ f. length f.numbers.items ≡ length f.points };
+    ghost invariant = { λ i. IsStrictlyIncreasing i.points × (length i.base.items ≡ length i.points) × (length i.valid.items ≡ length i.points)
+        × AreCounts i.counts.items i.valid.items
+        × (length i.counts.items ≡ 8) × (length i.further.items ≡ 7) };
 }
 
-impl FieldInstances {
-    /// The zero of its kind at each point.
+impl Instances {
+    /// The base alone, with a number beside each point.
     pub(crate) fn new(
         alloc: Global,
         points: Shared<PointSet>,
-        kind: FieldKind,
-    ) -> Result<FieldInstances, AllocError>
-        ensures { IfOk result (λ f. f.column ≡ new_column points kind) }
+        number: i64,
+    ) -> Result<Instances, AllocError>
+        ensures points { IfOk result (λ i. i.points ≡ points) }
+        ensures numbers { IfOk result (λ i. i.numbers ≡ replicate (length points) number) }
     {
-        let numbers = vec![in alloc; zero_of(kind); points.get().len() as usize]?;
-        Ok(FieldInstances {
+        let count = points.get().len() as usize;
+        let base = vec![in alloc; number; count]?;
+        let valid = vec![in alloc; 0_u8; count]?;
+        let mut counts = vec![in alloc; 0_usize; FURTHER + 1]?;
+        counts[0] = count;
+        Ok(Instances {
             points,
-            kind,
-            numbers,
-            room: 0,
+            base,
+            valid,
+            further: no_pieces(alloc, FURTHER)?,
+            counts,
         })
-    }
-
-    pub(crate) fn kind(&self) -> FieldKind
-        ensures { result ≡ self.now.column.kind }
-    {
-        self.kind
     }
 
     /// How many points the root has.
     pub(crate) fn count(&self) -> usize
-        ensures { result ≡ length self.now.column.points }
+        ensures points { result ≡ length self.now.points }
+        ensures numbers { result ≡ length self.now.numbers }
     {
-        self.numbers.len()
+        self.base.len()
     }
 
-    /// The number at a point, or 0.
-    pub(crate) fn number(&self, point: u32) -> i64
-        ensures { result ≡ number_in_column self.now.column point }
+    /// The number at a point of the root.
+    pub(crate) fn number(&self, point: u32) -> Option<i64>
+        ensures { result ≡ number_beside self.now.points self.now.numbers point }
     {
-        match number_beside(self.points.get(), self.numbers.as_slice(), point) {
-            Some(number) => number,
-            None => 0,
-        }
+        let place = self.points.get().place_of(point)? as usize;
+        let further = self.further.as_slice();
+        Some(current(further, self.valid[place], point, self.base[place]))
+    }
+
+    /// The points of the root.
+    pub(crate) fn points(&self) -> &PointSet
+        ensures points { result.now ≡ self.now.points }
+    {
+        self.points.get()
     }
 
     /// The numbers beside all points.
     pub(crate) fn image(&self, into: &mut [i64])
-        requires { length into.old ≡ length self.now.column.points }
-        ensures { into.new ≡ self.now.column.numbers }
+        requires { length into.old ≡ length self.now.points }
+        ensures { into.new ≡ self.now.numbers }
     {
-        into.copy_from_slice(self.numbers.as_slice());
+        into.copy_from_slice(self.base.as_slice());
+        gather(
+            self.points.get(),
+            self.further.as_slice(),
+            self.valid.as_slice(),
+            into,
+        );
     }
 
-    /// What an element gets at a point that is filled in a mode.
-    pub(crate) fn number_for(&self, mode: Mode, point: u32) -> i64
-        ensures { result ≡ number_for self.now.column mode point }
+    /// A piece comes back: as a further instance where there is room for one, or else into the base. It takes no
+    /// memory.
+    pub(crate) fn put(&mut self, piece: Piece)
+        ensures points { self.new.points ≡ self.old.points }
+        ensures numbers { self.new.numbers ≡ written piece self.old.points self.old.numbers }
     {
-        match mode {
-            Mode::Reduce(op) => op.identity(self.kind.width()),
-            _ => self.number(point),
+        if let Some(piece) = self.put_further(piece) {
+            self.put_base(&piece);
+        }
+        self.trim();
+    }
+
+    /// The pieces for writing come back one after the other. It takes no memory.
+    pub(crate) fn put_back(&mut self, pieces: Vec<Piece>)
+        ensures points { self.new.points ≡ self.old.points }
+        ensures numbers { (w : Width) → self.new.numbers ≡ given_beside w (filter is_write pieces.items) self.old.points self.old.numbers }
+    {
+        for piece in pieces {
+            if is_write(&piece) {
+                self.put(piece);
+            }
         }
     }
 
-    /// Writes the numbers of the pieces for writing, or folds those of the reductions in.
-    pub(crate) fn give(&mut self, pieces: &[Piece], reducing: bool)
-        ensures column { self.new.column ≡ with_pieces (filter (is_given reducing) pieces.now) self.old.column }
-        ensures spare { self.new.spare ≡ self.old.spare }
+    /// A piece comes back as a further instance; it is given back where there is no room for one.
+    fn put_further(&mut self, piece: Piece) -> Option<Piece>
+        ensures points { self.new.points ≡ self.old.points }
+        ensures put { IfNone result (self.new.numbers ≡ written piece self.old.points self.old.numbers) }
+        ensures back { IfSome result (λ p. (p ≡ piece) × (self.new ≡ self.old)) }
     {
-        let width = self.kind.width();
-        let points = self.points.get();
-        give_all(width, pieces, reducing, points, self.numbers.as_mut_slice());
+        let Some(place) = free_place(self.counts.as_slice()) else {
+            return Some(piece);
+        };
+        let which = place as u8 + 1;
+        mark(
+            self.points.get(),
+            &piece.points,
+            which,
+            &mut self.valid,
+            &mut self.counts,
+        );
+        self.further[place] = Some(piece);
+        None
     }
 
-    /// Makes room for so many reductions more.
-    pub(crate) fn reserve(&mut self, more: usize)
-        ensures column { self.new.column ≡ self.old.column }
-        ensures spare { self.old.spare ≤ self.new.spare }
-        ensures more { more ≤ self.new.spare }
+    /// A piece comes back into the base.
+    fn put_base(&mut self, piece: &Piece)
+        ensures points { self.new.points ≡ self.old.points }
+        ensures numbers { self.new.numbers ≡ written piece.now self.old.points self.old.numbers }
     {
-        self.room = self.room.max(more);
+        let root = self.points.get();
+        mark(root, &piece.points, 0, &mut self.valid, &mut self.counts);
+        write(root, piece, self.base.as_mut_slice());
+    }
+
+    /// Drops the further instances that are current nowhere.
+    fn trim(&mut self)
+        ensures { self.new ≡ self.old }
+    {
+        trim(&self.counts.as_slice()[1..], self.further.as_mut_slice());
+    }
+
+    /// Folds all that waits in, and then nothing waits. It takes no memory.
+    pub(crate) fn settle(&mut self, width: Width, pending: &mut Pending)
+        ensures points { self.new.points ≡ self.old.points }
+        ensures numbers { self.new.numbers ≡ all_beside width pending.old.folds self.old.points self.old.numbers }
+        ensures folds { pending.new.folds ≡ [] }
+        ensures spare { pending.old.spare ≤ pending.new.spare }
+    {
+        let root = self.points.get();
+        gather(
+            root,
+            self.further.as_slice(),
+            self.valid.as_slice(),
+            self.base.as_mut_slice(),
+        );
+        self.valid.fill(0);
+        self.counts.fill(0);
+        self.counts[0] = self.valid.len();
+        clear(self.further.as_mut_slice());
+        pending.settle(width, root, self.base.as_mut_slice());
     }
 }
 
-/// The number that a new field holds.
-fn zero_of(kind: FieldKind) -> i64
-    ensures { result ≡ zero_of kind }
-{
-    match kind {
-        FieldKind::Pointer => -1,
-        _ => 0,
-    }
-}
-
-pub(crate) fn is_write(piece: &Piece) -> bool
+fn is_write(piece: &Piece) -> bool
     ensures { result ≡ is_write piece.now }
 {
     matches!(piece.mode, Mode::Write)
-}
-
-pub(crate) fn is_reduction(piece: &Piece) -> bool
-    ensures { result ≡ is_reduction piece.now }
-{
-    matches!(piece.mode, Mode::Reduce(_))
-}
-
-/// Whether a piece is given with those of its kind.
-fn is_given(piece: &Piece, reducing: bool) -> bool
-    ensures { result ≡ is_given reducing piece.now }
-{
-    if reducing {
-        is_reduction(piece)
-    } else {
-        is_write(piece)
-    }
-}
-
-/// Writes or folds the numbers of the pieces of a kind into those beside some points.
-fn give_all(width: Width, pieces: &[Piece], reducing: bool, points: &PointSet, numbers: &mut [i64])
-    requires { length numbers.old ≡ length points.now }
-    ensures { numbers.new ≡ given_beside width (filter (is_given reducing) pieces.now) points.now numbers.old }
-{
-    for piece in pieces {
-        give_one(width, piece, reducing, points, numbers);
-    }
-}
-
-/// Writes or folds the numbers of a piece, if it is of the kind.
-fn give_one(width: Width, piece: &Piece, reducing: bool, points: &PointSet, numbers: &mut [i64])
-    requires { length numbers.old ≡ length points.now }
-    ensures numbers { numbers.new ≡ given_beside width (filter (is_given reducing) (piece.now ∷ [])) points.now numbers.old }
-    ensures length { length numbers.new ≡ length numbers.old }
-{
-    if is_given(piece, reducing) {
-        give(width, piece, points, numbers);
-    }
-}
-
-/// Writes or folds the numbers of a piece into those beside some points.
-fn give(width: Width, piece: &Piece, points: &PointSet, numbers: &mut [i64])
-    requires { length numbers.old ≡ length points.now }
-    ensures { numbers.new ≡ given_beside width (piece.now ∷ []) points.now numbers.old }
-{
-    for place in 0..points.len() {
-        let (Some(point), Some(number)) = (points.at(place), number_at(numbers, place)) else {
-            unreachable!()
-        };
-        numbers[place as usize] = given_at(width, piece, point, number);
-    }
-}
-
-/// What a piece makes of the number at a point.
-fn given_at(width: Width, piece: &Piece, point: u32, number: i64) -> i64
-    ensures { result ≡ given_at width piece.now point number }
-{
-    match number_beside(&piece.points, piece.values.as_slice(), point) {
-        Some(other) => given_to(width, piece.mode, number, other),
-        None => number,
-    }
-}
-
-/// What a number that is given in a mode makes of another.
-fn given_to(width: Width, mode: Mode, number: i64, other: i64) -> i64
-    ensures { result ≡ given width mode number (Some other) }
-{
-    match mode {
-        Mode::Read => number,
-        Mode::Write => other,
-        Mode::Reduce(op) => op.apply(width, number, other),
-    }
-}
-
-/// The number beside a point.
-fn number_beside(points: &PointSet, values: &[i64], point: u32) -> Option<i64>
-    ensures { result ≡ number_beside points.now values.now point }
-{
-    match points.place_of(point) {
-        Some(place) => number_at(values, place),
-        None => None,
-    }
-}
-
-/// The number at a place of a list.
-fn number_at(values: &[i64], place: u32) -> Option<i64>
-    ensures { result ≡ slice_get values.now place }
-{
-    values.get(place as usize).copied()
 }

@@ -6,9 +6,12 @@
 
 mod contents;
 mod copying;
-mod counts;
+mod current;
+mod fields;
 mod fill;
+mod folding;
 mod instances;
+mod marks;
 mod roots;
 #[cfg(test)]
 mod tests;

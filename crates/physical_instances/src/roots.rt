@@ -1,13 +1,14 @@
 //! One root with its fields.
 
-ghost use Rattle.std.specs.Prelude.{◌≡◌, ◌≤◌, ◌<◌, IfNone, IfOk, IfSome, None, Some, filter, length, map, slice_get};
-ghost use Rattle.logical_map.specs.Gives.{with_pieces};
+ghost use Rattle.std.specs.Prelude.{◌≡◌, ◌≤◌, ◌<◌, IfNone, IfOk, IfSome, IsOk, None, OnErr, OnOk, Some, filter, length, map, not, slice_get};
+ghost use Rattle.logical_map.specs.Gives.{is_reduction, is_write, with_pieces};
 ghost use Rattle.logical_map.specs.Maps.{new_column};
-ghost use Rattle.physical_instances.specs.Fields.{KeepsRoom, is_given, with_field};
+ghost use Rattle.physical_instances.specs.Fields.{KeepsRoom, LowersRoom, with_field};
 ghost use Rattle.physical_instances.specs.Kept.{column_in, live_root, no_field};
 ghost use Rattle.std.specs.Prelude.{get_or};
 
-use crate::instances::FieldInstances;
+use crate::fields::FieldInstances;
+use crate::folding::is_reduction;
 use lane_kernels::FieldKind;
 use plain_values::Shared;
 use point_sets::PointSet;
@@ -59,30 +60,65 @@ impl RootInstances {
         self.fields.get(field as usize)
     }
 
-    /// Writes the numbers of a field's pieces for writing, or folds those of the reductions in.
-    pub(crate) fn give(&mut self, field: u8, pieces: &[Piece], reducing: bool)
-        ensures root { live_root self.new
-            ≡ with_field field (with_pieces (filter (is_given reducing) pieces.now)) (live_root self.old) }
+    /// Folds the reductions in that wait on a field.
+    pub(crate) fn settle(&mut self, field: u8)
+        ensures root { live_root self.new ≡ live_root self.old }
         ensures spare { KeepsRoom self.old.fields self.new.fields }
     {
         let place = field as usize;
         if place < self.fields.len() {
             let found = &mut self.fields[place];
-            found.give(pieces, reducing);
+            found.settle();
         }
     }
 
-    /// Makes room for so many reductions more on a field.
-    pub(crate) fn reserve(&mut self, field: u8, more: usize)
-        ensures root { live_root self.new ≡ live_root self.old }
+    /// Takes a field's pieces for writing in.
+    pub(crate) fn put_back(&mut self, field: u8, pieces: Vec<Piece>)
+        ensures root { live_root self.new ≡ with_field field (with_pieces (filter is_write pieces.items)) (live_root self.old) }
         ensures spare { KeepsRoom self.old.fields self.new.fields }
-        ensures more { field < length self.new.fields → more ≤ (get_or self.new.fields field no_field).spare }
     {
         let place = field as usize;
         if place < self.fields.len() {
             let found = &mut self.fields[place];
-            found.reserve(more);
+            found.put_back(pieces);
         }
+    }
+
+    /// Takes the reductions in and out of the pieces; where the field isn't there they are dropped.
+    pub(crate) fn add_reductions(
+        &mut self,
+        field: u8,
+        pieces: &mut Vec<Piece>,
+    ) -> Result<(), AllocError>
+        ensures root { OnOk result (live_root self.new
+            ≡ with_field field (with_pieces (filter is_reduction pieces.old.items)) (live_root self.old)) }
+        ensures pieces { OnOk result (pieces.new.items ≡ filter (λ h. not (is_reduction h)) pieces.old.items) }
+        ensures err { OnErr result ((self.new ≡ self.old) × (pieces.new.items ≡ pieces.old.items)) }
+        ensures sure { length (filter is_reduction pieces.old.items) ≤ (get_or self.old.fields field no_field).spare → IsOk result }
+        ensures spare { LowersRoom field (length (filter is_reduction pieces.old.items)) self.old.fields self.new.fields }
+    {
+        let place = field as usize;
+        if place < self.fields.len() {
+            let found = &mut self.fields[place];
+            found.add_reductions(pieces)?;
+        } else {
+            pieces.retain(|piece| !is_reduction(piece));
+        }
+        Ok(())
+    }
+
+    /// Makes room for so many reductions more on a field.
+    pub(crate) fn reserve(&mut self, field: u8, more: usize) -> Result<(), AllocError>
+        ensures root { live_root self.new ≡ live_root self.old }
+        ensures spare { KeepsRoom self.old.fields self.new.fields }
+        ensures more { OnOk result (field < length self.new.fields → more ≤ (get_or self.new.fields field no_field).spare) }
+    {
+        let place = field as usize;
+        if place < self.fields.len() {
+            let found = &mut self.fields[place];
+            found.reserve(more)?;
+        }
+        Ok(())
     }
 }
 

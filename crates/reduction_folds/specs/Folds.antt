@@ -1,10 +1,9 @@
 -- What reductions make of numbers: each is folded in at its points, one after the other.
-use Rattle.std.specs.Prelude.{◌≡◌, ◌==◌, List, [], ◌∷◌, Option, None, Some, slice_get, true, ℕ, ℤ}
+use Rattle.std.specs.Prelude.{◌==◌, List, [], ◌∷◌, Option, None, Some, slice_get, ℕ, ℤ}
 use Rattle.std.specs.List.{position}
 use Rattle.lane_kernels.specs.Numbers.{applied}
 use Rattle.lane_kernels.specs.declared.numbers.Op.{Op}
 use Rattle.lane_kernels.specs.declared.numbers.Width.{Width}
-use Rattle.plain_values.specs.Points.{within}
 use Rattle.reduction_folds.specs.declared.fold.Fold.{Fold}
 
 -- the number at a place, where there is a place
@@ -34,7 +33,3 @@ abbrev pub all_beside : Width → List Fold → List ℕ → List ℤ → List �
 all_beside width folds (point ∷ points) (value ∷ values) =
     all_at width folds point value ∷ all_beside width folds points values
 all_beside width folds _ values = values
-
--- all points of a reduction are among some
-abbrev pub LiesIn : List ℕ → Fold → Type 0
-LiesIn points fold = within fold.points points ≡ true

@@ -1,7 +1,7 @@
 //! All reductions that wait to be folded.
 
-ghost use Rattle.std.specs.Prelude.{◌≡◌, ◌≤◌, ◌<◌, ◌+◌, ◌++◌, ◌∷◌, [], All, IsOk, IsOkAnd, OnErr, OnOk, length};
-ghost use Rattle.reduction_folds.specs.Folds.{LiesIn, all_at, all_beside};
+ghost use Rattle.std.specs.Prelude.{◌≡◌, ◌≤◌, ◌<◌, ◌+◌, ◌++◌, ◌∷◌, [], IsOk, IsOkAnd, OnErr, OnOk, length};
+ghost use Rattle.reduction_folds.specs.Folds.{all_at, all_beside};
 
 use crate::fold::{Fold, number_at};
 use lane_kernels::{Op, Width};
@@ -51,6 +51,13 @@ impl Pending {
         Ok(())
     }
 
+    /// How many more may be added for sure.
+    pub fn room(&self) -> usize
+        ensures { result ≡ self.now.spare }
+    {
+        self.folds.capacity() - self.folds.len()
+    }
+
     /// Makes room for so many more.
     pub fn reserve(&mut self, more: u32) -> Result<(), AllocError>
         ensures folds { self.new.folds ≡ self.old.folds }
@@ -88,8 +95,7 @@ impl Pending {
 
     /// Folds all that waits into the numbers beside some points, and then nothing waits. It takes no memory.
     pub fn settle(&mut self, width: Width, points: &PointSet, values: &mut [i64])
-        requires count { length values.old ≡ length points.now }
-        requires within { All (LiesIn points.now) self.old.folds }
+        requires { length values.old ≡ length points.now }
         ensures values { values.new ≡ all_beside width self.old.folds points.now values.old }
         ensures folds { self.new.folds ≡ [] }
         ensures spare { self.old.spare ≤ self.new.spare }

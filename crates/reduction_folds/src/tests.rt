@@ -1,23 +1,16 @@
 //! Each call with memory at hand. What is expected is worked out by hand.
 
-ghost use Rattle.std.specs.Prelude.{◌≡◌, ◌∷◌, [], All, IfOk};
-ghost use Rattle.reduction_folds.specs.Folds.{LiesIn};
-
 use crate::Pending;
 use lane_kernels::{Op, Width};
 use point_sets::PointSet;
 use std::alloc::{AllocError, Global};
 use std::test::Fail;
 
-fn values(alloc: Global, numbers: &[i64]) -> Result<Vec<i64>, AllocError>
-    ensures { IfOk result (λ values. values.items ≡ numbers.now) }
-{
+fn values(alloc: Global, numbers: &[i64]) -> Result<Vec<i64>, AllocError> {
     Vec::from_slice(alloc, numbers)
 }
 
-fn point(alloc: Global) -> Result<PointSet, AllocError>
-    ensures { IfOk result (λ points. points ≡ 1 ∷ []) }
-{
+fn point(alloc: Global) -> Result<PointSet, AllocError> {
     PointSet::range(alloc, 1, 2)
 }
 
@@ -33,9 +26,7 @@ fn common_points_are_folded(alloc: Global) -> Result<bool, AllocError> {
 }
 
 /// A least of 5 and then a sum of 2 at the point 1.
-fn two(alloc: Global) -> Result<Pending, AllocError>
-    ensures { IfOk result (λ pending. All (LiesIn (1 ∷ [])) pending.folds) }
-{
+fn two(alloc: Global) -> Result<Pending, AllocError> {
     let mut pending = Pending::new(alloc)?;
     pending.reserve(2)?;
     pending.add(Op::Least, point(alloc)?, values(alloc, &[5])?)?;

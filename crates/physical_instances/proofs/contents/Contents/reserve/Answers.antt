@@ -20,7 +20,7 @@ loop-part-preserved c =
     let count : c.in-Some.count ≡ reductions_on parts p.root.0 p.field = search (rules) in
     let room : HasRoom parts before after p = λ there.
     let more : c.in-Some.count ≤ spare_of after p.root.0 p.field =
-    c.reserve_on.ensures.more (subst (λ (m : LogicalMap). IsThere m p.root.0 p.field) (sym c.loop-part.invariant.map) there) in
+    c.in_ok-reserve_on.ensures.more (subst (λ (m : LogicalMap). IsThere m p.root.0 p.field) (sym c.loop-part.invariant.map) there) in
     omega (arith, count, more) in
     record {
       map = c.reserve_on.ensures.map ∙ c.loop-part.invariant.map;
