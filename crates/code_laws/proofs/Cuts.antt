@@ -1,20 +1,22 @@
--- Partitions: one that is made of a region, and its colours.
-use Rattle.std.proofs.Common.{◌≡◌, ℕ, suc, ◌<◌, ◌^◌, List, [], ◌∷◌, Bool, true, false, Some, refl, sym, ap, ◌∙◌, subst, arith}
+-- Partitions: one that is made of a region with a colour space, and its colours.
+use Rattle.std.proofs.Common.{◌≡◌, ℕ, suc, ◌<◌, ◌≤◌, ◌^◌, List, [], ◌∷◌, Bool, true, false, Some, refl, sym, ap, ◌∙◌, subst, arith}
 use Rattle.std.specs.Prelude.{cond, get_or, length, map, nat_le, not, slice_get, ◌&&◌}
 use Rattle.std.specs.List.{list_all}
 use Rattle.std.proofs.lemmas.Bool.{le-leb, leb-true, lt-ltb}
 use Rattle.std.proofs.lemmas.List.{length-map}
 use Rattle.std.proofs.lemmas.List.Elements.{All-head, All-tail}
 use Rattle.std.proofs.lemmas.Option.{slice_get-get_or}
-use Rattle.plain_values.specs.Points.{IsPoints, meets, within}
+use Rattle.plain_values.specs.Points.{meets, within}
 use Rattle.partitions.proofs.Apart.{equal_apart}
 use Rattle.partitions.proofs.Colours.{length_made}
 use Rattle.partitions.proofs.Inside.{IsPartOf, equal_parts}
 use Rattle.partitions.specs.Laws.{ArePartsOf, NoneShared}
+use Rattle.region_tree.specs.declared.piece.Part.{Part}
 use Rattle.regent_tree.specs.Evaluation.{stepped}
 use Rattle.regent_tree.specs.Initializers.{colours, partitioned, region_named}
 use Rattle.regent_tree.specs.Partitions.{equal_flag, equal_part, equal_sets}
-use Rattle.regent_tree.specs.Running.{Here, State, and_then, fault, given, gives, if_true}
+use Rattle.regent_tree.specs.Accesses.{space_in}
+use Rattle.regent_tree.specs.Running.{Here, Run, State, and_then, fault, given, if_true}
 use Rattle.regent_tree.specs.Scopes.{bound_as, bound_to}
 use Rattle.regent_tree.specs.Syntax.{Name, field_step, no_step}
 use Rattle.regent_tree.specs.Typing.{type_of_field}
@@ -24,8 +26,9 @@ use Rattle.regent_tree.specs.declared.types.Kind.TheVariants.{Int1d}
 use Rattle.regent_tree.specs.declared.typing.Bound.{Bound}
 use Rattle.regent_tree.specs.declared.typing.StaticType.{StaticType}
 use Rattle.regent_tree.specs.declared.typing.StaticType.TheVariants.{Ispace as ispace_type, Partition as partition_type}
+use Rattle.task_code.specs.declared.instr.Instr.{Instr}
 use Rattle.task_code.specs.declared.instr.Instr.TheVariants as instr
-use Rattle.machine_terms.specs.Machine.{at, broken, faults, next, stops, when}
+use Rattle.machine_terms.specs.Machine.{Machine, Stepped, at, broken, faults, next, stops, when}
 use Rattle.machine_terms.specs.Makes.{are_apart, is_sound, make_partition, region_with}
 use Rattle.machine_terms.specs.Orders.{breaks}
 use Rattle.machine_terms.specs.Pointers.{region_in}
@@ -37,6 +40,7 @@ use Rattle.machine_terms.specs.declared.order.Resumed.TheVariants.{GoesOn, IsOve
 use Rattle.machine_terms.specs.declared.outcome.Made.TheVariants as made
 use Rattle.machine_terms.specs.declared.outcome.Yield.TheVariants as yield
 use Rattle.machine_terms.specs.declared.value.PartitionValue.{PartitionValue}
+use Rattle.machine_terms.specs.declared.value.RegionValue.{RegionValue}
 use Rattle.machine_terms.specs.declared.value.Value.{Value as MachineValue}
 use Rattle.machine_terms.specs.declared.value.Value.TheVariants as machine
 use Rattle.memory_laws.specs.Places.{number_at}
@@ -48,12 +52,13 @@ use Rattle.code_rules.specs.Slots.{own_slot, slot, slot_named}
 use Rattle.code_laws.specs.Arguments.{IsParent}
 use Rattle.code_laws.specs.Pointers.{IsCut, IsPointed}
 use Rattle.code_laws.specs.Simple.{IsPartition, IsRegion, IsSpace, a_partition_type, a_space_type}
-use Rattle.code_laws.specs.Standing.{Agrees, Aside, Comes, IsInside, IsOf, SlotsFit, Stands, blank, machine_value, nothing, of_partition, of_space, where_of}
+use Rattle.code_laws.specs.Standing.{Agrees, Aside, Comes, IsInside, IsOf, LiesIn, SlotsFit, Stands, blank, machine_value, nothing, of_partition, of_space, where_of}
 use Rattle.code_laws.specs.Steps.{Setting, machine_of, on_step, placed}
 use Rattle.code_laws.proofs.Accesses.{region_there}
 use Rattle.code_laws.proofs.Good.{Gives, pushes, valued}
 use Rattle.code_laws.proofs.Reaching.{a_region_there, region_lies_in}
 use Rattle.code_laws.proofs.Runs.{ends_by, leads_by}
+use Rattle.code_laws.proofs.Touching.{parted}
 use Rattle.code_laws.proofs.Values.{named}
 
 -- ---- what is tested where a partition is made
@@ -76,110 +81,144 @@ all_apart (s ∷ sets) h =
     ap (λ b. b && are_apart sets) (none_met s sets (λ d l. h 0 (suc d) (omega arith) (omega (arith, l))))
     ∙ all_apart sets (λ c d l k. h (suc c) (suc d) (omega (arith, l)) (omega (arith, k)))
 
-equal_sound : (points : List ℕ) (n : ℕ) → IsPoints 4194304 points → is_sound points (equal_sets points n) equal_flag ≡ true
-equal_sound points n p =
-    ap (λ b. b && are_apart (equal_sets points n)) (all_within points (equal_sets points n) (equal_parts points n p))
-    ∙ all_apart (equal_sets points n) (equal_apart points n p.rising)
+-- sets that lie in a region, and share no point where they are said to share none
+pub sound_by : (points : List ℕ) (sets : List (List ℕ)) (d : Bool) → ArePartsOf points sets → (d ≡ true → NoneShared sets) →
+    is_sound points sets d ≡ true
+sound_by points sets true parts apart =
+    ap (λ b. b && are_apart sets) (all_within points sets parts) ∙ all_apart sets (apart refl)
+sound_by points sets false parts apart = ap (λ b. b && true) (all_within points sets parts)
 
 module _ (x : Setting) (params slots : ℕ) (fit : SlotsFit x slots) (aside : Aside) where
+  -- ---- what a name has
+
+  -- a region, which lies in the store, in the slot of the name
+  pub record NamedRegion (h : Here) (b : Bound) (s : State) (i : Instance) : Type 0 where
+    pub region : Region
+    pub is : get_or s.names b.place nothing ≡ a_region region
+    pub inside : IsInside x s.store b.static_type (a_region region)
+    pub lies : LiesIn x.code s.store (space_in b.static_type) region
+    pub there : slice_get i.frame.slots (slot (where_of params h) b.place) ≡ Some (machine.Region (region_with (number_at i.contents region.root) region.points))
+
+  pub region_named_there : (h : Here) (n : Name) (s : State) (i : Instance) → IsParent (where_of params h) n → slot_named (where_of params h) n < slots →
+      Agrees x params slots aside h s i → NamedRegion h (bound_to h.scope.names n) s i
+  region_named_there h n s i p room g =
+      let b = bound_to h.scope.names n in
+      let v = get_or s.names b.place nothing in
+      let m = named IsOf h.scope.names s.names n g.typed p.named in
+      let q = a_region_there b.static_type v p.region m.holding in
+      let inside = subst (IsInside x s.store b.static_type) q.2 (named (IsInside x s.store) h.scope.names s.names n g.inside_store p.named).holding in record {
+        region = q.0;
+        is = q.2;
+        inside = inside;
+        lies = region_lies_in x s.store b.static_type q.0 p.region inside;
+        there = region_there x params slots fit aside h s i b.place q.0 q.2 (omega (arith, m.below, g.count)) room g;
+      }
+
   -- ---- a partition that is made
 
   -- a value of its type, which lies in the store; of a partition it is known of which region it is
   abbrev pub GoodCut : Here → StaticType → Value → State → Instance → Type 0
   GoodCut h t v s j = IsOf t v × IsInside x s.store t v × IsPointed h.scope.names s.names t v × Agrees x params slots aside h s j
 
-  -- equal parts of the region of a name are such a partition
-  equal_cut : (h : Here) (r : Name) (q : Region) (n : ℕ) (s : State) (i : Instance) → IsParent (where_of params h) r → n < 65537 →
-      get_or s.names (bound_to h.scope.names r).place nothing ≡ a_region q → IsPoints 4194304 q.points → Agrees x params slots aside h s i →
-      IsCut h.scope.names s.names (bound_to h.scope.names r).number (record { root = q.root; disjoint = equal_flag; sets = equal_sets q.points n })
-  equal_cut h r q n s i p few is set g =
+  -- sets in a region are made a partition
+  pub made_runs : (r : RegionValue) (sets : List (List ℕ)) (d : Bool) (before st : List MachineValue) (pc : ℕ) (i : Instance) →
+      is_sound r.points sets d ≡ true → suc pc < 2 ^ 32 →
+      on_step x (placed pc before i) (makes r sets d st (machine_of (placed pc before i))) ≡ GoesOn (make_partition r sets d (placed (suc pc) st i))
+  made_runs r sets d before st pc i sound near =
+      let j = placed pc before i in
+      ap (λ c. on_step x j (when c (stops (yield.Make (made.Partition r sets d)) (at (suc pc) st (machine_of j))) (broken (at (suc pc) st (machine_of j)))))
+      (lt-ltb (suc pc) (2 ^ 32) near)
+      ∙ ap (λ c. cond c (GoesOn (make_partition r sets d (placed (suc pc) st i))) (breaks (placed (suc pc) st i))) sound
+
+  -- sets in the region of a name are a partition of it
+  pub cut_is : (h : Here) (r : Name) (s : State) (i : Instance) (q : NamedRegion h (bound_to h.scope.names r) s i) (sets : List (List ℕ)) (d : Bool) →
+      IsParent (where_of params h) r → ArePartsOf q.region.points sets → (d ≡ true → NoneShared sets) → length sets ≤ 65536 →
+      Agrees x params slots aside h s i →
+      IsCut h.scope.names s.names (bound_to h.scope.names r).number (record { root = q.region.root; disjoint = d; sets = sets })
+  cut_is h r s i q sets d p parts apart few g =
       let b = bound_to h.scope.names r in
       let found : bound_as h.scope.names b.number ≡ b = (found_by_number h.scope.next h.scope.names r p.numbers p.named).0 in
       let m = named IsOf h.scope.names s.names r g.typed p.named in record {
-        parent = q;
+        parent = q.region;
         is = record {
           numbered = ap (λ (c : Bound). c.number) found;
           region = subst (λ (c : Bound). IsRegion c.static_type) (sym found) p.region;
           space = refl;
           below = subst (λ (c : Bound). c.place < length h.scope.names) (sym found) m.below;
-          value = ap (λ (c : Bound). get_or s.names c.place nothing) found ∙ is;
+          value = ap (λ (c : Bound). get_or s.names c.place nothing) found ∙ q.is;
         };
         root = refl;
-        sets = equal_parts q.points n set;
-        few = omega (arith, few, length_made (equal_part q.points n) n);
+        sets = parts;
+        apart = apart;
+        few = few;
       }
 
-  -- of the region of a name, with a colour space on the stack; too large a one is a fault
+  -- ---- with a colour space on the stack
+
+  -- of the region of a name; too large a colour space is a fault
+  pub coloured_runs : (h : Here) (from : StaticType) (v : Value) (r : Name) (t : StaticType) (ins : Instr)
+      (acts : Machine → RegionValue → ℕ → List MachineValue → Stepped) (makes : ℕ → Region → Run Value) (s : State) (pc : ℕ) (i : Instance) →
+      IsSpace from → IsOf from v → (q : NamedRegion h (bound_to h.scope.names r) s i) → Agrees x params slots aside h s i →
+      Stands x.body pc (op ins h.line) →
+      ((m : Machine) → act x.code x.body ins h.line m
+      ≡ with_region (region_in (slice_get m.frame.slots (slot_named (where_of params h) r))) m (λ u. on_colours h.line m (λ n st. acts m u n st))) →
+      ((n : ℕ) → n < 65537 → ((ps : List Part) → act x.code x.body ins h.line (machine_of (placed pc (machine.Space n ∷ []) (parted ps i)))
+      ≡ acts (machine_of (placed pc (machine.Space n ∷ []) (parted ps i))) (region_with (number_at i.contents q.region.root) q.region.points) n []) →
+      Comes x (placed pc (machine.Space n ∷ []) i) (valued (suc pc) []) (GoodCut h t) (makes n q.region s)) →
+      Comes x (valued pc [] v i) (valued (suc pc) []) (GoodCut h t)
+      (and_then (colours h v s) (λ n. λ s1. and_then (region_named h r s1) (λ a. makes n a)))
+  coloured_runs h _ _ r t ins acts makes s pc i (a_space_type kind) (of_space _ size small) q g f is more = by (nat_le size 65536) refl
+    where
+      j : Instance
+      j = placed pc (machine.Space size ∷ []) i
+
+      value : RegionValue
+      value = region_with (number_at i.contents q.region.root) q.region.points
+
+      step : (ps : List Part) (c : Bool) → nat_le size 65536 ≡ c →
+          act x.code x.body ins h.line (machine_of (placed pc (machine.Space size ∷ []) (parted ps i)))
+          ≡ when c (acts (machine_of (placed pc (machine.Space size ∷ []) (parted ps i))) value size [])
+          (faults BadSize h.line (machine_of (placed pc (machine.Space size ∷ []) (parted ps i))))
+      step ps c e =
+          let m = machine_of (placed pc (machine.Space size ∷ []) (parted ps i)) in
+          is m ∙ ap (λ o. with_region (region_in o) m (λ u. on_colours h.line m (λ n st. acts m u n st))) q.there
+          ∙ ap (λ c. when c (acts m value size []) (faults BadSize h.line m)) e
+
+      by : (c : Bool) → nat_le size 65536 ≡ c →
+          Comes x j (valued (suc pc) []) (GoodCut h t)
+          (and_then (if_true c (given size) (fault h BadSize) s) (λ n. λ s1. and_then (region_named h r s1) (λ a. makes n a)))
+      by true e = subst (λ u. Comes x j (valued (suc pc) []) (GoodCut h t) (makes size (region_of u) s)) (sym q.is)
+          (more size (omega (arith, leb-true size 65536 e)) (λ ps. step ps true e))
+      by false e = ends_by x j _ ins h.line f
+          (ap (on_step x j) (step i.parts false e) ∙ ap (λ t. IsOver (Broke (Some (record { kind = BadSize; line = h.line })) t)) g.text)
+
+  -- equal parts
   pub equal_runs : (h : Here) (from : StaticType) (v : Value) (r : Name) (own : ℕ) (s : State) (pc : ℕ) (i : Instance) → IsSpace from →
       IsParent (where_of params h) r → IsOf from v → Agrees x params slots aside h s i →
       Stands x.body pc (op (instr.Equal (slot_named (where_of params h) r)) h.line) → suc pc < 2 ^ 32 →
       Comes x (valued pc [] v i) (valued (suc pc) []) (GoodCut h (partition_type equal_flag (bound_to h.scope.names r).number own))
       (and_then (colours h v s) (λ n. λ s1. and_then (region_named h r s1) (λ a. given (partitioned a.root equal_flag (equal_sets a.points n)))))
-  equal_runs h _ _ r own s pc i (a_space_type kind) p (of_space _ size small) g f near = by (nat_le size 65536) refl
-    where
-      b : Bound
-      b = bound_to h.scope.names r
-
-      t : StaticType
-      t = partition_type equal_flag b.number own
-
-      sl : ℕ
-      sl = slot_named (where_of params h) r
-
-      j : Instance
-      j = placed pc (machine.Space size ∷ []) i
-
-      v : Value
-      v = get_or s.names b.place nothing
-
-      q : (q : Region) × (region_of v ≡ q) × (v ≡ a_region q)
-      q = a_region_there b.static_type v p.region (named IsOf h.scope.names s.names r g.typed p.named).holding
-
-      inside : IsInside x s.store b.static_type (a_region q.0)
-      inside = subst (IsInside x s.store b.static_type) q.2 (named (IsInside x s.store) h.scope.names s.names r g.inside_store p.named).holding
-
-      set : IsPoints 4194304 q.0.points
-      set = (region_lies_in x s.store b.static_type q.0 p.region inside).set
-
-      number : ℕ
-      number = number_at i.contents q.0.root
-
-      sets : List (List ℕ)
-      sets = equal_sets q.0.points size
-
-      there : slice_get i.frame.slots sl ≡ Some (machine.Region (region_with number q.0.points))
-      there = region_there x params slots fit aside h s i b.place q.0 q.2
-          (omega (arith, (named IsOf h.scope.names s.names r g.typed p.named).below, g.count)) (omega (arith, fit pc _ f)) g
-
-      acts : (c : Bool) → nat_le size 65536 ≡ c →
-          on_step x j (act x.code x.body (instr.Equal sl) h.line (machine_of j))
-          ≡ on_step x j (when c (makes (region_with number q.0.points) sets equal_flag [] (machine_of j)) (faults BadSize h.line (machine_of j)))
-      acts c e =
-          ap (λ o. on_step x j (with_region (region_in o) (machine_of j) (λ r. on_colours h.line (machine_of j) (λ n st.
-          makes r (equal_sets r.points n) equal_flag st (machine_of j))))) there
-          ∙ ap (λ c. on_step x j (when c (makes (region_with number q.0.points) sets equal_flag [] (machine_of j)) (faults BadSize h.line (machine_of j)))) e
-
-      by : (c : Bool) → nat_le size 65536 ≡ c →
-          Comes x j (valued (suc pc) []) (GoodCut h t)
-          (and_then (if_true c (given size) (fault h BadSize) s) (λ n. λ s1. and_then (region_named h r s1) (λ a. given (partitioned a.root equal_flag (equal_sets a.points n)))))
-      by true e =
-          let made_of = make_partition (region_with number q.0.points) sets equal_flag in
-          let there_is : on_step x j (makes (region_with number q.0.points) sets equal_flag [] (machine_of j)) ≡ GoesOn (made_of (placed (suc pc) [] i)) =
-          ap (λ c. on_step x j (when c (stops (yield.Make (made.Partition (region_with number q.0.points) sets equal_flag)) (at (suc pc) [] (machine_of j)))
-          (broken (at (suc pc) [] (machine_of j))))) (lt-ltb (suc pc) (2 ^ 32) near)
-          ∙ ap (λ c. cond c (GoesOn (made_of (placed (suc pc) [] i))) (breaks (placed (suc pc) [] i))) (equal_sound q.0.points size set) in
-          subst (λ u. Comes x j (valued (suc pc) []) (GoodCut h t) (gives (partitioned u.root equal_flag (equal_sets u.points size)) s)) (sym q.1) (
-            i,
-            leads_by x j _ (instr.Equal sl) h.line f (acts true e ∙ there_is),
-            (
-              of_partition equal_flag b.number own _,
-              (region_lies_in x s.store b.static_type q.0 p.region inside).there,
-              equal_cut h r q.0 size s i p (omega (arith, leb-true size 65536 e)) q.2 set g,
-              g,
-            ),
-          )
-      by false e = ends_by x j _ (instr.Equal sl) h.line f
-          (acts false e ∙ ap (λ t. IsOver (Broke (Some (record { kind = BadSize; line = h.line })) t)) g.text)
+  equal_runs h from v r own s pc i space p o g f near =
+      let ins = instr.Equal (slot_named (where_of params h) r) in
+      let q = region_named_there h r s i p (omega (arith, fit pc _ f)) g in
+      coloured_runs h from v r (partition_type equal_flag (bound_to h.scope.names r).number own) ins
+      (λ m u n st. makes u (equal_sets u.points n) equal_flag st m) (λ n a. given (partitioned a.root equal_flag (equal_sets a.points n)))
+      s pc i space o q g f (λ m. refl)
+      (λ n few acts.
+      let sets = equal_sets q.region.points n in
+      let parts = equal_parts q.region.points n q.lies.set in
+      let apart = equal_apart q.region.points n q.lies.set.rising in (
+        i,
+        leads_by x (placed pc (machine.Space n ∷ []) i) _ ins h.line f (ap (on_step x (placed pc (machine.Space n ∷ []) i)) (acts i.parts)
+            ∙ made_runs (region_with (number_at i.contents q.region.root) q.region.points) sets equal_flag (machine.Space n ∷ []) [] pc i
+            (sound_by q.region.points sets equal_flag parts (λ e. apart)) near),
+        (
+          of_partition equal_flag (bound_to h.scope.names r).number own _,
+          q.lies.there,
+          cut_is h r s i q sets equal_flag p parts (λ e. apart) (omega (arith, few, length_made (equal_part q.region.points n) n)) g,
+          g,
+        ),
+      ))
 
   -- ---- colours
 

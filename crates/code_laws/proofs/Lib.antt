@@ -22,7 +22,9 @@ pub mod Results
 pub mod Operations
 pub mod Requiring
 pub mod Arguments
+pub mod Columns
 pub mod Cuts
+pub mod FieldCuts
 pub mod Parts
 pub mod Handing
 pub mod CallTakes
@@ -36,6 +38,7 @@ pub mod Signs
 pub mod Knowing
 pub mod Expressions
 pub mod Rows
+pub mod PairCuts
 pub mod Loops
 pub mod SpaceLoops
 pub mod RegionLoops
@@ -45,6 +48,7 @@ pub mod Folds
 pub mod Variables
 pub mod Moving
 pub mod PointerForms
+pub mod Differences
 pub mod Statements
 pub mod Segments
 pub mod Tasks
@@ -66,6 +70,8 @@ pub mod LocalPoints
 pub mod LocalArguments
 pub mod LocalExpressions
 pub mod LocalVariables
+pub mod LocalCuts
+pub mod LocalDifferences
 pub mod LocalStatements
 pub mod LocalAssignments
 pub mod LocalBlocks

@@ -33,7 +33,9 @@ use Rattle.code_laws.proofs.LocalNames.{AllKept, IsLocalTree, kept_scalar}
 use Rattle.code_laws.proofs.LocalAssignments.{reduce_behind_local, reduce_field_local, reduce_local, set_behind_local, set_field_local, set_local}
 use Rattle.code_laws.proofs.LocalStatements.{bound_local, call_local, domain_local, fill_local, print_local, return_local, test_local}
 use Rattle.code_laws.proofs.LocalValues.{scalar_begins, value_simple, value_tells}
-use Rattle.code_laws.proofs.LocalVariables.{at, equal_local, plain_local, region_local, said_local}
+use Rattle.code_laws.proofs.LocalDifferences.{begun_local}
+use Rattle.code_laws.proofs.LocalCuts.{both_local, by_field_local, either_local, equal_local}
+use Rattle.code_laws.proofs.LocalVariables.{at, region_local, said_local}
 use Rattle.code_laws.proofs.LocalTypes.{term_scalar}
 use Rattle.code_laws.proofs.Names.{Grown, arms_names, block_grown, else_names}
 use Rattle.regent_tree.proofs.Members.{Has, Has-append_right}
@@ -84,7 +86,8 @@ module _ (handing keeping : Bool) (tree : Tree) (task : TaskTree) (sound : IsSou
       AreKept (parts_of_form (var_form n t i)) → IsSoundScope s → Ready s → first_of_form tree task s (var_form n t i) ≡ None →
       FormTyped s line (var_form n t i)
   var_local s line n None (Some (plain_initializer y)) lo k scope names e =
-      let v = plain_local handing keeping tree task sound sound_task local m params result s line n y lo k scope names e in (v.0, record { names = (v.1, names.names); head = v.2 })
+      let v = begun_local handing keeping tree task sound sound_task local m params result (λ q h. keeps q (inr h)) s line n y lo k scope names e in
+      (v.0, record { names = (v.1, names.names); head = v.2 })
   var_local s line n None (Some (region_initializer y u)) lo k scope names e =
       let v = region_local handing keeping tree task sound sound_task local m params result s line n y u lo k scope names e in (v.0, record { names = (v.1, names.names); head = v.2 })
   var_local s line n (Some t) (Some (plain_initializer y)) lo k scope names e =
@@ -102,11 +105,17 @@ module _ (handing keeping : Bool) (tree : Tree) (task : TaskTree) (sound : IsSou
   var_local s line n None (Some (equal_initializer r y)) lo k scope names e =
       let v = equal_local handing keeping tree task sound sound_task local m params result (λ q h. keeps q (inr h)) s line n r y lo k scope names e in
       (v.0, record { names = (v.1, names.names); head = v.2 })
-  var_local s line n None (Some (by_field_initializer _ _ _)) lo k scope names e = absurd (no_way_back lo)
+  var_local s line n None (Some (by_field_initializer r f y)) lo k scope names e =
+      let v = by_field_local handing keeping tree task sound sound_task local m params result (λ q h. keeps q (inr h)) s line n r f y lo k scope names e in
+      (v.0, record { names = (v.1, names.names); head = v.2 })
+  var_local s line n None (Some (both_initializer p q)) lo k scope names e =
+      let v = both_local handing keeping tree task sound sound_task local m params result (λ q h. keeps q (inr h)) s line n p q lo scope names e in
+      (v.0, record { names = (v.1, names.names); head = v.2 })
+  var_local s line n None (Some (either_initializer p q)) lo k scope names e =
+      let v = either_local handing keeping tree task sound sound_task local m params result (λ q h. keeps q (inr h)) s line n p q lo scope names e in
+      (v.0, record { names = (v.1, names.names); head = v.2 })
   var_local s line n None (Some (image_initializer _ _ _ _)) lo k scope names e = absurd (no_way_back lo)
   var_local s line n None (Some (preimage_initializer _ _ _ _)) lo k scope names e = absurd (no_way_back lo)
-  var_local s line n None (Some (both_initializer _ _)) lo k scope names e = absurd (no_way_back lo)
-  var_local s line n None (Some (either_initializer _ _)) lo k scope names e = absurd (no_way_back lo)
   var_local s line n (Some t) (Some (region_initializer _ _)) lo k scope names e = absurd (no_way_back lo)
   var_local s line n (Some t) (Some (equal_initializer _ _)) lo k scope names e = absurd (no_way_back lo)
   var_local s line n (Some t) (Some (by_field_initializer _ _ _)) lo k scope names e = absurd (no_way_back lo)

@@ -9,6 +9,7 @@ use Rattle.regent_tree.specs.Lookup.{has_task, is_bound}
 use Rattle.regent_tree.specs.StaticTypes.{task_named}
 use Rattle.regent_tree.specs.Syntax.{Expression, Expressions, Links, Name, TaskTree, Tree, a_link, access_expr, an_expr, at_step, call_expr, cast_expr, chain_expr, convert_expr, field_step, is_null_expr, no_expr, no_link, no_step, null_expr, number_expr, prefix_expr, space_expr, truth_expr}
 use Rattle.regent_tree.specs.Typing.{linked_type, operated, param_types, put_in, type_of_element, type_of_field, types_of}
+use Rattle.regent_tree.specs.declared.expression.Arithmetic.{Arithmetic}
 use Rattle.regent_tree.specs.declared.expression.Operator.{Operator}
 use Rattle.regent_tree.specs.declared.expression.Operator.TheVariants.{And, Compare, Compute, Or}
 use Rattle.regent_tree.specs.declared.rights.Access.TheVariants as access
@@ -287,6 +288,30 @@ module _ (handing keeping : Bool) (task : TaskTree) (w : Where) (sound : IsSound
   local_call n args lo k told e = call_well handing keeping task w sound sound_task local m scope names head n args told e
       (λ t. local_given (known_types w.tree w.scope args) (types_of w.tree w.scope args) (param_types w.tree (task_named w.tree n)) args lo k
       (local.tasks n t.there).params (λ q. ((local.tasks n t.there).alone q).params) told t.standing t.fits t.many)
+
+  -- two that an operator computes with
+  pub record AreOperands (o : Arithmetic) (first e : Expression) : Type 0 where
+    pub first_told : first_in_expression w.tree task w.scope first ≡ None
+    pub second_told : first_in_expression w.tree task w.scope e ≡ None
+    pub does : operates_on (Compute o) (typed w first) (typed w e) ≡ true
+
+  pub operands : (o : Arithmetic) (first e : Expression) → first_in_expression w.tree task w.scope (chain_expr first (a_link (Compute o) e no_link)) ≡ None →
+      AreOperands o first e
+  operands o first e none =
+      let told = option_or_parts (first_in_expression w.tree task w.scope first) _ none in
+      let rest = subst (λ t. first_in_links w.tree task w.scope t (a_link (Compute o) e no_link) ≡ None) (known first told.0) told.1 in
+      let own = option_or_parts (first_in_expression w.tree task w.scope e) _ rest in
+      let more = option_or_parts (first_of_operator (computing (Compute o) (typed w first) (known_type w.tree w.scope e))) _ own.1 in record {
+        first_told = told.0;
+        second_told = own.0;
+        does = operates (Compute o) (typed w first) (typed w e) (subst (λ v. first_of_operator (computing (Compute o) (typed w first) v) ≡ None) (known e own.0) more.0);
+      }
+
+  pub computed_well : (o : Arithmetic) (first e : Expression) → Well first → Well e → AreOperands o first e → Well (chain_expr first (a_link (Compute o) e no_link))
+  computed_well o first e a b told =
+      let l = by_operator (gives_scalar m first) (Compute o) (typed w first) e no_link a.value a.scalar b told.does
+      (λ gives operand number. record { are = tt; value = value_simple _ operand; scalar = number; plain = λ c. operand }) in
+      record { is = (a.is, l.are); value = l.value; scalar = l.scalar; plain = λ q. l.plain (inl tt) }
 
   -- numbers that are printed
   pub local_numbers : (es : Expressions) → are_local_expressions m es ≡ true → AreKept (parts_of_expressions es) →

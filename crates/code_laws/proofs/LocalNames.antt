@@ -163,6 +163,14 @@ partition_or keeping m bs n i t (kept_value _ a h q) = inr (λ p. value_not_part
 partition_or keeping m bs n i _ (kept_region k sp args h) = inr (λ p. elim p [ ])
 partition_or keeping m bs n i _ (kept_partition d r q a h) = inl (a_partition_type d r i)
 
+-- what may be a partition is one
+pub partition_is : (keeping : Bool) (m : Marked) (bs : List Bound) (n : Name) (i : ℕ) (t : StaticType) → IsKept keeping m bs n i t →
+    may_be is_partition t ≡ true → IsPartition t
+partition_is keeping m bs n i t (kept_scalar _ a) e = absurd (no_way (sym e ∙ simple_no_partition t (scalar_simple t a)))
+partition_is keeping m bs n i t (kept_value _ a h p) e = absurd (no_way (sym e ∙ value_no_partition keeping bs t a))
+partition_is keeping m bs n i _ (kept_region k sp args h) e = absurd (no_way_back e)
+partition_is keeping m bs n i _ (kept_partition d r q a h) e = a_partition_type d r i
+
 -- where partitions are, pointers are kept
 pub partition_keeps : (keeping : Bool) (m : Marked) (bs : List Bound) (n : Name) (i : ℕ) (t : StaticType) → IsKept keeping m bs n i t → IsPartition t →
     keeping ≡ true

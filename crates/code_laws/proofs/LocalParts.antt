@@ -11,7 +11,7 @@ use Rattle.regent_tree.specs.Typing.{result_type, put_in}
 use Rattle.regent_tree.specs.declared.types.TypeTerm.{TypeTerm}
 use Rattle.regent_tree.specs.declared.typing.StaticType.TheVariants.{Nothing as no_type}
 use Rattle.regent_tree.specs.declared.typing.StaticType.{StaticType}
-use Rattle.regent_tree.specs.declared.rights.Access.TheVariants as access
+use Rattle.regent_tree.specs.declared.rights.Access.{Access}
 use Rattle.check_rules.specs.rules.Privileges.{wanted_of_region, wanting}
 use Rattle.check_rules.specs.types.Lookup.{region_has}
 use Rattle.check_rules.specs.types.Sorts.{is_integer, is_truth}
@@ -80,11 +80,11 @@ pub none_given : (tree : Tree) (r : Option TypeTerm) → is_some r ≡ false →
 none_given tree None e s = no_way_back (scalar_there no_type s)
 none_given tree (Some t) e s = no_way e
 
--- a region's field is wanted to be written
-pub region_wants : (tree : Tree) (u : StaticType) (f : Name) → IsRegion u → region_has tree u f ≡ true →
-    Has (wanted_of_region tree access.Write u f) (wanting (field_place tree (space_in u) f) access.Write (term_in u))
-region_wants tree _ f (a_region_type k sp args r) has =
-    subst (λ b. Has (cond b (wanting (field_place tree sp f) access.Write r ∷ []) []) (wanting (field_place tree sp f) access.Write r)) (sym has) (inl refl)
+-- what is wanted of a region's field
+pub region_wants : (tree : Tree) (a : Access) (u : StaticType) (f : Name) → IsRegion u → region_has tree u f ≡ true →
+    Has (wanted_of_region tree a u f) (wanting (field_place tree (space_in u) f) a (term_in u))
+region_wants tree a _ f (a_region_type k sp args r) has =
+    subst (λ b. Has (cond b (wanting (field_place tree sp f) a r ∷ []) []) (wanting (field_place tree sp f) a r)) (sym has) (inl refl)
 
 -- what holds of all of two lists holds of the second
 pub all_behind : {A : Type 0} (test : A → Bool) (xs ys : List A) → list_all test (xs ++ ys) ≡ true → list_all test ys ≡ true

@@ -104,7 +104,7 @@ module _ (handing keeping : Bool) (tree : Tree) (task : TaskTree) (sound : IsSou
       let u = type_named s.names r in
       let a = or_parts (is_unknown_region_field tree s.names r f) _ unknown in
       let has = not-false (region_has tree u f) (or_parts (not (names_a is_region s.names r)) (not (region_has tree u f)) a.0).1 in
-      let want = region_wants tree u f is has in
+      let want = region_wants tree access.Write u f is has in
       let first = all_has (may_do (rights_declared tree task) s.known) (flat_map (wanted_of_region tree access.Write u) (f ∷ fs))
       (wanting (field_place tree (space_in u) f) access.Write (term_in u)) allowed
       (Has-append_left (wanted_of_region tree access.Write u f) (flat_map (wanted_of_region tree access.Write u) fs) _ want) in

@@ -10,7 +10,7 @@ use Rattle.regent_tree.proofs.Members.{Contains-from_Has, Has, Has-append_left, 
 use Rattle.regent_tree.specs.Limits.{WithinLimits, counted, parts_of_item, parts_of_program}
 use Rattle.regent_tree.specs.Scopes.{bound_params, known_of_type, scope_of}
 use Rattle.regent_tree.specs.StaticTypes.{Looking, among_params, looked_up, place_in, place_of_space, space_at, spaces_of, task_named, type_said}
-use Rattle.regent_tree.specs.Syntax.{Arms, Block, Expression, Form, ItemForm, ItemTree, Name, Otherwise, TaskTree, Tree, a_statement, alias_item, an_arm, do_form, else_block, equal_initializer, for_in_form, for_to_form, if_form, import_item, no_arm, no_else, no_statement, plain_initializer, region_initializer, space_item, start_item, task_item, then_statement, var_form, while_form}
+use Rattle.regent_tree.specs.Syntax.{Arms, Block, Expression, Form, ItemForm, ItemTree, Name, Otherwise, TaskTree, Tree, a_statement, alias_item, an_arm, both_initializer, by_field_initializer, do_form, either_initializer, else_block, equal_initializer, for_in_form, for_to_form, if_form, import_item, no_arm, no_else, no_statement, plain_initializer, region_initializer, space_item, start_item, task_item, then_statement, var_form, while_form}
 use Rattle.regent_tree.specs.declared.limits.Counted.TheVariants.{Fields}
 use Rattle.regent_tree.specs.declared.program.FieldSpace.{FieldSpace}
 use Rattle.regent_tree.specs.declared.types.Param.{Param}
@@ -27,7 +27,7 @@ use Rattle.check_rules.specs.first.FirstInItems.{first_declared, first_line}
 use Rattle.check_rules.specs.rules.Repeats.{Given, given_by, repeats, repeats_after, repeats_within, was_given}
 use Rattle.check_rules.specs.scopes.Sound.{StandsIn}
 use Rattle.code_rules.specs.Instructions.{tasks_of}
-use Rattle.local_form.specs.LocalForm.{Marked, are_local_params, are_scalar_params, is_among, is_local_block, is_local_item, is_local_program, is_local_task, gives_pointer, gives_scalar, is_region_name, is_region_term, marked_by, marked_by_arms, marked_by_else, marked_by_task, marked_in, marked_params, unmarked, with_either, with_region}
+use Rattle.local_form.specs.LocalForm.{Marked, are_local_params, are_scalar_params, is_among, is_local_block, is_local_item, is_local_program, is_local_task, gives_pointer, gives_scalar, is_difference, is_region_name, is_region_term, marked_by, marked_by_arms, marked_by_else, marked_by_task, marked_in, marked_params, unmarked, with_either, with_partition, with_region}
 use Rattle.code_laws.specs.Simple.{IsScalar, a_region_type, scalar_integer, scalar_truth}
 use Rattle.code_laws.proofs.LocalNames.{AllKept, AreScalars, AreTakable, IsAlone, IsKept, IsLocalTree, kept_before, kept_region, kept_scalar}
 use Rattle.code_laws.proofs.LocalTypes.{IsTakable, takable_region, takable_scalar, term_scalar}
@@ -178,17 +178,24 @@ module _ (n : Name) where
   Region m = is_among m.regions n ≡ true
 
   value_marks : (k : Name) (e : Expression) (m : Marked) → Region m → Region (marked_by (var_form k None (Some (plain_initializer e))) m)
-  value_marks k e m h = chosen (gives_scalar m e)
+  value_marks k e m h = apart (is_difference m e)
     where
       chosen : (b : Bool) → Region (cond b m (with_either (gives_pointer m e) k m))
       chosen true = h
       chosen false = subst (λ rs. is_among rs n ≡ true) (sym (either_regions (gives_pointer m e) k m)) h
+
+      apart : (b : Bool) → Region (cond b (with_partition k m) (cond (gives_scalar m e) m (with_either (gives_pointer m e) k m)))
+      apart true = h
+      apart false = chosen (gives_scalar m e)
 
   mutual
     marks_stay : (form : Form) (m : Marked) → Region m → Region (marked_by form m)
     marks_stay (var_form k None (Some (plain_initializer e))) m h = value_marks k e m h
     marks_stay (var_form k None (Some (region_initializer e u))) m h = among_left m.regions (k ∷ []) n h
     marks_stay (var_form k None (Some (equal_initializer r e))) m h = h
+    marks_stay (var_form k None (Some (by_field_initializer r f e))) m h = h
+    marks_stay (var_form k None (Some (both_initializer p q))) m h = h
+    marks_stay (var_form k None (Some (either_initializer p q))) m h = h
     marks_stay (if_form arms other) m h = marks_stay_else other (marked_by_arms arms m) (marks_stay_arms arms m h)
     marks_stay (while_form test body) m h = marks_stay_in body m h
     marks_stay (for_in_form demanded k domain body) m h =

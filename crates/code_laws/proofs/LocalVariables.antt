@@ -4,11 +4,10 @@ use Rattle.std.specs.Prelude.{bytes_eq, map, ◌||◌, ◌&&◌}
 use Rattle.std.proofs.lemmas.Bool.{and_parts, not-false, or_parts}
 use Rattle.plain_values.proofs.Plain.{option_or_parts}
 use Rattle.regent_tree.specs.Limits.{parts_of_expression, parts_of_form, parts_of_type}
-use Rattle.regent_tree.specs.Lookup.{has_space, is_bound, type_named}
-use Rattle.regent_tree.specs.Partitions.{equal_flag}
+use Rattle.regent_tree.specs.Lookup.{has_space, type_named}
 use Rattle.regent_tree.specs.Scopes.{Scope, bound_to, in_scope, known_of_type}
 use Rattle.regent_tree.specs.StaticTypes.{looked_up, place_of_space, spaces_of}
-use Rattle.regent_tree.specs.Syntax.{Expression, Initializer, Name, TaskTree, Tree, access_expr, at_step, call_expr, cast_expr, chain_expr, convert_expr, equal_initializer, field_step, is_null_expr, no_step, null_expr, number_expr, plain_initializer, prefix_expr, region_initializer, space_expr, truth_expr, var_form}
+use Rattle.regent_tree.specs.Syntax.{Expression, Initializer, Name, TaskTree, Tree, access_expr, at_step, call_expr, cast_expr, chain_expr, convert_expr, field_step, is_null_expr, no_step, null_expr, number_expr, plain_initializer, prefix_expr, region_initializer, space_expr, truth_expr, var_form}
 use Rattle.regent_tree.specs.Typing.{kind_of_ispace, known_of_child, owned, result_type, scope_after, type_of, var_type}
 use Rattle.regent_tree.specs.declared.facts.Term.TheVariants as place
 use Rattle.regent_tree.specs.declared.program.FieldSpace.{FieldSpace}
@@ -39,22 +38,20 @@ use Rattle.code_laws.specs.Handing.{forms_by, takes_by}
 use Rattle.code_laws.specs.Simple.{IsScalar, IsSimple}
 use Rattle.code_laws.specs.Steps.{Forms}
 use Rattle.code_laws.specs.Taking.{IsFresh}
-use Rattle.code_laws.specs.Typed.{IsTypedForm, IsKeepable, IsPointing}
-use Rattle.code_laws.proofs.KnownHeads.{IsReady, KnowsHead, head_cut, head_made, head_named}
-use Rattle.code_laws.proofs.LocalCalls.{kept_term}
+use Rattle.code_laws.specs.Typed.{IsTyped, IsTypedForm, IsKeepable, IsPointing}
+use Rattle.code_laws.proofs.Wider.{begun_so}
+use Rattle.code_laws.proofs.KnownHeads.{IsReady, KnowsHead, head_made, head_named}
 use Rattle.code_laws.proofs.LocalPoints.{IsWell}
 use Rattle.code_laws.proofs.LocalExpressions.{local_well}
-use Rattle.code_laws.proofs.LocalNames.{IsKept, IsLocalTree, first_below, kept_partition, kept_region, kept_scalar, named_kept, no_kept_partition, kept_value, region_is}
-use Rattle.code_laws.proofs.LocalTypes.{either, term_scalar}
+use Rattle.code_laws.proofs.LocalNames.{IsKept, IsLocalTree, first_below, kept_region, kept_scalar, named_kept, no_kept_partition, kept_value}
+use Rattle.code_laws.proofs.LocalTypes.{term_scalar}
 use Rattle.code_laws.proofs.TypedStatements.{HasNoPartition, declared_fits, first_stands, initial_told}
 use Rattle.code_laws.proofs.Typing.{AreKept, kept_right, no_way, no_way_back}
 use Rattle.code_laws.proofs.Values.{scalar_simple}
 use Rattle.scalar_form.specs.ScalarForm.{is_scalar_if_said, is_scalar_term}
-use Rattle.code_laws.proofs.LocalValues.{IsValue, alike_begins, bound_among, owned_value, simple_keepable, simple_no_pointer, value_pointer, value_simple, value_space, value_tells}
+use Rattle.code_laws.proofs.LocalValues.{IsValue, alike_begins, owned_value, simple_keepable, simple_no_pointer, value_pointer, value_simple, value_space, value_tells}
 use Rattle.code_laws.specs.Pointers.{IsPointer, a_pointer_type}
 use Rattle.code_laws.proofs.LocalParts.{named_alone}
-use Rattle.check_rules.specs.types.Sorts.{is_region, may_be}
-use Rattle.check_rules.specs.types.Lookup.{names_a}
 
 -- ---- a name's pointer
 
@@ -143,23 +140,26 @@ module _ (handing keeping : Bool) (tree : Tree) (task : TaskTree) (sound : IsSou
         ⊎_elim (λ h. kept_scalar (type_of tree s y) (a.scalar h)) (λ h. kept_value (type_of tree s y) a.value h (λ p. copy.1)) marked,
       )
 
-  pub plain_local : (s : Scope) (line : ℕ) (n : Name) (y : Expression) → is_local_form m (var_form n None (Some (plain_initializer y))) ≡ true →
-      AreKept (parts_of_expression y) → IsSoundScope s → Ready s →
-      first_of_form tree task s (var_form n None (Some (plain_initializer y))) ≡ None → VarTyped s line n None (Some (plain_initializer y))
-  plain_local s line n y lo k scope names e =
-      let both = and_parts (gives_scalar m y || is_among m.indices n) (keeps_pointer m n y && is_local_expression m y) lo in
-      let own = and_parts (keeps_pointer m n y) (is_local_expression m y) both.1 in
-      let told = initial_told tree task s y (no_partitions s names y own.1) (told_of_form tree task s sound scope (var_form n None (Some (plain_initializer y))) e).2 in
-      let a = headed s line y own.1 k scope names told in
+  -- with an expression that is typed
+  pub well_local : (s : Scope) (line : ℕ) (n : Name) (y : Expression) → (gives_scalar m y ≡ true) ⊎ (is_among m.indices n ≡ true) →
+      keeps_pointer m n y ≡ true → (scope : IsSoundScope s) (names : Ready s) →
+      IsWell handing keeping task (at s line) sound sound_task local m scope names.names names.head y → VarTyped s line n None (Some (plain_initializer y))
+  well_local s line n y marked own scope names a =
       let from = type_of tree s y in
-      let marked = either (gives_scalar m y) (is_among m.indices n) both.0 in
-      let begun = begins_plainly s line n y (gives_pointer m y) refl marked own.0 scope names a in
+      let begun = begins_plainly s line n y (gives_pointer m y) refl marked own scope names a in
       let none = value_tells keeping s.names s.next from a.value in (
-        (begun.0, a.is),
+        begun_so keeping (at s line) y (IsKeepable keeping (at s line) y × IsTyped forms (at s line) y) (begun.0, a.is),
         subst (IsKept keeping m s.names n s.next) (sym (owned_value keeping s.names s.next from a.value)) begun.1,
         head_named tree task s n (owned s.next from) (known_of_child s.next from ++ known_of_type (owned s.next from)) names.head
             (ap (λ ks. ks ++ known_of_type (owned s.next from)) none.0 ∙ none.1),
       )
+
+  pub plain_local : (s : Scope) (line : ℕ) (n : Name) (y : Expression) → (gives_scalar m y ≡ true) ⊎ (is_among m.indices n ≡ true) →
+      keeps_pointer m n y ≡ true → is_local_expression m y ≡ true → AreKept (parts_of_expression y) → IsSoundScope s → Ready s →
+      first_of_form tree task s (var_form n None (Some (plain_initializer y))) ≡ None → VarTyped s line n None (Some (plain_initializer y))
+  plain_local s line n y marked own lo k scope names e =
+      let told = initial_told tree task s y (no_partitions s names y lo) (told_of_form tree task s sound scope (var_form n None (Some (plain_initializer y))) e).2 in
+      well_local s line n y marked own scope names (headed s line y lo k scope names told)
 
   pub said_local : (s : Scope) (line : ℕ) (n : Name) (t : TypeTerm) (y : Expression) → is_local_form m (var_form n (Some t) (Some (plain_initializer y))) ≡ true →
       AreKept (parts_of_form (var_form n (Some t) (Some (plain_initializer y)))) → IsSoundScope s → Ready s →
@@ -213,34 +213,4 @@ module _ (handing keeping : Bool) (tree : Tree) (task : TaskTree) (sound : IsSou
         ),
         kept_region (kind_of_ispace (type_of tree s y)) (place_of_space tree u.name) (map (looked_up (in_scope s)) u.args) both.0,
         head_made tree task s n (var_type tree s None (Some (region_initializer y u))) names.head,
-      )
-
-  -- an equal partition of a region that has a name
-  pub equal_local : ((q : Name) → is_among m.partitions q ≡ true → keeping ≡ true) → (s : Scope) (line : ℕ) (n r : Name) (y : Expression) →
-      is_local_form m (var_form n None (Some (equal_initializer r y))) ≡ true → AreKept (parts_of_expression y) →
-      IsSoundScope s → Ready s → first_of_form tree task s (var_form n None (Some (equal_initializer r y))) ≡ None →
-      VarTyped s line n None (Some (equal_initializer r y))
-  equal_local keeps s line n r y lo k scope names e =
-      let form = var_form n None (Some (equal_initializer r y)) in
-      let both = and_parts (is_among m.partitions n) (is_local_expression m y) lo in
-      let parts = told_of_form tree task s sound scope form e in
-      let told = (option_or_parts (first_in_expression tree task s y) _ parts.2).0 in
-      let a = headed s line y both.1 k scope names told in
-      let space = stands_as s y space_spot scope told (first_stands s.known (stands (known_type tree s y) space_spot) [] parts.4).0 in
-      let begins = option_or_parts (first_of_initializer tree task s (equal_initializer r y)) _ parts.3 in
-      let named = not-false (names_a is_region s.names r)
-      (rule_none (not (names_a is_region s.names r)) rule.Name (option_or_parts (rule_if (not (names_a is_region s.names r)) rule.Name) _ begins.0).0) in
-      let there = and_parts (is_bound s.names r) (may_be is_region (type_named s.names r)) named in
-      let b = bound_to s.names r in
-      let kept = named_kept keeping m s.names r names.names there.0 in
-      let region = region_is handing keeping tree sound local m s.names r b.number b.static_type kept there.1 in (
-        (keeps n both.0, value_space keeping s.names (type_of tree s y) a.value space, a.is, record { named = there.0; numbers = scope.numbers; region = region }),
-        kept_partition equal_flag b.number (keeps n both.0) (record {
-          named = b;
-          among = bound_among s.names r there.0;
-          number = refl;
-          region = region;
-          term = kept_term keeping m s.names r b.number b.static_type kept region;
-        }) both.0,
-        head_cut tree task s n equal_flag b.number scope.numbers names.head,
       )

@@ -49,7 +49,7 @@ tasks zero t e = subst (IsTypedTaskOf all_forms totals_program) (same_Some _ t e
         ),
       ),
       (
-        (inl (simple_integer _), omega (arith, ints)),
+        inl (inl (simple_integer _), omega (arith, ints)),
         (
           (
             inr (a_region_type _ _ _ _, record { number = 1; numbered = refl; place = refl; typed = a_region_type _ _ _ _; space = refl; is = refl }),

@@ -92,6 +92,7 @@ cut_stays bs names after r q stay c = record {
   };
   root = c.root;
   sets = c.sets;
+  apart = c.apart;
   few = c.few;
 }
 
@@ -232,6 +233,7 @@ cut_wider b bs names r q f c =
       };
       root = c.root;
       sets = c.sets;
+      apart = c.apart;
       few = c.few;
     })
 

@@ -11,7 +11,7 @@ use Rattle.regent_tree.specs.declared.statement.How.TheVariants as how
 use Rattle.regent_tree.specs.declared.types.Param.{Param}
 use Rattle.regent_tree.specs.declared.types.TypeTerm.{TypeTerm}
 use Rattle.regent_tree.specs.declared.types.TypeTerm.TheVariants as term
-use Rattle.local_form.specs.LocalForm.{Marked, gives_pointer, keeps_pointer, is_name, with_either, are_local_arms, are_local_expressions, are_local_links, are_local_params, are_scalar_params, gives_scalar, is_local_block, is_local_else, is_local_expression, is_local_form, is_local_item, is_local_program, is_local_task, is_region_term, links_give, marked_by, marked_by_arms, marked_by_else, marked_by_task, marked_in, marked_params, unmarked, with_region}
+use Rattle.local_form.specs.LocalForm.{Marked, gives_pointer, is_difference, is_partition_name, keeps_pointer, is_name, takes_partition_off, with_either, with_partition, are_local_arms, are_local_expressions, are_local_links, are_local_params, are_scalar_params, gives_scalar, is_local_block, is_local_else, is_local_expression, is_local_form, is_local_item, is_local_program, is_local_task, is_region_term, links_give, marked_by, marked_by_arms, marked_by_else, marked_by_task, marked_in, marked_params, unmarked, with_region}
 use Rattle.code_laws.specs.LocalPrograms.{has_no_pointer, takes_scalars}
 use Rattle.code_laws.proofs.Typing.{no_way_back}
 use Rattle.scalar_form.specs.ScalarForm.{are_scalar_arms, are_scalar_expressions, are_scalar_links, is_empty, is_scalar_block, is_scalar_else, is_scalar_expression, is_scalar_form, is_scalar_if_said, is_scalar_item, is_scalar_number, is_scalar_program, is_scalar_task, is_scalar_term}
@@ -91,6 +91,35 @@ none_points (null_expr _) = refl
 none_points (cast_expr _ _) = refl
 none_points (space_expr _ _) = refl
 
+-- nor for a partition
+no_partition_name : (e : Expression) → is_partition_name unmarked e ≡ false
+no_partition_name (access_expr n no_step) = refl
+no_partition_name (access_expr n (field_step _ _)) = refl
+no_partition_name (access_expr n (at_step _ _)) = refl
+no_partition_name (chain_expr _ _) = refl
+no_partition_name (number_expr _ _) = refl
+no_partition_name (truth_expr _) = refl
+no_partition_name (prefix_expr _ _) = refl
+no_partition_name (call_expr _ _) = refl
+no_partition_name (convert_expr _ _) = refl
+no_partition_name (is_null_expr _) = refl
+no_partition_name (null_expr _) = refl
+no_partition_name (cast_expr _ _) = refl
+no_partition_name (space_expr _ _) = refl
+
+no_difference : (e : Expression) → is_difference unmarked e ≡ false
+no_difference (chain_expr first rest) = ap (λ b. b && takes_partition_off unmarked rest) (no_partition_name first)
+no_difference (access_expr _ _) = refl
+no_difference (number_expr _ _) = refl
+no_difference (truth_expr _) = refl
+no_difference (prefix_expr _ _) = refl
+no_difference (call_expr _ _) = refl
+no_difference (convert_expr _ _) = refl
+no_difference (is_null_expr _) = refl
+no_difference (null_expr _) = refl
+no_difference (cast_expr _ _) = refl
+no_difference (space_expr _ _) = refl
+
 -- a statement is such, and marks no name
 abbrev IsLocalForm : Form → Type 0
 IsLocalForm form = (is_local_form unmarked form ≡ true) × (marked_by form unmarked ≡ unmarked)
@@ -100,9 +129,11 @@ var_local n None None sc = (refl, refl)
 var_local n (Some t) None sc = ((and_parts (is_scalar_term t) true sc).0, refl)
 var_local n None (Some (plain_initializer e)) sc =
     let a = expression_local e sc in (
-      ap (λ b. (b || false) && (keeps_pointer unmarked n e && is_local_expression unmarked e)) a.1
-          ∙ ap (λ b. (not b || (is_name e && false)) && is_local_expression unmarked e) (none_points e) ∙ a.0,
-      ap (λ b. cond b unmarked (with_either (gives_pointer unmarked e) n unmarked)) a.1,
+      ap (λ b. (b || false) && (keeps_pointer unmarked n e && ((is_difference unmarked e && false) || is_local_expression unmarked e))) a.1
+          ∙ ap (λ b. (not b || (is_name e && false)) && ((is_difference unmarked e && false) || is_local_expression unmarked e)) (none_points e)
+          ∙ ap (λ b. (b && false) || is_local_expression unmarked e) (no_difference e) ∙ a.0,
+      ap (λ b. cond b (with_partition n unmarked) (cond (gives_scalar unmarked e) unmarked (with_either (gives_pointer unmarked e) n unmarked))) (no_difference e)
+          ∙ ap (λ b. cond b unmarked (with_either (gives_pointer unmarked e) n unmarked)) a.1,
     )
 var_local n (Some t) (Some (plain_initializer e)) sc =
     let s = and_parts (is_scalar_term t) (is_scalar_expression e) sc in

@@ -4,28 +4,29 @@ use Rattle.code_laws.proofs.Counting.{into_runs}
 use Rattle.code_laws.proofs.Moving.{assigned_runs, assigns}
 use Rattle.code_laws.proofs.PointerForms.{begins_run, declares_run, itself_run, points_run}
 use Rattle.code_laws.proofs.Pointing.{region_pointed}
-use Rattle.code_laws.proofs.Wider.{any_field, assigned, beginning, counting, going, keepable, loops_over, zeroed}
+use Rattle.code_laws.proofs.Differences.{difference_begins}
+use Rattle.code_laws.proofs.Wider.{any_field, assigned, beginning, begun, counting, going, keepable, loops_over, zeroed}
 use Rattle.code_laws.proofs.States.{ready_value}
 use Rattle.code_laws.proofs.Variables.{GoodInside, binds, fill_runs, region_runs}
 use Rattle.code_laws.proofs.Elements.{folds_element, sets_element}
-use Rattle.regent_tree.specs.Initializers.{colours, initial_value, make_root, partitioned, region_named}
-use Rattle.regent_tree.specs.Partitions.{equal_flag, equal_sets}
+use Rattle.regent_tree.specs.Initializers.{colours, initial_value, make_root, partitioned, read_all, region_named}
+use Rattle.regent_tree.specs.Partitions.{both_flag, by_field_flag, by_field_sets, either_flag, equal_flag, equal_sets}
 use Rattle.code_laws.proofs.Folds.{folds}
 use Rattle.code_laws.proofs.Loops.{counting_runs, integer_kept, loop_typed, turning_runs, from_fits, to_fits}
 use Rattle.code_rules.specs.Instructions.{place_of_task}
 use Rattle.code_laws.proofs.Rows.{IsAlike, asserts, does_as, does_before, does_said, returns, same_scope, scoped_by, tests, then_going, then_leads, relimit, jumps_later}
-use Rattle.std.proofs.Common.{◌≡◌, ℕ, suc, ◌<◌, ◌≤◌, [], ◌∷◌, ◌++◌, Some, None, refl, sym, ap, ◌∙◌, subst, arith, length-append}
+use Rattle.std.proofs.Common.{◌≡◌, ℕ, suc, ◌<◌, ◌≤◌, [], ◌∷◌, ◌++◌, Some, None, refl, sym, ap, ◌∙◌, subst, arith, length-append, ⊎_elim}
 use Rattle.std.specs.Prelude.{length, slice_get}
 use Rattle.std.proofs.lemmas.Option.{slice_get-get_or}
 use Rattle.std.proofs.lemmas.List.{get_or-set_same, get_or-set_other, append_assoc}
 use Rattle.regent_tree.specs.declared.statement.How.TheVariants as how
 use Rattle.regent_tree.specs.Scopes.{bound_to}
 use Rattle.regent_tree.specs.Syntax.{no_step, field_step, at_step, plain_initializer, a_statement, Form, var_form, if_form, while_form, for_to_form, do_form, assert_form, assign_form, return_form, call_form, fill_form, Block, no_statement, then_statement, Arms, no_arm, an_arm, Otherwise, no_else, else_block, both_initializer, by_field_initializer, either_initializer, equal_initializer, image_initializer, preimage_initializer, region_initializer, print_form, for_in_form}
-use Rattle.regent_tree.specs.Typing.{taken_from, param_types, params_at, scope_after_block, arithmetic_type, width_of_type, var_type}
+use Rattle.regent_tree.specs.Typing.{is_disjoint, taken_from, param_types, params_at, scope_after_block, arithmetic_type, width_of_type, var_type}
 use Rattle.regent_tree.specs.Values.{number_of, size_of}
 use Rattle.regent_tree.specs.Running.{State, Here, Run, and_then, given}
 use Rattle.regent_tree.specs.Accesses.{converted}
-use Rattle.regent_tree.specs.Evaluation.{called, value, values}
+use Rattle.regent_tree.specs.Evaluation.{called, static_type_of, value, values}
 use Rattle.regent_tree.specs.Execution.{Going, scoped, right_side, bind, looping, exec, exec_arms, exec_else, exec_block, on_line, after_statement, after_arm, after_arms}
 use Rattle.task_code.specs.declared.instr.Instr.TheVariants as instr
 use Rattle.regent_tree.specs.Numbers.{distance}
@@ -39,7 +40,7 @@ use Rattle.code_rules.specs.Assignments.{right_code}
 use Rattle.code_laws.specs.Steps.{Setting, placed}
 use Rattle.code_laws.specs.Standing.{Stands, machine_value, blank, Aside, where_of, Agrees, SlotsFit, Does}
 use Rattle.code_laws.specs.Simple.{IsScalar, a_region_type}
-use Rattle.code_laws.specs.Typed.{CountsDown, element_field, field_behind, AreTypedArms, IsTypedBlock, IsTypedElse, IsTypedForm}
+use Rattle.code_laws.specs.Typed.{CountsDown, IsKeepable, IsTyped, element_field, field_behind, AreTypedArms, IsTypedBlock, IsTypedElse, IsTypedForm}
 use Rattle.code_laws.proofs.Runs.{leads_by, leads_none, leads_twice, ends_by, then, comes_said}
 use Rattle.code_laws.proofs.Values.{past_later}
 use Rattle.code_laws.proofs.Good.{valued, Good}
@@ -47,6 +48,8 @@ use Rattle.code_laws.proofs.Operations.{converted_runs, fetch_small, alike_right
 use Rattle.code_laws.proofs.Expressions.{AreGiven, args_run, value_runs}
 use Rattle.code_laws.proofs.CallTakes.{call_takes}
 use Rattle.code_laws.proofs.Cuts.{GoodCut, equal_runs}
+use Rattle.code_laws.proofs.FieldCuts.{by_field_runs}
+use Rattle.code_laws.proofs.PairCuts.{both_runs, either_runs}
 use Rattle.code_laws.proofs.Calling.{HasResult, calls_run, pending}
 use Rattle.code_laws.proofs.Prints.{pushed_all}
 use Rattle.regent_tree.specs.StaticTypes.{task_named}
@@ -64,7 +67,10 @@ module _ (x : Setting) (params slots : ℕ) (fit : SlotsFit x slots) (counts : C
         Does x params slots aside (placed pc [] i) (past (form_code (where_of params h) form) pc)
         (after_statement h form) (exec h form s)
     form_runs aside h (var_form n None (Some (plain_initializer e))) s pc i low fine g f =
-        begins_run x params slots fit counts aside h n e s pc i low (keepable x.forms.keeps (where_of params h) e fine.0) fine.1 g f
+        ⊎_elim (λ (p : IsKeepable x.forms.keeps (where_of params h) e × IsTyped x.forms (where_of params h) e).
+        begins_run x params slots fit counts aside h n e s pc i low (keepable x.forms.keeps (where_of params h) e p.0) p.1 g f)
+        (λ d. difference_begins x params slots fit counts aside h n e s pc i low d g f)
+        (begun x.forms.keeps (where_of params h) e (IsKeepable x.forms.keeps (where_of params h) e × IsTyped x.forms (where_of params h) e) fine)
     form_runs aside h (var_form n (Some t) (Some (plain_initializer e))) s pc i low fine g f =
         declares_run x params slots fit counts aside h n t e s pc i low (beginning x.forms.keeps h.scope.names _ _ fine.0) fine.1 g f
     form_runs aside h (var_form n (Some t) None) s pc i low fine g f =
@@ -216,15 +222,39 @@ module _ (x : Setting) (params slots : ℕ) (fit : SlotsFit x slots) (counts : C
         (λ v s1 j k. equal_runs x params slots fit aside h (typed w e) v r h.scope.next s1 a j fine.1 fine.3 k.0 k.1 f.0.1 (fetch_small x.body (suc a) _ f.1)))
         (λ v s1 j k. binds x params slots fit counts aside h n None start v s1 (suc a) j low k.0 k.1 k.2 k.3 f.1)
     form_runs aside h (var_form n (Some t) (Some (equal_initializer _ _))) s pc i low fine g f = absurd fine
-    form_runs aside h (var_form n None (Some (by_field_initializer _ _ _))) s pc i low fine g f = absurd fine
+    form_runs aside h (var_form n None (Some (by_field_initializer r f2 e))) s pc i low fine g f =
+        let w = where_of params h in
+        let start = Some (by_field_initializer r f2 e) in
+        let t = var_type h.tree h.scope None start in
+        let a = past (expr_code w 0 e) pc in
+        then x (does_said x params slots fit counts aside (suc (suc a)) (after_statement h (var_form n None start))) (valued (suc a) [])
+        (GoodCut x params slots fit aside h t) _ (initial_value h None t start s) (λ v. bind v)
+        (then x (comes_said x _ _) (valued a []) (Good x params slots fit aside h (typed w e)) _ (value h e s)
+        (λ v. λ s1. and_then (colours h v s1) (λ k. λ s2. and_then (region_named h r s2) (λ q. λ s3. and_then (read_all h (static_type_of h r) q f2 s3)
+        (λ c. given (partitioned q.root by_field_flag (by_field_sets q.points c.numbers k))))))
+        (value_runs x params slots fit aside h 0 low e s pc [] i fine.2 g f.0.0)
+        (λ v s1 j k. by_field_runs x params slots fit aside h (typed w e) v r f2 h.scope.next s1 a j fine.1 fine.3 k.0 k.1 f.0.1 (fetch_small x.body (suc a) _ f.1)))
+        (λ v s1 j k. binds x params slots fit counts aside h n None start v s1 (suc a) j low k.0 k.1 k.2 k.3 f.1)
     form_runs aside h (var_form n (Some t) (Some (by_field_initializer _ _ _))) s pc i low fine g f = absurd fine
     form_runs aside h (var_form n None (Some (image_initializer _ _ _ _))) s pc i low fine g f = absurd fine
     form_runs aside h (var_form n (Some t) (Some (image_initializer _ _ _ _))) s pc i low fine g f = absurd fine
     form_runs aside h (var_form n None (Some (preimage_initializer _ _ _ _))) s pc i low fine g f = absurd fine
     form_runs aside h (var_form n (Some t) (Some (preimage_initializer _ _ _ _))) s pc i low fine g f = absurd fine
-    form_runs aside h (var_form n None (Some (both_initializer _ _))) s pc i low fine g f = absurd fine
+    form_runs aside h (var_form n None (Some (both_initializer p q))) s pc i low fine g f =
+        let start = Some (both_initializer p q) in
+        let t = var_type h.tree h.scope None start in
+        then x (does_said x params slots fit counts aside (suc (suc pc)) (after_statement h (var_form n None start))) (valued (suc pc) [])
+        (GoodCut x params slots fit aside h t) _ (initial_value h None t start s) (λ v. bind v)
+        (both_runs x params slots fit aside h p q (both_flag (is_disjoint (bound_to h.scope.names p).static_type) (is_disjoint (bound_to h.scope.names q).static_type)) h.scope.next s pc i fine.1 g f.0 (fetch_small x.body (suc pc) _ f.1))
+        (λ v s1 j k. binds x params slots fit counts aside h n None start v s1 (suc pc) j low k.0 k.1 k.2 k.3 f.1)
     form_runs aside h (var_form n (Some t) (Some (both_initializer _ _))) s pc i low fine g f = absurd fine
-    form_runs aside h (var_form n None (Some (either_initializer _ _))) s pc i low fine g f = absurd fine
+    form_runs aside h (var_form n None (Some (either_initializer p q))) s pc i low fine g f =
+        let start = Some (either_initializer p q) in
+        let t = var_type h.tree h.scope None start in
+        then x (does_said x params slots fit counts aside (suc (suc pc)) (after_statement h (var_form n None start))) (valued (suc pc) [])
+        (GoodCut x params slots fit aside h t) _ (initial_value h None t start s) (λ v. bind v)
+        (either_runs x params slots fit aside h p q (either_flag) h.scope.next s pc i fine.1 g f.0 (fetch_small x.body (suc pc) _ f.1))
+        (λ v s1 j k. binds x params slots fit counts aside h n None start v s1 (suc pc) j low k.0 k.1 k.2 k.3 f.1)
     form_runs aside h (var_form n (Some t) (Some (either_initializer _ _))) s pc i low fine g f = absurd fine
     form_runs aside h (for_in_form demanded n domain body) s pc i low fine g f =
         points_run x params slots fit counts aside h demanded n domain body s pc i low

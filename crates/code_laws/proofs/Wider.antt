@@ -1,5 +1,5 @@
 -- What is asked where pointers aren't kept is asked where they are.
-use Rattle.std.proofs.Common.{◌⊎◌, Bool, List, true, false, inl}
+use Rattle.std.proofs.Common.{◌≡◌, ◌⊎◌, Bool, List, true, false, inl, inr}
 use Rattle.regent_tree.specs.Syntax.{Name}
 use Rattle.regent_tree.specs.Typing.{counting_as}
 use Rattle.regent_tree.specs.declared.expression.Comparison.{Comparison}
@@ -12,7 +12,8 @@ use Rattle.code_laws.specs.Pointers.{AreCompared, Assigned, Begins, BeginsAs, Be
 use Rattle.code_laws.specs.Simple.{IsNumber, IsSimple, IsSpace, number_index, number_integer, scalar_integer, scalar_truth, simple_index, simple_integer, simple_truth, two_integers, two_truths}
 use Rattle.regent_tree.specs.Syntax.{Expression}
 use Rattle.code_rules.specs.Slots.{typed}
-use Rattle.code_laws.specs.Typed.{IsAnyField, IsFieldOf, IsKeepable, IsNamedRegion, IsPointing, LoopsOver}
+use Rattle.code_laws.specs.Typed.{IsAnyField, IsBegun, IsDifference, IsFieldOf, IsKeepable, IsNamedRegion, IsPointing, LoopsOver}
+use Rattle.code_laws.proofs.Values.{not_true}
 
 pub counting : (b : Bool) (t : StaticType) → CountsAs b t → IsCounting t
 counting false t p = counts_number t p
@@ -64,6 +65,18 @@ counted _ (counts_pointer k sp args rs) = number_index k
 pub keepable : (b : Bool) (w : Where) (e : Expression) → IsKeepable b w e → IsSimple (typed w e) ⊎ (IsPointer (typed w e) × IsPointing w e)
 keepable false w e p = inl p
 keepable true w e p = p
+
+pub begun : (b : Bool) (w : Where) (e : Expression) (B : Type 0) → IsBegun b w e B → B ⊎ IsDifference w e
+begun false w e B p = inl p
+begun true w e B p = p
+
+pub begun_so : (b : Bool) (w : Where) (e : Expression) (B : Type 0) → B → IsBegun b w e B
+begun_so false w e B p = p
+begun_so true w e B p = inl p
+
+pub begun_apart : (b : Bool) (w : Where) (e : Expression) (B : Type 0) → b ≡ true → IsDifference w e → IsBegun b w e B
+begun_apart false w e B q d = absurd (not_true q)
+begun_apart true w e B q d = inr d
 
 pub loops_over : (b : Bool) (w : Where) (e : Expression) → LoopsOver b w e → IsSpace (typed w e) ⊎ IsNamedRegion w e
 loops_over false w e p = inl p

@@ -33,6 +33,12 @@ pub record IsCutName (w : Where) (n : Name) : Type 0 where
   pub numbers : Falls w.scope.next w.scope.names
   pub partition : IsPartition (bound w n).static_type
 
+-- two of one region
+pub record ArePaired (w : Where) (p q : Name) : Type 0 where
+  pub first : IsCutName w p
+  pub second : IsCutName w q
+  pub parents : parent_of (bound w p).static_type ≡ parent_of (bound w q).static_type
+
 -- what a partition's parent is bound to
 abbrev pub parent_bound : Where → Name → Bound
 parent_bound w n = bound_as w.scope.names (parent_of (bound w n).static_type)

@@ -13,7 +13,7 @@ use Rattle.regent_tree.specs.declared.types.NumberTerm.TheVariants as number
 use Rattle.regent_tree.specs.declared.typing.Bound.{Bound}
 use Rattle.regent_tree.specs.declared.typing.StaticType.{StaticType}
 use Rattle.regent_tree.specs.declared.typing.StaticType.TheVariants.{Index as index_type, Pointer as pointer_type}
-use Rattle.partitions.specs.Laws.{ArePartsOf}
+use Rattle.partitions.specs.Laws.{ArePartsOf, NoneShared}
 use Rattle.regent_tree.specs.Accesses.{space_in}
 use Rattle.regent_tree.specs.Scopes.{bound_as}
 use Rattle.regent_tree.specs.StaticTypes.{Reach}
@@ -177,12 +177,14 @@ AreReached bs names sp (Some (term.Child p c) ∷ rs) (q ∷ qs) = AreReached bs
 AreReached bs names sp (None ∷ rs) (q ∷ qs) = AreReached bs names sp rs qs
 AreReached bs names sp _ _ = ⊥
 
--- a partition of the region of a name that has a number: each set lies within the region, and there aren't too many
+-- a partition of the region of a name that has a number: each set lies within the region, no two share a point where they
+-- are said to share none, and there aren't too many
 pub record IsCutAs (b : Bound) (upto : ℕ) (names : List Value) (r : ℕ) (q : Partition) : Type 0 where
   pub parent : Region
   pub is : IsOfName b upto names (space_in b.static_type) r parent
   pub root : q.root ≡ parent.root
   pub sets : ArePartsOf parent.points q.sets
+  pub apart : q.disjoint ≡ true → NoneShared q.sets
   pub few : length q.sets ≤ 65536
 
 abbrev pub IsCut : List Bound → List Value → ℕ → Partition → Type 0

@@ -5,6 +5,7 @@ use Rattle.std.specs.Prelude.{◌≡◌, ◌⊎◌, Bool, ℕ, suc, ◌<◌, ◌
 use Rattle.lane_kernels.specs.Numbers.{FitsWidth}
 use Rattle.lane_kernels.specs.declared.numbers.Mode.{Mode}
 use Rattle.lane_kernels.specs.declared.numbers.Mode.TheVariants as mode
+use Rattle.regent_tree.specs.declared.expression.Arithmetic.TheVariants.{Subtract}
 use Rattle.regent_tree.specs.declared.expression.Operator.TheVariants.{Or, And, Compare, Compute}
 use Rattle.regent_tree.specs.declared.statement.How.TheVariants as how
 use Rattle.regent_tree.specs.declared.facts.Term.TheVariants as term
@@ -16,10 +17,10 @@ use Rattle.regent_tree.specs.StaticTypes.{Reach, field_kind, field_place, field_
 use Rattle.regent_tree.specs.Lookup.{is_bound}
 use Rattle.regent_tree.specs.Scopes.{scope_of}
 use Rattle.regent_tree.specs.Numbers.{distance}
-use Rattle.regent_tree.specs.Syntax.{a_statement, Form, var_form, if_form, while_form, for_in_form, for_to_form, do_form, assert_form, print_form, assign_form, return_form, Block, no_statement, then_statement, Arms, no_arm, an_arm, Otherwise, no_else, else_block, equal_initializer, plain_initializer, region_initializer, Name, Tree, fill_form, call_form, call_expr, Expression, number_expr, truth_expr, chain_expr, prefix_expr, access_expr, convert_expr, Expressions, no_expr, an_expr, Links, no_link, a_link, no_step, field_step, at_step, space_expr, is_null_expr, null_expr, cast_expr}
+use Rattle.regent_tree.specs.Syntax.{a_statement, Form, var_form, if_form, while_form, for_in_form, for_to_form, do_form, assert_form, print_form, assign_form, return_form, Block, no_statement, then_statement, Arms, no_arm, an_arm, Otherwise, no_else, else_block, both_initializer, by_field_initializer, either_initializer, equal_initializer, plain_initializer, region_initializer, Name, Tree, fill_form, call_form, call_expr, Expression, number_expr, truth_expr, chain_expr, prefix_expr, access_expr, convert_expr, Expressions, no_expr, an_expr, Links, no_link, a_link, no_step, field_step, at_step, space_expr, is_null_expr, null_expr, cast_expr}
 use Rattle.regent_tree.specs.Scopes.{bound_as}
 use Rattle.regent_tree.specs.Typing.{arithmetic_type, operated, param_types, params_at, reaches_of, result_type, taken_from, type_of_element, type_of_field, var_type}
-use Rattle.code_laws.specs.Arguments.{AreMet, AreParted, IsCutName, IsHanded, IsHandedPart, IsParent}
+use Rattle.code_laws.specs.Arguments.{AreMet, ArePaired, AreParted, IsCutName, IsHanded, IsHandedPart, IsParent}
 use Rattle.code_laws.specs.Pointers.{BeginsAs, BeginsWith, ConvertsTo, CountsAs, FieldKeeps, FillsInto, FitsInto, GoesInto, IsAssigned, IsCompared, IsCounting, IsPointer, IsRead, IsWritten, SignedAs}
 use Rattle.code_laws.specs.Simple.{IsInteger, IsTruth, IsScalar, IsSimple, IsSpace, IsRegion, AreAlike, FieldFits, term_in}
 use Rattle.code_rules.specs.Instructions.{place_of_task, tasks_of}
@@ -101,6 +102,16 @@ abbrev pub IsKeepable : Bool → Where → Expression → Type 0
 IsKeepable false w e = IsSimple (typed w e)
 IsKeepable true w e = IsSimple (typed w e) ⊎ (IsPointer (typed w e) × IsPointing w e)
 
+-- the difference of two partitions of one region
+abbrev pub IsDifference : Where → Expression → Type 0
+IsDifference w (chain_expr (access_expr p no_step) (a_link (Compute Subtract) (access_expr q no_step) no_link)) = ArePaired w p q
+IsDifference w e = ⊥
+
+-- so a variable begins, or also with such a difference
+abbrev pub IsBegun : Bool → Where → Expression → Type 0 → Type 0
+IsBegun false w e Begins = Begins
+IsBegun true w e Begins = Begins ⊎ IsDifference w e
+
 -- a pointer to an element of a region that has a name goes through the name's slot
 abbrev pub GoesThrough : Where → Name → Expression → Type 0
 GoesThrough w n e =
@@ -121,6 +132,13 @@ IsCalled tree task =
 -- the access may be made to a field of a name's region
 abbrev pub MayTouch : Forms → Where → Name → ℕ → Mode → Type 0
 MayTouch forms w n field a = MayDo forms.takes (term_in (bound w n).static_type) field a
+
+-- a field of a name's region that is read at each of its points
+pub record IsScanned (forms : Forms) (w : Where) (n f : Name) : Type 0 where
+  pub parent : IsParent w n
+  pub field : field_place w.tree (space_in (bound w n).static_type) f
+      < length (space_at w.tree (space_in (bound w n).static_type)).fields
+  pub may : MayTouch forms w n (field_place w.tree (space_in (bound w n).static_type) f) mode.Read
 
 -- so it may to each of these fields, for writing
 abbrev pub MayFill : Forms → Where → Name → List Name → Type 0
@@ -225,11 +243,15 @@ pub record IsMakable (tree : Tree) (space : ℕ) : Type 0 where
 
 abbrev mutual
   pub IsTypedForm : Forms → Where → Form → Type 0
-  IsTypedForm forms w (var_form n None (Some (plain_initializer e))) = IsKeepable forms.keeps w e × IsTyped forms w e
+  IsTypedForm forms w (var_form n None (Some (plain_initializer e))) = IsBegun forms.keeps w e (IsKeepable forms.keeps w e × IsTyped forms w e)
   IsTypedForm forms w (var_form n None (Some (region_initializer e u))) = (forms.makes ≡ true) × IsSpace (typed w e)
       × IsTyped forms w e × IsMakable w.tree (place_of_space w.tree u.name) × IsFresh forms.takes (term.Name w.scope.next)
   IsTypedForm forms w (var_form n None (Some (equal_initializer r e))) = (forms.keeps ≡ true) × IsSpace (typed w e)
       × IsTyped forms w e × IsParent w r
+  IsTypedForm forms w (var_form n None (Some (by_field_initializer r f e))) = (forms.keeps ≡ true) × IsSpace (typed w e)
+      × IsTyped forms w e × IsScanned forms w r f
+  IsTypedForm forms w (var_form n None (Some (both_initializer p q))) = (forms.keeps ≡ true) × ArePaired w p q
+  IsTypedForm forms w (var_form n None (Some (either_initializer p q))) = (forms.keeps ≡ true) × ArePaired w p q
   IsTypedForm forms w (var_form n (Some t) (Some (plain_initializer e))) =
       BeginsWith forms.keeps w.scope.names (typed w e) (var_type w.tree w.scope (Some t) (Some (plain_initializer e)))
       × IsTyped forms w e

@@ -7,14 +7,17 @@ use Rattle.std.proofs.lemmas.Bool.{ne_eqb}
 use Rattle.std.proofs.lemmas.List.{drop_more}
 use Rattle.regent_tree.specs.declared.expression.Step.{Step, Field, At}
 use Rattle.regent_tree.specs.declared.statement.Arm.{Arm, out-Arm}
-use Rattle.regent_tree.specs.declared.expression.Link.{Link}
+use Rattle.regent_tree.specs.declared.expression.Arithmetic.TheVariants.{Add, Subtract, Multiply, Divide, Remainder}
+use Rattle.regent_tree.specs.declared.expression.Link.{Link, out-Link}
+use Rattle.regent_tree.specs.declared.expression.Operator.{Operator}
+use Rattle.regent_tree.specs.declared.expression.Operator.TheVariants.{Or, And, Compare, Compute}
 use Rattle.regent_tree.specs.declared.statement.How.{How}
 use Rattle.regent_tree.specs.declared.statement.How.TheVariants as how
 use Rattle.regent_tree.specs.Plain.{expression_of, links_in, steps_in}
 use Rattle.regent_tree.specs.PlainProgram.{arms_in, block_in}
-use Rattle.regent_tree.specs.Syntax.{Expression, Name, Steps, access_expr, assign_form, at_step, chain_expr, field_step, no_step}
+use Rattle.regent_tree.specs.Syntax.{Expression, Name, Steps, a_link, access_expr, assign_form, at_step, chain_expr, field_step, no_step}
 use Rattle.regent_tree.proofs.Rows.{arm_read}
-use Rattle.local_form.specs.LocalForm.{Marked, are_local_arms, gives_pointer, is_among, is_local_block, is_local_expression, is_local_form, is_name, is_part, marked_by_arms, marked_in}
+use Rattle.local_form.specs.LocalForm.{Marked, are_local_arms, gives_pointer, is_among, is_local_block, is_local_expression, is_local_form, is_name, is_part, marked_by_arms, marked_in, takes_partition_off}
 use Rattle.local_form.specs.Seen.{assigns_beside, is_behind, is_behind_read, is_beside, is_local_arm}
 
 pub list_any-map : {A B : Type 0} (p : B → Bool) (f : A → B) (xs : List A) → list_any p (map f xs) ≡ list_any (λ x. p (f x)) xs
@@ -132,6 +135,22 @@ either_assigned m n (at_step d (field_step f (at_step _ _))) h e = refl
 pub chain_gives : (m : Marked) (first : Expression) (links : List Link) → 1 ≤ length links → false ≡ gives_pointer m (chain_expr first (links_in links))
 chain_gives m first [] some = absurd (omega (arith, some))
 chain_gives m first (link ∷ rest) some = refl
+
+-- nor is it a difference
+pub two_off : (m : Marked) (links : List Link) → 2 ≤ length links → false ≡ takes_partition_off m (links_in links)
+two_off m [] many = absurd (omega (arith, many))
+two_off m (link ∷ []) many = absurd (omega (arith, many))
+two_off m (link ∷ next ∷ rest) many = operated (out-Link link).operator
+  where
+    operated : (o : Operator) → false ≡ takes_partition_off m (a_link o (expression_of (out-Link link).operand) (links_in (next ∷ rest)))
+    operated Or = refl
+    operated And = refl
+    operated (Compare c) = refl
+    operated (Compute Add) = refl
+    operated (Compute Subtract) = refl
+    operated (Compute Multiply) = refl
+    operated (Compute Divide) = refl
+    operated (Compute Remainder) = refl
 
 -- ---- tests
 

@@ -1,10 +1,11 @@
 -- Programs whose tasks know each region by a local name, that of a parameter or of a variable that begins with
--- region(..), and hand it over by that name, or by parts of equal partitions: each task takes numbers, truths and
--- regions, and gives a number or truth, or nothing. Which names stand for regions and partitions, and which may stand for
+-- region(..), and hand it over by that name, or by parts of partitions: each task takes numbers, truths and regions, and
+-- gives a number or truth, or nothing. Which names stand for regions and partitions, and which may stand for
 -- an index, an index space or a pointer, is read from the text of a task.
 use Rattle.std.specs.Prelude.{Bool, true, false, List, [], ◌∷◌, ◌++◌, Some, None, bytes_eq, not, cond, ◌&&◌, ◌||◌}
 use Rattle.std.specs.List.{list_all, list_any}
-use Rattle.regent_tree.specs.Syntax.{Arms, Block, Expression, Expressions, Form, ItemForm, ItemTree, Links, Name, Otherwise, TaskTree, Tree, a_link, a_statement, access_expr, alias_item, an_arm, an_expr, assert_form, assign_form, at_step, call_expr, call_form, chain_expr, convert_expr, do_form, else_block, equal_initializer, field_step, fill_form, for_in_form, for_to_form, if_form, import_item, no_arm, no_else, no_expr, no_link, no_statement, no_step, number_expr, plain_initializer, prefix_expr, print_form, region_initializer, return_form, space_expr, space_item, start_item, task_item, then_statement, truth_expr, var_form, while_form}
+use Rattle.regent_tree.specs.Syntax.{Arms, Block, Expression, Expressions, Form, ItemForm, ItemTree, Links, Name, Otherwise, TaskTree, Tree, a_link, a_statement, access_expr, alias_item, an_arm, an_expr, assert_form, assign_form, at_step, both_initializer, by_field_initializer, call_expr, call_form, chain_expr, convert_expr, do_form, either_initializer, else_block, equal_initializer, field_step, fill_form, for_in_form, for_to_form, if_form, import_item, no_arm, no_else, no_expr, no_link, no_statement, no_step, number_expr, plain_initializer, prefix_expr, print_form, region_initializer, return_form, space_expr, space_item, start_item, task_item, then_statement, truth_expr, var_form, while_form}
+use Rattle.regent_tree.specs.declared.expression.Arithmetic.TheVariants.{Subtract}
 use Rattle.regent_tree.specs.declared.expression.Operator.TheVariants.{Compute}
 use Rattle.regent_tree.specs.declared.statement.How.TheVariants as how
 use Rattle.regent_tree.specs.declared.types.Param.{Param}
@@ -63,6 +64,19 @@ gives_pointer m (access_expr n no_step) = is_among m.pointers n
 gives_pointer m (chain_expr first no_link) = gives_pointer m first
 gives_pointer m e = false
 
+-- a partition's name that stands alone, and the difference of two
+abbrev pub is_partition_name : Marked → Expression → Bool
+is_partition_name m (access_expr n no_step) = is_among m.partitions n
+is_partition_name m e = false
+
+abbrev pub takes_partition_off : Marked → Links → Bool
+takes_partition_off m (a_link (Compute Subtract) e no_link) = is_partition_name m e
+takes_partition_off m links = false
+
+abbrev pub is_difference : Marked → Expression → Bool
+is_difference m (chain_expr first rest) = is_partition_name m first && takes_partition_off m rest
+is_difference m e = false
+
 -- whether a name is a region's or a partition's, which stands in no expression by itself
 abbrev pub is_kept_apart : Marked → Name → Bool
 is_kept_apart m n = is_among m.regions n || is_among m.partitions n
@@ -113,16 +127,21 @@ abbrev pub is_local_domain : Marked → Name → Expression → Bool
 is_local_domain m n domain = (is_region_name m domain && is_among m.pointers n) || is_local_expression m domain
 
 -- A variable of a written type is a number or truth. One without it begins with region(..), and its name is a
--- region's; or with an equal partition, and its name is a partition's; or with an expression, and where that may give an
--- index, an index space or a pointer, so may the name. None of these is assigned.
+-- region's; or with a partition that is equal or by a field, or has the points of both of two others, of either, or of the
+-- first alone, and its name is a partition's; or with an expression, and where that may give an index, an index space or a
+-- pointer, so may the name. None of these is assigned.
 abbrev mutual
   pub is_local_form : Marked → Form → Bool
   is_local_form m (var_form n t None) = is_scalar_if_said t
   is_local_form m (var_form n (Some t) (Some (plain_initializer e))) = is_scalar_term t && is_local_expression m e
   is_local_form m (var_form n None (Some (plain_initializer e))) =
-      (gives_scalar m e || is_among m.indices n) && (keeps_pointer m n e && is_local_expression m e)
+      (gives_scalar m e || is_among m.indices n)
+      && (keeps_pointer m n e && ((is_difference m e && is_among m.partitions n) || is_local_expression m e))
   is_local_form m (var_form n None (Some (region_initializer e u))) = is_among m.regions n && is_local_expression m e
   is_local_form m (var_form n None (Some (equal_initializer r e))) = is_among m.partitions n && is_local_expression m e
+  is_local_form m (var_form n None (Some (by_field_initializer r f e))) = is_among m.partitions n && is_local_expression m e
+  is_local_form m (var_form n None (Some (both_initializer p q))) = is_among m.partitions n
+  is_local_form m (var_form n None (Some (either_initializer p q))) = is_among m.partitions n
   is_local_form m (if_form arms other) = are_local_arms m arms && is_local_else m other
   is_local_form m (while_form test body) = is_local_expression m test && is_local_block m body
   is_local_form m (for_in_form demanded n domain body) =
@@ -178,13 +197,19 @@ with_pointer n m = record m { indices = m.indices ++ n ∷ []; pointers = m.poin
 abbrev pub with_either : Bool → Name → Marked → Marked
 with_either points n m = cond points (with_pointer n m) (with_index n m)
 
+-- a variable without a written type that begins with an expression
+abbrev pub marked_by_value : Name → Expression → Marked → Marked
+marked_by_value n e m = cond (is_difference m e) (with_partition n m) (cond (gives_scalar m e) m (with_either (gives_pointer m e) n m))
+
 -- the names that statements bind, beside those that are marked before them
 abbrev mutual
   pub marked_by : Form → Marked → Marked
-  marked_by (var_form n None (Some (plain_initializer e))) m =
-      cond (gives_scalar m e) m (with_either (gives_pointer m e) n m)
+  marked_by (var_form n None (Some (plain_initializer e))) m = marked_by_value n e m
   marked_by (var_form n None (Some (region_initializer e u))) m = with_region n m
   marked_by (var_form n None (Some (equal_initializer r e))) m = with_partition n m
+  marked_by (var_form n None (Some (by_field_initializer r f e))) m = with_partition n m
+  marked_by (var_form n None (Some (both_initializer p q))) m = with_partition n m
+  marked_by (var_form n None (Some (either_initializer p q))) m = with_partition n m
   marked_by (if_form arms other) m = marked_by_else other (marked_by_arms arms m)
   marked_by (while_form test body) m = marked_in body m
   marked_by (for_in_form demanded n domain body) m = marked_in body (with_either (is_region_name m domain) n m)

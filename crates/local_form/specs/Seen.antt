@@ -8,7 +8,7 @@ use Rattle.regent_tree.specs.Plain.{expression_of}
 use Rattle.regent_tree.specs.PlainProgram.{block_in}
 use Rattle.regent_tree.specs.Syntax.{Expression, Name, Steps, TaskTree, at_step, field_step, no_step}
 use Rattle.scalar_form.specs.ScalarForm.{is_scalar_if_said, is_scalar_term}
-use Rattle.local_form.specs.LocalForm.{Marked, are_local_params, gives_pointer, gives_scalar, is_among, is_kept_apart, is_local_block, is_local_expression, is_name, is_part, is_region_name, is_region_term, with_either, with_region}
+use Rattle.local_form.specs.LocalForm.{Marked, are_local_params, is_among, is_kept_apart, is_local_block, is_local_expression, is_name, is_part, is_region_name, is_region_term, with_either, with_region}
 
 abbrev pub is_local_arm : Marked → Arm → Bool
 is_local_arm m a =
@@ -16,10 +16,6 @@ is_local_arm m a =
 
 abbrev pub is_local_argument : Marked → Expression → Bool
 is_local_argument m e = is_name e || (is_part m e || is_local_expression m e)
-
--- a variable without a written type that begins with an expression
-abbrev pub marked_by_value : Name → Expression → Marked → Marked
-marked_by_value n e m = cond (gives_scalar m e) m (with_either (gives_pointer m e) n m)
 
 -- what a loop takes
 abbrev pub marked_by_loop : Name → Expression → Marked → Marked

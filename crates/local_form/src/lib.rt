@@ -1,6 +1,7 @@
 //! Whether the tasks of a program know each region by a local name, and hand it over by that name.
 #![tactic(auto)]
 
+mod differences;
 mod expressions;
 mod giving;
 mod marked;

@@ -5,21 +5,25 @@ ghost use Rattle.std.specs.Option.{option_map};
 ghost use Rattle.regent_tree.specs.Plain.{expression_of, initializer_of};
 ghost use Rattle.regent_tree.specs.PlainProgram.{arms_in, block_in, form_of};
 ghost use Rattle.regent_tree.specs.Syntax.{var_form};
-ghost use Rattle.local_form.specs.LocalForm.{marked_by, marked_by_arms, marked_in};
-ghost use Rattle.local_form.specs.Seen.{marked_by_loop, marked_by_value};
+ghost use Rattle.local_form.specs.LocalForm.{marked_by, marked_by_arms, marked_by_value, marked_in};
+ghost use Rattle.local_form.specs.Seen.{marked_by_loop};
 
+use crate::differences::is_difference;
 use crate::expressions::is_region_name;
 use crate::giving::{gives_pointer, gives_scalar};
 use crate::marked::Marked;
 use regent_tree::{Arm, Expr, Init, Name, Stmt, TypeTerm, What};
 use std::alloc::AllocError;
 
-/// Marks a variable that begins with an expression, where this may give an index, an index space or a pointer.
+/// Marks a variable that begins with an expression, where this is a difference of partitions, or may give an index, an
+/// index space or a pointer.
 fn mark_value<'t>(marked: &mut Marked<'t>, name: &'t Name, value: &Expr) -> Result<(), AllocError>
     ensures { OnOk result
         (marked.new ≡ marked_by_value name.now (expression_of value.now) marked.old) }
 {
-    if gives_scalar(marked, value) {
+    if is_difference(marked, value) {
+        marked.add_partition(name)
+    } else if gives_scalar(marked, value) {
         Ok(())
     } else {
         marked.add_either(gives_pointer(marked, value), name)
@@ -47,7 +51,8 @@ fn mark_variable<'t>(
     match (term, init) {
         (None, Some(Init::Plain(value))) => mark_value(marked, name, value),
         (None, Some(Init::Region { .. })) => marked.add_region(name),
-        (None, Some(Init::Equal { .. })) => marked.add_partition(name),
+        (None, Some(Init::Equal { .. } | Init::ByField { .. })) => marked.add_partition(name),
+        (None, Some(Init::Both { .. } | Init::Either { .. })) => marked.add_partition(name),
         _ => Ok(()),
     }
 }

@@ -9,6 +9,7 @@ ghost use Rattle.local_form.specs.LocalForm.{are_local_arms, is_local_block, is_
 ghost use Rattle.local_form.specs.LocalForm.{keeps_pointer};
 ghost use Rattle.local_form.specs.Seen.{assigns_beside, is_local_arm};
 
+use crate::differences::is_difference;
 use crate::expressions::{
     are_local_arguments, are_local_expressions, is_behind, is_local_expression, is_name,
     is_region_name,
@@ -52,14 +53,16 @@ fn is_local_variable(
         (None, Some(Init::Plain(value))) => {
             (gives_scalar(marked, value) || marked.is_index(name))
                 && keeps_pointer(marked, name, value)
-                && is_local_expression(marked, value)
+                && ((is_difference(marked, value) && marked.is_partition(name))
+                    || is_local_expression(marked, value))
         }
         (None, Some(Init::Region { space, .. })) => {
             marked.is_region(name) && is_local_expression(marked, space)
         }
-        (None, Some(Init::Equal { colours, .. })) => {
+        (None, Some(Init::Equal { colours, .. } | Init::ByField { colours, .. })) => {
             marked.is_partition(name) && is_local_expression(marked, colours)
         }
+        (None, Some(Init::Both { .. } | Init::Either { .. })) => marked.is_partition(name),
         _ => false,
     }
 }

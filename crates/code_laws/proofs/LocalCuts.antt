@@ -1,0 +1,246 @@
+-- Variables that begin with partitions in a text with marked names, of which no breach is told, are typed.
+use Rattle.std.proofs.Common.{◌≡◌, Bool, [], None, Some, false, true, refl, ℕ, not}
+use Rattle.std.specs.Prelude.{◌||◌}
+use Rattle.std.proofs.lemmas.Bool.{and_parts, eqb-true, not-false, or_parts}
+use Rattle.plain_values.proofs.Plain.{option_or_parts}
+use Rattle.expression_laws.proofs.Steps.{all_has}
+use Rattle.regent_tree.specs.Accesses.{space_in}
+use Rattle.regent_tree.specs.Limits.{parts_of_expression}
+use Rattle.regent_tree.specs.Lookup.{is_bound, type_named}
+use Rattle.regent_tree.specs.Partitions.{both_flag, by_field_flag, either_flag, equal_flag}
+use Rattle.regent_tree.specs.Scopes.{Scope, bound_to}
+use Rattle.regent_tree.specs.StaticTypes.{field_place}
+use Rattle.regent_tree.specs.Syntax.{Expression, Initializer, Name, TaskTree, Tree, both_initializer, by_field_initializer, either_initializer, equal_initializer, var_form}
+use Rattle.regent_tree.specs.Typing.{is_disjoint, parent_of, type_of}
+use Rattle.regent_tree.specs.declared.rights.Access.TheVariants as access
+use Rattle.regent_tree.specs.declared.typing.StaticType.{StaticType}
+use Rattle.regent_tree.specs.declared.typing.StaticType.TheVariants.{Partition as partition_type}
+use Rattle.check_laws.proofs.Variables.{parts_of_form as told_of_form}
+use Rattle.check_laws.specs.SoundScopes.{IsSoundScope}
+use Rattle.check_rules.specs.declared.rule.Rule.TheVariants as rule
+use Rattle.check_rules.proofs.Untold.{rule_none}
+use Rattle.check_rules.specs.first.FirstInExpressions.{first_in_expression, first_in_type}
+use Rattle.check_rules.specs.first.FirstInStatements.{first_of_form, first_of_initializer}
+use Rattle.check_rules.specs.first.Rules.{first_in, rule_if}
+use Rattle.check_rules.specs.rules.Names.{are_partitions, unbound_name_in_initializer}
+use Rattle.check_rules.specs.rules.Partitions.{have_other_parents, miscolours_initializer, mispartitions_initializer}
+use Rattle.check_rules.specs.rules.Privileges.{lacks, may_do, reads_in_initializer, rights_declared, wanted_of_region, wanting}
+use Rattle.check_rules.specs.rules.Standing.{space_spot, stands}
+use Rattle.check_rules.specs.rules.Types.{may_stand}
+use Rattle.check_rules.specs.scopes.Sound.{IsSound, IsSoundTask}
+use Rattle.check_rules.specs.scopes.Variables.{types_in_initializer, written_in_initializer}
+use Rattle.check_rules.specs.types.KnownTypes.{known_type}
+use Rattle.check_rules.specs.types.Lookup.{names_a, region_has}
+use Rattle.check_rules.specs.types.Sorts.{is_partition, is_region, may_be}
+use Rattle.local_form.specs.LocalForm.{Marked, is_among, is_local_expression, is_local_form}
+use Rattle.code_laws.specs.Arguments.{ArePaired}
+use Rattle.code_laws.specs.Handing.{forms_by}
+use Rattle.code_laws.specs.Simple.{IsPartition, IsRegion, IsSpace, a_partition_type, term_in}
+use Rattle.code_laws.specs.Steps.{Forms}
+use Rattle.code_laws.specs.Typed.{IsScanned, IsTyped}
+use Rattle.code_rules.specs.Slots.{Where}
+use Rattle.code_laws.proofs.KnownHeads.{IsReady, head_cut, kept_may}
+use Rattle.code_laws.proofs.LocalCalls.{kept_term}
+use Rattle.code_laws.proofs.LocalNames.{IsKept, IsLocalTree, field_is, kept_partition, named_kept, parent_among, partition_is, region_is}
+use Rattle.code_laws.proofs.LocalParts.{region_wants}
+use Rattle.code_laws.proofs.LocalValues.{bound_among, value_space}
+use Rattle.code_laws.proofs.LocalVariables.{VarTyped, at, headed, stands_as}
+use Rattle.code_laws.proofs.TypedStatements.{first_stands}
+use Rattle.code_laws.proofs.Typing.{AreKept}
+use Rattle.scalar_form.specs.ScalarForm.{is_scalar_if_said}
+
+-- two partitions have one parent where the rules don't tell otherwise
+pub parents_same : (t u : StaticType) → IsPartition t → IsPartition u → have_other_parents t u ≡ false → parent_of t ≡ parent_of u
+parents_same _ _ (a_partition_type d r p) (a_partition_type e s q) h = eqb-true r s (not-false _ h)
+
+module _ (handing keeping : Bool) (tree : Tree) (task : TaskTree) (sound : IsSound tree) (sound_task : IsSoundTask tree task) (local : IsLocalTree handing tree)
+    (m : Marked) (params : ℕ) (result : is_scalar_if_said task.result ≡ true) (keeps : (q : Name) → is_among m.partitions q ≡ true → keeping ≡ true) where
+  abbrev forms : Forms
+  forms = forms_by handing keeping tree task
+
+  abbrev Ready : Scope → Type 0
+  Ready s = IsReady keeping tree task m s
+
+  abbrev here : Scope → ℕ → Where
+  here s line = at handing keeping tree task sound sound_task local m params result s line
+
+  abbrev pub Begins : Scope → ℕ → Name → Initializer → Type 0
+  Begins s line n i = VarTyped handing keeping tree task sound sound_task local m params result s line n None (Some i)
+
+  -- ---- what is told of an initializer
+
+  pub record IsUntold (s : Scope) (i : Initializer) : Type 0 where
+    pub names : unbound_name_in_initializer tree s.names i ≡ false
+    pub partitions : mispartitions_initializer tree s i ≡ false
+    pub reads : lacks tree task s (reads_in_initializer tree s.names i) ≡ false
+
+  pub untold : (s : Scope) (i : Initializer) → first_of_initializer tree task s i ≡ None → IsUntold s i
+  untold s i e =
+      let a = option_or_parts (first_in (first_in_type tree s.names) (written_in_initializer i)) _ e in
+      let b = option_or_parts (rule_if (unbound_name_in_initializer tree s.names i) rule.Name) _ a.1 in
+      let c = option_or_parts (rule_if (mispartitions_initializer tree s i) rule.Partition) _ b.1 in
+      let d = option_or_parts (rule_if (miscolours_initializer i (types_in_initializer tree s i)) rule.Partition) _ c.1 in
+      let f = option_or_parts (rule_if (lacks tree task s (reads_in_initializer tree s.names i)) rule.Read) _ d.1 in record {
+        names = rule_none (unbound_name_in_initializer tree s.names i) rule.Name b.0;
+        partitions = rule_none (mispartitions_initializer tree s i) rule.Partition c.0;
+        reads = rule_none (lacks tree task s (reads_in_initializer tree s.names i)) rule.Read f.0;
+      }
+
+  -- ---- what names have
+
+  -- a region
+  record HasRegion (s : Scope) (r : Name) : Type 0 where
+    there : is_bound s.names r ≡ true
+    may : may_be is_region (type_named s.names r) ≡ true
+    kept : IsKept keeping m s.names r (bound_to s.names r).number (bound_to s.names r).static_type
+    region : IsRegion (bound_to s.names r).static_type
+
+  has_region : (s : Scope) (r : Name) → Ready s → names_a is_region s.names r ≡ true → HasRegion s r
+  has_region s r names e =
+      let there = and_parts (is_bound s.names r) (may_be is_region (type_named s.names r)) e in
+      let b = bound_to s.names r in
+      let kept = named_kept keeping m s.names r names.names there.0 in
+      record { there = there.0; may = there.1; kept = kept; region = region_is handing keeping tree sound local m s.names r b.number b.static_type kept there.1 }
+
+  -- of which a partition is kept
+  cut_kept : (s : Scope) (n r : Name) (d : Bool) → HasRegion s r → is_among m.partitions n ≡ true →
+      IsKept keeping m s.names n s.next (partition_type d (bound_to s.names r).number s.next)
+  cut_kept s n r d h marked =
+      let b = bound_to s.names r in
+      kept_partition d b.number (keeps n marked) (record {
+        named = b;
+        among = bound_among s.names r h.there;
+        number = refl;
+        region = h.region;
+        term = kept_term keeping m s.names r b.number b.static_type h.kept h.region;
+      }) marked
+
+  -- a partition
+  record HasPartition (s : Scope) (n : Name) : Type 0 where
+    there : is_bound s.names n ≡ true
+    kept : IsKept keeping m s.names n (bound_to s.names n).number (bound_to s.names n).static_type
+    partition : IsPartition (bound_to s.names n).static_type
+
+  has_partition : (s : Scope) (n : Name) → Ready s → names_a is_partition s.names n ≡ true → HasPartition s n
+  has_partition s n names e =
+      let there = and_parts (is_bound s.names n) (may_be is_partition (type_named s.names n)) e in
+      let b = bound_to s.names n in
+      let kept = named_kept keeping m s.names n names.names there.0 in
+      record { there = there.0; kept = kept; partition = partition_is keeping m s.names n b.number b.static_type kept there.1 }
+
+  -- a field of a region, which may be read
+  scanned : (s : Scope) (line : ℕ) (r f : Name) → IsSoundScope s → Ready s → HasRegion s r → region_has tree (type_named s.names r) f ≡ true →
+      lacks tree task s (wanted_of_region tree access.Read (type_named s.names r) f) ≡ false → IsScanned forms (here s line) r f
+  scanned s line r f scope names h has lacking =
+      let b = bound_to s.names r in
+      let t = b.static_type in
+      let field = field_is handing keeping tree sound local m s.names r b.number t f h.kept h.may has in record {
+        parent = record { named = h.there; numbers = scope.numbers; region = h.region };
+        field = field.field;
+        may = kept_may handing keeping tree task s sound_task names.head m s.names r b.number t h.kept h.region (field_place tree (space_in t) f) access.Read
+            (all_has (may_do (rights_declared tree task) s.known) (wanted_of_region tree access.Read t f) (wanting (field_place tree (space_in t) f) access.Read (term_in t))
+            (not-false _ lacking) (region_wants tree access.Read t f h.region has));
+      }
+
+  -- ---- partitions with a colour space
+
+  record IsColoured (s : Scope) (line : ℕ) (y : Expression) : Type 0 where
+    is : IsTyped forms (here s line) y
+    space : IsSpace (type_of tree s y)
+
+  coloured : (s : Scope) (line : ℕ) (y : Expression) → is_local_expression m y ≡ true → AreKept (parts_of_expression y) → IsSoundScope s → Ready s →
+      first_in_expression tree task s y ≡ None → may_stand s.known (stands (known_type tree s y) space_spot) ≡ true → IsColoured s line y
+  coloured s line y lo k scope names told may =
+      let a = headed handing keeping tree task sound sound_task local m params result s line y lo k scope names told in
+      record { is = a.is; space = value_space keeping s.names (type_of tree s y) a.value (stands_as handing keeping tree task sound sound_task local m params result s y space_spot scope told may) }
+
+  -- equal parts of a region that has a name
+  pub equal_local : (s : Scope) (line : ℕ) (n r : Name) (y : Expression) → is_local_form m (var_form n None (Some (equal_initializer r y))) ≡ true →
+      AreKept (parts_of_expression y) → IsSoundScope s → Ready s → first_of_form tree task s (var_form n None (Some (equal_initializer r y))) ≡ None →
+      Begins s line n (equal_initializer r y)
+  equal_local s line n r y lo k scope names e =
+      let i = equal_initializer r y in
+      let both = and_parts (is_among m.partitions n) (is_local_expression m y) lo in
+      let parts = told_of_form tree task s sound scope (var_form n None (Some i)) e in
+      let c = coloured s line y both.1 k scope names (option_or_parts (first_in_expression tree task s y) _ parts.2).0
+      (first_stands s.known (stands (known_type tree s y) space_spot) [] parts.4).0 in
+      let u = untold s i (option_or_parts (first_of_initializer tree task s i) _ parts.3).0 in
+      let h = has_region s r names (not-false (names_a is_region s.names r) u.names) in (
+        (keeps n both.0, c.space, c.is, record { named = h.there; numbers = scope.numbers; region = h.region }),
+        cut_kept s n r equal_flag h both.0,
+        head_cut tree task s n equal_flag (bound_to s.names r).number scope.numbers names.head,
+      )
+
+  -- by a field of it
+  pub by_field_local : (s : Scope) (line : ℕ) (n r f : Name) (y : Expression) → is_local_form m (var_form n None (Some (by_field_initializer r f y))) ≡ true →
+      AreKept (parts_of_expression y) → IsSoundScope s → Ready s → first_of_form tree task s (var_form n None (Some (by_field_initializer r f y))) ≡ None →
+      Begins s line n (by_field_initializer r f y)
+  by_field_local s line n r f y lo k scope names e =
+      let i = by_field_initializer r f y in
+      let both = and_parts (is_among m.partitions n) (is_local_expression m y) lo in
+      let parts = told_of_form tree task s sound scope (var_form n None (Some i)) e in
+      let c = coloured s line y both.1 k scope names (option_or_parts (first_in_expression tree task s y) _ parts.2).0
+      (first_stands s.known (stands (known_type tree s y) space_spot) [] parts.4).0 in
+      let u = untold s i (option_or_parts (first_of_initializer tree task s i) _ parts.3).0 in
+      let known = or_parts (not (names_a is_region s.names r)) (not (region_has tree (type_named s.names r) f)) u.names in
+      let h = has_region s r names (not-false (names_a is_region s.names r) known.0) in (
+        (keeps n both.0, c.space, c.is, scanned s line r f scope names h (not-false (region_has tree (type_named s.names r) f) known.1) u.reads),
+        cut_kept s n r by_field_flag h both.0,
+        head_cut tree task s n by_field_flag (bound_to s.names r).number scope.numbers names.head,
+      )
+
+  -- ---- partitions of two others
+
+  -- two partitions that a set operation takes
+  record IsPair (s : Scope) (line : ℕ) (p q : Name) : Type 0 where
+    first : HasPartition s p
+    are : ArePaired (here s line) p q
+
+  paired : (s : Scope) (line : ℕ) (p q : Name) → IsSoundScope s → Ready s → not (are_partitions s.names p q) ≡ false →
+      (have_other_parents (type_named s.names p) (type_named s.names q) || false) ≡ false → IsPair s line p q
+  paired s line p q scope names unknown other =
+      let there = and_parts (names_a is_partition s.names p) (names_a is_partition s.names q) (not-false (are_partitions s.names p q) unknown) in
+      let a = has_partition s p names there.0 in
+      let b = has_partition s q names there.1 in record {
+        first = a;
+        are = record {
+          first = record { named = a.there; numbers = scope.numbers; partition = a.partition };
+          second = record { named = b.there; numbers = scope.numbers; partition = b.partition };
+          parents = parents_same (type_named s.names p) (type_named s.names q) a.partition b.partition
+              (or_parts (have_other_parents (type_named s.names p) (type_named s.names q)) false other).0;
+        };
+      }
+
+  pair_kept : (s : Scope) (n p : Name) (d : Bool) → HasPartition s p → is_among m.partitions n ≡ true →
+      IsKept keeping m s.names n s.next (partition_type d (parent_of (bound_to s.names p).static_type) s.next)
+  pair_kept s n p d h marked =
+      let b = bound_to s.names p in
+      kept_partition d (parent_of b.static_type) (keeps n marked)
+      (parent_among keeping m s.names p b.number b.static_type h.kept h.partition).0 marked
+
+  pub both_local : (s : Scope) (line : ℕ) (n p q : Name) → is_local_form m (var_form n None (Some (both_initializer p q))) ≡ true →
+      IsSoundScope s → Ready s → first_of_form tree task s (var_form n None (Some (both_initializer p q))) ≡ None →
+      Begins s line n (both_initializer p q)
+  both_local s line n p q lo scope names e =
+      let i = both_initializer p q in
+      let parts = told_of_form tree task s sound scope (var_form n None (Some i)) e in
+      let u = untold s i (option_or_parts (first_of_initializer tree task s i) _ parts.3).0 in
+      let pair = paired s line p q scope names u.names u.partitions in
+      let d = both_flag (is_disjoint (bound_to s.names p).static_type) (is_disjoint (bound_to s.names q).static_type) in (
+        (keeps n lo, pair.are),
+        pair_kept s n p d pair.first lo,
+        head_cut tree task s n d (parent_of (bound_to s.names p).static_type) scope.numbers names.head,
+      )
+
+  pub either_local : (s : Scope) (line : ℕ) (n p q : Name) → is_local_form m (var_form n None (Some (either_initializer p q))) ≡ true →
+      IsSoundScope s → Ready s → first_of_form tree task s (var_form n None (Some (either_initializer p q))) ≡ None →
+      Begins s line n (either_initializer p q)
+  either_local s line n p q lo scope names e =
+      let i = either_initializer p q in
+      let parts = told_of_form tree task s sound scope (var_form n None (Some i)) e in
+      let u = untold s i (option_or_parts (first_of_initializer tree task s i) _ parts.3).0 in
+      let pair = paired s line p q scope names u.names u.partitions in (
+        (keeps n lo, pair.are),
+        pair_kept s n p either_flag pair.first lo,
+        head_cut tree task s n either_flag (parent_of (bound_to s.names p).static_type) scope.numbers names.head,
+      )
