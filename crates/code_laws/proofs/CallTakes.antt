@@ -38,7 +38,7 @@ use Rattle.code_laws.specs.Arguments.{AreMet, AreOneColour, AreParted, IsPartBel
 use Rattle.code_laws.specs.Simple.{AreRegions, IsRegion, term_in, two_regions}
 use Rattle.code_laws.specs.Standing.{Agrees, AreTaken, Aside, IsInside, IsOf, IsTaken, LiesIn, SlotsFit, Takes, machine_value, nothing, takes_region, takes_scalar, where_of}
 use Rattle.code_laws.specs.Steps.{Setting, Taking}
-use Rattle.code_laws.specs.Taking.{AreParts, IsHad, IsHadBy, MayDo, given_region, pairs_in, pairs_taken}
+use Rattle.code_laws.specs.Taking.{AreParts, IsHad, IsHadBy, MayDo, given_region, pairs_in, pairs_taken, IsSubregion}
 use Rattle.code_laws.specs.Typed.{IsCallable}
 use Rattle.code_laws.proofs.Arguments.{alike_other, alike_scalar, first_region, named_typed, no_both, part_other, part_space, region_other}
 use Rattle.code_laws.proofs.Calling.{given_number}
@@ -213,11 +213,11 @@ module _ (x : Setting) (params slots : ℕ) (fit : SlotsFit x slots) (aside : As
   given_as y i q low (inl own) = absurd (omega (arith, low, own.1))
   given_as y i q low (inr g) = ap (given_region x.args) (ap number_in g.named) ∙ g.is
 
-  part_given : (y : Taking) (r u : Term) (q p : Region) → x.forms.takes ≡ Some y → IsPart y r u → IsHad x r q → IsHad x u p →
-      AreParts x.args (pairs_taken x.forms.takes) → LiesWithin q p
+  pub part_given : (y : Taking) (r u : Term) (q p : Region) → x.forms.takes ≡ Some y → IsPart y r u → IsHad x r q → IsHad x u p →
+      AreParts x.args (pairs_taken x.forms.takes) → IsSubregion q p
   part_given y (term.Name i) (term.Name j) q p e is had there parts =
-      subst (λ a. LiesWithin a p) (given_as y i q is.0 (subst (λ o. IsHadBy o x (term.Name i) q) e had))
-      (subst (LiesWithin (given_region x.args i)) (given_as y j p is.1 (subst (λ o. IsHadBy o x (term.Name j) p) e there))
+      subst (λ a. IsSubregion a p) (given_as y i q is.0 (subst (λ o. IsHadBy o x (term.Name i) q) e had))
+      (subst (IsSubregion (given_region x.args i)) (given_as y j p is.1 (subst (λ o. IsHadBy o x (term.Name j) p) e there))
       (part_lies y x.args i j (subst (λ o. AreParts x.args (pairs_taken o)) e parts) is.2))
   part_given y (term.Name i) (term.Child _ _) q p e is had there parts = absurd is
   part_given y (term.Child _ _) u q p e is had there parts = absurd is
@@ -245,17 +245,17 @@ module _ (x : Setting) (params slots : ℕ) (fit : SlotsFit x slots) (aside : As
 
   parted_lies : (h : Here) (s : State) (i : Instance) (ps : List StaticType) (es : Expressions) (vs : List Value) (y : Taking) (j k : ℕ) (o u : Option Name) →
       x.forms.takes ≡ Some y → name_at es j ≡ o → name_at es k ≡ u → IsParted y (where_of params h) o u → AreGiven h ps es vs s.names →
-      Agrees x params slots aside h s i → LiesWithin (given_region vs j) (given_region vs k)
+      Agrees x params slots aside h s i → IsSubregion (given_region vs j) (given_region vs k)
   parted_lies h s i ps es vs y j k None u e at there is a g = absurd is
   parted_lies h s i ps es vs y j k (Some m) None e at there is a g = absurd is
   parted_lies h s i ps es vs y j k (Some m) (Some n) e at there is a g =
       let b = by_name h s i ps es vs j m at is.0 is.2 a g in
       let c = by_name h s i ps es vs k n there is.1 is.3 a g in
-      subst (λ q. LiesWithin q (given_region vs k)) (sym b.is)
-      (subst (LiesWithin b.region) (sym c.is)
+      subst (λ q. IsSubregion q (given_region vs k)) (sym b.is)
+      (subst (IsSubregion b.region) (sym c.is)
       (⊎_elim
-      (λ same. subst (LiesWithin b.region)
-      (ap region_of (sym b.value ∙ ap (λ n. get_or s.names (bound_to h.scope.names n).place nothing) same ∙ c.value)) (λ root point in_it. in_it))
+      (λ same. subst (IsSubregion b.region)
+      (ap region_of (sym b.value ∙ ap (λ n. get_or s.names (bound_to h.scope.names n).place nothing) same ∙ c.value)) (refl, λ root point in_it. in_it))
       (λ part. part_given y (term_in (bound_to h.scope.names m).static_type) (term_in (bound_to h.scope.names n).static_type) b.region c.region e
       part b.had c.had g.framed.parts) is.4))
 
@@ -272,7 +272,7 @@ module _ (x : Setting) (params slots : ℕ) (fit : SlotsFit x slots) (aside : As
   below_lies : (h : Here) (s : State) (i : Instance) (ps : List StaticType) (es : Expressions) (vs : List Value) (y : Taking) (j k : ℕ)
       (p : Option (Name × Expression)) (o : Option Name) (u : Option (Name × Expression)) → x.forms.takes ≡ Some y → part_at es j ≡ p → name_at es k ≡ o →
       part_at es k ≡ u → IsPartBelow y (where_of params h) p o u → AreGiven h ps es vs s.names → Agrees x params slots aside h s i →
-      LiesWithin (given_region vs j) (given_region vs k)
+      IsSubregion (given_region vs j) (given_region vs k)
   below_lies h s i ps es vs y j k None o u e at there other is a g = absurd is
   below_lies h s i ps es vs y j k (Some p) None None e at there other is a g = absurd is
   below_lies h s i ps es vs y j k (Some p) (Some n) u e at there other is a g =
@@ -282,16 +282,16 @@ module _ (x : Setting) (params slots : ℕ) (fit : SlotsFit x slots) (aside : As
       let c = b.coloured in
       let d = cut_of x params slots fit aside h s i p.0 c.partition is.0 c.has_it g in
       let outer = by_name h s i ps es vs k n there is.1.named is.1.region a g in
-      let whole : LiesWithin d.parent outer.region =
+      let whole : IsSubregion d.parent outer.region =
       ⊎_elim
-      (λ same. subst (LiesWithin d.parent)
-      (ap region_of (sym d.is.value ∙ ap (λ m. get_or s.names m nothing) same ∙ outer.value)) (λ root point in_it. in_it))
+      (λ same. subst (IsSubregion d.parent)
+      (ap region_of (sym d.is.value ∙ ap (λ m. get_or s.names m nothing) same ∙ outer.value)) (refl, λ root point in_it. in_it))
       (λ part. part_given y (term_in t) (term_in (bound_to h.scope.names n).static_type) d.parent outer.region e part
       (region_had x s.store t d.parent d.is.region (parent_inside x params slots fit aside h s i r c.partition d g)) outer.had g.framed.parts) is.2 in
-      subst (λ q. LiesWithin q (given_region vs k))
+      subst (λ q. IsSubregion q (given_region vs k))
       (sym (ap region_of (get_or_from_slice_get vs j b.value (a_truth false) b.at ∙ c.is)))
-      (subst (LiesWithin (part_at_colour c.partition c.colour)) (sym outer.is)
-      (λ root point e. whole root point (within_whole d.parent c.partition c.colour d.root d.sets c.low root point e)))
+      (subst (IsSubregion (part_at_colour c.partition c.colour)) (sym outer.is)
+      (d.root ∙ whole.0, λ root point e. whole.1 root point (within_whole d.parent c.partition c.colour d.root d.sets c.low root point e)))
   below_lies h s i ps es vs y j k (Some p) None (Some q) e at there other is a g =
       let b = by_part h ps es vs s.names j p a at is.0 in
       let c = by_part h ps es vs s.names k q a other (subst (IsCutName (where_of params h)) is.1 is.0) in
@@ -305,7 +305,7 @@ module _ (x : Setting) (params slots : ℕ) (fit : SlotsFit x slots) (aside : As
       ap region_of (get_or_from_slice_get vs j b.value (a_truth false) b.at ∙ bc.is)
       ∙ ap (λ q. part_at_colour q bc.colour) partitions ∙ ap (part_at_colour cc.partition) colours
       ∙ sym (ap region_of (get_or_from_slice_get vs k c.value (a_truth false) c.at ∙ cc.is)) in
-      subst (LiesWithin (given_region vs j)) same (λ root point in_it. in_it)
+      subst (IsSubregion (given_region vs j)) same (refl, λ root point in_it. in_it)
 
   parted_at : (keeps : Bool) (y : Taking) (w : Where) (es : Expressions) (ps : List (ℕ × ℕ)) (p : ℕ × ℕ) → AreParted keeps (Some y) w es ps → Has ps p →
       IsPartedAt keeps y w es p
@@ -315,7 +315,7 @@ module _ (x : Setting) (params slots : ℕ) (fit : SlotsFit x slots) (aside : As
 
   all_lies : (h : Here) (s : State) (i : Instance) (ps : List StaticType) (es : Expressions) (vs : List Value) (y : Taking) (p : ℕ × ℕ) (keeps : Bool) →
       x.forms.takes ≡ Some y → IsPartedAt keeps y (where_of params h) es p → AreGiven h ps es vs s.names → Agrees x params slots aside h s i →
-      LiesWithin (given_region vs p.0) (given_region vs p.1)
+      IsSubregion (given_region vs p.0) (given_region vs p.1)
   all_lies h s i ps es vs y p false e is a g = parted_lies h s i ps es vs y p.0 p.1 (name_at es p.0) (name_at es p.1) e refl refl is a g
   all_lies h s i ps es vs y p true e (inl is) a g = parted_lies h s i ps es vs y p.0 p.1 (name_at es p.0) (name_at es p.1) e refl refl is a g
   all_lies h s i ps es vs y p true e (inr is) a g =

@@ -63,7 +63,7 @@ use Rattle.code_laws.proofs.Values.{named}
 
 -- ---- what is tested where a partition is made
 
-all_within : (parent : List ℕ) (sets : List (List ℕ)) → ArePartsOf parent sets → list_all (λ s. within s parent) sets ≡ true
+pub all_within : (parent : List ℕ) (sets : List (List ℕ)) → ArePartsOf parent sets → list_all (λ s. within s parent) sets ≡ true
 all_within parent [] h = refl
 all_within parent (s ∷ sets) h =
     ap (λ b. b && list_all (λ s. within s parent) sets) (All-head (IsPartOf parent) s sets h).1

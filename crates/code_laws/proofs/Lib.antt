@@ -9,6 +9,7 @@ pub mod Counts
 pub mod Good
 pub mod Touching
 pub mod Shapes
+pub mod Rooted
 pub mod Reaching
 pub mod Accesses
 pub mod Writes
@@ -39,6 +40,7 @@ pub mod Knowing
 pub mod Expressions
 pub mod Rows
 pub mod PairCuts
+pub mod ImageCuts
 pub mod Loops
 pub mod SpaceLoops
 pub mod RegionLoops

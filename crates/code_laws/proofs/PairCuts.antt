@@ -11,7 +11,7 @@ use Rattle.regent_tree.specs.Evaluation.{linked, static_type_of, value}
 use Rattle.regent_tree.specs.Initializers.{partition_named, partitioned}
 use Rattle.regent_tree.specs.Operators.{combined, difference}
 use Rattle.regent_tree.specs.Partitions.{both_flag, both_sets, each_with, either_flag, either_sets, minus_flag, minus_sets}
-use Rattle.regent_tree.specs.Running.{Here, State, and_then, given, gives}
+use Rattle.regent_tree.specs.Running.{Here, Result, State, and_then, given, gives}
 use Rattle.regent_tree.specs.Scopes.{bound_as, bound_to}
 use Rattle.regent_tree.specs.Syntax.{Name, a_link, access_expr, chain_expr, no_link, no_step}
 use Rattle.regent_tree.specs.Typing.{parent_of}
@@ -93,6 +93,11 @@ difference_means h p q s a b first second =
     ap (λ v. linked h (static_type_of h p) v (a_link (Compute Subtract) (access_expr q no_step) no_link) s) first
     ∙ ap (λ v. and_then (standing h v s) (λ c. combined h (Compute Subtract) (a_partition a) c)) second
 
+-- what comes of the two partitions comes of the values that they are
+two_named : (makes : Partition → Partition → Result Value) (u v : Value) (a b : Partition) → u ≡ a_partition a → v ≡ a_partition b →
+    makes (partition_of u) (partition_of v) ≡ makes a b
+two_named makes u v a b first second = ap (λ y. makes (partition_of y) (partition_of v)) first ∙ ap (λ y. makes a (partition_of y)) second
+
 module _ (x : Setting) (params slots : ℕ) (fit : SlotsFit x slots) (aside : Aside) where
   -- ---- what a name has
 
@@ -126,42 +131,38 @@ module _ (x : Setting) (params slots : ℕ) (fit : SlotsFit x slots) (aside : As
             ∙ ap (λ v. Some (machine_value i.contents v)) q.1;
       }
 
-  -- what holds of two such partitions holds of what their names have
-  two_named : (h : Here) (p q : Name) (s : State) (i : Instance) (a : NamedPartition h p s i) (b : NamedPartition h q s i) (P : Value → Value → Type 0) →
-      P (a_partition a.partition) (a_partition b.partition) →
-      P (get_or s.names (bound_to h.scope.names p).place nothing) (get_or s.names (bound_to h.scope.names q).place nothing)
-  two_named h p q s i a b P y = subst (λ u. P u (get_or s.names (bound_to h.scope.names q).place nothing)) (sym a.is)
-      (subst (P (a_partition a.partition)) (sym b.is) y)
-
   -- ---- two of one region
 
   -- where the operation's instruction takes the two, and the region
-  pub pair_runs : (sets : List (List ℕ) → List (List ℕ) → List (List ℕ)) (flag : Bool → Bool → Bool) → IsSetOperation sets flag →
-      (ins : Instr) (e : Bool) (h : Here) (p q : Name) (own : ℕ) (s : State) (pc : ℕ) (i : Instance) →
-      parent_of (bound_to h.scope.names p).static_type ≡ parent_of (bound_to h.scope.names q).static_type →
-      (a : NamedPartition h p s i) (b : NamedPartition h q s i) → Agrees x params slots aside h s i → Stands x.body pc (op ins h.line) → suc pc < 2 ^ 32 →
-      slot_bound (where_of params h) (parent_of (bound_to h.scope.names p).static_type) < slots →
+  pair_runs : (sets : List (List ℕ) → List (List ℕ) → List (List ℕ)) (flag : Bool → Bool → Bool) → IsSetOperation sets flag →
+      (ins : Instr) (e : Bool) (h : Here) (p q : Name) (own : ℕ) (s : State) (pc : ℕ) (i : Instance) → ArePaired (where_of params h) p q →
+      Agrees x params slots aside h s i → Stands x.body pc (op ins h.line) → suc pc < 2 ^ 32 →
+      (slot_named (where_of params h) p < slots) × (slot_named (where_of params h) q < slots)
+      × (slot_bound (where_of params h) (parent_of (bound_to h.scope.names p).static_type) < slots) →
       ((m : Machine) → act x.code x.body ins h.line m ≡
       with_partition (partition_in (slice_get m.frame.slots (slot_named (where_of params h) p))) m
       (λ a. with_partition (partition_in (slice_get m.frame.slots (slot_named (where_of params h) q))) m
       (λ b. with_region (region_in (slice_get m.frame.slots (slot_bound (where_of params h) (parent_of (bound_to h.scope.names p).static_type)))) m
       (λ r. makes r (sets (sets_of a) (sets_of b)) (flag a.disjoint b.disjoint) m.frame.stack m)))) →
+      (meant : Result Value) → ((a b : Partition) → get_or s.names (bound_to h.scope.names p).place nothing ≡ a_partition a →
+      get_or s.names (bound_to h.scope.names q).place nothing ≡ a_partition b →
+      meant ≡ gives (partitioned a.root (flag a.disjoint b.disjoint) (sets a.sets b.sets)) s) →
       Comes x (placed pc [] i) (valued (suc pc) [])
-      (GoodCut x params slots fit aside h (partition_type e (parent_of (bound_to h.scope.names p).static_type) own))
-      (gives (partitioned a.partition.root (flag a.partition.disjoint b.partition.disjoint) (sets a.partition.sets b.partition.sets)) s)
-  pair_runs sets flag operation ins e h p q own s pc i parents a b g stands near room is = (
-    i,
-    leads_by x j _ ins h.line stands
-        (ap (on_step x j) acts ∙ made_runs x params slots fit aside value made (flag a.partition.disjoint b.partition.disjoint) [] [] pc i
-        (sound_by parent.points made (flag a.partition.disjoint b.partition.disjoint) parts apart) near
-        ∙ ap (λ n. GoesOn (valued (suc pc) [] (partitioned n (flag a.partition.disjoint b.partition.disjoint) made) i)) (sym a.cut.root)),
-    (
-      of_partition e r own _,
-      a.inside,
-      record { parent = parent; is = a.cut.is; root = a.cut.root; sets = parts; apart = apart; few = few },
-      g,
-    ),
-  )
+      (GoodCut x params slots fit aside h (partition_type e (parent_of (bound_to h.scope.names p).static_type) own)) meant
+  pair_runs sets flag operation ins e h p q own s pc i pair g stands near room is meant means =
+      subst (Comes x j (valued (suc pc) []) (GoodCut x params slots fit aside h (partition_type e r own))) (sym (means a.partition b.partition a.is b.is)) (
+        i,
+        leads_by x j _ ins h.line stands
+            (ap (on_step x j) acts ∙ made_runs x params slots fit aside value made (flag a.partition.disjoint b.partition.disjoint) [] [] pc i
+            (sound_by parent.points made (flag a.partition.disjoint b.partition.disjoint) parts apart) near
+            ∙ ap (λ n. GoesOn (valued (suc pc) [] (partitioned n (flag a.partition.disjoint b.partition.disjoint) made) i)) (sym a.cut.root)),
+        (
+          of_partition e r own _,
+          a.inside,
+          record { parent = parent; is = a.cut.is; root = a.cut.root; sets = parts; apart = apart; few = few },
+          g,
+        ),
+      )
     where
       r : ℕ
       r = parent_of (bound_to h.scope.names p).static_type
@@ -169,11 +170,17 @@ module _ (x : Setting) (params slots : ℕ) (fit : SlotsFit x slots) (aside : As
       j : Instance
       j = placed pc [] i
 
+      a : NamedPartition h p s i
+      a = partition_named_there h p s i pair.first room.0 g
+
+      b : NamedPartition h q s i
+      b = partition_named_there h q s i pair.second room.1 g
+
       parent : Region
       parent = a.cut.parent
 
       same : a_region b.cut.parent ≡ a_region parent
-      same = sym b.cut.is.value ∙ ap (λ k. get_or s.names (bound_as h.scope.names k).place nothing) (sym parents) ∙ a.cut.is.value
+      same = sym b.cut.is.value ∙ ap (λ k. get_or s.names (bound_as h.scope.names k).place nothing) (sym pair.parents) ∙ a.cut.is.value
 
       made : List (List ℕ)
       made = sets a.partition.sets b.partition.sets
@@ -193,7 +200,7 @@ module _ (x : Setting) (params slots : ℕ) (fit : SlotsFit x slots) (aside : As
 
       there : slice_get i.frame.slots (slot_bound (where_of params h) r) ≡ Some (machine_value i.contents (a_region parent))
       there = region_there x params slots fit aside h s i (bound_as h.scope.names r).place parent a.cut.is.value
-          (omega (arith, a.cut.is.below, g.count)) room g
+          (omega (arith, a.cut.is.below, g.count)) room.2 g
 
       -- the sets that the machine has
       seen : Partition → PartitionValue
@@ -233,14 +240,9 @@ module _ (x : Setting) (params slots : ℕ) (fit : SlotsFit x slots) (aside : As
   both_runs h p q e own s pc i pair g stands near =
       let w = where_of params h in
       let r = slot_bound w (parent_of (bound_to h.scope.names p).static_type) in
-      let t = partition_type e (parent_of (bound_to h.scope.names p).static_type) own in
-      let room = three_least (slot_named w p) (slot_named w q) r slots (fit pc _ stands) in
-      let a = partition_named_there h p s i pair.first room.0 g in
-      let b = partition_named_there h q s i pair.second room.1 g in
-      two_named h p q s i a b (λ u v. Comes x (placed pc [] i) (valued (suc pc) []) (GoodCut x params slots fit aside h t)
-      (gives (partitioned (partition_of u).root (both_flag (partition_of u).disjoint (partition_of v).disjoint)
-      (both_sets (partition_of u).sets (partition_of v).sets)) s))
-      (pair_runs both_sets both_flag both_operation (instr.Meet (slot_named w p) (slot_named w q) r) e h p q own s pc i pair.parents a b g stands near room.2 (λ m. refl))
+      pair_runs both_sets both_flag both_operation (instr.Meet (slot_named w p) (slot_named w q) r) e h p q own s pc i pair g stands near
+      (three_least (slot_named w p) (slot_named w q) r slots (fit pc _ stands)) (λ m. refl) _
+      (λ a b. two_named (λ a b. gives (partitioned a.root (both_flag a.disjoint b.disjoint) (both_sets a.sets b.sets)) s) _ _ a b)
 
   -- `p | q`
   pub either_runs : (h : Here) (p q : Name) (e : Bool) (own : ℕ) (s : State) (pc : ℕ) (i : Instance) → ArePaired (where_of params h) p q →
@@ -254,14 +256,9 @@ module _ (x : Setting) (params slots : ℕ) (fit : SlotsFit x slots) (aside : As
   either_runs h p q e own s pc i pair g stands near =
       let w = where_of params h in
       let r = slot_bound w (parent_of (bound_to h.scope.names p).static_type) in
-      let t = partition_type e (parent_of (bound_to h.scope.names p).static_type) own in
-      let room = three_least (slot_named w p) (slot_named w q) r slots (fit pc _ stands) in
-      let a = partition_named_there h p s i pair.first room.0 g in
-      let b = partition_named_there h q s i pair.second room.1 g in
-      two_named h p q s i a b (λ u v. Comes x (placed pc [] i) (valued (suc pc) []) (GoodCut x params slots fit aside h t)
-      (gives (partitioned (partition_of u).root either_flag (either_sets (partition_of u).sets (partition_of v).sets)) s))
-      (pair_runs either_sets (λ c d. either_flag) either_operation (instr.Join (slot_named w p) (slot_named w q) r) e h p q own s pc i pair.parents a b g stands near
-      room.2 (λ m. refl))
+      pair_runs either_sets (λ c d. either_flag) either_operation (instr.Join (slot_named w p) (slot_named w q) r) e h p q own s pc i pair g stands near
+      (three_least (slot_named w p) (slot_named w q) r slots (fit pc _ stands)) (λ m. refl) _
+      (λ a b. two_named (λ a b. gives (partitioned a.root either_flag (either_sets a.sets b.sets)) s) _ _ a b)
 
   -- `p - q`
   pub minus_runs : (h : Here) (p q : Name) (e : Bool) (own : ℕ) (s : State) (pc : ℕ) (i : Instance) → ArePaired (where_of params h) p q →
@@ -274,10 +271,6 @@ module _ (x : Setting) (params slots : ℕ) (fit : SlotsFit x slots) (aside : As
   minus_runs h p q e own s pc i pair g stands near =
       let w = where_of params h in
       let r = slot_bound w (parent_of (bound_to h.scope.names p).static_type) in
-      let t = partition_type e (parent_of (bound_to h.scope.names p).static_type) own in
-      let room = three_least (slot_named w p) (slot_named w q) r slots (fit pc _ stands) in
-      let a = partition_named_there h p s i pair.first room.0 g in
-      let b = partition_named_there h q s i pair.second room.1 g in
-      subst (Comes x (placed pc [] i) (valued (suc pc) []) (GoodCut x params slots fit aside h t)) (sym (difference_means h p q s a.partition b.partition a.is b.is))
-      (pair_runs minus_sets (λ c d. minus_flag c) minus_operation (instr.Minus (slot_named w p) (slot_named w q) r) e h p q own s pc i pair.parents a b g stands near
-      room.2 (λ m. refl))
+      pair_runs minus_sets (λ c d. minus_flag c) minus_operation (instr.Minus (slot_named w p) (slot_named w q) r) e h p q own s pc i pair g stands near
+      (three_least (slot_named w p) (slot_named w q) r slots (fit pc _ stands)) (λ m. refl) _
+      (difference_means h p q s)

@@ -8,6 +8,7 @@ use Rattle.fact_laws.specs.Regions.{AllHold, Holds as Sure, Interpretation, Lies
 use Rattle.fact_laws.proofs.Facts.{is_subregion_holds}
 use Rattle.regent_tree.specs.declared.facts.Known.TheVariants.{Within}
 use Rattle.regent_tree.specs.declared.facts.Term.TheVariants.{Name}
+use Rattle.code_laws.proofs.Rooted.{one_root}
 use Rattle.std.proofs.lemmas.List.{length-map}
 use Rattle.std.proofs.lemmas.Simd.{map-map}
 use Rattle.std.proofs.Math.ListN.{get_or-map}
@@ -44,7 +45,7 @@ use Rattle.code_laws.proofs.Shapes.{shaped_stays}
 use Rattle.code_laws.specs.Standing.{Agrees, is_own, AreOf, Aside, IsFramed, IsInside, IsOf, LiesIn, nothing, of_index, of_integer, of_partition, of_pointer, of_region, of_space, of_truth}
 use Rattle.code_laws.specs.Simple.{IsRegion, a_region_type, term_in}
 use Rattle.code_laws.specs.Steps.{Setting, Taking}
-use Rattle.code_laws.specs.Taking.{AreParts, IsHad, IsHadBy, MayDo, allows, given_region, is_asked, is_need, is_part, known_of_pairs, needs_taken, pairs_taken}
+use Rattle.code_laws.specs.Taking.{AreParts, IsHad, IsHadBy, IsSubregion, MayDo, allows, given_region, is_asked, is_need, is_part, known_of_pairs, needs_taken, pairs_taken}
 use Rattle.code_laws.proofs.Touching.{parted}
 
 -- ---- kinds of fields
@@ -159,15 +160,17 @@ pairs_hold args ps h fact there =
     subst (Sure (as_given args)) k.2 (λ r stands. record {
       outer = given_region args k.0.1;
       stands = refl;
-      lies = subst (λ q. LiesWithin q (given_region args k.0.1)) stands (h k.0 (Contains-from_Has ps k.0 k.1));
+      lies = subst (λ q. LiesWithin q (given_region args k.0.1)) stands (h k.0 (Contains-from_Has ps k.0 k.1)).1;
     })
 
 -- what follows of parameters holds of their regions
 pub part_lies : (y : Taking) (args : List Value) (i j : ℕ) → AreParts args y.within → is_part y i j ≡ true →
-    LiesWithin (given_region args i) (given_region args j)
-part_lies y args i j h e =
-    is_subregion_holds (as_given args) (known_of_pairs y.within) (pairs_hold args y.within h) (Name i) (Name j) e
-    (given_region args i) (given_region args j) refl refl
+    IsSubregion (given_region args i) (given_region args j)
+part_lies y args i j h e = (
+  one_root args y.within i j h e,
+  is_subregion_holds (as_given args) (known_of_pairs y.within) (pairs_hold args y.within h) (Name i) (Name j) e
+      (given_region args i) (given_region args j) refl refl,
+)
 
 -- a touch of a region that an instance has is covered, where it may be made
 touch_covered : (x : Setting) (store : Store) (m : Memory) (own : List RootId) (r : Term) (q : Region) (place n : ℕ) (a : Mode)
@@ -183,7 +186,7 @@ touch_covered x store m own r q place n a (Some y) e (inr p) may framed there is
     let d = f.0 in
     let one = and_parts (is_part y p.place d.param) ((d.field == place) && allows d.mode a) f.2 in
     let two = and_parts (d.field == place) (allows d.mode a) one.1 in
-    let lies = part_lies y x.args p.place d.param (subst (λ t. AreParts x.args (pairs_taken t)) e framed.parts) one.0 q.root n
+    let lies = (part_lies y x.args p.place d.param (subst (λ t. AreParts x.args (pairs_taken t)) e framed.parts) one.0).1 q.root n
     (ap (λ (r : Region). r.root) p.is, ap (λ (r : Region). has r.points n) p.is ∙ there) in
     framed.given d (subst (λ t. Contains (needs_taken t) d) (sym e) (Contains-from_Has y.needs d f.1)) touch
     (and_from (d.field == place) _ two.0 (and_from (allows d.mode a) _ two.1

@@ -10,7 +10,7 @@ use Rattle.code_laws.proofs.States.{ready_value}
 use Rattle.code_laws.proofs.Variables.{GoodInside, binds, fill_runs, region_runs}
 use Rattle.code_laws.proofs.Elements.{folds_element, sets_element}
 use Rattle.regent_tree.specs.Initializers.{colours, initial_value, make_root, partitioned, read_all, region_named}
-use Rattle.regent_tree.specs.Partitions.{both_flag, by_field_flag, by_field_sets, either_flag, equal_flag, equal_sets}
+use Rattle.regent_tree.specs.Partitions.{both_flag, by_field_flag, by_field_sets, either_flag, equal_flag, equal_sets, preimage_flag}
 use Rattle.code_laws.proofs.Folds.{folds}
 use Rattle.code_laws.proofs.Loops.{counting_runs, integer_kept, loop_typed, turning_runs, from_fits, to_fits}
 use Rattle.code_rules.specs.Instructions.{place_of_task}
@@ -49,6 +49,7 @@ use Rattle.code_laws.proofs.Expressions.{AreGiven, args_run, value_runs}
 use Rattle.code_laws.proofs.CallTakes.{call_takes}
 use Rattle.code_laws.proofs.Cuts.{GoodCut, equal_runs}
 use Rattle.code_laws.proofs.FieldCuts.{by_field_runs}
+use Rattle.code_laws.proofs.ImageCuts.{image_runs, preimage_runs}
 use Rattle.code_laws.proofs.PairCuts.{both_runs, either_runs}
 use Rattle.code_laws.proofs.Calling.{HasResult, calls_run, pending}
 use Rattle.code_laws.proofs.Prints.{pushed_all}
@@ -236,9 +237,21 @@ module _ (x : Setting) (params slots : ℕ) (fit : SlotsFit x slots) (counts : C
         (λ v s1 j k. by_field_runs x params slots fit aside h (typed w e) v r f2 h.scope.next s1 a j fine.1 fine.3 k.0 k.1 f.0.1 (fetch_small x.body (suc a) _ f.1)))
         (λ v s1 j k. binds x params slots fit counts aside h n None start v s1 (suc a) j low k.0 k.1 k.2 k.3 f.1)
     form_runs aside h (var_form n (Some t) (Some (by_field_initializer _ _ _))) s pc i low fine g f = absurd fine
-    form_runs aside h (var_form n None (Some (image_initializer _ _ _ _))) s pc i low fine g f = absurd fine
+    form_runs aside h (var_form n None (Some (image_initializer a p r f2))) s pc i low fine g f =
+        let start = Some (image_initializer a p r f2) in
+        let t = var_type h.tree h.scope None start in
+        then x (does_said x params slots fit counts aside (suc (suc pc)) (after_statement h (var_form n None start))) (valued (suc pc) [])
+        (GoodCut x params slots fit aside h t) _ (initial_value h None t start s) (λ v. bind v)
+        (image_runs x params slots fit aside h a p r f2 h.scope.next s pc i fine.1 fine.2 fine.3 fine.4 g f.0 (fetch_small x.body (suc pc) _ f.1))
+        (λ v s1 j k. binds x params slots fit counts aside h n None start v s1 (suc pc) j low k.0 k.1 k.2 k.3 f.1)
     form_runs aside h (var_form n (Some t) (Some (image_initializer _ _ _ _))) s pc i low fine g f = absurd fine
-    form_runs aside h (var_form n None (Some (preimage_initializer _ _ _ _))) s pc i low fine g f = absurd fine
+    form_runs aside h (var_form n None (Some (preimage_initializer a p r f2))) s pc i low fine g f =
+        let start = Some (preimage_initializer a p r f2) in
+        let t = var_type h.tree h.scope None start in
+        then x (does_said x params slots fit counts aside (suc (suc pc)) (after_statement h (var_form n None start))) (valued (suc pc) [])
+        (GoodCut x params slots fit aside h t) _ (initial_value h None t start s) (λ v. bind v)
+        (preimage_runs x params slots fit aside h a p r f2 (preimage_flag (is_disjoint (bound_to h.scope.names p).static_type)) h.scope.next s pc i fine.1 fine.2 fine.3 fine.4 g f.0 (fetch_small x.body (suc pc) _ f.1))
+        (λ v s1 j k. binds x params slots fit counts aside h n None start v s1 (suc pc) j low k.0 k.1 k.2 k.3 f.1)
     form_runs aside h (var_form n (Some t) (Some (preimage_initializer _ _ _ _))) s pc i low fine g f = absurd fine
     form_runs aside h (var_form n None (Some (both_initializer p q))) s pc i low fine g f =
         let start = Some (both_initializer p q) in

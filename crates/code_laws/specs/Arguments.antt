@@ -111,6 +111,15 @@ abbrev pub IsPart : Taking → Term → Term → Type 0
 IsPart y (term.Name i) (term.Name j) = (i < y.params) × (j < y.params) × (is_part y i j ≡ true)
 IsPart y _ _ = ⊥
 
+-- what a parameter names lies within what another names
+abbrev pub IsGivenPart : Option Taking → Term → Term → Type 0
+IsGivenPart None r u = ⊥
+IsGivenPart (Some y) r u = IsPart y r u
+
+-- so does what a binding has, which may be the same
+abbrev pub LiesBelow : Option Taking → Bound → Bound → Type 0
+LiesBelow takes a b = (a.place ≡ b.place) ⊎ IsGivenPart takes (term_in a.static_type) (term_in b.static_type)
+
 abbrev pub IsParted : Taking → Where → Option Name → Option Name → Type 0
 IsParted y w (Some m) (Some n) = (is_bound w.scope.names m ≡ true) × (is_bound w.scope.names n ≡ true)
     × IsRegion (bound w m).static_type × IsRegion (bound w n).static_type

@@ -67,9 +67,13 @@ abbrev pub is_asked : List Value → NeedCode → Touch → Bool
 is_asked args n t = (n.field == t.field) && (allows n.mode t.access
     && (((given_region args n.param).root == t.root) && has (given_region args n.param).points t.point))
 
+-- a region lies within another, and has its root, also where it has no points
+abbrev pub IsSubregion : Region → Region → Type 0
+IsSubregion q p = (q.root ≡ p.root) × LiesWithin q p
+
 -- regions of parameters lie within others
 abbrev pub AreParts : List Value → List (ℕ × ℕ) → Type 0
-AreParts args ps = (p : ℕ × ℕ) → Contains ps p → LiesWithin (given_region args p.0) (given_region args p.1)
+AreParts args ps = (p : ℕ × ℕ) → Contains ps p → IsSubregion (given_region args p.0) (given_region args p.1)
 
 -- what names a new region names no parameter
 abbrev pub IsFresh : Option Taking → Term → Type 0

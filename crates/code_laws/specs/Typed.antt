@@ -17,10 +17,10 @@ use Rattle.regent_tree.specs.StaticTypes.{Reach, field_kind, field_place, field_
 use Rattle.regent_tree.specs.Lookup.{is_bound}
 use Rattle.regent_tree.specs.Scopes.{scope_of}
 use Rattle.regent_tree.specs.Numbers.{distance}
-use Rattle.regent_tree.specs.Syntax.{a_statement, Form, var_form, if_form, while_form, for_in_form, for_to_form, do_form, assert_form, print_form, assign_form, return_form, Block, no_statement, then_statement, Arms, no_arm, an_arm, Otherwise, no_else, else_block, both_initializer, by_field_initializer, either_initializer, equal_initializer, plain_initializer, region_initializer, Name, Tree, fill_form, call_form, call_expr, Expression, number_expr, truth_expr, chain_expr, prefix_expr, access_expr, convert_expr, Expressions, no_expr, an_expr, Links, no_link, a_link, no_step, field_step, at_step, space_expr, is_null_expr, null_expr, cast_expr}
+use Rattle.regent_tree.specs.Syntax.{a_statement, Form, var_form, if_form, while_form, for_in_form, for_to_form, do_form, assert_form, print_form, assign_form, return_form, Block, no_statement, then_statement, Arms, no_arm, an_arm, Otherwise, no_else, else_block, both_initializer, by_field_initializer, either_initializer, equal_initializer, image_initializer, preimage_initializer, plain_initializer, region_initializer, Name, Tree, fill_form, call_form, call_expr, Expression, number_expr, truth_expr, chain_expr, prefix_expr, access_expr, convert_expr, Expressions, no_expr, an_expr, Links, no_link, a_link, no_step, field_step, at_step, space_expr, is_null_expr, null_expr, cast_expr}
 use Rattle.regent_tree.specs.Scopes.{bound_as}
 use Rattle.regent_tree.specs.Typing.{arithmetic_type, operated, param_types, params_at, reaches_of, result_type, taken_from, type_of_element, type_of_field, var_type}
-use Rattle.code_laws.specs.Arguments.{AreMet, ArePaired, AreParted, IsCutName, IsHanded, IsHandedPart, IsParent}
+use Rattle.code_laws.specs.Arguments.{AreMet, ArePaired, AreParted, IsCutName, IsHanded, IsHandedPart, IsParent, LiesBelow, parent_bound}
 use Rattle.code_laws.specs.Pointers.{BeginsAs, BeginsWith, ConvertsTo, CountsAs, FieldKeeps, FillsInto, FitsInto, GoesInto, IsAssigned, IsCompared, IsCounting, IsPointer, IsRead, IsWritten, SignedAs}
 use Rattle.code_laws.specs.Simple.{IsInteger, IsTruth, IsScalar, IsSimple, IsSpace, IsRegion, AreAlike, FieldFits, term_in}
 use Rattle.code_rules.specs.Instructions.{place_of_task, tasks_of}
@@ -250,6 +250,10 @@ abbrev mutual
       × IsTyped forms w e × IsParent w r
   IsTypedForm forms w (var_form n None (Some (by_field_initializer r f e))) = (forms.keeps ≡ true) × IsSpace (typed w e)
       × IsTyped forms w e × IsScanned forms w r f
+  IsTypedForm forms w (var_form n None (Some (image_initializer s p r f))) = (forms.keeps ≡ true) × IsParent w s × IsCutName w p
+      × IsScanned forms w r f × LiesBelow forms.takes (parent_bound w p) (bound w r)
+  IsTypedForm forms w (var_form n None (Some (preimage_initializer s p r f))) = (forms.keeps ≡ true) × IsParent w s × IsCutName w p
+      × IsScanned forms w r f × LiesBelow forms.takes (bound w s) (bound w r)
   IsTypedForm forms w (var_form n None (Some (both_initializer p q))) = (forms.keeps ≡ true) × ArePaired w p q
   IsTypedForm forms w (var_form n None (Some (either_initializer p q))) = (forms.keeps ≡ true) × ArePaired w p q
   IsTypedForm forms w (var_form n (Some t) (Some (plain_initializer e))) =

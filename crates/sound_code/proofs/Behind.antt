@@ -3,7 +3,7 @@ use Rattle.std.proofs.lemmas.Bool.{false≢true}
 use Rattle.std.proofs.Common.{None, Some}
 use Rattle.regent_tree.specs.Scopes.{Scope}
 use Rattle.regent_tree.specs.declared.typing.StaticType.{StaticType}
-use Rattle.regent_tree.specs.Syntax.{plain_initializer, region_initializer, both_initializer, by_field_initializer, either_initializer, equal_initializer, a_statement, Form, var_form, if_form, while_form, for_in_form, for_to_form, do_form, fill_form, call_form, assert_form, print_form, assign_form, return_form, Block, no_statement, then_statement, Arms, no_arm, an_arm, Otherwise, no_else, else_block}
+use Rattle.regent_tree.specs.Syntax.{plain_initializer, region_initializer, both_initializer, by_field_initializer, either_initializer, equal_initializer, image_initializer, preimage_initializer, a_statement, Form, var_form, if_form, while_form, for_in_form, for_to_form, do_form, fill_form, call_form, assert_form, print_form, assign_form, return_form, Block, no_statement, then_statement, Arms, no_arm, an_arm, Otherwise, no_else, else_block}
 use Rattle.regent_tree.specs.Typing.{arithmetic_type, scope_after, scope_after_arms, scope_after_block, scope_after_else, taken_from, var_type}
 use Rattle.task_code.specs.declared.code.TaskCode.{TaskCode}
 use Rattle.code_rules.specs.Slots.{Where, typed}
@@ -53,6 +53,8 @@ module _ (forms : Forms) (t : TaskCode) (way : Way) where
     after_form_ground w (return_form e) f g = g
     after_form_ground w (var_form n None (Some (equal_initializer r e))) f g = absurd (false≢true f.0)
     after_form_ground w (var_form n None (Some (by_field_initializer r l e))) f g = absurd (false≢true f.0)
+    after_form_ground w (var_form n None (Some (image_initializer a p r l))) f g = absurd (false≢true f.0)
+    after_form_ground w (var_form n None (Some (preimage_initializer a p r l))) f g = absurd (false≢true f.0)
     after_form_ground w (var_form n None (Some (both_initializer p q))) f g = absurd (false≢true f.0)
     after_form_ground w (var_form n None (Some (either_initializer p q))) f g = absurd (false≢true f.0)
     after_form_ground w _ f g = absurd f

@@ -10,7 +10,7 @@ use Rattle.regent_tree.specs.Lookup.{is_bound}
 use Rattle.regent_tree.specs.declared.statement.How.TheVariants as how
 use Rattle.regent_tree.specs.declared.typing.Bound.{Bound}
 use Rattle.regent_tree.specs.declared.typing.StaticType.{StaticType}
-use Rattle.regent_tree.specs.Syntax.{Name, no_step, field_step, at_step, plain_initializer, region_initializer, both_initializer, by_field_initializer, either_initializer, equal_initializer, a_statement, Form, var_form, if_form, while_form, for_in_form, for_to_form, do_form, fill_form, call_form, assert_form, print_form, assign_form, return_form, Block, no_statement, then_statement, Arms, no_arm, an_arm, Otherwise, no_else, else_block}
+use Rattle.regent_tree.specs.Syntax.{Name, no_step, field_step, at_step, plain_initializer, region_initializer, both_initializer, by_field_initializer, either_initializer, equal_initializer, image_initializer, preimage_initializer, a_statement, Form, var_form, if_form, while_form, for_in_form, for_to_form, do_form, fill_form, call_form, assert_form, print_form, assign_form, return_form, Block, no_statement, then_statement, Arms, no_arm, an_arm, Otherwise, no_else, else_block}
 use Rattle.regent_tree.specs.Typing.{kind_of_ispace, arithmetic_type, scope_after_block, owned, taken_from, var_type, width_of_type}
 use Rattle.task_code.specs.declared.code.TaskCode.{TaskCode}
 use Rattle.task_code.specs.declared.instr.Instr.TheVariants as instr
@@ -307,6 +307,8 @@ module _ (g : Program) (t : TaskCode) (k slots : ℕ) (have : HasSlots t slots) 
     form_marked w m (assign_form x (field_step l no_step) (how.Reduce o) y) f a told within pc st = absurd (false≢true f.0)
     form_marked w m (var_form n None (Some (equal_initializer r e))) f a told within pc st = absurd (false≢true f.0)
     form_marked w m (var_form n None (Some (by_field_initializer r l e))) f a told within pc st = absurd (false≢true f.0)
+    form_marked w m (var_form n None (Some (image_initializer s p r l))) f a told within pc st = absurd (false≢true f.0)
+    form_marked w m (var_form n None (Some (preimage_initializer s p r l))) f a told within pc st = absurd (false≢true f.0)
     form_marked w m (var_form n None (Some (both_initializer p q))) f a told within pc st = absurd (false≢true f.0)
     form_marked w m (var_form n None (Some (either_initializer p q))) f a told within pc st = absurd (false≢true f.0)
     form_marked w m _ f a told within pc st = absurd f
