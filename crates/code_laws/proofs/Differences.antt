@@ -1,11 +1,12 @@
--- A variable that begins with the difference of two partitions.
+-- A variable that begins with a partition of one instruction, or with the difference of two partitions.
 use Rattle.std.proofs.Common.{◌≡◌, ℕ, suc, ◌≤◌, [], None, Some, refl, sym, ap, subst}
 use Rattle.std.specs.Prelude.{length}
 use Rattle.regent_tree.specs.Evaluation.{value}
 use Rattle.regent_tree.specs.Execution.{after_statement, bind, exec}
+use Rattle.regent_tree.specs.Initializers.{initial_value}
 use Rattle.regent_tree.specs.Running.{Here, State}
 use Rattle.regent_tree.specs.Scopes.{bound_to}
-use Rattle.regent_tree.specs.Syntax.{Expression, Name, a_link, access_expr, chain_expr, no_link, no_step, plain_initializer, var_form}
+use Rattle.regent_tree.specs.Syntax.{Expression, Initializer, Name, a_link, access_expr, chain_expr, no_link, no_step, plain_initializer, var_form}
 use Rattle.regent_tree.specs.Typing.{is_disjoint, operated, owned, parent_of, var_type}
 use Rattle.regent_tree.specs.declared.expression.Arithmetic.TheVariants.{Subtract}
 use Rattle.regent_tree.specs.declared.expression.Operator.TheVariants.{Compute}
@@ -20,7 +21,7 @@ use Rattle.code_rules.specs.Slots.{Where, slot, slot_bound, slot_named}
 use Rattle.code_rules.specs.Statements.{form_code}
 use Rattle.code_laws.specs.Pointers.{IsPointed}
 use Rattle.code_laws.specs.Simple.{IsPartition, a_partition_type}
-use Rattle.code_laws.specs.Standing.{Agrees, Aside, Does, IsInside, IsOf, SlotsFit, Stands, where_of}
+use Rattle.code_laws.specs.Standing.{Agrees, Aside, Comes, Does, IsInside, IsOf, SlotsFit, Stands, where_of}
 use Rattle.code_laws.specs.Steps.{Setting, placed}
 use Rattle.code_laws.specs.Typed.{CountsDown, IsDifference}
 use Rattle.code_laws.proofs.Cuts.{GoodCut}
@@ -41,6 +42,18 @@ pub difference_type : (own : ℕ) (t u : StaticType) → IsPartition t → owned
 difference_type own _ u (a_partition_type d r k) = refl
 
 module _ (x : Setting) (params slots : ℕ) (fit : SlotsFit x slots) (counts : CountsDown) where
+  -- one instruction makes the partition, which the name is bound to
+  pub cut_begins : (aside : Aside) (h : Here) (n : Name) (start : Initializer) (s : State) (pc : ℕ) (i : Instance) → params ≤ length h.scope.names →
+      Comes x (placed pc [] i) (valued (suc pc) []) (GoodCut x params slots fit aside h (var_type h.tree h.scope None (Some start)))
+      (initial_value h None (var_type h.tree h.scope None (Some start)) (Some start) s) →
+      Stands x.body (suc pc) (op (instr.Store (slot (where_of params h) (new_place (where_of params h)))) h.line) →
+      Does x params slots aside (placed pc [] i) (suc (suc pc)) (after_statement h (var_form n None (Some start))) (exec h (var_form n None (Some start)) s)
+  cut_begins aside h n start s pc i low comes f =
+      let t = var_type h.tree h.scope None (Some start) in
+      then x (does_said x params slots fit counts aside (suc (suc pc)) (after_statement h (var_form n None (Some start)))) (valued (suc pc) [])
+      (GoodCut x params slots fit aside h t) _ (initial_value h None t (Some start) s) (λ v. bind v) comes
+      (λ v s1 j k. binds x params slots fit counts aside h n None (Some start) v s1 (suc pc) j low k.0 k.1 k.2 k.3 f)
+
   pub difference_begins : (aside : Aside) (h : Here) (n : Name) (e : Expression) (s : State) (pc : ℕ) (i : Instance) → params ≤ length h.scope.names →
       IsDifference (where_of params h) e → Agrees x params slots aside h s i →
       Stands x.body pc (form_code (where_of params h) (var_form n None (Some (plain_initializer e)))) →

@@ -4,7 +4,6 @@ use Rattle.code_laws.proofs.Counting.{into_runs}
 use Rattle.code_laws.proofs.Moving.{assigned_runs, assigns}
 use Rattle.code_laws.proofs.PointerForms.{begins_run, declares_run, itself_run, points_run}
 use Rattle.code_laws.proofs.Pointing.{region_pointed}
-use Rattle.code_laws.proofs.Differences.{difference_begins}
 use Rattle.code_laws.proofs.Wider.{any_field, assigned, beginning, begun, counting, going, keepable, loops_over, zeroed}
 use Rattle.code_laws.proofs.States.{ready_value}
 use Rattle.code_laws.proofs.Variables.{GoodInside, binds, fill_runs, region_runs}
@@ -48,6 +47,7 @@ use Rattle.code_laws.proofs.Operations.{converted_runs, fetch_small, alike_right
 use Rattle.code_laws.proofs.Expressions.{AreGiven, args_run, value_runs}
 use Rattle.code_laws.proofs.CallTakes.{call_takes}
 use Rattle.code_laws.proofs.Cuts.{GoodCut, equal_runs}
+use Rattle.code_laws.proofs.Differences.{cut_begins, difference_begins}
 use Rattle.code_laws.proofs.FieldCuts.{by_field_runs}
 use Rattle.code_laws.proofs.ImageCuts.{image_runs, preimage_runs}
 use Rattle.code_laws.proofs.PairCuts.{both_runs, either_runs}
@@ -238,36 +238,20 @@ module _ (x : Setting) (params slots : ℕ) (fit : SlotsFit x slots) (counts : C
         (λ v s1 j k. binds x params slots fit counts aside h n None start v s1 (suc a) j low k.0 k.1 k.2 k.3 f.1)
     form_runs aside h (var_form n (Some t) (Some (by_field_initializer _ _ _))) s pc i low fine g f = absurd fine
     form_runs aside h (var_form n None (Some (image_initializer a p r f2))) s pc i low fine g f =
-        let start = Some (image_initializer a p r f2) in
-        let t = var_type h.tree h.scope None start in
-        then x (does_said x params slots fit counts aside (suc (suc pc)) (after_statement h (var_form n None start))) (valued (suc pc) [])
-        (GoodCut x params slots fit aside h t) _ (initial_value h None t start s) (λ v. bind v)
-        (image_runs x params slots fit aside h a p r f2 h.scope.next s pc i fine.1 fine.2 fine.3 fine.4 g f.0 (fetch_small x.body (suc pc) _ f.1))
-        (λ v s1 j k. binds x params slots fit counts aside h n None start v s1 (suc pc) j low k.0 k.1 k.2 k.3 f.1)
+        cut_begins x params slots fit counts aside h n (image_initializer a p r f2) s pc i low
+        (image_runs x params slots fit aside h a p r f2 h.scope.next s pc i fine.1 fine.2 fine.3 fine.4 g f.0 (fetch_small x.body (suc pc) _ f.1)) f.1
     form_runs aside h (var_form n (Some t) (Some (image_initializer _ _ _ _))) s pc i low fine g f = absurd fine
     form_runs aside h (var_form n None (Some (preimage_initializer a p r f2))) s pc i low fine g f =
-        let start = Some (preimage_initializer a p r f2) in
-        let t = var_type h.tree h.scope None start in
-        then x (does_said x params slots fit counts aside (suc (suc pc)) (after_statement h (var_form n None start))) (valued (suc pc) [])
-        (GoodCut x params slots fit aside h t) _ (initial_value h None t start s) (λ v. bind v)
-        (preimage_runs x params slots fit aside h a p r f2 (preimage_flag (is_disjoint (bound_to h.scope.names p).static_type)) h.scope.next s pc i fine.1 fine.2 fine.3 fine.4 g f.0 (fetch_small x.body (suc pc) _ f.1))
-        (λ v s1 j k. binds x params slots fit counts aside h n None start v s1 (suc pc) j low k.0 k.1 k.2 k.3 f.1)
+        cut_begins x params slots fit counts aside h n (preimage_initializer a p r f2) s pc i low
+        (preimage_runs x params slots fit aside h a p r f2 (preimage_flag (is_disjoint (bound_to h.scope.names p).static_type)) h.scope.next s pc i fine.1 fine.2 fine.3 fine.4 g f.0 (fetch_small x.body (suc pc) _ f.1)) f.1
     form_runs aside h (var_form n (Some t) (Some (preimage_initializer _ _ _ _))) s pc i low fine g f = absurd fine
     form_runs aside h (var_form n None (Some (both_initializer p q))) s pc i low fine g f =
-        let start = Some (both_initializer p q) in
-        let t = var_type h.tree h.scope None start in
-        then x (does_said x params slots fit counts aside (suc (suc pc)) (after_statement h (var_form n None start))) (valued (suc pc) [])
-        (GoodCut x params slots fit aside h t) _ (initial_value h None t start s) (λ v. bind v)
-        (both_runs x params slots fit aside h p q (both_flag (is_disjoint (bound_to h.scope.names p).static_type) (is_disjoint (bound_to h.scope.names q).static_type)) h.scope.next s pc i fine.1 g f.0 (fetch_small x.body (suc pc) _ f.1))
-        (λ v s1 j k. binds x params slots fit counts aside h n None start v s1 (suc pc) j low k.0 k.1 k.2 k.3 f.1)
+        cut_begins x params slots fit counts aside h n (both_initializer p q) s pc i low
+        (both_runs x params slots fit aside h p q (both_flag (is_disjoint (bound_to h.scope.names p).static_type) (is_disjoint (bound_to h.scope.names q).static_type)) h.scope.next s pc i fine.1 g f.0 (fetch_small x.body (suc pc) _ f.1)) f.1
     form_runs aside h (var_form n (Some t) (Some (both_initializer _ _))) s pc i low fine g f = absurd fine
     form_runs aside h (var_form n None (Some (either_initializer p q))) s pc i low fine g f =
-        let start = Some (either_initializer p q) in
-        let t = var_type h.tree h.scope None start in
-        then x (does_said x params slots fit counts aside (suc (suc pc)) (after_statement h (var_form n None start))) (valued (suc pc) [])
-        (GoodCut x params slots fit aside h t) _ (initial_value h None t start s) (λ v. bind v)
-        (either_runs x params slots fit aside h p q (either_flag) h.scope.next s pc i fine.1 g f.0 (fetch_small x.body (suc pc) _ f.1))
-        (λ v s1 j k. binds x params slots fit counts aside h n None start v s1 (suc pc) j low k.0 k.1 k.2 k.3 f.1)
+        cut_begins x params slots fit counts aside h n (either_initializer p q) s pc i low
+        (either_runs x params slots fit aside h p q (either_flag) h.scope.next s pc i fine.1 g f.0 (fetch_small x.body (suc pc) _ f.1)) f.1
     form_runs aside h (var_form n (Some t) (Some (either_initializer _ _))) s pc i low fine g f = absurd fine
     form_runs aside h (for_in_form demanded n domain body) s pc i low fine g f =
         points_run x params slots fit counts aside h demanded n domain body s pc i low
