@@ -1,9 +1,11 @@
 -- Roots that are kept, and the logical map that they stand for.
-use Rattle.std.proofs.Common.{◌≡◌, ◌≢◌, ◌∙◌, ◌≤◌, ◌<◌, ◌+◌, ◌==◌, ◌++◌, ◌||◌, ◌&&◌, ◌⊎◌, inl, inr, Bool, true, false, cond, not, List, [], ◌∷◌, None, Option, Some, ap, arith, filter, get_or, length, map, refl, slice_get, suc, sym, zero, ℕ}
+use Rattle.std.proofs.Common.{◌≡◌, ◌≢◌, ◌∙◌, ◌≤◌, ◌<◌, ◌+◌, ◌==◌, ◌++◌, ◌||◌, ◌&&◌, ◌⊎◌, inl, inr, Bool, true, false, cond, not, List, [], ◌∷◌, None, Option, Some, ap, arith, filter, get_or, length, map, refl, slice_get, subst, suc, sym, zero, ℕ}
 use Rattle.std.specs.Prelude.{slice_set}
 use Rattle.std.specs.List.{list_any, position, position_from}
 use Rattle.std.specs.Borrow.{Bor}
 use Rattle.std.specs.Option.{IfNone, IfSome, option_copied}
+use Rattle.std.specs.Prelude.{Err, Ok, Result}
+use Rattle.std.specs.Result.{OnOk}
 use Rattle.std.proofs.Math.ListN.{get_or-map}
 use Rattle.std.proofs.lemmas.Bool.{cases_Bool, eqb-true, ne_eqb}
 use Rattle.std.proofs.lemmas.Iterator.Adapters.{position_from-zero}
@@ -324,6 +326,17 @@ pub given_at_place : (roots : List RootContents) (root field place : ℕ) (f : C
 given_at_place roots root field place f r x e here is =
     column_given roots root field place f r x (at_place roots root place r e here) is
 
+-- a root that keeps its fields and their room
+pub map_at_place : (kept roots : List RootContents) (root place : ℕ) (r x : RootContents) → kept ≡ roots → position (is_kept root) roots ≡ Some place →
+    r ≡ get_or roots place r → live_root x ≡ live_root r → map_of (slice_set kept place x) ≡ map_of roots
+map_at_place kept roots root place r x same e here is =
+    ap (λ (rs : List RootContents). map_of (slice_set rs place x)) same ∙ columns_same roots place r x (at_place roots root place r e here).below here is
+
+pub spare_at_place : (kept roots : List RootContents) (root place : ℕ) (r x : RootContents) → kept ≡ roots → position (is_kept root) roots ≡ Some place →
+    r ≡ get_or roots place r → x.root ≡ r.root → KeepsRoom r.fields x.fields → KeepsSpare roots (slice_set kept place x)
+spare_at_place kept roots root place r x same e here is room =
+    subst (λ (rs : List RootContents). KeepsSpare roots (slice_set rs place x)) (sym same) (spare_kept roots place r x (at_place roots root place r e here).below here is room)
+
 pub given_nowhere : (roots : List RootContents) (root field : ℕ) (f : Column → Column) → position (is_kept root) roots ≡ None →
     on_column root field f (map_of roots) ≡ map_of roots
 given_nowhere roots root field f e = column_absent roots root field f (none_kept root roots e)
@@ -331,6 +344,10 @@ given_nowhere roots root field f e = column_absent roots root field f (none_kept
 pub IfNone_then : {X : Type 0} (o : Option X) {P Q : Type 0} → IfNone o P → (P → Q) → IfNone o Q
 IfNone_then None p f = f p
 IfNone_then (Some x) p f = p
+
+pub OnOk_then : {T E P Q : Type 0} (r : Result T E) → OnOk r P → (P → Q) → OnOk r Q
+OnOk_then (Ok x) p f = f p
+OnOk_then (Err e) p f = tt
 
 -- what is found of a field, and nothing else where it isn't there
 pub column_if_found : (c : Column) (o : Option (Bor FieldContents)) → IfSome o (λ f. c ≡ f.now.column) → IfNone o (c ≡ no_column) →

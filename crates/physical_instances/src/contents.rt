@@ -252,7 +252,7 @@ impl Contents {
     {
         if let Some(place) = self.place_of(root) {
             let kept = &mut self.roots[place];
-            kept.reserve(field, more)?;
+            return kept.reserve(field, more);
         }
         Ok(())
     }

@@ -116,7 +116,7 @@ impl RootInstances {
         let place = field as usize;
         if place < self.fields.len() {
             let found = &mut self.fields[place];
-            found.reserve(more)?;
+            return found.reserve(more);
         }
         Ok(())
     }

@@ -1,11 +1,11 @@
-use Rattle.std.proofs.Common.{rules, ◌≡◌, ◌∙◌, ◌<◌, None, Some, ap, filter, get_or, length, subst, sym, List}
+use Rattle.std.proofs.Common.{rules, ◌≡◌, ◌∙◌, None, Some, ap, filter, get_or, sym, List}
 use Rattle.std.specs.Prelude.{slice_set}
 use Rattle.std.specs.List.{position}
 use Rattle.logical_map.specs.Maps.{LiveRoot}
 use Rattle.logical_map.specs.Gives.{is_write, with_pieces}
 use Rattle.physical_instances.specs.Fields.{with_field}
-use Rattle.physical_instances.specs.Kept.{KeepsSpare, RootContents, is_kept, live_root, map_of}
-use Rattle.physical_instances.proofs.Keeping.{given_at_place, given_nowhere, spare_kept}
+use Rattle.physical_instances.specs.Kept.{RootContents, is_kept, live_root, map_of}
+use Rattle.physical_instances.proofs.Keeping.{given_at_place, given_nowhere, spare_at_place}
 use Rattle.physical_instances.proofs.contents.Contents.put_back.Goals as goal
 
 pub returns-in-Some-clause-map : goal.returns-in-Some-clause-map
@@ -24,14 +24,10 @@ returns-in-Some-clause-map c =
 pub returns-in-Some-clause-spare : goal.returns-in-Some-clause-spare
 returns-in-Some-clause-spare c =
     let roots = c.args.self.now in
-    let place = c.in-Some.place in
-    let r = c.index_mut-kept.result.now in
-    let x = c.put_back.new.self in
-    let found : position (is_kept c.args.part.root.0) roots ≡ Some place = search (rules) in
-    let here : r ≡ get_or roots place r = search (rules) in
-    let below : place < length roots = search (rules) in
-    subst (λ (rs : List RootContents). KeepsSpare roots (slice_set rs place x)) (sym c.self.view_is)
-    (spare_kept roots place r x below here (ap (λ (l : LiveRoot). l.root) c.put_back.ensures.root) c.put_back.ensures.spare)
+    let found : position (is_kept c.args.part.root.0) roots ≡ Some c.in-Some.place = search (rules) in
+    let here : c.index_mut-kept.result.now ≡ get_or roots c.in-Some.place c.index_mut-kept.result.now = search (rules) in
+    spare_at_place c.self.inside.roots.items roots c.args.part.root.0 c.in-Some.place c.index_mut-kept.result.now c.put_back.new.self c.self.view_is found here
+    (ap (λ (l : LiveRoot). l.root) c.put_back.ensures.root) c.put_back.ensures.spare
 
 pub returns-in_default-clause-map : goal.returns-in_default-clause-map
 returns-in_default-clause-map c =
