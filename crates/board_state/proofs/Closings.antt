@@ -23,7 +23,8 @@ use Rattle.board_terms.specs.declared.operation.Wait.TheVariants as wait
 use Rattle.board_terms.specs.Closings.{all_good, all_over, came_to_end, closed_up, how_closed, may_close, not_stopped, over, up_from}
 use Rattle.board_terms.specs.Stages.{is_closing, stage_at, stage_of}
 use Rattle.board_terms.specs.States.{State, operation_at}
-use Rattle.board_state.specs.Kept.{IsIssuedBy, IsKept, is_claimed, state_of}
+use Rattle.board_state.specs.Kept.{IsKept, is_claimed, state_of}
+use Rattle.board_gives.specs.Gives.{IsIssuedBy}
 use Rattle.board_state.proofs.Keeping.{StaysBut, issued_stays, stays_set}
 
 -- ---- knots

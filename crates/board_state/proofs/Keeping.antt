@@ -14,7 +14,8 @@ use Rattle.dependence_graph.specs.Knots.{knot_at, no_knot}
 use Rattle.dependence_graph.specs.declared.stage.Stage.TheVariants.{Begun}
 use Rattle.board_terms.specs.declared.operation.Operation.{Operation}
 use Rattle.board_terms.specs.States.{State, no_operation, operation_at}
-use Rattle.board_state.specs.Kept.{HasNeeds, IsIssuedBy, IsKept, IsLent, is_claimed, state_of}
+use Rattle.board_state.specs.Kept.{HasNeeds, IsKept, IsLent, is_claimed, state_of}
+use Rattle.board_gives.specs.Gives.{IsIssuedBy}
 
 -- ---- knots
 
@@ -44,17 +45,15 @@ issued_stays k i ks us s c h = (
 
 -- ---- one operation with its knot
 
-pub kept_with : (s : State) (k : ℕ) (o : Operation) (w : Waits) (map : LogicalMap) (turns : ℕ) → IsKept s → k < length s.operations →
-    o.frame.needs ≡ (operation_at s k).frame.needs → o.children ≡ (operation_at s k).children →
+pub kept_by : (s : State) (k : ℕ) (o : Operation) (w : Waits) (map : LogicalMap) (turns : ℕ) → IsKept s → k < length s.operations →
+    HasNeeds s.tree o → o.children ≡ (operation_at s k).children →
     w.listing ≡ s.waits.listing → StaysBut k s.waits.knots w.knots →
     (is_claimed o.activity ≡ true → (knot_at w.knots k).stage ≡ Begun) → IsLent o →
     IsKept (state_of s.tree s.roots map (set s.operations k o) w turns)
-kept_with s k o w map turns kept b f c l stays begun lent = record {
+kept_by s k o w map turns kept b f c l stays begun lent = record {
   counted = length-set s.operations k o ∙ kept.counted ∙ sym stays.counted;
   listing = subst (λ ls. Rattle.region_finder.specs.Listings.IsListingOf s.tree ls) (sym l) kept.listing;
-  needs = All-set (HasNeeds s.tree) s.operations k o
-      (subst (λ (n : Needs). AreNeeds s.tree n.items) (sym f) (All-get_or (HasNeeds s.tree) s.operations k no_operation b kept.needs))
-      kept.needs;
+  needs = All-set (HasNeeds s.tree) s.operations k o f kept.needs;
   begun = λ j claimed. elim (eqb_tells j k) [
     | inl h ↦ subst (λ (i : ℕ). (knot_at w.knots i).stage ≡ Begun) (sym h.1)
         (begun (ap (λ (x : Operation). is_claimed x.activity) (sym (here j h.1)) ∙ claimed))
@@ -74,3 +73,12 @@ kept_with s k o w map turns kept b f c l stays begun lent = record {
       | inl h ↦ ap (λ (x : Operation). x.children) (here j h.1) ∙ c ∙ ap (λ (i : ℕ). (operation_at s i).children) (sym h.1)
       | inr h ↦ ap (λ (x : Operation). x.children) (get_or-set_other s.operations k j o no_operation h.1)
     ]
+
+-- one that needs what it needed
+pub kept_with : (s : State) (k : ℕ) (o : Operation) (w : Waits) (map : LogicalMap) (turns : ℕ) → IsKept s → k < length s.operations →
+    o.frame.needs ≡ (operation_at s k).frame.needs → o.children ≡ (operation_at s k).children →
+    w.listing ≡ s.waits.listing → StaysBut k s.waits.knots w.knots →
+    (is_claimed o.activity ≡ true → (knot_at w.knots k).stage ≡ Begun) → IsLent o →
+    IsKept (state_of s.tree s.roots map (set s.operations k o) w turns)
+kept_with s k o w map turns kept b f = kept_by s k o w map turns kept b
+    (subst (λ (n : Needs). AreNeeds s.tree n.items) (sym f) (All-get_or (HasNeeds s.tree) s.operations k no_operation b kept.needs))

@@ -18,7 +18,8 @@ use Rattle.machine_terms.specs.declared.value.Value.TheVariants.{Number}
 use Rattle.task_code.specs.declared.code.NeedCode.{NeedCode}
 use Rattle.task_code.specs.declared.code.TaskCode.{TaskCode}
 use Rattle.task_code.specs.declared.job.Job.{Job}
-use Rattle.board_state.specs.Kept.{HasNeeds, IsIssuedBy, IsKept, IsLent, is_claimed}
+use Rattle.board_state.specs.Kept.{HasNeeds, IsKept, IsLent, is_claimed}
+use Rattle.board_gives.specs.Gives.{IsIssuedBy}
 
 -- one operation that needs nothing, has called nobody, and that no seat has
 pub alone_kept : (main : Operation) (w : Waits) → main.frame.needs.items ≡ [] → main.children ≡ [] → is_claimed main.activity ≡ false → IsLent main →

@@ -1,16 +1,15 @@
 -- What the state of a board keeps.
-use Rattle.std.specs.Prelude.{◌≡◌, ◌<◌, ℕ, List, All, Bool, true, false, Option, Some, length}
+use Rattle.std.specs.Prelude.{◌≡◌, ℕ, List, All, Bool, true, false, Option, Some, length}
 use Rattle.region_finder.specs.Listings.{IsListingOf}
 use Rattle.region_tree.specs.Needs.{AreNeeds}
 use Rattle.region_tree.specs.Trees.{RegionTree}
 use Rattle.region_tree.specs.declared.needs.Needs.{Needs}
-use Rattle.region_tree.specs.declared.tree.OpNumber.{OpNumber}
 use Rattle.logical_map.specs.Maps.{LogicalMap}
-use Rattle.dependence_graph.specs.Entries.{Knot}
 use Rattle.dependence_graph.specs.Graphs.{Waits}
 use Rattle.dependence_graph.specs.Knots.{knot_at}
 use Rattle.dependence_graph.specs.declared.stage.Stage.{Stage}
 use Rattle.dependence_graph.specs.declared.stage.Stage.TheVariants.{Begun, Stopped}
+use Rattle.board_gives.specs.Gives.{IsIssuedBy}
 use Rattle.board_terms.specs.declared.extent.Extent.{Extent}
 use Rattle.board_terms.specs.declared.operation.Activity.{Activity}
 use Rattle.board_terms.specs.declared.operation.Activity.TheVariants.{Filling, Out}
@@ -41,10 +40,6 @@ is_claimed _ = false
 
 abbrev pub HasNeeds : RegionTree → Operation → Type 0
 HasNeeds t o = AreNeeds t o.frame.needs.items
-
--- an operation that was issued by another one
-abbrev pub IsIssuedBy : List Knot → ℕ → OpNumber → Type 0
-IsIssuedBy ks k c = (c.0 < length ks) × ((knot_at ks c.0).parent.0 ≡ k)
 
 -- what is out was lent with these needs
 abbrev pub IsLentWith : Needs → Activity → Type 0

@@ -9,7 +9,14 @@ use Rattle.board_terms.specs.declared.operation.Activity.{Activity}
 use Rattle.board_terms.specs.declared.operation.Activity.TheVariants as activity
 use Rattle.board_terms.specs.declared.operation.Operation.{Operation}
 use Rattle.board_terms.specs.Claims.{activity_behind, moved_on}
-use Rattle.board_terms.specs.States.{State, doing, operation_at}
+use Rattle.board_terms.specs.States.{State, doing, operation_at, with_operation}
+use Rattle.board_terms.specs.Gives.{behind_segment, yielded}
+use Rattle.board_terms.specs.declared.operation.Ending.{Ending}
+use Rattle.board_terms.specs.declared.operation.Wait.{Wait}
+use Rattle.board_gives.specs.Gives.{ended_with, parked_with}
+use Rattle.dependence_graph.specs.Graphs.{parked}
+use Rattle.dependence_graph.specs.declared.stage.Waiting.{Waiting}
+use Rattle.machine_terms.specs.declared.outcome.After.{After}
 
 -- ---- claims
 
@@ -63,3 +70,21 @@ copy_made code s k = doing s k (copied_activity code s (operation_at s k) (opera
 abbrev pub before_out : Activity → Option Before
 before_out (activity.Out claim before) = Some before
 before_out _ = None
+
+-- ---- gives
+
+-- the operation is as a segment left it
+abbrev pub behind : State → ℕ → After → State
+behind s k a = with_operation s k (behind_segment (operation_at s k) a)
+
+-- what a segment that is given back makes of a state, before what follows from it
+abbrev pub given_by : Code → ℕ → State → ℕ → After → State
+given_by code turns s k a = yielded code turns (behind s k a) k a.ends
+
+-- an operation is something else, and the map too
+abbrev pub ended_in : State → ℕ → After → Ending → LogicalMap → State
+ended_in s k a e map = record (with_operation s k (ended_with (operation_at s k) a e)) { map = map }
+
+-- it waits, also in the graph
+abbrev pub parked_in : State → ℕ → After → Wait → Waiting → State
+parked_in s k a w on = record (with_operation s k (parked_with (operation_at s k) a w)) { waits = parked s.tree s.waits k on }

@@ -5,6 +5,7 @@
 mod claiming;
 mod closing;
 mod copying;
+mod giving;
 mod opening;
 mod owing;
 mod parking;

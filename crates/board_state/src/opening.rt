@@ -2,24 +2,22 @@
 
 ghost use Rattle.std.specs.Prelude.{◌≡◌, [], IfOk, Some, false};
 ghost use Rattle.board_state.specs.Kept.{IsLent, is_claimed};
-ghost use Rattle.board_terms.specs.States.{begun_with, called_by, no_frame, opened, opened_with, void_state};
+ghost use Rattle.board_terms.specs.States.{begun_with, called_by, opened, opened_with, void_state};
 ghost use Rattle.dependence_graph.specs.Graphs.{new_graph};
 ghost use Rattle.region_tree.specs.Trees.{empty_tree};
 ghost use Rattle.std.specs.Prelude.{length};
 
-use crate::parking::wait_for_nothing;
-use crate::state::{BoardState, Waits};
+use crate::state::BoardState;
+use board_gives::{Waits, frame_of_roots, wait_for_nothing};
 use board_terms::{Activity, Ending, Operation, Wait};
 use dependence_graph::{Graph, How};
-use machine_terms::{Frame, Stack};
+use machine_terms::Frame;
 use physical_instances::Contents;
 use plain_values::Sequence;
 use region_forest::Forest;
-use region_tree::{Needs, OpNumber};
-use region_walk::ScanFinder;
+use region_tree::OpNumber;
+use region_walk::WalkFinder;
 use std::alloc::{AllocError, Global};
-use std::marker::Brand;
-use std::sync::ledger::Blank;
 use task_code::{Job, TaskCode};
 use task_frames::{first_frame, may_start};
 
@@ -47,7 +45,7 @@ fn open_with(alloc: Global, job: &Job, task: &TaskCode) -> Result<BoardState, Al
     let main = called_by(alloc, OpNumber(0), first_frame(alloc, job, task)?);
     let tree = Forest::new(alloc)?;
     let mut graph = new_graph(alloc)?;
-    wait_for_nothing::<Brand>(Blank::new(1), &mut graph, &tree, OpNumber(0));
+    wait_for_nothing(&mut graph, &tree, OpNumber(0));
     begun_with(alloc, tree, main, graph)
 }
 
@@ -55,7 +53,7 @@ fn open_with(alloc: Global, job: &Job, task: &TaskCode) -> Result<BoardState, Al
 fn open_void(alloc: Global) -> Result<BoardState, AllocError>
     ensures { IfOk result (λ b. b ≡ void_state) }
 {
-    let mut main = called_by(alloc, OpNumber(0), no_frame(alloc));
+    let mut main = called_by(alloc, OpNumber(0), frame_of_roots(alloc, Sequence::new(alloc)));
     main.activity = Activity::Closing(Ending::Broken);
     let tree = Forest::new(alloc)?;
     let mut graph = new_graph(alloc)?;
@@ -66,7 +64,7 @@ fn open_void(alloc: Global) -> Result<BoardState, AllocError>
 fn new_graph(alloc: Global) -> Result<Waits, AllocError>
     ensures { IfOk result (λ g. g ≡ new_graph) }
 {
-    Graph::new(alloc, ScanFinder::new(alloc)?)
+    Graph::new(alloc, WalkFinder::new(alloc)?)
 }
 
 /// The state of one operation that needs nothing.
@@ -111,25 +109,5 @@ fn called_by(alloc: Global, parent: OpNumber, frame: Frame) -> Operation
         said: Sequence::new(alloc),
         wait: Wait::Beginning,
         activity: Activity::Idle,
-    }
-}
-
-/// The frame of no task.
-fn no_frame(alloc: Global) -> Frame
-    ensures { result ≡ no_frame }
-{
-    Frame {
-        task: 0,
-        pc: 0,
-        slots: Sequence::new(alloc),
-        stack: Stack::new(alloc),
-        turns: 0,
-        depth: 0,
-        needs: Needs {
-            items: Sequence::new(alloc),
-        },
-        own: Sequence::new(alloc),
-        children: 0,
-        later: None,
     }
 }

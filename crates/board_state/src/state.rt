@@ -2,15 +2,11 @@
 
 ghost use Rattle.std.specs.Prelude.{◌≡◌};
 
+use board_gives::Waits;
 use board_terms::{Extent, Operation};
-use dependence_graph::Graph;
 use physical_instances::Contents;
 use region_forest::Forest;
-use region_walk::ScanFinder;
 use std::marker::Model;
-
-/// What waits for what, by the finder that boards use.
-pub(crate) type Waits = Graph<ScanFinder>;
 
 /// The state of a board: the regions that were made, the roots' extents, what the live roots hold, the operations in
 /// order of issue, what waits for what among them, and how many claims there were.

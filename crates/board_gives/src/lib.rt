@@ -1,0 +1,13 @@
+//! What a segment that is given back makes of the parts of a board's state. Each call takes its memory before it changes
+//! anything; a refusal hands the run back.
+#![tactic(auto)]
+
+mod ending;
+mod parking;
+mod returning;
+mod telling;
+mod waiting;
+
+pub use ending::{end, fail, frame_of_roots};
+pub use parking::{Waits, wait_for_nothing};
+pub use waiting::{await_child, want};

@@ -1,0 +1,126 @@
+-- What a state keeps behind a segment that is given back.
+use Rattle.std.specs.Prelude.{IfSome, OnErr, OnOk, Result, Ok, Err}
+use Rattle.std.proofs.Common.{◌≡◌, ◌<◌, ◌∙◌, ℕ, Bool, true, false, List, [], ◌∷◌, All, None, Option, Some, ap, get_or, length, refl, set, subst, sym}
+use Rattle.std.proofs.lemmas.Bool.{false≢true}
+use Rattle.std.proofs.lemmas.Option.{none-some, same_Some}
+use Rattle.std.proofs.lemmas.List.{get_or-set_same, set-set}
+use Rattle.std.proofs.lemmas.List.Elements.{All-get_or, All-nil}
+use Rattle.region_tree.specs.Needs.{AreNeeds, IsNeed}
+use Rattle.region_tree.specs.Trees.{RegionTree}
+use Rattle.region_tree.specs.declared.needs.Needs.{Needs}
+use Rattle.region_tree.specs.declared.tree.OpNumber.{OpNumber}
+use Rattle.logical_map.specs.Maps.{LogicalMap}
+use Rattle.dependence_graph.specs.Graphs.{Waits, knot_on, parked, parked_on, waited}
+use Rattle.dependence_graph.specs.Knots.{knot_at}
+use Rattle.dependence_graph.specs.declared.stage.Stage.TheVariants.{Begun, Parked, Stopped}
+use Rattle.dependence_graph.specs.declared.stage.Waiting.{Waiting}
+use Rattle.machine_terms.specs.declared.frame.Before.{Before}
+use Rattle.machine_terms.specs.declared.frame.Frame.{Frame}
+use Rattle.machine_terms.specs.declared.outcome.After.{After}
+use Rattle.machine_terms.specs.Segments.{segment}
+use Rattle.board_terms.specs.declared.operation.Activity.{Activity}
+use Rattle.board_terms.specs.declared.operation.Activity.TheVariants as activity
+use Rattle.board_terms.specs.declared.operation.Ending.{Ending}
+use Rattle.board_terms.specs.declared.operation.Operation.{Operation}
+use Rattle.board_terms.specs.declared.operation.Wait.{Wait}
+use Rattle.board_terms.specs.Gives.{frame_left}
+use Rattle.board_terms.specs.States.{State, no_operation, operation_at}
+use Rattle.board_gives.specs.Gives.{IsIssuedBy, ended_with, parked_with}
+use Rattle.board_state.specs.Kept.{HasNeeds, IsKept, IsLent, IsLentWith, is_claimed, state_of}
+use Rattle.board_state.specs.Steps.{before_out}
+use Rattle.board_state.proofs.Claims.{claimed_there, same_operation}
+use Rattle.board_state.proofs.Keeping.{StaysBut, kept_by, stays_set}
+use Rattle.board_state.proofs.Segments.{segment_needs}
+
+-- ---- what is out
+
+pub out_claimed : (a : Activity) (b : Before) → before_out a ≡ Some b → is_claimed a ≡ true
+out_claimed (activity.Out c d) b e = refl
+out_claimed (activity.Filling c f) b e = refl
+out_claimed activity.Idle b e = absurd (none-some b e)
+out_claimed (activity.Closing x) b e = absurd (none-some b e)
+
+pub out_there : (s : State) (k : ℕ) (b : Before) → before_out (operation_at s k).activity ≡ Some b → k < length s.operations
+out_there s k b e = claimed_there s k (out_claimed (operation_at s k).activity b e)
+
+pub out_begun : (s : State) (k : ℕ) (b : Before) → IsKept s → before_out (operation_at s k).activity ≡ Some b →
+    (knot_at s.waits.knots k).stage ≡ Begun
+out_begun s k b kept e = kept.begun k (out_claimed (operation_at s k).activity b e)
+
+-- it is lent with its needs, and its segment leaves these
+lent_needs : (needs : Needs) (a : Activity) (b : Before) → before_out a ≡ Some b → IsLentWith needs a → b.frame.needs ≡ needs
+lent_needs needs (activity.Out c d) b e l = ap (λ (x : Before). x.frame.needs) (sym (same_Some d b e)) ∙ l
+lent_needs needs (activity.Filling c f) b e l = absurd (none-some b e)
+lent_needs needs activity.Idle b e l = absurd (none-some b e)
+lent_needs needs (activity.Closing x) b e l = absurd (none-some b e)
+
+pub out_needs : (s : State) (k : ℕ) (b : Before) → IsKept s → before_out (operation_at s k).activity ≡ Some b →
+    b.frame.needs ≡ (operation_at s k).frame.needs
+out_needs s k b kept e = lent_needs (operation_at s k).frame.needs (operation_at s k).activity b e
+    (All-get_or IsLent s.operations k no_operation (out_there s k b e) kept.lent)
+
+pub own_needs : (s : State) (k : ℕ) → IsKept s → k < length s.operations → HasNeeds s.tree (operation_at s k)
+own_needs s k kept b = All-get_or (HasNeeds s.tree) s.operations k no_operation b kept.needs
+
+left_by : (t : RegionTree) (f : Frame) (needs : Needs) (o : Option Frame) → IfSome o (λ g. g.needs ≡ needs) → AreNeeds t needs.items →
+    AreNeeds t (frame_left f o).needs.items
+left_by t f needs None e a = All-nil (IsNeed t)
+left_by t f needs (Some g) e a = subst (λ (n : Needs). AreNeeds t n.items) (sym e) a
+
+left_needs : (s : State) (k : ℕ) (b : Before) → IsKept s → before_out (operation_at s k).activity ≡ Some b →
+    AreNeeds s.tree (frame_left (operation_at s k).frame (segment b).frame).needs.items
+left_needs s k b kept e = left_by s.tree (operation_at s k).frame b.frame.needs (segment b).frame (segment_needs b)
+    (subst (λ (n : Needs). AreNeeds s.tree n.items) (sym (out_needs s k b kept e)) (own_needs s k kept (out_there s k b e)))
+
+-- ---- what is kept
+
+stays_itself : (s : State) (k : ℕ) → StaysBut k s.waits.knots s.waits.knots
+stays_itself s k = record { counted = refl; parents = λ j. refl; begun = λ j other h. h }
+
+ended_kept : (s : State) (k : ℕ) (b : Before) (x : Ending) (map : LogicalMap) → IsKept s → before_out (operation_at s k).activity ≡ Some b →
+    IsKept (state_of s.tree s.roots map (set s.operations k (ended_with (operation_at s k) (segment b) x)) s.waits s.turns)
+ended_kept s k b x map kept e = kept_by s k (ended_with (operation_at s k) (segment b) x) s.waits map s.turns kept (out_there s k b e)
+    (left_needs s k b kept e) refl refl (stays_itself s k) (λ c. absurd (false≢true c)) tt
+
+parked_kept : (s : State) (k : ℕ) (b : Before) (w : Wait) (on : Waiting) → IsKept s → before_out (operation_at s k).activity ≡ Some b →
+    IsKept (state_of s.tree s.roots s.map (set s.operations k (parked_with (operation_at s k) (segment b) w)) (parked s.tree s.waits k on) s.turns)
+parked_kept s k b w on kept e =
+    let there : k < length s.waits.knots = subst (λ (n : ℕ). k < n) kept.counted (out_there s k b e) in
+    kept_by s k (parked_with (operation_at s k) (segment b) w) (parked s.tree s.waits k on) s.map s.turns kept (out_there s k b e)
+    (left_needs s k b kept e) refl refl
+    (stays_set s.waits.knots k (knot_on s.waits.knots (knot_at s.waits.knots k).parent (waited s.tree s.waits.listing k on) Parked Stopped) there refl)
+    (λ c. absurd (false≢true c)) tt
+
+-- whatever the map is
+same_kept : (s : State) (k : ℕ) (map : LogicalMap) → IsKept s → k < length s.operations →
+    IsKept (state_of s.tree s.roots map (set s.operations k (operation_at s k)) s.waits s.turns)
+same_kept s k map kept b = kept_by s k (operation_at s k) s.waits map s.turns kept b (own_needs s k kept b) refl refl (stays_itself s k)
+    (kept.begun k) (All-get_or IsLent s.operations k no_operation b kept.lent)
+
+-- ---- the same by its parts
+
+module _ (s : State) (k : ℕ) (before : Before) (x o : Operation) (kept : IsKept s)
+    (e : before_out (operation_at s k).activity ≡ Some before) (here : x ≡ get_or s.operations k x) where
+  at : x ≡ operation_at s k
+  at = same_operation s.operations k x (out_there s k before e) here
+
+  unchanged : (map : LogicalMap) → o ≡ x → IsKept (state_of s.tree s.roots map (set s.operations k o) s.waits s.turns)
+  unchanged map h = subst (λ (y : Operation). IsKept (state_of s.tree s.roots map (set s.operations k y) s.waits s.turns)) (sym (h ∙ at))
+      (same_kept s k map kept (out_there s k before e))
+
+  pub ended_stays : {A E : Type 0} (r : Result A E) (y : Ending) (map : LogicalMap) → OnOk r (o ≡ ended_with x (segment before) y) → OnErr r (o ≡ x) →
+      IsKept (state_of s.tree s.roots map (set s.operations k o) s.waits s.turns)
+  ended_stays (Ok a) y map f g =
+      subst (λ (z : Operation). IsKept (state_of s.tree s.roots map (set s.operations k z) s.waits s.turns))
+      (sym (f ∙ ap (λ (z : Operation). ended_with z (segment before) y) at)) (ended_kept s k before y map kept e)
+  ended_stays (Err b) y map f g = unchanged map g
+
+  pub parked_stays : {A E : Type 0} (r : Result A E) (w : Wait) (on : Waiting) (waits : Waits) → OnOk r (o ≡ parked_with x (segment before) w) →
+      OnOk r (waits ≡ parked s.tree s.waits k on) → OnErr r (o ≡ x) → OnErr r (waits ≡ s.waits) →
+      IsKept (state_of s.tree s.roots s.map (set s.operations k o) waits s.turns)
+  parked_stays (Ok a) w on waits f f2 g g2 =
+      subst (λ (v : Waits). IsKept (state_of s.tree s.roots s.map (set s.operations k o) v s.turns)) (sym f2)
+      (subst (λ (z : Operation). IsKept (state_of s.tree s.roots s.map (set s.operations k z) (parked s.tree s.waits k on) s.turns))
+      (sym (f ∙ ap (λ (z : Operation). parked_with z (segment before) w) at)) (parked_kept s k before w on kept e))
+  parked_stays (Err b) w on waits f f2 g g2 =
+      subst (λ (v : Waits). IsKept (state_of s.tree s.roots s.map (set s.operations k o) v s.turns)) (sym g2) (unchanged s.map g)

@@ -1,0 +1,94 @@
+//! Segments that are given back.
+
+ghost use Rattle.std.specs.Prelude.{◌≡◌, IfErr, OnErr, OnOk, Some, filter, slice_get};
+ghost use Rattle.board_state.specs.Steps.{before_out, ended_in, parked_in};
+ghost use Rattle.board_terms.specs.declared.operation.Ending.TheVariants as ending_term;
+ghost use Rattle.board_terms.specs.declared.operation.Wait.TheVariants as wait_term;
+ghost use Rattle.board_terms.specs.Gives.{is_on, waits_for, with_parts};
+ghost use Rattle.board_terms.specs.States.{operation_at};
+ghost use Rattle.dependence_graph.specs.declared.stage.Waiting.TheVariants as graph_term;
+ghost use Rattle.machine_terms.specs.Segments.{segment};
+
+use crate::state::BoardState;
+use board_gives::{await_child, end, fail, want};
+use board_terms::Ending;
+use machine_terms::Ran;
+use region_tree::{OpNumber, RootId};
+use std::alloc::AllocError;
+
+impl BoardState {
+    /// The own work of an operation that is out has ended at a fault, or broken.
+    #[tactic(auto, using(crate::proofs::Gives::out_there))]
+    pub fn give_failed(
+        &mut self,
+        op: OpNumber,
+        ending: Ending,
+        ran: Ran,
+    ) -> Result<(), (AllocError, Ran)>
+        requires { before_out (operation_at self.old op.0).activity ≡ Some ran }
+        ensures ended { OnOk result (self.new ≡ ended_in self.old op.0 (segment ran) ending self.old.map) }
+        ensures unchanged { OnErr result (self.new ≡ self.old) }
+        ensures handed { IfErr result (λ e. e.1 ≡ ran) }
+    {
+        let alloc = *self.operations.allocator();
+        fail(alloc, &mut self.operations[op.0 as usize], ending, ran)
+    }
+
+    /// The own work of an operation that is out has come to its end, and its parts go back.
+    #[tactic(auto, using(crate::proofs::Gives::out_there))]
+    pub fn give_ended(
+        &mut self,
+        op: OpNumber,
+        value: Option<i64>,
+        ran: Ran,
+    ) -> Result<(), (AllocError, Ran)>
+        requires { before_out (operation_at self.old op.0).activity ≡ Some ran }
+        ensures ended { OnOk result (self.new ≡ ended_in self.old op.0 (segment ran) (ending_term.Value value)
+            (with_parts (segment ran).parts self.old.map)) }
+        ensures unchanged { OnErr result (self.new ≡ self.old) }
+        ensures handed { IfErr result (λ e. e.1 ≡ ran) }
+    {
+        let alloc = *self.operations.allocator();
+        let operation = &mut self.operations[op.0 as usize];
+        end(alloc, &mut self.contents, operation, value, ran)
+    }
+
+    /// An operation that is out wants a part of a root's field.
+    #[tactic(auto, using(crate::proofs::Gives::out_there))]
+    pub fn give_wanting(
+        &mut self,
+        op: OpNumber,
+        root: RootId,
+        field: u8,
+        ran: Ran,
+    ) -> Result<(), (AllocError, Ran)>
+        requires { before_out (operation_at self.old op.0).activity ≡ Some ran }
+        ensures parked { OnOk result (self.new ≡ parked_in self.old op.0 (segment ran) (wait_term.Part root field)
+            (graph_term.Part (record { items = filter (is_on root.0 field) (operation_at self.old op.0).frame.needs.items }))) }
+        ensures unchanged { OnErr result (self.new ≡ self.old) }
+        ensures handed { IfErr result (λ e. e.1 ≡ ran) }
+    {
+        let alloc = *self.operations.allocator();
+        let operation = &mut self.operations[op.0 as usize];
+        want(alloc, &self.tree, &mut self.graph, operation, op, root, field, ran)
+    }
+
+    /// An operation that is out awaits a child, by its place.
+    #[tactic(auto, using(crate::proofs::Gives::out_there))]
+    pub fn give_awaiting(
+        &mut self,
+        op: OpNumber,
+        place: u64,
+        ran: Ran,
+    ) -> Result<(), (AllocError, Ran)>
+        requires { before_out (operation_at self.old op.0).activity ≡ Some ran }
+        ensures parked { OnOk result (self.new ≡ parked_in self.old op.0 (segment ran) (wait_term.Child place)
+            (waits_for (slice_get (operation_at self.old op.0).children place))) }
+        ensures unchanged { OnErr result (self.new ≡ self.old) }
+        ensures handed { IfErr result (λ e. e.1 ≡ ran) }
+    {
+        let alloc = *self.operations.allocator();
+        let operation = &mut self.operations[op.0 as usize];
+        await_child(alloc, &self.tree, &mut self.graph, operation, op, place, ran)
+    }
+}
