@@ -1,3 +1,4 @@
+pub mod Makes
 pub mod Returns
 pub mod Tellings
 pub mod Waits

@@ -5,9 +5,11 @@
 mod ending;
 mod parking;
 mod returning;
+mod rooting;
 mod telling;
 mod waiting;
 
 pub use ending::{end, fail, frame_of_roots};
 pub use parking::{Waits, wait_for_nothing};
+pub use rooting::make_root;
 pub use waiting::{await_child, want};

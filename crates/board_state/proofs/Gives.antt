@@ -1,22 +1,19 @@
 -- What a state keeps behind a segment that is given back.
 use Rattle.std.specs.Prelude.{IfSome, OnErr, OnOk, Result, Ok, Err}
-use Rattle.std.proofs.Common.{◌≡◌, ◌<◌, ◌∙◌, ℕ, Bool, true, false, List, [], ◌∷◌, All, None, Option, Some, ap, get_or, length, refl, set, subst, sym}
+use Rattle.std.proofs.Common.{◌≡◌, ◌<◌, ◌∙◌, ℕ, true, None, Option, Some, ap, get_or, length, refl, set, subst, sym}
 use Rattle.std.proofs.lemmas.Bool.{false≢true}
 use Rattle.std.proofs.lemmas.Option.{none-some, same_Some}
-use Rattle.std.proofs.lemmas.List.{get_or-set_same, set-set}
 use Rattle.std.proofs.lemmas.List.Elements.{All-get_or, All-nil}
 use Rattle.region_tree.specs.Needs.{AreNeeds, IsNeed}
 use Rattle.region_tree.specs.Trees.{RegionTree}
 use Rattle.region_tree.specs.declared.needs.Needs.{Needs}
-use Rattle.region_tree.specs.declared.tree.OpNumber.{OpNumber}
 use Rattle.logical_map.specs.Maps.{LogicalMap}
-use Rattle.dependence_graph.specs.Graphs.{Waits, knot_on, parked, parked_on, waited}
+use Rattle.dependence_graph.specs.Graphs.{Waits, knot_on, parked, waited}
 use Rattle.dependence_graph.specs.Knots.{knot_at}
 use Rattle.dependence_graph.specs.declared.stage.Stage.TheVariants.{Begun, Parked, Stopped}
 use Rattle.dependence_graph.specs.declared.stage.Waiting.{Waiting}
 use Rattle.machine_terms.specs.declared.frame.Before.{Before}
 use Rattle.machine_terms.specs.declared.frame.Frame.{Frame}
-use Rattle.machine_terms.specs.declared.outcome.After.{After}
 use Rattle.machine_terms.specs.Segments.{segment}
 use Rattle.board_terms.specs.declared.operation.Activity.{Activity}
 use Rattle.board_terms.specs.declared.operation.Activity.TheVariants as activity
@@ -25,7 +22,7 @@ use Rattle.board_terms.specs.declared.operation.Operation.{Operation}
 use Rattle.board_terms.specs.declared.operation.Wait.{Wait}
 use Rattle.board_terms.specs.Gives.{frame_left}
 use Rattle.board_terms.specs.States.{State, no_operation, operation_at}
-use Rattle.board_gives.specs.Gives.{IsIssuedBy, ended_with, parked_with}
+use Rattle.board_gives.specs.Gives.{ended_with, parked_with}
 use Rattle.board_state.specs.Kept.{HasNeeds, IsKept, IsLent, IsLentWith, is_claimed, state_of}
 use Rattle.board_state.specs.Steps.{before_out}
 use Rattle.board_state.proofs.Claims.{claimed_there, same_operation}

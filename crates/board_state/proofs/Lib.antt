@@ -1,5 +1,6 @@
 pub mod Keeping
 pub mod Claims
+pub mod Given
 pub mod Gives
 pub mod Closings
 pub mod Copies

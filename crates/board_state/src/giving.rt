@@ -1,25 +1,105 @@
 //! Segments that are given back.
 
-ghost use Rattle.std.specs.Prelude.{◌≡◌, IfErr, OnErr, OnOk, Some, filter, slice_get};
-ghost use Rattle.board_state.specs.Steps.{before_out, ended_in, parked_in};
+ghost use Rattle.std.specs.Prelude.{◌≡◌, ℕ, IfErr, OnErr, OnOk, Some, filter, slice_get};
+ghost use Rattle.board_state.specs.Kept.{IsKept};
+ghost use Rattle.board_state.specs.Steps.{before_out, ended_in, given_by, parked_in};
 ghost use Rattle.board_terms.specs.declared.operation.Ending.TheVariants as ending_term;
 ghost use Rattle.board_terms.specs.declared.operation.Wait.TheVariants as wait_term;
 ghost use Rattle.board_terms.specs.Gives.{is_on, waits_for, with_parts};
 ghost use Rattle.board_terms.specs.States.{operation_at};
 ghost use Rattle.dependence_graph.specs.declared.stage.Waiting.TheVariants as graph_term;
+ghost use Rattle.machine_terms.specs.declared.outcome.Yield.TheVariants as yield_term;
 ghost use Rattle.machine_terms.specs.Segments.{segment};
+ghost use Rattle.task_code.specs.declared.code.Code.{Code as code_term};
 
 use crate::state::BoardState;
 use board_gives::{await_child, end, fail, want};
 use board_terms::Ending;
 use machine_terms::Ran;
+use regent_tree::Fault;
 use region_tree::{OpNumber, RootId};
 use std::alloc::AllocError;
 
 impl BoardState {
+    /// A segment that ended at a fault is given back.
+    pub fn give_fault(
+        &mut self,
+        op: OpNumber,
+        fault: Fault,
+        ran: Ran,
+    ) -> Result<(), (AllocError, Ran)>
+        requires out { before_out (operation_at self.old op.0).activity ≡ Some ran }
+        requires ends { (segment ran).ends ≡ yield_term.Fault fault }
+        ensures given { OnOk result ((code : code_term) (turns : ℕ) → self.new ≡ given_by code turns self.old op.0 (segment ran)) }
+        ensures unchanged { OnErr result (self.new ≡ self.old) }
+        ensures handed { IfErr result (λ e. e.1 ≡ ran) }
+    {
+        self.give_failed(op, Ending::Fault(fault), ran)
+    }
+
+    /// A segment that no compiled program has is given back: the operation is broken.
+    pub fn give_broken(&mut self, op: OpNumber, ran: Ran) -> Result<(), (AllocError, Ran)>
+        requires out { before_out (operation_at self.old op.0).activity ≡ Some ran }
+        requires ends { (segment ran).ends ≡ yield_term.MachineFault }
+        ensures given { OnOk result ((code : code_term) (turns : ℕ) → self.new ≡ given_by code turns self.old op.0 (segment ran)) }
+        ensures unchanged { OnErr result (self.new ≡ self.old) }
+        ensures handed { IfErr result (λ e. e.1 ≡ ran) }
+    {
+        self.give_failed(op, Ending::Broken, ran)
+    }
+
+    /// A segment that came to the end of its task is given back: its parts go back.
+    pub fn give_end(
+        &mut self,
+        op: OpNumber,
+        value: Option<i64>,
+        ran: Ran,
+    ) -> Result<(), (AllocError, Ran)>
+        requires out { before_out (operation_at self.old op.0).activity ≡ Some ran }
+        requires ends { (segment ran).ends ≡ yield_term.End value }
+        ensures given { OnOk result ((code : code_term) (turns : ℕ) → self.new ≡ given_by code turns self.old op.0 (segment ran)) }
+        ensures unchanged { OnErr result (self.new ≡ self.old) }
+        ensures handed { IfErr result (λ e. e.1 ≡ ran) }
+    {
+        self.give_ended(op, value, ran)
+    }
+
+    /// A segment that wants a part of a root's field is given back.
+    pub fn give_want(
+        &mut self,
+        op: OpNumber,
+        root: RootId,
+        field: u8,
+        ran: Ran,
+    ) -> Result<(), (AllocError, Ran)>
+        requires out { before_out (operation_at self.old op.0).activity ≡ Some ran }
+        requires ends { (segment ran).ends ≡ yield_term.Want root field }
+        ensures given { OnOk result ((code : code_term) (turns : ℕ) → self.new ≡ given_by code turns self.old op.0 (segment ran)) }
+        ensures unchanged { OnErr result (self.new ≡ self.old) }
+        ensures handed { IfErr result (λ e. e.1 ≡ ran) }
+    {
+        self.give_wanting(op, root, field, ran)
+    }
+
+    /// A segment that awaits a child, by its place, is given back.
+    pub fn give_await(
+        &mut self,
+        op: OpNumber,
+        place: u64,
+        ran: Ran,
+    ) -> Result<(), (AllocError, Ran)>
+        requires out { before_out (operation_at self.old op.0).activity ≡ Some ran }
+        requires ends { (segment ran).ends ≡ yield_term.Await place }
+        ensures given { OnOk result ((code : code_term) (turns : ℕ) → self.new ≡ given_by code turns self.old op.0 (segment ran)) }
+        ensures unchanged { OnErr result (self.new ≡ self.old) }
+        ensures handed { IfErr result (λ e. e.1 ≡ ran) }
+    {
+        self.give_awaiting(op, place, ran)
+    }
+
     /// The own work of an operation that is out has ended at a fault, or broken.
     #[tactic(auto, using(crate::proofs::Gives::out_there))]
-    pub fn give_failed(
+    fn give_failed(
         &mut self,
         op: OpNumber,
         ending: Ending,
@@ -36,7 +116,7 @@ impl BoardState {
 
     /// The own work of an operation that is out has come to its end, and its parts go back.
     #[tactic(auto, using(crate::proofs::Gives::out_there))]
-    pub fn give_ended(
+    fn give_ended(
         &mut self,
         op: OpNumber,
         value: Option<i64>,
@@ -55,7 +135,7 @@ impl BoardState {
 
     /// An operation that is out wants a part of a root's field.
     #[tactic(auto, using(crate::proofs::Gives::out_there))]
-    pub fn give_wanting(
+    fn give_wanting(
         &mut self,
         op: OpNumber,
         root: RootId,
@@ -63,6 +143,7 @@ impl BoardState {
         ran: Ran,
     ) -> Result<(), (AllocError, Ran)>
         requires { before_out (operation_at self.old op.0).activity ≡ Some ran }
+        ensures kept { IsKept self.old }
         ensures parked { OnOk result (self.new ≡ parked_in self.old op.0 (segment ran) (wait_term.Part root field)
             (graph_term.Part (record { items = filter (is_on root.0 field) (operation_at self.old op.0).frame.needs.items }))) }
         ensures unchanged { OnErr result (self.new ≡ self.old) }
@@ -70,17 +151,21 @@ impl BoardState {
     {
         let alloc = *self.operations.allocator();
         let operation = &mut self.operations[op.0 as usize];
-        want(alloc, &self.tree, &mut self.graph, operation, op, root, field, ran)
+        want(
+            alloc,
+            &self.tree,
+            &mut self.graph,
+            operation,
+            op,
+            root,
+            field,
+            ran,
+        )
     }
 
     /// An operation that is out awaits a child, by its place.
     #[tactic(auto, using(crate::proofs::Gives::out_there))]
-    pub fn give_awaiting(
-        &mut self,
-        op: OpNumber,
-        place: u64,
-        ran: Ran,
-    ) -> Result<(), (AllocError, Ran)>
+    fn give_awaiting(&mut self, op: OpNumber, place: u64, ran: Ran) -> Result<(), (AllocError, Ran)>
         requires { before_out (operation_at self.old op.0).activity ≡ Some ran }
         ensures parked { OnOk result (self.new ≡ parked_in self.old op.0 (segment ran) (wait_term.Child place)
             (waits_for (slice_get (operation_at self.old op.0).children place))) }
@@ -89,6 +174,14 @@ impl BoardState {
     {
         let alloc = *self.operations.allocator();
         let operation = &mut self.operations[op.0 as usize];
-        await_child(alloc, &self.tree, &mut self.graph, operation, op, place, ran)
+        await_child(
+            alloc,
+            &self.tree,
+            &mut self.graph,
+            operation,
+            op,
+            place,
+            ran,
+        )
     }
 }

@@ -53,7 +53,11 @@ fn open_with(alloc: Global, job: &Job, task: &TaskCode) -> Result<BoardState, Al
 fn open_void(alloc: Global) -> Result<BoardState, AllocError>
     ensures { IfOk result (λ b. b ≡ void_state) }
 {
-    let mut main = called_by(alloc, OpNumber(0), frame_of_roots(alloc, Sequence::new(alloc)));
+    let mut main = called_by(
+        alloc,
+        OpNumber(0),
+        frame_of_roots(alloc, Sequence::new(alloc)),
+    );
     main.activity = Activity::Closing(Ending::Broken);
     let tree = Forest::new(alloc)?;
     let mut graph = new_graph(alloc)?;

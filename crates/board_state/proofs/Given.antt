@@ -1,0 +1,111 @@
+-- That what methods make of a state is what board_terms says of a segment that is given back.
+use Rattle.std.specs.Prelude.{OnOk, Result, Ok, Err}
+use Rattle.std.proofs.Common.{◌≡◌, ◌<◌, ◌∙◌, ℕ, List, [], Option, Some, ℤ, ap, filter, length, slice_get, subst, sym}
+use Rattle.std.proofs.lemmas.List.{get_or-set_same, length-set, set-set}
+use Rattle.region_tree.specs.declared.needs.Needs.{Needs}
+use Rattle.region_tree.specs.declared.tree.RootId.{RootId}
+use Rattle.dependence_graph.specs.Graphs.{parked}
+use Rattle.dependence_graph.specs.declared.stage.Waiting.{Waiting}
+use Rattle.dependence_graph.specs.declared.stage.Waiting.TheVariants as graph
+use Rattle.regent_tree.specs.declared.outcome.Fault.{Fault}
+use Rattle.task_code.specs.declared.code.Code.{Code}
+use Rattle.machine_terms.proofs.Kept.{stop_fixed}
+use Rattle.machine_terms.specs.declared.frame.Before.{Before}
+use Rattle.machine_terms.specs.declared.frame.Frame.{Frame}
+use Rattle.machine_terms.specs.declared.outcome.After.{After}
+use Rattle.machine_terms.specs.declared.outcome.Yield.{Yield}
+use Rattle.machine_terms.specs.declared.outcome.Yield.TheVariants as yield
+use Rattle.machine_terms.specs.Segments.{frame_after, segment, stop_of}
+use Rattle.board_terms.specs.declared.operation.Activity.TheVariants.{Closing}
+use Rattle.board_terms.specs.declared.operation.Ending.{Ending}
+use Rattle.board_terms.specs.declared.operation.Ending.TheVariants as ending
+use Rattle.board_terms.specs.declared.operation.Operation.{Operation}
+use Rattle.board_terms.specs.declared.operation.Wait.{Wait}
+use Rattle.board_terms.specs.declared.operation.Wait.TheVariants as wait
+use Rattle.board_terms.specs.Gives.{behind_segment, ended_by, frame_left, is_on, needs_on, parked_for, parts_given, waits_for, with_parts, yielded}
+use Rattle.board_terms.specs.States.{State, no_operation, operation_at, with_operation}
+use Rattle.board_state.specs.Kept.{IsKept}
+use Rattle.board_state.specs.Steps.{before_out, behind, ended_in, given_by, parked_in}
+use Rattle.board_state.proofs.Gives.{out_needs, out_there}
+
+pub ok_then : {A E : Type 0} (r : Result A E) (P Q : Type 0) → OnOk r P → (P → Q) → OnOk r Q
+ok_then (Ok a) P Q p f = f p
+ok_then (Err e) P Q p f = tt
+
+-- ---- one operation that is changed twice
+
+changed_twice : (s : State) (k : ℕ) (o : Operation) (f : Operation → Operation) → k < length s.operations →
+    with_operation (with_operation s k o) k (f (operation_at (with_operation s k o) k)) ≡ with_operation s k (f o)
+changed_twice s k o f b =
+    ap (λ (x : Operation). with_operation (with_operation s k o) k (f x)) (get_or-set_same s.operations k o no_operation b)
+    ∙ ap (λ (os : List Operation). record s { operations = os }) (set-set s.operations k o (f o))
+
+left_at : (s : State) (k : ℕ) (a : After) → k < length s.operations → operation_at (behind s k a) k ≡ behind_segment (operation_at s k) a
+left_at s k a b = get_or-set_same s.operations k (behind_segment (operation_at s k) a) no_operation b
+
+-- ---- its own work has ended
+
+failed_is : (s : State) (k : ℕ) (a : After) (e : Ending) → k < length s.operations → ended_by (behind s k a) k e ≡ ended_in s k a e s.map
+failed_is s k a e b = changed_twice s k (behind_segment (operation_at s k) a) (λ x. record x { parts = []; activity = Closing e }) b
+
+ended_is : (s : State) (k : ℕ) (a : After) (e : Ending) → k < length s.operations →
+    ended_by (parts_given (behind s k a) k) k e ≡ ended_in s k a e (with_parts a.parts s.map)
+ended_is s k a e b =
+    let t = behind s k a in
+    let there : k < length t.operations = subst (λ (n : ℕ). k < n) (sym (length-set s.operations k (behind_segment (operation_at s k) a))) b in
+    ap (λ (x : State). record x { map = with_parts (operation_at t k).parts s.map })
+    (changed_twice t k (record (operation_at t k) { parts = [] }) (λ x. record x { parts = []; activity = Closing e }) there
+    ∙ failed_is s k a e b)
+    ∙ ap (λ (x : Operation). ended_in s k a e (with_parts x.parts s.map)) (left_at s k a b)
+
+pub given_fault : (code : Code) (turns : ℕ) (s t : State) (k : ℕ) (a : After) (f : Fault) → k < length s.operations → a.ends ≡ yield.Fault f →
+    t ≡ ended_in s k a (ending.Fault f) s.map → t ≡ given_by code turns s k a
+given_fault code turns s t k a f b e h =
+    h ∙ sym (ap (λ (y : Yield). yielded code turns (behind s k a) k y) e ∙ failed_is s k a (ending.Fault f) b)
+
+pub given_broken : (code : Code) (turns : ℕ) (s t : State) (k : ℕ) (a : After) → k < length s.operations → a.ends ≡ yield.MachineFault →
+    t ≡ ended_in s k a ending.Broken s.map → t ≡ given_by code turns s k a
+given_broken code turns s t k a b e h =
+    h ∙ sym (ap (λ (y : Yield). yielded code turns (behind s k a) k y) e ∙ failed_is s k a ending.Broken b)
+
+pub given_end : (code : Code) (turns : ℕ) (s t : State) (k : ℕ) (a : After) (v : Option ℤ) → k < length s.operations → a.ends ≡ yield.End v →
+    t ≡ ended_in s k a (ending.Value v) (with_parts a.parts s.map) → t ≡ given_by code turns s k a
+given_end code turns s t k a v b e h =
+    h ∙ sym (ap (λ (y : Yield). yielded code turns (behind s k a) k y) e ∙ ended_is s k a (ending.Value v) b)
+
+-- ---- it waits
+
+parked_is : (s : State) (k : ℕ) (a : After) (w : Wait) (on : Waiting) → k < length s.operations →
+    parked_for (behind s k a) k w on ≡ parked_in s k a w on
+parked_is s k a w on b =
+    ap (λ (x : State). record x { waits = parked s.tree s.waits k on })
+    (changed_twice s k (behind_segment (operation_at s k) a) (λ x. record x { wait = w }) b)
+
+pub given_await : (code : Code) (turns : ℕ) (s t : State) (k : ℕ) (a : After) (n : ℕ) → k < length s.operations → a.ends ≡ yield.Await n →
+    t ≡ parked_in s k a (wait.Child n) (waits_for (slice_get (operation_at s k).children n)) → t ≡ given_by code turns s k a
+given_await code turns s t k a n b e h =
+    h ∙ sym (ap (λ (y : Yield). yielded code turns (behind s k a) k y) e
+    ∙ ap (λ (x : Operation). parked_for (behind s k a) k (wait.Child n) (waits_for (slice_get x.children n))) (left_at s k a b)
+    ∙ parked_is s k a (wait.Child n) (waits_for (slice_get (operation_at s k).children n)) b)
+
+-- a frame that wants a part has its needs yet
+left_needs : (b : Before) (f : Frame) (root : RootId) (field : ℕ) → (segment b).ends ≡ yield.Want root field →
+    (frame_left f (segment b).frame).needs ≡ b.frame.needs
+left_needs b f root field e =
+    ap (λ (y : Yield). (frame_left f (frame_after y (stop_of b).machine.frame)).needs) e ∙ (stop_fixed b).needs
+
+pub given_want : (code : Code) (turns : ℕ) (s t : State) (k : ℕ) (b : Before) (root : RootId) (field : ℕ) → IsKept s →
+    before_out (operation_at s k).activity ≡ Some b → (segment b).ends ≡ yield.Want root field →
+    t ≡ parked_in s k (segment b) (wait.Part root field)
+    (graph.Part (record { items = filter (is_on root.0 field) (operation_at s k).frame.needs.items })) →
+    t ≡ given_by code turns s k (segment b)
+given_want code turns s t k b root field kept out e h =
+    let here = out_there s k b out in
+    let needs : (frame_left (operation_at s k).frame (segment b).frame).needs ≡ (operation_at s k).frame.needs =
+    left_needs b (operation_at s k).frame root field e ∙ out_needs s k b kept out in
+    h ∙ sym (ap (λ (y : Yield). yielded code turns (behind s k (segment b)) k y) e
+    ∙ ap (λ (x : Operation). parked_for (behind s k (segment b)) k (wait.Part root field) (graph.Part (needs_on x.frame root.0 field))) (left_at s k (segment b) here)
+    ∙ ap (λ (n : Needs). parked_for (behind s k (segment b)) k (wait.Part root field)
+    (graph.Part (record { items = filter (is_on root.0 field) n.items }))) needs
+    ∙ parked_is s k (segment b) (wait.Part root field)
+    (graph.Part (record { items = filter (is_on root.0 field) (operation_at s k).frame.needs.items })) here)
