@@ -1,5 +1,7 @@
 //! Each call with memory at hand. What is expected is worked out by hand.
 
+ghost use Rattle.std.specs.Prelude.{◌≡◌, ◌∷◌, [], IfOk};
+
 use crate::Pending;
 use lane_kernels::{Op, Width};
 use point_sets::PointSet;
@@ -10,7 +12,9 @@ fn values(alloc: Global, numbers: &[i64]) -> Result<Vec<i64>, AllocError> {
     Vec::from_slice(alloc, numbers)
 }
 
-fn point(alloc: Global) -> Result<PointSet, AllocError> {
+fn point(alloc: Global) -> Result<PointSet, AllocError>
+    ensures { IfOk result (λ points. points ≡ 1 ∷ []) }
+{
     PointSet::range(alloc, 1, 2)
 }
 
