@@ -6,4 +6,5 @@ mod Giving
 mod Keeping
 mod Marking
 mod Room
+mod Stretches
 mod Taking

@@ -1,7 +1,7 @@
 -- The instances of a field: a base with a number beside each point of the root, and further ones with numbers beside
 -- some points. Beside each point stands which of them is current there: 0 is the base, and k + 1 the further one at
 -- place k.
-use Rattle.std.specs.Prelude.{◌≡◌, ◌==◌, ◌++◌, List, [], ◌∷◌, Option, None, Some, cond, get_or, nat_lt, suc, unwrap_or, zero, ℕ, ℤ}
+use Rattle.std.specs.Prelude.{◌≡◌, ◌==◌, ◌+◌, ◌++◌, List, [], ◌∷◌, Option, None, Some, cond, get_or, nat_lt, set, suc, unwrap_or, zero, ℕ, ℤ}
 use Rattle.plain_values.specs.Points.{has}
 use Rattle.lane_kernels.specs.declared.numbers.Mode.{Mode}
 use Rattle.lane_kernels.specs.declared.numbers.Mode.TheVariants.{Reduce}
@@ -54,6 +54,16 @@ AreCounts counts valid = (v : ℕ) → get_or counts v 0 ≡ count_of v valid
 abbrev pub trimmed : List ℕ → List (Option Held) → List (Option Held)
 trimmed (c ∷ cs) (f ∷ fs) = cond (nat_lt 0 c) f None ∷ trimmed cs fs
 trimmed _ fs = fs
+
+-- ---- elements that are moved
+
+-- so many values from a place on are what the points beside them get, and the others are as they were
+abbrev pub put_at : (ℕ → ℤ) → List ℕ → ℕ → ℕ → List ℤ → List ℤ
+put_at f ps place zero zs = zs
+put_at f ps place (suc n) zs = set (put_at f ps place n zs) (place + n) (f (get_or ps (place + n) 0))
+
+abbrev pub ArePut : (ℕ → ℤ) → List ℕ → ℕ → ℕ → List ℤ → List ℤ → Type 0
+ArePut f ps place n before after = after ≡ put_at f ps place n before
 
 -- ---- reductions that wait
 

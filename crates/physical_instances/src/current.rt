@@ -1,7 +1,8 @@
 //! The numbers that are current beside points.
 
-ghost use Rattle.std.specs.Prelude.{◌≡◌, None, IfOk, Some, get_or, length, replicate, ℕ};
+ghost use Rattle.std.specs.Prelude.{◌≡◌, ◌≤◌, ◌<◌, ◌+◌, None, IfOk, Some, get_or, length, pos, replicate, ℕ};
 ghost use Rattle.std.specs.List.Sorted.{IsStrictlyIncreasing};
+ghost use Rattle.logical_map.specs.Maps.{number_beside};
 ghost use Rattle.physical_instances.specs.Instances.{current, current_beside, number_held, trimmed, written};
 
 use plain_values::Sequence;
@@ -33,6 +34,37 @@ fn number_held(piece: &Piece, point: u32, number: i64) -> i64
         },
         None => number,
     }
+}
+
+/// The numbers of a piece from a point on, as far as its points follow one another without a gap, and at most so many.
+pub(crate) fn run_in(piece: &Piece, point: u32, most: usize) -> &[i64]
+    ensures most { length result.now ≤ most }
+    ensures numbers { (k : ℕ) → k < length result.now
+        → number_beside piece.now.points piece.now.values (point + k) ≡ Some (get_or result.now k (pos 0)) }
+{
+    let (Some(first), Some(stretch)) = (
+        piece.points.place_of(point),
+        piece.points.stretch_from(point),
+    ) else {
+        return &[];
+    };
+    let first = first as usize;
+    let left = piece.points.len() as usize - first;
+    let count = most.min((stretch.end - point) as usize).min(left);
+    &piece.values.as_slice()[first..first + count]
+}
+
+/// How many marks from a place on are the same, at most so many.
+pub(crate) fn same_from(valid: &[u8], place: usize, most: usize) -> usize
+    requires { place + most ≤ length valid.now }
+    ensures most { result ≤ most }
+    ensures same { (k : ℕ) → k < result → get_or valid.now (place + k) 0 ≡ get_or valid.now place 0 }
+{
+    let mut count = 0;
+    while count < most && valid[place + count] == valid[place] {
+        count += 1;
+    }
+    count
 }
 
 /// Puts the current numbers into the base.

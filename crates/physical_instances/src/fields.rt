@@ -1,6 +1,6 @@
 //! One field of a root.
 
-ghost use Rattle.std.specs.Prelude.{◌≡◌, ◌≤◌, ◌+◌, IfOk, IsOk, OnErr, OnOk, filter, length, not};
+ghost use Rattle.std.specs.Prelude.{◌≡◌, ◌≤◌, ◌<◌, ◌+◌, IfOk, IsOk, OnErr, OnOk, filter, get_or, length, not, pos, ℕ};
 ghost use Rattle.logical_map.specs.Fills.{number_for};
 ghost use Rattle.logical_map.specs.Gives.{is_reduction, is_write, with_pieces};
 ghost use Rattle.logical_map.specs.Maps.{new_column, number_in_column, zero_of};
@@ -77,6 +77,20 @@ impl FieldInstances {
         match self.instances.number(point) {
             Some(number) => self.pending.fold_at(self.kind.width(), point, number),
             None => 0,
+        }
+    }
+
+    /// The numbers from a point on that stand behind one another, at most so many; none where the root lacks the point
+    /// or reductions wait.
+    pub(crate) fn run_from(&self, point: u32, most: usize) -> &[i64]
+        ensures most { length result.now ≤ most }
+        ensures numbers { (k : ℕ) → k < length result.now
+            → number_in_column self.now.column (point + k) ≡ get_or result.now k (pos 0) }
+    {
+        if self.pending.is_empty() {
+            self.instances.run_from(point, most)
+        } else {
+            &[]
         }
     }
 

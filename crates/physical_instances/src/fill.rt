@@ -1,8 +1,10 @@
 //! A part that is filled in chunks.
 
-ghost use Rattle.std.specs.Prelude.{◌≡◌, ◌↔◌, ◌<◌, ◌≤◌, ◌+◌, ◌-◌, min, IfOk, IfSome, length, map};
+ghost use Rattle.std.specs.Prelude.{◌≡◌, ◌↔◌, ◌<◌, ◌≤◌, ◌+◌, ◌-◌, min, IfOk, IfSome, get_or, length, map, pos, true, ℕ};
 ghost use Rattle.std.specs.Option.{option_copied};
-ghost use Rattle.logical_map.specs.Fills.{blank, chunk, elements_of, moved_piece, moved_pieces, number_for};
+ghost use Rattle.plain_values.specs.Points.{has};
+ghost use Rattle.logical_map.specs.Fills.{blank, chunk, elements_of, moved_beside, moved_piece, moved_pieces, number_for};
+ghost use Rattle.physical_instances.specs.Instances.{ArePut};
 ghost use Rattle.physical_instances.specs.Fields.{column_if};
 ghost use Rattle.physical_instances.specs.Kept.{IsFull};
 ghost use Rattle.physical_instances.specs.declared.fill.Filled.TheVariants.{Full};
@@ -15,6 +17,7 @@ use point_sets::PointSet;
 use region_tree::{Part, Piece, RootId};
 use std::alloc::{AllocError, Global};
 use std::marker::Model;
+use std::mem;
 
 /// How many elements are moved at a time.
 const CHUNK: usize = 4096;
@@ -150,7 +153,8 @@ impl Fill {
         } }
         ensures full { (result ≡ Full) ↔ IsFull self.new }
     {
-        move_pieces(field, self.moved, &mut self.pieces);
+        let alloc = *self.pieces.allocator();
+        move_pieces(alloc, field, self.moved, &mut self.pieces);
         self.moved = moved_behind(self.moved, self.count);
         answer(self.moved, self.count)
     }
@@ -212,7 +216,7 @@ fn count_elements(pieces: &[Piece]) -> Option<usize>
 }
 
 /// Moves the next chunk of the elements of pieces, where so many were moved before.
-fn move_pieces(field: Option<&FieldInstances>, moved: usize, pieces: &mut Vec<Piece>)
+fn move_pieces(alloc: Global, field: Option<&FieldInstances>, moved: usize, pieces: &mut Vec<Piece>)
     ensures { pieces.new.items ≡ moved_pieces (column_if (option_copied field.entry)) moved chunk pieces.old.items }
 {
     let mut behind = moved;
@@ -220,24 +224,109 @@ fn move_pieces(field: Option<&FieldInstances>, moved: usize, pieces: &mut Vec<Pi
     for place in 0..pieces.len() {
         let piece = &mut pieces[place];
         let count = piece.len();
-        move_piece(field, behind, next, piece);
+        move_piece(alloc, field, behind, next, piece);
         next = next.saturating_sub(count.saturating_sub(behind));
         behind = behind.saturating_sub(count);
     }
 }
 
 /// Moves so many elements of a piece, behind so many that were moved before.
-fn move_piece(field: Option<&FieldInstances>, behind: usize, next: usize, piece: &mut Piece)
+fn move_piece(
+    alloc: Global,
+    field: Option<&FieldInstances>,
+    behind: usize,
+    next: usize,
+    piece: &mut Piece,
+)
     ensures { piece.new ≡ moved_piece (column_if (option_copied field.entry)) behind next piece.old }
 {
-    let count = piece.points.len();
-    let first = behind.min(count as usize) as u32;
-    let end = behind.saturating_add(next).min(count as usize) as u32;
-    for place in first..end {
-        let Some(point) = piece.points.at(place) else {
-            unreachable!()
-        };
-        piece.set(place as usize, number_for(field, piece.mode, point));
+    let count = piece.points.len() as usize;
+    let first = behind.min(count);
+    let end = behind.saturating_add(next).min(count);
+    let mut values = mem::replace(&mut piece.values, Sequence::new(alloc)).into_vec();
+    move_values(
+        field,
+        piece.mode,
+        &piece.points,
+        first,
+        end,
+        values.as_mut_slice(),
+    );
+    piece.values = Sequence::from_vec(values);
+}
+
+/// Moves the elements from a place to another: those that stand behind one another at once.
+fn move_values(
+    field: Option<&FieldInstances>,
+    mode: Mode,
+    points: &PointSet,
+    first: usize,
+    end: usize,
+    values: &mut [i64],
+)
+    requires order { first ≤ end }
+    requires end { end ≤ length points.now }
+    requires beside { length values.old ≡ length points.now }
+    ensures { values.new ≡ moved_beside (number_for (column_if (option_copied field.entry)) mode) first (end - first) points.now values.old }
+{
+    let mut place = first;
+    while place < end {
+        place += move_run(field, mode, points, place, end - place, values);
+    }
+}
+
+/// Moves the elements from a place on that stand behind one another, at least one and at most so many, and tells how
+/// many.
+fn move_run(
+    field: Option<&FieldInstances>,
+    mode: Mode,
+    points: &PointSet,
+    place: usize,
+    most: usize,
+    values: &mut [i64],
+) -> usize
+    requires some { 0 < most }
+    requires most { place + most ≤ length points.now }
+    requires beside { length values.old ≡ length points.now }
+    ensures some { 0 < result }
+    ensures most { result ≤ most }
+    ensures values { ArePut (number_for (column_if (option_copied field.entry)) mode) points.now place result values.old values.new }
+{
+    let most = most.min(points.len() as usize - place);
+    let Some(point) = points.at(place as u32) else {
+        unreachable!()
+    };
+    let run = run_for(field, mode, points, point, most);
+    if run.is_empty() {
+        values[place] = number_for(field, mode, point);
+        return 1;
+    }
+    for offset in 0..run.len() {
+        values[place + offset] = run[offset];
+    }
+    run.len()
+}
+
+/// The numbers of a field for points that follow one another, at most so many; none where they don't stand so or are
+/// those of a reduction.
+fn run_for<'a>(
+    field: Option<&'a FieldInstances>,
+    mode: Mode,
+    points: &PointSet,
+    point: u32,
+    most: usize,
+) -> &'a [i64]
+    ensures most { length result.now ≤ most }
+    ensures numbers { (k : ℕ) → k < length result.now
+        → number_for (column_if (option_copied field.entry)) mode (point + k) ≡ get_or result.now k (pos 0) }
+    ensures points { (k : ℕ) → k < length result.now → has points.now (point + k) ≡ true }
+{
+    match (field, mode, points.stretch_from(point)) {
+        (_, Mode::Reduce(_), _) | (None, _, _) | (_, _, None) => &[],
+        (Some(found), _, Some(stretch)) if stretch.start == point => {
+            found.run_from(point, most.min((stretch.end - point) as usize))
+        }
+        _ => &[],
     }
 }
 

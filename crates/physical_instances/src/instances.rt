@@ -1,13 +1,13 @@
 //! The numbers of a field in instances (physical instances and their valid sets: Legion, SC 2012).
 
-ghost use Rattle.std.specs.Prelude.{◌≡◌, ◌≤◌, [], IfNone, IfOk, IfSome, filter, length, replicate};
+ghost use Rattle.std.specs.Prelude.{◌≡◌, ◌≤◌, ◌<◌, ◌+◌, [], IfNone, IfOk, IfSome, Some, filter, get_or, length, pos, replicate, ℕ};
 ghost use Rattle.lane_kernels.specs.declared.numbers.Width.{Width};
 ghost use Rattle.logical_map.specs.Gives.{given_beside, is_write};
 ghost use Rattle.logical_map.specs.Maps.{number_beside};
 ghost use Rattle.physical_instances.specs.Instances.{current, current_beside, trimmed, written};
 ghost use Rattle.reduction_folds.specs.Folds.{all_beside};
 
-use crate::current::{clear, current, gather, no_pieces, trim, write};
+use crate::current::{clear, current, gather, no_pieces, run_in, same_from, trim, write};
 use crate::marks::{free_place, mark};
 use lane_kernels::{Mode, Width};
 use plain_values::Shared;
@@ -88,6 +88,30 @@ impl Instances {
         let place = self.points.get().place_of(point)? as usize;
         let further = self.further.as_slice();
         Some(current(further, self.valid[place], point, self.base[place]))
+    }
+
+    /// The numbers from a point on that stand behind one another in one instance, at most so many; none where the root
+    /// lacks the point.
+    pub(crate) fn run_from(&self, point: u32, most: usize) -> &[i64]
+        ensures most { length result.now ≤ most }
+        ensures numbers { (k : ℕ) → k < length result.now
+            → number_beside self.now.points self.now.numbers (point + k) ≡ Some (get_or result.now k (pos 0)) }
+    {
+        let root = self.points.get();
+        let (Some(place), Some(stretch)) = (root.place_of(point), root.stretch_from(point)) else {
+            return &[];
+        };
+        let place = place as usize;
+        let left = self.base.len() - place;
+        let most = most.min((stretch.end - point) as usize).min(left);
+        let count = same_from(self.valid.as_slice(), place, most);
+        match self.valid[place] {
+            0 => &self.base.as_slice()[place..place + count],
+            which => match self.further.get(which as usize - 1) {
+                Some(Some(piece)) => run_in(piece, point, count),
+                _ => &[],
+            },
+        }
     }
 
     /// The points of the root.

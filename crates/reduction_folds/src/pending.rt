@@ -1,6 +1,6 @@
 //! All reductions that wait to be folded.
 
-ghost use Rattle.std.specs.Prelude.{◌≡◌, ◌≤◌, ◌<◌, ◌+◌, ◌++◌, ◌∷◌, [], IsOk, IsOkAnd, OnErr, OnOk, length};
+ghost use Rattle.std.specs.Prelude.{◌≡◌, ◌≤◌, ◌<◌, ◌+◌, ◌++◌, ◌∷◌, ◌↔◌, [], IsOk, IsOkAnd, OnErr, OnOk, length, true};
 ghost use Rattle.reduction_folds.specs.Folds.{all_at, all_beside};
 
 use crate::fold::{Fold, number_at};
@@ -49,6 +49,13 @@ impl Pending {
         let values = Sequence::from_vec(values);
         self.folds.push(Fold { op, points, values })?;
         Ok(())
+    }
+
+    /// Whether nothing waits.
+    pub fn is_empty(&self) -> bool
+        ensures { (result ≡ true) ↔ (self.now.folds ≡ []) }
+    {
+        self.folds.is_empty()
     }
 
     /// How many more may be added for sure.
