@@ -37,11 +37,11 @@ pub record IsPiece (old new : Sweeping) (first end : ℕ) (in_left in_right : Bo
 
 -- ---- points past the end
 
-no_point : (xs : List ℕ) → IsPoints POINT_LIMIT xs → (z : ℕ) → POINT_LIMIT ≤ z → has xs z ≡ false
+pub no_point : (xs : List ℕ) → IsPoints POINT_LIMIT xs → (z : ℕ) → POINT_LIMIT ≤ z → has xs z ≡ false
 no_point xs p z l =
     ⊎_elim (λ m. let under : z < POINT_LIMIT = All-contains (λ x. x < POINT_LIMIT) xs z p.below (Contains-from_has xs z m) in absurd (omega arith)) (λ e. e) (cases_Bool (has xs z))
 
-kept_none : (operation : Operation) → kept operation false false ≡ false
+pub kept_none : (operation : Operation) → kept operation false false ≡ false
 kept_none Union = refl
 kept_none Meet = refl
 kept_none Minus = refl
@@ -57,7 +57,7 @@ has-combined_of Union xs ys z = has-union_of xs ys z
 has-combined_of Meet xs ys z = has-meet_of xs ys z
 has-combined_of Minus xs ys z = has-minus_of xs ys z
 
-rising-combined_of : (operation : Operation) (xs ys : List ℕ) → IsStrictlyIncreasing xs → IsStrictlyIncreasing ys → IsStrictlyIncreasing (combined_of operation xs ys)
+pub rising-combined_of : (operation : Operation) (xs ys : List ℕ) → IsStrictlyIncreasing xs → IsStrictlyIncreasing ys → IsStrictlyIncreasing (combined_of operation xs ys)
 rising-combined_of Union xs ys p q = rising-union_of xs ys q
 rising-combined_of Meet xs ys p q = rising-filter (has ys) xs p
 rising-combined_of Minus xs ys p q = rising-filter (λ x. not (has ys x)) xs p

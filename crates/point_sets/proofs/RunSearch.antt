@@ -17,7 +17,7 @@ use Rattle.point_sets.proofs.RunLists.{gap_after, run_at, none_before_run, all_i
 use Rattle.point_sets.proofs.Rising.{length-counted_from, position_absent, position_at}
 
 module _ (rs : List Run) (h : AreRuns rs) where
-  lasts_rise : IsNonDecreasingBy (λ (r : Run). r.last) rs
+  pub lasts_rise : IsNonDecreasingBy (λ (r : Run). r.last) rs
   lasts_rise =
       IsNonDecreasingBy-from_all_adjacent (λ (r : Run). r.last) rs (λ k d l. let l' : suc k < length rs = omega arith in let g = gap_after 0 0 rs h k d l' in let rises = (run_at rs (suc k) d h l').rises in rw add-one (omega (arith, g.0, rises)))
 

@@ -1,7 +1,7 @@
 -- Lists of runs, and the points that they hold.
-use Rattle.std.specs.Prelude.{◌≡◌, ℕ, ◌+◌, ◌-◌, ◌<◌, ◌≤◌, length, take, slice_index_or}
+use Rattle.std.specs.Prelude.{◌≡◌, ℕ, ◌+◌, ◌-◌, ◌<◌, ◌≤◌, true, length, take, slice_index_or}
 use Rattle.std.specs.Prelude.{List, [], ◌∷◌, ◌++◌, All}
-use Rattle.plain_values.specs.Points.{counted_from}
+use Rattle.plain_values.specs.Points.{counted_from, has}
 use Rattle.point_sets.specs.declared.runs.Run.{Run}
 use Rattle.point_sets.specs.declared.TheConstants.{POINT_LIMIT}
 
@@ -45,3 +45,12 @@ pub record IsFirstWithMore (rs : List Run) (place many : ℕ) : Type 0 where
 pub record IsJoined (rs : List Run) (point : ℕ) : Type 0 where
   pub some : 0 < length rs
   pub ends : (d : Run) → (slice_index_or rs (length rs - 1) d).last + 1 ≡ point
+
+-- the first point of runs and the last one, if there are any, and bounds of all runs
+pub record AreRunEnds (rs : List Run) (first last : ℕ) : Type 0 where
+  pub order : first ≤ last
+  pub below : last < POINT_LIMIT
+  pub low : (k : ℕ) (d : Run) → k < length rs → first ≤ (slice_index_or rs k d).first
+  pub high : (k : ℕ) (d : Run) → k < length rs → (slice_index_or rs k d).last ≤ last
+  pub first_there : 0 < length rs → has (points_in rs) first ≡ true
+  pub last_there : 0 < length rs → has (points_in rs) last ≡ true

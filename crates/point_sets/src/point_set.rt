@@ -1,18 +1,19 @@
 //! Sets of points.
 
-ghost use Rattle.std.specs.Prelude.{◌≡◌, ◌↔◌, ◌++◌, ◌-◌, ◌<◌, ◌≤◌, ◌==◌, ℕ, [], All, Contains};
-ghost use Rattle.std.specs.Prelude.{IfOk, IfSome, IsTrue, OnOk, false, length, position, slice_get};
+ghost use Rattle.std.specs.Prelude.{◌≡◌, ◌↔◌, ◌-◌, ◌≤◌, ◌==◌, ℕ, [], Contains};
+ghost use Rattle.std.specs.Prelude.{IfOk, IfSome, IsTrue, false, length, position, slice_get};
 ghost use Rattle.plain_values.specs.Points.{IsPoints, counted_from, has, meets, within};
 ghost use Rattle.plain_values.specs.Points.{meet_of, minus_of, union_of};
+ghost use Rattle.point_sets.specs.Forms.{IsFewest, points_of, runs_of};
 ghost use Rattle.point_sets.specs.Laws.{HasTells, MembersDecide, MeetsIsShared, WithinIsEach};
 ghost use Rattle.point_sets.specs.Laws.{MeetIsBoth, MinusIsRest, UnionIsEither};
 ghost use Rattle.point_sets.specs.Operations.{combined_of, kept};
 ghost use Rattle.point_sets.specs.Stretches.{IsStretchFrom};
 
 use crate::POINT_LIMIT;
+use crate::form::Form;
 use crate::operation::Operation;
-use crate::runs::{Run, ends_before, first_run_to, first_run_with_more};
-use crate::sweep::Sweep;
+use crate::run_set::RunSet;
 use std::alloc::{AllocError, Global};
 use std::marker::Model;
 use std::ops::Range;
@@ -20,31 +21,31 @@ use std::ops::Range;
 /// A set of points, which contracts see as the rising list of them.
 #[derive(Debug, Drop)]
 pub struct PointSet {
-    runs: Vec<Run>,
+    alloc: Global,
+    form: Form,
 }
 
 impl Model for PointSet {
     ghost use Rattle.std.specs.Prelude.{List, ℕ};
-    ghost use Rattle.point_sets.specs.Runs.{AreRuns, points_in};
+    ghost use Rattle.point_sets.specs.Forms.{IsSettled, points_of};
 
     ghost Value = { List ℕ };
 
-    ghost view = { λ a. points_in a.runs.items };
+    ghost view = { λ a. points_of a.form };
 
-    ghost invariant = { λ a. AreRuns a.runs.items };
+    ghost invariant = { λ a. IsSettled a.form };
 }
 
 impl PointSet {
-    ghost use Rattle.point_sets.specs.Runs.{AreRuns, points_in};
+    ghost use Rattle.point_sets.specs.Forms.{IsSettled};
 
     /// The set of no points.
     pub fn empty(alloc: Global) -> Result<PointSet, AllocError>
         ensures value { IfOk result (λ r. r ≡ []) }
         ensures points { IfOk result (IsPoints POINT_LIMIT) }
     {
-        Ok(PointSet {
-            runs: Vec::new(alloc),
-        })
+        let form = Form::of_runs(RunSet::empty(alloc)?)?;
+        Ok(PointSet::of_form(alloc, form))
     }
 
     /// The points from `a` to below `b`: none where `b` is at most `a`.
@@ -53,11 +54,8 @@ impl PointSet {
         ensures value { IfOk result (λ r. r ≡ counted_from a (b - a)) }
         ensures points { IfOk result (IsPoints POINT_LIMIT) }
     {
-        let mut out = PointSet::empty(alloc)?;
-        if a < b {
-            out.push_run(a, b)?;
-        }
-        Ok(out)
+        let form = Form::of_runs(RunSet::range(alloc, a, b)?)?;
+        Ok(PointSet::of_form(alloc, form))
     }
 
     /// The set of the points of a rising list.
@@ -65,11 +63,8 @@ impl PointSet {
         requires { IsPoints POINT_LIMIT points.now }
         ensures value { IfOk result (λ r. r ≡ points.now) }
     {
-        let mut out = PointSet::empty(alloc)?;
-        for point in points {
-            out.push_run(*point, *point + 1)?;
-        }
-        Ok(out)
+        let form = Form::of_runs(RunSet::from_sorted(alloc, points)?)?;
+        Ok(PointSet::of_form(alloc, form))
     }
 
     /// The points of either set.
@@ -104,8 +99,8 @@ impl PointSet {
         ensures value { IfOk result (λ r. r ≡ self.now) }
         ensures points { IfOk result (IsPoints POINT_LIMIT) }
     {
-        let runs = Vec::from_slice(*self.runs.allocator(), self.runs.as_slice())?;
-        Ok(PointSet { runs })
+        let form = self.as_form().copy()?;
+        Ok(PointSet::of_form(self.alloc, form))
     }
 
     /// Whether the two sets share a point.
@@ -113,7 +108,11 @@ impl PointSet {
         ensures value { result ≡ meets self.now o.now }
         ensures shared { MeetsIsShared }
     {
-        self.any_kept(o, Operation::Meet)
+        match (self.as_form(), o.as_form()) {
+            (Form::Runs(left), Form::Runs(right)) => left.any_kept(right, Operation::Meet),
+            (Form::Plane(left), Form::Plane(right)) => left.meets(right),
+            _ => self.shares_a_stretch(o),
+        }
     }
 
     /// Whether the other set holds every point of this one.
@@ -121,7 +120,11 @@ impl PointSet {
         ensures value { result ≡ within self.now o.now }
         ensures each { WithinIsEach }
     {
-        !self.any_kept(o, Operation::Minus)
+        match (self.as_form(), o.as_form()) {
+            (Form::Runs(left), Form::Runs(right)) => !left.any_kept(right, Operation::Minus),
+            (Form::Plane(left), Form::Plane(right)) => left.within(right),
+            _ => self.has_its_stretches_in(o),
+        }
     }
 
     /// Whether the set holds a point. Sets that hold the same points are the same list.
@@ -130,9 +133,10 @@ impl PointSet {
         ensures tells { HasTells }
         ensures decided { MembersDecide }
     {
-        let runs = self.as_runs();
-        let place = first_run_to(runs, point);
-        place < runs.len() && runs[place].first <= point
+        match self.as_form() {
+            Form::Runs(runs) => runs.has(point),
+            Form::Plane(plane) => plane.has(point),
+        }
     }
 
     /// How many points the set has.
@@ -140,9 +144,10 @@ impl PointSet {
         ensures value { result ≡ length self.now }
         ensures points { IsPoints POINT_LIMIT self.now }
     {
-        let runs = self.as_runs();
-        let count = runs.len();
-        if count == 0 { 0 } else { runs[count - 1].total }
+        match self.as_form() {
+            Form::Runs(runs) => runs.len(),
+            Form::Plane(plane) => plane.len(),
+        }
     }
 
     /// The point at a place of the rising list.
@@ -150,13 +155,10 @@ impl PointSet {
         ensures value { result ≡ slice_get self.now place }
         ensures none { (result ≡ None) ↔ (length self.now ≤ place) }
     {
-        let runs = self.as_runs();
-        let run_place = first_run_with_more(runs, place);
-        if run_place == runs.len() {
-            return None;
+        match self.as_form() {
+            Form::Runs(runs) => runs.at(place),
+            Form::Plane(plane) => plane.at(place),
         }
-        let run = runs[run_place];
-        Some(run.last + 1 - (run.total - place))
     }
 
     /// The place of a point in the rising list.
@@ -165,16 +167,10 @@ impl PointSet {
         ensures found { IfSome result (λ place. slice_get self.now place ≡ Some point) }
         ensures none { (result ≡ None) ↔ ¬ Contains self.now point }
     {
-        let runs = self.as_runs();
-        let run_place = first_run_to(runs, point);
-        if run_place == runs.len() {
-            return None;
+        match self.as_form() {
+            Form::Runs(runs) => runs.place_of(point),
+            Form::Plane(plane) => plane.place_of(point),
         }
-        let run = runs[run_place];
-        if point < run.first {
-            return None;
-        }
-        Some(run.total - (run.last + 1 - point))
     }
 
     /// The first stretch of points without a gap that stands at a point or behind it: from its
@@ -184,22 +180,38 @@ impl PointSet {
         ensures limit { IfSome result (λ r. r.end ≤ POINT_LIMIT) }
         ensures none { result ≡ None → (z : ℕ) → point ≤ z → has self.now z ≡ false }
     {
-        let runs = self.as_runs();
-        let place = first_run_to(runs, point);
-        if place == runs.len() {
-            return None;
+        match self.as_form() {
+            Form::Runs(runs) => runs.stretch_from(point),
+            Form::Plane(plane) => plane.stretch_from(point),
         }
-        let run = runs[place];
-        Some(run.first.max(point)..run.last + 1)
     }
 
-    /// The runs, with what they are known to be.
-    fn as_runs(&self) -> &[Run]
-        ensures runs { AreRuns result.now }
-        ensures points { points_in result.now ≡ self.now }
-        ensures set { IsPoints POINT_LIMIT self.now }
+    /// How many words the set takes, a run counted as one.
+    pub fn words(&self) -> usize
+        ensures fewest { IsFewest self.now result }
+        ensures at_most { result ≤ runs_of self.now }
     {
-        self.runs.as_slice()
+        match self.as_form() {
+            Form::Runs(runs) => runs.count(),
+            Form::Plane(plane) => plane.words(),
+        }
+    }
+
+    /// The form, with what it is known to be.
+    fn as_form(&self) -> &Form
+        ensures settled { IsSettled result.now }
+        ensures points { points_of result.now ≡ self.now }
+    {
+        &self.form
+    }
+
+    /// The set of a form.
+    fn of_form(alloc: Global, form: Form) -> PointSet
+        requires { IsSettled form }
+        ensures value { result ≡ points_of form }
+        ensures points { IsPoints POINT_LIMIT result }
+    {
+        PointSet { alloc, form }
     }
 
     /// What an operation makes of two sets.
@@ -207,54 +219,45 @@ impl PointSet {
         ensures value { IfOk result (λ r. r ≡ combined_of operation self.now o.now) }
         ensures points { IfOk result (IsPoints POINT_LIMIT) }
     {
-        let mut out = PointSet::empty(*self.runs.allocator())?;
-        let mut sweep = Sweep::new(self.as_runs(), o.as_runs());
-        while let Some(piece) = sweep.next_piece() {
-            if operation.keeps(piece.in_left, piece.in_right) {
-                out.push_run(piece.first, piece.end)?;
-            }
-        }
-        Ok(out)
+        let form = self.as_form().combined(self.alloc, o.as_form(), operation)?;
+        Ok(PointSet::of_form(self.alloc, form))
     }
 
-    /// Whether an operation keeps any point of the two sets.
-    fn any_kept(&self, o: &PointSet, operation: Operation) -> bool
-        ensures some { IsTrue result
-            → (z : ℕ) × IsTrue (kept operation (has self.now z) (has o.now z)) }
-        ensures none { result ≡ false
-            → (z : ℕ) → kept operation (has self.now z) (has o.now z) ≡ false }
+    /// Whether a stretch of this set has a point of the other.
+    fn shares_a_stretch(&self, o: &PointSet) -> bool
+        ensures { result ≡ meets self.now o.now }
     {
-        let mut sweep = Sweep::new(self.as_runs(), o.as_runs());
-        while let Some(piece) = sweep.next_piece() {
-            if operation.keeps(piece.in_left, piece.in_right) {
+        let mut point = 0;
+        while let Some(ours) = self.stretch_from(point) {
+            let Some(theirs) = o.stretch_from(ours.start) else {
+                return false;
+            };
+            if theirs.start < ours.end {
                 return true;
             }
+            point = ours.end;
         }
         false
     }
 
-    /// Adds the points from the first to below the end, which are above all that are there.
-    fn push_run(&mut self, first: u32, end: u32) -> Result<(), AllocError>
-        requires order { first < end }
-        requires below { end ≤ POINT_LIMIT }
-        requires above { All (λ x. x < first) self.old }
-        ensures ok { OnOk result (self.new ≡ self.old ++ counted_from first (end - first)) }
-        ensures points { IsPoints POINT_LIMIT self.new }
+    /// Whether each stretch of this set lies in one of the other.
+    fn has_its_stretches_in(&self, o: &PointSet) -> bool
+        ensures { result ≡ within self.now o.now }
     {
-        if ends_before(self.runs.as_slice(), first) {
-            let place = self.runs.len() - 1;
-            let run = &mut self.runs[place];
-            run.last = end - 1;
-            run.total += end - first;
-        } else {
-            let total = self.len() + (end - first);
-            self.runs.push(Run {
-                first,
-                last: end - 1,
-                total,
-            })?;
+        let mut point = 0;
+        while let Some(ours) = self.stretch_from(point) {
+            let Some(theirs) = o.stretch_from(ours.start) else {
+                return false;
+            };
+            if ours.start < theirs.start {
+                return false;
+            }
+            if theirs.end < ours.end {
+                return false;
+            }
+            point = ours.end;
         }
-        Ok(())
+        true
     }
 }
 

@@ -1,7 +1,7 @@
 //! Runs of points, and rising lists of them.
 
 ghost use Rattle.std.specs.Prelude.{◌≡◌, ◌+◌, ◌<◌, ◌≤◌, ℕ, All, IsTrue, false, length, take};
-ghost use Rattle.point_sets.specs.Runs.{AreRuns, IsFirstTo, IsFirstWithMore, IsJoined, points_in};
+ghost use Rattle.point_sets.specs.Runs.{AreRunEnds, AreRuns, IsFirstTo, IsFirstWithMore, IsJoined, points_in};
 ghost use Rattle.point_sets.specs.Sweeps.{AllOrNone, IsNear};
 
 use crate::POINT_LIMIT;
@@ -39,6 +39,18 @@ pub fn first_run_with_more(runs: &[Run], many: u32) -> usize
     ensures { IsFirstWithMore runs.now result many }
 {
     runs.partition_point(|run| run.total <= many)
+}
+
+/// The first point of runs and the last one, or zeros where there are no runs.
+pub fn ends_of(runs: &[Run]) -> (u32, u32)
+    requires { AreRuns runs.now }
+    ensures { AreRunEnds runs.now result.0 result.1 }
+{
+    let count = runs.len();
+    if count == 0 {
+        return (0, 0);
+    }
+    (runs[0].first, runs[count - 1].last)
 }
 
 /// Up to where a list of runs holds all points or none.

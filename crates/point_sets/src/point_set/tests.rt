@@ -163,3 +163,23 @@ fn two_million_runs(rt: HostRuntime) -> Result<(), AllocError> {
     }
     Ok(())
 }
+
+#[test]
+fn sets_take_the_fewest_words(rt: HostRuntime) -> Result<(), AllocError> {
+    let alloc = rt.alloc();
+    let rows: [(&[(u32, u32)], usize); 8] = [
+        (&[], 0),
+        (&[(0, POINT_LIMIT)], 1),
+        (&[(4, 5), (6, 7)], 1),
+        (&[(63, 64), (65, 66)], 2),
+        (&[(62, 63), (64, 65), (66, 67)], 2),
+        (&[(0, 1), (2, 3), (4_194_303, 4_194_304)], 3),
+        (&[(126, 127), (128, 129), (0, 100)], 3),
+        (&[(0, 1), (2, 3), (1, 2)], 1),
+    ];
+    for (ranges, words) in rows {
+        let set = made(alloc, ranges)?;
+        assert_eq!(rt; set.words(), words, "{ranges:?}");
+    }
+    Ok(())
+}

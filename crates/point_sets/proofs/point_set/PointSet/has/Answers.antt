@@ -1,26 +1,23 @@
-use Rattle.std.proofs.Common.{ℕ, List, sym, ap, ◌∙◌, arith}
-use Rattle.std.proofs.lemmas.Bool.{le-ltb}
+use Rattle.std.proofs.Common.{sym, ap, subst, ◌∙◌}
 use Rattle.plain_values.specs.Points.{has}
-use Rattle.point_sets.proofs.RunSearch.{has_at_run, has_past_runs}
+use Rattle.point_sets.specs.Forms.{IsSettled, points_of}
 use Rattle.point_sets.proofs.LawProofs.{decided, tells}
+use Rattle.point_sets.proofs.PlaneLists.{has_plane}
 use Rattle.point_sets.proofs.point_set.PointSet.has.Goals as goal
 
-pub returns-then-place-runs-clause-value : goal.returns-then-place-runs-clause-value
-returns-then-place-runs-clause-value c =
-    sym (ap (λ (xs : List ℕ). has xs c.args.point) (sym c.as_runs-runs.ensures.points) ∙ has_at_run c.as_runs-runs.result.now _ c.args.point _ c.as_runs-runs.ensures.runs c.first_run_to-place.ensures (omega arith))
+pub returns-in-Plane-clause-value : goal.returns-in-Plane-clause-value
+returns-in-Plane-clause-value c =
+    let known = subst IsSettled c.in-Plane.is c.as_form.ensures.settled in
+    c.has-in-Plane.ensures ∙ sym (has_plane c.in-Plane.plane known.0 c.args.point) ∙ ap (λ xs. has xs c.args.point) (sym (ap points_of c.in-Plane.is) ∙ c.as_form.ensures.points)
 
-pub returns-else-place-runs-clause-value : goal.returns-else-place-runs-clause-value
-returns-else-place-runs-clause-value c =
-    le-ltb _ _ (omega arith) ∙ sym (ap (λ (xs : List ℕ). has xs c.args.point) (sym c.as_runs-runs.ensures.points) ∙ has_past_runs c.as_runs-runs.result.now _ c.args.point (record { first = 0; last = 0; total = 0 }) c.as_runs-runs.ensures.runs c.first_run_to-place.ensures (omega arith))
+pub returns-in-Runs-clause-tells : goal.returns-in-Runs-clause-tells
+returns-in-Runs-clause-tells c = tells
 
-pub returns-then-place-runs-clause-tells : goal.returns-then-place-runs-clause-tells
-returns-then-place-runs-clause-tells c = tells
+pub returns-in-Runs-clause-decided : goal.returns-in-Runs-clause-decided
+returns-in-Runs-clause-decided c = decided
 
-pub returns-then-place-runs-clause-decided : goal.returns-then-place-runs-clause-decided
-returns-then-place-runs-clause-decided c = decided
+pub returns-in-Plane-clause-tells : goal.returns-in-Plane-clause-tells
+returns-in-Plane-clause-tells c = tells
 
-pub returns-else-place-runs-clause-tells : goal.returns-else-place-runs-clause-tells
-returns-else-place-runs-clause-tells c = tells
-
-pub returns-else-place-runs-clause-decided : goal.returns-else-place-runs-clause-decided
-returns-else-place-runs-clause-decided c = decided
+pub returns-in-Plane-clause-decided : goal.returns-in-Plane-clause-decided
+returns-in-Plane-clause-decided c = decided

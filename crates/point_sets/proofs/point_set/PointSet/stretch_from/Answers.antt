@@ -1,26 +1,20 @@
-use Rattle.std.proofs.Common.{ℕ, List, sym, ap, ◌∙◌, arith}
+use Rattle.std.proofs.Common.{ℕ, List, sym, ap, subst, ◌∙◌}
 use Rattle.plain_values.specs.Points.{has}
-use Rattle.point_sets.proofs.RunLists.{none_past_runs}
-use Rattle.point_sets.proofs.RunSearch.{end_fits, end_below}
-use Rattle.point_sets.proofs.Stretching.{stretch_of_set}
+use Rattle.point_sets.specs.Forms.{IsSettled, points_of}
+use Rattle.point_sets.specs.Stretches.{IsStretchFrom}
+use Rattle.point_sets.proofs.Converting.{end_limit, stretch_of_plane}
+use Rattle.point_sets.proofs.PlaneAnswers.{none_told, some_weaker}
+use Rattle.point_sets.proofs.PlaneLists.{has_plane}
 use Rattle.point_sets.proofs.point_set.PointSet.stretch_from.Goals as goal
 
-pub returns-then-place-runs-clause-none : goal.returns-then-place-runs-clause-none
-returns-then-place-runs-clause-none c _ z from =
-    ap (λ (xs : List ℕ). has xs z) (sym c.as_runs-runs.ensures.points) ∙
-    none_past_runs c.as_runs-runs.result.now c.first_run_to-place.result c.args.point
-    c.as_runs-runs.ensures.runs c.first_run_to-place.ensures (omega arith) z from
+pub returns-in-Plane-clause-stretch : goal.returns-in-Plane-clause-stretch
+returns-in-Plane-clause-stretch c =
+    let known = subst IsSettled c.in-Plane.is c.as_form.ensures.settled in
+    let same = sym (ap points_of c.in-Plane.is) ∙ c.as_form.ensures.points in
+    some_weaker c.stretch_from-in-Plane.result _ _ (λ r st. subst (λ (xs : List ℕ). IsStretchFrom xs c.args.point r.start r.end) same (stretch_of_plane c.in-Plane.plane known.0 c.args.point r.start r.end st)) c.stretch_from-in-Plane.ensures.some
 
-pub overflow_add-result : goal.overflow_add-result
-overflow_add-result c = end_fits c.as_runs-runs.result.now _ _ c.as_runs-runs.ensures.runs
-    (omega arith)
-
-pub returns-clause-stretch : goal.returns-clause-stretch
-returns-clause-stretch c =
-    stretch_of_set c.args.self.now c.as_runs-runs.result.now c.first_run_to-place.result
-    c.args.point c.max.result _ c.as_runs-runs.ensures.runs c.as_runs-runs.ensures.points
-    c.first_run_to-place.ensures (omega arith) c.max.ensures
-
-pub returns-clause-limit : goal.returns-clause-limit
-returns-clause-limit c = end_below c.as_runs-runs.result.now _ _ c.as_runs-runs.ensures.runs
-    (omega arith)
+pub returns-in-Plane-clause-none : goal.returns-in-Plane-clause-none
+returns-in-Plane-clause-none c e z l =
+    let known = subst IsSettled c.in-Plane.is c.as_form.ensures.settled in
+    let same = sym (ap points_of c.in-Plane.is) ∙ c.as_form.ensures.points in
+    ap (λ (xs : List ℕ). has xs z) (sym same) ∙ has_plane c.in-Plane.plane known.0 z ∙ none_told c.stretch_from-in-Plane.result _ c.stretch_from-in-Plane.ensures.none e z l

@@ -1,6 +1,6 @@
 use Rattle.std.proofs.Common.{◌<◌, All, get_or, sym, subst}
 use Rattle.point_sets.proofs.Rising.{take_below}
-use Rattle.point_sets.proofs.point_set.PointSet.from_sorted.Goals as goal
+use Rattle.point_sets.proofs.run_set.RunSet.from_sorted.Goals as goal
 
 pub push_run-requires-clause-above : goal.push_run-requires-clause-above
 push_run-requires-clause-above c =

@@ -4,7 +4,7 @@ use Rattle.point_sets.specs.Runs.{points_in}
 use Rattle.point_sets.specs.declared.runs.Run.{Run}
 use Rattle.point_sets.specs.declared.TheConstants.{POINT_LIMIT}
 use Rattle.point_sets.proofs.RunLists.{points_of_runs}
-use Rattle.point_sets.proofs.point_set.PointSet.copy.Goals as goal
+use Rattle.point_sets.proofs.run_set.RunSet.copy.Goals as goal
 
 pub returns-clause-points : goal.returns-clause-points
 returns-clause-points c =

@@ -1,5 +1,5 @@
 use Rattle.point_sets.proofs.Combining.{none_at_all}
-use Rattle.point_sets.proofs.point_set.PointSet.any_kept.Goals as goal
+use Rattle.point_sets.proofs.run_set.RunSet.any_kept.Goals as goal
 
 pub returns-clause-none : goal.returns-clause-none
 returns-clause-none c =

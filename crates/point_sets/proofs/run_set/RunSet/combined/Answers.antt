@@ -1,6 +1,6 @@
 use Rattle.std.proofs.Common.{sym, ◌∙◌}
 use Rattle.point_sets.proofs.Combining.{IsPiece, all_before, so_far_kept, so_far_all}
-use Rattle.point_sets.proofs.point_set.PointSet.combined.Goals as goal
+use Rattle.point_sets.proofs.run_set.RunSet.combined.Goals as goal
 
 pub push_run-requires-clause-above : goal.push_run-requires-clause-above
 push_run-requires-clause-above c =

@@ -2,7 +2,7 @@ use Rattle.std.proofs.Common.{subst}
 use Rattle.plain_values.specs.Points.{IsPoints}
 use Rattle.point_sets.specs.declared.TheConstants.{POINT_LIMIT}
 use Rattle.point_sets.proofs.RunLists.{points_of_runs}
-use Rattle.point_sets.proofs.point_set.PointSet.as_runs.Goals as goal
+use Rattle.point_sets.proofs.run_set.RunSet.as_runs.Goals as goal
 
 pub returns-clause-set : goal.returns-clause-set
 returns-clause-set c =

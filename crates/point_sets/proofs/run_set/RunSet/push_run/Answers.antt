@@ -4,7 +4,7 @@ use Rattle.point_sets.specs.Runs.{IsJoined}
 use Rattle.point_sets.specs.declared.runs.Run.{Run}
 use Rattle.point_sets.proofs.RunLists.{points_of_runs}
 use Rattle.point_sets.proofs.RunPush.{IsMore, added_fits, added_is_more, grown_fits, grown_is_more}
-use Rattle.point_sets.proofs.point_set.PointSet.push_run.Goals as goal
+use Rattle.point_sets.proofs.run_set.RunSet.push_run.Goals as goal
 
 pub overflow_add-run : goal.overflow_add-run
 overflow_add-run c =
