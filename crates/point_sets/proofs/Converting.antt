@@ -1,9 +1,9 @@
 -- From runs to a plane and back.
-use Rattle.std.proofs.Common.{◌≡◌, ℕ, suc, ◌+◌, ◌-◌, ◌<◌, ◌≤◌, Bool, true, false, ◌&&◌, ◌||◌, leb, ltb, List, [], ◌∷◌, ◌++◌, length, get_or, take, All, refl, sym, ap, ◌∙◌, subst, arith, ⊎_elim}
-use Rattle.std.proofs.lemmas.Bool.{cases_Bool, cases_lt, and_parts, ltb-true, false≢true, lt-ltb}
+use Rattle.std.proofs.Common.{◌≡◌, ℕ, ◌+◌, ◌-◌, ◌<◌, ◌≤◌, Bool, true, false, ◌&&◌, ◌||◌, leb, ltb, List, [], ◌∷◌, ◌++◌, length, get_or, take, All, refl, sym, ap, ◌∙◌, arith, ⊎_elim}
+use Rattle.std.proofs.lemmas.Bool.{cases_lt, and_parts, ltb-true, false≢true, lt-ltb}
 use Rattle.std.proofs.lemmas.Bool.Decides.{nat_tests}
 use Rattle.std.proofs.lemmas.List.Elements.{Contains-get_or}
-use Rattle.std.proofs.lemmas.List.{take_more, take_all}
+use Rattle.std.proofs.lemmas.List.{take_more}
 use Rattle.plain_values.specs.Points.{IsPoints, counted_from, has}
 use Rattle.bit_planes.specs.Planes.{IsBelow, IsStretch, has_point}
 use Rattle.point_sets.specs.Forms.{plane_points}
@@ -11,8 +11,8 @@ use Rattle.point_sets.specs.Runs.{AreRuns, points_in, size_of}
 use Rattle.point_sets.specs.Stretches.{IsStretchFrom}
 use Rattle.point_sets.specs.declared.runs.Run.{Run}
 use Rattle.point_sets.specs.declared.TheConstants.{POINT_LIMIT}
-use Rattle.point_sets.proofs.PlaneLists.{has_plane, plane_points_are, points-plane_points}
-use Rattle.point_sets.proofs.Rising.{has-append, has-counted_from, has-from_Contains, members_decide}
+use Rattle.point_sets.proofs.PlaneLists.{has_plane, plane_points_are}
+use Rattle.point_sets.proofs.Rising.{has-append, has-counted_from, has-from_Contains}
 use Rattle.point_sets.proofs.RunLists.{has-run, points_in-append, run_at}
 
 -- ---- a plane that is built of runs

@@ -10,7 +10,7 @@ use Rattle.point_sets.specs.Stretches.{IsStretchFrom}
 use Rattle.point_sets.specs.declared.TheConstants.{POINT_LIMIT}
 use Rattle.point_sets.proofs.Places.{position_is}
 use Rattle.point_sets.proofs.PlaneLists.{has_plane, no_point_at, place_of_point, point_of_place}
-use Rattle.point_sets.proofs.Rising.{meets_at, meets_is, position_absent, within_each, within_is}
+use Rattle.point_sets.proofs.Rising.{meets_at, meets_is, position_absent, within_is}
 
 pub some_weaker : {X : Type 0} (r : Option X) (P Q : X → Type 0) → ((x : X) → P x → Q x) → IfSome r P → IfSome r Q
 some_weaker None P Q f h = tt

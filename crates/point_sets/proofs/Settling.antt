@@ -1,5 +1,5 @@
 -- Which form takes fewer words.
-use Rattle.std.proofs.Common.{◌≡◌, ℕ, ◌<◌, ◌≤◌, min, List, sym, ap, ◌∙◌, subst, arith}
+use Rattle.std.proofs.Common.{◌≡◌, ℕ, ◌<◌, ◌≤◌, min, List, sym, ap, subst, arith}
 use Rattle.plain_values.specs.Points.{IsPoints}
 use Rattle.bit_planes.specs.Planes.{IsBelow, IsSpan, count_below, is_last}
 use Rattle.point_sets.specs.Forms.{AreWordsOf, IsFewest, IsSettled, plane_points, points_of, runs_of}

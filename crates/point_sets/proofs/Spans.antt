@@ -1,20 +1,20 @@
 -- How many words and runs a set takes.
-use Rattle.std.proofs.Common.{◌≡◌, ℕ, zero, suc, ◌+◌, ◌-◌, ◌/◌, ◌<◌, ◌≤◌, Bool, true, false, not, ◌&&◌, ◌||◌, eqb, leb, ltb, List, [], ◌∷◌, ◌++◌, length, get_or, take, drop, filter, All, refl, sym, ap, ◌∙◌, subst, arith, ⊎_elim, length-append}
+use Rattle.std.proofs.Common.{◌≡◌, ℕ, zero, suc, ◌+◌, ◌-◌, ◌/◌, ◌<◌, ◌≤◌, Bool, true, false, not, ◌&&◌, ◌||◌, eqb, leb, List, [], ◌∷◌, length, get_or, filter, refl, sym, ap, ◌∙◌, subst, arith, ⊎_elim, length-append}
 use Rattle.std.proofs.lemmas.Bool.{cases_Bool, cases_lt, cond-true, cond-false, false≢true}
 use Rattle.std.proofs.lemmas.Bool.Decides.{nat_tests}
 use Rattle.std.proofs.lemmas.List.Elements.{filter-append}
 use Rattle.std.proofs.lemmas.List.{get_or_default}
 use Rattle.std.proofs.lemmas.Nat.Bits.{bit_at-zero}
 use Rattle.plain_values.specs.Points.{counted_from, has}
-use Rattle.bit_planes.specs.Planes.{AreEnds, IsBelow, IsSpan, has_point}
-use Rattle.point_sets.specs.Forms.{AreEndsOf, AreWordsOf, IsFewest, plane_points, runs_of}
+use Rattle.bit_planes.specs.Planes.{IsBelow, IsSpan, has_point}
+use Rattle.point_sets.specs.Forms.{AreEndsOf, AreWordsOf, plane_points, runs_of}
 use Rattle.point_sets.specs.Runs.{AreRunEnds, AreRuns, AreRunsFrom, points_in, size_of}
 use Rattle.point_sets.specs.declared.runs.Run.{Run}
 use Rattle.point_sets.specs.declared.TheConstants.{POINT_LIMIT}
-use Rattle.point_sets.proofs.PlaneLists.{has_plane, has-plane_points}
+use Rattle.point_sets.proofs.PlaneLists.{has_plane}
 use Rattle.point_sets.proofs.Rising.{absent_below, has-append, has_get_or, has_head}
 use Rattle.point_sets.proofs.RunLists.{element_at, gap_after, has-run, points_above, points_before, run_at}
-use Rattle.point_sets.proofs.RunSearch.{lasts_rise, first_below}
+use Rattle.point_sets.proofs.RunSearch.{lasts_rise}
 
 -- ---- lists of runs have as many runs
 

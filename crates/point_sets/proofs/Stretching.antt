@@ -1,6 +1,6 @@
 -- The stretch that a run gives from a point on.
-use Rattle.std.proofs.Common.{◌≡◌, ℕ, suc, ◌+◌, ◌<◌, ◌≤◌, false, max, List, length, get_or, take}
-use Rattle.std.proofs.Common.{All, arith, subst, ⊎_elim}
+use Rattle.std.proofs.Common.{◌≡◌, ℕ, suc, ◌+◌, ◌<◌, false, max, List, length, get_or, take}
+use Rattle.std.proofs.Common.{arith, subst, ⊎_elim}
 use Rattle.point_sets.specs.Runs.{AreRuns, IsFirstTo, points_in}
 use Rattle.point_sets.specs.Stretches.{IsStretchFrom}
 use Rattle.point_sets.specs.declared.runs.Run.{Run}

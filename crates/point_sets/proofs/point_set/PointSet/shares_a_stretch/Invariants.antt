@@ -1,4 +1,4 @@
-use Rattle.std.proofs.Common.{ℕ, ◌≡◌, ◌<◌, ◌-◌, ◌&&◌, false, not}
+use Rattle.std.proofs.Common.{ℕ, ◌≡◌, ◌<◌, ◌-◌, ◌&&◌, false}
 use Rattle.plain_values.specs.Points.{has}
 use Rattle.point_sets.specs.declared.TheConstants.{POINT_LIMIT}
 use Rattle.point_sets.proofs.point_set.PointSet.shares_a_stretch.Given as goal

@@ -2,7 +2,7 @@ use Rattle.std.proofs.Common.{ℕ, List, sym, ap, subst, ◌∙◌}
 use Rattle.plain_values.specs.Points.{has}
 use Rattle.point_sets.specs.Forms.{IsSettled, points_of}
 use Rattle.point_sets.specs.Stretches.{IsStretchFrom}
-use Rattle.point_sets.proofs.Converting.{end_limit, stretch_of_plane}
+use Rattle.point_sets.proofs.Converting.{stretch_of_plane}
 use Rattle.point_sets.proofs.PlaneAnswers.{none_told, some_weaker}
 use Rattle.point_sets.proofs.PlaneLists.{has_plane}
 use Rattle.point_sets.proofs.point_set.PointSet.stretch_from.Goals as goal

@@ -1,6 +1,6 @@
-use Rattle.std.proofs.Common.{◌≡◌, arith, sym, ap, subst, ◌∙◌}
+use Rattle.std.proofs.Common.{arith, sym, ap, subst, ◌∙◌}
 use Rattle.point_sets.specs.Forms.{IsFewest, IsSettled, points_of}
-use Rattle.point_sets.proofs.Settling.{fewest_plane, fewest_runs}
+use Rattle.point_sets.proofs.Settling.{fewest_plane}
 use Rattle.point_sets.proofs.point_set.PointSet.words.Goals as goal
 
 pub returns-in-Plane-clause-fewest : goal.returns-in-Plane-clause-fewest
