@@ -112,10 +112,10 @@ granted_at tree task s _ e f a (a_region_type k sp args r) there lacking =
     (and_parts (may_do (rights_declared tree task) s.known want) true (not-false _ all)).0
 
 -- so of a field of what a name's pointer goes to
-pub aimed_may : (handing keeping : Bool) (task : TaskTree) (w : Where) → IsSoundTask w.tree task → KnowsHead w.tree task w.scope → Falls w.scope.next w.scope.names →
-    (n f : Name) (a : Access) → (p : IsAimed keeping w.tree w.scope.names (bound w n).static_type f) →
+pub aimed_may : (handing keeping : Bool) (marked : List Name) (task : TaskTree) (w : Where) → IsSoundTask w.tree task → KnowsHead w.tree task w.scope → Falls w.scope.next w.scope.names →
+    (n f : Name) (a : Access) → (p : IsAimed keeping marked w.tree w.scope.names (bound w n).static_type f) →
     lacks w.tree task w.scope (wanted_of_step w.tree a (field_of (bound w n).static_type f)) ≡ false → MayGo (forms_by handing keeping w.tree task) w n f (mode_in a)
-aimed_may handing keeping task w sound h falls n f a p lacking =
+aimed_may handing keeping marked task w sound h falls n f a p lacking =
     let t = (bound w n).static_type in
     let r = p.among in
     let granted = granted_at w.tree task w.scope (region_type p.kind (space_in t) p.args (place.Name p.region)) (truth_expr true) f a

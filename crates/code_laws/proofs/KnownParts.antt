@@ -1,15 +1,15 @@
 -- What is derived of a part at a place of a task's body is derived of its whole, where nothing is known to lie within a
 -- part: so what the rules allow of it may be done.
-use Rattle.std.proofs.Common.{◌≡◌, ℕ, Bool, List, [], ◌∷◌, true, ◌⊎◌, inl, inr, refl, ap, sym, subst, ◌∙◌, ⊎_elim}
-use Rattle.std.specs.Prelude.{◌&&◌, ◌||◌, ◌==◌}
+use Rattle.std.proofs.Common.{◌≡◌, ℕ, ◌<◌, ◌≤◌, Bool, List, [], ◌∷◌, true, ◌⊎◌, inl, inr, refl, ap, sym, subst, ◌∙◌, ⊎_elim, arith}
+use Rattle.std.specs.Prelude.{length, ◌&&◌, ◌||◌, ◌==◌}
 use Rattle.std.specs.List.{Contains, list_any}
-use Rattle.std.proofs.lemmas.Bool.{and_from, and_parts, or_cases, or_left, or_right}
+use Rattle.std.proofs.lemmas.Bool.{and_from, and_parts, cases_lt, or_cases, or_left, or_right}
 use Rattle.constraint_check.proofs.Table.{is_subregion-derivable}
 use Rattle.constraint_check.specs.Derivations.{IsBelow, child, same, through, told_within, variable}
 use Rattle.regent_tree.proofs.Members.{Has, Has-from_Contains}
 use Rattle.regent_tree.specs.Facts.{is_subregion}
 use Rattle.regent_tree.specs.Rights.{gives, is_held, same_access}
-use Rattle.regent_tree.specs.Scopes.{Scope}
+use Rattle.regent_tree.specs.Scopes.{Scope, scope_of}
 use Rattle.regent_tree.specs.Syntax.{TaskTree, Tree}
 use Rattle.regent_tree.specs.Typing.{parent_of}
 use Rattle.regent_tree.specs.declared.facts.Colour.{Colour}
@@ -23,7 +23,10 @@ use Rattle.regent_tree.specs.declared.rights.Right.{Right}
 use Rattle.regent_tree.specs.declared.typing.Bound.{Bound}
 use Rattle.regent_tree.specs.declared.typing.StaticType.TheVariants.{Partition as partition_type}
 use Rattle.check_rules.specs.rules.Privileges.{made_above, may_do, wanting}
-use Rattle.code_laws.proofs.KnownHeads.{KnowsHead}
+use Rattle.check_rules.specs.scopes.Sound.{IsSoundTask}
+use Rattle.code_laws.specs.Taking.{known_of_pairs, pairs_in}
+use Rattle.code_laws.proofs.KnownHeads.{KnowsHead, known_behind}
+use Rattle.code_laws.proofs.Privileges.{part_of}
 
 any_more : {A : Type 0} (p q : A → Bool) (xs : List A) → ((x : A) → p x ≡ true → q x ≡ true) → list_any p xs ≡ true → list_any q xs ≡ true
 any_more p q [] more e = e
@@ -33,6 +36,10 @@ any_more p q (x ∷ xs) more e =
 abbrev IsName : Term → Type 0
 IsName (place.Name i) = Unit {0}
 IsName (place.Child p c) = ⊥
+
+abbrev number_in : Term → ℕ
+number_in (place.Name i) = i
+number_in (place.Child p c) = 0
 
 abbrev partition_in : Term → ℕ
 partition_in (place.Name i) = 0
@@ -46,6 +53,28 @@ module _ (tree : Tree) (task : TaskTree) (s : Scope) (head : KnowsHead tree task
   names_below a b (through p q) i e = let m = names_below a _ p i e in names_below _ b q m.0 m.1
   names_below _ b (child c) i e = absurd (subst IsName (sym e) tt)
   names_below a b (variable c) i e = absurd (subst IsName (sym (head.within a b c).is_upper) tt)
+
+  -- nothing is known of a region that was made behind the parameters
+  below_made : (a b : Term) → IsBelow s.known a b → (i : ℕ) → a ≡ place.Name i → length task.params ≤ i → b ≡ place.Name i
+  below_made a _ same i e l = e
+  below_made a b (told_within c) i e l =
+      let p = head.within a b c in
+      let low = p.low in
+      let number : p.lower ≡ i = ap number_in (sym p.is_lower ∙ e) in
+      absurd (omega (arith, l, low, number))
+  below_made a b (through p q) i e l = below_made _ b q i (below_made a _ p i e l) l
+  below_made _ b (child c) i e l = absurd (subst IsName (sym e) tt)
+  below_made a b (variable c) i e l = absurd (subst IsName (sym (head.within a b c).is_upper) tt)
+
+  -- a region lies within itself, or both are parameters' of which it follows
+  pub name_within : IsSoundTask tree task → (i j : ℕ) → is_subregion s.known (place.Name i) (place.Name j) ≡ true →
+      (j ≡ i) ⊎ ((i < length task.params) × (j < length task.params)
+      × (is_subregion (known_of_pairs (pairs_in (scope_of tree task).known)) (place.Name i) (place.Name j) ≡ true))
+  name_within sound i j e = ⊎_elim
+      (λ (low : i < length task.params). let p = part_of tree task sound s.known (known_behind tree task s head) i j low e in inr (low, p.0, p.1))
+      (λ (high : length task.params ≤ i).
+      inl (ap number_in (below_made (place.Name i) (place.Name j) ((is_subregion-derivable s.known (place.Name i) (place.Name j)).0 e).below i refl high)))
+      (cases_lt i (length task.params))
 
   -- a part lies within itself, and within what a region lies within of which the partition is
   pub data IsAbove (p : ℕ) (c : Colour) (b : Term) : Type 0 where

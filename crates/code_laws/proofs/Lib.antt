@@ -62,6 +62,7 @@ pub mod LocalValues
 pub mod Entries
 pub mod Privileges
 pub mod DeclaredNeeds
+pub mod LocalFields
 pub mod LocalNames
 pub mod KnownHeads
 pub mod KnownParts
@@ -74,9 +75,11 @@ pub mod LocalExpressions
 pub mod LocalVariables
 pub mod LocalCuts
 pub mod LocalDifferences
+pub mod LocalImages
 pub mod LocalStatements
 pub mod LocalAssignments
 pub mod LocalBlocks
+pub mod LocalMarks
 pub mod LocalTrees
 pub mod LocalRuns
 pub mod ScalarLocal

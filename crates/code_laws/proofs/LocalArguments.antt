@@ -48,16 +48,16 @@ use Rattle.code_laws.proofs.Values.{scalar_simple}
 use Rattle.code_laws.proofs.LocalValues.{IsValue, value_counts, value_for_region, value_param, value_read, value_simple}
 use Rattle.code_laws.proofs.LocalPoints.{IsWell, local_known}
 
-module _ (handing keeping : Bool) (task : TaskTree) (w : Where) (sound : IsSound w.tree) (sound_task : IsSoundTask w.tree task) (local : IsLocalTree handing w.tree)
-    (m : Marked) (scope : IsSoundScope w.scope) (names : AllKept keeping m w.scope.names) (head : KnowsHead w.tree task w.scope) where
+module _ (handing keeping : Bool) (task : TaskTree) (w : Where) (sound : IsSound w.tree) (sound_task : IsSoundTask w.tree task) (m : Marked)
+    (local : IsLocalTree handing keeping m.index_fields w.tree) (scope : IsSoundScope w.scope) (names : AllKept keeping m w.scope.names) (head : KnowsHead w.tree task w.scope) where
   abbrev forms : Forms
   forms = forms_by handing keeping w.tree task
 
   abbrev Well : Expression → Type 0
-  Well e = IsWell handing keeping task w sound sound_task local m scope names head e
+  Well e = IsWell handing keeping task w sound sound_task m local scope names head e
 
   abbrev known : (e : Expression) → first_in_expression w.tree task w.scope e ≡ None → known_type w.tree w.scope e ≡ typed w e
-  known e told = local_known handing keeping task w sound sound_task local m scope names head e told
+  known e told = local_known handing keeping task w sound sound_task m local scope names head e told
 
   -- what is told of no call: its task is there, has as many parameters, and what is given stands well and is of the
   -- field space that is asked
@@ -269,6 +269,6 @@ module _ (handing keeping : Bool) (task : TaskTree) (w : Where) (sound : IsSound
       let t = call_told n args e in
       let passed = given t in record {
         there = t.there;
-        callable = may_call handing keeping task w sound sound_task local m scope names head n args (local.tasks n t.there) told t.parts passed;
+        callable = may_call handing keeping task w sound sound_task m local scope names head n args (local.tasks n t.there) told t.parts passed;
         passed = passed;
       }

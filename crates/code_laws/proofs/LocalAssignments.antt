@@ -8,7 +8,7 @@ use Rattle.regent_tree.specs.Accesses.{space_in}
 use Rattle.regent_tree.specs.Limits.{parts_of_expression}
 use Rattle.regent_tree.specs.Lookup.{is_bound}
 use Rattle.regent_tree.specs.Scopes.{Scope, bound_to}
-use Rattle.regent_tree.specs.StaticTypes.{field_place}
+use Rattle.regent_tree.specs.StaticTypes.{field_kind, field_place}
 use Rattle.regent_tree.specs.Syntax.{Expression, Name, TaskTree, Tree, access_expr, assign_form, at_step, field_step, no_step}
 use Rattle.regent_tree.specs.Typing.{type_of, type_of_element, type_of_field}
 use Rattle.regent_tree.specs.declared.rights.Access.{Access}
@@ -36,25 +36,25 @@ use Rattle.check_rules.specs.types.TypedForms.{element_of, field_of}
 use Rattle.code_rules.specs.Slots.{Where}
 use Rattle.local_form.specs.LocalForm.{Marked, is_among, is_kept_apart, is_local_expression, is_local_form}
 use Rattle.code_laws.specs.Handing.{forms_by}
-use Rattle.code_laws.specs.Simple.{IsPartition, IsScalar, a_partition_type}
+use Rattle.code_laws.specs.Simple.{IsPartition, a_partition_type}
 use Rattle.code_laws.specs.Steps.{Forms}
 use Rattle.code_laws.specs.Typed.{GoesThrough, IsTyped, IsTypedForm, MayTouch, element_field, IsBehind, IsFieldOf, MayGo, field_behind}
 use Rattle.code_laws.proofs.KnownHeads.{IsReady}
 use Rattle.code_laws.proofs.LocalPoints.{at_point, behind_name, gone, is_behind, touched}
-use Rattle.code_laws.proofs.LocalValues.{alike_assigned, alike_fits, field_kept, value_fitting, value_integer}
-use Rattle.code_laws.specs.Pointers.{CountsAs, fills_alike, into_plain}
+use Rattle.code_laws.proofs.LocalValues.{alike_assigned, value_fitting, value_integer}
+use Rattle.code_laws.specs.Pointers.{CountsAs}
 use Rattle.code_laws.proofs.Privileges.{mode_in}
+use Rattle.code_laws.proofs.LocalFields.{IsHeld, held_goes, held_into, held_simple}
 use Rattle.code_laws.proofs.LocalNames.{kept_integer, IsLocalTree, kept_as_value, named_kept, named_place, taking_told, value_kept}
 use Rattle.code_laws.proofs.LocalTypes.{simple_as_integer}
 use Rattle.code_laws.proofs.TypedStatements.{first_stands, told_later, told_privileges}
 use Rattle.code_laws.proofs.Typing.{AreKept, no_way}
-use Rattle.code_laws.proofs.Values.{scalar_simple}
 use Rattle.scalar_form.specs.ScalarForm.{is_scalar_if_said}
 use Rattle.code_laws.proofs.LocalVariables.{at, headed, stands_as}
 use Rattle.regent_tree.specs.declared.typing.StaticType.{StaticType}
 
-module _ (handing keeping : Bool) (tree : Tree) (task : TaskTree) (sound : IsSound tree) (sound_task : IsSoundTask tree task) (local : IsLocalTree handing tree)
-    (m : Marked) (params : ℕ) (result : is_scalar_if_said task.result ≡ true) where
+module _ (handing keeping : Bool) (tree : Tree) (task : TaskTree) (sound : IsSound tree) (sound_task : IsSoundTask tree task) (m : Marked)
+    (local : IsLocalTree handing keeping m.index_fields tree) (params : ℕ) (result : is_scalar_if_said task.result ≡ true) where
   abbrev forms : Forms
   forms = forms_by handing keeping tree task
 
@@ -62,7 +62,7 @@ module _ (handing keeping : Bool) (tree : Tree) (task : TaskTree) (sound : IsSou
   Ready s = IsReady keeping tree task m s
 
   abbrev here : Scope → ℕ → Where
-  here s line = at handing keeping tree task sound sound_task local m params result s line
+  here s line = at handing keeping tree task sound sound_task m local params result s line
 
   pub set_local : (s : Scope) (line : ℕ) (n : Name) (y : Expression) → is_local_form m (assign_form n no_step how.Set y) ≡ true → AreKept (parts_of_expression y) →
       IsSoundScope s → Ready s → first_of_form tree task s (assign_form n no_step how.Set y) ≡ None →
@@ -73,7 +73,7 @@ module _ (handing keeping : Bool) (tree : Tree) (task : TaskTree) (sound : IsSou
       let two = and_parts (not (is_among m.indices n)) (is_local_expression m y) one.1 in
       let parts = told_of_form tree task s sound scope form e in
       let told = (option_or_parts (first_in_expression tree task s y) _ parts.2).0 in
-      let a = headed handing keeping tree task sound sound_task local m params result s line y two.1 k scope names told in
+      let a = headed handing keeping tree task sound sound_task m local params result s line y two.1 k scope names told in
       let target = option_or_parts (rule_if (not (is_bound s.names n)) rule.Name) _ (target_of_form tree task s sound scope form e) in
       let there = not-false (is_bound s.names n) (rule_none (not (is_bound s.names n)) rule.Name target.0) in
       let u = (bound_to s.names n).static_type in
@@ -81,7 +81,7 @@ module _ (handing keeping : Bool) (tree : Tree) (task : TaskTree) (sound : IsSou
       let kept = named_kept keeping m s.names n names.names there in
       let scalar = value_kept keeping m s.names n i u kept two.0 (kept_as_value keeping m s.names n i u kept one.0) in
       let spot = ap (λ b. typed_spot (cond b unknown_type u)) (told_later tree task s form e).0 in
-      let fit = stands_as handing keeping tree task sound sound_task local m params result s y (typed_spot u) scope told (subst (λ p. may_stand s.known (stands (known_type tree s y) p) ≡ true) spot
+      let fit = stands_as handing keeping tree task sound sound_task m local params result s y (typed_spot u) scope told (subst (λ p. may_stand s.known (stands (known_type tree s y) p) ≡ true) spot
       (first_stands s.known (stands (known_type tree s y) (spot_of_target (mistargets task s.names n no_step how.Set u) how.Set u)) [] parts.4).0) in
       (alike_assigned keeping (type_of tree s y) u (value_fitting keeping s.names s.known (type_of tree s y) u a.value scalar fit), a.is, there)
 
@@ -92,12 +92,12 @@ module _ (handing keeping : Bool) (tree : Tree) (task : TaskTree) (sound : IsSou
       let form = assign_form n no_step (how.Reduce o) y in
       let parts = told_of_form tree task s sound scope form e in
       let told = (option_or_parts (first_in_expression tree task s y) _ parts.2).0 in
-      let a = headed handing keeping tree task sound sound_task local m params result s line y lo k scope names told in
+      let a = headed handing keeping tree task sound sound_task m local params result s line y lo k scope names told in
       let target = option_or_parts (rule_if (not (is_bound s.names n)) rule.Name) _ (target_of_form tree task s sound scope form e) in
       let there = not-false (is_bound s.names n) (rule_none (not (is_bound s.names n)) rule.Name target.0) in
       let u = (bound_to s.names n).static_type in
       let whole = not-false (may_be is_integer u) (or_parts (is_no_target task s.names n no_step u) (not (may_be is_integer u)) (told_later tree task s form e).0).1 in
-      let may = stands_as handing keeping tree task sound sound_task local m params result s y integer_spot scope told (first_stands s.known (stands (known_type tree s y) integer_spot) [] parts.4).0 in (
+      let may = stands_as handing keeping tree task sound sound_task m local params result s y integer_spot scope told (first_stands s.known (stands (known_type tree s y) integer_spot) [] parts.4).0 in (
         value_integer keeping s.names (type_of tree s y) a.value may,
         kept_integer keeping m s.names n (bound_to s.names n).number u (named_kept keeping m s.names n names.names there) whole,
         a.is,
@@ -110,7 +110,8 @@ module _ (handing keeping : Bool) (tree : Tree) (task : TaskTree) (sound : IsSou
     number : CountsAs keeping (type_of tree s e)
     through : GoesThrough (here s line) n e
     field : IsFieldOf keeping (here s line) n f (element_field (here s line) n e f)
-    scalar : IsScalar (element_field (here s line) n e f)
+    held : IsHeld keeping m.index_fields f (field_kind tree (space_in (bound_to s.names n).static_type) (field_place tree (space_in (bound_to s.names n).static_type) f))
+        (element_field (here s line) n e f)
     known : known_type tree s (access_expr n (at_step e (field_step f no_step))) ≡ element_field (here s line) n e f
     may : (a : Access) → lacks tree task s (wanted_of_step tree a (field_of (known_type_after_step tree (element_of (bound_to s.names n).static_type (known_type tree s e)) (type_of_element s (bound_to s.names n).static_type e)) f)) ≡ false →
         MayTouch forms (here s line) n (field_place tree (space_in (bound_to s.names n).static_type) f) (mode_in a)
@@ -125,16 +126,16 @@ module _ (handing keeping : Bool) (tree : Tree) (task : TaskTree) (sound : IsSou
       let index = option_or_parts (first_in_expression tree task s e) _ told.1 in
       let taking = element_of t (known_type tree s e) in
       let step = option_or_parts (first_of_step tree task s taking) _ index.1 in
-      let a = headed handing keeping tree task sound sound_task local m params result s line e lo k scope names index.0 in
-      let p = at_point handing keeping task w sound sound_task local m scope names.names names.head n e f there index.0 a (option_or_parts (first_of_taking tree taking) _ step.0).0 step.1 in
-      let is = named_place handing keeping w sound local m n e f scope there p.place in record {
+      let a = headed handing keeping tree task sound sound_task m local params result s line e lo k scope names index.0 in
+      let p = at_point handing keeping task w sound sound_task m local scope names.names names.head n e f there index.0 a (option_or_parts (first_of_taking tree taking) _ step.0).0 step.1 in
+      let is = named_place handing keeping w sound m local n e f scope there p.place in record {
         index = a.is;
         number = p.number;
         through = is.0;
-        field = field_kept keeping w n f (element_field w n e f) is.1;
-        scalar = p.place.scalar;
+        field = is.1;
+        held = p.place.held;
         known = ap (λ q. known_type_after_step tree (field_of q f) (type_of_field tree q f)) p.element ∙ p.place.known;
-        may = λ a lacking. touched handing keeping task w sound sound_task local m scope names.names names.head n e f a there p lacking;
+        may = λ a lacking. touched handing keeping task w sound sound_task m local scope names.names names.head n e f a there p lacking;
       }
 
   pub set_field_local : (s : Scope) (line : ℕ) (n : Name) (e : Expression) (f : Name) (y : Expression) → is_local_expression m e ≡ true → is_local_expression m y ≡ true →
@@ -146,14 +147,13 @@ module _ (handing keeping : Bool) (tree : Tree) (task : TaskTree) (sound : IsSou
       let form = assign_form n steps how.Set y in
       let parts = told_of_form tree task s sound scope form none in
       let told = (option_or_parts (first_in_expression tree task s y) _ parts.2).0 in
-      let a = headed handing keeping tree task sound sound_task local m params result s line y lo k scope names told in
+      let a = headed handing keeping tree task sound sound_task m local params result s line y lo k scope names told in
       let target = target_local s line n e f lo_e k_e scope names (target_of_form tree task s sound scope form none) in
       let u = known_type tree s (access_expr n steps) in
       let spot = ap (λ b. typed_spot (cond b unknown_type u)) (told_later tree task s form none).0 ∙ ap typed_spot target.known in
-      let fit = stands_as handing keeping tree task sound sound_task local m params result s y (typed_spot (element_field (here s line) n e f)) scope told (subst (λ p. may_stand s.known (stands (known_type tree s y) p) ≡ true) spot
+      let fit = stands_as handing keeping tree task sound sound_task m local params result s y (typed_spot (element_field (here s line) n e f)) scope told (subst (λ p. may_stand s.known (stands (known_type tree s y) p) ≡ true) spot
       (first_stands s.known (stands (known_type tree s y) (spot_of_target (mistargets task s.names n steps how.Set u) how.Set u)) [] parts.4).0) in (
-        alike_fits keeping (type_of tree s y) (element_field (here s line) n e f)
-            (value_fitting keeping s.names s.known (type_of tree s y) (element_field (here s line) n e f) a.value target.scalar fit),
+        held_into keeping m.index_fields f s.names s.known (type_of tree s y) _ (element_field (here s line) n e f) a.value target.held fit,
         a.is,
         target.index,
         target.number,
@@ -171,14 +171,14 @@ module _ (handing keeping : Bool) (tree : Tree) (task : TaskTree) (sound : IsSou
       let form = assign_form n steps (how.Reduce o) y in
       let parts = told_of_form tree task s sound scope form none in
       let told = (option_or_parts (first_in_expression tree task s y) _ parts.2).0 in
-      let a = headed handing keeping tree task sound sound_task local m params result s line y lo k scope names told in
+      let a = headed handing keeping tree task sound sound_task m local params result s line y lo k scope names told in
       let target = target_local s line n e f lo_e k_e scope names (target_of_form tree task s sound scope form none) in
       let u = known_type tree s (access_expr n steps) in
       let whole = subst (λ v. may_be is_integer v ≡ true) target.known
       (not-false (may_be is_integer u) (or_parts (is_no_target task s.names n steps u) (not (may_be is_integer u)) (told_later tree task s form none).0).1) in
-      let may = stands_as handing keeping tree task sound sound_task local m params result s y integer_spot scope told (first_stands s.known (stands (known_type tree s y) integer_spot) [] parts.4).0 in (
+      let may = stands_as handing keeping tree task sound sound_task m local params result s y integer_spot scope told (first_stands s.known (stands (known_type tree s y) integer_spot) [] parts.4).0 in (
         value_integer keeping s.names (type_of tree s y) a.value may,
-        simple_as_integer (element_field (here s line) n e f) (scalar_simple _ target.scalar) whole,
+        simple_as_integer (element_field (here s line) n e f) (held_simple keeping m.index_fields f _ _ target.held) whole,
         a.is,
         target.index,
         target.number,
@@ -191,7 +191,8 @@ module _ (handing keeping : Bool) (tree : Tree) (task : TaskTree) (sound : IsSou
   record IsTargetBehind (s : Scope) (line : ℕ) (n f : Name) : Type 0 where
     keeps : keeping ≡ true
     behind : IsBehind (here s line) n f (field_behind (here s line) n f)
-    scalar : IsScalar (field_behind (here s line) n f)
+    held : IsHeld keeping m.index_fields f (field_kind tree (space_in (bound_to s.names n).static_type) (field_place tree (space_in (bound_to s.names n).static_type) f))
+        (field_behind (here s line) n f)
     known : known_type tree s (access_expr n (field_step f no_step)) ≡ field_behind (here s line) n f
     may : (a : Access) → lacks tree task s (wanted_of_step tree a (field_of (bound_to s.names n).static_type f)) ≡ false → MayGo forms (here s line) n f (mode_in a)
 
@@ -207,13 +208,13 @@ module _ (handing keeping : Bool) (tree : Tree) (task : TaskTree) (sound : IsSou
       let w = here s line in
       let told = option_or_parts (rule_if (not (is_bound s.names n)) rule.Name) _ none in
       let there = not-false (is_bound s.names n) (rule_none (not (is_bound s.names n)) rule.Name told.0) in
-      let p = behind_name handing keeping task w sound sound_task local m scope names.names names.head n f there
+      let p = behind_name handing keeping task w sound sound_task m local scope names.names names.head n f there
       (λ cut. no_way (sym (colours_told s n f (bound_to s.names n).static_type cut told.1) ∙ other)) told.1 in record {
         keeps = p.keeps;
-        behind = is_behind handing keeping task w sound sound_task local m scope names.names names.head n f there p;
-        scalar = p.scalar;
+        behind = is_behind handing keeping task w sound sound_task m local scope names.names names.head n f there p;
+        held = p.held;
         known = p.known;
-        may = λ a lacking. gone handing keeping task w sound sound_task local m scope names.names names.head n f a p lacking;
+        may = λ a lacking. gone handing keeping task w sound sound_task m local scope names.names names.head n f a p lacking;
       }
 
   pub set_behind_local : (s : Scope) (line : ℕ) (n f : Name) (y : Expression) → is_local_expression m y ≡ true → AreKept (parts_of_expression y) →
@@ -224,16 +225,16 @@ module _ (handing keeping : Bool) (tree : Tree) (task : TaskTree) (sound : IsSou
       let form = assign_form n steps how.Set y in
       let parts = told_of_form tree task s sound scope form none in
       let told = (option_or_parts (first_in_expression tree task s y) _ parts.2).0 in
-      let a = headed handing keeping tree task sound sound_task local m params result s line y lo k scope names told in
+      let a = headed handing keeping tree task sound sound_task m local params result s line y lo k scope names told in
       let out = field_behind (here s line) n f in
       let u = known_type tree s (access_expr n steps) in
       let target = target_behind s line n f scope names (target_of_form tree task s sound scope form none)
       (or_parts (is_no_target task s.names n steps u) _ (told_later tree task s form none).0).0 in
       let spot = ap (λ b. typed_spot (cond b unknown_type u)) (told_later tree task s form none).0 ∙ ap typed_spot target.known in
-      let fit = stands_as handing keeping tree task sound sound_task local m params result s y (typed_spot out) scope told (subst (λ p. may_stand s.known (stands (known_type tree s y) p) ≡ true) spot
+      let fit = stands_as handing keeping tree task sound sound_task m local params result s y (typed_spot out) scope told (subst (λ p. may_stand s.known (stands (known_type tree s y) p) ≡ true) spot
       (first_stands s.known (stands (known_type tree s y) (spot_of_target (mistargets task s.names n steps how.Set u) how.Set u)) [] parts.4).0) in (
         target.keeps,
-        into_plain (type_of tree s y) out (fills_alike (type_of tree s y) out (value_fitting keeping s.names s.known (type_of tree s y) out a.value target.scalar fit)),
+        held_goes keeping m.index_fields f s.names s.known (type_of tree s y) _ out a.value target.held fit,
         a.is,
         target.behind,
         target.may access.Write (told_privileges tree task s form none).0,
@@ -247,17 +248,17 @@ module _ (handing keeping : Bool) (tree : Tree) (task : TaskTree) (sound : IsSou
       let form = assign_form n steps (how.Reduce o) y in
       let parts = told_of_form tree task s sound scope form none in
       let told = (option_or_parts (first_in_expression tree task s y) _ parts.2).0 in
-      let a = headed handing keeping tree task sound sound_task local m params result s line y lo k scope names told in
+      let a = headed handing keeping tree task sound sound_task m local params result s line y lo k scope names told in
       let out = field_behind (here s line) n f in
       let u = known_type tree s (access_expr n steps) in
       let target = target_behind s line n f scope names (target_of_form tree task s sound scope form none)
       (or_parts (is_no_target task s.names n steps u) _ (told_later tree task s form none).0).0 in
       let whole = subst (λ v. may_be is_integer v ≡ true) target.known
       (not-false (may_be is_integer u) (or_parts (is_no_target task s.names n steps u) (not (may_be is_integer u)) (told_later tree task s form none).0).1) in
-      let may = stands_as handing keeping tree task sound sound_task local m params result s y integer_spot scope told (first_stands s.known (stands (known_type tree s y) integer_spot) [] parts.4).0 in (
+      let may = stands_as handing keeping tree task sound sound_task m local params result s y integer_spot scope told (first_stands s.known (stands (known_type tree s y) integer_spot) [] parts.4).0 in (
         target.keeps,
         value_integer keeping s.names (type_of tree s y) a.value may,
-        simple_as_integer out (scalar_simple _ target.scalar) whole,
+        simple_as_integer out (held_simple keeping m.index_fields f _ _ target.held) whole,
         a.is,
         target.behind,
         target.may (access.Reduce o) (told_privileges tree task s form none).1,

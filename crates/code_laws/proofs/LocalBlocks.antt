@@ -35,6 +35,7 @@ use Rattle.code_laws.proofs.LocalStatements.{bound_local, call_local, domain_loc
 use Rattle.code_laws.proofs.LocalValues.{scalar_begins, value_simple, value_tells}
 use Rattle.code_laws.proofs.LocalDifferences.{begun_local}
 use Rattle.code_laws.proofs.LocalCuts.{both_local, by_field_local, either_local, equal_local}
+use Rattle.code_laws.proofs.LocalImages.{image_local, preimage_local}
 use Rattle.code_laws.proofs.LocalVariables.{at, region_local, said_local}
 use Rattle.code_laws.proofs.LocalTypes.{term_scalar}
 use Rattle.code_laws.proofs.Names.{Grown, arms_names, block_grown, else_names}
@@ -50,8 +51,9 @@ use Rattle.scalar_form.specs.ScalarForm.{is_scalar_if_said}
 grown_has : {before after : List Bound} → Grown before after → (b : Bound) → Has before b → Has after b
 grown_has {before = before} g b h = subst (λ bs. Has bs b) (sym g.are) (Has-append_right g.more before b h)
 
-module _ (handing keeping : Bool) (tree : Tree) (task : TaskTree) (sound : IsSound tree) (sound_task : IsSoundTask tree task) (local : IsLocalTree handing tree)
-    (m : Marked) (keeps : (n : Name) → (is_among m.pointers n ≡ true) ⊎ (is_among m.partitions n ≡ true) → keeping ≡ true) (params : ℕ) (result : is_scalar_if_said task.result ≡ true) where
+module _ (handing keeping : Bool) (tree : Tree) (task : TaskTree) (sound : IsSound tree) (sound_task : IsSoundTask tree task) (m : Marked)
+    (local : IsLocalTree handing keeping m.index_fields tree) (keeps : (n : Name) → (is_among m.pointers n ≡ true) ⊎ (is_among m.partitions n ≡ true) → keeping ≡ true) (hands : keeping ≡ true → handing ≡ true)
+    (params : ℕ) (result : is_scalar_if_said task.result ≡ true) where
   abbrev forms : Forms
   forms = forms_by handing keeping tree task
 
@@ -59,7 +61,7 @@ module _ (handing keeping : Bool) (tree : Tree) (task : TaskTree) (sound : IsSou
   Ready s = IsReady keeping tree task m s
 
   abbrev here : Scope → ℕ → Where
-  here s line = at handing keeping tree task sound sound_task local m params result s line
+  here s line = at handing keeping tree task sound sound_task m local params result s line
 
   -- a statement is typed, and the place behind it is ready for the next
   abbrev FormTyped : Scope → ℕ → Form → Type 0
@@ -86,12 +88,12 @@ module _ (handing keeping : Bool) (tree : Tree) (task : TaskTree) (sound : IsSou
       AreKept (parts_of_form (var_form n t i)) → IsSoundScope s → Ready s → first_of_form tree task s (var_form n t i) ≡ None →
       FormTyped s line (var_form n t i)
   var_local s line n None (Some (plain_initializer y)) lo k scope names e =
-      let v = begun_local handing keeping tree task sound sound_task local m params result (λ q h. keeps q (inr h)) s line n y lo k scope names e in
+      let v = begun_local handing keeping tree task sound sound_task m local params result (λ q h. keeps q (inr h)) s line n y lo k scope names e in
       (v.0, record { names = (v.1, names.names); head = v.2 })
   var_local s line n None (Some (region_initializer y u)) lo k scope names e =
-      let v = region_local handing keeping tree task sound sound_task local m params result s line n y u lo k scope names e in (v.0, record { names = (v.1, names.names); head = v.2 })
+      let v = region_local handing keeping tree task sound sound_task m local params result s line n y u lo k scope names e in (v.0, record { names = (v.1, names.names); head = v.2 })
   var_local s line n (Some t) (Some (plain_initializer y)) lo k scope names e =
-      let v = said_local handing keeping tree task sound sound_task local m params result s line n t y lo k scope names e in (v.0, record { names = (v.1, names.names); head = v.2 })
+      let v = said_local handing keeping tree task sound sound_task m local params result s line n t y lo k scope names e in (v.0, record { names = (v.1, names.names); head = v.2 })
   var_local s line n (Some t) None lo k scope names e =
       let q = term_scalar t lo tree (in_scope s) s.next in
       let wanted = var_type tree s (Some t) None in (
@@ -103,19 +105,23 @@ module _ (handing keeping : Bool) (tree : Tree) (task : TaskTree) (sound : IsSou
       )
   var_local s line n None None lo k scope names e = absurd (no_way (told_of_form tree task s sound scope (var_form n None None) e).1)
   var_local s line n None (Some (equal_initializer r y)) lo k scope names e =
-      let v = equal_local handing keeping tree task sound sound_task local m params result (λ q h. keeps q (inr h)) s line n r y lo k scope names e in
+      let v = equal_local handing keeping tree task sound sound_task m local params result (λ q h. keeps q (inr h)) s line n r y lo k scope names e in
       (v.0, record { names = (v.1, names.names); head = v.2 })
   var_local s line n None (Some (by_field_initializer r f y)) lo k scope names e =
-      let v = by_field_local handing keeping tree task sound sound_task local m params result (λ q h. keeps q (inr h)) s line n r f y lo k scope names e in
+      let v = by_field_local handing keeping tree task sound sound_task m local params result (λ q h. keeps q (inr h)) s line n r f y lo k scope names e in
       (v.0, record { names = (v.1, names.names); head = v.2 })
   var_local s line n None (Some (both_initializer p q)) lo k scope names e =
-      let v = both_local handing keeping tree task sound sound_task local m params result (λ q h. keeps q (inr h)) s line n p q lo scope names e in
+      let v = both_local handing keeping tree task sound sound_task m local params result (λ q h. keeps q (inr h)) s line n p q lo scope names e in
       (v.0, record { names = (v.1, names.names); head = v.2 })
   var_local s line n None (Some (either_initializer p q)) lo k scope names e =
-      let v = either_local handing keeping tree task sound sound_task local m params result (λ q h. keeps q (inr h)) s line n p q lo scope names e in
+      let v = either_local handing keeping tree task sound sound_task m local params result (λ q h. keeps q (inr h)) s line n p q lo scope names e in
       (v.0, record { names = (v.1, names.names); head = v.2 })
-  var_local s line n None (Some (image_initializer _ _ _ _)) lo k scope names e = absurd (no_way_back lo)
-  var_local s line n None (Some (preimage_initializer _ _ _ _)) lo k scope names e = absurd (no_way_back lo)
+  var_local s line n None (Some (image_initializer r p q f)) lo k scope names e =
+      let v = image_local handing keeping tree task sound sound_task m local params result (λ q h. keeps q (inr h)) hands s line n r p q f lo scope names e in
+      (v.0, record { names = (v.1, names.names); head = v.2 })
+  var_local s line n None (Some (preimage_initializer r p q f)) lo k scope names e =
+      let v = preimage_local handing keeping tree task sound sound_task m local params result (λ q h. keeps q (inr h)) hands s line n r p q f lo scope names e in
+      (v.0, record { names = (v.1, names.names); head = v.2 })
   var_local s line n (Some t) (Some (region_initializer _ _)) lo k scope names e = absurd (no_way_back lo)
   var_local s line n (Some t) (Some (equal_initializer _ _)) lo k scope names e = absurd (no_way_back lo)
   var_local s line n (Some t) (Some (by_field_initializer _ _ _)) lo k scope names e = absurd (no_way_back lo)
@@ -139,22 +145,22 @@ module _ (handing keeping : Bool) (tree : Tree) (task : TaskTree) (sound : IsSou
   assign_local : (s : Scope) (line : ℕ) (n : Name) (steps : Steps) (h : How) (y : Expression) → is_local_form m (assign_form n steps h y) ≡ true →
       AreKept (parts_of_form (assign_form n steps h y)) → IsSoundScope s → Ready s → first_of_form tree task s (assign_form n steps h y) ≡ None →
       IsTypedForm forms (here s line) (assign_form n steps h y)
-  assign_local s line n no_step how.Set y lo k scope names e = set_local handing keeping tree task sound sound_task local m params result s line n y lo k scope names e
-  assign_local s line n no_step (how.Reduce o) y lo k scope names e = reduce_local handing keeping tree task sound sound_task local m params result s line n o y lo k scope names e
+  assign_local s line n no_step how.Set y lo k scope names e = set_local handing keeping tree task sound sound_task m local params result s line n y lo k scope names e
+  assign_local s line n no_step (how.Reduce o) y lo k scope names e = reduce_local handing keeping tree task sound sound_task m local params result s line n o y lo k scope names e
   assign_local s line n (at_step x (field_step f no_step)) how.Set y lo k scope names e =
       let both = and_parts (is_local_expression m x) (is_local_expression m y) lo in
       let ks = kept_element x f y k in
-      set_field_local handing keeping tree task sound sound_task local m params result s line n x f y both.0 both.1 ks.0 ks.1 scope names e
+      set_field_local handing keeping tree task sound sound_task m local params result s line n x f y both.0 both.1 ks.0 ks.1 scope names e
   assign_local s line n (at_step x (field_step f no_step)) (how.Reduce o) y lo k scope names e =
       let both = and_parts (is_local_expression m x) (is_local_expression m y) lo in
       let ks = kept_element x f y k in
-      reduce_field_local handing keeping tree task sound sound_task local m params result s line n x f o y both.0 both.1 ks.0 ks.1 scope names e
+      reduce_field_local handing keeping tree task sound sound_task m local params result s line n x f o y both.0 both.1 ks.0 ks.1 scope names e
   assign_local s line n (field_step f no_step) how.Set y lo k scope names e =
       let both = and_parts (is_among m.pointers n) (is_local_expression m y) lo in
-      set_behind_local handing keeping tree task sound sound_task local m params result s line n f y both.1 (kept_behind_field f y k) scope names e
+      set_behind_local handing keeping tree task sound sound_task m local params result s line n f y both.1 (kept_behind_field f y k) scope names e
   assign_local s line n (field_step f no_step) (how.Reduce o) y lo k scope names e =
       let both = and_parts (is_among m.pointers n) (is_local_expression m y) lo in
-      reduce_behind_local handing keeping tree task sound sound_task local m params result s line n f o y both.1 (kept_behind_field f y k) scope names e
+      reduce_behind_local handing keeping tree task sound sound_task m local params result s line n f o y both.1 (kept_behind_field f y k) scope names e
   assign_local s line n (field_step _ (field_step _ _)) h y lo k scope names e = absurd (no_way_back lo)
   assign_local s line n (field_step _ (at_step _ _)) h y lo k scope names e = absurd (no_way_back lo)
   assign_local s line n (at_step _ no_step) h y lo k scope names e = absurd (no_way_back lo)
@@ -168,15 +174,15 @@ module _ (handing keeping : Bool) (tree : Tree) (task : TaskTree) (sound : IsSou
     form_local s line (var_form n t i) lo k scope names e w = var_local s line n t i lo k scope names e
     form_local s line (assign_form n steps h y) lo k scope names e w = (assign_local s line n steps h y lo k scope names e, names)
     form_local s line (print_form alias format args) lo k scope names e w =
-        (print_local handing keeping tree task sound sound_task local m params result s line alias format args lo k scope names e, names)
-    form_local s line (call_form n args) lo k scope names e w = (call_local handing keeping tree task sound sound_task local m params result s line n args lo k scope names e, names)
+        (print_local handing keeping tree task sound sound_task m local params result s line alias format args lo k scope names e, names)
+    form_local s line (call_form n args) lo k scope names e w = (call_local handing keeping tree task sound sound_task m local params result s line n args lo k scope names e, names)
     form_local s line (fill_form r fields y) lo k scope names e w =
-        (fill_local handing keeping tree task sound sound_task local m params result s line r fields y lo (kept_right (nodes fields) (parts_of_expression y) k) scope names e, names)
-    form_local s line (return_form y) lo k scope names e w = (return_local handing keeping tree task sound sound_task local m params result s line y lo k scope names e, names)
+        (fill_local handing keeping tree task sound sound_task m local params result s line r fields y lo (kept_right (nodes fields) (parts_of_expression y) k) scope names e, names)
+    form_local s line (return_form y) lo k scope names e w = (return_local handing keeping tree task sound sound_task m local params result s line y lo k scope names e, names)
     form_local s line (assert_form y) lo k scope names e w =
         let parts = told_of_form tree task s sound scope (assert_form y) e in
         let told = (option_or_parts (first_in_expression tree task s y) _ parts.2).0 in (
-          test_local handing keeping tree task sound sound_task local m params result s line y lo k scope names told
+          test_local handing keeping tree task sound sound_task m local params result s line y lo k scope names told
               (first_stands s.known (stands (known_type tree s y) truth_spot) [] parts.4).0,
           names,
         )
@@ -185,7 +191,7 @@ module _ (handing keeping : Bool) (tree : Tree) (task : TaskTree) (sound : IsSou
         let both = and_parts (is_local_expression m test) (is_local_block m body) lo in
         let parts = told_of_form tree task s sound scope (while_form test body) e in
         let told = (option_or_parts (first_in_expression tree task s test) _ parts.2).0 in
-        let t = test_local handing keeping tree task sound sound_task local m params result s line test both.0 (kept_left (parts_of_expression test) (parts_of_block body) k) scope names told
+        let t = test_local handing keeping tree task sound sound_task m local params result s line test both.0 (kept_left (parts_of_expression test) (parts_of_block body) k) scope names told
         (first_stands s.known (stands (known_type tree s test) truth_spot) [] parts.4).0 in
         let b = block_local s line body both.1 (kept_right (parts_of_expression test) (parts_of_block body) k) scope names w in
         ((t.0, t.1, b.0), behind s (scope_after_block tree s body) (block_grown tree s body) names b.1)
@@ -194,7 +200,7 @@ module _ (handing keeping : Bool) (tree : Tree) (task : TaskTree) (sound : IsSou
         let two = and_parts (is_local_domain m n domain) (is_local_block m body) one.1 in
         let parts = told_of_form tree task s sound scope (for_in_form demanded n domain body) e in
         let told = (option_or_parts (first_in_expression tree task s domain) _ parts.2).0 in
-        let d = domain_local handing keeping tree task sound sound_task local m params result (λ q h. keeps q (inl h)) s line n domain one.0 two.0
+        let d = domain_local handing keeping tree task sound sound_task m local params result (λ q h. keeps q (inl h)) s line n domain one.0 two.0
         (kept_left (parts_of_expression domain) (parts_of_block body) k) scope names told (first_stands s.known (stands (known_type tree s domain) domain_spot) [] parts.4).0 in
         let inner = loop_scope tree task sound s demanded n domain body scope e in
         let ty = taken_from (type_of tree s domain) in
@@ -212,9 +218,9 @@ module _ (handing keeping : Bool) (tree : Tree) (task : TaskTree) (sound : IsSou
         let first = option_or_parts (first_in_expression tree task s from) _ parts.2 in
         let second = option_or_parts (first_in_expression tree task s to) _ first.1 in
         let standing = first_stands s.known (stands (known_type tree s from) integer_spot) (stands (known_type tree s to) integer_spot ∷ []) parts.4 in
-        let a = bound_local handing keeping tree task sound sound_task local m params result s line from one.0
+        let a = bound_local handing keeping tree task sound sound_task m local params result s line from one.0
         (kept_left (parts_of_expression from) (parts_of_expression to ++ parts_of_block body) k) scope names first.0 standing.0 in
-        let b = bound_local handing keeping tree task sound sound_task local m params result s line to two.0 (kept_left (parts_of_expression to) (parts_of_block body) k2) scope names second.0
+        let b = bound_local handing keeping tree task sound sound_task m local params result s line to two.0 (kept_left (parts_of_expression to) (parts_of_block body) k2) scope names second.0
         (first_stands s.known (stands (known_type tree s to) integer_spot) [] standing.1).0 in
         let inner = count_scope tree task sound s demanded n from to body scope e in
         let ty = arithmetic_type (type_of tree s from) (type_of tree s to) in
@@ -251,7 +257,7 @@ module _ (handing keeping : Bool) (tree : Tree) (task : TaskTree) (sound : IsSou
         let tests = option_or_parts (first_in_expression tree task own test) _ heads in
         let stood = first_stands own.known (stands (known_type tree own test) truth_spot) (all_stand tree own truth_spot (tests_of rest)) standing in
         let next = arm_next tree task sound s test body rest scope e in
-        let t = test_local handing keeping tree task sound sound_task local m params result own line test one.0
+        let t = test_local handing keeping tree task sound sound_task m local params result own line test one.0
         (kept_left (parts_of_expression test) (parts_of_block body ++ parts_of_arms rest) k) oscope onames tests.0 stood.0 in
         let b = block_local s line body two.0 (kept_left (parts_of_block body) (parts_of_arms rest) k2) scope names next.0 in
         let r = arms_local own (past s (scope_after_block tree s body)) line rest two.1 (kept_right (parts_of_block body) (parts_of_arms rest) k2)

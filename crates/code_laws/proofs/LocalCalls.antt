@@ -1,12 +1,11 @@
 -- Where nothing is told of a call that hands regions over, what the called task needs may be done with them, and its
 -- constraints hold of them.
-use Rattle.std.proofs.Common.{◌≡◌, ◌⊎◌, ℕ, zero, suc, ◌<◌, ◌≤◌, List, [], ◌∷◌, inl, inr, Bool, true, false, Option, Some, None, refl, sym, ap, ◌∙◌, subst, arith, ⊎_elim}
+use Rattle.std.proofs.Common.{◌≡◌, ◌⊎◌, ℕ, zero, suc, ◌<◌, List, [], ◌∷◌, inl, inr, Bool, true, false, Option, Some, None, refl, sym, ap, ◌∙◌, subst, ⊎_elim}
 use Rattle.std.specs.Prelude.{length, not, slice_get, cond}
-use Rattle.std.proofs.lemmas.Bool.{cases_lt, eq-eqb, not-false}
+use Rattle.std.proofs.lemmas.Bool.{eq-eqb, not-false}
 use Rattle.std.proofs.lemmas.Option.{none-some}
 use Rattle.plain_values.proofs.Plain.{option_or_parts}
 use Rattle.constraint_check.proofs.Table.{is_subregion-derivable}
-use Rattle.constraint_check.specs.Derivations.{IsBelow, child, same, through, told_within, variable}
 use Rattle.regent_tree.proofs.Members.{Has}
 use Rattle.regent_tree.specs.Accesses.{space_in}
 use Rattle.regent_tree.specs.Facts.{is_subregion, is_unknown}
@@ -53,21 +52,16 @@ use Rattle.code_laws.specs.Arguments.{AreMet, AreParted, IsCutName, IsMet, IsMet
 use Rattle.code_laws.specs.Typed.{ArePassed, IsCallable}
 use Rattle.code_laws.proofs.Arguments.{first_region, named_typed, part_is, part_space}
 use Rattle.code_laws.proofs.DeclaredNeeds.{IsDeclared, need_declared, pair_constrained}
-use Rattle.code_laws.proofs.KnownHeads.{KnowsHead, kept_may, known_behind, may_touch}
-use Rattle.code_laws.proofs.KnownParts.{names_below, part_below, part_over, whole_may, whole_within}
+use Rattle.code_laws.proofs.KnownHeads.{KnowsHead, kept_may, may_touch}
+use Rattle.code_laws.proofs.KnownParts.{name_within, names_below, part_below, part_over, whole_may, whole_within}
 use Rattle.code_laws.proofs.LocalGiven.{IsGivenAt, IsHandedAt, IsPartAt, handed_at, one_colour, same_name, IsCutBy, child_term}
 use Rattle.code_laws.proofs.LocalNames.{AllKept, IsKept, IsLocalTask, IsLocalTree, kept_partition, kept_region, kept_scalar, kept_value, named_kept, parent_among, region_of_number}
 use Rattle.code_laws.proofs.LocalTypes.{simple_other}
 use Rattle.code_laws.proofs.LocalValues.{bound_among, value_other}
-use Rattle.code_laws.proofs.Privileges.{part_of}
 use Rattle.code_laws.proofs.Typing.{no_way_back}
 use Rattle.code_laws.proofs.Values.{scalar_simple}
 
 -- ---- regions and their types
-
-abbrev number_in : Term → ℕ
-number_in (term.Name j) = j
-number_in (term.Child q c) = 0
 
 abbrev IsName : Term → Type 0
 IsName (term.Name j) = Unit {0}
@@ -139,17 +133,6 @@ no_name (an_expr e es) (suc k) p at = no_name es k p at
 
 module _ (keeping : Bool) (task : TaskTree) (w : Where) (sound : IsSound w.tree) (sound_task : IsSoundTask w.tree task) (m : Marked)
     (scope : IsSoundScope w.scope) (names : AllKept keeping m w.scope.names) (head : KnowsHead w.tree task w.scope) where
-  -- nothing is known of a region that was made behind the parameters
-  below_made : (a b : Term) → IsBelow w.scope.known a b → (i : ℕ) → a ≡ term.Name i → length task.params ≤ i → b ≡ term.Name i
-  below_made a _ same i e l = e
-  below_made a b (told_within c) i e l =
-      let p = head.within a b c in
-      let number : p.lower ≡ i = ap number_in (sym p.is_lower ∙ e) in
-      absurd (omega (arith, l, p.low, number))
-  below_made a b (through p q) i e l = below_made _ b q i (below_made a _ p i e l) l
-  below_made _ b (child c) i e l = absurd (subst IsName (sym e) tt)
-  below_made a b (variable c) i e l = absurd (subst IsName (sym (head.within a b c).is_upper) tt)
-
   -- the checker's type of an argument that is a name
   name_type : (es : Expressions) (k : ℕ) (n : Name) → first_in_args w.tree task w.scope es ≡ None → name_at es k ≡ Some n →
       type_at (known_types w.tree w.scope es) k ≡ (bound w n).static_type
@@ -261,13 +244,9 @@ module _ (keeping : Bool) (task : TaskTree) (w : Where) (sound : IsSound w.tree)
         is_subregion w.scope.known (term.Name i) (term.Name j) ≡ true →
         (a ≡ b) ⊎ ((i < length task.params) × (j < length task.params) × (is_subregion (known_of_pairs y.within) (term.Name i) (term.Name j) ≡ true))
     parted_by a b ha hb i j ia jb e = ⊎_elim
-        (λ (low : i < length task.params).
-        let p = part_of w.tree task sound_task w.scope.known (known_behind w.tree task w.scope head) i j low e in inr (low, p.0, p.1))
-        (λ (high : length task.params ≤ i).
-        let below = ((is_subregion-derivable w.scope.known (term.Name i) (term.Name j)).0 e).below in
-        let number : j ≡ i = ap number_in (below_made (term.Name i) (term.Name j) below i refl high) in
-        inl (same_name w scope.numbers a b ha hb (ia ∙ sym number ∙ sym jb)))
-        (cases_lt i (length task.params))
+        (λ number. inl (same_name w scope.numbers a b ha hb (ia ∙ sym number ∙ sym jb)))
+        (λ part. inr part)
+        (name_within w.tree task w.scope head sound_task i j e)
 
     -- where nothing is told, one argument lies within another
     argument_within : (lower upper : Name) (ta tb : StaticType) → IsRegion ta → IsRegion tb → type_at types (place_in t.params lower) ≡ ta →
@@ -318,14 +297,9 @@ module _ (keeping : Bool) (task : TaskTree) (w : Where) (sound : IsSound w.tree)
         let found = (found_by_number w.scope.next w.scope.names b.name scope.numbers b.there).0 in
         let by : ((parent_bound w a.name).place ≡ (bound w b.name).place) ⊎ IsPart y (term_in (parent_bound w a.name).static_type) (term_in tb) =
         ⊎_elim
-        (λ (l : r < length task.params).
-        let p = part_of w.tree task sound_task w.scope.known (known_behind w.tree task w.scope head) r j l over in
-        inr (subst (λ u. IsPart y u (term_in tb)) (sym ca.named) (subst (IsPart y (term.Name r)) (sym kept_b) (l, p.0, p.1))))
-        (λ (h : length task.params ≤ r).
-        let below = ((is_subregion-derivable w.scope.known (term.Name r) (term.Name j)).0 over).below in
-        let number : j ≡ r = ap number_in (below_made (term.Name r) (term.Name j) below r refl h) in
-        inl (ap (λ k. (bound_as w.scope.names k).place) (sym number) ∙ ap (λ (c : Bound). c.place) found))
-        (cases_lt r (length task.params)) in
+        (λ number. inl (ap (λ k. (bound_as w.scope.names k).place) (sym number) ∙ ap (λ (c : Bound). c.place) found))
+        (λ part. inr (subst (λ u. IsPart y u (term_in tb)) (sym ca.named) (subst (IsPart y (term.Name r)) (sym kept_b) part)))
+        (name_within w.tree task w.scope head sound_task r j over) in
         parted_below keeping y w args p a.keeps (subst (λ i. IsPartBelow y w (part_at args i) (name_at args p.1) (part_at args p.1)) low
         (subst (λ j. IsPartBelow y w (part_at args (place_in t.params lower)) (name_at args j) (part_at args j)) high
         (subst (λ o. IsPartBelow y w o (name_at args (place_in t.params upper)) (part_at args (place_in t.params upper))) (sym a.at)
@@ -383,12 +357,12 @@ module _ (keeping : Bool) (task : TaskTree) (w : Where) (sound : IsSound w.tree)
     calls_handed at = (at, all_met keeping (Some y) w args (task_code w.tree t).needs met, all_parted keeping y w args (pairs_in (scope_of w.tree t).known) parted)
 
 -- with regions that are handed over, or without
-pub may_call : (handing keeping : Bool) (task : TaskTree) (w : Where) → IsSound w.tree → IsSoundTask w.tree task → IsLocalTree handing w.tree → (m : Marked) →
+pub may_call : (handing keeping : Bool) (task : TaskTree) (w : Where) → IsSound w.tree → IsSoundTask w.tree task → (m : Marked) → IsLocalTree handing keeping m.index_fields w.tree →
     IsSoundScope w.scope → AllKept keeping m w.scope.names → KnowsHead w.tree task w.scope → (n : Name) (args : Expressions) → IsLocalTask handing w.tree n →
     first_in_args w.tree task w.scope args ≡ None → IsFlawless w.tree task w.scope (calling n (known_types w.tree w.scope args)) →
     ArePassed (forms_by handing keeping w.tree task) w (params_at w.tree w.scope (task_named w.tree n) args) (param_types w.tree (task_named w.tree n)) args →
     IsCallable (forms_by handing keeping w.tree task) w n args
-may_call false keeping task w sound sound_task local m scope names head n args l told parts passed =
+may_call false keeping task w sound sound_task m local scope names head n args l told parts passed =
     (l.called, subst (AreMet keeping None w args) (sym (l.alone refl).needs) tt, tt)
-may_call true keeping task w sound sound_task local m scope names head n args l told parts passed =
+may_call true keeping task w sound sound_task m local scope names head n args l told parts passed =
     calls_handed keeping task w sound sound_task m scope names head n args told parts (sound.tasks (task_named w.tree n) l.stands) local.named passed l.called

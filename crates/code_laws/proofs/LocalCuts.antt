@@ -53,8 +53,8 @@ use Rattle.scalar_form.specs.ScalarForm.{is_scalar_if_said}
 pub parents_same : (t u : StaticType) → IsPartition t → IsPartition u → have_other_parents t u ≡ false → parent_of t ≡ parent_of u
 parents_same _ _ (a_partition_type d r p) (a_partition_type e s q) h = eqb-true r s (not-false _ h)
 
-module _ (handing keeping : Bool) (tree : Tree) (task : TaskTree) (sound : IsSound tree) (sound_task : IsSoundTask tree task) (local : IsLocalTree handing tree)
-    (m : Marked) (params : ℕ) (result : is_scalar_if_said task.result ≡ true) (keeps : (q : Name) → is_among m.partitions q ≡ true → keeping ≡ true) where
+module _ (handing keeping : Bool) (tree : Tree) (task : TaskTree) (sound : IsSound tree) (sound_task : IsSoundTask tree task) (m : Marked)
+    (local : IsLocalTree handing keeping m.index_fields tree) (params : ℕ) (result : is_scalar_if_said task.result ≡ true) (keeps : (q : Name) → is_among m.partitions q ≡ true → keeping ≡ true) where
   abbrev forms : Forms
   forms = forms_by handing keeping tree task
 
@@ -62,10 +62,10 @@ module _ (handing keeping : Bool) (tree : Tree) (task : TaskTree) (sound : IsSou
   Ready s = IsReady keeping tree task m s
 
   abbrev here : Scope → ℕ → Where
-  here s line = at handing keeping tree task sound sound_task local m params result s line
+  here s line = at handing keeping tree task sound sound_task m local params result s line
 
   abbrev pub Begins : Scope → ℕ → Name → Initializer → Type 0
-  Begins s line n i = VarTyped handing keeping tree task sound sound_task local m params result s line n None (Some i)
+  Begins s line n i = VarTyped handing keeping tree task sound sound_task m local params result s line n None (Some i)
 
   -- ---- what is told of an initializer
 
@@ -89,21 +89,21 @@ module _ (handing keeping : Bool) (tree : Tree) (task : TaskTree) (sound : IsSou
   -- ---- what names have
 
   -- a region
-  record HasRegion (s : Scope) (r : Name) : Type 0 where
-    there : is_bound s.names r ≡ true
-    may : may_be is_region (type_named s.names r) ≡ true
-    kept : IsKept keeping m s.names r (bound_to s.names r).number (bound_to s.names r).static_type
-    region : IsRegion (bound_to s.names r).static_type
+  pub record HasRegion (s : Scope) (r : Name) : Type 0 where
+    pub there : is_bound s.names r ≡ true
+    pub may : may_be is_region (type_named s.names r) ≡ true
+    pub kept : IsKept keeping m s.names r (bound_to s.names r).number (bound_to s.names r).static_type
+    pub region : IsRegion (bound_to s.names r).static_type
 
-  has_region : (s : Scope) (r : Name) → Ready s → names_a is_region s.names r ≡ true → HasRegion s r
+  pub has_region : (s : Scope) (r : Name) → Ready s → names_a is_region s.names r ≡ true → HasRegion s r
   has_region s r names e =
       let there = and_parts (is_bound s.names r) (may_be is_region (type_named s.names r)) e in
       let b = bound_to s.names r in
       let kept = named_kept keeping m s.names r names.names there.0 in
-      record { there = there.0; may = there.1; kept = kept; region = region_is handing keeping tree sound local m s.names r b.number b.static_type kept there.1 }
+      record { there = there.0; may = there.1; kept = kept; region = region_is handing keeping tree sound m local s.names r b.number b.static_type kept there.1 }
 
   -- of which a partition is kept
-  cut_kept : (s : Scope) (n r : Name) (d : Bool) → HasRegion s r → is_among m.partitions n ≡ true →
+  pub cut_kept : (s : Scope) (n r : Name) (d : Bool) → HasRegion s r → is_among m.partitions n ≡ true →
       IsKept keeping m s.names n s.next (partition_type d (bound_to s.names r).number s.next)
   cut_kept s n r d h marked =
       let b = bound_to s.names r in
@@ -116,12 +116,12 @@ module _ (handing keeping : Bool) (tree : Tree) (task : TaskTree) (sound : IsSou
       }) marked
 
   -- a partition
-  record HasPartition (s : Scope) (n : Name) : Type 0 where
-    there : is_bound s.names n ≡ true
-    kept : IsKept keeping m s.names n (bound_to s.names n).number (bound_to s.names n).static_type
-    partition : IsPartition (bound_to s.names n).static_type
+  pub record HasPartition (s : Scope) (n : Name) : Type 0 where
+    pub there : is_bound s.names n ≡ true
+    pub kept : IsKept keeping m s.names n (bound_to s.names n).number (bound_to s.names n).static_type
+    pub partition : IsPartition (bound_to s.names n).static_type
 
-  has_partition : (s : Scope) (n : Name) → Ready s → names_a is_partition s.names n ≡ true → HasPartition s n
+  pub has_partition : (s : Scope) (n : Name) → Ready s → names_a is_partition s.names n ≡ true → HasPartition s n
   has_partition s n names e =
       let there = and_parts (is_bound s.names n) (may_be is_partition (type_named s.names n)) e in
       let b = bound_to s.names n in
@@ -129,12 +129,12 @@ module _ (handing keeping : Bool) (tree : Tree) (task : TaskTree) (sound : IsSou
       record { there = there.0; kept = kept; partition = partition_is keeping m s.names n b.number b.static_type kept there.1 }
 
   -- a field of a region, which may be read
-  scanned : (s : Scope) (line : ℕ) (r f : Name) → IsSoundScope s → Ready s → HasRegion s r → region_has tree (type_named s.names r) f ≡ true →
+  pub scanned : (s : Scope) (line : ℕ) (r f : Name) → IsSoundScope s → Ready s → HasRegion s r → region_has tree (type_named s.names r) f ≡ true →
       lacks tree task s (wanted_of_region tree access.Read (type_named s.names r) f) ≡ false → IsScanned forms (here s line) r f
   scanned s line r f scope names h has lacking =
       let b = bound_to s.names r in
       let t = b.static_type in
-      let field = field_is handing keeping tree sound local m s.names r b.number t f h.kept h.may has in record {
+      let field = field_is handing keeping tree sound m local s.names r b.number t f h.kept h.may has in record {
         parent = record { named = h.there; numbers = scope.numbers; region = h.region };
         field = field.field;
         may = kept_may handing keeping tree task s sound_task names.head m s.names r b.number t h.kept h.region (field_place tree (space_in t) f) access.Read
@@ -151,8 +151,8 @@ module _ (handing keeping : Bool) (tree : Tree) (task : TaskTree) (sound : IsSou
   coloured : (s : Scope) (line : ℕ) (y : Expression) → is_local_expression m y ≡ true → AreKept (parts_of_expression y) → IsSoundScope s → Ready s →
       first_in_expression tree task s y ≡ None → may_stand s.known (stands (known_type tree s y) space_spot) ≡ true → IsColoured s line y
   coloured s line y lo k scope names told may =
-      let a = headed handing keeping tree task sound sound_task local m params result s line y lo k scope names told in
-      record { is = a.is; space = value_space keeping s.names (type_of tree s y) a.value (stands_as handing keeping tree task sound sound_task local m params result s y space_spot scope told may) }
+      let a = headed handing keeping tree task sound sound_task m local params result s line y lo k scope names told in
+      record { is = a.is; space = value_space keeping s.names (type_of tree s y) a.value (stands_as handing keeping tree task sound sound_task m local params result s y space_spot scope told may) }
 
   -- equal parts of a region that has a name
   pub equal_local : (s : Scope) (line : ℕ) (n r : Name) (y : Expression) → is_local_form m (var_form n None (Some (equal_initializer r y))) ≡ true →

@@ -118,8 +118,8 @@ difference_names m (null_expr _) h = absurd (no_way_back h)
 difference_names m (cast_expr _ _) h = absurd (no_way_back h)
 difference_names m (space_expr _ _) h = absurd (no_way_back h)
 
-module _ (handing keeping : Bool) (tree : Tree) (task : TaskTree) (sound : IsSound tree) (sound_task : IsSoundTask tree task) (local : IsLocalTree handing tree)
-    (m : Marked) (params : ℕ) (result : is_scalar_if_said task.result ≡ true) (keeps : (q : Name) → is_among m.partitions q ≡ true → keeping ≡ true) where
+module _ (handing keeping : Bool) (tree : Tree) (task : TaskTree) (sound : IsSound tree) (sound_task : IsSoundTask tree task) (m : Marked)
+    (local : IsLocalTree handing keeping m.index_fields tree) (params : ℕ) (result : is_scalar_if_said task.result ≡ true) (keeps : (q : Name) → is_among m.partitions q ≡ true → keeping ≡ true) where
   abbrev forms : Forms
   forms = forms_by handing keeping tree task
 
@@ -127,10 +127,10 @@ module _ (handing keeping : Bool) (tree : Tree) (task : TaskTree) (sound : IsSou
   Ready s = IsReady keeping tree task m s
 
   abbrev here : Scope → ℕ → Where
-  here s line = at handing keeping tree task sound sound_task local m params result s line
+  here s line = at handing keeping tree task sound sound_task m local params result s line
 
   abbrev Starts : Scope → ℕ → Name → Initializer → Type 0
-  Starts s line n i = Begins handing keeping tree task sound sound_task local m params result keeps s line n i
+  Starts s line n i = Begins handing keeping tree task sound sound_task m local params result keeps s line n i
 
   -- an operand is a value, or a region or partition
   operand_of : (s : Scope) (n : Name) (i : ℕ) (t : StaticType) → IsKept keeping m s.names n i t → IsValue keeping s.names t ⊎ IsCollection t
@@ -195,16 +195,16 @@ module _ (handing keeping : Bool) (tree : Tree) (task : TaskTree) (sound : IsSou
     numbers_apart : (gives_scalar m difference ≡ true) ⊎ (is_among m.indices n ≡ true) → first_in_expression tree task s difference ≡ None →
         Starts s line n (plain_initializer difference)
     numbers_apart value none =
-        let t = operands handing keeping task (here s line) sound sound_task local m scope names.names names.head Subtract (access_expr p no_step) (access_expr q no_step) none in
+        let t = operands handing keeping task (here s line) sound sound_task m local scope names.names names.head Subtract (access_expr p no_step) (access_expr q no_step) none in
         let a = an_operand s p names t.first_told in
         let b = an_operand s q names t.second_told in
         ⊎_elim
         (λ va.
         ⊎_elim
-        (λ vb. well_local handing keeping tree task sound sound_task local m params result s line n difference value refl scope names
-        (computed_well handing keeping task (here s line) sound sound_task local m scope names.names names.head Subtract (access_expr p no_step) (access_expr q no_step)
-        (name_well handing keeping task (here s line) sound sound_task local m scope names.names names.head p a.there va)
-        (name_well handing keeping task (here s line) sound sound_task local m scope names.names names.head q b.there vb) t))
+        (λ vb. well_local handing keeping tree task sound sound_task m local params result s line n difference value refl scope names
+        (computed_well handing keeping task (here s line) sound sound_task m local scope names.names names.head Subtract (access_expr p no_step) (access_expr q no_step)
+        (name_well handing keeping task (here s line) sound sound_task m local scope names.names names.head p a.there va)
+        (name_well handing keeping task (here s line) sound sound_task m local scope names.names names.head q b.there vb) t))
         (λ cb. absurd (no_second keeping s.names tp tq va cb t.does)) (operand_of s q (bound_to s.names q).number tq b.kept))
         (λ ca. absurd (no_first tp tq ca t.does)) (operand_of s p (bound_to s.names p).number tp a.kept)
 
@@ -233,7 +233,7 @@ module _ (handing keeping : Bool) (tree : Tree) (task : TaskTree) (sound : IsSou
       (λ value e.
       let i = plain_initializer (difference s line n is.0 is.1 both.1 scope names) in
       let parts = told_of_form tree task s sound scope (var_form n None (Some i)) e in
-      let u = untold handing keeping tree task sound sound_task local m params result keeps s i (option_or_parts (first_of_initializer tree task s i) _ parts.3).0 in
+      let u = untold handing keeping tree task sound sound_task m local params result keeps s i (option_or_parts (first_of_initializer tree task s i) _ parts.3).0 in
       by_types s line n is.0 is.1 both.1 scope names (may_be_partitions s.names is.0 is.1) refl value parts.2 u.partitions) value e)
-      (λ plain. plain_local handing keeping tree task sound sound_task local m params result s line n y value two.0 plain k scope names e)
+      (λ plain. plain_local handing keeping tree task sound sound_task m local params result s line n y value two.0 plain k scope names e)
       (or_cases (is_difference m y && is_among m.partitions n) (is_local_expression m y) two.1)

@@ -33,7 +33,7 @@ use Rattle.local_form.specs.LocalForm.{Marked, are_local_arguments, are_local_ex
 use Rattle.code_laws.specs.Handing.{forms_by}
 use Rattle.code_laws.specs.Simple.{IsPartition, IsScalar, IsSimple, a_partition_type, scalar_integer, scalar_truth, simple_space, simple_truth}
 use Rattle.code_laws.specs.Steps.{Forms}
-use Rattle.code_laws.specs.Typed.{AreNumbers, ArePassed, AreTypedLinks, element_field}
+use Rattle.code_laws.specs.Typed.{AreNumbers, ArePassed, AreTypedLinks}
 use Rattle.code_laws.proofs.KnownHeads.{KnowsHead}
 use Rattle.code_laws.proofs.LocalParts.{and_then, given_result}
 use Rattle.code_laws.proofs.LocalNames.{AllKept, AreScalars, AreTakable, IsLocalTree, named_kept, named_place, no_partition_kept, kept_as_value, partition_keeps, partition_or}
@@ -43,12 +43,12 @@ use Rattle.check_laws.proofs.Widths.{literal_fits}
 use Rattle.code_laws.proofs.Typing.{AreKept, integer_term, kept_behind, kept_left, kept_right, no_way, no_way_back, number_scalar, operates, signed_scalar, signs_fit, stands_well}
 use Rattle.code_laws.proofs.Values.{scalar_simple}
 use Rattle.scalar_form.specs.ScalarForm.{is_scalar_number}
-use Rattle.code_laws.proofs.LocalValues.{IsValue, field_kept, integer_converts, signs_as, value_after, value_compared, value_computed, value_counts, value_integer, value_operated, value_simple, value_truths}
-use Rattle.code_laws.proofs.LocalPoints.{IsWell, at_point, behind_name, cut_name, gone, is_behind, local_known, name_there, scalar_well, touched}
+use Rattle.code_laws.proofs.LocalValues.{IsValue, integer_converts, signs_as, value_after, value_compared, value_computed, value_counts, value_integer, value_operated, value_simple, value_truths}
+use Rattle.code_laws.proofs.LocalPoints.{IsWell, at_point, behind_name, cut_name, gone, held_well, is_behind, local_known, name_there, scalar_well, touched}
 use Rattle.code_laws.proofs.LocalArguments.{IsArgument, IsCallWell, argument_of, call_well, given_one, name_well, part_of_name}
 
-module _ (handing keeping : Bool) (task : TaskTree) (w : Where) (sound : IsSound w.tree) (sound_task : IsSoundTask w.tree task) (local : IsLocalTree handing w.tree)
-    (m : Marked) (scope : IsSoundScope w.scope) (names : AllKept keeping m w.scope.names) (head : KnowsHead w.tree task w.scope) where
+module _ (handing keeping : Bool) (task : TaskTree) (w : Where) (sound : IsSound w.tree) (sound_task : IsSoundTask w.tree task) (m : Marked)
+    (local : IsLocalTree handing keeping m.index_fields w.tree) (scope : IsSoundScope w.scope) (names : AllKept keeping m w.scope.names) (head : KnowsHead w.tree task w.scope) where
   abbrev forms : Forms
   forms = forms_by handing keeping w.tree task
 
@@ -56,10 +56,10 @@ module _ (handing keeping : Bool) (task : TaskTree) (w : Where) (sound : IsSound
   Value t = IsValue keeping w.scope.names t
 
   abbrev Well : Expression → Type 0
-  Well e = IsWell handing keeping task w sound sound_task local m scope names head e
+  Well e = IsWell handing keeping task w sound sound_task m local scope names head e
 
   abbrev known : (e : Expression) → first_in_expression w.tree task w.scope e ≡ None → known_type w.tree w.scope e ≡ typed w e
-  known e told = local_known handing keeping task w sound sound_task local m scope names head e told
+  known e told = local_known handing keeping task w sound sound_task m local scope names head e told
 
   abbrev HasLink : Links → Type 0
   HasLink no_link = ⊥
@@ -117,17 +117,17 @@ module _ (handing keeping : Bool) (task : TaskTree) (w : Where) (sound : IsSound
   colours_well n f there cut keeps marked =
       let space : IsSimple (type_of_field w.tree (bound w n).static_type f) =
       subst IsSimple (sym (colours_typed w.tree (bound w n).static_type f cut)) (simple_space Int1d) in record {
-        is = (keeps, inr (cut_name handing keeping task w sound sound_task local m scope names head n there cut));
+        is = (keeps, inr (cut_name handing keeping task w sound sound_task m local scope names head n there cut));
         value = value_simple _ space;
-        scalar = λ q. absurd (no_way (sym marked ∙ not-true (is_among m.partitions n) q));
+        scalar = λ q. absurd (no_way (sym marked ∙ not-true (is_among m.partitions n) (and_parts (not (is_among m.partitions n)) (not (is_among m.index_fields f)) q).0));
         plain = λ q. space;
       }
 
   mutual
     pub local_well : (e : Expression) → is_local_expression m e ≡ true → AreKept (parts_of_expression e) →
         first_in_expression w.tree task w.scope e ≡ None → Well e
-    local_well (number_expr z v) lo k e = scalar_well handing keeping task w sound sound_task local m scope names head (number_expr z v) (literal_fits z v (k (literal z v) (inr (inl refl)))) (scalar_integer v)
-    local_well (truth_expr b) lo k e = scalar_well handing keeping task w sound sound_task local m scope names head (truth_expr b) tt scalar_truth
+    local_well (number_expr z v) lo k e = scalar_well handing keeping task w sound sound_task m local scope names head (number_expr z v) (literal_fits z v (k (literal z v) (inr (inl refl)))) (scalar_integer v)
+    local_well (truth_expr b) lo k e = scalar_well handing keeping task w sound sound_task m local scope names head (truth_expr b) tt scalar_truth
     local_well (chain_expr first rest) lo k e =
         let s = and_parts (is_local_expression m first) (are_local_links m rest) lo in
         let told = option_or_parts (first_in_expression w.tree task w.scope first) _ e in
@@ -142,16 +142,16 @@ module _ (handing keeping : Bool) (task : TaskTree) (w : Where) (sound : IsSound
         let parts = kept_right (nodes signs) (parts_of_expression e) (kept_behind node (nodes signs ++ parts_of_expression e) k) in
         let a = local_well e s.1 parts told.0 in
         let fit = signs_fit (typed w e) signs (a.scalar s.0) (subst (λ t. first_of_signs signs t ≡ None) (known e told.0) told.1) in
-        scalar_well handing keeping task w sound sound_task local m scope names head (prefix_expr signs e) (a.is, signs_as keeping (typed w e) signs fit) (signed_scalar (typed w e) signs fit)
+        scalar_well handing keeping task w sound sound_task m local scope names head (prefix_expr signs e) (a.is, signs_as keeping (typed w e) signs fit) (signed_scalar (typed w e) signs fit)
     local_well (access_expr n no_step) lo k e =
         let told = option_or_parts (rule_if (not (is_bound w.scope.names n)) rule.Name) _ e in
-        let there = name_there handing keeping task w sound sound_task local m scope names head n told.0 in
+        let there = name_there handing keeping task w sound sound_task m local scope names head n told.0 in
         let kept = named_kept keeping m w.scope.names n names there in
-        name_well handing keeping task w sound sound_task local m scope names head n there (kept_as_value keeping m w.scope.names n (bound w n).number (bound w n).static_type kept lo)
+        name_well handing keeping task w sound sound_task m local scope names head n there (kept_as_value keeping m w.scope.names n (bound w n).number (bound w n).static_type kept lo)
     local_well (access_expr n (field_step f no_step)) lo k none =
         let t = (bound w n).static_type in
         let told = option_or_parts (rule_if (not (is_bound w.scope.names n)) rule.Name) _ none in
-        let there = name_there handing keeping task w sound sound_task local m scope names head n told.0 in
+        let there = name_there handing keeping task w sound sound_task m local scope names head n told.0 in
         let step = (option_or_parts (first_of_step w.tree task w.scope (field_of t f)) _ told.1).0 in
         let reading = option_or_parts (first_of_taking w.tree (field_of t f)) _ step in
         let kept = named_kept keeping m w.scope.names n names there in
@@ -159,15 +159,16 @@ module _ (handing keeping : Bool) (task : TaskTree) (w : Where) (sound : IsSound
         (λ cut. colours_well n f there cut (partition_keeps keeping m w.scope.names n (bound w n).number t kept cut)
         (no_partition_kept keeping m w.scope.names n (bound w n).number t kept cut))
         (λ other.
-        let p = behind_name handing keeping task w sound sound_task local m scope names head n f there other reading.0 in
-        let may = gone handing keeping task w sound sound_task local m scope names head n f access.Read p (rule_none _ rule.Read reading.1) in
-        scalar_well handing keeping task w sound sound_task local m scope names head (access_expr n (field_step f no_step))
-        (p.keeps, inl (is_behind handing keeping task w sound sound_task local m scope names head n f there p, may)) p.scalar)
+        let p = behind_name handing keeping task w sound sound_task m local scope names head n f there other reading.0 in
+        let may = gone handing keeping task w sound sound_task m local scope names head n f access.Read p (rule_none _ rule.Read reading.1) in
+        held_well handing keeping task w sound sound_task m local scope names head (access_expr n (field_step f no_step)) f _
+        (p.keeps, inl (is_behind handing keeping task w sound sound_task m local scope names head n f there p, may)) p.held
+        (λ q. not-true (is_among m.index_fields f) (and_parts (not (is_among m.partitions n)) (not (is_among m.index_fields f)) q).1))
         (partition_or keeping m w.scope.names n (bound w n).number t kept)
     local_well (access_expr n (at_step e (field_step f no_step))) lo k none =
         let t = (bound w n).static_type in
         let told = option_or_parts (rule_if (not (is_bound w.scope.names n)) rule.Name) _ none in
-        let there = name_there handing keeping task w sound sound_task local m scope names head n told.0 in
+        let there = name_there handing keeping task w sound sound_task m local scope names head n told.0 in
         let index = option_or_parts (first_in_expression w.tree task w.scope e) _ told.1 in
         let taking = element_of t (known_type w.tree w.scope e) in
         let step = option_or_parts (first_of_step w.tree task w.scope taking) _ index.1 in
@@ -175,11 +176,11 @@ module _ (handing keeping : Bool) (task : TaskTree) (w : Where) (sound : IsSound
         let parts = kept_behind node (parts_of_expression e ++ (node ∷ [])) (kept_behind node (node ∷ (parts_of_expression e ++ (node ∷ []))) k) in
         let a = local_well e lo (kept_left (parts_of_expression e) (node ∷ []) parts) index.0 in
         let reading = option_or_parts _ _ field in
-        let p = at_point handing keeping task w sound sound_task local m scope names head n e f there index.0 a (option_or_parts (first_of_taking w.tree taking) _ step.0).0 reading.0 in
-        let is = named_place handing keeping w sound local m n e f scope there p.place in
-        let may = touched handing keeping task w sound sound_task local m scope names head n e f access.Read there p (rule_none _ rule.Read reading.1) in
-        scalar_well handing keeping task w sound sound_task local m scope names head (access_expr n (at_step e (field_step f no_step)))
-        (a.is, p.number, is.0, field_kept keeping w n f (element_field w n e f) is.1, may) p.place.scalar
+        let p = at_point handing keeping task w sound sound_task m local scope names head n e f there index.0 a (option_or_parts (first_of_taking w.tree taking) _ step.0).0 reading.0 in
+        let is = named_place handing keeping w sound m local n e f scope there p.place in
+        let may = touched handing keeping task w sound sound_task m local scope names head n e f access.Read there p (rule_none _ rule.Read reading.1) in
+        held_well handing keeping task w sound sound_task m local scope names head (access_expr n (at_step e (field_step f no_step))) f _
+        (a.is, p.number, is.0, is.1, may) p.place.held (λ q. not-true (is_among m.index_fields f) q)
     local_well (convert_expr t e) lo k none =
         let s = and_parts (is_scalar_number t) (is_local_expression m e) lo in
         let told = option_or_parts (first_in_expression w.tree task w.scope e) _ none in
@@ -187,19 +188,19 @@ module _ (handing keeping : Bool) (task : TaskTree) (w : Where) (sound : IsSound
         let may = stands_well [] (typed w e) number_spot
         (subst (λ u. first_of_standing [] (stands u number_spot) ≡ None) (known e told.0) told.1) in
         let term = integer_term t s.0 in
-        scalar_well handing keeping task w sound sound_task local m scope names head (convert_expr t e) (a.is, value_counts keeping w.scope.names (typed w e) a.value may, integer_converts keeping t term) (number_scalar t term)
+        scalar_well handing keeping task w sound sound_task m local scope names head (convert_expr t e) (a.is, value_counts keeping w.scope.names (typed w e) a.value may, integer_converts keeping t term) (number_scalar t term)
     local_well (call_expr n args) lo k none =
         let told = option_or_parts (first_in_args w.tree task w.scope args) _ none in
         let c = calling n (known_types w.tree w.scope args) in
         let called = option_or_parts (first_of_call w.tree task w.scope c) _ told.1 in
-        let p = call_well handing keeping task w sound sound_task local m scope names head n args told.0 called.0
+        let p = call_well handing keeping task w sound sound_task m local scope names head n args told.0 called.0
         (λ t. local_given (known_types w.tree w.scope args) (types_of w.tree w.scope args) (param_types w.tree (task_named w.tree n)) args lo
         (kept_behind node (parts_of_expressions args) k) (local.tasks n t.there).params (λ q. ((local.tasks n t.there).alone q).params) told.0 t.standing t.fits
         t.many) in
         let given = rule_none (has_no_result w.tree c) rule.Type called.1 in
         let some = and_then (has_task w.tree n) (is_none (task_named w.tree n).result) p.there given in
         let scalar = given_result w.tree (task_named w.tree n).result (local.tasks n p.there).result some in
-        scalar_well handing keeping task w sound sound_task local m scope names head (call_expr n args) (refl, scalar, p.callable, p.passed) scalar
+        scalar_well handing keeping task w sound sound_task m local scope names head (call_expr n args) (refl, scalar, p.callable, p.passed) scalar
     local_well (space_expr kind e) lo k none =
         let told = option_or_parts (first_in_expression w.tree task w.scope e) _ none in
         let a = local_well e lo (kept_behind node (parts_of_expression e) k) told.0 in
@@ -222,11 +223,11 @@ module _ (handing keeping : Bool) (task : TaskTree) (w : Where) (sound : IsSound
 
     -- a part that stands as an argument
     local_part : (e : Expression) → is_part m e ≡ true → AreKept (parts_of_expression e) → first_in_expression w.tree task w.scope e ≡ None →
-        IsArgument handing keeping task w sound sound_task local m scope names head e
+        IsArgument handing keeping task w sound sound_task m local scope names head e
     local_part (access_expr n (at_step e no_step)) lo k told =
         let both = and_parts (is_among m.partitions n) (is_local_expression m e) lo in
         let parts = kept_behind node (parts_of_expression e ++ []) (kept_behind node (node ∷ (parts_of_expression e ++ [])) k) in
-        part_of_name handing keeping task w sound sound_task local m scope names head n e told
+        part_of_name handing keeping task w sound sound_task m local scope names head n e told
         (λ own. local_well e both.1 (kept_left (parts_of_expression e) [] parts) own)
     local_part (access_expr n no_step) lo k told = absurd (no_way_back lo)
     local_part (access_expr n (field_step _ _)) lo k told = absurd (no_way_back lo)
@@ -273,19 +274,19 @@ module _ (handing keeping : Bool) (task : TaskTree) (w : Where) (sound : IsSound
         let s = and_parts (is_name e || (is_part m e || is_local_expression m e)) (are_local_arguments m es) lo in
         let parts = option_or_parts (first_in_expression w.tree task w.scope e) _ told in
         let k_e = kept_left (parts_of_expression e) (parts_of_expressions es) k in
-        let a = argument_of handing keeping task w sound sound_task local m scope names head e s.0 parts.0 (λ part. local_part e part k_e parts.0)
+        let a = argument_of handing keeping task w sound sound_task m local scope names head e s.0 parts.0 (λ part. local_part e part k_e parts.0)
         (λ own. local_well e own k_e parts.0) in
         let type = known_type w.tree w.scope e in
         let stood = first_stands w.scope.known (stands type (param_spot (put_in all p))) (stand_at all ps (known_types w.tree w.scope es)) standing in
         let fit = or_parts (is_region p && differs all p type) _ fits in (
-          given_one handing keeping task w sound sound_task local m scope names head all types e p a takable.0 (λ q. (alone q).0) parts.0 stood.0 fit.0,
+          given_one handing keeping task w sound sound_task m local scope names head all types e p a takable.0 (λ q. (alone q).0) parts.0 stood.0 fit.0,
           local_given all types ps es s.1 (kept_right (parts_of_expression e) (parts_of_expressions es) k) takable.1 (λ q. (alone q).1) parts.1 stood.1 fit.1
               (omega (arith, many)),
         )
 
   pub local_call : (n : Name) (args : Expressions) → are_local_arguments m args ≡ true → AreKept (parts_of_expressions args) →
-      first_in_args w.tree task w.scope args ≡ None → first_of_call w.tree task w.scope (calling n (known_types w.tree w.scope args)) ≡ None → IsCallWell handing keeping task w sound sound_task local m scope names head n args
-  local_call n args lo k told e = call_well handing keeping task w sound sound_task local m scope names head n args told e
+      first_in_args w.tree task w.scope args ≡ None → first_of_call w.tree task w.scope (calling n (known_types w.tree w.scope args)) ≡ None → IsCallWell handing keeping task w sound sound_task m local scope names head n args
+  local_call n args lo k told e = call_well handing keeping task w sound sound_task m local scope names head n args told e
       (λ t. local_given (known_types w.tree w.scope args) (types_of w.tree w.scope args) (param_types w.tree (task_named w.tree n)) args lo k
       (local.tasks n t.there).params (λ q. ((local.tasks n t.there).alone q).params) told t.standing t.fits t.many)
 

@@ -36,15 +36,16 @@ use Rattle.check_rules.proofs.Untold.{rule_none}
 use Rattle.check_laws.proofs.Scopes.{found_by_number}
 use Rattle.check_laws.specs.SoundScopes.{Falls, IsSoundScope}
 use Rattle.code_rules.specs.Slots.{Where, bound, slot, slot_bound, slot_named, slots_of}
-use Rattle.scalar_form.specs.ScalarForm.{is_scalar_if_said, is_scalar_term}
+use Rattle.scalar_form.specs.ScalarForm.{is_scalar_if_said}
 use Rattle.local_form.specs.LocalForm.{Marked, is_among, is_kept_apart}
-use Rattle.code_laws.specs.Simple.{FieldFits, IsInteger, IsPartition, IsRegion, IsScalar, IsSimple, a_partition_type, a_region_type, simple_index, simple_integer, simple_space, simple_truth, term_in}
+use Rattle.code_laws.specs.Simple.{IsInteger, IsPartition, IsRegion, IsScalar, IsSimple, a_partition_type, a_region_type, simple_index, simple_integer, simple_space, simple_truth, term_in}
 use Rattle.code_rules.specs.Instructions.{place_of_task, tasks_of}
 use Rattle.code_rules.specs.Programs.{task_code}
-use Rattle.code_laws.specs.Typed.{GoesThrough, IsField, element_field}
+use Rattle.code_laws.specs.Typed.{GoesThrough, IsFieldOf, element_field}
 use Rattle.code_laws.specs.Pointers.{IsPointer, a_pointer_type}
+use Rattle.code_laws.proofs.LocalFields.{IsFieldTerm, IsHeld, held_field, term_held}
 use Rattle.code_laws.proofs.LocalValues.{IsRegionAmong, IsValue, found_among, region_before, region_behind, value_before, value_behind, value_integer, value_is_no_region, value_no_partition, value_not_partition, value_pointer, value_simple}
-use Rattle.code_laws.proofs.LocalTypes.{IsTakable, simple_as_integer, simple_is_no_region, simple_no_partition, simple_not_partition, term_fits, term_scalar}
+use Rattle.code_laws.proofs.LocalTypes.{IsTakable, simple_as_integer, simple_is_no_region, simple_no_partition, simple_not_partition}
 use Rattle.code_laws.proofs.Typing.{no_way, no_way_back}
 pub use Rattle.code_laws.proofs.Typing.{first_below}
 use Rattle.code_laws.proofs.Values.{scalar_simple}
@@ -72,9 +73,9 @@ pub record IsLocalTask (handing : Bool) (tree : Tree) (n : Name) : Type 0 where
   pub result : is_scalar_if_said (task_named tree n).result ≡ true
   pub alone : handing ≡ false → IsAlone tree (task_named tree n)
 
--- fields are numbers and truths, few, and each has a name of its own; and tasks are such
-pub record IsLocalTree (handing : Bool) (tree : Tree) : Type 0 where
-  pub fields : (sp i : ℕ) → is_scalar_term (field_term tree sp i) ≡ true
+-- fields are numbers and truths, or indices and marked so, few, and each has a name of its own; and tasks are such
+pub record IsLocalTree (handing keeping : Bool) (marked : List Name) (tree : Tree) : Type 0 where
+  pub fields : (sp : ℕ) (f : Name) → has_field tree sp f ≡ true → IsFieldTerm keeping marked f (field_term tree sp (field_place tree sp f))
   pub few : (sp : ℕ) → length (space_at tree sp).fields ≤ 256
   pub named : (sp i : ℕ) → i < length (space_at tree sp).fields → Has (fields_named tree sp None) i
   pub tasks : (n : Name) → has_task tree n ≡ true → IsLocalTask handing tree n
@@ -204,13 +205,12 @@ value_no_region keeping bs _ (value_pointer k sp args i q r) = refl
 -- ---- fields at points
 
 -- a field at a point of something of a type that is bound with a number
-pub record IsPlace (w : Where) (i : ℕ) (t : StaticType) (e : Expression) (f : Name) : Type 0 where
+pub record IsPlace (keeping : Bool) (marked : List Name) (w : Where) (i : ℕ) (t : StaticType) (e : Expression) (f : Name) : Type 0 where
   pub region : IsRegion t
   pub there : has_field w.tree (space_in t) f ≡ true
   pub through : (own : ℕ) → slots_of w own (type_of_element w.scope t e) ≡ slot_bound w i ∷ []
   pub field : field_place w.tree (space_in t) f < length (space_at w.tree (space_in t)).fields
-  pub keeps : FieldFits (field_kind w.tree (space_in t) (field_place w.tree (space_in t) f)) (type_of_field w.tree (type_of_element w.scope t e) f)
-  pub scalar : IsScalar (type_of_field w.tree (type_of_element w.scope t e) f)
+  pub held : IsHeld keeping marked f (field_kind w.tree (space_in t) (field_place w.tree (space_in t) f)) (type_of_field w.tree (type_of_element w.scope t e) f)
   pub known : known_type_after_step w.tree (field_of (type_of_element w.scope t e) f) (type_of_field w.tree (type_of_element w.scope t e) f)
       ≡ type_of_field w.tree (type_of_element w.scope t e) f
 
@@ -224,7 +224,7 @@ taking_told tree taking e =
     let c = option_or_parts _ _ b.1 in
     (rule_none (is_unknown_field tree taking) rule.Name a.0, rule_none (is_ill_typed_step taking) rule.Type b.0, c.0)
 
-module _ (handing keeping : Bool) (w : Where) (sound : IsSound w.tree) (local : IsLocalTree handing w.tree) (m : Marked) where
+module _ (handing keeping : Bool) (w : Where) (sound : IsSound w.tree) (m : Marked) (local : IsLocalTree handing keeping m.index_fields w.tree) where
   abbrev Kept : Name → ℕ → StaticType → Type 0
   Kept n i t = IsKept keeping m w.scope.names n i t
 
@@ -254,7 +254,7 @@ module _ (handing keeping : Bool) (w : Where) (sound : IsSound w.tree) (local : 
 
   pub place_is : Falls w.scope.next w.scope.names → (n : Name) (i : ℕ) (t at : StaticType) (e : Expression) (f : Name) → Kept n i t →
       first_of_taking w.tree (element_of t at) ≡ None → first_of_taking w.tree (field_of (type_of_element w.scope t e) f) ≡ None →
-      IsPlace w i t e f
+      IsPlace keeping m.index_fields w i t e f
   place_is falls n i _ at e f (kept_partition d r q among h) told field =
       absurd (part_taken (bound_as w.scope.names r).static_type (place.Child i (colour_of w.scope e)) f (region_of_number w.scope.next w.scope.names r falls among).0 field)
   place_is falls n i t at e f (kept_scalar _ a) told field =
@@ -263,30 +263,28 @@ module _ (handing keeping : Bool) (w : Where) (sound : IsSound w.tree) (local : 
   place_is falls n i _ at e f (kept_region k sp args h) told field =
       let t = region_type k sp args (place.Name i) in
       let there = not-false (has_field w.tree sp f) (taking_told w.tree (field_of (type_of_element w.scope t e) f) field).0 in
-      let term = field_term w.tree sp (field_place w.tree sp f) in
-      let says = local.fields sp (field_place w.tree sp f) in record {
+      let term = field_term w.tree sp (field_place w.tree sp f) in record {
         region = a_region_type k sp args (place.Name i);
         there = there;
         through = λ own. refl;
         field = first_below (λ (p : Param). bytes_eq p.name f) (space_at w.tree sp).fields there;
-        keeps = term_fits term says w.tree (among_args (space_at w.tree sp).params args) 0;
-        scalar = term_scalar term says w.tree (among_args (space_at w.tree sp).params args) 0;
+        held = term_held keeping m.index_fields f term (local.fields sp f there) w.tree (among_args (space_at w.tree sp).params args) 0;
         known = ap (λ b. type_unless (b || not (has_field w.tree sp f) || false || false) (type_of_field w.tree (type_of_element w.scope t e) f)) (sound.fields sp f there)
             ∙ ap (λ b. type_unless (not b || false || false) (type_of_field w.tree (type_of_element w.scope t e) f)) there;
       }
 
   -- so it is where a name has the region
   pub named_place : (n : Name) (e : Expression) (f : Name) → IsSoundScope w.scope → is_bound w.scope.names n ≡ true →
-      IsPlace w (bound w n).number (bound w n).static_type e f → GoesThrough w n e × IsField w n f (element_field w n e f)
+      IsPlace keeping m.index_fields w (bound w n).number (bound w n).static_type e f → GoesThrough w n e × IsFieldOf keeping w n f (element_field w n e f)
   named_place n e f scope b p = (
     p.through (slot_named w n) ∙ ap (λ (c : Bound). slot w c.place ∷ []) (found_by_number w.scope.next w.scope.names n scope.numbers b).0,
-    record { named = b; region = p.region; field = p.field; keeps = p.keeps },
+    held_field keeping m.index_fields w n f (element_field w n e f) b p.region p.field p.held,
   )
 
 -- ---- fields of what pointers go to
 
 -- a field of what a pointer of a type goes to
-pub record IsAimed (keeping : Bool) (tree : Tree) (bs : List Bound) (t : StaticType) (f : Name) : Type 0 where
+pub record IsAimed (keeping : Bool) (marked : List Name) (tree : Tree) (bs : List Bound) (t : StaticType) (f : Name) : Type 0 where
   pub keeps : keeping ≡ true
   pub pointer : IsPointer t
   pub kind : Kind
@@ -296,13 +294,12 @@ pub record IsAimed (keeping : Bool) (tree : Tree) (bs : List Bound) (t : StaticT
   pub there : has_field tree (space_in t) f ≡ true
   pub among : IsRegionAmong bs region
   pub field : field_place tree (space_in t) f < length (space_at tree (space_in t)).fields
-  pub fits : FieldFits (field_kind tree (space_in t) (field_place tree (space_in t) f)) (type_of_field tree t f)
-  pub scalar : IsScalar (type_of_field tree t f)
+  pub held : IsHeld keeping marked f (field_kind tree (space_in t) (field_place tree (space_in t) f)) (type_of_field tree t f)
   pub known : known_type_after_step tree (field_of t f) (type_of_field tree t f) ≡ type_of_field tree t f
 
-module _ (handing keeping : Bool) (tree : Tree) (sound : IsSound tree) (local : IsLocalTree handing tree) (m : Marked) (bs : List Bound) (n : Name) (i : ℕ) where
+module _ (handing keeping : Bool) (tree : Tree) (sound : IsSound tree) (m : Marked) (local : IsLocalTree handing keeping m.index_fields tree) (bs : List Bound) (n : Name) (i : ℕ) where
   -- a field is taken of a pointer
-  aimed_value : (t : StaticType) (f : Name) → IsValue keeping bs t → first_of_taking tree (field_of t f) ≡ None → IsAimed keeping tree bs t f
+  aimed_value : (t : StaticType) (f : Name) → IsValue keeping bs t → first_of_taking tree (field_of t f) ≡ None → IsAimed keeping m.index_fields tree bs t f
   aimed_value _ f (value_simple _ (simple_integer w)) e = absurd (no_way (taking_told tree (field_of (integer_type w) f) e).1)
   aimed_value _ f (value_simple _ simple_truth) e = absurd (no_way (taking_told tree (field_of truth_type f) e).1)
   aimed_value _ f (value_simple _ (simple_space k)) e = absurd (no_way (taking_told tree (field_of (ispace_type k) f) e).1)
@@ -310,8 +307,7 @@ module _ (handing keeping : Bool) (tree : Tree) (sound : IsSound tree) (local : 
   aimed_value _ f (value_pointer k sp args j q r) e =
       let t = pointer_type k sp args (Some (place.Name j) ∷ []) in
       let there = not-false (has_field tree sp f) (taking_told tree (field_of t f) e).0 in
-      let term = field_term tree sp (field_place tree sp f) in
-      let says = local.fields sp (field_place tree sp f) in record {
+      let term = field_term tree sp (field_place tree sp f) in record {
         keeps = q;
         pointer = a_pointer_type k sp args _ tt;
         kind = k;
@@ -321,14 +317,13 @@ module _ (handing keeping : Bool) (tree : Tree) (sound : IsSound tree) (local : 
         there = there;
         among = r;
         field = first_below (λ (p : Param). bytes_eq p.name f) (space_at tree sp).fields there;
-        fits = term_fits term says tree (among_args (space_at tree sp).params args) 0;
-        scalar = term_scalar term says tree (among_args (space_at tree sp).params args) 0;
+        held = term_held keeping m.index_fields f term (local.fields sp f there) tree (among_args (space_at tree sp).params args) 0;
         known = ap (λ b. type_unless (b || not (has_field tree sp f) || false || false) (type_of_field tree t f)) (sound.fields sp f there)
             ∙ ap (λ b. type_unless (not b || false || false) (type_of_field tree t f)) there;
       }
 
   pub aimed_at : (t : StaticType) (f : Name) → IsKept keeping m bs n i t → (IsPartition t → ⊥) → first_of_taking tree (field_of t f) ≡ None →
-      IsAimed keeping tree bs t f
+      IsAimed keeping m.index_fields tree bs t f
   aimed_at t f (kept_scalar _ a) other e = aimed_value t f (value_simple t (scalar_simple t a)) e
   aimed_at t f (kept_value _ a h p) other e = aimed_value t f a e
   aimed_at _ f (kept_partition d r q a h) other e = absurd (other (a_partition_type d r i))
@@ -345,33 +340,30 @@ kept_integer keeping m bs n i _ (kept_region k sp args h) e = absurd (no_way_bac
 kept_integer keeping m bs n i _ (kept_partition d r q a h) e = absurd (no_way_back e)
 
 -- a field of a region of a type
-pub record IsFieldOf (tree : Tree) (t : StaticType) (f : Name) : Type 0 where
+pub record IsRegionField (keeping : Bool) (marked : List Name) (tree : Tree) (t : StaticType) (f : Name) : Type 0 where
   pub region : IsRegion t
   pub there : has_field tree (space_in t) f ≡ true
   pub field : field_place tree (space_in t) f < length (space_at tree (space_in t)).fields
-  pub keeps : FieldFits (field_kind tree (space_in t) (field_place tree (space_in t) f)) (field_type tree (space_in t) (args_in t) f)
-  pub scalar : IsScalar (field_type tree (space_in t) (args_in t) f)
+  pub held : IsHeld keeping marked f (field_kind tree (space_in t) (field_place tree (space_in t) f)) (field_type tree (space_in t) (args_in t) f)
   pub known : known_field tree t f ≡ field_type tree (space_in t) (args_in t) f
 
-module _ (handing keeping : Bool) (tree : Tree) (sound : IsSound tree) (local : IsLocalTree handing tree) (m : Marked) (bs : List Bound) (n : Name) (i : ℕ) where
+module _ (handing keeping : Bool) (tree : Tree) (sound : IsSound tree) (m : Marked) (local : IsLocalTree handing keeping m.index_fields tree) (bs : List Bound) (n : Name) (i : ℕ) where
   pub region_is : (t : StaticType) → IsKept keeping m bs n i t → may_be is_region t ≡ true → IsRegion t
   region_is t (kept_scalar _ a) e = absurd (no_way (sym e ∙ simple_is_no_region t (scalar_simple t a)))
   region_is t (kept_value _ a h p) e = absurd (no_way (sym e ∙ value_is_no_region keeping bs t a))
   region_is _ (kept_region k sp args h) e = a_region_type k sp args (place.Name i)
   region_is _ (kept_partition d r q a h) e = absurd (no_way_back e)
 
-  pub field_is : (t : StaticType) (f : Name) → IsKept keeping m bs n i t → may_be is_region t ≡ true → region_has tree t f ≡ true → IsFieldOf tree t f
+  pub field_is : (t : StaticType) (f : Name) → IsKept keeping m bs n i t → may_be is_region t ≡ true → region_has tree t f ≡ true → IsRegionField keeping m.index_fields tree t f
   field_is t f (kept_scalar _ a) e has = absurd (no_way (sym e ∙ simple_is_no_region t (scalar_simple t a)))
   field_is t f (kept_value _ a h p) e has = absurd (no_way (sym e ∙ value_is_no_region keeping bs t a))
   field_is _ f (kept_partition d r q a h) e has = absurd (no_way_back e)
   field_is _ f (kept_region k sp args h) e has =
-      let term = field_term tree sp (field_place tree sp f) in
-      let says = local.fields sp (field_place tree sp f) in record {
+      let term = field_term tree sp (field_place tree sp f) in record {
         region = a_region_type k sp args (place.Name i);
         there = has;
         field = first_below (λ (p : Param). bytes_eq p.name f) (space_at tree sp).fields has;
-        keeps = term_fits term says tree (among_args (space_at tree sp).params args) 0;
-        scalar = term_scalar term says tree (among_args (space_at tree sp).params args) 0;
+        held = term_held keeping m.index_fields f term (local.fields sp f has) tree (among_args (space_at tree sp).params args) 0;
         known = ap (λ b. type_unless (not b || is_flawed_field tree sp f) (field_type tree sp args f)) has
             ∙ ap (λ b. type_unless b (field_type tree sp args f)) (sound.fields sp f has);
       }

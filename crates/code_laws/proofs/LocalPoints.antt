@@ -3,6 +3,7 @@
 use Rattle.std.proofs.Common.{◌≡◌, Bool, [], None, false, true, ap, subst, ◌∙◌, not}
 use Rattle.std.proofs.lemmas.Bool.{not-false}
 use Rattle.plain_values.proofs.Plain.{option_or_parts}
+use Rattle.lane_kernels.specs.declared.numbers.FieldKind.{FieldKind}
 use Rattle.regent_tree.specs.Accesses.{space_in}
 use Rattle.regent_tree.specs.Lookup.{is_bound}
 use Rattle.regent_tree.specs.StaticTypes.{field_place}
@@ -23,22 +24,23 @@ use Rattle.check_rules.specs.types.TypedForms.{element_of, field_of}
 use Rattle.check_rules.specs.declared.rule.Rule.TheVariants as rule
 use Rattle.check_rules.proofs.Untold.{rule_none}
 use Rattle.code_rules.specs.Slots.{Where, bound, typed}
-use Rattle.local_form.specs.LocalForm.{Marked, gives_scalar, gives_pointer}
+use Rattle.local_form.specs.LocalForm.{Marked, gives_scalar, gives_pointer, is_among}
 use Rattle.code_laws.specs.Handing.{forms_by}
 use Rattle.code_laws.specs.Arguments.{IsCutName}
 use Rattle.code_laws.specs.Simple.{IsPartition, IsScalar, IsSimple}
 use Rattle.code_laws.specs.Steps.{Forms}
 use Rattle.code_laws.specs.Typed.{IsTyped, MayTouch, IsBehind, MayGo, field_behind}
 use Rattle.code_laws.proofs.KnownHeads.{KnowsHead, granted_at, kept_may, aimed_may}
+use Rattle.code_laws.proofs.LocalFields.{IsHeld, held_keeps, held_simple, held_unmarked}
 use Rattle.code_laws.proofs.LocalNames.{AllKept, IsLocalTree, IsPlace, element_known, named_kept, place_is, taking_told, IsAimed, aimed_at}
 use Rattle.code_laws.proofs.Privileges.{mode_in}
 use Rattle.code_laws.proofs.Typing.{stands_well}
 use Rattle.code_laws.proofs.Values.{scalar_simple}
 use Rattle.code_laws.proofs.LocalValues.{IsValue, counts_is, value_counts, value_simple}
-use Rattle.code_laws.specs.Pointers.{CountsAs, keeps_plain}
+use Rattle.code_laws.specs.Pointers.{CountsAs}
 
-module _ (handing keeping : Bool) (task : TaskTree) (w : Where) (sound : IsSound w.tree) (sound_task : IsSoundTask w.tree task) (local : IsLocalTree handing w.tree)
-    (m : Marked) (scope : IsSoundScope w.scope) (names : AllKept keeping m w.scope.names) (head : KnowsHead w.tree task w.scope) where
+module _ (handing keeping : Bool) (task : TaskTree) (w : Where) (sound : IsSound w.tree) (sound_task : IsSoundTask w.tree task) (m : Marked)
+    (local : IsLocalTree handing keeping m.index_fields w.tree) (scope : IsSoundScope w.scope) (names : AllKept keeping m w.scope.names) (head : KnowsHead w.tree task w.scope) where
   abbrev forms : Forms
   forms = forms_by handing keeping w.tree task
 
@@ -58,6 +60,17 @@ module _ (handing keeping : Bool) (task : TaskTree) (w : Where) (sound : IsSound
       let simple = scalar_simple (typed w e) scalar in
       record { is = is; value = value_simple (typed w e) simple; scalar = λ q. scalar; plain = λ q. simple }
 
+  -- of what a field holds
+  pub held_well : (e : Expression) (f : Name) (k : FieldKind) → IsTyped forms w e → IsHeld keeping m.index_fields f k (typed w e) →
+      (gives_scalar m e ≡ true → is_among m.index_fields f ≡ false) → IsWell e
+  held_well e f k is held other =
+      let simple = held_simple keeping m.index_fields f k (typed w e) held in record {
+        is = is;
+        value = value_simple (typed w e) simple;
+        scalar = λ q. held_unmarked keeping m.index_fields f k (typed w e) held (other q);
+        plain = λ q. simple;
+      }
+
   -- the checker's type is the meaning's
   pub local_known : (e : Expression) → first_in_expression w.tree task w.scope e ≡ None → known_type w.tree w.scope e ≡ typed w e
   local_known e none = (head_known w.tree task sound w.scope scope e none).1
@@ -69,7 +82,7 @@ module _ (handing keeping : Bool) (task : TaskTree) (w : Where) (sound : IsSound
   -- an index at which a field is taken, and what is taken there
   pub record IsAt (n : Name) (e : Expression) (f : Name) : Type 0 where
     pub number : CountsAs keeping (typed w e)
-    pub place : IsPlace w (bound w n).number (bound w n).static_type e f
+    pub place : IsPlace keeping m.index_fields w (bound w n).number (bound w n).static_type e f
     pub element : known_type_after_step w.tree (element_of (bound w n).static_type (known_type w.tree w.scope e)) (type_of_element w.scope (bound w n).static_type e)
         ≡ type_of_element w.scope (bound w n).static_type e
 
@@ -85,9 +98,9 @@ module _ (handing keeping : Bool) (task : TaskTree) (w : Where) (sound : IsSound
       let stood = (option_or_parts (first_of_standing [] (stands at number_spot)) _ (taking_told w.tree (element_of t at) first).2).0 in
       let number = value_counts keeping w.scope.names (typed w e) a.value
       (subst (λ u. may_be is_number u ≡ true) (local_known e told) (stands_well [] at number_spot stood)) in
-      let element = element_known handing keeping w sound local m n i t at e kept (ap is_number (local_known e told) ∙ counts_is keeping (typed w e) number) first in record {
+      let element = element_known handing keeping w sound m local n i t at e kept (ap is_number (local_known e told) ∙ counts_is keeping (typed w e) number) first in record {
         number = number;
-        place = place_is handing keeping w sound local m scope.numbers n i t at e f kept first (subst (λ u. first_of_taking w.tree (field_of u f) ≡ None) element field);
+        place = place_is handing keeping w sound m local scope.numbers n i t at e f kept first (subst (λ u. first_of_taking w.tree (field_of u f) ≡ None) element field);
         element = element;
       }
 
@@ -104,17 +117,17 @@ module _ (handing keeping : Bool) (task : TaskTree) (w : Where) (sound : IsSound
 
   -- a field of what a name's pointer goes to
   pub behind_name : (n f : Name) → is_bound w.scope.names n ≡ true → (IsPartition (bound w n).static_type → ⊥) →
-      first_of_taking w.tree (field_of (bound w n).static_type f) ≡ None → IsAimed keeping w.tree w.scope.names (bound w n).static_type f
-  behind_name n f there other told = aimed_at handing keeping w.tree sound local m w.scope.names n (bound w n).number (bound w n).static_type f
+      first_of_taking w.tree (field_of (bound w n).static_type f) ≡ None → IsAimed keeping m.index_fields w.tree w.scope.names (bound w n).static_type f
+  behind_name n f there other told = aimed_at handing keeping w.tree sound m local w.scope.names n (bound w n).number (bound w n).static_type f
       (named_kept keeping m w.scope.names n names there) other told
 
   -- or the colours of its partition
   pub cut_name : (n : Name) → is_bound w.scope.names n ≡ true → IsPartition (bound w n).static_type → IsCutName w n
   cut_name n there p = record { named = there; numbers = scope.numbers; partition = p }
 
-  pub is_behind : (n f : Name) → is_bound w.scope.names n ≡ true → IsAimed keeping w.tree w.scope.names (bound w n).static_type f → IsBehind w n f (field_behind w n f)
-  is_behind n f there p = record { named = there; numbers = scope.numbers; pointer = p.pointer; field = p.field; keeps = keeps_plain _ _ p.fits }
+  pub is_behind : (n f : Name) → is_bound w.scope.names n ≡ true → IsAimed keeping m.index_fields w.tree w.scope.names (bound w n).static_type f → IsBehind w n f (field_behind w n f)
+  is_behind n f there p = record { named = there; numbers = scope.numbers; pointer = p.pointer; field = p.field; keeps = held_keeps keeping m.index_fields f _ _ p.held }
 
-  pub gone : (n f : Name) (a : Access) → IsAimed keeping w.tree w.scope.names (bound w n).static_type f →
+  pub gone : (n f : Name) (a : Access) → IsAimed keeping m.index_fields w.tree w.scope.names (bound w n).static_type f →
       lacks w.tree task w.scope (wanted_of_step w.tree a (field_of (bound w n).static_type f)) ≡ false → MayGo forms w n f (mode_in a)
-  gone n f a p lacking = aimed_may handing keeping task w sound_task head scope.numbers n f a p lacking
+  gone n f a p lacking = aimed_may handing keeping m.index_fields task w sound_task head scope.numbers n f a p lacking

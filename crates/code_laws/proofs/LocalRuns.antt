@@ -9,8 +9,9 @@ use Rattle.regent_tree.proofs.Members.{Has}
 use Rattle.regent_tree.specs.Limits.{parts_of_block, parts_of_item, parts_of_params, parts_of_program, parts_of_type}
 use Rattle.regent_tree.specs.Scopes.{scope_of}
 use Rattle.regent_tree.specs.StaticTypes.{entry_name, task_named}
-use Rattle.regent_tree.specs.Syntax.{ItemTree, Name, TaskTree, Tree, task_item}
+use Rattle.regent_tree.specs.Syntax.{ItemTree, Name, TaskTree, Tree, space_item, task_item}
 use Rattle.regent_tree.specs.Typing.{param_types, result_type, width_of_type}
+use Rattle.regent_tree.specs.declared.program.FieldSpace.{FieldSpace}
 use Rattle.regent_tree.specs.declared.types.TypeTerm.{TypeTerm}
 use Rattle.regent_tree.specs.declared.typing.StaticType.{StaticType}
 use Rattle.check_laws.proofs.Bodies.{body_told}
@@ -50,26 +51,33 @@ integers_no_region (t ∷ ts) a zero = integer_no_region t a.0
 integers_no_region (t ∷ ts) a (suc i) = integers_no_region ts a.1 i
 
 -- a task that marks no name as a pointer's or a partition's
-abbrev pub HasNoPointer : TaskTree → Type 0
-HasNoPointer t = (is_empty (marked_by_task t).pointers && is_empty (marked_by_task t).partitions) ≡ true
+abbrev pub HasNoPointer : Tree → TaskTree → Type 0
+HasNoPointer tree t = (is_empty (marked_by_task tree t).pointers && is_empty (marked_by_task tree t).partitions) ≡ true
+
+-- so is no task of a program, and no field holds indices
+abbrev pub HasNoPointers : Tree → Type 0
+HasNoPointers tree = (i : ItemTree) → Has tree i → has_no_pointer tree i.form ≡ true
 
 none_among : (ns : List Name) → is_empty ns ≡ true → (n : Name) → is_among ns n ≡ true → ⊥
 none_among [] e n h = no_way_back h
 none_among (k ∷ ns) e n h = no_way_back e
 
 -- where a name may stand for a pointer or a partition, pointers are kept
-pointers_kept : (keeping : Bool) (t : TaskTree) → (keeping ≡ false → HasNoPointer t) → (n : Name) →
-    (is_among (marked_by_task t).pointers n ≡ true) ⊎ (is_among (marked_by_task t).partitions n ≡ true) → keeping ≡ true
-pointers_kept true t none n h = refl
-pointers_kept false t none n (inl h) =
-    absurd (none_among (marked_by_task t).pointers (and_parts (is_empty (marked_by_task t).pointers) (is_empty (marked_by_task t).partitions) (none refl)).0 n h)
-pointers_kept false t none n (inr h) =
-    absurd (none_among (marked_by_task t).partitions (and_parts (is_empty (marked_by_task t).pointers) (is_empty (marked_by_task t).partitions) (none refl)).1 n h)
+pointers_kept : (keeping : Bool) (tree : Tree) (t : TaskTree) → (keeping ≡ false → HasNoPointer tree t) → (n : Name) →
+    (is_among (marked_by_task tree t).pointers n ≡ true) ⊎ (is_among (marked_by_task tree t).partitions n ≡ true) → keeping ≡ true
+pointers_kept true tree t none n h = refl
+pointers_kept false tree t none n (inl h) =
+    let m = marked_by_task tree t in absurd (none_among m.pointers (and_parts (is_empty m.pointers) (is_empty m.partitions) (none refl)).0 n h)
+pointers_kept false tree t none n (inr h) =
+    let m = marked_by_task tree t in absurd (none_among m.partitions (and_parts (is_empty m.pointers) (is_empty m.partitions) (none refl)).1 n h)
 
--- a program of which nothing is told, whose tasks hand regions over or not, and keep pointers or not
+-- a program of which nothing is told, whose tasks hand regions over or not, and where they do, keep pointers or not
 module _ (handing keeping : Bool) (tree : Tree) (inputs : List ℤ) (p : IsLocalProgramRun tree inputs)
     (alone : handing ≡ false → (i : ItemTree) → Has tree i → (t : TaskTree) → i.form ≡ task_item t → TakesScalars t)
-    (plain : keeping ≡ false → (i : ItemTree) → Has tree i → (t : TaskTree) → i.form ≡ task_item t → HasNoPointer t) where
+    (plain : keeping ≡ false → HasNoPointers tree) (hands : keeping ≡ true → handing ≡ true) where
+  abbrev no_index : keeping ≡ false → (i : ItemTree) → Has tree i → (s : FieldSpace) → i.form ≡ space_item s → are_scalar_params s.fields ≡ true
+  no_index q i h s same = subst (λ form. has_no_pointer tree form ≡ true) same (plain q i h)
+
   every_task : AreTypedBy handing keeping tree
   every_task k t at =
       let s = task_stands tree k t at in
@@ -82,12 +90,12 @@ module _ (handing keeping : Bool) (tree : Tree) (inputs : List ℤ) (p : IsLocal
       let body = kept_right (parts_of_type t.result) (parts_of_block t.body)
       (kept_right (parts_of_params t.params) (parts_of_type t.result ++ parts_of_block t.body) (λ q h. parts q (inr h))) in
       let short = short_body tree k t p.within at in
-      let local = local_tree handing tree p.within p.accepted p.local alone in
-      let ready : IsReady keeping tree t (marked_by_task t) (scope_of tree t) =
+      let local = local_tree handing keeping tree t p.within p.accepted p.local alone no_index in
+      let ready : IsReady keeping tree t (marked_by_task tree t) (scope_of tree t) =
       record { names = begins_kept keeping tree t is.params; head = head_begins tree t told.sound_task (params_tell tree t is.params) } in
-      let keeps = pointers_kept keeping t (λ q. plain q item s.1 t s.2) in record {
+      let keeps = pointers_kept keeping tree t (λ q. subst (λ form. has_no_pointer tree form ≡ true) s.2 (plain q item s.1)) in record {
         given = given_scalar tree t.result is.result;
-        typed = (block_local handing keeping tree t told.sound told.sound_task local (marked_by_task t) keeps (length t.params) is.result (scope_of tree t) 0 t.body is.body body
+        typed = (block_local handing keeping tree t told.sound told.sound_task (marked_by_task tree t) local keeps hands (length t.params) is.result (scope_of tree t) 0 t.body is.body body
             told.scope ready told.told).0;
         small = omega (arith, short);
       }
@@ -103,7 +111,7 @@ module _ (handing keeping : Bool) (tree : Tree) (inputs : List ℤ) (p : IsLocal
       let bound = params_integers tree t.params 0 t.params b.integers in
       let ts = param_types tree t in
       let integers = types_integers (scope_of tree t).names bound in
-      let local = local_tree handing tree p.within p.accepted p.local alone in
+      let local = local_tree handing keeping tree t p.within p.accepted p.local alone no_index in
       let long : length ts ≡ length t.params = types_length (scope_of tree t).names ∙ params_length tree t.params 0 t.params in record {
         start = slice_get-map (task_code tree) (tasks_of tree) (place_of_task tree main) ∙ ap (option_map (task_code tree)) f.at;
         needs = needs_none tree t told.sound_task local.named (integers_no_region ts integers);
@@ -118,16 +126,16 @@ module _ (handing keeping : Bool) (tree : Tree) (inputs : List ℤ) (p : IsLocal
 no_premise : (tree : Tree) → true ≡ false → (i : ItemTree) → Has tree i → (t : TaskTree) → i.form ≡ task_item t → TakesScalars t
 no_premise tree e = absurd (no_way e)
 
-no_pointers : (tree : Tree) → true ≡ false → (i : ItemTree) → Has tree i → (t : TaskTree) → i.form ≡ task_item t → HasNoPointer t
+no_pointers : (tree : Tree) → true ≡ false → HasNoPointers tree
 no_pointers tree e = absurd (no_way e)
 
 pub accepted_programs_run_as_meant : AcceptedProgramsRunAsMeant
 accepted_programs_run_as_meant tree inputs turns few p = regions_are_handed_as_meant true tree inputs turns few
-    (every_task true true tree inputs p (no_premise tree) (no_pointers tree)) (the_run true true tree inputs p (no_premise tree) (no_pointers tree))
+    (every_task true true tree inputs p (no_premise tree) (no_pointers tree) (λ q. q)) (the_run true true tree inputs p (no_premise tree) (no_pointers tree) (λ q. q))
 
 pub accepted_programs_end_well : AcceptedProgramsEndWell
 accepted_programs_end_well tree inputs turns few p = handing_programs_end_well true tree inputs turns few
-    (every_task true true tree inputs p (no_premise tree) (no_pointers tree)) (the_run true true tree inputs p (no_premise tree) (no_pointers tree))
+    (every_task true true tree inputs p (no_premise tree) (no_pointers tree) (λ q. q)) (the_run true true tree inputs p (no_premise tree) (no_pointers tree) (λ q. q))
 
 -- ---- regions that are kept
 
@@ -138,24 +146,23 @@ takes_alone tree e i h t same =
     (subst (λ form. takes_scalars form ≡ true) same (all_of (λ i. takes_scalars i.form) tree e i h)) in
     record { params = is.0; clauses = is.1 }
 
-no_pointer_among : (tree : Tree) → list_all (λ (i : ItemTree). has_no_pointer i.form) tree ≡ true → (i : ItemTree) → Has tree i → (t : TaskTree) → i.form ≡ task_item t →
-    HasNoPointer t
-no_pointer_among tree e i h t same = subst (λ form. has_no_pointer form ≡ true) same (all_of (λ i. has_no_pointer i.form) tree e i h)
+no_pointer_among : (tree : Tree) → list_all (λ (i : ItemTree). has_no_pointer tree i.form) tree ≡ true → HasNoPointers tree
+no_pointer_among tree e i h = all_of (λ i. has_no_pointer tree i.form) tree e i h
 
 -- programs without pointers are typed without kept ones
 module _ (tree : Tree) (inputs : List ℤ) (p : IsPlainProgramRun tree inputs) where
   pub plain_tasks : AreTypedBy true false tree
-  plain_tasks = every_task true false tree inputs p.run (no_premise tree) (λ q. no_pointer_among tree p.plain)
+  plain_tasks = every_task true false tree inputs p.run (no_premise tree) (λ q. no_pointer_among tree p.plain) (λ q. refl)
 
   pub plain_run : IsTypedRun (forms_by true false tree (task_named tree (entry_name tree))) tree inputs
-  plain_run = the_run true false tree inputs p.run (no_premise tree) (λ q. no_pointer_among tree p.plain)
+  plain_run = the_run true false tree inputs p.run (no_premise tree) (λ q. no_pointer_among tree p.plain) (λ q. refl)
 
 -- such programs are typed without regions that are handed over
 module _ (tree : Tree) (inputs : List ℤ) (p : IsKeptProgramRun tree inputs) where
   pub kept_tasks : AreTypedTasks tree
   kept_tasks k t at =
-      let task = every_task false false tree inputs p.run (λ q. takes_alone tree p.kept) (λ q. no_pointer_among tree p.plain) k t at in
+      let task = every_task false false tree inputs p.run (λ q. takes_alone tree p.kept) (λ q. no_pointer_among tree p.plain) (λ q. q) k t at in
       record { given = task.given; typed = task.typed; small = task.small }
 
   pub kept_run : IsTypedRun call_forms tree inputs
-  kept_run = the_run false false tree inputs p.run (λ q. takes_alone tree p.kept) (λ q. no_pointer_among tree p.plain)
+  kept_run = the_run false false tree inputs p.run (λ q. takes_alone tree p.kept) (λ q. no_pointer_among tree p.plain) (λ q. q)

@@ -2,7 +2,7 @@
 use Rattle.std.proofs.Common.{inr, ◌≡◌, Bool, List, [], ◌∷◌, None, Option, Some, false, true, ap, sym, subst, ℕ, ◌∙◌, not, refl, ⊎_elim}
 use Rattle.std.specs.Prelude.{flat_map, length, map, ◌&&◌}
 use Rattle.std.specs.List.{list_all, list_any}
-use Rattle.std.proofs.lemmas.Bool.{and_parts, not-false, or_parts}
+use Rattle.std.proofs.lemmas.Bool.{and_parts, not-false, not-true, or_parts}
 use Rattle.plain_values.proofs.Plain.{option_or_parts}
 use Rattle.regent_tree.proofs.Members.{Has-append_left}
 use Rattle.regent_tree.specs.Accesses.{args_in, space_in}
@@ -37,22 +37,23 @@ use Rattle.check_rules.specs.types.Lookup.{names_a, region_has}
 use Rattle.check_rules.specs.types.Sorts.{is_region, may_be}
 use Rattle.check_rules.specs.types.TypedForms.{calling}
 use Rattle.code_rules.specs.Slots.{Where}
-use Rattle.local_form.specs.LocalForm.{Marked, are_local_arguments, are_local_expressions, is_among, is_local_expression, is_local_form, is_local_domain, is_region_name}
+use Rattle.local_form.specs.LocalForm.{Marked, are_local_arguments, are_local_expressions, gives_pointer, is_among, is_local_expression, is_local_form, is_local_domain, is_region_name}
 use Rattle.code_laws.specs.Handing.{forms_by}
-use Rattle.code_laws.specs.Simple.{IsInteger, IsRegion, IsSpace, IsTruth, term_in, a_region_type, a_space_type, simple_index}
+use Rattle.code_laws.specs.Simple.{IsInteger, IsRegion, IsSimple, IsSpace, IsTruth, term_in, a_region_type, a_space_type, simple_index}
 use Rattle.code_laws.specs.Steps.{Forms}
 use Rattle.code_laws.specs.Typed.{AreFilled, IsTyped, IsTypedForm, MayFill, IsOwnRegion, LoopsOver}
 use Rattle.expression_laws.proofs.Steps.{all_has}
 use Rattle.code_laws.proofs.KnownHeads.{IsReady, KnowsHead, kept_may}
 use Rattle.code_laws.proofs.LocalParts.{all_behind, none_given, region_wants, region_named}
 use Rattle.code_laws.proofs.LocalExpressions.{local_call, local_numbers}
+use Rattle.code_laws.proofs.LocalFields.{held_field, held_fills}
 use Rattle.code_laws.proofs.LocalNames.{field_is, region_is, IsKept, IsLocalTree, kept_region, kept_scalar, named_kept, kept_value, kept_partition}
 use Rattle.code_laws.proofs.LocalTypes.{either}
 use Rattle.code_laws.proofs.TypedStatements.{count_types, counted, first_stands, listed_told, result_fits, told_later, told_names, told_privileges}
 use Rattle.code_laws.proofs.Typing.{AreKept, no_way_back}
 use Rattle.code_laws.proofs.Values.{scalar_simple}
 use Rattle.scalar_form.specs.ScalarForm.{is_scalar_if_said}
-use Rattle.code_laws.proofs.LocalValues.{IsValue, alike_filled, bound_among, field_kept, space_looped, value_domain, value_fitting, value_integer, value_pointer, value_read, value_simple, value_truth}
+use Rattle.code_laws.proofs.LocalValues.{IsValue, bound_among, space_looped, value_domain, value_integer, value_pointer, value_read, value_simple, value_truth}
 use Rattle.code_laws.specs.Pointers.{IsRead}
 use Rattle.check_laws.proofs.Scopes.{found_by_number}
 use Rattle.regent_tree.specs.declared.types.Kind.{Kind}
@@ -60,8 +61,8 @@ use Rattle.regent_tree.specs.declared.typing.Bound.{Bound}
 use Rattle.regent_tree.specs.declared.typing.StaticType.TheVariants.{Index as index_type, Region as region_type}
 use Rattle.code_laws.proofs.LocalVariables.{at, headed, stands_as}
 
-module _ (handing keeping : Bool) (tree : Tree) (task : TaskTree) (sound : IsSound tree) (sound_task : IsSoundTask tree task) (local : IsLocalTree handing tree)
-    (m : Marked) (params : ℕ) (result : is_scalar_if_said task.result ≡ true) where
+module _ (handing keeping : Bool) (tree : Tree) (task : TaskTree) (sound : IsSound tree) (sound_task : IsSoundTask tree task) (m : Marked)
+    (local : IsLocalTree handing keeping m.index_fields tree) (params : ℕ) (result : is_scalar_if_said task.result ≡ true) where
   abbrev forms : Forms
   forms = forms_by handing keeping tree task
 
@@ -69,29 +70,27 @@ module _ (handing keeping : Bool) (tree : Tree) (task : TaskTree) (sound : IsSou
   Ready s = IsReady keeping tree task m s
 
   abbrev here : Scope → ℕ → Where
-  here s line = at handing keeping tree task sound sound_task local m params result s line
+  here s line = at handing keeping tree task sound sound_task m local params result s line
 
   -- ---- fields
 
   filled_with : (s : Scope) (line : ℕ) (r : Name) (from known : StaticType) → known ≡ from → is_bound s.names r ≡ true → Ready s →
-      may_be is_region (type_named s.names r) ≡ true → IsValue keeping s.names from → (fs : List Name) → list_any (is_unknown_region_field tree s.names r) fs ≡ false →
+      may_be is_region (type_named s.names r) ≡ true → IsSimple from → (fs : List Name) → list_any (is_unknown_region_field tree s.names r) fs ≡ false →
       list_any (is_ill_typed_at_place s.known) (map (λ f. stands known (typed_spot (known_field tree (type_named s.names r) f))) fs) ≡ false →
       AreFilled keeping (here s line) r from fs
-  filled_with s line r from known same there names region value [] unknown ill = tt
-  filled_with s line r from known same there names region value (f ∷ fs) unknown ill =
+  filled_with s line r from known same there names region simple [] unknown ill = tt
+  filled_with s line r from known same there names region simple (f ∷ fs) unknown ill =
       let t = type_named s.names r in
       let a = or_parts (is_unknown_region_field tree s.names r f) _ unknown in
       let has = not-false (region_has tree t f) (or_parts (not (names_a is_region s.names r)) (not (region_has tree t f)) a.0).1 in
-      let d = field_is handing keeping tree sound local m s.names r (bound_to s.names r).number t f (named_kept keeping m s.names r names.names there) region has in
+      let d = field_is handing keeping tree sound m local s.names r (bound_to s.names r).number t f (named_kept keeping m s.names r names.names there) region has in
       let stood = first_stands s.known (stands known (typed_spot (known_field tree t f)))
       (map (λ g. stands known (typed_spot (known_field tree t g))) fs) ill in
       let fit = subst (λ u. fits s.known u (field_type tree (space_in t) (args_in t) f) ≡ true) same
       (subst (λ u. fits s.known known u ≡ true) d.known stood.0) in (
-        alike_filled keeping from (field_type tree (space_in t) (args_in t) f)
-            (value_fitting keeping s.names s.known from (field_type tree (space_in t) (args_in t) f) value d.scalar fit),
-        field_kept keeping (here s line) r f (field_type tree (space_in t) (args_in t) f)
-            (record { named = there; region = d.region; field = d.field; keeps = d.keeps }),
-        filled_with s line r from known same there names region value fs a.1 stood.1,
+        held_fills keeping m.index_fields f s.known from _ (field_type tree (space_in t) (args_in t) f) simple d.held fit,
+        held_field keeping m.index_fields (here s line) r f (field_type tree (space_in t) (args_in t) f) there d.region d.field d.held,
+        filled_with s line r from known same there names region simple fs a.1 stood.1,
       )
 
   -- each field that is filled may be written
@@ -113,21 +112,22 @@ module _ (handing keeping : Bool) (tree : Tree) (task : TaskTree) (sound : IsSou
         may_fill s line r kept is head fs a.1 rest,
       )
 
-  pub fill_local : (s : Scope) (line : ℕ) (r : Name) (fields : List Name) (y : Expression) → is_local_expression m y ≡ true → AreKept (parts_of_expression y) →
+  pub fill_local : (s : Scope) (line : ℕ) (r : Name) (fields : List Name) (y : Expression) → is_local_form m (fill_form r fields y) ≡ true → AreKept (parts_of_expression y) →
       IsSoundScope s → Ready s → first_of_form tree task s (fill_form r fields y) ≡ None → IsTypedForm forms (here s line) (fill_form r fields y)
   fill_local s line r fields y lo k scope names e =
+      let both = and_parts (not (gives_pointer m y)) (is_local_expression m y) lo in
       let parts = told_of_form tree task s sound scope (fill_form r fields y) e in
       let told = (option_or_parts (first_in_expression tree task s y) _ parts.2).0 in
-      let a = headed handing keeping tree task sound sound_task local m params result s line y lo k scope names told in
+      let a = headed handing keeping tree task sound sound_task m local params result s line y both.1 k scope names told in
       let named = or_parts (not (names_a is_region s.names r)) (list_any (is_unknown_region_field tree s.names r) fields)
       (told_names tree task s (fill_form r fields y) e).0 in
       let region = and_parts (is_bound s.names r) (may_be is_region (type_named s.names r)) (not-false (names_a is_region s.names r) named.0) in
       let kept = named_kept keeping m s.names r names.names region.0 in (
         a.is,
         region.0,
-        region_is handing keeping tree sound local m s.names r (bound_to s.names r).number (type_named s.names r) kept region.1,
-        filled_with s line r (type_of tree s y) (known_type tree s y) (head_known tree task sound s scope y told).1 region.0 names region.1 a.value fields named.1 parts.4,
-        may_fill s line r kept (region_is handing keeping tree sound local m s.names r (bound_to s.names r).number (type_named s.names r) kept region.1) names.head fields named.1
+        region_is handing keeping tree sound m local s.names r (bound_to s.names r).number (type_named s.names r) kept region.1,
+        filled_with s line r (type_of tree s y) (known_type tree s y) (head_known tree task sound s scope y told).1 region.0 names region.1 (a.plain (not-true (gives_pointer m y) both.0)) fields named.1 parts.4,
+        may_fill s line r kept (region_is handing keeping tree sound m local s.names r (bound_to s.names r).number (type_named s.names r) kept region.1) names.head fields named.1
             (not-false _ (told_privileges tree task s (fill_form r fields y) e).0),
       )
 
@@ -138,7 +138,7 @@ module _ (handing keeping : Bool) (tree : Tree) (task : TaskTree) (sound : IsSou
   call_local s line n args lo k scope names e =
       let told = listed_told tree task s args (told_of_form tree task s sound scope (call_form n args) e).2 in
       let call = (option_or_parts (first_of_call tree task s (calling n (known_types tree s args))) _ (told_names tree task s (call_form n args) e).1).0 in
-      let p = local_call handing keeping task (here s line) sound sound_task local m scope names.names names.head n args lo k told call in
+      let p = local_call handing keeping task (here s line) sound sound_task m local scope names.names names.head n args lo k told call in
       (refl, p.callable, p.passed)
 
   pub print_local : (s : Scope) (line : ℕ) (alias : Option Name) (format : List ℕ) (args : Expressions) → are_local_expressions m args ≡ true →
@@ -150,7 +150,7 @@ module _ (handing keeping : Bool) (tree : Tree) (task : TaskTree) (sound : IsSou
       let types = known_types tree s args in
       let whole = or_parts (not (is_count (length types) (numbers_in format))) _ (told_later tree task s form e).1 in
       let many = counted (length types) (numbers_in format) (not-false (is_count (length types) (numbers_in format)) whole.0) in
-      (local_numbers handing keeping task (here s line) sound sound_task local m scope names.names names.head args lo k told whole.1, many ∙ ap Some (count_types tree s args))
+      (local_numbers handing keeping task (here s line) sound sound_task m local scope names.names names.head args lo k told whole.1, many ∙ ap Some (count_types tree s args))
 
   pub return_local : (s : Scope) (line : ℕ) (y : Option Expression) → is_local_form m (return_form y) ≡ true → AreKept (parts_of_value y) → IsSoundScope s →
       Ready s → first_of_form tree task s (return_form y) ≡ None → IsTypedForm forms (here s line) (return_form y)
@@ -159,8 +159,8 @@ module _ (handing keeping : Bool) (tree : Tree) (task : TaskTree) (sound : IsSou
       let form = return_form (Some y) in
       let parts = told_of_form tree task s sound scope form e in
       let told = (option_or_parts (first_in_expression tree task s y) _ parts.2).0 in
-      let a = headed handing keeping tree task sound sound_task local m params result s line y lo k scope names told in
-      let fit = stands_as handing keeping tree task sound sound_task local m params result s y (typed_spot (known_result tree task.result)) scope told
+      let a = headed handing keeping tree task sound sound_task m local params result s line y lo k scope names told in
+      let fit = stands_as handing keeping tree task sound sound_task m local params result s y (typed_spot (known_result tree task.result)) scope told
       (first_stands s.known (stands (known_type tree s y) (typed_spot (known_result tree task.result))) [] parts.4).0 in
       (result_fits keeping s.names tree s.known task.result (type_of tree s y) result (told_later tree task s form e).2 a.value fit, a.is)
 
@@ -168,15 +168,15 @@ module _ (handing keeping : Bool) (tree : Tree) (task : TaskTree) (sound : IsSou
       Ready s → first_in_expression tree task s y ≡ None → may_stand s.known (stands (known_type tree s y) truth_spot) ≡ true →
       IsTruth (type_of tree s y) × IsTyped forms (here s line) y
   test_local s line y lo k scope names told may =
-      let a = headed handing keeping tree task sound sound_task local m params result s line y lo k scope names told in
-      (value_truth keeping s.names (type_of tree s y) a.value (stands_as handing keeping tree task sound sound_task local m params result s y truth_spot scope told may), a.is)
+      let a = headed handing keeping tree task sound sound_task m local params result s line y lo k scope names told in
+      (value_truth keeping s.names (type_of tree s y) a.value (stands_as handing keeping tree task sound sound_task m local params result s y truth_spot scope told may), a.is)
 
   pub bound_local : (s : Scope) (line : ℕ) (y : Expression) → is_local_expression m y ≡ true → AreKept (parts_of_expression y) → IsSoundScope s →
       Ready s → first_in_expression tree task s y ≡ None → may_stand s.known (stands (known_type tree s y) integer_spot) ≡ true →
       IsInteger (type_of tree s y) × IsTyped forms (here s line) y
   bound_local s line y lo k scope names told may =
-      let a = headed handing keeping tree task sound sound_task local m params result s line y lo k scope names told in
-      (value_integer keeping s.names (type_of tree s y) a.value (stands_as handing keeping tree task sound sound_task local m params result s y integer_spot scope told may), a.is)
+      let a = headed handing keeping tree task sound sound_task m local params result s line y lo k scope names told in
+      (value_integer keeping s.names (type_of tree s y) a.value (stands_as handing keeping tree task sound sound_task m local params result s y integer_spot scope told may), a.is)
 
   -- over what a loop goes, and what it takes
   pub record IsDomain (s : Scope) (line : ℕ) (n : Name) (y : Expression) : Type 0 where
@@ -239,7 +239,7 @@ module _ (handing keeping : Bool) (tree : Tree) (task : TaskTree) (sound : IsSou
       let there = not-false (is_bound s.names r.0) (rule_none (not (is_bound s.names r.0)) rule.Name
       (option_or_parts (rule_if (not (is_bound s.names r.0)) rule.Name) _ (subst (λ x. first_in_expression tree task s x ≡ None) r.1 told)).0) in
       subst (IsDomain s line n) (sym r.1) (named_domain s line n r.0 scope there marked both.1 (keeps n both.1)
-      (subst (λ x. may_stand s.known (stands (type_of tree s x) domain_spot) ≡ true) r.1 (stands_as handing keeping tree task sound sound_task local m params result s y domain_spot scope told may))
+      (subst (λ x. may_stand s.known (stands (type_of tree s x) domain_spot) ≡ true) r.1 (stands_as handing keeping tree task sound sound_task m local params result s y domain_spot scope told may))
       (bound_to s.names r.0).static_type refl (named_kept keeping m s.names r.0 names.names there)))
-      (λ h. let a = headed handing keeping tree task sound sound_task local m params result s line y h k scope names told in space_domain s line n y marked a.is a.value (stands_as handing keeping tree task sound sound_task local m params result s y domain_spot scope told may))
+      (λ h. let a = headed handing keeping tree task sound sound_task m local params result s line y h k scope names told in space_domain s line n y marked a.is a.value (stands_as handing keeping tree task sound sound_task m local params result s y domain_spot scope told may))
       (either (is_region_name m y && is_among m.pointers n) (is_local_expression m y) lo)

@@ -6,11 +6,11 @@ use Rattle.std.proofs.lemmas.Bool.{and_parts, or_parts}
 use Rattle.std.proofs.lemmas.Option.{none-some, same_Some}
 use Rattle.std.proofs.lemmas.Slice.Eq.{bytes_eq-Decides}
 use Rattle.plain_values.proofs.Plain.{option_or_parts}
-use Rattle.regent_tree.proofs.Members.{Contains-from_Has, Has, Has-append_left, Has-append_right, Has-from_list_any, Has-map, list_any-from_Has}
+use Rattle.regent_tree.proofs.Members.{Contains-from_Has, Has, Has-map}
 use Rattle.regent_tree.specs.Limits.{WithinLimits, counted, parts_of_item, parts_of_program}
 use Rattle.regent_tree.specs.Scopes.{bound_params, known_of_type, scope_of}
 use Rattle.regent_tree.specs.StaticTypes.{Looking, among_params, looked_up, place_in, place_of_space, space_at, spaces_of, task_named, type_said}
-use Rattle.regent_tree.specs.Syntax.{Arms, Block, Expression, Form, ItemForm, ItemTree, Name, Otherwise, TaskTree, Tree, a_statement, alias_item, an_arm, both_initializer, by_field_initializer, do_form, either_initializer, else_block, equal_initializer, for_in_form, for_to_form, if_form, import_item, no_arm, no_else, no_statement, plain_initializer, region_initializer, space_item, start_item, task_item, then_statement, var_form, while_form}
+use Rattle.regent_tree.specs.Syntax.{Arms, Block, Expression, Form, ItemForm, ItemTree, Name, Otherwise, TaskTree, Tree, a_statement, alias_item, an_arm, both_initializer, by_field_initializer, do_form, either_initializer, else_block, equal_initializer, for_in_form, for_to_form, if_form, image_initializer, import_item, no_arm, no_else, no_statement, plain_initializer, preimage_initializer, region_initializer, space_item, start_item, task_item, then_statement, var_form, while_form}
 use Rattle.regent_tree.specs.declared.limits.Counted.TheVariants.{Fields}
 use Rattle.regent_tree.specs.declared.program.FieldSpace.{FieldSpace}
 use Rattle.regent_tree.specs.declared.types.Param.{Param}
@@ -27,8 +27,9 @@ use Rattle.check_rules.specs.first.FirstInItems.{first_declared, first_line}
 use Rattle.check_rules.specs.rules.Repeats.{Given, given_by, repeats, repeats_after, repeats_within, was_given}
 use Rattle.check_rules.specs.scopes.Sound.{StandsIn}
 use Rattle.code_rules.specs.Instructions.{tasks_of}
-use Rattle.local_form.specs.LocalForm.{Marked, are_local_params, are_scalar_params, is_among, is_local_block, is_local_item, is_local_program, is_local_task, gives_pointer, gives_scalar, is_difference, is_region_name, is_region_term, marked_by, marked_by_arms, marked_by_else, marked_by_task, marked_in, marked_params, unmarked, with_either, with_partition, with_region}
+use Rattle.local_form.specs.LocalForm.{Marked, are_local_params, are_scalar_params, is_among, is_local_block, is_local_item, is_local_program, is_local_task, gives_pointer, gives_scalar, is_difference, is_region_name, is_region_term, marked_by, marked_by_arms, marked_by_else, marked_by_items, marked_by_task, marked_in, marked_params, unmarked, with_either, with_partition, with_region}
 use Rattle.code_laws.specs.Simple.{IsScalar, a_region_type, scalar_integer, scalar_truth}
+use Rattle.code_laws.proofs.LocalMarks.{HasFieldTerms, among_added, among_left, space_terms}
 use Rattle.code_laws.proofs.LocalNames.{AllKept, AreScalars, AreTakable, IsAlone, IsKept, IsLocalTree, kept_before, kept_region, kept_scalar}
 use Rattle.code_laws.proofs.LocalTypes.{IsTakable, takable_region, takable_scalar, term_scalar}
 use Rattle.code_laws.proofs.Openings.{types_cons, types_in}
@@ -57,13 +58,6 @@ module _ (P : FieldSpace → Type 0) (of_none : P no_fields) where
       by_form line (space_item s) same more zero = each i (inl refl) s same
       by_form line (space_item s) same more (suc sp) = more sp
 
--- a parameter or field at a place
-term_at_place : (ps : List Param) → are_scalar_params ps ≡ true → (i : ℕ) →
-    is_scalar_term (get_or (map (λ (p : Param). p.term) ps) i term.Truth) ≡ true
-term_at_place [] e i = refl
-term_at_place (p ∷ ps) e zero = (and_parts (is_scalar_term p.term) (are_scalar_params ps) e).0
-term_at_place (p ∷ ps) e (suc i) = term_at_place ps (and_parts (is_scalar_term p.term) (are_scalar_params ps) e).1 i
-
 -- ---- tasks
 
 -- a task at a place among them is an item
@@ -89,20 +83,20 @@ item_stands tree i h t same = Contains-from_Has (map (λ (i : ItemTree). i.form)
     (subst (Has (map (λ (i : ItemTree). i.form) tree)) same (Has-map (λ (i : ItemTree). i.form) tree i h))
 
 -- the parts of a task of the form
-pub record IsOfForm (t : TaskTree) : Type 0 where
+pub record IsOfForm (tree : Tree) (t : TaskTree) : Type 0 where
   pub params : are_local_params t.params ≡ true
   pub result : is_scalar_if_said t.result ≡ true
-  pub body : is_local_block (marked_by_task t) t.body ≡ true
+  pub body : is_local_block (marked_by_task tree t) t.body ≡ true
 
-task_of_form : (t : TaskTree) → is_local_task t ≡ true → IsOfForm t
-task_of_form t e =
+task_of_form : (tree : Tree) (t : TaskTree) → is_local_task tree t ≡ true → IsOfForm tree t
+task_of_form tree t e =
     let one = and_parts (are_local_params t.params) _ e in
-    let two = and_parts (is_scalar_if_said t.result) (is_local_block (marked_by_task t) t.body) one.1 in
+    let two = and_parts (is_scalar_if_said t.result) (is_local_block (marked_by_task tree t) t.body) one.1 in
     record { params = one.0; result = two.0; body = two.1 }
 
-pub item_of_form : (tree : Tree) → is_local_program tree ≡ true → (i : ItemTree) → Has tree i → (t : TaskTree) → i.form ≡ task_item t → IsOfForm t
+pub item_of_form : (tree : Tree) → is_local_program tree ≡ true → (i : ItemTree) → Has tree i → (t : TaskTree) → i.form ≡ task_item t → IsOfForm tree t
 item_of_form tree e i h t same =
-    task_of_form t (subst (λ form. is_local_item form ≡ true) same (all_of (λ i. is_local_item i.form) tree e i h))
+    task_of_form tree t (subst (λ form. is_local_item tree form ≡ true) same (all_of (λ i. is_local_item tree i.form) tree e i h))
 
 -- ---- parameters
 
@@ -118,12 +112,6 @@ term_takable term.Truth e tree look own = takable_scalar _ scalar_truth
 term_takable (term.Pointer p) e tree look own = absurd (no_way_back e)
 term_takable (term.Ispace k) e tree look own = absurd (no_way_back e)
 term_takable (term.Partition d r c) e tree look own = absurd (no_way_back e)
-
--- a name among some is among more
-among_left : (ns more : List Name) (n : Name) → is_among ns n ≡ true → is_among (ns ++ more) n ≡ true
-among_left ns more n h =
-    let found = Has-from_list_any (λ k. bytes_eq k n) ns h in
-    list_any-from_Has (λ k. bytes_eq k n) (ns ++ more) found.0 (Has-append_left ns more found.0 found.1) found.2
 
 -- the marks of parameters
 marked_later : (ps : List Param) (m : Marked) (n : Name) → is_among m.regions n ≡ true → is_among (marked_params ps m).regions n ≡ true
@@ -141,8 +129,7 @@ marked_region (q ∷ ps) m p (inl same) e =
     let here : is_region_term q.term ≡ true = ap (λ (x : Param). is_region_term x.term) same ∙ e in
     marked_later ps (cond (is_region_term q.term) (with_region q.name m) m) p.name
     (subst (λ b. is_among (cond b (with_region q.name m) m).regions p.name ≡ true) (sym here)
-    (list_any-from_Has (λ k. bytes_eq k p.name) (m.regions ++ q.name ∷ []) q.name (Has-append_right m.regions (q.name ∷ []) q.name (inl refl))
-    ((bytes_eq-Decides q.name p.name).1 (ap (λ (x : Param). x.name) same))))
+    (among_added m.regions q.name p.name (ap (λ (x : Param). x.name) same)))
 
 module _ (keeping : Bool) (tree : Tree) (all : List Param) (m : Marked) where
   -- a parameter is kept as what its mark says
@@ -194,6 +181,8 @@ module _ (n : Name) where
     marks_stay (var_form k None (Some (region_initializer e u))) m h = among_left m.regions (k ∷ []) n h
     marks_stay (var_form k None (Some (equal_initializer r e))) m h = h
     marks_stay (var_form k None (Some (by_field_initializer r f e))) m h = h
+    marks_stay (var_form k None (Some (image_initializer r p s f))) m h = h
+    marks_stay (var_form k None (Some (preimage_initializer r p s f))) m h = h
     marks_stay (var_form k None (Some (both_initializer p q))) m h = h
     marks_stay (var_form k None (Some (either_initializer p q))) m h = h
     marks_stay (if_form arms other) m h = marks_stay_else other (marked_by_arms arms m) (marks_stay_arms arms m h)
@@ -217,9 +206,9 @@ module _ (n : Name) where
     marks_stay_else (else_block body) m h = marks_stay_in body m h
 
 -- so where a task begins
-pub begins_kept : (keeping : Bool) (tree : Tree) (t : TaskTree) → are_local_params t.params ≡ true → AllKept keeping (marked_by_task t) (scope_of tree t).names
-begins_kept keeping tree t e = params_kept keeping tree t.params (marked_by_task t) 0 t.params e
-    (λ p h r. marks_stay_in p.name t.body (marked_params t.params unmarked) (marked_region t.params unmarked p h r))
+pub begins_kept : (keeping : Bool) (tree : Tree) (t : TaskTree) → are_local_params t.params ≡ true → AllKept keeping (marked_by_task tree t) (scope_of tree t).names
+begins_kept keeping tree t e = params_kept keeping tree t.params (marked_by_task tree t) 0 t.params e
+    (λ p h r. marks_stay_in p.name t.body (marked_params t.params (marked_by_items tree unmarked)) (marked_region t.params (marked_by_items tree unmarked) p h r))
 
 abbrev AllTakable : List Bound → Type 0
 AllTakable [] = Unit {0}
@@ -327,12 +316,14 @@ place_named all (p ∷ ps) (suc k) j low own = inr (place_named all ps k j (omeg
 
 -- ---- the program
 
-pub local_tree : (handing : Bool) (tree : Tree) → WithinLimits tree → breaches tree ≡ [] → is_local_program tree ≡ true →
-    (handing ≡ false → (i : ItemTree) → Has tree i → (t : TaskTree) → i.form ≡ task_item t → TakesScalars t) → IsLocalTree handing tree
-local_tree handing tree within none e alone = record {
-  fields = λ sp. term_at_place (get_or (spaces_of tree) sp no_fields).fields
-      (space_has (λ (s : FieldSpace). are_scalar_params s.fields ≡ true) refl tree
-      (λ i h s same. subst (λ form. is_local_item form ≡ true) same (all_of (λ i. is_local_item i.form) tree e i h)) sp);
+pub local_tree : (handing keeping : Bool) (tree : Tree) (task : TaskTree) → WithinLimits tree → breaches tree ≡ [] → is_local_program tree ≡ true →
+    (handing ≡ false → (i : ItemTree) → Has tree i → (t : TaskTree) → i.form ≡ task_item t → TakesScalars t) →
+    (keeping ≡ false → (i : ItemTree) → Has tree i → (s : FieldSpace) → i.form ≡ space_item s → are_scalar_params s.fields ≡ true) →
+    IsLocalTree handing keeping (marked_by_task tree task).index_fields tree
+local_tree handing keeping tree task within none e alone plain = record {
+  fields = space_has (HasFieldTerms keeping (marked_by_task tree task).index_fields) (λ f has. absurd (no_way_back has)) tree
+      (λ i h s same. space_terms keeping tree task i h s same
+      (subst (λ form. is_local_item tree form ≡ true) same (all_of (λ i. is_local_item tree i.form) tree e i h)) (λ q. plain q i h s same));
   few = space_has (λ (s : FieldSpace). length s.fields ≤ 256) (omega (arith)) tree few_in;
   named = λ sp i low.
       let once = space_has (λ (s : FieldSpace). repeats (given_by s.fields) ≡ []) refl tree once_in sp in

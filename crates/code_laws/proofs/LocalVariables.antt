@@ -65,8 +65,8 @@ value_keepable false w e _ same falls h (value_pointer k sp args i q r) = absurd
 value_keepable true w e _ same falls h (value_pointer k sp args i q r) =
     inr (subst IsPointer (sym same) (a_pointer_type k sp args _ tt), points_by_name w e falls h)
 
-module _ (handing keeping : Bool) (tree : Tree) (task : TaskTree) (sound : IsSound tree) (sound_task : IsSoundTask tree task) (local : IsLocalTree handing tree)
-    (m : Marked) (params : ℕ) (result : is_scalar_if_said task.result ≡ true) where
+module _ (handing keeping : Bool) (tree : Tree) (task : TaskTree) (sound : IsSound tree) (sound_task : IsSoundTask tree task) (m : Marked)
+    (local : IsLocalTree handing keeping m.index_fields tree) (params : ℕ) (result : is_scalar_if_said task.result ≡ true) where
   abbrev pub forms : Forms
   forms = forms_by handing keeping tree task
 
@@ -80,8 +80,8 @@ module _ (handing keeping : Bool) (tree : Tree) (task : TaskTree) (sound : IsSou
   -- the head of a statement, told in a scope
   pub headed : (s : Scope) (line : ℕ) (e : Expression) → is_local_expression m e ≡ true → AreKept (parts_of_expression e) →
       (scope : IsSoundScope s) (ready : Ready s) → first_in_expression tree task s e ≡ None →
-      IsWell handing keeping task (at s line) sound sound_task local m scope ready.names ready.head e
-  headed s line e lo k scope ready told = local_well handing keeping task (at s line) sound sound_task local m scope ready.names ready.head e lo k told
+      IsWell handing keeping task (at s line) sound sound_task m local scope ready.names ready.head e
+  headed s line e lo k scope ready told = local_well handing keeping task (at s line) sound sound_task m local scope ready.names ready.head e lo k told
 
   -- what stands somewhere, by the meaning's type
   pub stands_as : (s : Scope) (e : Expression) (p : Spot) → IsSoundScope s → first_in_expression tree task s e ≡ None →
@@ -126,7 +126,7 @@ module _ (handing keeping : Bool) (tree : Tree) (task : TaskTree) (sound : IsSou
   -- a variable begins with no pointer, or with a name's
   begins_plainly : (s : Scope) (line : ℕ) (n : Name) (y : Expression) (points : Bool) → gives_pointer m y ≡ points → (gives_scalar m y ≡ true) ⊎ (is_among m.indices n ≡ true) →
       keeps_pointer m n y ≡ true → (scope : IsSoundScope s) (ready : Ready s) →
-      IsWell handing keeping task (at s line) sound sound_task local m scope ready.names ready.head y →
+      IsWell handing keeping task (at s line) sound sound_task m local scope ready.names ready.head y →
       IsKeepable keeping (at s line) y × IsKept keeping m s.names n s.next (type_of tree s y)
   begins_plainly s line n y false none marked keeps scope ready a =
       let simple = a.plain none in (
@@ -143,7 +143,7 @@ module _ (handing keeping : Bool) (tree : Tree) (task : TaskTree) (sound : IsSou
   -- with an expression that is typed
   pub well_local : (s : Scope) (line : ℕ) (n : Name) (y : Expression) → (gives_scalar m y ≡ true) ⊎ (is_among m.indices n ≡ true) →
       keeps_pointer m n y ≡ true → (scope : IsSoundScope s) (names : Ready s) →
-      IsWell handing keeping task (at s line) sound sound_task local m scope names.names names.head y → VarTyped s line n None (Some (plain_initializer y))
+      IsWell handing keeping task (at s line) sound sound_task m local scope names.names names.head y → VarTyped s line n None (Some (plain_initializer y))
   well_local s line n y marked own scope names a =
       let from = type_of tree s y in
       let begun = begins_plainly s line n y (gives_pointer m y) refl marked own scope names a in

@@ -11,7 +11,7 @@ use Rattle.regent_tree.specs.declared.statement.How.TheVariants as how
 use Rattle.regent_tree.specs.declared.types.Param.{Param}
 use Rattle.regent_tree.specs.declared.types.TypeTerm.{TypeTerm}
 use Rattle.regent_tree.specs.declared.types.TypeTerm.TheVariants as term
-use Rattle.local_form.specs.LocalForm.{Marked, gives_pointer, is_difference, is_partition_name, keeps_pointer, is_name, takes_partition_off, with_either, with_partition, are_local_arms, are_local_expressions, are_local_links, are_local_params, are_scalar_params, gives_scalar, is_local_block, is_local_else, is_local_expression, is_local_form, is_local_item, is_local_program, is_local_task, is_region_term, links_give, marked_by, marked_by_arms, marked_by_else, marked_by_task, marked_in, marked_params, unmarked, with_region}
+use Rattle.local_form.specs.LocalForm.{Marked, gives_pointer, is_difference, is_partition_name, keeps_pointer, is_name, takes_partition_off, with_either, with_partition, are_local_arms, are_local_expressions, are_local_links, are_local_params, are_scalar_params, gives_scalar, is_local_block, is_local_else, is_local_expression, is_local_form, is_local_item, is_local_program, is_local_task, is_region_term, links_give, marked_by, marked_by_arms, marked_by_else, marked_by_item, marked_by_items, marked_by_task, marked_in, marked_params, unmarked, with_region}
 use Rattle.code_laws.specs.LocalPrograms.{has_no_pointer, takes_scalars}
 use Rattle.code_laws.proofs.Typing.{no_way_back}
 use Rattle.scalar_form.specs.ScalarForm.{are_scalar_arms, are_scalar_expressions, are_scalar_links, is_empty, is_scalar_block, is_scalar_else, is_scalar_expression, is_scalar_form, is_scalar_if_said, is_scalar_item, is_scalar_number, is_scalar_program, is_scalar_task, is_scalar_term}
@@ -244,29 +244,47 @@ params_local (p ∷ ps) e =
     let both = and_parts (is_scalar_term p.term) (are_scalar_params ps) e in
     both_true (is_scalar_term p.term || is_region_term p.term) (are_local_params ps) (ap (λ b. b || is_region_term p.term) both.0) (params_local ps both.1)
 
-scalar_marks : (t : TaskTree) → IsScalarTask t → marked_by_task t ≡ unmarked
-scalar_marks t s = ap (marked_in t.body) (none_marked t.params unmarked s.params) ∙ (block_local t.body s.body).1
+-- there are no fields
+no_item_marks : (i : ItemForm) (m : Marked) → is_scalar_item i ≡ true → marked_by_item i m ≡ m
+no_item_marks import_item m e = refl
+no_item_marks (alias_item n) m e = refl
+no_item_marks (start_item n) m e = refl
+no_item_marks (space_item s) m e = absurd (no_way_back e)
+no_item_marks (task_item t) m e = refl
 
-task_is_local : (t : TaskTree) → is_scalar_task t ≡ true → is_local_task t ≡ true
-task_is_local t e =
+abbrev AreScalar : Tree → Type 0
+AreScalar tree = list_all (λ (i : ItemTree). is_scalar_item i.form) tree ≡ true
+
+no_items_mark : (tree : Tree) (m : Marked) → AreScalar tree → marked_by_items tree m ≡ m
+no_items_mark [] m e = refl
+no_items_mark (i ∷ items) m e =
+    let s = and_parts (is_scalar_item i.form) _ e in ap (marked_by_items items) (no_item_marks i.form m s.0) ∙ no_items_mark items m s.1
+
+scalar_marks : (tree : Tree) (t : TaskTree) → AreScalar tree → IsScalarTask t → marked_by_task tree t ≡ unmarked
+scalar_marks tree t all s =
+    ap (λ m. marked_in t.body (marked_params t.params m)) (no_items_mark tree unmarked all)
+    ∙ ap (marked_in t.body) (none_marked t.params unmarked s.params) ∙ (block_local t.body s.body).1
+
+task_is_local : (tree : Tree) (t : TaskTree) → AreScalar tree → is_scalar_task t ≡ true → is_local_task tree t ≡ true
+task_is_local tree t all e =
     let s = scalar_task t e in
     let b = block_local t.body s.body in
-    let marks = scalar_marks t s in
+    let marks = scalar_marks tree t all s in
     both_true (are_local_params t.params) _ (params_local t.params s.params) (both_true (is_scalar_if_said t.result) _ s.result
     (subst (λ m. is_local_block m t.body ≡ true) (sym marks) b.0))
 
-item_is_local : (i : ItemForm) → is_scalar_item i ≡ true → is_local_item i ≡ true
-item_is_local import_item e = refl
-item_is_local (alias_item n) e = refl
-item_is_local (start_item n) e = refl
-item_is_local (space_item s) e = absurd (no_way_back e)
-item_is_local (task_item t) e = task_is_local t e
+item_is_local : (tree : Tree) (i : ItemForm) → AreScalar tree → is_scalar_item i ≡ true → is_local_item tree i ≡ true
+item_is_local tree import_item all e = refl
+item_is_local tree (alias_item n) all e = refl
+item_is_local tree (start_item n) all e = refl
+item_is_local tree (space_item s) all e = absurd (no_way_back e)
+item_is_local tree (task_item t) all e = task_is_local tree t all e
 
-items_local : (tree : Tree) → list_all (λ (i : ItemTree). is_scalar_item i.form) tree ≡ true → is_local_program tree ≡ true
-items_local [] e = refl
-items_local (i ∷ items) e =
+items_local : (tree items : Tree) → AreScalar tree → AreScalar items → list_all (λ (i : ItemTree). is_local_item tree i.form) items ≡ true
+items_local tree [] all e = refl
+items_local tree (i ∷ items) all e =
     let s = and_parts (is_scalar_item i.form) _ e in
-    both_true (is_local_item i.form) (is_local_program items) (item_is_local i.form s.0) (items_local items s.1)
+    both_true (is_local_item tree i.form) _ (item_is_local tree i.form all s.0) (items_local tree items all s.1)
 
 -- and its tasks take numbers and truths alone
 item_takes : (i : ItemForm) → is_scalar_item i ≡ true → takes_scalars i ≡ true
@@ -276,29 +294,33 @@ item_takes (start_item n) e = refl
 item_takes (space_item s) e = absurd (no_way_back e)
 item_takes (task_item t) e = let s = scalar_task t e in both_true (are_scalar_params t.params) (is_empty t.clauses) s.params s.clauses
 
-items_take : (tree : Tree) → list_all (λ (i : ItemTree). is_scalar_item i.form) tree ≡ true → list_all (λ (i : ItemTree). takes_scalars i.form) tree ≡ true
+items_take : (tree : Tree) → AreScalar tree → list_all (λ (i : ItemTree). takes_scalars i.form) tree ≡ true
 items_take [] e = refl
 items_take (i ∷ items) e =
     let s = and_parts (is_scalar_item i.form) _ e in both_true (takes_scalars i.form) _ (item_takes i.form s.0) (items_take items s.1)
 
 -- and keep no pointers
-item_keeps_none : (i : ItemForm) → is_scalar_item i ≡ true → has_no_pointer i ≡ true
-item_keeps_none import_item e = refl
-item_keeps_none (alias_item n) e = refl
-item_keeps_none (start_item n) e = refl
-item_keeps_none (space_item s) e = absurd (no_way_back e)
-item_keeps_none (task_item t) e = ap (λ (m : Marked). is_empty m.pointers && is_empty m.partitions) (scalar_marks t (scalar_task t e))
+item_keeps_none : (tree : Tree) (i : ItemForm) → AreScalar tree → is_scalar_item i ≡ true → has_no_pointer tree i ≡ true
+item_keeps_none tree import_item all e = refl
+item_keeps_none tree (alias_item n) all e = refl
+item_keeps_none tree (start_item n) all e = refl
+item_keeps_none tree (space_item s) all e = absurd (no_way_back e)
+item_keeps_none tree (task_item t) all e = ap (λ (m : Marked). is_empty m.pointers && is_empty m.partitions) (scalar_marks tree t all (scalar_task t e))
 
-items_keep_none : (tree : Tree) → list_all (λ (i : ItemTree). is_scalar_item i.form) tree ≡ true → list_all (λ (i : ItemTree). has_no_pointer i.form) tree ≡ true
-items_keep_none [] e = refl
-items_keep_none (i ∷ items) e =
-    let s = and_parts (is_scalar_item i.form) _ e in both_true (has_no_pointer i.form) _ (item_keeps_none i.form s.0) (items_keep_none items s.1)
+items_keep_none : (tree items : Tree) → AreScalar tree → AreScalar items → list_all (λ (i : ItemTree). has_no_pointer tree i.form) items ≡ true
+items_keep_none tree [] all e = refl
+items_keep_none tree (i ∷ items) all e =
+    let s = and_parts (is_scalar_item i.form) _ e in
+    both_true (has_no_pointer tree i.form) _ (item_keeps_none tree i.form all s.0) (items_keep_none tree items all s.1)
 
-pub scalar_plain : (tree : Tree) → is_scalar_program tree ≡ true → list_all (λ (i : ItemTree). has_no_pointer i.form) tree ≡ true
-scalar_plain tree e = items_keep_none tree (and_parts (list_all (λ (i : ItemTree). is_scalar_item i.form) tree) (tasks_in tree == 1) e).0
+all_scalar : (tree : Tree) → is_scalar_program tree ≡ true → AreScalar tree
+all_scalar tree e = (and_parts (list_all (λ (i : ItemTree). is_scalar_item i.form) tree) (tasks_in tree == 1) e).0
+
+pub scalar_plain : (tree : Tree) → is_scalar_program tree ≡ true → list_all (λ (i : ItemTree). has_no_pointer tree i.form) tree ≡ true
+scalar_plain tree e = let all = all_scalar tree e in items_keep_none tree tree all all
 
 pub scalar_takes : (tree : Tree) → is_scalar_program tree ≡ true → list_all (λ (i : ItemTree). takes_scalars i.form) tree ≡ true
-scalar_takes tree e = items_take tree (and_parts (list_all (λ (i : ItemTree). is_scalar_item i.form) tree) (tasks_in tree == 1) e).0
+scalar_takes tree e = items_take tree (all_scalar tree e)
 
 pub scalar_local : (tree : Tree) → is_scalar_program tree ≡ true → is_local_program tree ≡ true
-scalar_local tree e = items_local tree (and_parts (list_all (λ (i : ItemTree). is_scalar_item i.form) tree) (tasks_in tree == 1) e).0
+scalar_local tree e = let all = all_scalar tree e in items_local tree tree all all

@@ -3,7 +3,7 @@ use Rattle.std.specs.Prelude.{◌≡◌, ◌<◌, ◌^◌, ◌&&◌, Bool, ℕ, 
 use Rattle.std.specs.List.{list_all}
 use Rattle.regent_tree.specs.Limits.{WithinLimits}
 use Rattle.regent_tree.specs.Meaning.{meaning}
-use Rattle.regent_tree.specs.Syntax.{ItemForm, ItemTree, Tree, task_item}
+use Rattle.regent_tree.specs.Syntax.{ItemForm, ItemTree, Tree, space_item, task_item}
 use Rattle.regent_tree.specs.declared.outcome.Ending.{Ending}
 use Rattle.regent_tree.specs.declared.outcome.Ending.TheVariants.{Broken, Faulted, Finished}
 use Rattle.code_rules.specs.Programs.{code_of}
@@ -43,15 +43,17 @@ abbrev pub AcceptedProgramsEndWell : Type 0
 AcceptedProgramsEndWell = (tree : Tree) (inputs : List ℤ) (turns : ℕ) → turns < 2 ^ 64 → IsLocalProgramRun tree inputs →
     EndsWell tree inputs turns
 
--- a task has no name that may stand for a pointer, since none of its loops goes over a region, and none for a partition
-abbrev pub has_no_pointer : ItemForm → Bool
-has_no_pointer (task_item t) = is_empty (marked_by_task t).pointers && is_empty (marked_by_task t).partitions
-has_no_pointer item = true
+-- a task of a program has no name that may stand for a pointer, since none of its loops goes over a region, and none for a
+-- partition; and no field holds indices
+abbrev pub has_no_pointer : Tree → ItemForm → Bool
+has_no_pointer tree (task_item t) = is_empty (marked_by_task tree t).pointers && is_empty (marked_by_task tree t).partitions
+has_no_pointer tree (space_item s) = are_scalar_params s.fields
+has_no_pointer tree item = true
 
--- such a program whose tasks have no pointers and no partitions
+-- such a program whose tasks have no pointers and no partitions, and its fields no indices
 pub record IsPlainProgramRun (tree : Tree) (inputs : List ℤ) : Type 0 where
   pub run : IsLocalProgramRun tree inputs
-  pub plain : list_all (λ (i : ItemTree). has_no_pointer i.form) tree ≡ true
+  pub plain : list_all (λ (i : ItemTree). has_no_pointer tree i.form) tree ≡ true
 
 -- a task takes numbers and truths alone, and declares nothing
 abbrev pub takes_scalars : ItemForm → Bool
@@ -62,4 +64,4 @@ takes_scalars item = true
 pub record IsKeptProgramRun (tree : Tree) (inputs : List ℤ) : Type 0 where
   pub run : IsLocalProgramRun tree inputs
   pub kept : list_all (λ (i : ItemTree). takes_scalars i.form) tree ≡ true
-  pub plain : list_all (λ (i : ItemTree). has_no_pointer i.form) tree ≡ true
+  pub plain : list_all (λ (i : ItemTree). has_no_pointer tree i.form) tree ≡ true

@@ -1,13 +1,14 @@
 -- Programs whose tasks know each region by a local name, that of a parameter or of a variable that begins with
 -- region(..), and hand it over by that name, or by parts of partitions: each task takes numbers, truths and regions, and
 -- gives a number or truth, or nothing. Which names stand for regions and partitions, and which may stand for
--- an index, an index space or a pointer, is read from the text of a task.
+-- an index, an index space or a pointer, is read from the text of a task; which fields hold indices, from the field spaces.
 use Rattle.std.specs.Prelude.{Bool, true, false, List, [], ◌∷◌, ◌++◌, Some, None, bytes_eq, not, cond, ◌&&◌, ◌||◌}
 use Rattle.std.specs.List.{list_all, list_any}
-use Rattle.regent_tree.specs.Syntax.{Arms, Block, Expression, Expressions, Form, ItemForm, ItemTree, Links, Name, Otherwise, TaskTree, Tree, a_link, a_statement, access_expr, alias_item, an_arm, an_expr, assert_form, assign_form, at_step, both_initializer, by_field_initializer, call_expr, call_form, chain_expr, convert_expr, do_form, either_initializer, else_block, equal_initializer, field_step, fill_form, for_in_form, for_to_form, if_form, import_item, no_arm, no_else, no_expr, no_link, no_statement, no_step, number_expr, plain_initializer, prefix_expr, print_form, region_initializer, return_form, space_expr, space_item, start_item, task_item, then_statement, truth_expr, var_form, while_form}
+use Rattle.regent_tree.specs.Syntax.{Arms, Block, Expression, Expressions, Form, ItemForm, ItemTree, Links, Name, Otherwise, TaskTree, Tree, a_link, a_statement, access_expr, alias_item, an_arm, an_expr, assert_form, assign_form, at_step, both_initializer, by_field_initializer, call_expr, call_form, chain_expr, convert_expr, do_form, either_initializer, else_block, equal_initializer, field_step, fill_form, for_in_form, for_to_form, if_form, image_initializer, import_item, no_arm, no_else, no_expr, no_link, no_statement, no_step, number_expr, plain_initializer, prefix_expr, preimage_initializer, print_form, region_initializer, return_form, space_expr, space_item, start_item, task_item, then_statement, truth_expr, var_form, while_form}
 use Rattle.regent_tree.specs.declared.expression.Arithmetic.TheVariants.{Subtract}
 use Rattle.regent_tree.specs.declared.expression.Operator.TheVariants.{Compute}
 use Rattle.regent_tree.specs.declared.statement.How.TheVariants as how
+use Rattle.regent_tree.specs.declared.types.NumberTerm.TheVariants as number
 use Rattle.regent_tree.specs.declared.types.Param.{Param}
 use Rattle.regent_tree.specs.declared.types.TypeTerm.{TypeTerm}
 use Rattle.regent_tree.specs.declared.types.TypeTerm.TheVariants as term
@@ -16,12 +17,13 @@ use Rattle.scalar_form.specs.ScalarForm.{is_scalar_if_said, is_scalar_number, is
 -- ---- names
 
 -- the names of regions in a task, those of partitions, those that may stand for an index, an index space or a pointer,
--- and those among them that may stand for a pointer
+-- and those among them that may stand for a pointer; and the names of fields that hold indices
 pub record Marked : Type 0 where
   pub regions : List Name
   pub partitions : List Name
   pub indices : List Name
   pub pointers : List Name
+  pub index_fields : List Name
 
 abbrev pub is_among : List Name → Name → Bool
 is_among names n = list_any (λ m. bytes_eq m n) names
@@ -36,8 +38,9 @@ abbrev mutual
   gives_scalar m (chain_expr first rest) = links_give m (gives_scalar m first) rest
   gives_scalar m (prefix_expr signs e) = true
   gives_scalar m (access_expr n no_step) = not (is_among m.indices n)
+  gives_scalar m (access_expr n (at_step e (field_step f rest))) = not (is_among m.index_fields f)
   gives_scalar m (access_expr n (at_step e rest)) = true
-  gives_scalar m (access_expr n (field_step f rest)) = not (is_among m.partitions n)
+  gives_scalar m (access_expr n (field_step f rest)) = not (is_among m.partitions n) && not (is_among m.index_fields f)
   gives_scalar m (call_expr task args) = true
   gives_scalar m (convert_expr t e) = true
   gives_scalar m e = false
@@ -127,9 +130,9 @@ abbrev pub is_local_domain : Marked → Name → Expression → Bool
 is_local_domain m n domain = (is_region_name m domain && is_among m.pointers n) || is_local_expression m domain
 
 -- A variable of a written type is a number or truth. One without it begins with region(..), and its name is a
--- region's; or with a partition that is equal or by a field, or has the points of both of two others, of either, or of the
--- first alone, and its name is a partition's; or with an expression, and where that may give an index, an index space or a
--- pointer, so may the name. None of these is assigned.
+-- region's; or with a partition that is equal or by a field, is the image or preimage of another, or has the points of both
+-- of two others, of either, or of the first alone, and its name is a partition's; or with an expression, and where that may
+-- give an index, an index space or a pointer, so may the name. None of these is assigned. A fill takes no pointer.
 abbrev mutual
   pub is_local_form : Marked → Form → Bool
   is_local_form m (var_form n t None) = is_scalar_if_said t
@@ -140,6 +143,8 @@ abbrev mutual
   is_local_form m (var_form n None (Some (region_initializer e u))) = is_among m.regions n && is_local_expression m e
   is_local_form m (var_form n None (Some (equal_initializer r e))) = is_among m.partitions n && is_local_expression m e
   is_local_form m (var_form n None (Some (by_field_initializer r f e))) = is_among m.partitions n && is_local_expression m e
+  is_local_form m (var_form n None (Some (image_initializer r p s f))) = is_among m.partitions n
+  is_local_form m (var_form n None (Some (preimage_initializer r p s f))) = is_among m.partitions n
   is_local_form m (var_form n None (Some (both_initializer p q))) = is_among m.partitions n
   is_local_form m (var_form n None (Some (either_initializer p q))) = is_among m.partitions n
   is_local_form m (if_form arms other) = are_local_arms m arms && is_local_else m other
@@ -149,7 +154,7 @@ abbrev mutual
   is_local_form m (for_to_form demanded n from to body) =
       is_local_expression m from && (is_local_expression m to && is_local_block m body)
   is_local_form m (do_form body) = is_local_block m body
-  is_local_form m (fill_form r fields e) = is_local_expression m e
+  is_local_form m (fill_form r fields e) = not (gives_pointer m e) && is_local_expression m e
   is_local_form m (assert_form e) = is_local_expression m e
   is_local_form m (print_form alias format args) = are_local_expressions m args
   is_local_form m (call_form task args) = are_local_arguments m args
@@ -179,7 +184,7 @@ abbrev mutual
 -- ---- which names are marked
 
 abbrev pub unmarked : Marked
-unmarked = record { regions = []; partitions = []; indices = []; pointers = [] }
+unmarked = record { regions = []; partitions = []; indices = []; pointers = []; index_fields = [] }
 
 abbrev pub with_region : Name → Marked → Marked
 with_region n m = record m { regions = m.regions ++ n ∷ [] }
@@ -193,6 +198,9 @@ with_index n m = record m { indices = m.indices ++ n ∷ [] }
 -- a pointer's name counts among both
 abbrev pub with_pointer : Name → Marked → Marked
 with_pointer n m = record m { indices = m.indices ++ n ∷ []; pointers = m.pointers ++ n ∷ [] }
+
+abbrev pub with_index_field : Name → Marked → Marked
+with_index_field n m = record m { index_fields = m.index_fields ++ n ∷ [] }
 
 abbrev pub with_either : Bool → Name → Marked → Marked
 with_either points n m = cond points (with_pointer n m) (with_index n m)
@@ -208,6 +216,8 @@ abbrev mutual
   marked_by (var_form n None (Some (region_initializer e u))) m = with_region n m
   marked_by (var_form n None (Some (equal_initializer r e))) m = with_partition n m
   marked_by (var_form n None (Some (by_field_initializer r f e))) m = with_partition n m
+  marked_by (var_form n None (Some (image_initializer r p s f))) m = with_partition n m
+  marked_by (var_form n None (Some (preimage_initializer r p s f))) m = with_partition n m
   marked_by (var_form n None (Some (both_initializer p q))) m = with_partition n m
   marked_by (var_form n None (Some (either_initializer p q))) m = with_partition n m
   marked_by (if_form arms other) m = marked_by_else other (marked_by_arms arms m)
@@ -235,32 +245,54 @@ abbrev pub is_region_term : TypeTerm → Bool
 is_region_term (term.Region k u) = true
 is_region_term t = false
 
--- fields that are numbers and truths
+abbrev pub is_index_term : TypeTerm → Bool
+is_index_term (term.Number (number.Index k)) = true
+is_index_term t = false
+
+-- parameters that are numbers and truths
 abbrev pub are_scalar_params : List Param → Bool
 are_scalar_params ps = list_all (λ (p : Param). is_scalar_term p.term) ps
+
+-- fields that are numbers, truths and indices
+abbrev pub are_local_fields : List Param → Bool
+are_local_fields ps = list_all (λ (p : Param). is_scalar_term p.term || is_index_term p.term) ps
 
 -- parameters that are numbers, truths and regions
 abbrev pub are_local_params : List Param → Bool
 are_local_params ps = list_all (λ (p : Param). is_scalar_term p.term || is_region_term p.term) ps
+
+-- the names of fields that hold indices, beside those that are marked before them
+abbrev pub marked_fields : List Param → Marked → Marked
+marked_fields [] m = m
+marked_fields (p ∷ ps) m = marked_fields ps (cond (is_index_term p.term) (with_index_field p.name m) m)
+
+-- so of a program's field spaces
+abbrev pub marked_by_item : ItemForm → Marked → Marked
+marked_by_item (space_item s) m = marked_fields s.fields m
+marked_by_item item m = m
+
+abbrev pub marked_by_items : Tree → Marked → Marked
+marked_by_items [] m = m
+marked_by_items (i ∷ is) m = marked_by_items is (marked_by_item i.form m)
 
 -- the names of parameters that are regions, beside those that are marked before them
 abbrev pub marked_params : List Param → Marked → Marked
 marked_params [] m = m
 marked_params (p ∷ ps) m = marked_params ps (cond (is_region_term p.term) (with_region p.name m) m)
 
--- all names that a task marks, its parameters first
-abbrev pub marked_by_task : TaskTree → Marked
-marked_by_task t = marked_in t.body (marked_params t.params unmarked)
+-- what a task of a program marks: the names of fields, and those in the task, its parameters first
+abbrev pub marked_by_task : Tree → TaskTree → Marked
+marked_by_task tree t = marked_in t.body (marked_params t.params (marked_by_items tree unmarked))
 
-abbrev pub is_local_task : TaskTree → Bool
-is_local_task t = are_local_params t.params && (is_scalar_if_said t.result && is_local_block (marked_by_task t) t.body)
+abbrev pub is_local_task : Tree → TaskTree → Bool
+is_local_task tree t = are_local_params t.params && (is_scalar_if_said t.result && is_local_block (marked_by_task tree t) t.body)
 
-abbrev pub is_local_item : ItemForm → Bool
-is_local_item import_item = true
-is_local_item (alias_item n) = true
-is_local_item (start_item n) = true
-is_local_item (space_item s) = are_scalar_params s.fields
-is_local_item (task_item t) = is_local_task t
+abbrev pub is_local_item : Tree → ItemForm → Bool
+is_local_item tree import_item = true
+is_local_item tree (alias_item n) = true
+is_local_item tree (start_item n) = true
+is_local_item tree (space_item s) = are_local_fields s.fields
+is_local_item tree (task_item t) = is_local_task tree t
 
 abbrev pub is_local_program : Tree → Bool
-is_local_program tree = list_all (λ (i : ItemTree). is_local_item i.form) tree
+is_local_program tree = list_all (λ (i : ItemTree). is_local_item tree i.form) tree

@@ -8,14 +8,16 @@ ghost use Rattle.local_form.specs.LocalForm.{gives_pointer, gives_scalar, links_
 use crate::marked::Marked;
 use regent_tree::{Expr, Link, Name, Operator, Step};
 
-/// Whether an access gives a number or truth: a name that isn't marked, or a field. The colours of a partition are none.
+/// Whether an access gives a number or truth: a name that isn't marked, or a field that holds no indices. The colours of a
+/// partition are none.
 fn access_gives(marked: &Marked<'_>, name: &Name, steps: &[Step]) -> bool
     ensures { result ≡ gives_scalar marked.now (access_expr name.now (steps_in steps.now)) }
 {
     match steps {
         [] => !marked.is_index(name),
+        [Step::At(_), Step::Field(field), ..] => !marked.is_index_field(field),
         [Step::At(_), ..] => true,
-        [Step::Field(_), ..] => !marked.is_partition(name),
+        [Step::Field(field), ..] => !marked.is_partition(name) && !marked.is_index_field(field),
     }
 }
 

@@ -3,6 +3,7 @@
 
 mod differences;
 mod expressions;
+mod fields;
 mod giving;
 mod marked;
 mod marking;

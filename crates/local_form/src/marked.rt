@@ -2,20 +2,21 @@
 
 ghost use Rattle.std.specs.Prelude.{◌≡◌, List, OnOk, bytes_eq, map, ℕ};
 ghost use Rattle.local_form.specs.LocalForm.{is_among, is_kept_apart, unmarked, with_either, with_index};
-ghost use Rattle.local_form.specs.LocalForm.{with_partition, with_pointer, with_region};
+ghost use Rattle.local_form.specs.LocalForm.{with_index_field, with_partition, with_pointer, with_region};
 
 use regent_tree::Name;
 use std::alloc::{AllocError, Global};
 use std::marker::Model;
 
 /// The names of regions in a task, those of partitions, those that may stand for an index, an index space or a pointer,
-/// and those among them that may stand for a pointer.
+/// and those among them that may stand for a pointer; and the names of fields that hold indices.
 #[derive(Drop)]
 pub struct Marked<'t> {
     regions: Vec<&'t Name>,
     partitions: Vec<&'t Name>,
     indices: Vec<&'t Name>,
     pointers: Vec<&'t Name>,
+    index_fields: Vec<&'t Name>,
 }
 
 impl<'t> Model for Marked<'t> {
@@ -29,6 +30,7 @@ impl<'t> Model for Marked<'t> {
       partitions = map (λ n. n.now) s.partitions.items;
       indices = map (λ n. n.now) s.indices.items;
       pointers = map (λ n. n.now) s.pointers.items;
+      index_fields = map (λ n. n.now) s.index_fields.items;
     } };
 }
 
@@ -48,6 +50,7 @@ impl<'t> Marked<'t> {
             partitions: Vec::new(alloc),
             indices: Vec::new(alloc),
             pointers: Vec::new(alloc),
+            index_fields: Vec::new(alloc),
         }
     }
 
@@ -82,6 +85,13 @@ impl<'t> Marked<'t> {
         is_among(self.pointers.as_slice(), name)
     }
 
+    /// Whether a field of that name holds indices, in some field space.
+    pub fn is_index_field(&self, name: &Name) -> bool
+        ensures { result ≡ is_among self.now.index_fields name.now }
+    {
+        is_among(self.index_fields.as_slice(), name)
+    }
+
     pub fn add_region(&mut self, name: &'t Name) -> Result<(), AllocError>
         ensures { OnOk result (self.new ≡ with_region name.now self.old) }
     {
@@ -109,6 +119,13 @@ impl<'t> Marked<'t> {
     {
         self.indices.push(name)?;
         self.pointers.push(name)?;
+        Ok(())
+    }
+
+    pub fn add_index_field(&mut self, name: &'t Name) -> Result<(), AllocError>
+        ensures { OnOk result (self.new ≡ with_index_field name.now self.old) }
+    {
+        self.index_fields.push(name)?;
         Ok(())
     }
 

@@ -52,6 +52,7 @@ fn mark_variable<'t>(
         (None, Some(Init::Plain(value))) => mark_value(marked, name, value),
         (None, Some(Init::Region { .. })) => marked.add_region(name),
         (None, Some(Init::Equal { .. } | Init::ByField { .. })) => marked.add_partition(name),
+        (None, Some(Init::Image { .. } | Init::Preimage { .. })) => marked.add_partition(name),
         (None, Some(Init::Both { .. } | Init::Either { .. })) => marked.add_partition(name),
         _ => Ok(()),
     }

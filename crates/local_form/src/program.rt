@@ -2,11 +2,12 @@
 
 ghost use Rattle.std.specs.Prelude.{◌≡◌, IfOk, OnOk, map};
 ghost use Rattle.regent_tree.specs.PlainProgram.{item_of, item_tree_of, task_of, tree_of};
-ghost use Rattle.local_form.specs.LocalForm.{are_local_params, are_scalar_params};
+ghost use Rattle.local_form.specs.LocalForm.{are_local_params};
 ghost use Rattle.local_form.specs.LocalForm.{is_local_item, is_local_program, is_local_task};
 ghost use Rattle.local_form.specs.LocalForm.{is_region_term, marked_params};
 ghost use Rattle.local_form.specs.Seen.{is_local_head, is_local_param, marked_param};
 
+use crate::fields::{are_local_fields, mark_items};
 use crate::marked::Marked;
 use crate::marking::mark_block;
 use crate::statements::is_local_block;
@@ -21,13 +22,6 @@ fn is_region_term(term: &TypeTerm) -> bool
         TypeTerm::Region { .. } => true,
         _ => false,
     }
-}
-
-/// Whether fields are numbers and truths.
-fn are_scalar_params(params: &[Param]) -> bool
-    ensures { result ≡ are_scalar_params params.now }
-{
-    params.iter().all(|param| is_scalar_term(&param.term))
 }
 
 /// Whether a parameter is a number, a truth or a region.
@@ -72,26 +66,27 @@ fn mark_params<'t>(marked: &mut Marked<'t>, params: &'t [Param]) -> Result<(), A
     Ok(())
 }
 
-/// Whether a task is of the form.
-fn is_local_task(alloc: Global, task: &Task) -> Result<bool, AllocError>
-    ensures { IfOk result (λ is. is ≡ is_local_task (task_of task.now)) }
+/// Whether a task of a program is of the form.
+fn is_local_task(alloc: Global, items: &[Item], task: &Task) -> Result<bool, AllocError>
+    ensures { IfOk result (λ is. is ≡ is_local_task (map item_tree_of items.now) (task_of task.now)) }
 {
     if !is_local_head(task) {
         return Ok(false);
     }
     let mut marked = Marked::new(alloc);
+    mark_items(&mut marked, items)?;
     mark_params(&mut marked, task.params.as_slice())?;
     mark_block(&mut marked, task.body.as_slice())?;
     Ok(is_local_block(&marked, task.body.as_slice()))
 }
 
-fn is_local_item(alloc: Global, item: &ItemKind) -> Result<bool, AllocError>
-    ensures { IfOk result (λ is. is ≡ is_local_item (item_of item.now)) }
+fn is_local_item(alloc: Global, items: &[Item], item: &ItemKind) -> Result<bool, AllocError>
+    ensures { IfOk result (λ is. is ≡ is_local_item (map item_tree_of items.now) (item_of item.now)) }
 {
     match item {
         ItemKind::Import | ItemKind::Alias { .. } | ItemKind::Start { .. } => Ok(true),
-        ItemKind::Space(space) => Ok(are_scalar_params(space.fields.as_slice())),
-        ItemKind::Task(task) => is_local_task(alloc, task),
+        ItemKind::Space(space) => Ok(are_local_fields(space.fields.as_slice())),
+        ItemKind::Task(task) => is_local_task(alloc, items, task),
     }
 }
 
@@ -99,12 +94,12 @@ fn is_local_item(alloc: Global, item: &ItemKind) -> Result<bool, AllocError>
 /// regions by names, and hands them over by these.
 ///
 /// It asks nothing of the rules: a program that breaches one may be such. Memory is taken for the names that a
-/// task marks.
+/// task marks, and for those of fields that hold indices.
 pub fn is_local(alloc: Global, program: &Program) -> Result<bool, AllocError>
     ensures { IfOk result (λ is. is ≡ is_local_program (tree_of program.now)) }
 {
     for item in &program.items {
-        if !is_local_item(alloc, &item.what)? {
+        if !is_local_item(alloc, program.items.as_slice(), &item.what)? {
             return Ok(false);
         }
     }

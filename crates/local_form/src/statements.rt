@@ -7,7 +7,7 @@ ghost use Rattle.regent_tree.specs.PlainProgram.{arms_in, block_in, form_of};
 ghost use Rattle.regent_tree.specs.Syntax.{assign_form, return_form, var_form};
 ghost use Rattle.local_form.specs.LocalForm.{are_local_arms, is_local_block, is_local_domain, is_local_form};
 ghost use Rattle.local_form.specs.LocalForm.{keeps_pointer};
-ghost use Rattle.local_form.specs.Seen.{assigns_beside, is_local_arm};
+ghost use Rattle.local_form.specs.Seen.{assigns_beside, is_local_arm, is_local_filling};
 
 use crate::differences::is_difference;
 use crate::expressions::{
@@ -62,6 +62,7 @@ fn is_local_variable(
         (None, Some(Init::Equal { colours, .. } | Init::ByField { colours, .. })) => {
             marked.is_partition(name) && is_local_expression(marked, colours)
         }
+        (None, Some(Init::Image { .. } | Init::Preimage { .. })) => marked.is_partition(name),
         (None, Some(Init::Both { .. } | Init::Either { .. })) => marked.is_partition(name),
         _ => false,
     }
@@ -107,6 +108,13 @@ fn is_local_assignment(
         || (is_behind(marked, target, steps) && is_local_expression(marked, value))
 }
 
+/// Whether fields may be filled with a value, which is no pointer.
+fn is_local_filling(marked: &Marked<'_>, value: &Expr) -> bool
+    ensures { result ≡ is_local_filling marked.now (expression_of value.now) }
+{
+    !gives_pointer(marked, value) && is_local_expression(marked, value)
+}
+
 /// Whether a value that may be left out is such an expression.
 fn is_local_value(marked: &Marked<'_>, value: &Option<Expr>) -> bool
     ensures { result ≡ is_local_form marked.now (return_form (option_map expression_of value.now)) }
@@ -150,7 +158,7 @@ fn is_local_form(marked: &Marked<'_>, what: &What) -> bool
                 && is_local_block(marked, body.as_slice())
         }
         What::Do { body } => is_local_block(marked, body.as_slice()),
-        What::Fill { value, .. } => is_local_expression(marked, value),
+        What::Fill { value, .. } => is_local_filling(marked, value),
         What::Assert { test } => is_local_expression(marked, test),
         What::Print { args, .. } => are_local_expressions(marked, args.as_slice()),
         What::Call { args, .. } => are_local_arguments(marked, args.as_slice()),

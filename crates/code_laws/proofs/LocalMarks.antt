@@ -1,0 +1,200 @@
+-- The fields of a text of the form: each is a number, a truth or an index, and the names of those that hold indices are
+-- marked in each task, as no statement marks a field.
+use Rattle.std.proofs.Common.{◌≡◌, inl, inr, Bool, List, [], ◌∷◌, ◌++◌, None, Some, false, true, refl, ap, sym, subst, suc, ◌∙◌, arith, cond}
+use Rattle.std.specs.Prelude.{bytes_eq, get_or, map, ◌||◌, ◌+◌}
+use Rattle.std.proofs.lemmas.Bool.{and_parts}
+use Rattle.std.proofs.lemmas.Slice.Eq.{bytes_eq-Decides}
+use Rattle.regent_tree.proofs.Members.{Has, Has-append_left, Has-append_right, Has-from_list_any, list_any-from_Has}
+use Rattle.regent_tree.specs.Lookup.{has_param}
+use Rattle.regent_tree.specs.StaticTypes.{place_in}
+use Rattle.regent_tree.specs.Syntax.{Arms, Block, Expression, Form, ItemForm, ItemTree, Name, Otherwise, TaskTree, Tree, a_statement, alias_item, an_arm, both_initializer, by_field_initializer, do_form, either_initializer, else_block, equal_initializer, for_in_form, for_to_form, if_form, image_initializer, import_item, no_arm, no_else, no_statement, plain_initializer, preimage_initializer, region_initializer, space_item, start_item, task_item, then_statement, var_form, while_form}
+use Rattle.regent_tree.specs.declared.program.FieldSpace.{FieldSpace}
+use Rattle.regent_tree.specs.declared.types.NumberTerm.TheVariants as number
+use Rattle.regent_tree.specs.declared.types.Param.{Param}
+use Rattle.regent_tree.specs.declared.types.TypeTerm.{TypeTerm}
+use Rattle.regent_tree.specs.declared.types.TypeTerm.TheVariants as term
+use Rattle.check_laws.proofs.Parameters.{place_step}
+use Rattle.local_form.specs.LocalForm.{Marked, are_local_fields, are_scalar_params, gives_pointer, gives_scalar, is_among, is_difference, is_index_term, is_region_name, is_region_term, marked_by, marked_by_arms, marked_by_else, marked_by_item, marked_by_items, marked_by_task, marked_fields, marked_in, marked_params, unmarked, with_either, with_index_field, with_partition, with_region}
+use Rattle.code_laws.proofs.LocalFields.{IsFieldTerm, field_index, field_scalar}
+use Rattle.code_laws.proofs.Typing.{no_way_back}
+use Rattle.scalar_form.specs.ScalarForm.{is_scalar_term}
+
+-- a name among some is among more
+pub among_left : (ns more : List Name) (n : Name) → is_among ns n ≡ true → is_among (ns ++ more) n ≡ true
+among_left ns more n h =
+    let found = Has-from_list_any (λ k. bytes_eq k n) ns h in
+    list_any-from_Has (λ k. bytes_eq k n) (ns ++ more) found.0 (Has-append_left ns more found.0 found.1) found.2
+
+-- and one that is added
+pub among_added : (ns : List Name) (p n : Name) → p ≡ n → is_among (ns ++ p ∷ []) n ≡ true
+among_added ns p n same =
+    list_any-from_Has (λ k. bytes_eq k n) (ns ++ p ∷ []) p (Has-append_right ns (p ∷ []) p (inl refl)) ((bytes_eq-Decides p n).1 same)
+
+-- ---- no statement marks a field
+
+-- what is marked of fields
+abbrev Fields : Marked → List Name
+Fields m = m.index_fields
+
+either_fields : (b : Bool) (n : Name) (m : Marked) → Fields (with_either b n m) ≡ Fields m
+either_fields true n m = refl
+either_fields false n m = refl
+
+value_fields : (k : Name) (e : Expression) (m : Marked) → Fields (marked_by (var_form k None (Some (plain_initializer e))) m) ≡ Fields m
+value_fields k e m = apart (is_difference m e) (gives_scalar m e)
+  where
+    apart : (b c : Bool) → Fields (cond b (with_partition k m) (cond c m (with_either (gives_pointer m e) k m))) ≡ Fields m
+    apart true c = refl
+    apart false true = refl
+    apart false false = either_fields (gives_pointer m e) k m
+
+mutual
+  fields_stay : (form : Form) (m : Marked) → Fields (marked_by form m) ≡ Fields m
+  fields_stay (var_form k None (Some (plain_initializer e))) m = value_fields k e m
+  fields_stay (var_form k None (Some (region_initializer e u))) m = refl
+  fields_stay (var_form k None (Some (equal_initializer r e))) m = refl
+  fields_stay (var_form k None (Some (by_field_initializer r f e))) m = refl
+  fields_stay (var_form k None (Some (image_initializer r p s f))) m = refl
+  fields_stay (var_form k None (Some (preimage_initializer r p s f))) m = refl
+  fields_stay (var_form k None (Some (both_initializer p q))) m = refl
+  fields_stay (var_form k None (Some (either_initializer p q))) m = refl
+  fields_stay (if_form arms other) m = else_fields other (marked_by_arms arms m) ∙ arms_fields arms m
+  fields_stay (while_form test body) m = block_fields body m
+  fields_stay (for_in_form demanded k domain body) m =
+      block_fields body (with_either (is_region_name m domain) k m) ∙ either_fields (is_region_name m domain) k m
+  fields_stay (for_to_form demanded k from to body) m = block_fields body m
+  fields_stay (do_form body) m = block_fields body m
+  fields_stay _ m = refl
+
+  block_fields : (b : Block) (m : Marked) → Fields (marked_in b m) ≡ Fields m
+  block_fields no_statement m = refl
+  block_fields (then_statement (a_statement line form) rest) m = block_fields rest (marked_by form m) ∙ fields_stay form m
+
+  arms_fields : (arms : Arms) (m : Marked) → Fields (marked_by_arms arms m) ≡ Fields m
+  arms_fields no_arm m = refl
+  arms_fields (an_arm test body rest) m = arms_fields rest (marked_in body m) ∙ block_fields body m
+
+  else_fields : (other : Otherwise) (m : Marked) → Fields (marked_by_else other m) ≡ Fields m
+  else_fields no_else m = refl
+  else_fields (else_block body) m = block_fields body m
+
+params_fields : (ps : List Param) (m : Marked) → Fields (marked_params ps m) ≡ Fields m
+params_fields [] m = refl
+params_fields (p ∷ ps) m = params_fields ps (cond (is_region_term p.term) (with_region p.name m) m) ∙ one (is_region_term p.term)
+  where
+    one : (b : Bool) → Fields (cond b (with_region p.name m) m) ≡ Fields m
+    one true = refl
+    one false = refl
+
+-- so a task has what the program marks
+task_fields : (tree : Tree) (t : TaskTree) → Fields (marked_by_task tree t) ≡ Fields (marked_by_items tree unmarked)
+task_fields tree t =
+    block_fields t.body (marked_params t.params (marked_by_items tree unmarked)) ∙ params_fields t.params (marked_by_items tree unmarked)
+
+-- ---- the program marks each field that holds indices
+
+module _ (n : Name) where
+  abbrev IsMarked : Marked → Type 0
+  IsMarked m = is_among m.index_fields n ≡ true
+
+  one_stays : (b : Bool) (k : Name) (m : Marked) → IsMarked m → IsMarked (cond b (with_index_field k m) m)
+  one_stays true k m h = among_left m.index_fields (k ∷ []) n h
+  one_stays false k m h = h
+
+  stays_marked : (ps : List Param) (m : Marked) → IsMarked m → IsMarked (marked_fields ps m)
+  stays_marked [] m h = h
+  stays_marked (p ∷ ps) m h = stays_marked ps (cond (is_index_term p.term) (with_index_field p.name m) m) (one_stays (is_index_term p.term) p.name m h)
+
+  field_marked : (ps : List Param) (m : Marked) (p : Param) → Has ps p → is_index_term p.term ≡ true → p.name ≡ n → IsMarked (marked_fields ps m)
+  field_marked [] m p h e same = absurd h
+  field_marked (q ∷ ps) m p (inr h) e same = field_marked ps (cond (is_index_term q.term) (with_index_field q.name m) m) p h e same
+  field_marked (q ∷ ps) m p (inl here) e same =
+      stays_marked ps (cond (is_index_term q.term) (with_index_field q.name m) m)
+      (subst (λ b. IsMarked (cond b (with_index_field q.name m) m)) (sym (ap (λ (x : Param). is_index_term x.term) here ∙ e))
+      (among_added m.index_fields q.name n (ap (λ (x : Param). x.name) here ∙ same)))
+
+  item_stays : (i : ItemForm) (m : Marked) → IsMarked m → IsMarked (marked_by_item i m)
+  item_stays import_item m h = h
+  item_stays (alias_item k) m h = h
+  item_stays (start_item k) m h = h
+  item_stays (space_item s) m h = stays_marked s.fields m h
+  item_stays (task_item t) m h = h
+
+  items_stay : (items : Tree) (m : Marked) → IsMarked m → IsMarked (marked_by_items items m)
+  items_stay [] m h = h
+  items_stay (i ∷ items) m h = items_stay items (marked_by_item i.form m) (item_stays i.form m h)
+
+  items_mark : (items : Tree) (m : Marked) (i : ItemTree) → Has items i → (s : FieldSpace) → i.form ≡ space_item s → (p : Param) → Has s.fields p →
+      is_index_term p.term ≡ true → p.name ≡ n → IsMarked (marked_by_items items m)
+  items_mark [] m i h s is p has e same = absurd h
+  items_mark (j ∷ items) m i (inr h) s is p has e same = items_mark items (marked_by_item j.form m) i h s is p has e same
+  items_mark (j ∷ items) m i (inl here) s is p has e same =
+      items_stay items (marked_by_item j.form m)
+      (subst (λ form. IsMarked (marked_by_item form m)) (sym (ap (λ (x : ItemTree). x.form) here ∙ is)) (field_marked s.fields m p has e same))
+
+-- ---- the term of a field
+
+-- that of the field of a name, in a field space that holds such fields
+abbrev pub HasFieldTerms : Bool → List Name → FieldSpace → Type 0
+HasFieldTerms keeping marked s = (f : Name) → has_param s.fields f ≡ true →
+    IsFieldTerm keeping marked f (get_or (map (λ (p : Param). p.term) s.fields) (place_in s.fields f) term.Truth)
+
+module _ (keeping : Bool) (marked : List Name) (f : Name) where
+  one_term : (t : TypeTerm) → (is_scalar_term t || is_index_term t) ≡ true → (is_index_term t ≡ true → (keeping ≡ true) × (is_among marked f ≡ true)) →
+      IsFieldTerm keeping marked f t
+  one_term (term.Number number.Int32) e index = field_scalar _ refl
+  one_term (term.Number number.Int64) e index = field_scalar _ refl
+  one_term (term.Number (number.Index k)) e index = let h = index refl in field_index k h.0 h.1
+  one_term term.Truth e index = field_scalar _ refl
+  one_term (term.Pointer p) e index = absurd (no_way_back e)
+  one_term (term.Ispace k) e index = absurd (no_way_back e)
+  one_term (term.Region k u) e index = absurd (no_way_back e)
+  one_term (term.Partition d r c) e index = absurd (no_way_back e)
+
+  term_at_place : (ps : List Param) → are_local_fields ps ≡ true → has_param ps f ≡ true →
+      ((p : Param) → Has ps p → is_index_term p.term ≡ true → p.name ≡ f → (keeping ≡ true) × (is_among marked f ≡ true)) →
+      IsFieldTerm keeping marked f (get_or (map (λ (p : Param). p.term) ps) (place_in ps f) term.Truth)
+  term_at_place [] e has index = absurd (no_way_back has)
+  term_at_place (p ∷ ps) e has index = chosen (bytes_eq p.name f) refl (λ h. term_at_place ps both.1 h (λ q g. index q (inr g))) has
+    where
+      both : ((is_scalar_term p.term || is_index_term p.term) ≡ true) × (are_local_fields ps ≡ true)
+      both = and_parts (is_scalar_term p.term || is_index_term p.term) (are_local_fields ps) e
+
+      next : 1 + place_in ps f ≡ suc (place_in ps f)
+      next = omega (arith)
+
+      chosen : (b : Bool) → bytes_eq p.name f ≡ b →
+          (has_param ps f ≡ true → IsFieldTerm keeping marked f (get_or (map (λ (p : Param). p.term) ps) (place_in ps f) term.Truth)) →
+          (b || has_param ps f) ≡ true →
+          IsFieldTerm keeping marked f (get_or (map (λ (p : Param). p.term) (p ∷ ps)) (place_in (p ∷ ps) f) term.Truth)
+      chosen true q more h =
+          subst (λ k. IsFieldTerm keeping marked f (get_or (map (λ (p : Param). p.term) (p ∷ ps)) k term.Truth)) (sym (place_step p ps f true q))
+          (one_term p.term both.0 (λ i. index p (inl refl) i ((bytes_eq-Decides p.name f).0 q)))
+      chosen false q more h =
+          subst (λ k. IsFieldTerm keeping marked f (get_or (map (λ (p : Param). p.term) (p ∷ ps)) k term.Truth)) (sym (place_step p ps f false q ∙ next))
+          (more h)
+
+-- so of each field space of a program of the form; where pointers aren't kept, no field holds indices
+pub space_terms : (keeping : Bool) (tree : Tree) (t : TaskTree) (i : ItemTree) → Has tree i → (s : FieldSpace) → i.form ≡ space_item s → are_local_fields s.fields ≡ true →
+    (keeping ≡ false → are_scalar_params s.fields ≡ true) → HasFieldTerms keeping (marked_by_task tree t).index_fields s
+space_terms keeping tree t i h s is local plain f has = term_at_place keeping (marked_by_task tree t).index_fields f s.fields local has
+    (λ p g e same. (kept keeping plain p g e, subst (λ ns. is_among ns f ≡ true) (sym (task_fields tree t)) (items_mark f tree unmarked i h s is p g e same)))
+  where
+    no_index : (t : TypeTerm) → is_scalar_term t ≡ true → is_index_term t ≡ true → ⊥
+    no_index (term.Number (number.Index k)) e x = no_way_back e
+    no_index (term.Number number.Int32) e x = no_way_back x
+    no_index (term.Number number.Int64) e x = no_way_back x
+    no_index term.Truth e x = no_way_back x
+    no_index (term.Pointer p) e x = no_way_back x
+    no_index (term.Ispace k) e x = no_way_back x
+    no_index (term.Region k u) e x = no_way_back x
+    no_index (term.Partition d r c) e x = no_way_back x
+
+    scalar_one : (ps : List Param) → are_scalar_params ps ≡ true → (p : Param) → Has ps p → is_scalar_term p.term ≡ true
+    scalar_one [] e p h = absurd h
+    scalar_one (q ∷ ps) e p (inl same) = subst (λ (x : Param). is_scalar_term x.term ≡ true) same (and_parts (is_scalar_term q.term) (are_scalar_params ps) e).0
+    scalar_one (q ∷ ps) e p (inr h) = scalar_one ps (and_parts (is_scalar_term q.term) (are_scalar_params ps) e).1 p h
+
+    kept : (b : Bool) → (b ≡ false → are_scalar_params s.fields ≡ true) → (p : Param) → Has s.fields p → is_index_term p.term ≡ true → b ≡ true
+    kept true plain p h e = refl
+    kept false plain p h e = absurd (no_index p.term (scalar_one s.fields (plain refl) p h) e)

@@ -1,0 +1,78 @@
+//! Fields that hold indices.
+
+ghost use Rattle.std.specs.Prelude.{◌≡◌, OnOk, map};
+ghost use Rattle.regent_tree.specs.PlainProgram.{item_of, item_tree_of};
+ghost use Rattle.local_form.specs.LocalForm.{are_local_fields, is_index_term};
+ghost use Rattle.local_form.specs.LocalForm.{marked_by_item, marked_by_items, marked_fields};
+ghost use Rattle.local_form.specs.Seen.{is_local_field, marked_field};
+
+use crate::marked::Marked;
+use regent_tree::{Item, ItemKind, NumberTerm, Param, TypeTerm};
+use scalar_form::is_scalar_term;
+use std::alloc::AllocError;
+
+fn is_index_term(term: &TypeTerm) -> bool
+    ensures { result ≡ is_index_term term.now }
+{
+    match term {
+        TypeTerm::Number(NumberTerm::Index(_)) => true,
+        _ => false,
+    }
+}
+
+/// Whether a field is a number, a truth or an index.
+fn is_local_field(field: &Param) -> bool
+    ensures { result ≡ is_local_field field.now }
+{
+    is_scalar_term(&field.term) || is_index_term(&field.term)
+}
+
+/// Whether all fields are such.
+pub fn are_local_fields(fields: &[Param]) -> bool
+    ensures { result ≡ are_local_fields fields.now }
+{
+    fields.iter().all(is_local_field)
+}
+
+/// Marks the name of a field that holds indices.
+fn mark_field<'t>(marked: &mut Marked<'t>, field: &'t Param) -> Result<(), AllocError>
+    ensures { OnOk result (marked.new ≡ marked_field field.now marked.old) }
+{
+    if is_index_term(&field.term) {
+        marked.add_index_field(&field.name)
+    } else {
+        Ok(())
+    }
+}
+
+/// Marks the names of those of a field space.
+fn mark_fields<'t>(marked: &mut Marked<'t>, fields: &'t [Param]) -> Result<(), AllocError>
+    ensures { OnOk result (marked.new ≡ marked_fields fields.now marked.old) }
+{
+    for field in fields {
+        mark_field(marked, field)?;
+    }
+    Ok(())
+}
+
+/// Marks those of an item, where it is a field space.
+fn mark_item<'t>(marked: &mut Marked<'t>, item: &'t ItemKind) -> Result<(), AllocError>
+    ensures { OnOk result (marked.new ≡ marked_by_item (item_of item.now) marked.old) }
+{
+    match item {
+        ItemKind::Space(space) => mark_fields(marked, space.fields.as_slice()),
+        ItemKind::Import | ItemKind::Alias { .. } | ItemKind::Start { .. } | ItemKind::Task(_) =>
+            Ok(()),
+    }
+}
+
+/// Marks the names of all fields of a program that hold indices.
+pub fn mark_items<'t>(marked: &mut Marked<'t>, items: &'t [Item]) -> Result<(), AllocError>
+    ensures { OnOk result
+        (marked.new ≡ marked_by_items (map item_tree_of items.now) marked.old) }
+{
+    for item in items {
+        mark_item(marked, &item.what)?;
+    }
+    Ok(())
+}
