@@ -1,5 +1,6 @@
 -- Numbers of operations that are found one after the other.
-use Rattle.std.proofs.Common.{◌≡◌, ◌∙◌, ◌+◌, ◌++◌, ◌∷◌, [], ℕ, zero, suc, Bool, true, false, List, ap, arith, cond, filter, map, refl, sym}
+use Rattle.std.proofs.Common.{◌≡◌, ◌<◌, ◌∙◌, ◌+◌, ◌-◌, ◌&&◌, ◌++◌, ◌∷◌, [], ℕ, zero, suc, Bool, true, false, List, ap, arith, cond, filter, map, refl, sym}
+use Rattle.std.specs.List.{list_all}
 use Rattle.std.proofs.Math.Numerals.{add-one}
 use Rattle.std.proofs.lemmas.List.{map-append}
 use Rattle.std.proofs.lemmas.List.Elements.{filter-append}
@@ -31,3 +32,18 @@ found_more p n xs ys b e h g =
     ∙ ap (λ (c : Bool). map number (filter p (points n) ++ cond c (n ∷ []) [])) (sym e)
     ∙ ap (map number) (sym (filter-append p (points n) (n ∷ [])))
     ∙ ap (λ (ks : List ℕ). map number (filter p ks)) (sym (points_more n))
+
+-- ---- whether all are of a kind
+
+pub all_from : (p : ℕ → Bool) (first n : ℕ) → 0 < n → p first ≡ true →
+    list_all p (counted_from first n) ≡ list_all p (counted_from (first + 1) (n - 1))
+all_from p first zero b e = absurd (omega (arith, b))
+all_from p first (suc n) b e =
+    let more : suc first ≡ first + 1 = omega arith in
+    let less : n ≡ suc n - 1 = omega arith in
+    ap (λ (x : Bool). x && list_all p (counted_from (suc first) n)) e
+    ∙ ap (λ (k : ℕ). list_all p (counted_from k n)) more ∙ ap (λ (k : ℕ). list_all p (counted_from (first + 1) k)) less
+
+pub not_all_from : (p : ℕ → Bool) (first n : ℕ) → 0 < n → p first ≡ false → list_all p (counted_from first n) ≡ false
+not_all_from p first zero b e = absurd (omega (arith, b))
+not_all_from p first (suc n) b e = ap (λ (x : Bool). x && list_all p (counted_from (suc first) n)) e

@@ -1,5 +1,5 @@
 -- What steps make of a state, where they may be made.
-use Rattle.std.specs.Prelude.{ℕ, Bool, true, false, ◌==◌, ◌&&◌, ◌-◌, Option, Some, None, nat_lt}
+use Rattle.std.specs.Prelude.{ℕ, Bool, true, false, ◌==◌, ◌&&◌, ◌-◌, cond, Option, Some, None, nat_lt}
 use Rattle.logical_map.specs.Fills.{Filling, chunk, chunk_moved, elements_of}
 use Rattle.logical_map.specs.Maps.{LogicalMap}
 use Rattle.task_code.specs.declared.code.Code.{Code}
@@ -32,6 +32,11 @@ is_filled_by c _ = false
 abbrev pub is_out_by : Claim → Activity → Bool
 is_out_by c (activity.Out d before) = same_claim c d
 is_out_by c _ = false
+
+-- what the segment of an operation is run from that is out under a claim
+abbrev pub before_by : Claim → Activity → Option Before
+before_by c (activity.Out d before) = cond (same_claim c d) (Some before) None
+before_by c _ = None
 
 -- ---- copies
 

@@ -9,6 +9,7 @@ mod giving;
 mod opening;
 mod owing;
 mod parking;
+mod parts;
 mod stages;
 mod state;
 mod telling;

@@ -97,7 +97,7 @@ fn is_filled_by(claim: &Claim, activity: &Activity) -> bool
     ensures { result ≡ is_filled_by claim.now activity.now }
 {
     match activity {
-        Activity::Filling { claim: other, .. } => same_claim(claim, other),
+        Activity::Filling { claim: other, .. } => is_same_claim(claim, other),
         _ => false,
     }
 }
@@ -106,12 +106,13 @@ fn is_out_by(claim: &Claim, activity: &Activity) -> bool
     ensures { result ≡ is_out_by claim.now activity.now }
 {
     match activity {
-        Activity::Out { claim: other, .. } => same_claim(claim, other),
+        Activity::Out { claim: other, .. } => is_same_claim(claim, other),
         _ => false,
     }
 }
 
-fn same_claim(claim: &Claim, other: &Claim) -> bool
+/// Whether two claims are one.
+pub fn is_same_claim(claim: &Claim, other: &Claim) -> bool
     ensures { result ≡ same_claim claim.now other.now }
 {
     claim.op.0 == other.op.0 && claim.seat == other.seat && claim.turn == other.turn
