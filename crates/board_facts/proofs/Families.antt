@@ -38,7 +38,7 @@ use Rattle.board_facts.specs.Texts.{said_by}
 
 -- ---- sums
 
-sum_given : (f : Operation → ℕ) (code : Code) (s t : State) (k : ℕ) (a : After) (g : IsGiven code s k a t) → k < length s.operations →
+pub sum_given : (f : Operation → ℕ) (code : Code) (s t : State) (k : ℕ) (a : After) (g : IsGiven code s k a t) → k < length s.operations →
     ((fr : Frame) → f (called_by (number k) fr) ≡ 0) →
     sum_by f t.operations + f (operation_at s k) ≡ sum_by f s.operations + f g.operation
 sum_given f code s t k a g b none =
@@ -177,6 +177,17 @@ unclaimed_lent own (activity.Closing e) h = tt
 lent_own : (own : List RootId) (a : Activity) (c : Claim) (b : Before) → a ≡ activity.Out c b → IsLentOwnBy own a → b.frame.own ≡ own
 lent_own own a c b e h = subst (IsLentOwnBy own) e h
 
+-- a segment leaves an operation that is out its own roots
+pub own_is_left : (s : State) (k : ℕ) (c : Claim) (b : Before) → IsSound s → k < length s.operations →
+    (operation_at s k).activity ≡ activity.Out c b →
+    (frame_left (operation_at s k).frame (segment b).frame).own ≡ (operation_at s k).frame.own
+own_is_left s k c b sound there e =
+    let o = operation_at s k in
+    let lent : b.frame.own ≡ o.frame.own =
+    lent_own o.frame.own o.activity c b e (All-get_or IsLentOwn s.operations k no_operation there sound.lent) in
+    own_left o.frame b.frame.own (segment b).frame lent
+    (own_after (stop_of b).ends (stop_of b).machine.frame b.frame.own (stop_fixed b).own)
+
 pub given_sound : (code : Code) (turns : ℕ) (s : State) (k : ℕ) (c : Claim) (b : Before) → IsSound s → k < length s.operations →
     (operation_at s k).activity ≡ activity.Out c b → IsSound (given_after code turns s k (segment b))
 given_sound code turns s k c b sound there e =
@@ -185,8 +196,7 @@ given_sound code turns s k c b sound there e =
     let t = given_after code turns s k a in
     let g = segments_are_given code turns s k a sound there in
     let left = (frame_left o.frame a.frame).own in
-    let lent : b.frame.own ≡ o.frame.own = lent_own o.frame.own o.activity c b e (All-get_or IsLentOwn s.operations k no_operation there sound.lent) in
-    let kept : left ≡ o.frame.own = own_left o.frame b.frame.own a.frame lent (own_after (stop_of b).ends (stop_of b).machine.frame b.frame.own (stop_fixed b).own) in
+    let kept = own_is_left s k c b sound there e in
     let here : AreMade s.tree.roots left = subst (AreMade s.tree.roots) (sym kept) (All-get_or (HasMadeOwn s.tree.roots) s.operations k no_operation there sound.own) in
     let either = either_made code a.ends s t left g.operation.frame.own g.made in
     let own = made_own s t left g.operation.frame.own here either in

@@ -157,7 +157,7 @@ back_sound s t k seat a sound e = by a e
     by activity.Idle h = absurd (none-some t h)
     by (activity.Closing x) h = absurd (none-some t h)
 
-out_there : (s : State) (k : ℕ) (a : Activity) → (operation_at s k).activity ≡ a → (a ≡ activity.Idle → ⊥) → k < length s.operations
+pub out_there : (s : State) (k : ℕ) (a : Activity) → (operation_at s k).activity ≡ a → (a ≡ activity.Idle → ⊥) → k < length s.operations
 out_there s k a e not_idle = ⊎_elim (λ b. b)
     (λ g. absurd (not_idle (sym e ∙ ap (λ (o : Operation). o.activity) (get_or_past s.operations k no_operation g))))
     (cases_lt k (length s.operations))

@@ -3,7 +3,7 @@ use Rattle.std.proofs.Common.{◌≡◌, ◌<◌, ◌∙◌, ◌+◌, ◌++◌, 
 use Rattle.std.proofs.Math.ListN.{drop_of_length-le, get_or-map}
 use Rattle.std.proofs.Math.Seq.{paste}
 use Rattle.std.proofs.lemmas.List.{append-nil, get_or-drop, get_or_default, length-map}
-use Rattle.std.proofs.lemmas.List.Edits.{drop-paste, length-paste, paste_all, paste_more}
+use Rattle.std.proofs.lemmas.List.Edits.{drop-paste, paste_all, paste_more}
 use Rattle.logical_map.specs.Maps.{Column, LogicalMap, column_of, columns_of, no_column}
 use Rattle.std.specs.Prelude.{IfSome}
 use Rattle.std.specs.Option.{is_some}
@@ -26,6 +26,27 @@ pub made_room : (code : Code) (size space n : ℕ) (rooms : List (List ℤ)) →
 made_room code size space n rooms e h =
     h ∙ ap (λ (m : ℕ). replicate m size) e ∙ sym (same_shape size (get_or code.spaces space no_space).fields)
 
+-- ---- items that take the place of others, one after the other
+
+pub next_item : {A : Type 0} (xs ys : List A) (place : ℕ) (d : A) → place < length xs → length ys ≡ length xs →
+    get_or (paste xs 0 ys place) place d ≡ get_or xs place d
+next_item xs ys place d b as_many =
+    let same : drop (0 + place) (paste xs 0 ys place) ≡ drop (0 + place) xs = drop-paste xs 0 ys place (omega arith) (omega (arith, b, as_many)) in
+    let here : 0 + place + 0 ≡ place = omega arith in
+    ap (λ (n : ℕ). get_or (paste xs 0 ys place) n d) (sym here) ∙ sym (get_or-drop (0 + place) (paste xs 0 ys place) 0 d)
+    ∙ ap (λ zs. get_or zs 0 d) same ∙ get_or-drop (0 + place) xs 0 d ∙ ap (λ (n : ℕ). get_or xs n d) here
+
+pub one_more : {A : Type 0} (xs ys : List A) (place : ℕ) (d : A) → place < length xs → length ys ≡ length xs →
+    set (paste xs 0 ys place) place (get_or ys place d) ≡ paste xs 0 ys (place + 1)
+one_more xs ys place d b as_many =
+    let here : 0 + place ≡ place = omega arith in
+    ap (λ (n : ℕ). set (paste xs 0 ys place) n (get_or ys place d)) (sym here)
+    ∙ paste_more xs 0 ys place d (omega (arith, b)) (omega (arith, b, as_many))
+
+pub all_placed : {A : Type 0} (xs ys : List A) → length ys ≡ length xs → paste xs 0 ys (length xs) ≡ ys
+all_placed xs ys as_many =
+    paste_all xs 0 ys (length xs) (sym as_many) ∙ ap (λ zs. ys ++ zs) (drop_of_length-le xs (omega arith)) ∙ append-nil ys
+
 -- ---- room that is filled
 
 pub if_there : {P : Type 0} (o : Option ℕ) → is_some o ≡ true → IfSome o (λ _. P) → P
@@ -47,36 +68,17 @@ module _ (roots : LogicalMap) (root : ℕ) (fields : List (List ℤ)) (room : Is
   as_many = length-map columns (λ (c : Column). c.numbers) ∙ sym (length-map columns (λ (c : Column). length c.points)) ∙ ap length shaped
       ∙ length-map fields length
 
-  abbrev filled : ℕ → List (List ℤ)
-  filled place = paste fields 0 (numbers_in columns) place
-
-  next_item : (place : ℕ) → place < length fields → get_or (filled place) place [] ≡ get_or fields place []
-  next_item place b =
-      let same : drop (0 + place) (filled place) ≡ drop (0 + place) fields =
-      drop-paste fields 0 (numbers_in columns) place (omega arith) (omega (arith, b, as_many)) in
-      let here : 0 + place + 0 ≡ place = omega arith in
-      ap (λ (n : ℕ). get_or (filled place) n []) (sym here) ∙ sym (get_or-drop (0 + place) (filled place) 0 [])
-      ∙ ap (λ (xs : List (List ℤ)). get_or xs 0 []) same
-      ∙ get_or-drop (0 + place) fields 0 [] ∙ ap (λ (n : ℕ). get_or fields n []) here
-
   -- the next room has a place for each point of its field
-  pub next_room : (place : ℕ) (d : List ℤ) → place < length fields → length (get_or (filled place) place d) ≡ length (column_of roots root place).points
+  pub next_room : (place : ℕ) (d : List ℤ) → place < length fields →
+      length (get_or (paste fields 0 (numbers_in columns) place) place d) ≡ length (column_of roots root place).points
   next_room place d b =
-      let size : length (filled place) ≡ length fields = length-paste fields 0 (numbers_in columns) place (omega (arith, b)) (omega (arith, b, as_many)) in
-      ap length (get_or_default (filled place) place d [] (omega (arith, b, size)) ∙ next_item place b)
+      ap length (next_item fields (numbers_in columns) place d b as_many ∙ get_or_default fields place d [] b)
       ∙ sym (get_or-map length fields place [])
       ∙ ap (λ (ns : List ℕ). get_or ns place 0) (sym shaped)
       ∙ get_or-map (λ (c : Column). length c.points) columns place no_column
 
-  pub one_more : (place : ℕ) → place < length fields → set (filled place) place (column_of roots root place).numbers ≡ filled (place + 1)
-  one_more place b =
-      let here : 0 + place ≡ place = omega arith in
-      ap (set (filled place) place) (sym (get_or-map (λ (c : Column). c.numbers) columns place no_column))
-      ∙ ap (λ (n : ℕ). set (filled place) n (get_or (numbers_in columns) place [])) (sym here)
-      ∙ paste_more fields 0 (numbers_in columns) place [] (omega (arith, b)) (omega (arith, b, as_many))
-
-  pub all_filled : filled (length fields) ≡ numbers_in columns
-  all_filled =
-      paste_all fields 0 (numbers_in columns) (length fields) (sym as_many)
-      ∙ ap (λ (xs : List (List ℤ)). numbers_in columns ++ xs) (drop_of_length-le fields (omega arith))
-      ∙ append-nil (numbers_in columns)
+  pub next_field : (place : ℕ) → place < length fields →
+      set (paste fields 0 (numbers_in columns) place) place (column_of roots root place).numbers ≡ paste fields 0 (numbers_in columns) (place + 1)
+  next_field place b =
+      ap (set (paste fields 0 (numbers_in columns) place) place) (sym (get_or-map (λ (c : Column). c.numbers) columns place no_column))
+      ∙ one_more fields (numbers_in columns) place [] b as_many

@@ -1,3 +1,6 @@
 pub mod Finished
-pub mod Steps
+pub mod Gives
+pub mod Imaging
+pub mod Readying
 pub mod Starts
+pub mod Steps

@@ -31,7 +31,7 @@ replay_behind : (job : Job) (o : Option State) (es : List Entry) (e : Entry) →
 replay_behind job o [] e = refl
 replay_behind job o (x ∷ xs) e = replay_behind job (on_state o (λ s. stepped job s x)) xs e
 
-replay_more : (job : Job) (es : List Entry) (e : Entry) (s t : State) → replay job es ≡ Some s → stepped job s e ≡ Some t →
+pub replay_more : (job : Job) (es : List Entry) (e : Entry) (s t : State) → replay job es ≡ Some s → stepped job s e ≡ Some t →
     replay job (es ++ e ∷ []) ≡ Some t
 replay_more job es e s t r m =
     replay_behind job _ es e ∙ ap (λ (o : Option State). on_state o (λ u. stepped job u e)) r ∙ m
@@ -65,7 +65,7 @@ turned m n e = elim (eqb_tells m n) [
   | inr h ↦ absurd (false≢true (sym h.0 ∙ e))
 ]
 
-seat_of : (c d : Claim) → same_claim c d ≡ true → (d.seat == c.seat) ≡ true
+pub seat_of : (c d : Claim) → same_claim c d ≡ true → (d.seat == c.seat) ≡ true
 seat_of c d e = turned c.seat d.seat
     (and_first (c.seat == d.seat) (c.turn == d.turn) (and_second (c.op.0 == d.op.0) ((c.seat == d.seat) && (c.turn == d.turn)) e))
 

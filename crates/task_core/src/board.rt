@@ -7,7 +7,7 @@ ghost use Rattle.board_terms.specs.Stages.{all_in_progress};
 ghost use Rattle.std.specs.Option.{option_copied};
 
 use board_state::BoardState;
-use regent_tree::Outcome;
+use regent_tree::{Outcome, RootImage};
 use region_tree::OpNumber;
 use run_journal::Entry;
 use std::alloc::AllocError;
@@ -15,7 +15,8 @@ use std::marker::Model;
 use task_code::Job;
 
 /// The state that one lock keeps, with the job, and the journal of the steps that were made. Its type keeps that the
-/// state is what the journal leads to for the job.
+/// state is what the journal leads to for the job. Until there is an outcome the memory for it is kept: as much text as
+/// operations said, and an image for each of main's own roots.
 #[derive(Drop)]
 pub struct Board {
     pub(crate) job: Job,
@@ -23,18 +24,23 @@ pub struct Board {
     pub(crate) state: BoardState,
     pub(crate) outcome: Option<Outcome>,
     pub(crate) owed: usize,
+    pub(crate) said: usize,
+    pub(crate) text: Vec<u8>,
+    pub(crate) images: Vec<RootImage>,
 }
 
 impl Model for Board {
     ghost use Rattle.std.specs.Prelude.{vec_capacity, vec_len};
     ghost use Rattle.task_core.specs.Boards.{HasRoom, IsBoard, Standing};
+    ghost use Rattle.task_core.specs.Rooms.{IsReady};
 
     ghost Value = { Standing };
 
     ghost view = { λ b. record { job = b.job; journal = b.journal.items; state = b.state } };
 
     ghost invariant = { λ b. IsBoard b.job b.journal.items b.state b.outcome b.owed
-        × HasRoom (vec_len b.journal) b.owed (vec_capacity b.journal) };
+        × (HasRoom (vec_len b.journal) b.owed (vec_capacity b.journal)
+        × IsReady b.outcome b.state b.said b.text.items (vec_capacity b.text) b.images.items) };
 }
 
 impl Board {

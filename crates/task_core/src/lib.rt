@@ -6,9 +6,11 @@ mod answers;
 mod board;
 mod claiming;
 mod copying;
+mod finishing;
+mod giving;
 mod opening;
 #[cfg(test)]
 mod tests;
 
-pub use answers::Copied;
+pub use answers::{Copied, Given};
 pub use board::Board;

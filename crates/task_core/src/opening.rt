@@ -29,6 +29,9 @@ impl Board {
             state,
             outcome,
             owed: 0,
+            said: 0,
+            text: Vec::new(alloc),
+            images: Vec::new(alloc),
         })
     }
 }

@@ -2,7 +2,7 @@ use Rattle.std.proofs.Common.{◌∙◌, ℤ, List, ap, arith, get_or, length, n
 use Rattle.std.proofs.lemmas.List.{length-set}
 use Rattle.logical_map.specs.Maps.{column_of}
 use Rattle.physical_instances.specs.Kept.{map_of}
-use Rattle.board_outcomes.proofs.Filling.{if_there, next_room, one_more}
+use Rattle.board_outcomes.proofs.Filling.{if_there, next_room, next_field}
 use Rattle.board_outcomes.proofs.imaging.fill_image.Goals as goal
 
 pub fill_field-requires : goal.fill_field-requires
@@ -17,6 +17,6 @@ loop-place-preserved c =
     let there = if_there c.count.result (c.is_none.ensures ∙ ap not c.if-is_none.false) c.count.ensures.there in (
       ap (set c.loop-place.filled.items c.loop-place.place) c.fill_field.ensures
           ∙ ap (λ (xs : List (List ℤ)). set xs c.loop-place.place (column_of (map_of c.args.contents.now) c.args.root.0 c.loop-place.place).numbers) c.loop-place.invariant.0
-          ∙ one_more (map_of c.args.contents.now) c.args.root.0 c.args.fields.now c.requires there c.loop-place.place (omega (arith, c.loop-place-test.true, c.len-place-end.ensures, c.into_vec-filled.result.ok.0, ap length (c.into_vec-filled.ensures ∙ c.replace.ensures.value))),
+          ∙ next_field (map_of c.args.contents.now) c.args.root.0 c.args.fields.now c.requires there c.loop-place.place (omega (arith, c.loop-place-test.true, c.len-place-end.ensures, c.into_vec-filled.result.ok.0, ap length (c.into_vec-filled.ensures ∙ c.replace.ensures.value))),
       length-set c.loop-place.filled.items c.loop-place.place c.fill_field.new.into ∙ c.loop-place.invariant.1,
     )

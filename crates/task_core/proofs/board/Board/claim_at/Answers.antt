@@ -3,6 +3,8 @@ use Rattle.logical_map.specs.Fills.{Filling}
 use Rattle.run_journal.specs.declared.entry.Entry.{Entry}
 use Rattle.run_journal.specs.declared.entry.StepKind.TheVariants as step
 use Rattle.board_state.specs.Owed.{copies_left}
+use Rattle.std.specs.Vec.{vec_capacity}
+use Rattle.task_core.proofs.Readying.{claim_ready}
 use Rattle.task_core.proofs.Steps.{claim_board}
 use Rattle.task_core.specs.Boards.{step_by}
 use Rattle.task_core.proofs.board.Board.claim_at.Goals as goal
@@ -17,14 +19,18 @@ invariant_of-self-2 c =
           (sym c.is_ready.ensures.ready ∙ c.if-not-is_ready.false) (search (rules))
           (c.push_reserved.ensures.items ∙ ap (λ (es : List Entry). es ++ step_by step.Claim c.args.op c.args.seat ∷ []) c.in_ok-reserve.ensures.items)
           (left ∙ more),
-      omega (
-        arith,
-        counted,
-        c.self.invariant.1,
-        c.push_reserved.ensures.len,
-        c.push_reserved.ensures.capacity,
-        c.in_ok-reserve.ensures.ok,
-        c.in_ok-reserve.ensures.len,
-        c.in_ok-reserve.ensures.capacity,
+      (
+        omega (
+          arith,
+          counted,
+          c.self.invariant.1.0,
+          c.push_reserved.ensures.len,
+          c.push_reserved.ensures.capacity,
+          c.in_ok-reserve.ensures.ok,
+          c.in_ok-reserve.ensures.len,
+          c.in_ok-reserve.ensures.capacity,
+        ),
+        claim_ready c.self.inside.state c.self.inside.outcome c.self.inside.said c.self.inside.text.items (vec_capacity c.self.inside.text)
+            c.self.inside.images.items c.claim-claim.new.self c.args.op.0 c.args.seat (search (rules)) c.self.invariant.1.1,
       ),
     )

@@ -1,4 +1,6 @@
 use Rattle.std.proofs.Common.{◌∙◌, arith, sym}
+use Rattle.std.specs.Vec.{vec_capacity}
+use Rattle.task_core.proofs.Readying.{copy_ready}
 use Rattle.task_core.proofs.Steps.{copy_board}
 use Rattle.task_core.proofs.board.Board.copy.Goals as goal
 
@@ -6,5 +8,11 @@ pub invariant_of-self-2 : goal.invariant_of-self-2
 invariant_of-self-2 c =
     let board = copy_board c.self.inside.job c.self.inside.journal.items c.push_reserved.new.self.items c.self.inside.state c.copy.new.self
     c.self.inside.outcome c.self.inside.owed c.args.claim c.self.invariant.0 c.is_filled_by.ensures.kept
-    (sym c.is_filled_by.ensures.filled ∙ c.if-not-is_filled_by.false) c.in_ok-copied.ensures.state c.push_reserved.ensures.items in
-    (board.0, omega (arith, board.1, c.self.invariant.1, c.push_reserved.ensures.len, c.push_reserved.ensures.capacity))
+    (sym c.is_filled_by.ensures.filled ∙ c.if-not-is_filled_by.false) c.in_ok-copied.ensures.state c.push_reserved.ensures.items in (
+      board.0,
+      (
+        omega (arith, board.1, c.self.invariant.1.0, c.push_reserved.ensures.len, c.push_reserved.ensures.capacity),
+        copy_ready c.self.inside.state c.self.inside.outcome c.self.inside.said c.self.inside.text.items (vec_capacity c.self.inside.text)
+            c.self.inside.images.items c.self.inside.job.code c.copy.new.self c.args.claim.op.0 c.in_ok-copied.ensures.state c.self.invariant.1.1,
+      ),
+    )
