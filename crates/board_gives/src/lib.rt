@@ -4,6 +4,7 @@
 
 mod ending;
 mod parking;
+mod parting;
 mod returning;
 mod rooting;
 mod telling;
@@ -11,5 +12,6 @@ mod waiting;
 
 pub use ending::{end, fail, frame_of_roots};
 pub use parking::{Waits, wait_for_nothing};
+pub use parting::make_partition;
 pub use rooting::make_root;
 pub use waiting::{await_child, want};
