@@ -4,7 +4,9 @@ pub mod Given
 pub mod Gives
 pub mod Closings
 pub mod Copies
+pub mod Makes
 pub mod Numbers
 pub mod OwedSteps
+pub mod Roots
 pub mod Segments
 pub mod Starts
