@@ -31,7 +31,7 @@ impl BoardState {
         turns: u64,
         ran: Ran,
     ) -> Result<(), (AllocError, Ran)>
-        requires { before_out (operation_at self.old op.0).activity ≡ Some ran }
+        requires out { before_out (operation_at self.old op.0).activity ≡ Some ran }
         ensures given { OnOk result (self.new ≡ given_after code.now turns self.old op.0 (segment ran)) }
         ensures unchanged { OnErr result (self.new ≡ self.old) }
         ensures handed { IfErr result (λ e. e.1 ≡ ran) }
