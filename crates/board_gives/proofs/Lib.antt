@@ -1,4 +1,5 @@
 pub mod Makes
+pub mod Parts
 pub mod Returns
 pub mod Tellings
 pub mod Waits

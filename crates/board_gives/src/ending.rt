@@ -1,6 +1,6 @@
 //! Operations whose own work has ended.
 
-ghost use Rattle.std.specs.Prelude.{◌≡◌, [], IfErr, OnErr, OnOk};
+ghost use Rattle.std.specs.Prelude.{◌≡◌, [], IfErr, IfOk, OnErr, OnOk};
 ghost use Rattle.board_gives.specs.Gives.{also_told, ended_with};
 ghost use Rattle.board_gives.specs.Rooms.{HasRoom};
 ghost use Rattle.board_terms.specs.declared.operation.Activity.TheVariants as activity;
@@ -113,6 +113,16 @@ fn frame_left(alloc: Global, own: Sequence<RootId>, frame: Option<Frame>) -> Fra
     match frame {
         Some(frame) => frame,
         None => frame_of_roots(alloc, own),
+    }
+}
+
+/// A copy of the frame that a segment left an operation.
+pub fn copy_left(alloc: Global, operation: &Operation, after: &After) -> Result<Frame, AllocError>
+    ensures { IfOk result (λ f. f ≡ frame_left operation.now.frame after.now.frame) }
+{
+    match &after.frame {
+        Some(frame) => frame.copy(alloc),
+        None => Ok(frame_of_roots(alloc, operation.frame.own.copy()?)),
     }
 }
 

@@ -16,7 +16,7 @@ ghost use Rattle.region_tree.specs.Kept.{Grows};
 ghost use Rattle.region_tree.specs.Trees.{with_root};
 ghost use Rattle.task_code.specs.declared.code.FieldCode.{FieldCode as field_term};
 
-use crate::ending::{frame_of_roots, leave};
+use crate::ending::{copy_left, leave};
 use crate::telling::{tell, untell};
 use board_terms::{Extent, Operation, Wait};
 use index_spaces::Ispace;
@@ -175,16 +175,6 @@ fn kinds_in(alloc: Global, fields: &[FieldCode]) -> Result<Vec<FieldKind>, Alloc
         kinds.push(field.kind)?;
     }
     Ok(kinds)
-}
-
-/// A copy of the frame that a segment left an operation.
-pub fn copy_left(alloc: Global, operation: &Operation, after: &After) -> Result<Frame, AllocError>
-    ensures { IfOk result (λ f. f ≡ frame_left operation.now.frame after.now.frame) }
-{
-    match &after.frame {
-        Some(frame) => frame.copy(alloc),
-        None => Ok(frame_of_roots(alloc, operation.frame.own.copy()?)),
-    }
 }
 
 /// The frame of the task that makes the next root of the tree.

@@ -59,14 +59,14 @@ claim_kept s k seat kept r =
     let x : Knot = record { parent = (knot_at s.waits.knots k).parent; on = (knot_at s.waits.knots k).on; stage = Begun } in
     kept_with s k _ (begun s.waits k) s.map (suc s.turns) kept here refl refl refl
     (stays_set s.waits.knots k x there refl)
-    (λ _. ap (λ (y : Knot). y.stage) (get_or-set_same s.waits.knots k x no_knot there)) tt
+    (λ _. ap (λ (y : Knot). y.stage) (get_or-set_same s.waits.knots k x no_knot there)) tt kept.live
 
 pub back_kept : (s : State) (k : ℕ) → IsKept s → k < length s.operations → IsKept (taken_back s k)
 back_kept s k kept here =
     let there : k < length s.waits.knots = omega (arith, here, kept.counted) in
     kept_with s k _ (parked_on s.waits k []) s.map s.turns kept here refl refl refl
     (stays_set s.waits.knots k (knot_on s.waits.knots (knot_at s.waits.knots k).parent [] Parked Stopped) there refl)
-    (λ c. absurd (false≢true c)) tt
+    (λ c. absurd (false≢true c)) tt kept.live
 
 -- ---- the same by its parts
 

@@ -1,6 +1,6 @@
 -- What a state keeps when an operation is over.
 use Rattle.std.specs.Prelude.{◌≢◌, ◌⊎◌}
-use Rattle.std.proofs.Common.{◌≡◌, ◌<◌, ◌-◌, ◌∙◌, ◌&&◌, ℕ, zero, suc, Bool, true, false, List, ap, arith, cond, inl, inr, length, refl, subst, sym, ⊎_elim}
+use Rattle.std.proofs.Common.{◌≡◌, ◌<◌, ◌-◌, ◌∙◌, ◌&&◌, ℕ, zero, suc, Bool, true, false, List, All, ap, arith, cond, inl, inr, length, refl, subst, sym, ⊎_elim}
 use Rattle.std.proofs.lemmas.Bool.{cases_lt, false≢true}
 use Rattle.std.proofs.lemmas.Bool.Decides.{eqb_tells}
 use Rattle.std.proofs.lemmas.List.{get_or_past}
@@ -25,7 +25,9 @@ use Rattle.board_terms.specs.Stages.{is_closing, stage_at, stage_of}
 use Rattle.board_terms.specs.States.{State, operation_at}
 use Rattle.board_state.specs.Kept.{IsKept, is_claimed, state_of}
 use Rattle.board_gives.specs.Gives.{IsIssuedBy}
+use Rattle.board_gives.specs.Makes.{IsRootBelow}
 use Rattle.board_state.proofs.Keeping.{StaysBut, issued_stays, stays_set}
+use Rattle.board_state.proofs.Roots.{live_behind}
 
 -- ---- knots
 
@@ -133,16 +135,25 @@ over_kept s k kept m =
       lent = kept.lent;
       own = λ j. All-weaker (IsIssuedBy s.waits.knots j) (IsIssuedBy (ended s.waits k (how_closed s k)).knots j)
           (issued_stays k j s.waits.knots (ended s.waits k (how_closed s k)).knots stays) _ (kept.own j);
+      live = live_behind s k kept.live;
     }
 
 -- whatever the map is
 pub over_stays : (s : State) (k : ℕ) (h : How) (w : Waits) (map : LogicalMap) → IsKept s → may_close s k ≡ true → h ≡ how_closed s k →
-    w ≡ ended s.waits k h → IsKept (state_of s.tree s.roots map s.operations w s.turns)
-over_stays s k h w map kept m eh ew =
+    w ≡ ended s.waits k h → All (IsRootBelow s.tree.roots) map → IsKept (state_of s.tree s.roots map s.operations w s.turns)
+over_stays s k h w map kept m eh ew live =
     let over = over_kept s k kept m in
     subst (λ (v : Waits). IsKept (state_of s.tree s.roots map s.operations v s.turns))
     (ap (ended s.waits k) (sym eh) ∙ sym ew)
-    (record { counted = over.counted; listing = over.listing; needs = over.needs; begun = over.begun; lent = over.lent; own = over.own })
+    (record {
+      counted = over.counted;
+      listing = over.listing;
+      needs = over.needs;
+      begun = over.begun;
+      lent = over.lent;
+      own = over.own;
+      live = live;
+    })
 
 -- ---- one level after the other
 

@@ -29,7 +29,7 @@ pub doing_kept : (s : State) (k : ℕ) (a : Activity) → IsKept s → is_claime
 doing_kept s k a kept h lent =
     kept_with s k _ s.waits s.map s.turns kept (claimed_there s k h) refl refl refl
     (record { counted = refl; parents = λ j. refl; begun = λ j other e. e })
-    (λ _. kept.begun k h) lent
+    (λ _. kept.begun k h) lent kept.live
 
 -- a frame goes on with its needs
 pub needs_behind : (s : State) (o : Operation) (w : Wait) → (frame_behind s o w).needs ≡ o.frame.needs

@@ -1,6 +1,6 @@
 -- What a state keeps behind a segment that is given back.
 use Rattle.std.specs.Prelude.{IfSome, OnErr, OnOk, Result, Ok, Err}
-use Rattle.std.proofs.Common.{◌≡◌, ◌<◌, ◌∙◌, ℕ, true, None, Option, Some, ap, get_or, length, refl, set, subst, sym}
+use Rattle.std.proofs.Common.{◌≡◌, ◌<◌, ◌∙◌, ℕ, true, All, None, Option, Some, ap, get_or, length, refl, set, subst, sym}
 use Rattle.std.proofs.lemmas.Bool.{false≢true}
 use Rattle.std.proofs.lemmas.Option.{none-some, same_Some}
 use Rattle.std.proofs.lemmas.List.Elements.{All-get_or, All-nil}
@@ -23,6 +23,7 @@ use Rattle.board_terms.specs.declared.operation.Wait.{Wait}
 use Rattle.board_terms.specs.Gives.{frame_left}
 use Rattle.board_terms.specs.States.{State, no_operation, operation_at}
 use Rattle.board_gives.specs.Gives.{ended_with, parked_with}
+use Rattle.board_gives.specs.Makes.{IsRootBelow}
 use Rattle.board_state.specs.Kept.{HasNeeds, IsKept, IsLent, IsLentWith, is_claimed, state_of}
 use Rattle.board_state.specs.Steps.{before_out}
 use Rattle.board_state.proofs.Claims.{claimed_there, same_operation}
@@ -64,7 +65,7 @@ left_by : (t : RegionTree) (f : Frame) (needs : Needs) (o : Option Frame) → If
 left_by t f needs None e a = All-nil (IsNeed t)
 left_by t f needs (Some g) e a = subst (λ (n : Needs). AreNeeds t n.items) (sym e) a
 
-left_needs : (s : State) (k : ℕ) (b : Before) → IsKept s → before_out (operation_at s k).activity ≡ Some b →
+pub left_needs : (s : State) (k : ℕ) (b : Before) → IsKept s → before_out (operation_at s k).activity ≡ Some b →
     AreNeeds s.tree (frame_left (operation_at s k).frame (segment b).frame).needs.items
 left_needs s k b kept e = left_by s.tree (operation_at s k).frame b.frame.needs (segment b).frame (segment_needs b)
     (subst (λ (n : Needs). AreNeeds s.tree n.items) (sym (out_needs s k b kept e)) (own_needs s k kept (out_there s k b e)))
@@ -74,10 +75,11 @@ left_needs s k b kept e = left_by s.tree (operation_at s k).frame b.frame.needs 
 stays_itself : (s : State) (k : ℕ) → StaysBut k s.waits.knots s.waits.knots
 stays_itself s k = record { counted = refl; parents = λ j. refl; begun = λ j other h. h }
 
-ended_kept : (s : State) (k : ℕ) (b : Before) (x : Ending) (map : LogicalMap) → IsKept s → before_out (operation_at s k).activity ≡ Some b →
+pub ended_kept : (s : State) (k : ℕ) (b : Before) (x : Ending) (map : LogicalMap) → IsKept s → before_out (operation_at s k).activity ≡ Some b →
+    All (IsRootBelow s.tree.roots) map →
     IsKept (state_of s.tree s.roots map (set s.operations k (ended_with (operation_at s k) (segment b) x)) s.waits s.turns)
-ended_kept s k b x map kept e = kept_by s k (ended_with (operation_at s k) (segment b) x) s.waits map s.turns kept (out_there s k b e)
-    (left_needs s k b kept e) refl refl (stays_itself s k) (λ c. absurd (false≢true c)) tt
+ended_kept s k b x map kept e live = kept_by s k (ended_with (operation_at s k) (segment b) x) s.waits map s.turns kept (out_there s k b e)
+    (left_needs s k b kept e) refl refl (stays_itself s k) (λ c. absurd (false≢true c)) tt live
 
 parked_kept : (s : State) (k : ℕ) (b : Before) (w : Wait) (on : Waiting) → IsKept s → before_out (operation_at s k).activity ≡ Some b →
     IsKept (state_of s.tree s.roots s.map (set s.operations k (parked_with (operation_at s k) (segment b) w)) (parked s.tree s.waits k on) s.turns)
@@ -86,13 +88,13 @@ parked_kept s k b w on kept e =
     kept_by s k (parked_with (operation_at s k) (segment b) w) (parked s.tree s.waits k on) s.map s.turns kept (out_there s k b e)
     (left_needs s k b kept e) refl refl
     (stays_set s.waits.knots k (knot_on s.waits.knots (knot_at s.waits.knots k).parent (waited s.tree s.waits.listing k on) Parked Stopped) there refl)
-    (λ c. absurd (false≢true c)) tt
+    (λ c. absurd (false≢true c)) tt kept.live
 
 -- whatever the map is
-same_kept : (s : State) (k : ℕ) (map : LogicalMap) → IsKept s → k < length s.operations →
+pub same_kept : (s : State) (k : ℕ) (map : LogicalMap) → IsKept s → k < length s.operations → All (IsRootBelow s.tree.roots) map →
     IsKept (state_of s.tree s.roots map (set s.operations k (operation_at s k)) s.waits s.turns)
-same_kept s k map kept b = kept_by s k (operation_at s k) s.waits map s.turns kept b (own_needs s k kept b) refl refl (stays_itself s k)
-    (kept.begun k) (All-get_or IsLent s.operations k no_operation b kept.lent)
+same_kept s k map kept b live = kept_by s k (operation_at s k) s.waits map s.turns kept b (own_needs s k kept b) refl refl (stays_itself s k)
+    (kept.begun k) (All-get_or IsLent s.operations k no_operation b kept.lent) live
 
 -- ---- the same by its parts
 
@@ -101,16 +103,16 @@ module _ (s : State) (k : ℕ) (before : Before) (x o : Operation) (kept : IsKep
   at : x ≡ operation_at s k
   at = same_operation s.operations k x (out_there s k before e) here
 
-  unchanged : (map : LogicalMap) → o ≡ x → IsKept (state_of s.tree s.roots map (set s.operations k o) s.waits s.turns)
-  unchanged map h = subst (λ (y : Operation). IsKept (state_of s.tree s.roots map (set s.operations k y) s.waits s.turns)) (sym (h ∙ at))
-      (same_kept s k map kept (out_there s k before e))
+  unchanged : (map : LogicalMap) → All (IsRootBelow s.tree.roots) map → o ≡ x → IsKept (state_of s.tree s.roots map (set s.operations k o) s.waits s.turns)
+  unchanged map live h = subst (λ (y : Operation). IsKept (state_of s.tree s.roots map (set s.operations k y) s.waits s.turns)) (sym (h ∙ at))
+      (same_kept s k map kept (out_there s k before e) live)
 
-  pub ended_stays : {A E : Type 0} (r : Result A E) (y : Ending) (map : LogicalMap) → OnOk r (o ≡ ended_with x (segment before) y) → OnErr r (o ≡ x) →
+  pub ended_stays : {A E : Type 0} (r : Result A E) (y : Ending) (map : LogicalMap) → All (IsRootBelow s.tree.roots) map → OnOk r (o ≡ ended_with x (segment before) y) → OnErr r (o ≡ x) →
       IsKept (state_of s.tree s.roots map (set s.operations k o) s.waits s.turns)
-  ended_stays (Ok a) y map f g =
+  ended_stays (Ok a) y map live f g =
       subst (λ (z : Operation). IsKept (state_of s.tree s.roots map (set s.operations k z) s.waits s.turns))
-      (sym (f ∙ ap (λ (z : Operation). ended_with z (segment before) y) at)) (ended_kept s k before y map kept e)
-  ended_stays (Err b) y map f g = unchanged map g
+      (sym (f ∙ ap (λ (z : Operation). ended_with z (segment before) y) at)) (ended_kept s k before y map kept e live)
+  ended_stays (Err b) y map live f g = unchanged map live g
 
   pub parked_stays : {A E : Type 0} (r : Result A E) (w : Wait) (on : Waiting) (waits : Waits) → OnOk r (o ≡ parked_with x (segment before) w) →
       OnOk r (waits ≡ parked s.tree s.waits k on) → OnErr r (o ≡ x) → OnErr r (waits ≡ s.waits) →
@@ -120,4 +122,4 @@ module _ (s : State) (k : ℕ) (before : Before) (x o : Operation) (kept : IsKep
       (subst (λ (z : Operation). IsKept (state_of s.tree s.roots s.map (set s.operations k z) (parked s.tree s.waits k on) s.turns))
       (sym (f ∙ ap (λ (z : Operation). parked_with z (segment before) w) at)) (parked_kept s k before w on kept e))
   parked_stays (Err b) w on waits f f2 g g2 =
-      subst (λ (v : Waits). IsKept (state_of s.tree s.roots s.map (set s.operations k o) v s.turns)) (sym g2) (unchanged s.map g)
+      subst (λ (v : Waits). IsKept (state_of s.tree s.roots s.map (set s.operations k o) v s.turns)) (sym g2) (unchanged s.map kept.live g)

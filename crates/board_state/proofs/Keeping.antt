@@ -16,6 +16,7 @@ use Rattle.board_terms.specs.declared.operation.Operation.{Operation}
 use Rattle.board_terms.specs.States.{State, no_operation, operation_at}
 use Rattle.board_state.specs.Kept.{HasNeeds, IsKept, IsLent, is_claimed, state_of}
 use Rattle.board_gives.specs.Gives.{IsIssuedBy}
+use Rattle.board_gives.specs.Makes.{IsRootBelow}
 
 -- ---- knots
 
@@ -48,9 +49,9 @@ issued_stays k i ks us s c h = (
 pub kept_by : (s : State) (k : ℕ) (o : Operation) (w : Waits) (map : LogicalMap) (turns : ℕ) → IsKept s → k < length s.operations →
     HasNeeds s.tree o → o.children ≡ (operation_at s k).children →
     w.listing ≡ s.waits.listing → StaysBut k s.waits.knots w.knots →
-    (is_claimed o.activity ≡ true → (knot_at w.knots k).stage ≡ Begun) → IsLent o →
+    (is_claimed o.activity ≡ true → (knot_at w.knots k).stage ≡ Begun) → IsLent o → All (IsRootBelow s.tree.roots) map →
     IsKept (state_of s.tree s.roots map (set s.operations k o) w turns)
-kept_by s k o w map turns kept b f c l stays begun lent = record {
+kept_by s k o w map turns kept b f c l stays begun lent live = record {
   counted = length-set s.operations k o ∙ kept.counted ∙ sym stays.counted;
   listing = subst (λ ls. Rattle.region_finder.specs.Listings.IsListingOf s.tree ls) (sym l) kept.listing;
   needs = All-set (HasNeeds s.tree) s.operations k o f kept.needs;
@@ -63,6 +64,7 @@ kept_by s k o w map turns kept b f c l stays begun lent = record {
   lent = All-set IsLent s.operations k o lent kept.lent;
   own = λ j. All-weaker (IsIssuedBy s.waits.knots j) (IsIssuedBy w.knots j) (issued_stays k j s.waits.knots w.knots stays) _
       (subst (All (IsIssuedBy s.waits.knots j)) (sym (children_at j)) (kept.own j));
+  live = live;
 }
   where
     here : (j : ℕ) → j ≡ k → get_or (set s.operations k o) j no_operation ≡ o
@@ -78,7 +80,7 @@ kept_by s k o w map turns kept b f c l stays begun lent = record {
 pub kept_with : (s : State) (k : ℕ) (o : Operation) (w : Waits) (map : LogicalMap) (turns : ℕ) → IsKept s → k < length s.operations →
     o.frame.needs ≡ (operation_at s k).frame.needs → o.children ≡ (operation_at s k).children →
     w.listing ≡ s.waits.listing → StaysBut k s.waits.knots w.knots →
-    (is_claimed o.activity ≡ true → (knot_at w.knots k).stage ≡ Begun) → IsLent o →
+    (is_claimed o.activity ≡ true → (knot_at w.knots k).stage ≡ Begun) → IsLent o → All (IsRootBelow s.tree.roots) map →
     IsKept (state_of s.tree s.roots map (set s.operations k o) w turns)
 kept_with s k o w map turns kept b f = kept_by s k o w map turns kept b
     (subst (λ (n : Needs). AreNeeds s.tree n.items) (sym f) (All-get_or (HasNeeds s.tree) s.operations k no_operation b kept.needs))

@@ -1,10 +1,14 @@
 pub mod Keeping
+pub mod Called
+pub mod CallsGiven
 pub mod Claims
 pub mod Given
 pub mod Gives
 pub mod Closings
 pub mod Copies
+pub mod Makes
 pub mod Numbers
 pub mod OwedSteps
+pub mod Roots
 pub mod Segments
 pub mod Starts

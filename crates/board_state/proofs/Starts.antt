@@ -20,6 +20,7 @@ use Rattle.task_code.specs.declared.code.TaskCode.{TaskCode}
 use Rattle.task_code.specs.declared.job.Job.{Job}
 use Rattle.board_state.specs.Kept.{HasNeeds, IsKept, IsLent, is_claimed}
 use Rattle.board_gives.specs.Gives.{IsIssuedBy}
+use Rattle.board_gives.specs.Makes.{IsRootBelow}
 
 -- one operation that needs nothing, has called nobody, and that no seat has
 pub alone_kept : (main : Operation) (w : Waits) → main.frame.needs.items ≡ [] → main.children ≡ [] → is_claimed main.activity ≡ false → IsLent main →
@@ -32,6 +33,7 @@ alone_kept main w n c a lent l e = record {
   lent = All-cons IsLent main [] lent (All-nil IsLent);
   begun = none;
   own = own;
+  live = All-nil (IsRootBelow 0);
 }
   where
     none : (k : ℕ) → is_claimed (operation_at (begun_with main w) k).activity ≡ true → (knot_at w.knots k).stage ≡ Begun

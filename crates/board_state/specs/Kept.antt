@@ -10,6 +10,7 @@ use Rattle.dependence_graph.specs.Knots.{knot_at}
 use Rattle.dependence_graph.specs.declared.stage.Stage.{Stage}
 use Rattle.dependence_graph.specs.declared.stage.Stage.TheVariants.{Begun, Stopped}
 use Rattle.board_gives.specs.Gives.{IsIssuedBy}
+use Rattle.board_gives.specs.Makes.{IsRootBelow}
 use Rattle.board_terms.specs.declared.extent.Extent.{Extent}
 use Rattle.board_terms.specs.declared.operation.Activity.{Activity}
 use Rattle.board_terms.specs.declared.operation.Activity.TheVariants.{Filling, Out}
@@ -50,7 +51,7 @@ abbrev pub IsLent : Operation → Type 0
 IsLent o = IsLentWith o.frame.needs o.activity
 
 -- What waits for what is told of the operations, by needs of the tree's regions; an operation that a seat has has
--- begun, and is out with its own needs; its children are its own.
+-- begun, and is out with its own needs; its children are its own; and the next root has a number that no live root has.
 pub record IsKept (s : State) : Type 0 where
   pub counted : length s.operations ≡ length s.waits.knots
   pub listing : IsListingOf s.tree s.waits.listing
@@ -58,3 +59,4 @@ pub record IsKept (s : State) : Type 0 where
   pub begun : (k : ℕ) → is_claimed (operation_at s k).activity ≡ true → (knot_at s.waits.knots k).stage ≡ Begun
   pub lent : All IsLent s.operations
   pub own : (k : ℕ) → All (IsIssuedBy s.waits.knots k) (operation_at s k).children
+  pub live : All (IsRootBelow s.tree.roots) s.map

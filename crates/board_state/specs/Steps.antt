@@ -1,7 +1,9 @@
 -- What steps make of a state, where they may be made.
-use Rattle.std.specs.Prelude.{ℕ, Bool, true, false, ◌==◌, ◌&&◌, ◌-◌, cond, Option, Some, None, nat_lt}
+use Rattle.std.specs.Prelude.{ℕ, List, [], ◌∷◌, ◌++◌, Bool, true, false, cond, ◌==◌, ◌&&◌, ◌-◌, Option, Some, None, nat_lt}
+use Rattle.plain_values.specs.Points.{points}
+use Rattle.region_tree.specs.Trees.{with_partition, with_root}
 use Rattle.logical_map.specs.Fills.{Filling, chunk, chunk_moved, elements_of}
-use Rattle.logical_map.specs.Maps.{LogicalMap}
+use Rattle.logical_map.specs.Maps.{LogicalMap, opened}
 use Rattle.task_code.specs.declared.code.Code.{Code}
 use Rattle.machine_terms.specs.declared.frame.Before.{Before}
 use Rattle.board_terms.specs.declared.claim.Claim.{Claim}
@@ -10,13 +12,19 @@ use Rattle.board_terms.specs.declared.operation.Activity.TheVariants as activity
 use Rattle.board_terms.specs.declared.operation.Operation.{Operation}
 use Rattle.board_terms.specs.Claims.{activity_behind, moved_on}
 use Rattle.board_terms.specs.States.{State, doing, operation_at, with_operation}
-use Rattle.board_terms.specs.Gives.{behind_segment, yielded}
+use Rattle.board_terms.specs.Gives.{behind_segment, with_parts, yielded}
 use Rattle.board_terms.specs.declared.operation.Ending.{Ending}
+use Rattle.board_terms.specs.declared.operation.Ending.TheVariants.{Broken}
 use Rattle.board_terms.specs.declared.operation.Wait.{Wait}
 use Rattle.board_gives.specs.Gives.{ended_with, parked_with}
-use Rattle.dependence_graph.specs.Graphs.{parked}
+use Rattle.board_gives.specs.Makes.{may_part, parted_with, rooted_with}
+use Rattle.board_calls.specs.Calls.{are_all, called_operations, called_waits, frames_of}
+use Rattle.dependence_graph.specs.Graphs.{parked, parked_on}
+use Rattle.dependence_graph.specs.Knots.{number}
 use Rattle.dependence_graph.specs.declared.stage.Waiting.{Waiting}
 use Rattle.machine_terms.specs.declared.outcome.After.{After}
+use Rattle.machine_terms.specs.declared.value.RegionValue.{RegionValue}
+use Rattle.machine_terms.specs.Contents.{kinds_of}
 
 -- ---- claims
 
@@ -93,3 +101,32 @@ ended_in s k a e map = record (with_operation s k (ended_with (operation_at s k)
 -- it waits, also in the graph
 abbrev pub parked_in : State → ℕ → After → Wait → Waiting → State
 parked_in s k a w on = record (with_operation s k (parked_with (operation_at s k) a w)) { waits = parked s.tree s.waits k on }
+
+-- it made a root, and waits for nothing
+abbrev pub rooted_in : Code → ℕ → ℕ → State → ℕ → After → State
+rooted_in code size space s k a = record (with_operation s k (rooted_with code s.tree size space (operation_at s k) a)) {
+  tree = with_root s.tree (points size);
+  roots = s.roots ++ record { space = space; count = size } ∷ [];
+  map = opened s.tree.roots (points size) (kinds_of code space) s.map;
+  waits = parked_on s.waits k [];
+}
+
+-- it made a partition, and waits for nothing
+abbrev pub parted_in : RegionValue → List (List ℕ) → Bool → State → ℕ → After → State
+parted_in r sets disjoint s k a = record (with_operation s k (parted_with s.tree r sets disjoint (operation_at s k) a)) {
+  tree = with_partition s.tree r.node.0 sets disjoint;
+  waits = parked_on s.waits k [];
+}
+
+-- or it is broken, where it may not make it
+abbrev pub parting_in : RegionValue → List (List ℕ) → Bool → State → ℕ → After → State
+parting_in r sets disjoint s k a =
+    cond (may_part s.tree r sets disjoint) (parted_in r sets disjoint s k a) (ended_in s k a Broken s.map)
+
+-- calls are issued, as far as they may be, and the parts go back
+abbrev pub called_with : Code → ℕ → State → ℕ → After → State
+called_with code turns s k a = record s {
+  map = with_parts a.parts s.map;
+  operations = called_operations s.operations (number k) a (frames_of code turns s.tree s.map a) (are_all code turns s.tree s.map a);
+  waits = called_waits s.tree s.waits (number k) (frames_of code turns s.tree s.map a) (are_all code turns s.tree s.map a);
+}

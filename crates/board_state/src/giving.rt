@@ -5,22 +5,78 @@ ghost use Rattle.board_state.specs.Kept.{IsKept};
 ghost use Rattle.board_state.specs.Steps.{before_out, ended_in, given_by, parked_in};
 ghost use Rattle.board_terms.specs.declared.operation.Ending.TheVariants as ending_term;
 ghost use Rattle.board_terms.specs.declared.operation.Wait.TheVariants as wait_term;
-ghost use Rattle.board_terms.specs.Gives.{is_on, waits_for, with_parts};
+ghost use Rattle.board_terms.specs.Gives.{given_after, is_on, waits_for, with_parts};
 ghost use Rattle.board_terms.specs.States.{operation_at};
 ghost use Rattle.dependence_graph.specs.declared.stage.Waiting.TheVariants as graph_term;
 ghost use Rattle.machine_terms.specs.declared.outcome.Yield.TheVariants as yield_term;
 ghost use Rattle.machine_terms.specs.Segments.{segment};
 ghost use Rattle.task_code.specs.declared.code.Code.{Code as code_term};
 
+use crate::making::copy_parting;
 use crate::state::BoardState;
 use board_gives::{await_child, end, fail, want};
 use board_terms::Ending;
-use machine_terms::Ran;
+use machine_terms::{Made, Ran, Yield};
 use regent_tree::Fault;
 use region_tree::{OpNumber, RootId};
 use std::alloc::AllocError;
+use task_code::Code;
 
 impl BoardState {
+    /// A segment is given back, of the job's code and turns: what it yields is done, and what is over behind it is closed.
+    pub fn give(
+        &mut self,
+        op: OpNumber,
+        code: &Code,
+        turns: u64,
+        ran: Ran,
+    ) -> Result<(), (AllocError, Ran)>
+        requires out { before_out (operation_at self.old op.0).activity ≡ Some ran }
+        ensures given { OnOk result (self.new ≡ given_after code.now turns self.old op.0 (segment ran)) }
+        ensures unchanged { OnErr result (self.new ≡ self.old) }
+        ensures handed { IfErr result (λ e. e.1 ≡ ran) }
+    {
+        self.give_yielded(op, code, turns, ran)?;
+        self.follow(op);
+        Ok(())
+    }
+
+    /// What a segment yields is done.
+    fn give_yielded(
+        &mut self,
+        op: OpNumber,
+        code: &Code,
+        turns: u64,
+        ran: Ran,
+    ) -> Result<(), (AllocError, Ran)>
+        requires { before_out (operation_at self.old op.0).activity ≡ Some ran }
+        ensures given { OnOk result (self.new ≡ given_by code.now turns self.old op.0 (segment ran)) }
+        ensures unchanged { OnErr result (self.new ≡ self.old) }
+        ensures handed { IfErr result (λ e. e.1 ≡ ran) }
+    {
+        match &ran.after().ends {
+            Yield::Calls(_) => self.give_calls(op, code, turns, ran),
+            Yield::Want { root, field } => self.give_want(op, *root, *field, ran),
+            Yield::Await(place) => self.give_await(op, *place, ran),
+            Yield::Make(Made::Root { space, fields }) => {
+                self.give_root(op, code, *space, *fields, ran)
+            }
+            Yield::Make(
+                Made::Partition {
+                    region,
+                    sets,
+                    disjoint,
+                },
+            ) => match copy_parting(*self.operations.allocator(), region, sets.as_slice()) {
+                Ok((region, sets)) => self.give_partition(op, region, sets, *disjoint, ran),
+                Err(failed) => Err((failed, ran)),
+            },
+            Yield::End(value) => self.give_end(op, *value, ran),
+            Yield::Fault(fault) => self.give_fault(op, *fault, ran),
+            Yield::MachineFault => self.give_broken(op, ran),
+        }
+    }
+
     /// A segment that ended at a fault is given back.
     pub fn give_fault(
         &mut self,

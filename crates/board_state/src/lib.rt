@@ -2,10 +2,12 @@
 //! of a journal makes of it.
 #![tactic(auto)]
 
+mod calling;
 mod claiming;
 mod closing;
 mod copying;
 mod giving;
+mod making;
 mod opening;
 mod owing;
 mod parking;

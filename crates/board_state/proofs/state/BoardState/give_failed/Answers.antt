@@ -13,4 +13,4 @@ invariant_of-self c =
     let there : c.index_mut.result.now ≡ get_or c.self.inside.operations.items c.args.op.0 c.index_mut.result.now = search (rules) in
     ended_stays s k c.args.ran c.index_mut.result.now c.fail.new.operation c.self.invariant
     (ap (λ (t : State). before_out (operation_at t k).activity) c.self.view_is ∙ c.requires) there
-    c.fail.result c.args.ending (map_of c.self.inside.contents) c.fail.ensures.ended c.fail.ensures.unchanged
+    c.fail.result c.args.ending (map_of c.self.inside.contents) c.self.invariant.live c.fail.ensures.ended c.fail.ensures.unchanged

@@ -1,0 +1,188 @@
+//! Partitions that are made.
+
+ghost use Rattle.std.specs.Prelude.{◌≡◌, IfNone, IfOk, IfErr, IfSome, OnErr, false, length, true};
+ghost use Rattle.board_gives.specs.Gives.{also_told, ended_with};
+ghost use Rattle.board_gives.specs.Makes.{frame_with_partition, may_part, parted_with};
+ghost use Rattle.board_terms.specs.Gives.{frame_left};
+ghost use Rattle.board_terms.specs.Makes.{children_from, is_here};
+ghost use Rattle.board_terms.specs.declared.operation.Ending.TheVariants.{Broken};
+ghost use Rattle.machine_terms.specs.Makes.{is_sound};
+ghost use Rattle.machine_terms.specs.Segments.{segment};
+ghost use Rattle.region_finder.specs.Forests.{IsForest};
+ghost use Rattle.region_tree.specs.Kept.{Grows};
+ghost use Rattle.region_tree.specs.Trees.{IsRegion, set_at, with_partition};
+
+use crate::ending::{copy_left, fail, leave};
+use crate::telling::{tell, untell};
+use board_terms::{Ending, Operation, Wait};
+use machine_terms::{After, Frame, PartitionValue, Ran, RegionValue, Value};
+use plain_values::{Sequence, Shared};
+use point_sets::PointSet;
+use region_forest::Forest;
+use region_tree::{Node, RootId, TreeFault};
+use std::alloc::{AllocError, Global};
+
+/// A partition of a region is made: it is on the stack of the task. Where the region isn't one of the tree, a set leaves
+/// it, or sets share a point that are said not to, the operation is broken instead. Tells whether the partition was made.
+pub fn make_partition(
+    alloc: Global,
+    tree: &mut Forest,
+    operation: &mut Operation,
+    region: &RegionValue,
+    sets: Vec<PointSet>,
+    disjoint: bool,
+    ran: Ran,
+) -> Result<bool, (AllocError, Ran)>
+    ensures made { IfOk result (λ made. made ≡ may_part tree.old region.now sets.items disjoint) }
+    ensures tree { IfOk result (λ made. made ≡ true
+        → tree.new ≡ with_partition tree.old region.now.node.0 sets.items disjoint) }
+    ensures operation { IfOk result (λ made. made ≡ true
+        → operation.new ≡ parted_with tree.old region.now sets.items disjoint operation.old (segment ran)) }
+    ensures refused { IfOk result (λ made. made ≡ false → tree.new ≡ tree.old) }
+    ensures broken { IfOk result (λ made. made ≡ false → operation.new ≡ ended_with operation.old (segment ran) Broken) }
+    ensures grows { Grows tree.old tree.new }
+    ensures forest { IsForest tree.old }
+    ensures unchanged { OnErr result (operation.new ≡ operation.old) }
+    ensures same { OnErr result (tree.new ≡ tree.old) }
+    ensures handed { IfErr result (λ e. e.1 ≡ ran) }
+{
+    match prepare_partition(alloc, tree, operation, region, sets, disjoint, ran.after()) {
+        Ok(Some(frame)) => {
+            leave(alloc, operation, ran.into_after());
+            operation.frame = frame;
+            operation.wait = Wait::Nothing;
+            Ok(true)
+        }
+        Ok(None) => match fail(alloc, operation, Ending::Broken, ran) {
+            Ok(()) => Ok(false),
+            Err(refused) => Err(refused),
+        },
+        Err(failed) => Err((failed, ran)),
+    }
+}
+
+/// Makes the partition where it may be made, tells the text, and answers the frame with the partition.
+fn prepare_partition(
+    alloc: Global,
+    tree: &mut Forest,
+    operation: &mut Operation,
+    region: &RegionValue,
+    sets: Vec<PointSet>,
+    disjoint: bool,
+    after: &After,
+) -> Result<Option<Frame>, AllocError>
+    ensures may { IfOk result (λ f. IfSome f (λ _. may_part tree.old region.now sets.items disjoint ≡ true)) }
+    ensures frame { IfOk result (λ f. IfSome f (λ g. g ≡ frame_with_partition (length tree.old.nodes) region.now.root sets.items
+        disjoint (frame_left operation.old.frame after.now.frame))) }
+    ensures tree { IfOk result (λ f. IfSome f (λ _. tree.new
+        ≡ with_partition tree.old region.now.node.0 sets.items disjoint)) }
+    ensures told { IfOk result (λ f. IfSome f (λ _. operation.new ≡ also_told operation.old after.now.text)) }
+    ensures none { IfOk result (λ f. IfNone f (may_part tree.old region.now sets.items disjoint ≡ false)) }
+    ensures stays { IfOk result (λ f. IfNone f (tree.new ≡ tree.old)) }
+    ensures untold { IfOk result (λ f. IfNone f (operation.new ≡ operation.old)) }
+    ensures grows { Grows tree.old tree.new }
+    ensures forest { IsForest tree.old }
+    ensures unchanged { OnErr result (operation.new ≡ operation.old) }
+    ensures same { OnErr result (tree.new ≡ tree.old) }
+{
+    if !is_here(tree, region) {
+        return Ok(None);
+    }
+    let left = copy_left(alloc, operation, after)?;
+    let frame = frame_with_partition(alloc, tree, region.root, &sets, disjoint, left)?;
+    tell(alloc, operation, after.text.as_slice())?;
+    match add_partition(tree, region.node, sets, disjoint) {
+        Ok(true) => Ok(Some(frame)),
+        Ok(false) => {
+            untell(operation, after.text.as_slice());
+            Ok(None)
+        }
+        Err(failed) => {
+            untell(operation, after.text.as_slice());
+            Err(failed)
+        }
+    }
+}
+
+/// Whether a region that a value names is one of the tree.
+#[tactic(auto, using(crate::proofs::Parts::here_is, crate::proofs::Parts::not_here))]
+fn is_here(tree: &Forest, region: &RegionValue) -> bool
+    ensures here { result ≡ is_here tree.now region.now }
+    ensures region { result ≡ true → IsRegion tree.now region.now.node.0 }
+    ensures forest { IsForest tree.now }
+{
+    let known = tree.tree();
+    tree.is_region(region.node) && known.root_of(region.node).0 == region.root.0
+}
+
+/// Makes a partition where its sets lie in the region, and share no point where it is to be disjoint. Tells whether it
+/// was made. 2^32 sets, which no segment makes, count as a want of memory.
+fn add_partition(
+    tree: &mut Forest,
+    region: Node,
+    sets: Vec<PointSet>,
+    disjoint: bool,
+) -> Result<bool, AllocError>
+    requires { IsRegion tree.old region.0 }
+    ensures made { IfOk result (λ made. made ≡ is_sound (set_at tree.old region.0) sets.items disjoint) }
+    ensures tree { IfOk result (λ made. made ≡ true
+        → tree.new ≡ with_partition tree.old region.0 sets.items disjoint) }
+    ensures stays { IfOk result (λ made. made ≡ false → tree.new ≡ tree.old) }
+    ensures grows { Grows tree.old tree.new }
+    ensures same { OnErr result (tree.new ≡ tree.old) }
+{
+    if sets.len() > u32::MAX as usize {
+        return Err(AllocError);
+    }
+    match tree.add_partition(region, sets, disjoint) {
+        Ok(_) => Ok(true),
+        Err(TreeFault::NotWithin { .. }) => Ok(false),
+        Err(TreeFault::NotDisjoint { .. }) => Ok(false),
+        Err(TreeFault::Memory(failed)) => Err(failed),
+    }
+}
+
+/// The frame of the task that makes the next partition of the tree.
+fn frame_with_partition(
+    alloc: Global,
+    tree: &Forest,
+    root: RootId,
+    sets: &[PointSet],
+    disjoint: bool,
+    frame: Frame,
+) -> Result<Frame, AllocError>
+    ensures { IfOk result (λ f. f ≡ frame_with_partition (length tree.now.nodes) root sets.now disjoint frame) }
+{
+    let (_, partition) = tree.tree().next();
+    let children = children_of(alloc, root, partition, sets)?;
+    let value = PartitionValue {
+        root,
+        disjoint,
+        children: Shared::new(alloc, children)?,
+    };
+    let mut behind = frame;
+    behind.stack.push(Value::Partition(value))?;
+    Ok(behind)
+}
+
+/// A region for each colour of a partition. A node past the last number counts as a want of memory.
+fn children_of(
+    alloc: Global,
+    root: RootId,
+    partition: Node,
+    sets: &[PointSet],
+) -> Result<Sequence<RegionValue>, AllocError>
+    ensures { IfOk result (λ rs. rs ≡ children_from root partition.0 0 sets.now) }
+{
+    let mut children = Sequence::new(alloc);
+    for (colour, set) in sets.iter().enumerate() {
+        let past = colour as u64 + 1;
+        let node = partition.0.checked_add(past).ok_or(AllocError)?;
+        children.push(RegionValue {
+            root,
+            node: Node(node),
+            points: Shared::new(alloc, set.copy()?)?,
+        })?;
+    }
+    Ok(children)
+}

@@ -1,0 +1,12 @@
+use Rattle.machine_terms.specs.Segments.{segment}
+use Rattle.board_state.proofs.Given.{given_partition, ok_then}
+use Rattle.board_state.proofs.Gives.{out_there}
+use Rattle.board_state.proofs.state.BoardState.give_partition.Goals as goal
+
+pub returns-clause-given : goal.returns-clause-given
+returns-clause-given c =
+    let s = c.args.self.now in
+    let k = c.args.op.0 in
+    ok_then c.give_parting.result _ _ c.give_parting.ensures.made
+    (λ h code turns. given_partition code turns s c.give_parting.new.self k (segment c.args.ran) c.args.region c.args.sets.items
+    c.args.disjoint (out_there s k c.args.ran c.requires.out) c.requires.ends h)
