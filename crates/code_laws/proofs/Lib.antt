@@ -70,6 +70,7 @@ pub mod LocalGiven
 pub mod LocalCalls
 pub mod LocalParts
 pub mod LocalPoints
+pub mod LocalElements
 pub mod LocalArguments
 pub mod LocalExpressions
 pub mod LocalVariables

@@ -52,7 +52,7 @@ grown_has : {before after : List Bound} → Grown before after → (b : Bound) �
 grown_has {before = before} g b h = subst (λ bs. Has bs b) (sym g.are) (Has-append_right g.more before b h)
 
 module _ (handing keeping : Bool) (tree : Tree) (task : TaskTree) (sound : IsSound tree) (sound_task : IsSoundTask tree task) (m : Marked)
-    (local : IsLocalTree handing keeping m.index_fields tree) (keeps : (n : Name) → (is_among m.pointers n ≡ true) ⊎ (is_among m.partitions n ≡ true) → keeping ≡ true) (hands : keeping ≡ true → handing ≡ true)
+    (local : IsLocalTree handing keeping m tree) (keeps : (n : Name) → (is_among m.pointers n ≡ true) ⊎ (is_among m.partitions n ≡ true) → keeping ≡ true) (hands : keeping ≡ true → handing ≡ true)
     (params : ℕ) (result : is_scalar_if_said task.result ≡ true) where
   abbrev forms : Forms
   forms = forms_by handing keeping tree task

@@ -29,12 +29,13 @@ use Rattle.check_rules.specs.types.TypedForms.{calling, computing, element_of, f
 use Rattle.check_rules.specs.declared.rule.Rule.TheVariants as rule
 use Rattle.check_rules.proofs.Untold.{rule_none}
 use Rattle.code_rules.specs.Slots.{Where, bound, typed}
-use Rattle.local_form.specs.LocalForm.{Marked, are_local_arguments, are_local_expressions, are_local_links, gives_scalar, is_among, is_local_expression, is_name, is_part, links_give, gives_pointer}
+use Rattle.local_form.specs.LocalForm.{Marked, are_local_arguments, are_local_expressions, are_local_links, gives_scalar, is_among, is_local_expression, is_name, is_part, links_give, gives_pointer, takes_element}
 use Rattle.code_laws.specs.Handing.{forms_by}
 use Rattle.code_laws.specs.Simple.{IsPartition, IsScalar, IsSimple, a_partition_type, scalar_integer, scalar_truth, simple_space, simple_truth}
 use Rattle.code_laws.specs.Steps.{Forms}
 use Rattle.code_laws.specs.Typed.{AreNumbers, ArePassed, AreTypedLinks}
 use Rattle.code_laws.proofs.KnownHeads.{KnowsHead}
+use Rattle.code_laws.proofs.LocalElements.{element_well}
 use Rattle.code_laws.proofs.LocalParts.{and_then, given_result}
 use Rattle.code_laws.proofs.LocalNames.{AllKept, AreScalars, AreTakable, IsLocalTree, named_kept, named_place, no_partition_kept, kept_as_value, partition_keeps, partition_or}
 use Rattle.code_laws.proofs.LocalTypes.{operated_number, simple_computed}
@@ -48,7 +49,7 @@ use Rattle.code_laws.proofs.LocalPoints.{IsWell, at_point, behind_name, cut_name
 use Rattle.code_laws.proofs.LocalArguments.{IsArgument, IsCallWell, argument_of, call_well, given_one, name_well, part_of_name}
 
 module _ (handing keeping : Bool) (task : TaskTree) (w : Where) (sound : IsSound w.tree) (sound_task : IsSoundTask w.tree task) (m : Marked)
-    (local : IsLocalTree handing keeping m.index_fields w.tree) (scope : IsSoundScope w.scope) (names : AllKept keeping m w.scope.names) (head : KnowsHead w.tree task w.scope) where
+    (local : IsLocalTree handing keeping m w.tree) (scope : IsSoundScope w.scope) (names : AllKept keeping m w.scope.names) (head : KnowsHead w.tree task w.scope) where
   abbrev forms : Forms
   forms = forms_by handing keeping w.tree task
 
@@ -213,7 +214,11 @@ module _ (handing keeping : Bool) (task : TaskTree) (w : Where) (sound : IsSound
         }
     local_well (access_expr n (field_step _ (field_step _ _))) lo k e = absurd (no_way_back lo)
     local_well (access_expr n (field_step _ (at_step _ _))) lo k e = absurd (no_way_back lo)
-    local_well (access_expr n (at_step _ no_step)) lo k e = absurd (no_way_back lo)
+    local_well (access_expr n (at_step e no_step)) lo k none =
+        let s = and_parts (takes_element m n) (is_local_expression m e) lo in
+        let parts = kept_behind node (parts_of_expression e ++ []) (kept_behind node (node ∷ (parts_of_expression e ++ [])) k) in
+        element_well handing keeping task w sound sound_task m local scope names head n e s.0 none
+        (λ own. local_well e s.1 (kept_left (parts_of_expression e) [] parts) own)
     local_well (access_expr n (at_step _ (at_step _ _))) lo k e = absurd (no_way_back lo)
     local_well (access_expr n (at_step _ (field_step _ (field_step _ _)))) lo k e = absurd (no_way_back lo)
     local_well (access_expr n (at_step _ (field_step _ (at_step _ _)))) lo k e = absurd (no_way_back lo)

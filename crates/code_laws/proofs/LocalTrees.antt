@@ -206,9 +206,11 @@ module _ (n : Name) where
     marks_stay_else (else_block body) m h = marks_stay_in body m h
 
 -- so where a task begins
-pub begins_kept : (keeping : Bool) (tree : Tree) (t : TaskTree) → are_local_params t.params ≡ true → AllKept keeping (marked_by_task tree t) (scope_of tree t).names
-begins_kept keeping tree t e = params_kept keeping tree t.params (marked_by_task tree t) 0 t.params e
-    (λ p h r. marks_stay_in p.name t.body (marked_params t.params (marked_by_items tree unmarked)) (marked_region t.params (marked_by_items tree unmarked) p h r))
+pub begins_kept : (keeping : Bool) (tree : Tree) (t : TaskTree) (m : Marked) → m.regions ≡ (marked_by_task tree t).regions → are_local_params t.params ≡ true →
+    AllKept keeping m (scope_of tree t).names
+begins_kept keeping tree t m same e = params_kept keeping tree t.params m 0 t.params e
+    (λ p h r. subst (λ rs. is_among rs p.name ≡ true) (sym same)
+    (marks_stay_in p.name t.body (marked_params t.params (marked_by_items tree unmarked)) (marked_region t.params (marked_by_items tree unmarked) p h r)))
 
 abbrev AllTakable : List Bound → Type 0
 AllTakable [] = Unit {0}
@@ -316,14 +318,16 @@ place_named all (p ∷ ps) (suc k) j low own = inr (place_named all ps k j (omeg
 
 -- ---- the program
 
-pub local_tree : (handing keeping : Bool) (tree : Tree) (task : TaskTree) → WithinLimits tree → breaches tree ≡ [] → is_local_program tree ≡ true →
+pub local_tree : (handing keeping : Bool) (tree : Tree) (task : TaskTree) (m : Marked) → m.index_fields ≡ (marked_by_task tree task).index_fields →
+    (m.keeps ≡ true → keeping ≡ true) → WithinLimits tree → breaches tree ≡ [] → is_local_program tree ≡ true →
     (handing ≡ false → (i : ItemTree) → Has tree i → (t : TaskTree) → i.form ≡ task_item t → TakesScalars t) →
     (keeping ≡ false → (i : ItemTree) → Has tree i → (s : FieldSpace) → i.form ≡ space_item s → are_scalar_params s.fields ≡ true) →
-    IsLocalTree handing keeping (marked_by_task tree task).index_fields tree
-local_tree handing keeping tree task within none e alone plain = record {
-  fields = space_has (HasFieldTerms keeping (marked_by_task tree task).index_fields) (λ f has. absurd (no_way_back has)) tree
-      (λ i h s same. space_terms keeping tree task i h s same
-      (subst (λ form. is_local_item tree form ≡ true) same (all_of (λ i. is_local_item tree i.form) tree e i h)) (λ q. plain q i h s same));
+    IsLocalTree handing keeping m tree
+local_tree handing keeping tree task m fields keeps within none e alone plain = record {
+  fields = space_has (HasFieldTerms keeping m.index_fields) (λ f has. absurd (no_way_back has)) tree
+      (λ i h s same. subst (λ ns. HasFieldTerms keeping ns s) (sym fields) (space_terms keeping tree task i h s same
+      (subst (λ form. is_local_item tree form ≡ true) same (all_of (λ i. is_local_item tree i.form) tree e i h)) (λ q. plain q i h s same)));
+  keeps = keeps;
   few = space_has (λ (s : FieldSpace). length s.fields ≤ 256) (omega (arith)) tree few_in;
   named = λ sp i low.
       let once = space_has (λ (s : FieldSpace). repeats (given_by s.fields) ≡ []) refl tree once_in sp in

@@ -33,12 +33,12 @@ use Rattle.check_rules.specs.scopes.Variables.{declared_type, is_flawed_initiali
 use Rattle.check_rules.specs.types.Fitting.{fits}
 use Rattle.check_rules.specs.types.KnownTypes.{known_type}
 use Rattle.code_rules.specs.Slots.{Where, typed}
-use Rattle.local_form.specs.LocalForm.{Marked, are_local_links, gives_scalar, is_among, is_kept_apart, is_local_expression, is_local_form, gives_pointer, is_name, keeps_pointer}
+use Rattle.local_form.specs.LocalForm.{Marked, are_local_links, gives_scalar, is_among, is_kept_apart, is_local_expression, is_local_form, gives_pointer, is_pointing, keeps_pointer}
 use Rattle.code_laws.specs.Handing.{forms_by, takes_by}
 use Rattle.code_laws.specs.Simple.{IsScalar, IsSimple}
 use Rattle.code_laws.specs.Steps.{Forms}
 use Rattle.code_laws.specs.Taking.{IsFresh}
-use Rattle.code_laws.specs.Typed.{IsTyped, IsTypedForm, IsKeepable, IsPointing}
+use Rattle.code_laws.specs.Typed.{IsTyped, IsTypedForm, IsKeepable}
 use Rattle.code_laws.proofs.Wider.{begun_so}
 use Rattle.code_laws.proofs.KnownHeads.{IsReady, KnowsHead, head_made, head_named}
 use Rattle.code_laws.proofs.LocalPoints.{IsWell}
@@ -51,22 +51,19 @@ use Rattle.code_laws.proofs.Values.{scalar_simple}
 use Rattle.scalar_form.specs.ScalarForm.{is_scalar_if_said, is_scalar_term}
 use Rattle.code_laws.proofs.LocalValues.{IsValue, alike_begins, owned_value, simple_keepable, simple_no_pointer, value_pointer, value_simple, value_space, value_tells}
 use Rattle.code_laws.specs.Pointers.{IsPointer, a_pointer_type}
-use Rattle.code_laws.proofs.LocalParts.{named_alone}
+use Rattle.code_laws.proofs.LocalElements.{points_by_form}
 
--- ---- a name's pointer
+-- ---- a name's pointer, or an element
 
-points_by_name : (w : Where) (e : Expression) → Falls w.scope.next w.scope.names → is_name e ≡ true → IsPointing w e
-points_by_name w e falls h = let n = named_alone e h in subst (IsPointing w) (sym n.1) falls
-
-value_keepable : (b : Bool) (w : Where) (e : Expression) (t : StaticType) → typed w e ≡ t → Falls w.scope.next w.scope.names → is_name e ≡ true →
+value_keepable : (b : Bool) (w : Where) (e : Expression) (t : StaticType) → typed w e ≡ t → Falls w.scope.next w.scope.names → is_pointing e ≡ true →
     IsValue b w.scope.names t → IsKeepable b w e
 value_keepable b w e t same falls h (value_simple _ a) = simple_keepable b w e (subst IsSimple (sym same) a)
 value_keepable false w e _ same falls h (value_pointer k sp args i q r) = absurd (no_way_back q)
 value_keepable true w e _ same falls h (value_pointer k sp args i q r) =
-    inr (subst IsPointer (sym same) (a_pointer_type k sp args _ tt), points_by_name w e falls h)
+    inr (subst IsPointer (sym same) (a_pointer_type k sp args _ tt), points_by_form w e falls h)
 
 module _ (handing keeping : Bool) (tree : Tree) (task : TaskTree) (sound : IsSound tree) (sound_task : IsSoundTask tree task) (m : Marked)
-    (local : IsLocalTree handing keeping m.index_fields tree) (params : ℕ) (result : is_scalar_if_said task.result ≡ true) where
+    (local : IsLocalTree handing keeping m tree) (params : ℕ) (result : is_scalar_if_said task.result ≡ true) where
   abbrev pub forms : Forms
   forms = forms_by handing keeping tree task
 
@@ -123,7 +120,7 @@ module _ (handing keeping : Bool) (tree : Tree) (task : TaskTree) (sound : IsSou
   VarTyped s line n t i = IsTypedForm forms (at s line) (var_form n t i) × IsKept keeping m s.names n s.next (var_type tree s t i)
       × KnowsHead tree task (scope_after tree s (var_form n t i))
 
-  -- a variable begins with no pointer, or with a name's
+  -- a variable begins with no pointer, or with a name's or an element
   begins_plainly : (s : Scope) (line : ℕ) (n : Name) (y : Expression) (points : Bool) → gives_pointer m y ≡ points → (gives_scalar m y ≡ true) ⊎ (is_among m.indices n ≡ true) →
       keeps_pointer m n y ≡ true → (scope : IsSoundScope s) (ready : Ready s) →
       IsWell handing keeping task (at s line) sound sound_task m local scope ready.names ready.head y →
@@ -135,7 +132,7 @@ module _ (handing keeping : Bool) (tree : Tree) (task : TaskTree) (sound : IsSou
             (λ h. kept_value (type_of tree s y) (value_simple (type_of tree s y) simple) h (λ p. absurd (no_way (sym p ∙ simple_no_pointer (type_of tree s y) simple)))) marked,
       )
   begins_plainly s line n y true some marked keeps scope ready a =
-      let copy = and_parts (is_name y) (is_among m.pointers n) (subst (λ b. (not b || (is_name y && is_among m.pointers n)) ≡ true) some keeps) in (
+      let copy = and_parts (is_pointing y) (is_among m.pointers n) (subst (λ b. (not b || (is_pointing y && is_among m.pointers n)) ≡ true) some keeps) in (
         value_keepable keeping (at s line) y (type_of tree s y) refl scope.numbers copy.0 a.value,
         ⊎_elim (λ h. kept_scalar (type_of tree s y) (a.scalar h)) (λ h. kept_value (type_of tree s y) a.value h (λ p. copy.1)) marked,
       )
