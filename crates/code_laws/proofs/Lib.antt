@@ -71,6 +71,7 @@ pub mod LocalCalls
 pub mod LocalParts
 pub mod LocalPoints
 pub mod LocalElements
+pub mod LocalNulls
 pub mod LocalArguments
 pub mod LocalExpressions
 pub mod LocalVariables

@@ -4,6 +4,7 @@ use Rattle.std.proofs.lemmas.Bool.{and_parts, not-false, not-true}
 use Rattle.plain_values.proofs.Plain.{option_or_parts}
 use Rattle.regent_tree.specs.Accesses.{space_in}
 use Rattle.regent_tree.specs.Lookup.{is_bound}
+use Rattle.regent_tree.specs.Scopes.{bound_as, bound_to}
 use Rattle.regent_tree.specs.StaticTypes.{Reach}
 use Rattle.regent_tree.specs.Syntax.{Expression, Name, TaskTree, access_expr, at_step, call_expr, cast_expr, chain_expr, convert_expr, field_step, is_null_expr, no_step, null_expr, number_expr, prefix_expr, space_expr, truth_expr}
 use Rattle.regent_tree.specs.Typing.{reaches_of, taken_from, type_of_element}
@@ -32,12 +33,12 @@ use Rattle.code_laws.specs.Typed.{IsOwnRegion, IsPointing, IsTyped}
 use Rattle.code_laws.proofs.KnownHeads.{KnowsHead}
 use Rattle.code_laws.proofs.LocalNames.{AllKept, IsKept, IsLocalTree, kept_partition, kept_region, kept_scalar, kept_value, named_kept, taking_told, value_no_region}
 use Rattle.code_laws.proofs.LocalPoints.{IsWell, local_known, name_there}
-use Rattle.code_laws.proofs.LocalValues.{IsValue, bound_among, value_counts, value_pointer, value_simple}
+use Rattle.code_laws.proofs.LocalValues.{IsRegionAmong, IsValue, bound_among, value_counts, value_pointer, value_simple}
 use Rattle.code_laws.proofs.Typing.{no_way, no_way_back, stands_well}
 use Rattle.code_laws.proofs.Values.{scalar_simple}
 use Rattle.code_laws.proofs.Wider.{counting}
 
--- a name that stands alone, or an element, is a pointer of which the regions are known
+-- a name that stands alone, an element, null and a cast are pointers of which the regions are known
 pub points_by_form : (w : Where) (e : Expression) → Falls w.scope.next w.scope.names → is_pointing e ≡ true → IsPointing w e
 points_by_form w (access_expr n no_step) falls h = falls
 points_by_form w (access_expr n (at_step e no_step)) falls h = tt
@@ -51,9 +52,39 @@ points_by_form w (prefix_expr _ _) falls h = absurd (no_way_back h)
 points_by_form w (call_expr _ _) falls h = absurd (no_way_back h)
 points_by_form w (convert_expr _ _) falls h = absurd (no_way_back h)
 points_by_form w (is_null_expr _) falls h = absurd (no_way_back h)
-points_by_form w (null_expr _) falls h = absurd (no_way_back h)
-points_by_form w (cast_expr _ _) falls h = absurd (no_way_back h)
+points_by_form w (null_expr _) falls h = tt
+points_by_form w (cast_expr _ _) falls h = tt
 points_by_form w (space_expr _ _) falls h = absurd (no_way_back h)
+
+-- ---- a name that is bound to a region under its own number
+
+module _ (next : ℕ) (bs : List Bound) (falls : Falls next bs) (n : Name) (there : is_bound bs n ≡ true) (k : Kind) (sp : ℕ) (args : List Reach)
+    (same : (bound_to bs n).static_type ≡ region_type k sp args (place.Name (bound_to bs n).number)) where
+  pub region_bound : IsRegion (bound_to bs n).static_type
+  region_bound = subst IsRegion (sym same) (a_region_type k sp args (place.Name (bound_to bs n).number))
+
+  pub region_found : bound_as bs (bound_to bs n).number ≡ bound_to bs n
+  region_found = (found_by_number next bs n falls there).0
+
+  pub region_typed : IsRegion (bound_as bs (bound_to bs n).number).static_type
+  region_typed = subst IsRegion (sym (ap (λ (c : Bound). c.static_type) region_found)) region_bound
+
+  pub region_among : IsRegionAmong bs (bound_to bs n).number
+  region_among = record { named = bound_to bs n; among = bound_among bs n there; number = refl; region = region_bound; term = ap term_in same }
+
+pub own_region : (w : Where) → Falls w.scope.next w.scope.names → (n : Name) → is_bound w.scope.names n ≡ true → (k : Kind) (sp : ℕ) (args : List Reach) →
+    (bound w n).static_type ≡ region_type k sp args (place.Name (bound w n).number) → IsOwnRegion w (bound w n) (bound w n).static_type
+own_region w falls n there k sp args same =
+    let found = region_found w.scope.next w.scope.names falls n there k sp args same in record {
+      number = (bound w n).number;
+      numbered = ap (λ (c : Bound). c.number) found;
+      place = ap (λ (c : Bound). c.place) found;
+      typed = region_typed w.scope.next w.scope.names falls n there k sp args same;
+      space = ap (λ (c : Bound). space_in c.static_type) found;
+      is = ap (λ t. reaches_of (taken_from t)) same;
+    }
+
+-- ---- elements
 
 module _ (handing keeping : Bool) (task : TaskTree) (w : Where) (sound : IsSound w.tree) (sound_task : IsSoundTask w.tree task) (m : Marked)
     (local : IsLocalTree handing keeping m w.tree) (scope : IsSoundScope w.scope) (names : AllKept keeping m w.scope.names) (head : KnowsHead w.tree task w.scope) where
@@ -69,24 +100,13 @@ module _ (handing keeping : Bool) (task : TaskTree) (w : Where) (sound : IsSound
   -- of a name that is bound to a region under its own number
   of_region : (n : Name) (e : Expression) → is_bound w.scope.names n ≡ true → keeping ≡ true → (k : Kind) (sp : ℕ) (args : List Reach) →
       (bound w n).static_type ≡ region_type k sp args (place.Name (bound w n).number) → IsTyped forms w e → IsCounting (typed w e) → Well (element n e)
-  of_region n e there keeps k sp args same is counts =
-      let b = bound w n in
-      let found = (found_by_number w.scope.next w.scope.names n scope.numbers there).0 in
-      let region : IsRegion b.static_type = subst IsRegion (sym same) (a_region_type k sp args (place.Name b.number)) in
-      let own : IsOwnRegion w b b.static_type = record {
-        number = b.number;
-        numbered = ap (λ (c : Bound). c.number) found;
-        place = ap (λ (c : Bound). c.place) found;
-        typed = subst IsRegion (sym (ap (λ (c : Bound). c.static_type) found)) region;
-        space = ap (λ (c : Bound). space_in c.static_type) found;
-        is = ap (λ t. reaches_of (taken_from t)) same;
-      } in record {
-        is = (keeps, is, counts, there, region, own);
-        value = subst (λ t. IsValue keeping w.scope.names (type_of_element w.scope t e)) (sym same) (value_pointer k sp args b.number keeps
-            (record { named = b; among = bound_among w.scope.names n there; number = refl; region = region; term = ap term_in same }));
-        scalar = λ q. absurd (no_way_back q);
-        plain = λ q. absurd (no_way q);
-      }
+  of_region n e there keeps k sp args same is counts = record {
+    is = (keeps, is, counts, there, region_bound w.scope.next w.scope.names scope.numbers n there k sp args same, own_region w scope.numbers n there k sp args same);
+    value = subst (λ t. IsValue keeping w.scope.names (type_of_element w.scope t e)) (sym same)
+        (value_pointer k sp args (bound w n).number keeps (region_among w.scope.next w.scope.names scope.numbers n there k sp args same));
+    scalar = λ q. absurd (no_way_back q);
+    plain = λ q. absurd (no_way q);
+  }
 
   of_kept : (n : Name) (e : Expression) → is_bound w.scope.names n ≡ true → keeping ≡ true → is_among m.partitions n ≡ false →
       (t : StaticType) → (bound w n).static_type ≡ t → IsKept keeping m w.scope.names n (bound w n).number t →

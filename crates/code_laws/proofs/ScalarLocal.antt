@@ -10,8 +10,9 @@ use Rattle.regent_tree.specs.declared.statement.How.{How}
 use Rattle.regent_tree.specs.declared.statement.How.TheVariants as how
 use Rattle.regent_tree.specs.declared.types.Param.{Param}
 use Rattle.regent_tree.specs.declared.types.TypeTerm.{TypeTerm}
+use Rattle.regent_tree.specs.declared.types.NumberTerm.TheVariants as number
 use Rattle.regent_tree.specs.declared.types.TypeTerm.TheVariants as term
-use Rattle.local_form.specs.LocalForm.{Marked, gives_pointer, is_difference, is_partition_name, keeps_pointer, is_pointing, takes_partition_off, takes_value, with_either, with_partition, are_local_arms, are_local_expressions, are_local_links, are_local_params, are_scalar_params, gives_scalar, is_local_block, is_local_else, is_local_expression, is_local_form, is_local_item, is_local_program, is_local_task, is_region_term, links_give, marked_by, marked_by_arms, marked_by_else, marked_by_item, marked_by_items, marked_by_task, marked_in, marked_params, unmarked, with_region}
+use Rattle.local_form.specs.LocalForm.{Marked, gives_pointer, is_difference, is_partition_name, keeps_pointer, is_kept_term, is_pointing, marked_by_term, takes_partition_off, takes_value, with_either, with_partition, are_local_arms, are_local_expressions, are_local_links, are_local_params, are_scalar_params, gives_scalar, is_local_block, is_local_else, is_local_expression, is_local_form, is_local_item, is_local_program, is_local_task, is_region_term, links_give, marked_by, marked_by_arms, marked_by_else, marked_by_item, marked_by_items, marked_by_task, marked_in, marked_params, unmarked, with_region}
 use Rattle.code_laws.specs.LocalPrograms.{has_no_pointer, keeps_nothing, takes_scalars}
 use Rattle.code_laws.proofs.Typing.{no_way_back}
 use Rattle.scalar_form.specs.ScalarForm.{are_scalar_arms, are_scalar_expressions, are_scalar_links, is_empty, is_scalar_block, is_scalar_else, is_scalar_expression, is_scalar_form, is_scalar_if_said, is_scalar_item, is_scalar_number, is_scalar_program, is_scalar_task, is_scalar_term}
@@ -96,8 +97,8 @@ module _ (keeping : Bool) where
   none_points (call_expr _ _) sc = refl
   none_points (convert_expr _ _) sc = refl
   none_points (is_null_expr _) sc = refl
-  none_points (null_expr _) sc = refl
-  none_points (cast_expr _ _) sc = refl
+  none_points (null_expr _) sc = absurd (no_way_back sc)
+  none_points (cast_expr _ _) sc = absurd (no_way_back sc)
   none_points (space_expr _ _) sc = refl
 
   -- nor for a partition
@@ -129,13 +130,24 @@ module _ (keeping : Bool) where
   no_difference (cast_expr _ _) = refl
   no_difference (space_expr _ _) = refl
 
+  -- a variable that is a number or truth
+  scalar_kept : (n : Name) (t : TypeTerm) → is_scalar_term t ≡ true → (is_kept_term bare n t ≡ true) × (marked_by_term n t bare ≡ bare)
+  scalar_kept n (term.Number number.Int32) sc = (refl, refl)
+  scalar_kept n (term.Number number.Int64) sc = (refl, refl)
+  scalar_kept n (term.Number (number.Index k)) sc = absurd (no_way_back sc)
+  scalar_kept n term.Truth sc = (refl, refl)
+  scalar_kept n (term.Pointer p) sc = absurd (no_way_back sc)
+  scalar_kept n (term.Ispace k) sc = absurd (no_way_back sc)
+  scalar_kept n (term.Region k u) sc = absurd (no_way_back sc)
+  scalar_kept n (term.Partition d r c) sc = absurd (no_way_back sc)
+
   -- a statement is such, and marks no name
   abbrev IsLocalForm : Form → Type 0
   IsLocalForm form = (is_local_form bare form ≡ true) × (marked_by form bare ≡ bare)
 
   var_local : (n : Name) (t : Option TypeTerm) (i : Option Initializer) → is_scalar_form (var_form n t i) ≡ true → IsLocalForm (var_form n t i)
   var_local n None None sc = (refl, refl)
-  var_local n (Some t) None sc = ((and_parts (is_scalar_term t) true sc).0, refl)
+  var_local n (Some t) None sc = scalar_kept n t (and_parts (is_scalar_term t) true sc).0
   var_local n None (Some (plain_initializer e)) sc =
       let a = expression_local e sc in (
         ap (λ b. (b || false) && (keeps_pointer bare n e && ((is_difference bare e && false) || is_local_expression bare e))) a.1
@@ -146,7 +158,8 @@ module _ (keeping : Bool) where
       )
   var_local n (Some t) (Some (plain_initializer e)) sc =
       let s = and_parts (is_scalar_term t) (is_scalar_expression e) sc in
-      (both_true (is_scalar_term t) (is_local_expression bare e) s.0 (expression_local e s.1).0, refl)
+      let k = scalar_kept n t s.0 in
+      (both_true (is_kept_term bare n t) (is_local_expression bare e) k.0 (expression_local e s.1).0, k.1)
   var_local n t (Some (region_initializer _ _)) sc = absurd (no_way_back (and_parts (is_scalar_if_said t) false sc).1)
   var_local n t (Some (equal_initializer _ _)) sc = absurd (no_way_back (and_parts (is_scalar_if_said t) false sc).1)
   var_local n t (Some (by_field_initializer _ _ _)) sc = absurd (no_way_back (and_parts (is_scalar_if_said t) false sc).1)

@@ -31,12 +31,13 @@ pub fn gives_scalar(marked: &Marked<'_>, e: &Expr) -> bool
         | Expr::Truth(_)
         | Expr::Prefix { .. }
         | Expr::Call { .. }
-        | Expr::Convert { .. } => true,
+        | Expr::Convert { .. }
+        | Expr::IsNull(_) => true,
         Expr::Chain { first, rest } => {
             links_give(marked, gives_scalar(marked, first), rest.as_slice())
         }
         Expr::Access { name, steps } => access_gives(marked, name, steps.as_slice()),
-        Expr::IsNull(_) | Expr::Null(_) | Expr::Cast { .. } | Expr::Space { .. } => false,
+        Expr::Null(_) | Expr::Cast { .. } | Expr::Space { .. } => false,
     }
 }
 
@@ -66,13 +67,15 @@ fn access_points(marked: &Marked<'_>, name: &Name, steps: &[Step]) -> bool
     }
 }
 
-/// Whether an expression may give a pointer: a name that may stand for one, or an element, alone or as all of a chain.
+/// Whether an expression may give a pointer: a name that may stand for one, an element, null or what is cast, alone or as
+/// all of a chain.
 #[cycle(pointing)]
 pub fn gives_pointer(marked: &Marked<'_>, e: &Expr) -> bool
     ensures { result ≡ gives_pointer marked.now (expression_of e.now) }
 {
     match e {
         Expr::Access { name, steps } => access_points(marked, name, steps.as_slice()),
+        Expr::Null(_) | Expr::Cast { .. } => true,
         Expr::Chain { first, rest } => chain_points(marked, first, rest.as_slice()),
         _ => false,
     }
@@ -99,12 +102,13 @@ fn access_is_pointing(name: &Name, steps: &[Step]) -> bool
     }
 }
 
-/// Whether an expression is such.
+/// Whether an expression is such, or null, or a cast.
 pub fn is_pointing(e: &Expr) -> bool
     ensures { result ≡ is_pointing (expression_of e.now) }
 {
     match e {
         Expr::Access { name, steps } => access_is_pointing(name, steps.as_slice()),
+        Expr::Null(_) | Expr::Cast { .. } => true,
         _ => false,
     }
 }

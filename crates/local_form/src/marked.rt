@@ -1,6 +1,6 @@
 //! The names that a task marks.
 
-ghost use Rattle.std.specs.Prelude.{◌≡◌, List, OnOk, bytes_eq, map, ℕ};
+ghost use Rattle.std.specs.Prelude.{◌≡◌, ◌&&◌, List, OnOk, bytes_eq, map, ℕ};
 ghost use Rattle.local_form.specs.LocalForm.{is_among, is_kept_apart, takes_element, takes_value, unmarked};
 ghost use Rattle.local_form.specs.LocalForm.{with_either, with_index, with_index_field, with_partition};
 ghost use Rattle.local_form.specs.LocalForm.{with_pointer, with_region};
@@ -91,6 +91,13 @@ impl<'t> Marked<'t> {
 
     pub fn is_index(&self, name: &Name) -> bool
         ensures { result ≡ is_among self.now.indices name.now }
+    {
+        is_among(self.indices.as_slice(), name)
+    }
+
+    /// Whether a name may stand for an index that is kept.
+    pub fn keeps_index(&self, name: &Name) -> bool
+        ensures { result ≡ (self.now.keeps && is_among self.now.indices name.now) }
     {
         is_among(self.indices.as_slice(), name)
     }

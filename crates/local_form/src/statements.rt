@@ -15,8 +15,8 @@ use crate::expressions::{
 };
 use crate::giving::{gives_pointer, gives_scalar, is_pointing};
 use crate::marked::Marked;
+use crate::terms::is_kept_term;
 use regent_tree::{Arm, Expr, How, Init, Name, Step, Stmt, TypeTerm, What};
-use scalar_form::{is_scalar_if_said, is_scalar_term};
 
 /// Whether a variable that begins with what may be a pointer is a copy of a name or an element, and known as such.
 fn keeps_pointer(marked: &Marked<'_>, name: &Name, value: &Expr) -> bool
@@ -45,9 +45,10 @@ fn is_local_variable(
         (var_form name.now term.now (option_map initializer_of init.now)) }
 {
     match (term, init) {
-        (term, None) => is_scalar_if_said(term),
+        (None, None) => true,
+        (Some(term), None) => is_kept_term(marked, name, term),
         (Some(term), Some(Init::Plain(value))) => {
-            is_scalar_term(term) && is_local_expression(marked, value)
+            is_kept_term(marked, name, term) && is_local_expression(marked, value)
         }
         (None, Some(Init::Plain(value))) => {
             (gives_scalar(marked, value) || marked.is_index(name))
