@@ -70,6 +70,8 @@ pub mod LocalGiven
 pub mod LocalCalls
 pub mod LocalParts
 pub mod LocalPoints
+pub mod LocalElements
+pub mod LocalNulls
 pub mod LocalArguments
 pub mod LocalExpressions
 pub mod LocalVariables

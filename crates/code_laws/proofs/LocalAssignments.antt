@@ -1,6 +1,6 @@
 -- Assignments in a text with marked names, of which no breach is told, are typed.
-use Rattle.std.proofs.Common.{◌≡◌, Bool, [], None, false, true, ap, subst, sym, ℕ, ◌∙◌, not, ◌||◌}
-use Rattle.std.specs.Prelude.{cond}
+use Rattle.std.proofs.Common.{◌≡◌, Bool, [], None, false, true, ap, subst, sym, ℕ, ◌∙◌, not, ◌||◌, inl, inr, ⊎_elim}
+use Rattle.std.specs.Prelude.{cond, length, nat_lt}
 use Rattle.std.proofs.lemmas.Bool.{and_parts, not-false, or_parts}
 use Rattle.plain_values.proofs.Plain.{option_or_parts}
 use Rattle.lane_kernels.specs.declared.numbers.Op.{Op}
@@ -26,27 +26,28 @@ use Rattle.check_rules.specs.first.Rules.{rule_if}
 use Rattle.check_rules.specs.rules.Privileges.{lacks, wanted_of_step}
 use Rattle.check_rules.specs.rules.Standing.{integer_spot, stands, typed_spot}
 use Rattle.check_rules.specs.rules.Statements.{spot_of_target}
-use Rattle.check_rules.specs.rules.Targets.{is_no_target, mistargets}
+use Rattle.check_rules.specs.rules.Targets.{is_fixed, is_no_integer, is_no_target, mistargets}
 use Rattle.check_rules.specs.rules.Types.{may_stand}
 use Rattle.check_rules.specs.scopes.Sound.{IsSound, IsSoundTask}
 use Rattle.check_rules.specs.types.KnownTypes.{known_type, known_type_after_step}
 use Rattle.check_rules.specs.types.Params.{type_unless}
-use Rattle.check_rules.specs.types.Sorts.{is_integer, is_space, may_be}
+use Rattle.check_rules.specs.types.Sorts.{is_collection, is_integer, is_space, may_be}
 use Rattle.check_rules.specs.types.TypedForms.{element_of, field_of}
 use Rattle.code_rules.specs.Slots.{Where}
-use Rattle.local_form.specs.LocalForm.{Marked, is_among, is_kept_apart, is_local_expression, is_local_form}
+use Rattle.local_form.specs.LocalForm.{Marked, is_among, is_kept_apart, is_local_expression, is_local_form, takes_value}
 use Rattle.code_laws.specs.Handing.{forms_by}
 use Rattle.code_laws.specs.Simple.{IsPartition, a_partition_type}
 use Rattle.code_laws.specs.Steps.{Forms}
 use Rattle.code_laws.specs.Typed.{GoesThrough, IsTyped, IsTypedForm, MayTouch, element_field, IsBehind, IsFieldOf, MayGo, field_behind}
 use Rattle.code_laws.proofs.KnownHeads.{IsReady}
 use Rattle.code_laws.proofs.LocalPoints.{at_point, behind_name, gone, is_behind, touched}
-use Rattle.code_laws.proofs.LocalValues.{alike_assigned, value_fitting, value_integer}
+use Rattle.code_laws.proofs.LocalValues.{value_assigned, value_integer}
 use Rattle.code_laws.specs.Pointers.{CountsAs}
 use Rattle.code_laws.proofs.Privileges.{mode_in}
 use Rattle.code_laws.proofs.LocalFields.{IsHeld, held_goes, held_into, held_simple}
 use Rattle.code_laws.proofs.LocalNames.{kept_integer, IsLocalTree, kept_as_value, named_kept, named_place, taking_told, value_kept}
-use Rattle.code_laws.proofs.LocalTypes.{simple_as_integer}
+use Rattle.code_laws.proofs.LocalParts.{and_then}
+use Rattle.code_laws.proofs.LocalTypes.{either, simple_as_integer}
 use Rattle.code_laws.proofs.TypedStatements.{first_stands, told_later, told_privileges}
 use Rattle.code_laws.proofs.Typing.{AreKept, no_way}
 use Rattle.scalar_form.specs.ScalarForm.{is_scalar_if_said}
@@ -54,7 +55,7 @@ use Rattle.code_laws.proofs.LocalVariables.{at, headed, stands_as}
 use Rattle.regent_tree.specs.declared.typing.StaticType.{StaticType}
 
 module _ (handing keeping : Bool) (tree : Tree) (task : TaskTree) (sound : IsSound tree) (sound_task : IsSoundTask tree task) (m : Marked)
-    (local : IsLocalTree handing keeping m.index_fields tree) (params : ℕ) (result : is_scalar_if_said task.result ≡ true) where
+    (local : IsLocalTree handing keeping m tree) (params : ℕ) (result : is_scalar_if_said task.result ≡ true) where
   abbrev forms : Forms
   forms = forms_by handing keeping tree task
 
@@ -69,21 +70,26 @@ module _ (handing keeping : Bool) (tree : Tree) (task : TaskTree) (sound : IsSou
       IsTypedForm forms (here s line) (assign_form n no_step how.Set y)
   set_local s line n y lo k scope names e =
       let form = assign_form n no_step how.Set y in
-      let one = and_parts (not (is_kept_apart m n)) _ lo in
-      let two = and_parts (not (is_among m.indices n)) (is_local_expression m y) one.1 in
+      let both = and_parts (takes_value m n) (is_local_expression m y) lo in
+      let takes = and_parts (m.keeps || not (is_among m.indices n)) (not (is_kept_apart m n)) both.0 in
       let parts = told_of_form tree task s sound scope form e in
       let told = (option_or_parts (first_in_expression tree task s y) _ parts.2).0 in
-      let a = headed handing keeping tree task sound sound_task m local params result s line y two.1 k scope names told in
+      let a = headed handing keeping tree task sound sound_task m local params result s line y both.1 k scope names told in
       let target = option_or_parts (rule_if (not (is_bound s.names n)) rule.Name) _ (target_of_form tree task s sound scope form e) in
       let there = not-false (is_bound s.names n) (rule_none (not (is_bound s.names n)) rule.Name target.0) in
       let u = (bound_to s.names n).static_type in
       let i = (bound_to s.names n).number in
       let kept = named_kept keeping m s.names n names.names there in
-      let scalar = value_kept keeping m s.names n i u kept two.0 (kept_as_value keeping m s.names n i u kept one.0) in
+      let value = kept_as_value keeping m s.names n i u kept takes.1 in
+      let kind = ⊎_elim (λ q. inl (local.keeps q)) (λ q. inr (value_kept keeping m s.names n i u kept q value))
+      (either m.keeps (not (is_among m.indices n)) takes.0) in
       let spot = ap (λ b. typed_spot (cond b unknown_type u)) (told_later tree task s form e).0 in
       let fit = stands_as handing keeping tree task sound sound_task m local params result s y (typed_spot u) scope told (subst (λ p. may_stand s.known (stands (known_type tree s y) p) ≡ true) spot
       (first_stands s.known (stands (known_type tree s y) (spot_of_target (mistargets task s.names n no_step how.Set u) how.Set u)) [] parts.4).0) in
-      (alike_assigned keeping (type_of tree s y) u (value_fitting keeping s.names s.known (type_of tree s y) u a.value scalar fit), a.is, there)
+      let free = and_then (is_bound s.names n) (is_fixed task (bound_to s.names n)) there
+      (or_parts (is_no_target task s.names n no_step u) (is_no_integer how.Set u) (told_later tree task s form e).0).0 in
+      let plain = (or_parts ((bound_to s.names n).by_loop || nat_lt (bound_to s.names n).number (length task.params)) (is_collection u) free).1 in
+      (value_assigned keeping s.names s.known (type_of tree s y) u a.value value kind plain fit, a.is, there)
 
   pub reduce_local : (s : Scope) (line : ℕ) (n : Name) (o : Op) (y : Expression) → is_local_expression m y ≡ true → AreKept (parts_of_expression y) →
       IsSoundScope s → Ready s → first_of_form tree task s (assign_form n no_step (how.Reduce o) y) ≡ None →

@@ -4,9 +4,9 @@ use Rattle.std.specs.List.{list_any}
 use Rattle.std.proofs.lemmas.Bool.{and_parts}
 use Rattle.plain_values.proofs.Plain.{option_or_parts}
 use Rattle.regent_tree.specs.Limits.{node, nodes, parts_of_arms, parts_of_block, parts_of_expression, parts_of_form, parts_of_otherwise}
-use Rattle.regent_tree.specs.Scopes.{Scope, known_of_type, past, with_name, in_scope}
+use Rattle.regent_tree.specs.Scopes.{Scope, past, with_name}
 use Rattle.regent_tree.specs.Syntax.{Arms, Block, Expression, Form, Initializer, Name, Otherwise, Steps, TaskTree, Tree, a_statement, an_arm, assert_form, assign_form, at_step, both_initializer, by_field_initializer, call_form, do_form, either_initializer, else_block, equal_initializer, field_step, fill_form, for_in_form, for_to_form, if_form, image_initializer, no_arm, no_else, no_statement, no_step, plain_initializer, preimage_initializer, print_form, region_initializer, return_form, then_statement, var_form, while_form}
-use Rattle.regent_tree.specs.Typing.{arithmetic_type, scope_after, scope_after_arms, scope_after_block, scope_after_else, taken_from, type_of, var_type}
+use Rattle.regent_tree.specs.Typing.{arithmetic_type, scope_after, scope_after_arms, scope_after_block, scope_after_else, taken_from, type_of}
 use Rattle.regent_tree.specs.declared.statement.How.TheVariants as how
 use Rattle.regent_tree.specs.declared.types.TypeTerm.{TypeTerm}
 use Rattle.check_laws.proofs.Blocks.{count_scope, loop_scope}
@@ -28,22 +28,19 @@ use Rattle.local_form.specs.LocalForm.{Marked, are_local_arms, is_among, is_loca
 use Rattle.code_laws.specs.Handing.{forms_by}
 use Rattle.code_laws.specs.Steps.{Forms}
 use Rattle.code_laws.specs.Typed.{AreTypedArms, IsTypedBlock, IsTypedElse, IsTypedForm}
-use Rattle.code_laws.proofs.KnownHeads.{IsReady, KnowsHead, head_looping, head_named, head_past}
+use Rattle.code_laws.proofs.KnownHeads.{IsReady, KnowsHead, head_looping, head_past}
 use Rattle.code_laws.proofs.LocalNames.{AllKept, IsLocalTree, kept_scalar}
 use Rattle.code_laws.proofs.LocalAssignments.{reduce_behind_local, reduce_field_local, reduce_local, set_behind_local, set_field_local, set_local}
 use Rattle.code_laws.proofs.LocalStatements.{bound_local, call_local, domain_local, fill_local, print_local, return_local, test_local}
-use Rattle.code_laws.proofs.LocalValues.{scalar_begins, value_simple, value_tells}
 use Rattle.code_laws.proofs.LocalDifferences.{begun_local}
 use Rattle.code_laws.proofs.LocalCuts.{both_local, by_field_local, either_local, equal_local}
 use Rattle.code_laws.proofs.LocalImages.{image_local, preimage_local}
-use Rattle.code_laws.proofs.LocalVariables.{at, region_local, said_local}
-use Rattle.code_laws.proofs.LocalTypes.{term_scalar}
+use Rattle.code_laws.proofs.LocalVariables.{at, region_local, said_local, unset_local}
 use Rattle.code_laws.proofs.Names.{Grown, arms_names, block_grown, else_names}
 use Rattle.regent_tree.proofs.Members.{Has, Has-append_right}
 use Rattle.regent_tree.specs.declared.typing.Bound.{Bound}
 use Rattle.regent_tree.specs.declared.typing.StaticType.{StaticType}
 use Rattle.code_laws.proofs.TypedStatements.{first_stands, sum_scalar}
-use Rattle.code_laws.proofs.Values.{scalar_simple}
 use Rattle.code_laws.proofs.Typing.{AreKept, kept_behind, kept_left, kept_right, no_way, no_way_back}
 use Rattle.scalar_form.specs.ScalarForm.{is_scalar_if_said}
 
@@ -52,7 +49,7 @@ grown_has : {before after : List Bound} → Grown before after → (b : Bound) �
 grown_has {before = before} g b h = subst (λ bs. Has bs b) (sym g.are) (Has-append_right g.more before b h)
 
 module _ (handing keeping : Bool) (tree : Tree) (task : TaskTree) (sound : IsSound tree) (sound_task : IsSoundTask tree task) (m : Marked)
-    (local : IsLocalTree handing keeping m.index_fields tree) (keeps : (n : Name) → (is_among m.pointers n ≡ true) ⊎ (is_among m.partitions n ≡ true) → keeping ≡ true) (hands : keeping ≡ true → handing ≡ true)
+    (local : IsLocalTree handing keeping m tree) (keeps : (n : Name) → (is_among m.pointers n ≡ true) ⊎ (is_among m.partitions n ≡ true) → keeping ≡ true) (hands : keeping ≡ true → handing ≡ true)
     (params : ℕ) (result : is_scalar_if_said task.result ≡ true) where
   abbrev forms : Forms
   forms = forms_by handing keeping tree task
@@ -95,14 +92,7 @@ module _ (handing keeping : Bool) (tree : Tree) (task : TaskTree) (sound : IsSou
   var_local s line n (Some t) (Some (plain_initializer y)) lo k scope names e =
       let v = said_local handing keeping tree task sound sound_task m local params result s line n t y lo k scope names e in (v.0, record { names = (v.1, names.names); head = v.2 })
   var_local s line n (Some t) None lo k scope names e =
-      let q = term_scalar t lo tree (in_scope s) s.next in
-      let wanted = var_type tree s (Some t) None in (
-        scalar_begins keeping s.names wanted q,
-        record {
-          names = (kept_scalar wanted q, names.names);
-          head = head_named tree task s n wanted (known_of_type wanted) names.head (value_tells keeping s.names s.next wanted (value_simple wanted (scalar_simple wanted q))).2;
-        },
-      )
+      let v = unset_local handing keeping tree task sound sound_task m local params result s line n t lo scope names e in (v.0, record { names = (v.1, names.names); head = v.2 })
   var_local s line n None None lo k scope names e = absurd (no_way (told_of_form tree task s sound scope (var_form n None None) e).1)
   var_local s line n None (Some (equal_initializer r y)) lo k scope names e =
       let v = equal_local handing keeping tree task sound sound_task m local params result (λ q h. keeps q (inr h)) s line n r y lo k scope names e in

@@ -357,7 +357,7 @@ module _ (keeping : Bool) (task : TaskTree) (w : Where) (sound : IsSound w.tree)
     calls_handed at = (at, all_met keeping (Some y) w args (task_code w.tree t).needs met, all_parted keeping y w args (pairs_in (scope_of w.tree t).known) parted)
 
 -- with regions that are handed over, or without
-pub may_call : (handing keeping : Bool) (task : TaskTree) (w : Where) → IsSound w.tree → IsSoundTask w.tree task → (m : Marked) → IsLocalTree handing keeping m.index_fields w.tree →
+pub may_call : (handing keeping : Bool) (task : TaskTree) (w : Where) → IsSound w.tree → IsSoundTask w.tree task → (m : Marked) → IsLocalTree handing keeping m w.tree →
     IsSoundScope w.scope → AllKept keeping m w.scope.names → KnowsHead w.tree task w.scope → (n : Name) (args : Expressions) → IsLocalTask handing w.tree n →
     first_in_args w.tree task w.scope args ≡ None → IsFlawless w.tree task w.scope (calling n (known_types w.tree w.scope args)) →
     ArePassed (forms_by handing keeping w.tree task) w (params_at w.tree w.scope (task_named w.tree n) args) (param_types w.tree (task_named w.tree n)) args →

@@ -54,7 +54,7 @@ pub parents_same : (t u : StaticType) → IsPartition t → IsPartition u → ha
 parents_same _ _ (a_partition_type d r p) (a_partition_type e s q) h = eqb-true r s (not-false _ h)
 
 module _ (handing keeping : Bool) (tree : Tree) (task : TaskTree) (sound : IsSound tree) (sound_task : IsSoundTask tree task) (m : Marked)
-    (local : IsLocalTree handing keeping m.index_fields tree) (params : ℕ) (result : is_scalar_if_said task.result ≡ true) (keeps : (q : Name) → is_among m.partitions q ≡ true → keeping ≡ true) where
+    (local : IsLocalTree handing keeping m tree) (params : ℕ) (result : is_scalar_if_said task.result ≡ true) (keeps : (q : Name) → is_among m.partitions q ≡ true → keeping ≡ true) where
   abbrev forms : Forms
   forms = forms_by handing keeping tree task
 

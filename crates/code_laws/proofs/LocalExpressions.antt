@@ -4,7 +4,7 @@ use Rattle.std.specs.Prelude.{is_none, length, map, ◌&&◌, ◌||◌}
 use Rattle.std.specs.List.{list_any}
 use Rattle.std.proofs.lemmas.Bool.{and_parts, not-false, not-true, or_parts}
 use Rattle.plain_values.proofs.Plain.{option_or_parts}
-use Rattle.regent_tree.specs.Limits.{literal, node, nodes, parts_of_expression, parts_of_expressions, parts_of_links}
+use Rattle.regent_tree.specs.Limits.{literal, node, nodes, parts_of_expression, parts_of_expressions, parts_of_links, parts_of_pointer}
 use Rattle.regent_tree.specs.Lookup.{has_task, is_bound}
 use Rattle.regent_tree.specs.StaticTypes.{task_named}
 use Rattle.regent_tree.specs.Syntax.{Expression, Expressions, Links, Name, TaskTree, Tree, a_link, access_expr, an_expr, at_step, call_expr, cast_expr, chain_expr, convert_expr, field_step, is_null_expr, no_expr, no_link, no_step, null_expr, number_expr, prefix_expr, space_expr, truth_expr}
@@ -29,12 +29,14 @@ use Rattle.check_rules.specs.types.TypedForms.{calling, computing, element_of, f
 use Rattle.check_rules.specs.declared.rule.Rule.TheVariants as rule
 use Rattle.check_rules.proofs.Untold.{rule_none}
 use Rattle.code_rules.specs.Slots.{Where, bound, typed}
-use Rattle.local_form.specs.LocalForm.{Marked, are_local_arguments, are_local_expressions, are_local_links, gives_scalar, is_among, is_local_expression, is_name, is_part, links_give, gives_pointer}
+use Rattle.local_form.specs.LocalForm.{Marked, are_local_arguments, are_local_expressions, are_local_links, gives_scalar, is_among, is_local_expression, is_name, is_part, links_give, gives_pointer, goes_to_name, takes_element}
 use Rattle.code_laws.specs.Handing.{forms_by}
 use Rattle.code_laws.specs.Simple.{IsPartition, IsScalar, IsSimple, a_partition_type, scalar_integer, scalar_truth, simple_space, simple_truth}
 use Rattle.code_laws.specs.Steps.{Forms}
 use Rattle.code_laws.specs.Typed.{AreNumbers, ArePassed, AreTypedLinks}
 use Rattle.code_laws.proofs.KnownHeads.{KnowsHead}
+use Rattle.code_laws.proofs.LocalElements.{element_well}
+use Rattle.code_laws.proofs.LocalNulls.{cast_well, is_null_well, null_well}
 use Rattle.code_laws.proofs.LocalParts.{and_then, given_result}
 use Rattle.code_laws.proofs.LocalNames.{AllKept, AreScalars, AreTakable, IsLocalTree, named_kept, named_place, no_partition_kept, kept_as_value, partition_keeps, partition_or}
 use Rattle.code_laws.proofs.LocalTypes.{operated_number, simple_computed}
@@ -48,7 +50,7 @@ use Rattle.code_laws.proofs.LocalPoints.{IsWell, at_point, behind_name, cut_name
 use Rattle.code_laws.proofs.LocalArguments.{IsArgument, IsCallWell, argument_of, call_well, given_one, name_well, part_of_name}
 
 module _ (handing keeping : Bool) (task : TaskTree) (w : Where) (sound : IsSound w.tree) (sound_task : IsSoundTask w.tree task) (m : Marked)
-    (local : IsLocalTree handing keeping m.index_fields w.tree) (scope : IsSoundScope w.scope) (names : AllKept keeping m w.scope.names) (head : KnowsHead w.tree task w.scope) where
+    (local : IsLocalTree handing keeping m w.tree) (scope : IsSoundScope w.scope) (names : AllKept keeping m w.scope.names) (head : KnowsHead w.tree task w.scope) where
   abbrev forms : Forms
   forms = forms_by handing keeping w.tree task
 
@@ -213,13 +215,21 @@ module _ (handing keeping : Bool) (task : TaskTree) (w : Where) (sound : IsSound
         }
     local_well (access_expr n (field_step _ (field_step _ _))) lo k e = absurd (no_way_back lo)
     local_well (access_expr n (field_step _ (at_step _ _))) lo k e = absurd (no_way_back lo)
-    local_well (access_expr n (at_step _ no_step)) lo k e = absurd (no_way_back lo)
+    local_well (access_expr n (at_step e no_step)) lo k none =
+        let s = and_parts (takes_element m n) (is_local_expression m e) lo in
+        let parts = kept_behind node (parts_of_expression e ++ []) (kept_behind node (node ∷ (parts_of_expression e ++ [])) k) in
+        element_well handing keeping task w sound sound_task m local scope names head n e s.0 none
+        (λ own. local_well e s.1 (kept_left (parts_of_expression e) [] parts) own)
     local_well (access_expr n (at_step _ (at_step _ _))) lo k e = absurd (no_way_back lo)
     local_well (access_expr n (at_step _ (field_step _ (field_step _ _)))) lo k e = absurd (no_way_back lo)
     local_well (access_expr n (at_step _ (field_step _ (at_step _ _)))) lo k e = absurd (no_way_back lo)
-    local_well (is_null_expr _) lo k e = absurd (no_way_back lo)
-    local_well (null_expr _) lo k e = absurd (no_way_back lo)
-    local_well (cast_expr _ _) lo k e = absurd (no_way_back lo)
+    local_well (is_null_expr e) lo k none =
+        is_null_well handing keeping task w sound sound_task m local scope names head e none (λ own. local_well e lo (kept_behind node (parts_of_expression e) k) own)
+    local_well (null_expr p) lo k none = null_well handing keeping task w sound sound_task m local scope names head p lo none
+    local_well (cast_expr p e) lo k none =
+        let s = and_parts (goes_to_name m p.regions) (is_local_expression m e) lo in
+        cast_well handing keeping task w sound sound_task m local scope names head p e s.0 none
+        (λ own. local_well e s.1 (kept_right (parts_of_pointer p) (parts_of_expression e) (kept_behind node (parts_of_pointer p ++ parts_of_expression e) k)) own)
 
     -- a part that stands as an argument
     local_part : (e : Expression) → is_part m e ≡ true → AreKept (parts_of_expression e) → first_in_expression w.tree task w.scope e ≡ None →

@@ -57,7 +57,7 @@ region_known : (t : StaticType) → IsRegion t → is_unknown_type t ≡ false
 region_known _ (a_region_type k sp args r) = refl
 
 module _ (handing keeping : Bool) (tree : Tree) (task : TaskTree) (sound : IsSound tree) (sound_task : IsSoundTask tree task) (m : Marked)
-    (local : IsLocalTree handing keeping m.index_fields tree) (params : ℕ) (result : is_scalar_if_said task.result ≡ true)
+    (local : IsLocalTree handing keeping m tree) (params : ℕ) (result : is_scalar_if_said task.result ≡ true)
     (keeps : (q : Name) → is_among m.partitions q ≡ true → keeping ≡ true) (hands : keeping ≡ true → handing ≡ true) where
   abbrev forms : Forms
   forms = forms_by handing keeping tree task

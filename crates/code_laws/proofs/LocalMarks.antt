@@ -14,7 +14,7 @@ use Rattle.regent_tree.specs.declared.types.Param.{Param}
 use Rattle.regent_tree.specs.declared.types.TypeTerm.{TypeTerm}
 use Rattle.regent_tree.specs.declared.types.TypeTerm.TheVariants as term
 use Rattle.check_laws.proofs.Parameters.{place_step}
-use Rattle.local_form.specs.LocalForm.{Marked, are_local_fields, are_scalar_params, gives_pointer, gives_scalar, is_among, is_difference, is_index_term, is_region_name, is_region_term, marked_by, marked_by_arms, marked_by_else, marked_by_item, marked_by_items, marked_by_task, marked_fields, marked_in, marked_params, unmarked, with_either, with_index_field, with_partition, with_region}
+use Rattle.local_form.specs.LocalForm.{Marked, are_local_fields, are_scalar_params, gives_pointer, gives_scalar, is_among, is_difference, is_index_term, is_region_name, is_region_term, marked_by, marked_by_arms, marked_by_else, marked_by_item, marked_by_items, marked_by_task, marked_by_term, marked_fields, marked_in, marked_params, unmarked, with_either, with_index_field, with_partition, with_region}
 use Rattle.code_laws.proofs.LocalFields.{IsFieldTerm, field_index, field_scalar}
 use Rattle.code_laws.proofs.Typing.{no_way_back}
 use Rattle.scalar_form.specs.ScalarForm.{is_scalar_term}
@@ -48,8 +48,19 @@ value_fields k e m = apart (is_difference m e) (gives_scalar m e)
     apart false true = refl
     apart false false = either_fields (gives_pointer m e) k m
 
+term_fields : (k : Name) (t : TypeTerm) (m : Marked) → Fields (marked_by_term k t m) ≡ Fields m
+term_fields k (term.Number (number.Index j)) m = refl
+term_fields k (term.Number number.Int32) m = refl
+term_fields k (term.Number number.Int64) m = refl
+term_fields k term.Truth m = refl
+term_fields k (term.Pointer p) m = refl
+term_fields k (term.Ispace j) m = refl
+term_fields k (term.Region j u) m = refl
+term_fields k (term.Partition d r c) m = refl
+
 mutual
   fields_stay : (form : Form) (m : Marked) → Fields (marked_by form m) ≡ Fields m
+  fields_stay (var_form k (Some t) i) m = term_fields k t m
   fields_stay (var_form k None (Some (plain_initializer e))) m = value_fields k e m
   fields_stay (var_form k None (Some (region_initializer e u))) m = refl
   fields_stay (var_form k None (Some (equal_initializer r e))) m = refl

@@ -73,9 +73,11 @@ pub record IsLocalTask (handing : Bool) (tree : Tree) (n : Name) : Type 0 where
   pub result : is_scalar_if_said (task_named tree n).result ≡ true
   pub alone : handing ≡ false → IsAlone tree (task_named tree n)
 
--- fields are numbers and truths, or indices and marked so, few, and each has a name of its own; and tasks are such
-pub record IsLocalTree (handing keeping : Bool) (marked : List Name) (tree : Tree) : Type 0 where
-  pub fields : (sp : ℕ) (f : Name) → has_field tree sp f ≡ true → IsFieldTerm keeping marked f (field_term tree sp (field_place tree sp f))
+-- fields are numbers and truths, or indices and marked so, few, and each has a name of its own; and tasks are such. Where
+-- indices and pointers are assigned, they are kept.
+pub record IsLocalTree (handing keeping : Bool) (m : Marked) (tree : Tree) : Type 0 where
+  pub fields : (sp : ℕ) (f : Name) → has_field tree sp f ≡ true → IsFieldTerm keeping m.index_fields f (field_term tree sp (field_place tree sp f))
+  pub keeps : m.keeps ≡ true → keeping ≡ true
   pub few : (sp : ℕ) → length (space_at tree sp).fields ≤ 256
   pub named : (sp i : ℕ) → i < length (space_at tree sp).fields → Has (fields_named tree sp None) i
   pub tasks : (n : Name) → has_task tree n ≡ true → IsLocalTask handing tree n
@@ -224,7 +226,7 @@ taking_told tree taking e =
     let c = option_or_parts _ _ b.1 in
     (rule_none (is_unknown_field tree taking) rule.Name a.0, rule_none (is_ill_typed_step taking) rule.Type b.0, c.0)
 
-module _ (handing keeping : Bool) (w : Where) (sound : IsSound w.tree) (m : Marked) (local : IsLocalTree handing keeping m.index_fields w.tree) where
+module _ (handing keeping : Bool) (w : Where) (sound : IsSound w.tree) (m : Marked) (local : IsLocalTree handing keeping m w.tree) where
   abbrev Kept : Name → ℕ → StaticType → Type 0
   Kept n i t = IsKept keeping m w.scope.names n i t
 
@@ -297,7 +299,7 @@ pub record IsAimed (keeping : Bool) (marked : List Name) (tree : Tree) (bs : Lis
   pub held : IsHeld keeping marked f (field_kind tree (space_in t) (field_place tree (space_in t) f)) (type_of_field tree t f)
   pub known : known_type_after_step tree (field_of t f) (type_of_field tree t f) ≡ type_of_field tree t f
 
-module _ (handing keeping : Bool) (tree : Tree) (sound : IsSound tree) (m : Marked) (local : IsLocalTree handing keeping m.index_fields tree) (bs : List Bound) (n : Name) (i : ℕ) where
+module _ (handing keeping : Bool) (tree : Tree) (sound : IsSound tree) (m : Marked) (local : IsLocalTree handing keeping m tree) (bs : List Bound) (n : Name) (i : ℕ) where
   -- a field is taken of a pointer
   aimed_value : (t : StaticType) (f : Name) → IsValue keeping bs t → first_of_taking tree (field_of t f) ≡ None → IsAimed keeping m.index_fields tree bs t f
   aimed_value _ f (value_simple _ (simple_integer w)) e = absurd (no_way (taking_told tree (field_of (integer_type w) f) e).1)
@@ -347,7 +349,7 @@ pub record IsRegionField (keeping : Bool) (marked : List Name) (tree : Tree) (t 
   pub held : IsHeld keeping marked f (field_kind tree (space_in t) (field_place tree (space_in t) f)) (field_type tree (space_in t) (args_in t) f)
   pub known : known_field tree t f ≡ field_type tree (space_in t) (args_in t) f
 
-module _ (handing keeping : Bool) (tree : Tree) (sound : IsSound tree) (m : Marked) (local : IsLocalTree handing keeping m.index_fields tree) (bs : List Bound) (n : Name) (i : ℕ) where
+module _ (handing keeping : Bool) (tree : Tree) (sound : IsSound tree) (m : Marked) (local : IsLocalTree handing keeping m tree) (bs : List Bound) (n : Name) (i : ℕ) where
   pub region_is : (t : StaticType) → IsKept keeping m bs n i t → may_be is_region t ≡ true → IsRegion t
   region_is t (kept_scalar _ a) e = absurd (no_way (sym e ∙ simple_is_no_region t (scalar_simple t a)))
   region_is t (kept_value _ a h p) e = absurd (no_way (sym e ∙ value_is_no_region keeping bs t a))

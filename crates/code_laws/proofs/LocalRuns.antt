@@ -1,5 +1,5 @@
 -- An accepted program whose tasks hand regions over by name runs as it means.
-use Rattle.std.proofs.Common.{◌≡◌, ◌⊎◌, inl, ◌∙◌, Bool, List, [], ◌∷◌, None, Option, Some, true, false, ap, subst, refl, inr, ℕ, zero, suc, ℤ, length, arith}
+use Rattle.std.proofs.Common.{◌≡◌, ◌⊎◌, ◌∙◌, Bool, List, [], ◌∷◌, None, Option, Some, true, false, ap, subst, refl, inr, ⊎_elim, ℕ, zero, suc, ℤ, length, arith}
 use Rattle.std.specs.Prelude.{option_map, ◌++◌, ◌&&◌}
 use Rattle.std.specs.List.{list_all}
 use Rattle.std.proofs.lemmas.Bool.{and_parts}
@@ -20,9 +20,9 @@ use Rattle.check_rules.specs.types.Sorts.{is_region, type_at}
 use Rattle.code_rules.specs.Instructions.{place_of_task, tasks_of}
 use Rattle.code_rules.specs.Programs.{task_code}
 use Rattle.code_laws.specs.Handing.{AreTypedBy, forms_by}
-use Rattle.local_form.specs.LocalForm.{are_scalar_params, is_among, marked_by_task}
+use Rattle.local_form.specs.LocalForm.{Marked, are_scalar_params, is_among, is_local_block, marked_by_task}
 use Rattle.code_laws.specs.Simple.{IsInteger, an_integer}
-use Rattle.code_laws.specs.LocalPrograms.{AcceptedProgramsEndWell, AcceptedProgramsRunAsMeant, IsKeptProgramRun, IsLocalProgramRun, IsPlainProgramRun, has_no_pointer, takes_scalars}
+use Rattle.code_laws.specs.LocalPrograms.{AcceptedProgramsEndWell, AcceptedProgramsRunAsMeant, IsKeptProgramRun, IsLocalProgramRun, IsPlainProgramRun, has_no_pointer, keeps_nothing, takes_scalars, without_keeping}
 use Rattle.code_laws.specs.Programs.{AreTypedTasks, IsGiven, IsTypedRun, call_forms, gives_nothing, gives_scalar}
 use Rattle.code_laws.proofs.LocalBlocks.{block_local}
 use Rattle.code_laws.proofs.DeclaredNeeds.{needs_none}
@@ -50,9 +50,9 @@ integers_no_region [] a i = refl
 integers_no_region (t ∷ ts) a zero = integer_no_region t a.0
 integers_no_region (t ∷ ts) a (suc i) = integers_no_region ts a.1 i
 
--- a task that marks no name as a pointer's or a partition's
+-- a task that marks no name as a pointer's or a partition's, and keeps none
 abbrev pub HasNoPointer : Tree → TaskTree → Type 0
-HasNoPointer tree t = (is_empty (marked_by_task tree t).pointers && is_empty (marked_by_task tree t).partitions) ≡ true
+HasNoPointer tree t = keeps_nothing (marked_by_task tree t) t.body ≡ true
 
 -- so is no task of a program, and no field holds indices
 abbrev pub HasNoPointers : Tree → Type 0
@@ -62,14 +62,30 @@ none_among : (ns : List Name) → is_empty ns ≡ true → (n : Name) → is_amo
 none_among [] e n h = no_way_back h
 none_among (k ∷ ns) e n h = no_way_back e
 
--- where a name may stand for a pointer or a partition, pointers are kept
-pointers_kept : (keeping : Bool) (tree : Tree) (t : TaskTree) → (keeping ≡ false → HasNoPointer tree t) → (n : Name) →
-    (is_among (marked_by_task tree t).pointers n ≡ true) ⊎ (is_among (marked_by_task tree t).partitions n ≡ true) → keeping ≡ true
-pointers_kept true tree t none n h = refl
-pointers_kept false tree t none n (inl h) =
-    let m = marked_by_task tree t in absurd (none_among m.pointers (and_parts (is_empty m.pointers) (is_empty m.partitions) (none refl)).0 n h)
-pointers_kept false tree t none n (inr h) =
-    let m = marked_by_task tree t in absurd (none_among m.partitions (and_parts (is_empty m.pointers) (is_empty m.partitions) (none refl)).1 n h)
+-- what is marked in a task, where pointers are kept or not
+record AreMarks (keeping : Bool) (tree : Tree) (t : TaskTree) : Type 0 where
+  marks : Marked
+  regions : marks.regions ≡ (marked_by_task tree t).regions
+  fields : marks.index_fields ≡ (marked_by_task tree t).index_fields
+  assigns : marks.keeps ≡ true → keeping ≡ true
+  keeps : (n : Name) → (is_among marks.pointers n ≡ true) ⊎ (is_among marks.partitions n ≡ true) → keeping ≡ true
+  body : is_local_block marks t.body ≡ true
+
+marks_of : (keeping : Bool) (tree : Tree) (t : TaskTree) → is_local_block (marked_by_task tree t) t.body ≡ true → (keeping ≡ false → HasNoPointer tree t) →
+    AreMarks keeping tree t
+marks_of true tree t body none =
+    record { marks = marked_by_task tree t; regions = refl; fields = refl; assigns = λ q. refl; keeps = λ n h. refl; body = body }
+marks_of false tree t body none =
+    let m = marked_by_task tree t in
+    let both = and_parts (is_empty m.pointers && is_empty m.partitions) (is_local_block (without_keeping m) t.body) (none refl) in
+    let names = and_parts (is_empty m.pointers) (is_empty m.partitions) both.0 in record {
+      marks = without_keeping m;
+      regions = refl;
+      fields = refl;
+      assigns = λ q. absurd (no_way_back q);
+      keeps = λ n. ⊎_elim (λ h. absurd (none_among m.pointers names.0 n h)) (λ h. absurd (none_among m.partitions names.1 n h));
+      body = both.1;
+    }
 
 -- a program of which nothing is told, whose tasks hand regions over or not, and where they do, keep pointers or not
 module _ (handing keeping : Bool) (tree : Tree) (inputs : List ℤ) (p : IsLocalProgramRun tree inputs)
@@ -90,12 +106,12 @@ module _ (handing keeping : Bool) (tree : Tree) (inputs : List ℤ) (p : IsLocal
       let body = kept_right (parts_of_type t.result) (parts_of_block t.body)
       (kept_right (parts_of_params t.params) (parts_of_type t.result ++ parts_of_block t.body) (λ q h. parts q (inr h))) in
       let short = short_body tree k t p.within at in
-      let local = local_tree handing keeping tree t p.within p.accepted p.local alone no_index in
-      let ready : IsReady keeping tree t (marked_by_task tree t) (scope_of tree t) =
-      record { names = begins_kept keeping tree t is.params; head = head_begins tree t told.sound_task (params_tell tree t is.params) } in
-      let keeps = pointers_kept keeping tree t (λ q. subst (λ form. has_no_pointer tree form ≡ true) s.2 (plain q item s.1)) in record {
+      let k = marks_of keeping tree t is.body (λ q. subst (λ form. has_no_pointer tree form ≡ true) s.2 (plain q item s.1)) in
+      let local = local_tree handing keeping tree t k.marks k.fields k.assigns p.within p.accepted p.local alone no_index in
+      let ready : IsReady keeping tree t k.marks (scope_of tree t) =
+      record { names = begins_kept keeping tree t k.marks k.regions is.params; head = head_begins tree t told.sound_task (params_tell tree t is.params) } in record {
         given = given_scalar tree t.result is.result;
-        typed = (block_local handing keeping tree t told.sound told.sound_task (marked_by_task tree t) local keeps hands (length t.params) is.result (scope_of tree t) 0 t.body is.body body
+        typed = (block_local handing keeping tree t told.sound told.sound_task k.marks local k.keeps hands (length t.params) is.result (scope_of tree t) 0 t.body k.body body
             told.scope ready told.told).0;
         small = omega (arith, short);
       }
@@ -111,7 +127,7 @@ module _ (handing keeping : Bool) (tree : Tree) (inputs : List ℤ) (p : IsLocal
       let bound = params_integers tree t.params 0 t.params b.integers in
       let ts = param_types tree t in
       let integers = types_integers (scope_of tree t).names bound in
-      let local = local_tree handing keeping tree t p.within p.accepted p.local alone no_index in
+      let local = local_tree handing keeping tree t (without_keeping (marked_by_task tree t)) refl (λ q. absurd (no_way_back q)) p.within p.accepted p.local alone no_index in
       let long : length ts ≡ length t.params = types_length (scope_of tree t).names ∙ params_length tree t.params 0 t.params in record {
         start = slice_get-map (task_code tree) (tasks_of tree) (place_of_task tree main) ∙ ap (option_map (task_code tree)) f.at;
         needs = needs_none tree t told.sound_task local.named (integers_no_region ts integers);

@@ -11,7 +11,7 @@ use Rattle.regent_tree.specs.Lookup.{is_bound, type_named}
 use Rattle.regent_tree.specs.Scopes.{Scope, bound_to}
 use Rattle.regent_tree.specs.StaticTypes.{field_place, field_type, Reach}
 use Rattle.regent_tree.specs.Syntax.{Expression, Expressions, Name, TaskTree, Tree, call_form, fill_form, print_form, return_form, access_expr, no_step}
-use Rattle.regent_tree.specs.Typing.{type_of, reaches_of, taken_from}
+use Rattle.regent_tree.specs.Typing.{type_of, taken_from}
 use Rattle.regent_tree.specs.declared.facts.Term.TheVariants as place
 use Rattle.regent_tree.specs.declared.rights.Access.TheVariants as access
 use Rattle.regent_tree.specs.declared.typing.StaticType.{StaticType}
@@ -39,9 +39,9 @@ use Rattle.check_rules.specs.types.TypedForms.{calling}
 use Rattle.code_rules.specs.Slots.{Where}
 use Rattle.local_form.specs.LocalForm.{Marked, are_local_arguments, are_local_expressions, gives_pointer, is_among, is_local_expression, is_local_form, is_local_domain, is_region_name}
 use Rattle.code_laws.specs.Handing.{forms_by}
-use Rattle.code_laws.specs.Simple.{IsInteger, IsRegion, IsSimple, IsSpace, IsTruth, term_in, a_region_type, a_space_type, simple_index}
+use Rattle.code_laws.specs.Simple.{IsInteger, IsRegion, IsSimple, IsSpace, IsTruth, term_in, a_space_type, simple_index}
 use Rattle.code_laws.specs.Steps.{Forms}
-use Rattle.code_laws.specs.Typed.{AreFilled, IsTyped, IsTypedForm, MayFill, IsOwnRegion, LoopsOver}
+use Rattle.code_laws.specs.Typed.{AreFilled, IsTyped, IsTypedForm, MayFill, LoopsOver}
 use Rattle.expression_laws.proofs.Steps.{all_has}
 use Rattle.code_laws.proofs.KnownHeads.{IsReady, KnowsHead, kept_may}
 use Rattle.code_laws.proofs.LocalParts.{all_behind, none_given, region_wants, region_named}
@@ -53,16 +53,15 @@ use Rattle.code_laws.proofs.TypedStatements.{count_types, counted, first_stands,
 use Rattle.code_laws.proofs.Typing.{AreKept, no_way_back}
 use Rattle.code_laws.proofs.Values.{scalar_simple}
 use Rattle.scalar_form.specs.ScalarForm.{is_scalar_if_said}
-use Rattle.code_laws.proofs.LocalValues.{IsValue, bound_among, space_looped, value_domain, value_integer, value_pointer, value_read, value_simple, value_truth}
+use Rattle.code_laws.proofs.LocalValues.{IsValue, space_looped, value_domain, value_integer, value_pointer, value_read, value_simple, value_truth}
 use Rattle.code_laws.specs.Pointers.{IsRead}
-use Rattle.check_laws.proofs.Scopes.{found_by_number}
 use Rattle.regent_tree.specs.declared.types.Kind.{Kind}
-use Rattle.regent_tree.specs.declared.typing.Bound.{Bound}
 use Rattle.regent_tree.specs.declared.typing.StaticType.TheVariants.{Index as index_type, Region as region_type}
+use Rattle.code_laws.proofs.LocalElements.{own_region, region_among, region_bound}
 use Rattle.code_laws.proofs.LocalVariables.{at, headed, stands_as}
 
 module _ (handing keeping : Bool) (tree : Tree) (task : TaskTree) (sound : IsSound tree) (sound_task : IsSoundTask tree task) (m : Marked)
-    (local : IsLocalTree handing keeping m.index_fields tree) (params : ℕ) (result : is_scalar_if_said task.result ≡ true) where
+    (local : IsLocalTree handing keeping m tree) (params : ℕ) (result : is_scalar_if_said task.result ≡ true) where
   abbrev forms : Forms
   forms = forms_by handing keeping tree task
 
@@ -199,21 +198,11 @@ module _ (handing keeping : Bool) (tree : Tree) (task : TaskTree) (sound : IsSou
       IsDomain s line n (access_expr r no_step)
   region_domain s line n r scope there marked points keeps k sp args same =
       let b = bound_to s.names r in
-      let found = (found_by_number s.next s.names r scope.numbers there).0 in
-      let is : IsRegion b.static_type = subst IsRegion (sym same) (a_region_type k sp args (place.Name b.number)) in
-      let own : IsOwnRegion (here s line) b b.static_type = record {
-        number = b.number;
-        numbered = ap (λ (c : Bound). c.number) found;
-        place = ap (λ (c : Bound). c.place) found;
-        typed = subst IsRegion (sym (ap (λ (c : Bound). c.static_type) found)) is;
-        space = ap (λ (c : Bound). space_in c.static_type) found;
-        is = ap (λ t. reaches_of (taken_from t)) same;
-      } in record {
-        over = subst (λ c. LoopsOver c (here s line) (access_expr r no_step)) (sym keeps) (inr (is, own));
+      let own = own_region (here s line) scope.numbers r there k sp args same in record {
+        over = subst (λ c. LoopsOver c (here s line) (access_expr r no_step)) (sym keeps) (inr (region_bound s.next s.names scope.numbers r there k sp args same, own));
         is = (there, subst (λ c. IsRead c b.static_type) (sym keeps) tt);
-        taken = subst (λ t. IsKept keeping m s.names n s.next (taken_from t)) (sym same) (kept_value _
-            (value_pointer k sp args b.number keeps
-            (record { named = b; among = bound_among s.names r there; number = refl; region = is; term = ap term_in same })) marked (λ p. points));
+        taken = subst (λ t. IsKept keeping m s.names n s.next (taken_from t)) (sym same)
+            (kept_value _ (value_pointer k sp args b.number keeps (region_among s.next s.names scope.numbers r there k sp args same)) marked (λ p. points));
       }
 
   named_domain : (s : Scope) (line : ℕ) (n r : Name) → IsSoundScope s → is_bound s.names r ≡ true → is_among m.indices n ≡ true → is_among m.pointers n ≡ true →

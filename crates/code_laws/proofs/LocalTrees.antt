@@ -15,6 +15,7 @@ use Rattle.regent_tree.specs.declared.limits.Counted.TheVariants.{Fields}
 use Rattle.regent_tree.specs.declared.program.FieldSpace.{FieldSpace}
 use Rattle.regent_tree.specs.declared.types.Param.{Param}
 use Rattle.regent_tree.specs.declared.types.TypeTerm.{TypeTerm}
+use Rattle.regent_tree.specs.declared.types.NumberTerm.TheVariants as number
 use Rattle.regent_tree.specs.declared.types.TypeTerm.TheVariants as term
 use Rattle.regent_tree.specs.declared.typing.Bound.{Bound}
 use Rattle.regent_tree.specs.declared.typing.StaticType.{StaticType}
@@ -27,7 +28,7 @@ use Rattle.check_rules.specs.first.FirstInItems.{first_declared, first_line}
 use Rattle.check_rules.specs.rules.Repeats.{Given, given_by, repeats, repeats_after, repeats_within, was_given}
 use Rattle.check_rules.specs.scopes.Sound.{StandsIn}
 use Rattle.code_rules.specs.Instructions.{tasks_of}
-use Rattle.local_form.specs.LocalForm.{Marked, are_local_params, are_scalar_params, is_among, is_local_block, is_local_item, is_local_program, is_local_task, gives_pointer, gives_scalar, is_difference, is_region_name, is_region_term, marked_by, marked_by_arms, marked_by_else, marked_by_items, marked_by_task, marked_in, marked_params, unmarked, with_either, with_partition, with_region}
+use Rattle.local_form.specs.LocalForm.{Marked, are_local_params, are_scalar_params, is_among, is_local_block, is_local_item, is_local_program, is_local_task, gives_pointer, gives_scalar, is_difference, is_region_name, is_region_term, marked_by, marked_by_arms, marked_by_else, marked_by_items, marked_by_task, marked_by_term, marked_in, marked_params, unmarked, with_either, with_partition, with_region}
 use Rattle.code_laws.specs.Simple.{IsScalar, a_region_type, scalar_integer, scalar_truth}
 use Rattle.code_laws.proofs.LocalMarks.{HasFieldTerms, among_added, among_left, space_terms}
 use Rattle.code_laws.proofs.LocalNames.{AllKept, AreScalars, AreTakable, IsAlone, IsKept, IsLocalTree, kept_before, kept_region, kept_scalar}
@@ -155,6 +156,17 @@ module _ (keeping : Bool) (tree : Tree) (all : List Param) (m : Marked) where
       kept_behind_all (bound_params tree all (suc i) ps) _ (params_kept (suc i) ps both.1 (λ q h. marked q (inr h)))
       (param_kept [] p i p.term refl both.0 (marked p (inl refl)))
 
+-- a variable of a written type marks no region
+term_regions : (k : Name) (t : TypeTerm) (m : Marked) → (marked_by_term k t m).regions ≡ m.regions
+term_regions k (term.Number (number.Index j)) m = refl
+term_regions k (term.Number number.Int32) m = refl
+term_regions k (term.Number number.Int64) m = refl
+term_regions k term.Truth m = refl
+term_regions k (term.Pointer p) m = refl
+term_regions k (term.Ispace j) m = refl
+term_regions k (term.Region j u) m = refl
+term_regions k (term.Partition d r c) m = refl
+
 -- what is marked as a region's name stays so
 either_regions : (b : Bool) (n : Name) (m : Marked) → (with_either b n m).regions ≡ m.regions
 either_regions true n m = refl
@@ -177,6 +189,7 @@ module _ (n : Name) where
 
   mutual
     marks_stay : (form : Form) (m : Marked) → Region m → Region (marked_by form m)
+    marks_stay (var_form k (Some t) i) m h = subst (λ rs. is_among rs n ≡ true) (sym (term_regions k t m)) h
     marks_stay (var_form k None (Some (plain_initializer e))) m h = value_marks k e m h
     marks_stay (var_form k None (Some (region_initializer e u))) m h = among_left m.regions (k ∷ []) n h
     marks_stay (var_form k None (Some (equal_initializer r e))) m h = h
@@ -206,9 +219,11 @@ module _ (n : Name) where
     marks_stay_else (else_block body) m h = marks_stay_in body m h
 
 -- so where a task begins
-pub begins_kept : (keeping : Bool) (tree : Tree) (t : TaskTree) → are_local_params t.params ≡ true → AllKept keeping (marked_by_task tree t) (scope_of tree t).names
-begins_kept keeping tree t e = params_kept keeping tree t.params (marked_by_task tree t) 0 t.params e
-    (λ p h r. marks_stay_in p.name t.body (marked_params t.params (marked_by_items tree unmarked)) (marked_region t.params (marked_by_items tree unmarked) p h r))
+pub begins_kept : (keeping : Bool) (tree : Tree) (t : TaskTree) (m : Marked) → m.regions ≡ (marked_by_task tree t).regions → are_local_params t.params ≡ true →
+    AllKept keeping m (scope_of tree t).names
+begins_kept keeping tree t m same e = params_kept keeping tree t.params m 0 t.params e
+    (λ p h r. subst (λ rs. is_among rs p.name ≡ true) (sym same)
+    (marks_stay_in p.name t.body (marked_params t.params (marked_by_items tree unmarked)) (marked_region t.params (marked_by_items tree unmarked) p h r)))
 
 abbrev AllTakable : List Bound → Type 0
 AllTakable [] = Unit {0}
@@ -316,14 +331,16 @@ place_named all (p ∷ ps) (suc k) j low own = inr (place_named all ps k j (omeg
 
 -- ---- the program
 
-pub local_tree : (handing keeping : Bool) (tree : Tree) (task : TaskTree) → WithinLimits tree → breaches tree ≡ [] → is_local_program tree ≡ true →
+pub local_tree : (handing keeping : Bool) (tree : Tree) (task : TaskTree) (m : Marked) → m.index_fields ≡ (marked_by_task tree task).index_fields →
+    (m.keeps ≡ true → keeping ≡ true) → WithinLimits tree → breaches tree ≡ [] → is_local_program tree ≡ true →
     (handing ≡ false → (i : ItemTree) → Has tree i → (t : TaskTree) → i.form ≡ task_item t → TakesScalars t) →
     (keeping ≡ false → (i : ItemTree) → Has tree i → (s : FieldSpace) → i.form ≡ space_item s → are_scalar_params s.fields ≡ true) →
-    IsLocalTree handing keeping (marked_by_task tree task).index_fields tree
-local_tree handing keeping tree task within none e alone plain = record {
-  fields = space_has (HasFieldTerms keeping (marked_by_task tree task).index_fields) (λ f has. absurd (no_way_back has)) tree
-      (λ i h s same. space_terms keeping tree task i h s same
-      (subst (λ form. is_local_item tree form ≡ true) same (all_of (λ i. is_local_item tree i.form) tree e i h)) (λ q. plain q i h s same));
+    IsLocalTree handing keeping m tree
+local_tree handing keeping tree task m fields keeps within none e alone plain = record {
+  fields = space_has (HasFieldTerms keeping m.index_fields) (λ f has. absurd (no_way_back has)) tree
+      (λ i h s same. subst (λ ns. HasFieldTerms keeping ns s) (sym fields) (space_terms keeping tree task i h s same
+      (subst (λ form. is_local_item tree form ≡ true) same (all_of (λ i. is_local_item tree i.form) tree e i h)) (λ q. plain q i h s same)));
+  keeps = keeps;
   few = space_has (λ (s : FieldSpace). length s.fields ≤ 256) (omega (arith)) tree few_in;
   named = λ sp i low.
       let once = space_has (λ (s : FieldSpace). repeats (given_by s.fields) ≡ []) refl tree once_in sp in

@@ -1,6 +1,6 @@
 -- What expressions give where nothing is told of their types: numbers, truths, indices and index spaces, and where they
 -- are kept also pointers to elements of a region that has a name.
-use Rattle.std.proofs.Common.{◌≡◌, Bool, List, [], ◌∷◌, ◌++◌, Some, false, true, refl, ap, sym, ℕ, ◌<◌, ◌∙◌, ◌||◌, cond, not, inl, inr, arith, ⊎_elim, ◌&&◌}
+use Rattle.std.proofs.Common.{◌≡◌, Bool, List, [], ◌∷◌, ◌++◌, Some, false, true, refl, ap, sym, ℕ, ◌<◌, ◌∙◌, ◌||◌, cond, not, inl, inr, arith, ⊎_elim, ◌&&◌, ◌⊎◌}
 use Rattle.std.specs.Prelude.{bytes_eq, ◌==◌}
 use Rattle.std.proofs.lemmas.Bool.{and_parts}
 use Rattle.regent_tree.proofs.Members.{Has, Has-append_left}
@@ -28,11 +28,11 @@ use Rattle.check_rules.specs.rules.Standing.{param_spot, stands}
 use Rattle.check_rules.specs.rules.Types.{compares_with, computes_with, has_equality_with, has_order_with, may_stand, operates_on}
 use Rattle.check_rules.specs.types.Fitting.{fits}
 use Rattle.check_rules.specs.types.KnownTypes.{known_type_after_operator}
-use Rattle.check_rules.specs.types.Sorts.{is_integer, is_number, is_partition, is_region, is_space, is_truth, is_unknown_type, may_be}
+use Rattle.check_rules.specs.types.Sorts.{is_collection, is_integer, is_number, is_partition, is_region, is_space, is_truth, is_unknown_type, may_be}
 use Rattle.check_rules.specs.types.TypedForms.{computing}
 use Rattle.code_rules.specs.Slots.{Where, typed}
-use Rattle.code_laws.specs.Pointers.{BeginsAs, BeginsWith, ConvertsTo, CountsAs, FillsInto, FitsInto, IsAssigned, IsCompared, IsRead, SignedAs, assigned_plain, begins_plain, compared_different, compared_equal, compared_left, compared_plain, compared_right, a_pointer_type, counts_number, counts_pointer, fills_alike, into_plain, itself_plain, signs_plain, term_integer, zero_scalar}
-use Rattle.code_laws.specs.Simple.{AreAlike, AreComparable, IsInteger, IsIntegerTerm, IsNumber, IsRegion, IsScalar, IsSimple, IsSpace, IsTruth, SignsFit, a_region_type, scalar_integer, scalar_truth, simple_index, simple_integer, simple_space, simple_truth, term_in, IsPartition, a_partition_type}
+use Rattle.code_laws.specs.Pointers.{Assigned, BeginsAs, BeginsWith, ConvertsTo, CountsAs, FillsInto, FitsInto, IsAssigned, IsCompared, IsRead, SignedAs, assigned_plain, assigned_pointer, begins_plain, compared_different, compared_equal, compared_left, compared_plain, compared_right, a_pointer_type, counts_number, counts_pointer, fills_alike, fills_index, into_index, into_plain, itself_plain, signs_plain, term_integer, zero_scalar}
+use Rattle.code_laws.specs.Simple.{AreAlike, AreComparable, IsInteger, IsIntegerTerm, IsNumber, IsRegion, IsScalar, IsSimple, IsSpace, IsTruth, SignsFit, a_region_type, number_index, number_integer, scalar_integer, scalar_truth, simple_index, simple_integer, simple_space, simple_truth, term_in, IsPartition, a_partition_type}
 use Rattle.code_laws.specs.Typed.{IsField, IsFieldOf, IsKeepable, LoopsOver}
 use Rattle.code_laws.proofs.LocalTypes.{either, number_is, operated_simple, owned_simple, param_fitting, simple_as_domain, simple_as_integer, simple_as_number, simple_as_space, simple_as_truth, simple_compared, simple_computed, simple_fitting, simple_for_region, simple_is_no_region, simple_known, simple_no_partition}
 use Rattle.code_laws.proofs.Typing.{no_way, no_way_back}
@@ -291,6 +291,34 @@ alike_begins true bs t u p = begins_plain t u (into_plain t u (fills_alike t u p
 pub alike_assigned : (b : Bool) (t u : StaticType) → AreAlike t u → IsAssigned b t u
 alike_assigned false t u p = p
 alike_assigned true t u p = assigned_plain t u (into_plain t u (fills_alike t u p))
+
+-- what fits a variable that is no index space may be assigned to it, where pointers are kept
+kept_assigned : (bs : List Bound) (known : List Known) (t u : StaticType) → IsValue true bs t → IsValue true bs u → is_collection u ≡ false →
+    fits known t u ≡ true → Assigned t u
+kept_assigned bs known t _ a (value_simple _ (simple_integer w)) c e =
+    alike_assigned true t _ (value_fitting true bs known t _ a (scalar_integer w) e)
+kept_assigned bs known t _ a (value_simple _ simple_truth) c e = alike_assigned true t _ (value_fitting true bs known t _ a scalar_truth e)
+kept_assigned bs known t _ a (value_simple _ (simple_space k)) c e = absurd (no_way c)
+kept_assigned bs known _ _ (value_simple _ (simple_integer w)) (value_simple _ (simple_index k)) c e =
+    assigned_plain _ _ (into_plain _ _ (fills_index _ k (number_integer w)))
+kept_assigned bs known _ _ (value_simple _ (simple_index j)) (value_simple _ (simple_index k)) c e =
+    assigned_plain _ _ (into_plain _ _ (fills_index _ k (number_index j)))
+kept_assigned bs known _ _ (value_pointer j sp args i q r) (value_simple _ (simple_index k)) c e = assigned_plain _ _ (into_index j sp args _ k)
+kept_assigned bs known _ _ (value_simple _ simple_truth) (value_simple _ (simple_index k)) c e = absurd (no_way_back e)
+kept_assigned bs known _ _ (value_simple _ (simple_space j)) (value_simple _ (simple_index k)) c e = absurd (no_way_back e)
+kept_assigned bs known _ _ (value_pointer j s brgs h p u) (value_pointer k sp args i q r) c e =
+    assigned_pointer _ _ (a_pointer_type j s brgs _ tt) (a_pointer_type k sp args _ tt)
+kept_assigned bs known _ _ (value_simple _ (simple_integer w)) (value_pointer k sp args i q r) c e = absurd (no_way_back e)
+kept_assigned bs known _ _ (value_simple _ (simple_index j)) (value_pointer k sp args i q r) c e = absurd (no_way_back e)
+kept_assigned bs known _ _ (value_simple _ simple_truth) (value_pointer k sp args i q r) c e = absurd (no_way_back e)
+kept_assigned bs known _ _ (value_simple _ (simple_space j)) (value_pointer k sp args i q r) c e = absurd (no_way_back e)
+
+-- and else to one that is a number or truth
+pub value_assigned : (keeping : Bool) (bs : List Bound) (known : List Known) (t u : StaticType) → IsValue keeping bs t → IsValue keeping bs u →
+    (keeping ≡ true) ⊎ IsScalar u → is_collection u ≡ false → fits known t u ≡ true → IsAssigned keeping t u
+value_assigned keeping bs known t u a b (inr s) c e = alike_assigned keeping t u (value_fitting keeping bs known t u a s e)
+value_assigned false bs known t u a b (inl q) c e = absurd (no_way_back q)
+value_assigned true bs known t u a b (inl q) c e = kept_assigned bs known t u a b c e
 
 pub scalar_begins : (b : Bool) (bs : List Bound) (t : StaticType) → IsScalar t → BeginsAs b bs t
 scalar_begins false bs t p = p

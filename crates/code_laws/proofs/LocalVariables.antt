@@ -33,40 +33,36 @@ use Rattle.check_rules.specs.scopes.Variables.{declared_type, is_flawed_initiali
 use Rattle.check_rules.specs.types.Fitting.{fits}
 use Rattle.check_rules.specs.types.KnownTypes.{known_type}
 use Rattle.code_rules.specs.Slots.{Where, typed}
-use Rattle.local_form.specs.LocalForm.{Marked, are_local_links, gives_scalar, is_among, is_kept_apart, is_local_expression, is_local_form, gives_pointer, is_name, keeps_pointer}
+use Rattle.local_form.specs.LocalForm.{Marked, are_local_links, gives_scalar, is_among, is_kept_apart, is_kept_term, is_local_expression, is_local_form, gives_pointer, is_pointing, keeps_pointer}
 use Rattle.code_laws.specs.Handing.{forms_by, takes_by}
-use Rattle.code_laws.specs.Simple.{IsScalar, IsSimple}
+use Rattle.code_laws.specs.Simple.{IsSimple}
 use Rattle.code_laws.specs.Steps.{Forms}
 use Rattle.code_laws.specs.Taking.{IsFresh}
-use Rattle.code_laws.specs.Typed.{IsTyped, IsTypedForm, IsKeepable, IsPointing}
+use Rattle.code_laws.specs.Typed.{IsTyped, IsTypedForm, IsKeepable}
 use Rattle.code_laws.proofs.Wider.{begun_so}
 use Rattle.code_laws.proofs.KnownHeads.{IsReady, KnowsHead, head_made, head_named}
 use Rattle.code_laws.proofs.LocalPoints.{IsWell}
 use Rattle.code_laws.proofs.LocalExpressions.{local_well}
 use Rattle.code_laws.proofs.LocalNames.{IsKept, IsLocalTree, first_below, kept_region, kept_scalar, named_kept, no_kept_partition, kept_value}
-use Rattle.code_laws.proofs.LocalTypes.{term_scalar}
-use Rattle.code_laws.proofs.TypedStatements.{HasNoPartition, declared_fits, first_stands, initial_told}
+use Rattle.code_laws.proofs.TypedStatements.{HasNoPartition, first_stands, initial_told}
 use Rattle.code_laws.proofs.Typing.{AreKept, kept_right, no_way, no_way_back}
-use Rattle.code_laws.proofs.Values.{scalar_simple}
-use Rattle.scalar_form.specs.ScalarForm.{is_scalar_if_said, is_scalar_term}
-use Rattle.code_laws.proofs.LocalValues.{IsValue, alike_begins, owned_value, simple_keepable, simple_no_pointer, value_pointer, value_simple, value_space, value_tells}
+use Rattle.scalar_form.specs.ScalarForm.{is_scalar_if_said}
+use Rattle.code_laws.proofs.LocalValues.{IsValue, owned_value, simple_keepable, simple_no_pointer, value_pointer, value_simple, value_space, value_tells}
 use Rattle.code_laws.specs.Pointers.{IsPointer, a_pointer_type}
-use Rattle.code_laws.proofs.LocalParts.{named_alone}
+use Rattle.code_laws.proofs.LocalElements.{points_by_form}
+use Rattle.code_laws.proofs.LocalNulls.{type_flawless, variable_said}
 
--- ---- a name's pointer
+-- ---- a name's pointer, or an element
 
-points_by_name : (w : Where) (e : Expression) → Falls w.scope.next w.scope.names → is_name e ≡ true → IsPointing w e
-points_by_name w e falls h = let n = named_alone e h in subst (IsPointing w) (sym n.1) falls
-
-value_keepable : (b : Bool) (w : Where) (e : Expression) (t : StaticType) → typed w e ≡ t → Falls w.scope.next w.scope.names → is_name e ≡ true →
+value_keepable : (b : Bool) (w : Where) (e : Expression) (t : StaticType) → typed w e ≡ t → Falls w.scope.next w.scope.names → is_pointing e ≡ true →
     IsValue b w.scope.names t → IsKeepable b w e
 value_keepable b w e t same falls h (value_simple _ a) = simple_keepable b w e (subst IsSimple (sym same) a)
 value_keepable false w e _ same falls h (value_pointer k sp args i q r) = absurd (no_way_back q)
 value_keepable true w e _ same falls h (value_pointer k sp args i q r) =
-    inr (subst IsPointer (sym same) (a_pointer_type k sp args _ tt), points_by_name w e falls h)
+    inr (subst IsPointer (sym same) (a_pointer_type k sp args _ tt), points_by_form w e falls h)
 
 module _ (handing keeping : Bool) (tree : Tree) (task : TaskTree) (sound : IsSound tree) (sound_task : IsSoundTask tree task) (m : Marked)
-    (local : IsLocalTree handing keeping m.index_fields tree) (params : ℕ) (result : is_scalar_if_said task.result ≡ true) where
+    (local : IsLocalTree handing keeping m tree) (params : ℕ) (result : is_scalar_if_said task.result ≡ true) where
   abbrev pub forms : Forms
   forms = forms_by handing keeping tree task
 
@@ -123,7 +119,7 @@ module _ (handing keeping : Bool) (tree : Tree) (task : TaskTree) (sound : IsSou
   VarTyped s line n t i = IsTypedForm forms (at s line) (var_form n t i) × IsKept keeping m s.names n s.next (var_type tree s t i)
       × KnowsHead tree task (scope_after tree s (var_form n t i))
 
-  -- a variable begins with no pointer, or with a name's
+  -- a variable begins with no pointer, or with a name's or an element
   begins_plainly : (s : Scope) (line : ℕ) (n : Name) (y : Expression) (points : Bool) → gives_pointer m y ≡ points → (gives_scalar m y ≡ true) ⊎ (is_among m.indices n ≡ true) →
       keeps_pointer m n y ≡ true → (scope : IsSoundScope s) (ready : Ready s) →
       IsWell handing keeping task (at s line) sound sound_task m local scope ready.names ready.head y →
@@ -135,7 +131,7 @@ module _ (handing keeping : Bool) (tree : Tree) (task : TaskTree) (sound : IsSou
             (λ h. kept_value (type_of tree s y) (value_simple (type_of tree s y) simple) h (λ p. absurd (no_way (sym p ∙ simple_no_pointer (type_of tree s y) simple)))) marked,
       )
   begins_plainly s line n y true some marked keeps scope ready a =
-      let copy = and_parts (is_name y) (is_among m.pointers n) (subst (λ b. (not b || (is_name y && is_among m.pointers n)) ≡ true) some keeps) in (
+      let copy = and_parts (is_pointing y) (is_among m.pointers n) (subst (λ b. (not b || (is_pointing y && is_among m.pointers n)) ≡ true) some keeps) in (
         value_keepable keeping (at s line) y (type_of tree s y) refl scope.numbers copy.0 a.value,
         ⊎_elim (λ h. kept_scalar (type_of tree s y) (a.scalar h)) (λ h. kept_value (type_of tree s y) a.value h (λ p. copy.1)) marked,
       )
@@ -165,7 +161,7 @@ module _ (handing keeping : Bool) (tree : Tree) (task : TaskTree) (sound : IsSou
       AreKept (parts_of_form (var_form n (Some t) (Some (plain_initializer y)))) → IsSoundScope s → Ready s →
       first_of_form tree task s (var_form n (Some t) (Some (plain_initializer y))) ≡ None → VarTyped s line n (Some t) (Some (plain_initializer y))
   said_local s line n t y lo k scope names e =
-      let both = and_parts (is_scalar_term t) (is_local_expression m y) lo in
+      let both = and_parts (is_kept_term m n t) (is_local_expression m y) lo in
       let parts = told_of_form tree task s sound scope (var_form n (Some t) (Some (plain_initializer y))) e in
       let told = initial_told tree task s y (no_partitions s names y both.1) parts.2 in
       let a = headed s line y both.1 (kept_right (parts_of_type (Some t)) (parts_of_expression y) k) scope names told in
@@ -174,15 +170,25 @@ module _ (handing keeping : Bool) (tree : Tree) (task : TaskTree) (sound : IsSou
       unless_false (is_flawed_initializer tree s (plain_initializer y)) (owned s.next from)
       (begun_sound tree task s sound scope n (Some t) (plain_initializer y) e).0 ∙ owned_value keeping s.names s.next from a.value in
       let fit = (first_stands s.known (stands (known_initializer tree s (plain_initializer y)) (typed_spot (declared_type tree s t))) [] parts.4).0 in
-      let alike = declared_fits keeping s.names tree s t from both.0 a.value (ap (λ u. fits s.known u (declared_type tree s t)) (sym begun) ∙ fit) in
+      let none = (option_or_parts (first_in_type tree s.names t) _ parts.0).0 in
       let wanted = var_type tree s (Some t) (Some (plain_initializer y)) in
-      let scalar : IsScalar wanted = term_scalar t both.0 tree (in_scope s) s.next in
-      let none = value_tells keeping s.names s.next wanted (value_simple wanted (scalar_simple wanted scalar)) in (
-        (alike_begins keeping s.names from wanted alike, a.is),
-        kept_scalar _ scalar,
+      let is = variable_said keeping m local.keeps tree s scope names.names n t both.0 none in
+      let fits_wanted = subst (λ u. fits s.known from u ≡ true) (type_flawless keeping m local.keeps tree s scope names.names t none)
+      (ap (λ u. fits s.known u (declared_type tree s t)) (sym begun) ∙ fit) in (
+        (is.begins from a.value fits_wanted, a.is),
+        is.kept,
         head_named tree task s n wanted (known_of_child s.next from ++ known_of_type wanted) names.head
-            (ap (λ ks. ks ++ known_of_type wanted) (value_tells keeping s.names s.next from a.value).0 ∙ none.2),
+            (ap (λ ks. ks ++ known_of_type wanted) (value_tells keeping s.names s.next from a.value).0 ∙ (value_tells keeping s.names s.next wanted is.value).2),
       )
+
+  -- one that begins by itself
+  pub unset_local : (s : Scope) (line : ℕ) (n : Name) (t : TypeTerm) → is_local_form m (var_form n (Some t) None) ≡ true → IsSoundScope s → Ready s →
+      first_of_form tree task s (var_form n (Some t) None) ≡ None → VarTyped s line n (Some t) None
+  unset_local s line n t lo scope names e =
+      let none = (option_or_parts (first_in_type tree s.names t) _ (told_of_form tree task s sound scope (var_form n (Some t) None) e).0).0 in
+      let wanted = var_type tree s (Some t) None in
+      let is = variable_said keeping m local.keeps tree s scope names.names n t lo none in
+      (is.itself, is.kept, head_named tree task s n wanted (known_of_type wanted) names.head (value_tells keeping s.names s.next wanted is.value).2)
 
   -- what is made is named behind the parameters
   fresh : (b : Bool) (s : Scope) → KnowsHead tree task s → IsFresh (takes_by b tree task) (place.Name s.next)

@@ -10,202 +10,224 @@ use Rattle.regent_tree.specs.declared.statement.How.{How}
 use Rattle.regent_tree.specs.declared.statement.How.TheVariants as how
 use Rattle.regent_tree.specs.declared.types.Param.{Param}
 use Rattle.regent_tree.specs.declared.types.TypeTerm.{TypeTerm}
+use Rattle.regent_tree.specs.declared.types.NumberTerm.TheVariants as number
 use Rattle.regent_tree.specs.declared.types.TypeTerm.TheVariants as term
-use Rattle.local_form.specs.LocalForm.{Marked, gives_pointer, is_difference, is_partition_name, keeps_pointer, is_name, takes_partition_off, with_either, with_partition, are_local_arms, are_local_expressions, are_local_links, are_local_params, are_scalar_params, gives_scalar, is_local_block, is_local_else, is_local_expression, is_local_form, is_local_item, is_local_program, is_local_task, is_region_term, links_give, marked_by, marked_by_arms, marked_by_else, marked_by_item, marked_by_items, marked_by_task, marked_in, marked_params, unmarked, with_region}
-use Rattle.code_laws.specs.LocalPrograms.{has_no_pointer, takes_scalars}
+use Rattle.local_form.specs.LocalForm.{Marked, gives_pointer, is_difference, is_partition_name, keeps_pointer, is_kept_term, is_pointing, marked_by_term, takes_partition_off, takes_value, with_either, with_partition, are_local_arms, are_local_expressions, are_local_links, are_local_params, are_scalar_params, gives_scalar, is_local_block, is_local_else, is_local_expression, is_local_form, is_local_item, is_local_program, is_local_task, is_region_term, links_give, marked_by, marked_by_arms, marked_by_else, marked_by_item, marked_by_items, marked_by_task, marked_in, marked_params, unmarked, with_region}
+use Rattle.code_laws.specs.LocalPrograms.{has_no_pointer, keeps_nothing, takes_scalars}
 use Rattle.code_laws.proofs.Typing.{no_way_back}
 use Rattle.scalar_form.specs.ScalarForm.{are_scalar_arms, are_scalar_expressions, are_scalar_links, is_empty, is_scalar_block, is_scalar_else, is_scalar_expression, is_scalar_form, is_scalar_if_said, is_scalar_item, is_scalar_number, is_scalar_program, is_scalar_task, is_scalar_term}
 
 both_true : (a b : Bool) → a ≡ true → b ≡ true → (a && b) ≡ true
 both_true a b h k = ap (λ x. x && b) h ∙ k
 
--- ---- expressions
+module _ (keeping : Bool) where
+  -- no marks, where indices and pointers may be assigned or may not
+  abbrev bare : Marked
+  bare = record { regions = []; partitions = []; indices = []; pointers = []; index_fields = []; keeps = keeping }
 
-mutual
-  expression_local : (e : Expression) → is_scalar_expression e ≡ true →
-      (is_local_expression unmarked e ≡ true) × (gives_scalar unmarked e ≡ true)
-  expression_local (number_expr z w) sc = (refl, refl)
-  expression_local (truth_expr b) sc = (refl, refl)
-  expression_local (chain_expr first rest) sc =
-      let s = and_parts (is_scalar_expression first) (are_scalar_links rest) sc in
-      let a = expression_local first s.0 in
-      let l = links_local rest s.1 in (
-        both_true (is_local_expression unmarked first) (are_local_links unmarked rest) a.0 l.0,
-        ap (λ b. links_give unmarked b rest) a.1 ∙ l.1,
+  takes : (n : Name) → (b : Bool) → keeping ≡ b → takes_value bare n ≡ true
+  takes n true e = ap (λ k. (k || true) && true) e
+  takes n false e = ap (λ k. (k || true) && true) e
+
+  -- ---- expressions
+
+  mutual
+    expression_local : (e : Expression) → is_scalar_expression e ≡ true →
+        (is_local_expression bare e ≡ true) × (gives_scalar bare e ≡ true)
+    expression_local (number_expr z w) sc = (refl, refl)
+    expression_local (truth_expr b) sc = (refl, refl)
+    expression_local (chain_expr first rest) sc =
+        let s = and_parts (is_scalar_expression first) (are_scalar_links rest) sc in
+        let a = expression_local first s.0 in
+        let l = links_local rest s.1 in (
+          both_true (is_local_expression bare first) (are_local_links bare rest) a.0 l.0,
+          ap (λ b. links_give bare b rest) a.1 ∙ l.1,
+        )
+    expression_local (prefix_expr signs e) sc =
+        let a = expression_local e sc in (both_true (gives_scalar bare e) (is_local_expression bare e) a.1 a.0, refl)
+    expression_local (access_expr n no_step) sc = (refl, refl)
+    expression_local (access_expr n (field_step _ _)) sc = absurd (no_way_back sc)
+    expression_local (access_expr n (at_step _ _)) sc = absurd (no_way_back sc)
+    expression_local (convert_expr t e) sc =
+        let s = and_parts (is_scalar_number t) (is_scalar_expression e) sc in
+        (both_true (is_scalar_number t) (is_local_expression bare e) s.0 (expression_local e s.1).0, refl)
+    expression_local (call_expr _ _) sc = absurd (no_way_back sc)
+    expression_local (is_null_expr _) sc = absurd (no_way_back sc)
+    expression_local (null_expr _) sc = absurd (no_way_back sc)
+    expression_local (cast_expr _ _) sc = absurd (no_way_back sc)
+    expression_local (space_expr _ _) sc = absurd (no_way_back sc)
+
+    links_local : (ls : Links) → are_scalar_links ls ≡ true → (are_local_links bare ls ≡ true) × (links_give bare true ls ≡ true)
+    links_local no_link sc = (refl, refl)
+    links_local (a_link Or e rest) sc =
+        let s = and_parts (is_scalar_expression e) (are_scalar_links rest) sc in
+        let r = links_local rest s.1 in (both_true (is_local_expression bare e) (are_local_links bare rest) (expression_local e s.0).0 r.0, r.1)
+    links_local (a_link And e rest) sc =
+        let s = and_parts (is_scalar_expression e) (are_scalar_links rest) sc in
+        let r = links_local rest s.1 in (both_true (is_local_expression bare e) (are_local_links bare rest) (expression_local e s.0).0 r.0, r.1)
+    links_local (a_link (Compare c) e rest) sc =
+        let s = and_parts (is_scalar_expression e) (are_scalar_links rest) sc in
+        let r = links_local rest s.1 in (both_true (is_local_expression bare e) (are_local_links bare rest) (expression_local e s.0).0 r.0, r.1)
+    links_local (a_link (Compute o) e rest) sc =
+        let s = and_parts (is_scalar_expression e) (are_scalar_links rest) sc in
+        let a = expression_local e s.0 in
+        let r = links_local rest s.1 in (
+          both_true (is_local_expression bare e) (are_local_links bare rest) a.0 r.0,
+          ap (λ b. links_give bare b rest) a.1 ∙ r.1,
+        )
+
+  expressions_local : (es : Expressions) → are_scalar_expressions es ≡ true → are_local_expressions bare es ≡ true
+  expressions_local no_expr sc = refl
+  expressions_local (an_expr e es) sc =
+      let s = and_parts (is_scalar_expression e) (are_scalar_expressions es) sc in
+      both_true (is_local_expression bare e) (are_local_expressions bare es) (expression_local e s.0).0 (expressions_local es s.1)
+
+  -- ---- statements
+
+  -- no name stands for a pointer
+  none_points : (e : Expression) → is_scalar_expression e ≡ true → gives_pointer bare e ≡ false
+  none_points (access_expr n no_step) sc = refl
+  none_points (chain_expr first no_link) sc = none_points first (and_parts (is_scalar_expression first) true sc).0
+  none_points (chain_expr first (a_link _ _ _)) sc = refl
+  none_points (access_expr n (field_step _ _)) sc = refl
+  none_points (access_expr n (at_step _ _)) sc = absurd (no_way_back sc)
+  none_points (number_expr _ _) sc = refl
+  none_points (truth_expr _) sc = refl
+  none_points (prefix_expr _ _) sc = refl
+  none_points (call_expr _ _) sc = refl
+  none_points (convert_expr _ _) sc = refl
+  none_points (is_null_expr _) sc = refl
+  none_points (null_expr _) sc = absurd (no_way_back sc)
+  none_points (cast_expr _ _) sc = absurd (no_way_back sc)
+  none_points (space_expr _ _) sc = refl
+
+  -- nor for a partition
+  no_partition_name : (e : Expression) → is_partition_name bare e ≡ false
+  no_partition_name (access_expr n no_step) = refl
+  no_partition_name (access_expr n (field_step _ _)) = refl
+  no_partition_name (access_expr n (at_step _ _)) = refl
+  no_partition_name (chain_expr _ _) = refl
+  no_partition_name (number_expr _ _) = refl
+  no_partition_name (truth_expr _) = refl
+  no_partition_name (prefix_expr _ _) = refl
+  no_partition_name (call_expr _ _) = refl
+  no_partition_name (convert_expr _ _) = refl
+  no_partition_name (is_null_expr _) = refl
+  no_partition_name (null_expr _) = refl
+  no_partition_name (cast_expr _ _) = refl
+  no_partition_name (space_expr _ _) = refl
+
+  no_difference : (e : Expression) → is_difference bare e ≡ false
+  no_difference (chain_expr first rest) = ap (λ b. b && takes_partition_off bare rest) (no_partition_name first)
+  no_difference (access_expr _ _) = refl
+  no_difference (number_expr _ _) = refl
+  no_difference (truth_expr _) = refl
+  no_difference (prefix_expr _ _) = refl
+  no_difference (call_expr _ _) = refl
+  no_difference (convert_expr _ _) = refl
+  no_difference (is_null_expr _) = refl
+  no_difference (null_expr _) = refl
+  no_difference (cast_expr _ _) = refl
+  no_difference (space_expr _ _) = refl
+
+  -- a variable that is a number or truth
+  scalar_kept : (n : Name) (t : TypeTerm) → is_scalar_term t ≡ true → (is_kept_term bare n t ≡ true) × (marked_by_term n t bare ≡ bare)
+  scalar_kept n (term.Number number.Int32) sc = (refl, refl)
+  scalar_kept n (term.Number number.Int64) sc = (refl, refl)
+  scalar_kept n (term.Number (number.Index k)) sc = absurd (no_way_back sc)
+  scalar_kept n term.Truth sc = (refl, refl)
+  scalar_kept n (term.Pointer p) sc = absurd (no_way_back sc)
+  scalar_kept n (term.Ispace k) sc = absurd (no_way_back sc)
+  scalar_kept n (term.Region k u) sc = absurd (no_way_back sc)
+  scalar_kept n (term.Partition d r c) sc = absurd (no_way_back sc)
+
+  -- a statement is such, and marks no name
+  abbrev IsLocalForm : Form → Type 0
+  IsLocalForm form = (is_local_form bare form ≡ true) × (marked_by form bare ≡ bare)
+
+  var_local : (n : Name) (t : Option TypeTerm) (i : Option Initializer) → is_scalar_form (var_form n t i) ≡ true → IsLocalForm (var_form n t i)
+  var_local n None None sc = (refl, refl)
+  var_local n (Some t) None sc = scalar_kept n t (and_parts (is_scalar_term t) true sc).0
+  var_local n None (Some (plain_initializer e)) sc =
+      let a = expression_local e sc in (
+        ap (λ b. (b || false) && (keeps_pointer bare n e && ((is_difference bare e && false) || is_local_expression bare e))) a.1
+            ∙ ap (λ b. (not b || (is_pointing e && false)) && ((is_difference bare e && false) || is_local_expression bare e)) (none_points e sc)
+            ∙ ap (λ b. (b && false) || is_local_expression bare e) (no_difference e) ∙ a.0,
+        ap (λ b. cond b (with_partition n bare) (cond (gives_scalar bare e) bare (with_either (gives_pointer bare e) n bare))) (no_difference e)
+            ∙ ap (λ b. cond b bare (with_either (gives_pointer bare e) n bare)) a.1,
       )
-  expression_local (prefix_expr signs e) sc =
-      let a = expression_local e sc in (both_true (gives_scalar unmarked e) (is_local_expression unmarked e) a.1 a.0, refl)
-  expression_local (access_expr n no_step) sc = (refl, refl)
-  expression_local (access_expr n (field_step _ _)) sc = absurd (no_way_back sc)
-  expression_local (access_expr n (at_step _ _)) sc = absurd (no_way_back sc)
-  expression_local (convert_expr t e) sc =
-      let s = and_parts (is_scalar_number t) (is_scalar_expression e) sc in
-      (both_true (is_scalar_number t) (is_local_expression unmarked e) s.0 (expression_local e s.1).0, refl)
-  expression_local (call_expr _ _) sc = absurd (no_way_back sc)
-  expression_local (is_null_expr _) sc = absurd (no_way_back sc)
-  expression_local (null_expr _) sc = absurd (no_way_back sc)
-  expression_local (cast_expr _ _) sc = absurd (no_way_back sc)
-  expression_local (space_expr _ _) sc = absurd (no_way_back sc)
+  var_local n (Some t) (Some (plain_initializer e)) sc =
+      let s = and_parts (is_scalar_term t) (is_scalar_expression e) sc in
+      let k = scalar_kept n t s.0 in
+      (both_true (is_kept_term bare n t) (is_local_expression bare e) k.0 (expression_local e s.1).0, k.1)
+  var_local n t (Some (region_initializer _ _)) sc = absurd (no_way_back (and_parts (is_scalar_if_said t) false sc).1)
+  var_local n t (Some (equal_initializer _ _)) sc = absurd (no_way_back (and_parts (is_scalar_if_said t) false sc).1)
+  var_local n t (Some (by_field_initializer _ _ _)) sc = absurd (no_way_back (and_parts (is_scalar_if_said t) false sc).1)
+  var_local n t (Some (image_initializer _ _ _ _)) sc = absurd (no_way_back (and_parts (is_scalar_if_said t) false sc).1)
+  var_local n t (Some (preimage_initializer _ _ _ _)) sc = absurd (no_way_back (and_parts (is_scalar_if_said t) false sc).1)
+  var_local n t (Some (both_initializer _ _)) sc = absurd (no_way_back (and_parts (is_scalar_if_said t) false sc).1)
+  var_local n t (Some (either_initializer _ _)) sc = absurd (no_way_back (and_parts (is_scalar_if_said t) false sc).1)
 
-  links_local : (ls : Links) → are_scalar_links ls ≡ true → (are_local_links unmarked ls ≡ true) × (links_give unmarked true ls ≡ true)
-  links_local no_link sc = (refl, refl)
-  links_local (a_link Or e rest) sc =
-      let s = and_parts (is_scalar_expression e) (are_scalar_links rest) sc in
-      let r = links_local rest s.1 in (both_true (is_local_expression unmarked e) (are_local_links unmarked rest) (expression_local e s.0).0 r.0, r.1)
-  links_local (a_link And e rest) sc =
-      let s = and_parts (is_scalar_expression e) (are_scalar_links rest) sc in
-      let r = links_local rest s.1 in (both_true (is_local_expression unmarked e) (are_local_links unmarked rest) (expression_local e s.0).0 r.0, r.1)
-  links_local (a_link (Compare c) e rest) sc =
-      let s = and_parts (is_scalar_expression e) (are_scalar_links rest) sc in
-      let r = links_local rest s.1 in (both_true (is_local_expression unmarked e) (are_local_links unmarked rest) (expression_local e s.0).0 r.0, r.1)
-  links_local (a_link (Compute o) e rest) sc =
-      let s = and_parts (is_scalar_expression e) (are_scalar_links rest) sc in
-      let a = expression_local e s.0 in
-      let r = links_local rest s.1 in (
-        both_true (is_local_expression unmarked e) (are_local_links unmarked rest) a.0 r.0,
-        ap (λ b. links_give unmarked b rest) a.1 ∙ r.1,
-      )
+  assign_local : (n : Name) (steps : Steps) (h : How) (e : Expression) → is_scalar_form (assign_form n steps h e) ≡ true →
+      is_local_form bare (assign_form n steps h e) ≡ true
+  assign_local n no_step how.Set e sc = both_true (takes_value bare n) (is_local_expression bare e) (takes n keeping refl) (expression_local e sc).0
+  assign_local n no_step (how.Reduce o) e sc = (expression_local e sc).0
+  assign_local n (field_step _ _) h e sc = absurd (no_way_back sc)
+  assign_local n (at_step _ _) h e sc = absurd (no_way_back sc)
 
-expressions_local : (es : Expressions) → are_scalar_expressions es ≡ true → are_local_expressions unmarked es ≡ true
-expressions_local no_expr sc = refl
-expressions_local (an_expr e es) sc =
-    let s = and_parts (is_scalar_expression e) (are_scalar_expressions es) sc in
-    both_true (is_local_expression unmarked e) (are_local_expressions unmarked es) (expression_local e s.0).0 (expressions_local es s.1)
+  mutual
+    form_local : (form : Form) → is_scalar_form form ≡ true → IsLocalForm form
+    form_local (var_form n t i) sc = var_local n t i sc
+    form_local (if_form arms other) sc =
+        let s = and_parts (are_scalar_arms arms) (is_scalar_else other) sc in
+        let a = arms_local arms s.0 in
+        let o = else_local other s.1 in
+        (both_true (are_local_arms bare arms) (is_local_else bare other) a.0 o.0, ap (marked_by_else other) a.1 ∙ o.1)
+    form_local (while_form test body) sc =
+        let s = and_parts (is_scalar_expression test) (is_scalar_block body) sc in
+        let b = block_local body s.1 in
+        (both_true (is_local_expression bare test) (is_local_block bare body) (expression_local test s.0).0 b.0, b.1)
+    form_local (for_to_form demanded n from to body) sc =
+        let s = and_parts (is_scalar_expression from) (is_scalar_expression to && is_scalar_block body) sc in
+        let r = and_parts (is_scalar_expression to) (is_scalar_block body) s.1 in
+        let b = block_local body r.1 in (
+          both_true (is_local_expression bare from) (is_local_expression bare to && is_local_block bare body) (expression_local from s.0).0
+              (both_true (is_local_expression bare to) (is_local_block bare body) (expression_local to r.0).0 b.0),
+          b.1,
+        )
+    form_local (do_form body) sc = block_local body sc
+    form_local (assert_form e) sc = ((expression_local e sc).0, refl)
+    form_local (print_form alias format args) sc = (expressions_local args sc, refl)
+    form_local (assign_form n steps h e) sc = (assign_local n steps h e sc, refl)
+    form_local (return_form None) sc = (refl, refl)
+    form_local (return_form (Some e)) sc = ((expression_local e sc).0, refl)
+    form_local (for_in_form _ _ _ _) sc = absurd (no_way_back sc)
+    form_local (fill_form _ _ _) sc = absurd (no_way_back sc)
+    form_local (call_form _ _) sc = absurd (no_way_back sc)
 
--- ---- statements
+    block_local : (b : Block) → is_scalar_block b ≡ true → (is_local_block bare b ≡ true) × (marked_in b bare ≡ bare)
+    block_local no_statement sc = (refl, refl)
+    block_local (then_statement (a_statement line form) rest) sc =
+        let s = and_parts (is_scalar_form form) (is_scalar_block rest) sc in
+        let f = form_local form s.0 in
+        let r = block_local rest s.1 in
+        (both_true (is_local_form bare form) (is_local_block bare rest) f.0 r.0, ap (marked_in rest) f.1 ∙ r.1)
 
--- no name stands for a pointer
-none_points : (e : Expression) → gives_pointer unmarked e ≡ false
-none_points (access_expr n no_step) = refl
-none_points (chain_expr first no_link) = none_points first
-none_points (chain_expr first (a_link _ _ _)) = refl
-none_points (access_expr n (field_step _ _)) = refl
-none_points (access_expr n (at_step _ _)) = refl
-none_points (number_expr _ _) = refl
-none_points (truth_expr _) = refl
-none_points (prefix_expr _ _) = refl
-none_points (call_expr _ _) = refl
-none_points (convert_expr _ _) = refl
-none_points (is_null_expr _) = refl
-none_points (null_expr _) = refl
-none_points (cast_expr _ _) = refl
-none_points (space_expr _ _) = refl
+    arms_local : (arms : Arms) → are_scalar_arms arms ≡ true → (are_local_arms bare arms ≡ true) × (marked_by_arms arms bare ≡ bare)
+    arms_local no_arm sc = (refl, refl)
+    arms_local (an_arm test body rest) sc =
+        let s = and_parts (is_scalar_expression test) (is_scalar_block body && are_scalar_arms rest) sc in
+        let p = and_parts (is_scalar_block body) (are_scalar_arms rest) s.1 in
+        let b = block_local body p.0 in
+        let r = arms_local rest p.1 in (
+          both_true (is_local_expression bare test) (is_local_block bare body && are_local_arms bare rest) (expression_local test s.0).0
+              (both_true (is_local_block bare body) (are_local_arms bare rest) b.0 r.0),
+          ap (marked_by_arms rest) b.1 ∙ r.1,
+        )
 
--- nor for a partition
-no_partition_name : (e : Expression) → is_partition_name unmarked e ≡ false
-no_partition_name (access_expr n no_step) = refl
-no_partition_name (access_expr n (field_step _ _)) = refl
-no_partition_name (access_expr n (at_step _ _)) = refl
-no_partition_name (chain_expr _ _) = refl
-no_partition_name (number_expr _ _) = refl
-no_partition_name (truth_expr _) = refl
-no_partition_name (prefix_expr _ _) = refl
-no_partition_name (call_expr _ _) = refl
-no_partition_name (convert_expr _ _) = refl
-no_partition_name (is_null_expr _) = refl
-no_partition_name (null_expr _) = refl
-no_partition_name (cast_expr _ _) = refl
-no_partition_name (space_expr _ _) = refl
-
-no_difference : (e : Expression) → is_difference unmarked e ≡ false
-no_difference (chain_expr first rest) = ap (λ b. b && takes_partition_off unmarked rest) (no_partition_name first)
-no_difference (access_expr _ _) = refl
-no_difference (number_expr _ _) = refl
-no_difference (truth_expr _) = refl
-no_difference (prefix_expr _ _) = refl
-no_difference (call_expr _ _) = refl
-no_difference (convert_expr _ _) = refl
-no_difference (is_null_expr _) = refl
-no_difference (null_expr _) = refl
-no_difference (cast_expr _ _) = refl
-no_difference (space_expr _ _) = refl
-
--- a statement is such, and marks no name
-abbrev IsLocalForm : Form → Type 0
-IsLocalForm form = (is_local_form unmarked form ≡ true) × (marked_by form unmarked ≡ unmarked)
-
-var_local : (n : Name) (t : Option TypeTerm) (i : Option Initializer) → is_scalar_form (var_form n t i) ≡ true → IsLocalForm (var_form n t i)
-var_local n None None sc = (refl, refl)
-var_local n (Some t) None sc = ((and_parts (is_scalar_term t) true sc).0, refl)
-var_local n None (Some (plain_initializer e)) sc =
-    let a = expression_local e sc in (
-      ap (λ b. (b || false) && (keeps_pointer unmarked n e && ((is_difference unmarked e && false) || is_local_expression unmarked e))) a.1
-          ∙ ap (λ b. (not b || (is_name e && false)) && ((is_difference unmarked e && false) || is_local_expression unmarked e)) (none_points e)
-          ∙ ap (λ b. (b && false) || is_local_expression unmarked e) (no_difference e) ∙ a.0,
-      ap (λ b. cond b (with_partition n unmarked) (cond (gives_scalar unmarked e) unmarked (with_either (gives_pointer unmarked e) n unmarked))) (no_difference e)
-          ∙ ap (λ b. cond b unmarked (with_either (gives_pointer unmarked e) n unmarked)) a.1,
-    )
-var_local n (Some t) (Some (plain_initializer e)) sc =
-    let s = and_parts (is_scalar_term t) (is_scalar_expression e) sc in
-    (both_true (is_scalar_term t) (is_local_expression unmarked e) s.0 (expression_local e s.1).0, refl)
-var_local n t (Some (region_initializer _ _)) sc = absurd (no_way_back (and_parts (is_scalar_if_said t) false sc).1)
-var_local n t (Some (equal_initializer _ _)) sc = absurd (no_way_back (and_parts (is_scalar_if_said t) false sc).1)
-var_local n t (Some (by_field_initializer _ _ _)) sc = absurd (no_way_back (and_parts (is_scalar_if_said t) false sc).1)
-var_local n t (Some (image_initializer _ _ _ _)) sc = absurd (no_way_back (and_parts (is_scalar_if_said t) false sc).1)
-var_local n t (Some (preimage_initializer _ _ _ _)) sc = absurd (no_way_back (and_parts (is_scalar_if_said t) false sc).1)
-var_local n t (Some (both_initializer _ _)) sc = absurd (no_way_back (and_parts (is_scalar_if_said t) false sc).1)
-var_local n t (Some (either_initializer _ _)) sc = absurd (no_way_back (and_parts (is_scalar_if_said t) false sc).1)
-
-assign_local : (n : Name) (steps : Steps) (h : How) (e : Expression) → is_scalar_form (assign_form n steps h e) ≡ true →
-    is_local_form unmarked (assign_form n steps h e) ≡ true
-assign_local n no_step how.Set e sc = (expression_local e sc).0
-assign_local n no_step (how.Reduce o) e sc = (expression_local e sc).0
-assign_local n (field_step _ _) h e sc = absurd (no_way_back sc)
-assign_local n (at_step _ _) h e sc = absurd (no_way_back sc)
-
-mutual
-  form_local : (form : Form) → is_scalar_form form ≡ true → IsLocalForm form
-  form_local (var_form n t i) sc = var_local n t i sc
-  form_local (if_form arms other) sc =
-      let s = and_parts (are_scalar_arms arms) (is_scalar_else other) sc in
-      let a = arms_local arms s.0 in
-      let o = else_local other s.1 in
-      (both_true (are_local_arms unmarked arms) (is_local_else unmarked other) a.0 o.0, ap (marked_by_else other) a.1 ∙ o.1)
-  form_local (while_form test body) sc =
-      let s = and_parts (is_scalar_expression test) (is_scalar_block body) sc in
-      let b = block_local body s.1 in
-      (both_true (is_local_expression unmarked test) (is_local_block unmarked body) (expression_local test s.0).0 b.0, b.1)
-  form_local (for_to_form demanded n from to body) sc =
-      let s = and_parts (is_scalar_expression from) (is_scalar_expression to && is_scalar_block body) sc in
-      let r = and_parts (is_scalar_expression to) (is_scalar_block body) s.1 in
-      let b = block_local body r.1 in (
-        both_true (is_local_expression unmarked from) (is_local_expression unmarked to && is_local_block unmarked body) (expression_local from s.0).0
-            (both_true (is_local_expression unmarked to) (is_local_block unmarked body) (expression_local to r.0).0 b.0),
-        b.1,
-      )
-  form_local (do_form body) sc = block_local body sc
-  form_local (assert_form e) sc = ((expression_local e sc).0, refl)
-  form_local (print_form alias format args) sc = (expressions_local args sc, refl)
-  form_local (assign_form n steps h e) sc = (assign_local n steps h e sc, refl)
-  form_local (return_form None) sc = (refl, refl)
-  form_local (return_form (Some e)) sc = ((expression_local e sc).0, refl)
-  form_local (for_in_form _ _ _ _) sc = absurd (no_way_back sc)
-  form_local (fill_form _ _ _) sc = absurd (no_way_back sc)
-  form_local (call_form _ _) sc = absurd (no_way_back sc)
-
-  block_local : (b : Block) → is_scalar_block b ≡ true → (is_local_block unmarked b ≡ true) × (marked_in b unmarked ≡ unmarked)
-  block_local no_statement sc = (refl, refl)
-  block_local (then_statement (a_statement line form) rest) sc =
-      let s = and_parts (is_scalar_form form) (is_scalar_block rest) sc in
-      let f = form_local form s.0 in
-      let r = block_local rest s.1 in
-      (both_true (is_local_form unmarked form) (is_local_block unmarked rest) f.0 r.0, ap (marked_in rest) f.1 ∙ r.1)
-
-  arms_local : (arms : Arms) → are_scalar_arms arms ≡ true → (are_local_arms unmarked arms ≡ true) × (marked_by_arms arms unmarked ≡ unmarked)
-  arms_local no_arm sc = (refl, refl)
-  arms_local (an_arm test body rest) sc =
-      let s = and_parts (is_scalar_expression test) (is_scalar_block body && are_scalar_arms rest) sc in
-      let p = and_parts (is_scalar_block body) (are_scalar_arms rest) s.1 in
-      let b = block_local body p.0 in
-      let r = arms_local rest p.1 in (
-        both_true (is_local_expression unmarked test) (is_local_block unmarked body && are_local_arms unmarked rest) (expression_local test s.0).0
-            (both_true (is_local_block unmarked body) (are_local_arms unmarked rest) b.0 r.0),
-        ap (marked_by_arms rest) b.1 ∙ r.1,
-      )
-
-  else_local : (other : Otherwise) → is_scalar_else other ≡ true → (is_local_else unmarked other ≡ true) × (marked_by_else other unmarked ≡ unmarked)
-  else_local no_else sc = (refl, refl)
-  else_local (else_block body) sc = block_local body sc
+    else_local : (other : Otherwise) → is_scalar_else other ≡ true → (is_local_else bare other ≡ true) × (marked_by_else other bare ≡ bare)
+    else_local no_else sc = (refl, refl)
+    else_local (else_block body) sc = block_local body sc
 
 -- ---- programs
 
@@ -263,12 +285,12 @@ no_items_mark (i ∷ items) m e =
 scalar_marks : (tree : Tree) (t : TaskTree) → AreScalar tree → IsScalarTask t → marked_by_task tree t ≡ unmarked
 scalar_marks tree t all s =
     ap (λ m. marked_in t.body (marked_params t.params m)) (no_items_mark tree unmarked all)
-    ∙ ap (marked_in t.body) (none_marked t.params unmarked s.params) ∙ (block_local t.body s.body).1
+    ∙ ap (marked_in t.body) (none_marked t.params unmarked s.params) ∙ (block_local true t.body s.body).1
 
 task_is_local : (tree : Tree) (t : TaskTree) → AreScalar tree → is_scalar_task t ≡ true → is_local_task tree t ≡ true
 task_is_local tree t all e =
     let s = scalar_task t e in
-    let b = block_local t.body s.body in
+    let b = block_local true t.body s.body in
     let marks = scalar_marks tree t all s in
     both_true (are_local_params t.params) _ (params_local t.params s.params) (both_true (is_scalar_if_said t.result) _ s.result
     (subst (λ m. is_local_block m t.body ≡ true) (sym marks) b.0))
@@ -305,7 +327,8 @@ item_keeps_none tree import_item all e = refl
 item_keeps_none tree (alias_item n) all e = refl
 item_keeps_none tree (start_item n) all e = refl
 item_keeps_none tree (space_item s) all e = absurd (no_way_back e)
-item_keeps_none tree (task_item t) all e = ap (λ (m : Marked). is_empty m.pointers && is_empty m.partitions) (scalar_marks tree t all (scalar_task t e))
+item_keeps_none tree (task_item t) all e =
+    let s = scalar_task t e in ap (λ m. keeps_nothing m t.body) (scalar_marks tree t all s) ∙ (block_local false t.body s.body).0
 
 items_keep_none : (tree items : Tree) → AreScalar tree → AreScalar items → list_all (λ (i : ItemTree). has_no_pointer tree i.form) items ≡ true
 items_keep_none tree [] all e = refl

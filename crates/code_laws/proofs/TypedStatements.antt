@@ -14,7 +14,7 @@ use Rattle.check_rules.specs.rules.Statements.{standing_in_form, known_result}
 use Rattle.check_rules.specs.rules.Results.{misreturns}
 use Rattle.check_rules.specs.rules.Targets.{mistargets_form}
 use Rattle.check_rules.specs.types.Parts.{listed}
-use Rattle.check_rules.specs.scopes.Variables.{members_of, declared_type}
+use Rattle.check_rules.specs.scopes.Variables.{members_of}
 use Rattle.check_rules.specs.rules.Partitions.{is_difference}
 use Rattle.check_rules.specs.scopes.Visits.{heads_of, initializer_at, declared_at, call_of_form}
 use Rattle.std.specs.Prelude.{length, is_none, cond}
@@ -22,8 +22,7 @@ use Rattle.std.specs.List.{list_any}
 use Rattle.std.proofs.lemmas.Bool.{and_parts, eqb-true, not-false, or_parts}
 use Rattle.plain_values.proofs.Plain.{option_or_parts}
 use Rattle.regent_tree.specs.Lookup.{is_bound, type_named}
-use Rattle.regent_tree.specs.Scopes.{Scope, in_scope}
-use Rattle.regent_tree.specs.StaticTypes.{type_said}
+use Rattle.regent_tree.specs.Scopes.{Scope}
 use Rattle.regent_tree.specs.Syntax.{Expression, Expressions, Form, TaskTree, Tree, access_expr, an_expr, no_expr, no_step, chain_expr, a_link, no_link}
 use Rattle.regent_tree.specs.Typing.{arithmetic_type, result_type}
 use Rattle.regent_tree.specs.declared.facts.Known.{Known}
@@ -44,7 +43,7 @@ use Rattle.check_rules.specs.types.Sorts.{may_be, is_partition}
 use Rattle.check_rules.specs.declared.rule.Rule.TheVariants as rule
 use Rattle.check_rules.proofs.Untold.{rule_none}
 use Rattle.code_laws.specs.Simple.{AreAlike, IsInteger, IsScalar, an_integer, scalar_integer, scalar_truth}
-use Rattle.scalar_form.specs.ScalarForm.{is_scalar_if_said, is_scalar_term}
+use Rattle.scalar_form.specs.ScalarForm.{is_scalar_if_said}
 use Rattle.code_laws.proofs.LocalValues.{IsValue, value_fitting}
 use Rattle.code_laws.proofs.Typing.{no_way, no_way_back}
 
@@ -146,18 +145,6 @@ count_types tree s (an_expr e es) = ap suc (count_types tree s es)
 pub counted : (n : ℕ) (o : Option ℕ) → is_count n o ≡ true → o ≡ Some n
 counted n None e = absurd (no_way_back e)
 counted n (Some m) e = ap Some (sym (eqb-true n m e))
-
--- a declared type and what fits it
-pub declared_fits : (keeping : Bool) (bs : List Bound) (tree : Tree) (s : Scope) (t : TypeTerm) (from : StaticType) → is_scalar_term t ≡ true → IsValue keeping bs from →
-    fits s.known from (declared_type tree s t) ≡ true → AreAlike from (type_said tree (in_scope s) s.next t)
-declared_fits keeping bs tree s (term.Number number.Int32) from sc scalar e = value_fitting keeping bs s.known from (integer_type W32) scalar (scalar_integer W32) e
-declared_fits keeping bs tree s (term.Number number.Int64) from sc scalar e = value_fitting keeping bs s.known from (integer_type W64) scalar (scalar_integer W64) e
-declared_fits keeping bs tree s (term.Number (number.Index k)) from sc scalar e = absurd (no_way_back sc)
-declared_fits keeping bs tree s term.Truth from sc scalar e = value_fitting keeping bs s.known from truth_type scalar scalar_truth e
-declared_fits keeping bs tree s (term.Pointer p) from sc scalar e = absurd (no_way_back sc)
-declared_fits keeping bs tree s (term.Ispace k) from sc scalar e = absurd (no_way_back sc)
-declared_fits keeping bs tree s (term.Region k u) from sc scalar e = absurd (no_way_back sc)
-declared_fits keeping bs tree s (term.Partition d r c) from sc scalar e = absurd (no_way_back sc)
 
 -- a declared result and what fits it
 pub result_fits : (keeping : Bool) (bs : List Bound) (tree : Tree) (known : List Known) (r : Option TypeTerm) (from : StaticType) → is_scalar_if_said r ≡ true → is_none r ≡ false →

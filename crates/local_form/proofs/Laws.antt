@@ -17,7 +17,7 @@ use Rattle.regent_tree.specs.Plain.{expression_of, links_in, steps_in}
 use Rattle.regent_tree.specs.PlainProgram.{arms_in, block_in}
 use Rattle.regent_tree.specs.Syntax.{Expression, Name, Steps, a_link, access_expr, assign_form, at_step, chain_expr, field_step, no_step}
 use Rattle.regent_tree.proofs.Rows.{arm_read}
-use Rattle.local_form.specs.LocalForm.{Marked, are_local_arms, gives_pointer, is_among, is_local_block, is_local_expression, is_local_form, is_name, is_part, marked_by_arms, marked_in, takes_partition_off}
+use Rattle.local_form.specs.LocalForm.{Marked, are_local_arms, gives_pointer, is_among, is_local_block, is_local_expression, is_local_form, is_name, is_part, is_pointing, marked_by_arms, marked_in, takes_partition_off}
 use Rattle.local_form.specs.Seen.{assigns_beside, is_behind, is_behind_read, is_beside, is_local_arm}
 
 pub list_any-map : {A B : Type 0} (p : B → Bool) (f : A → B) (xs : List A) → list_any p (map f xs) ≡ list_any (λ x. p (f x)) xs
@@ -40,12 +40,6 @@ alone_without_steps n (Field f ∷ rest) = sym (not_none (length rest))
 alone_without_steps n (At e ∷ rest) = sym (not_none (length rest))
 
 -- those that are no field at a point
-
-pub one_beside : (m : Marked) (n : Name) (steps : List Step) → 1 ≤ length steps → length steps < 2 → false ≡ is_beside m n (steps_in steps)
-one_beside m n [] some few = absurd (omega (arith, some))
-one_beside m n (Field f ∷ rest) some few = refl
-one_beside m n (At e ∷ []) some few = refl
-one_beside m n (At e ∷ step ∷ rest) some few = absurd (omega (arith, few))
 
 pub three_beside : (m : Marked) (n : Name) (steps : List Step) → 3 ≤ length steps → false ≡ is_beside m n (steps_in steps)
 three_beside m n [] many = absurd (omega (arith, many))
@@ -104,6 +98,21 @@ two_part m n (Field f ∷ rest) many = refl
 two_part m n (At e ∷ []) many = absurd (omega (arith, many))
 two_part m n (At e ∷ Field g ∷ rest) many = refl
 two_part m n (At e ∷ At d ∷ rest) many = refl
+
+-- no pointer has more steps than one
+pub two_points : (m : Marked) (n : Name) (steps : List Step) → 2 ≤ length steps → false ≡ gives_pointer m (access_expr n (steps_in steps))
+two_points m n [] many = absurd (omega (arith, many))
+two_points m n (Field f ∷ rest) many = refl
+two_points m n (At e ∷ []) many = absurd (omega (arith, many))
+two_points m n (At e ∷ Field g ∷ rest) many = refl
+two_points m n (At e ∷ At d ∷ rest) many = refl
+
+pub two_pointing : (n : Name) (steps : List Step) → 2 ≤ length steps → false ≡ is_pointing (access_expr n (steps_in steps))
+two_pointing n [] many = absurd (omega (arith, many))
+two_pointing n (Field f ∷ rest) many = refl
+two_pointing n (At e ∷ []) many = absurd (omega (arith, many))
+two_pointing n (At e ∷ Field g ∷ rest) many = refl
+two_pointing n (At e ∷ At d ∷ rest) many = refl
 
 -- an access is behind a pointer or a partition, or beside them
 pub either_access : (m : Marked) (n : Name) (steps : Steps) →

@@ -4,12 +4,14 @@
 -- an index, an index space or a pointer, is read from the text of a task; which fields hold indices, from the field spaces.
 use Rattle.std.specs.Prelude.{Bool, true, false, List, [], ◌∷◌, ◌++◌, Some, None, bytes_eq, not, cond, ◌&&◌, ◌||◌}
 use Rattle.std.specs.List.{list_all, list_any}
-use Rattle.regent_tree.specs.Syntax.{Arms, Block, Expression, Expressions, Form, ItemForm, ItemTree, Links, Name, Otherwise, TaskTree, Tree, a_link, a_statement, access_expr, alias_item, an_arm, an_expr, assert_form, assign_form, at_step, both_initializer, by_field_initializer, call_expr, call_form, chain_expr, convert_expr, do_form, either_initializer, else_block, equal_initializer, field_step, fill_form, for_in_form, for_to_form, if_form, image_initializer, import_item, no_arm, no_else, no_expr, no_link, no_statement, no_step, number_expr, plain_initializer, prefix_expr, preimage_initializer, print_form, region_initializer, return_form, space_expr, space_item, start_item, task_item, then_statement, truth_expr, var_form, while_form}
+use Rattle.regent_tree.specs.Syntax.{Arms, Block, Expression, Expressions, Form, ItemForm, ItemTree, Links, Name, Otherwise, TaskTree, Tree, a_link, a_statement, access_expr, alias_item, an_arm, an_expr, assert_form, assign_form, at_step, both_initializer, by_field_initializer, call_expr, call_form, cast_expr, chain_expr, convert_expr, do_form, either_initializer, else_block, equal_initializer, field_step, fill_form, for_in_form, for_to_form, if_form, image_initializer, import_item, is_null_expr, no_arm, no_else, no_expr, no_link, no_statement, no_step, null_expr, number_expr, plain_initializer, prefix_expr, preimage_initializer, print_form, region_initializer, return_form, space_expr, space_item, start_item, task_item, then_statement, truth_expr, var_form, while_form}
 use Rattle.regent_tree.specs.declared.expression.Arithmetic.TheVariants.{Subtract}
 use Rattle.regent_tree.specs.declared.expression.Operator.TheVariants.{Compute}
 use Rattle.regent_tree.specs.declared.statement.How.TheVariants as how
 use Rattle.regent_tree.specs.declared.types.NumberTerm.TheVariants as number
 use Rattle.regent_tree.specs.declared.types.Param.{Param}
+use Rattle.regent_tree.specs.declared.types.Ref.{Ref}
+use Rattle.regent_tree.specs.declared.types.Ref.TheVariants.{Named}
 use Rattle.regent_tree.specs.declared.types.TypeTerm.{TypeTerm}
 use Rattle.regent_tree.specs.declared.types.TypeTerm.TheVariants as term
 use Rattle.scalar_form.specs.ScalarForm.{is_scalar_if_said, is_scalar_number, is_scalar_term}
@@ -17,13 +19,15 @@ use Rattle.scalar_form.specs.ScalarForm.{is_scalar_if_said, is_scalar_number, is
 -- ---- names
 
 -- the names of regions in a task, those of partitions, those that may stand for an index, an index space or a pointer,
--- and those among them that may stand for a pointer; and the names of fields that hold indices
+-- and those among them that may stand for a pointer; the names of fields that hold indices; and whether such indices,
+-- index spaces and pointers may be assigned, and elements be taken as pointers
 pub record Marked : Type 0 where
   pub regions : List Name
   pub partitions : List Name
   pub indices : List Name
   pub pointers : List Name
   pub index_fields : List Name
+  pub keeps : Bool
 
 abbrev pub is_among : List Name → Name → Bool
 is_among names n = list_any (λ m. bytes_eq m n) names
@@ -39,10 +43,11 @@ abbrev mutual
   gives_scalar m (prefix_expr signs e) = true
   gives_scalar m (access_expr n no_step) = not (is_among m.indices n)
   gives_scalar m (access_expr n (at_step e (field_step f rest))) = not (is_among m.index_fields f)
-  gives_scalar m (access_expr n (at_step e rest)) = true
+  gives_scalar m (access_expr n (at_step e rest)) = false
   gives_scalar m (access_expr n (field_step f rest)) = not (is_among m.partitions n) && not (is_among m.index_fields f)
   gives_scalar m (call_expr task args) = true
   gives_scalar m (convert_expr t e) = true
+  gives_scalar m (is_null_expr e) = true
   gives_scalar m e = false
 
   -- of a chain, where what stands on the left gives a number or truth or may not
@@ -61,11 +66,23 @@ abbrev pub is_region_name : Marked → Expression → Bool
 is_region_name m (access_expr n no_step) = is_among m.regions n
 is_region_name m e = false
 
--- whether an expression may give a pointer: a name that may stand for one, which may be all of a chain
+-- whether an expression may give a pointer: a name that may stand for one, an element, null or what is cast, which may be
+-- all of a chain
 abbrev pub gives_pointer : Marked → Expression → Bool
 gives_pointer m (access_expr n no_step) = is_among m.pointers n
+gives_pointer m (access_expr n (at_step e no_step)) = true
+gives_pointer m (null_expr t) = true
+gives_pointer m (cast_expr t e) = true
 gives_pointer m (chain_expr first no_link) = gives_pointer m first
 gives_pointer m e = false
+
+-- a name that stands alone, an element, null, or what is cast
+abbrev pub is_pointing : Expression → Bool
+is_pointing (access_expr n no_step) = true
+is_pointing (access_expr n (at_step e no_step)) = true
+is_pointing (null_expr t) = true
+is_pointing (cast_expr t e) = true
+is_pointing e = false
 
 -- a partition's name that stands alone, and the difference of two
 abbrev pub is_partition_name : Marked → Expression → Bool
@@ -84,9 +101,23 @@ is_difference m e = false
 abbrev pub is_kept_apart : Marked → Name → Bool
 is_kept_apart m n = is_among m.regions n || is_among m.partitions n
 
--- Numbers and truths, indices, index spaces and pointers, calls, fields at points of regions that have names, and those
--- that a name's pointer goes to, and the colours of partitions. A region itself stands in an argument alone, or is what a
--- loop goes over, a part of a partition stands in an argument alone, and a prefix stands before numbers and truths.
+-- whether a name stands for a region alone, of which elements may be taken
+abbrev pub takes_element : Marked → Name → Bool
+takes_element m n = m.keeps && (is_among m.regions n && not (is_among m.partitions n))
+
+-- whether pointers of a written type go into one region, which has a name
+abbrev pub goes_to_name : Marked → List Ref → Bool
+goes_to_name m (Named n ∷ []) = takes_element m n
+goes_to_name m rs = false
+
+-- whether a name may be assigned
+abbrev pub takes_value : Marked → Name → Bool
+takes_value m n = (m.keeps || not (is_among m.indices n)) && not (is_kept_apart m n)
+
+-- Numbers and truths, indices, index spaces and pointers, calls, elements of regions that have names and fields at points
+-- of these, fields that a name's pointer goes to, null, casts, and the colours of partitions. A region itself stands in an argument
+-- alone, or is what a loop goes over, a part of a partition stands in an argument alone, and a prefix stands before numbers
+-- and truths.
 abbrev mutual
   pub is_local_expression : Marked → Expression → Bool
   is_local_expression m (number_expr z w) = true
@@ -94,11 +125,15 @@ abbrev mutual
   is_local_expression m (chain_expr first rest) = is_local_expression m first && are_local_links m rest
   is_local_expression m (prefix_expr signs e) = gives_scalar m e && is_local_expression m e
   is_local_expression m (access_expr n no_step) = not (is_kept_apart m n)
+  is_local_expression m (access_expr n (at_step e no_step)) = takes_element m n && is_local_expression m e
   is_local_expression m (access_expr n (at_step e (field_step f no_step))) = is_local_expression m e
   is_local_expression m (access_expr n (field_step f no_step)) = is_among m.pointers n || is_among m.partitions n
   is_local_expression m (call_expr task args) = are_local_arguments m args
   is_local_expression m (convert_expr t e) = is_scalar_number t && is_local_expression m e
   is_local_expression m (space_expr k e) = is_local_expression m e
+  is_local_expression m (is_null_expr e) = is_local_expression m e
+  is_local_expression m (null_expr t) = goes_to_name m t.regions
+  is_local_expression m (cast_expr t e) = goes_to_name m t.regions && is_local_expression m e
   is_local_expression m e = false
 
   pub are_local_links : Marked → Links → Bool
@@ -121,22 +156,28 @@ are_local_expressions m (an_expr e es) = is_local_expression m e && are_local_ex
 
 -- ---- statements
 
--- a variable that begins with what may be a pointer is a copy of a name, and may stand for a pointer too
+-- a variable that begins with what may be a pointer does with one of these, and may stand for a pointer too
 abbrev pub keeps_pointer : Marked → Name → Expression → Bool
-keeps_pointer m n e = not (gives_pointer m e) || (is_name e && is_among m.pointers n)
+keeps_pointer m n e = not (gives_pointer m e) || (is_pointing e && is_among m.pointers n)
+
+-- a variable of a written type is a number or truth, or an index or a pointer of whose name this is known
+abbrev pub is_kept_term : Marked → Name → TypeTerm → Bool
+is_kept_term m n (term.Number (number.Index k)) = m.keeps && is_among m.indices n
+is_kept_term m n (term.Pointer p) = goes_to_name m p.regions && (is_among m.indices n && is_among m.pointers n)
+is_kept_term m n t = is_scalar_term t
 
 -- a loop goes over a region that has a name, and takes pointers, or over an index space
 abbrev pub is_local_domain : Marked → Name → Expression → Bool
 is_local_domain m n domain = (is_region_name m domain && is_among m.pointers n) || is_local_expression m domain
 
--- A variable of a written type is a number or truth. One without it begins with region(..), and its name is a
--- region's; or with a partition that is equal or by a field, is the image or preimage of another, or has the points of both
+-- A variable of a written type is such. One without it begins with region(..), and its name is a region's; or with a partition that is equal or by a field, is the image or preimage of another, or has the points of both
 -- of two others, of either, or of the first alone, and its name is a partition's; or with an expression, and where that may
--- give an index, an index space or a pointer, so may the name. None of these is assigned. A fill takes no pointer.
+-- give an index, an index space or a pointer, so may the name. No region or partition is assigned. A fill takes no pointer.
 abbrev mutual
   pub is_local_form : Marked → Form → Bool
-  is_local_form m (var_form n t None) = is_scalar_if_said t
-  is_local_form m (var_form n (Some t) (Some (plain_initializer e))) = is_scalar_term t && is_local_expression m e
+  is_local_form m (var_form n None None) = true
+  is_local_form m (var_form n (Some t) None) = is_kept_term m n t
+  is_local_form m (var_form n (Some t) (Some (plain_initializer e))) = is_kept_term m n t && is_local_expression m e
   is_local_form m (var_form n None (Some (plain_initializer e))) =
       (gives_scalar m e || is_among m.indices n)
       && (keeps_pointer m n e && ((is_difference m e && is_among m.partitions n) || is_local_expression m e))
@@ -158,8 +199,7 @@ abbrev mutual
   is_local_form m (assert_form e) = is_local_expression m e
   is_local_form m (print_form alias format args) = are_local_expressions m args
   is_local_form m (call_form task args) = are_local_arguments m args
-  is_local_form m (assign_form n no_step how.Set e) =
-      not (is_kept_apart m n) && (not (is_among m.indices n) && is_local_expression m e)
+  is_local_form m (assign_form n no_step how.Set e) = takes_value m n && is_local_expression m e
   is_local_form m (assign_form n no_step (how.Reduce o) e) = is_local_expression m e
   is_local_form m (assign_form n (at_step e (field_step f no_step)) h y) =
       is_local_expression m e && is_local_expression m y
@@ -184,7 +224,7 @@ abbrev mutual
 -- ---- which names are marked
 
 abbrev pub unmarked : Marked
-unmarked = record { regions = []; partitions = []; indices = []; pointers = []; index_fields = [] }
+unmarked = record { regions = []; partitions = []; indices = []; pointers = []; index_fields = []; keeps = true }
 
 abbrev pub with_region : Name → Marked → Marked
 with_region n m = record m { regions = m.regions ++ n ∷ [] }
@@ -209,9 +249,16 @@ with_either points n m = cond points (with_pointer n m) (with_index n m)
 abbrev pub marked_by_value : Name → Expression → Marked → Marked
 marked_by_value n e m = cond (is_difference m e) (with_partition n m) (cond (gives_scalar m e) m (with_either (gives_pointer m e) n m))
 
+-- a variable of a written type
+abbrev pub marked_by_term : Name → TypeTerm → Marked → Marked
+marked_by_term n (term.Number (number.Index k)) m = with_index n m
+marked_by_term n (term.Pointer p) m = with_pointer n m
+marked_by_term n t m = m
+
 -- the names that statements bind, beside those that are marked before them
 abbrev mutual
   pub marked_by : Form → Marked → Marked
+  marked_by (var_form n (Some t) i) m = marked_by_term n t m
   marked_by (var_form n None (Some (plain_initializer e))) m = marked_by_value n e m
   marked_by (var_form n None (Some (region_initializer e u))) m = with_region n m
   marked_by (var_form n None (Some (equal_initializer r e))) m = with_partition n m

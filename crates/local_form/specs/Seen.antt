@@ -8,7 +8,7 @@ use Rattle.regent_tree.specs.Plain.{expression_of}
 use Rattle.regent_tree.specs.PlainProgram.{block_in}
 use Rattle.regent_tree.specs.Syntax.{Expression, Name, Steps, TaskTree, at_step, field_step, no_step}
 use Rattle.scalar_form.specs.ScalarForm.{is_scalar_if_said, is_scalar_term}
-use Rattle.local_form.specs.LocalForm.{Marked, are_local_params, gives_pointer, is_among, is_kept_apart, is_local_block, is_local_expression, is_name, is_part, is_region_name, is_index_term, is_region_term, with_either, with_index_field, with_region}
+use Rattle.local_form.specs.LocalForm.{Marked, are_local_params, gives_pointer, is_among, is_kept_apart, is_local_block, is_local_expression, is_name, is_part, is_region_name, is_index_term, is_region_term, takes_element, takes_value, with_either, with_index_field, with_region}
 
 abbrev pub is_local_arm : Marked → Arm → Bool
 is_local_arm m a =
@@ -53,16 +53,16 @@ abbrev pub is_behind_read : Marked → Name → Steps → Bool
 is_behind_read m n (field_step f no_step) = is_among m.pointers n || is_among m.partitions n
 is_behind_read m n steps = false
 
--- a name that is no region's and no partition's, or a field at a point
+-- a name that is no region's and no partition's, an element, or a field at a point
 abbrev pub is_beside : Marked → Name → Steps → Bool
 is_beside m n no_step = not (is_kept_apart m n)
+is_beside m n (at_step e no_step) = takes_element m n && is_local_expression m e
 is_beside m n (at_step e (field_step f no_step)) = is_local_expression m e
 is_beside m n steps = false
 
--- the same of what is assigned to
+-- the same of what is assigned to, but for elements
 abbrev pub assigns_beside : Marked → Name → Steps → How → Expression → Bool
-assigns_beside m n no_step how.Set e =
-    not (is_kept_apart m n) && (not (is_among m.indices n) && is_local_expression m e)
+assigns_beside m n no_step how.Set e = takes_value m n && is_local_expression m e
 assigns_beside m n no_step (how.Reduce o) e = is_local_expression m e
 assigns_beside m n (at_step e (field_step f no_step)) h y = is_local_expression m e && is_local_expression m y
 assigns_beside m n steps h e = false

@@ -9,11 +9,12 @@ ghost use Rattle.local_form.specs.Seen.{is_behind, is_behind_read, is_beside, is
 
 use crate::giving::gives_scalar;
 use crate::marked::Marked;
+use crate::terms::goes_to_name;
 use regent_tree::{Expr, Link, Name, Step};
 use scalar_form::is_scalar_number;
 
-/// Whether a task may have an expression: numbers, truths, indices, index spaces and pointers, fields at points of
-/// regions and of what pointers go to, and the colours of partitions.
+/// Whether a task may have an expression: numbers, truths, indices, index spaces and pointers, elements of regions, fields
+/// of these and of what pointers go to, null, casts, and the colours of partitions.
 #[cycle(expression)]
 pub fn is_local_expression(marked: &Marked<'_>, e: &Expr) -> bool
     ensures { result ≡ is_local_expression marked.now (expression_of e.now) }
@@ -32,7 +33,11 @@ pub fn is_local_expression(marked: &Marked<'_>, e: &Expr) -> bool
             is_scalar_number(*to) && is_local_expression(marked, inner)
         }
         Expr::Space { size, .. } => is_local_expression(marked, size),
-        Expr::IsNull(_) | Expr::Null(_) | Expr::Cast { .. } => false,
+        Expr::IsNull(inner) => is_local_expression(marked, inner),
+        Expr::Null(pointer) => goes_to_name(marked, pointer.regions.as_slice()),
+        Expr::Cast { pointer, inner } => {
+            goes_to_name(marked, pointer.regions.as_slice()) && is_local_expression(marked, inner)
+        }
     }
 }
 
@@ -56,13 +61,14 @@ fn is_behind_read(marked: &Marked<'_>, name: &Name, steps: &[Step]) -> bool
     }
 }
 
-/// Whether it is a name that is no region's and no partition's, or a field at a point of a region.
+/// Whether it is a name that is no region's and no partition's, an element of a region, or a field at a point of one.
 #[cycle(expression)]
 fn is_beside(marked: &Marked<'_>, name: &Name, steps: &[Step]) -> bool
     ensures { result ≡ is_beside marked.now name.now (steps_in steps.now) }
 {
     match steps {
         [] => !marked.is_kept_apart(name),
+        [Step::At(place)] => marked.takes_element(name) && is_local_expression(marked, place),
         [Step::At(place), Step::Field(_)] => is_local_expression(marked, place),
         _ => false,
     }
@@ -90,7 +96,7 @@ fn are_local_links(marked: &Marked<'_>, links: &[Link]) -> bool
 }
 
 /// Whether an expression is a name alone.
-pub fn is_name(e: &Expr) -> bool
+fn is_name(e: &Expr) -> bool
     ensures { result ≡ is_name (expression_of e.now) }
 {
     match e {

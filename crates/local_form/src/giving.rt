@@ -3,20 +3,20 @@
 ghost use Rattle.std.specs.Prelude.{◌≡◌};
 ghost use Rattle.regent_tree.specs.Plain.{expression_of, links_in, steps_in};
 ghost use Rattle.regent_tree.specs.Syntax.{access_expr, chain_expr};
-ghost use Rattle.local_form.specs.LocalForm.{gives_pointer, gives_scalar, links_give};
+ghost use Rattle.local_form.specs.LocalForm.{gives_pointer, gives_scalar, is_pointing, links_give};
 
 use crate::marked::Marked;
 use regent_tree::{Expr, Link, Name, Operator, Step};
 
 /// Whether an access gives a number or truth: a name that isn't marked, or a field that holds no indices. The colours of a
-/// partition are none.
+/// partition are none, nor are elements.
 fn access_gives(marked: &Marked<'_>, name: &Name, steps: &[Step]) -> bool
     ensures { result ≡ gives_scalar marked.now (access_expr name.now (steps_in steps.now)) }
 {
     match steps {
         [] => !marked.is_index(name),
         [Step::At(_), Step::Field(field), ..] => !marked.is_index_field(field),
-        [Step::At(_), ..] => true,
+        [Step::At(_), ..] => false,
         [Step::Field(field), ..] => !marked.is_partition(name) && !marked.is_index_field(field),
     }
 }
@@ -31,12 +31,13 @@ pub fn gives_scalar(marked: &Marked<'_>, e: &Expr) -> bool
         | Expr::Truth(_)
         | Expr::Prefix { .. }
         | Expr::Call { .. }
-        | Expr::Convert { .. } => true,
+        | Expr::Convert { .. }
+        | Expr::IsNull(_) => true,
         Expr::Chain { first, rest } => {
             links_give(marked, gives_scalar(marked, first), rest.as_slice())
         }
         Expr::Access { name, steps } => access_gives(marked, name, steps.as_slice()),
-        Expr::IsNull(_) | Expr::Null(_) | Expr::Cast { .. } | Expr::Space { .. } => false,
+        Expr::Null(_) | Expr::Cast { .. } | Expr::Space { .. } => false,
     }
 }
 
@@ -55,23 +56,26 @@ fn links_give(marked: &Marked<'_>, left: bool, links: &[Link]) -> bool
     gives
 }
 
-/// Whether an access may give a pointer: a name alone that may stand for one.
+/// Whether an access may give a pointer: a name alone that may stand for one, or an element.
 fn access_points(marked: &Marked<'_>, name: &Name, steps: &[Step]) -> bool
     ensures { result ≡ gives_pointer marked.now (access_expr name.now (steps_in steps.now)) }
 {
     match steps {
         [] => marked.is_pointer(name),
-        [Step::At(_), ..] | [Step::Field(_), ..] => false,
+        [Step::At(_)] => true,
+        _ => false,
     }
 }
 
-/// Whether an expression may give a pointer: a name that may stand for one, alone or as all of a chain.
+/// Whether an expression may give a pointer: a name that may stand for one, an element, null or what is cast, alone or as
+/// all of a chain.
 #[cycle(pointing)]
 pub fn gives_pointer(marked: &Marked<'_>, e: &Expr) -> bool
     ensures { result ≡ gives_pointer marked.now (expression_of e.now) }
 {
     match e {
         Expr::Access { name, steps } => access_points(marked, name, steps.as_slice()),
+        Expr::Null(_) | Expr::Cast { .. } => true,
         Expr::Chain { first, rest } => chain_points(marked, first, rest.as_slice()),
         _ => false,
     }
@@ -84,6 +88,27 @@ fn chain_points(marked: &Marked<'_>, first: &Expr, links: &[Link]) -> bool
 {
     match links {
         [] => gives_pointer(marked, first),
+        _ => false,
+    }
+}
+
+/// Whether an access is a name alone, or an element.
+fn access_is_pointing(name: &Name, steps: &[Step]) -> bool
+    ensures { result ≡ is_pointing (access_expr name.now (steps_in steps.now)) }
+{
+    match steps {
+        [] | [Step::At(_)] => true,
+        _ => false,
+    }
+}
+
+/// Whether an expression is such, or null, or a cast.
+pub fn is_pointing(e: &Expr) -> bool
+    ensures { result ≡ is_pointing (expression_of e.now) }
+{
+    match e {
+        Expr::Access { name, steps } => access_is_pointing(name, steps.as_slice()),
+        Expr::Null(_) | Expr::Cast { .. } => true,
         _ => false,
     }
 }

@@ -9,5 +9,6 @@ mod marked;
 mod marking;
 mod program;
 mod statements;
+mod terms;
 
 pub use program::is_local;

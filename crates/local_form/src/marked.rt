@@ -1,8 +1,9 @@
 //! The names that a task marks.
 
-ghost use Rattle.std.specs.Prelude.{◌≡◌, List, OnOk, bytes_eq, map, ℕ};
-ghost use Rattle.local_form.specs.LocalForm.{is_among, is_kept_apart, unmarked, with_either, with_index};
-ghost use Rattle.local_form.specs.LocalForm.{with_index_field, with_partition, with_pointer, with_region};
+ghost use Rattle.std.specs.Prelude.{◌≡◌, ◌&&◌, List, OnOk, bytes_eq, map, ℕ};
+ghost use Rattle.local_form.specs.LocalForm.{is_among, is_kept_apart, takes_element, takes_value, unmarked};
+ghost use Rattle.local_form.specs.LocalForm.{with_either, with_index, with_index_field, with_partition};
+ghost use Rattle.local_form.specs.LocalForm.{with_pointer, with_region};
 
 use regent_tree::Name;
 use std::alloc::{AllocError, Global};
@@ -20,7 +21,7 @@ pub struct Marked<'t> {
 }
 
 impl<'t> Model for Marked<'t> {
-    ghost use Rattle.std.specs.Prelude.{map};
+    ghost use Rattle.std.specs.Prelude.{map, true};
     ghost use Rattle.local_form.specs.LocalForm.{Marked as SeenMarked};
 
     ghost Value = { SeenMarked };
@@ -31,6 +32,7 @@ impl<'t> Model for Marked<'t> {
       indices = map (λ n. n.now) s.indices.items;
       pointers = map (λ n. n.now) s.pointers.items;
       index_fields = map (λ n. n.now) s.index_fields.items;
+      keeps = true;
     } };
 }
 
@@ -73,8 +75,29 @@ impl<'t> Marked<'t> {
         self.is_region(name) || self.is_partition(name)
     }
 
+    /// Whether a name stands for a region alone, of which elements may be taken.
+    pub fn takes_element(&self, name: &Name) -> bool
+        ensures { result ≡ takes_element self.now name.now }
+    {
+        is_among(self.regions.as_slice(), name) && !self.is_partition(name)
+    }
+
+    /// Whether a name may be assigned: where it stands for no region and no partition.
+    pub fn takes_value(&self, name: &Name) -> bool
+        ensures { result ≡ takes_value self.now name.now }
+    {
+        !is_among(self.regions.as_slice(), name) && !self.is_partition(name)
+    }
+
     pub fn is_index(&self, name: &Name) -> bool
         ensures { result ≡ is_among self.now.indices name.now }
+    {
+        is_among(self.indices.as_slice(), name)
+    }
+
+    /// Whether a name may stand for an index that is kept.
+    pub fn keeps_index(&self, name: &Name) -> bool
+        ensures { result ≡ (self.now.keeps && is_among self.now.indices name.now) }
     {
         is_among(self.indices.as_slice(), name)
     }

@@ -5,14 +5,14 @@ ghost use Rattle.std.specs.Option.{option_map};
 ghost use Rattle.regent_tree.specs.Plain.{expression_of, initializer_of};
 ghost use Rattle.regent_tree.specs.PlainProgram.{arms_in, block_in, form_of};
 ghost use Rattle.regent_tree.specs.Syntax.{var_form};
-ghost use Rattle.local_form.specs.LocalForm.{marked_by, marked_by_arms, marked_by_value, marked_in};
+ghost use Rattle.local_form.specs.LocalForm.{marked_by, marked_by_arms, marked_by_term, marked_by_value, marked_in};
 ghost use Rattle.local_form.specs.Seen.{marked_by_loop};
 
 use crate::differences::is_difference;
 use crate::expressions::is_region_name;
 use crate::giving::{gives_pointer, gives_scalar};
 use crate::marked::Marked;
-use regent_tree::{Arm, Expr, Init, Name, Stmt, TypeTerm, What};
+use regent_tree::{Arm, Expr, Init, Name, NumberTerm, Stmt, TypeTerm, What};
 use std::alloc::AllocError;
 
 /// Marks a variable that begins with an expression, where this is a difference of partitions, or may give an index, an
@@ -38,6 +38,17 @@ fn mark_loop<'t>(marked: &mut Marked<'t>, name: &'t Name, domain: &Expr) -> Resu
     marked.add_either(is_region_name(marked, domain), name)
 }
 
+/// Marks a variable of a written type, where this is an index's or a pointer's.
+fn mark_term<'t>(marked: &mut Marked<'t>, name: &'t Name, term: &TypeTerm) -> Result<(), AllocError>
+    ensures { OnOk result (marked.new ≡ marked_by_term name.now term.now marked.old) }
+{
+    match term {
+        TypeTerm::Number(NumberTerm::Index(_)) => marked.add_index(name),
+        TypeTerm::Pointer(_) => marked.add_pointer(name),
+        _ => Ok(()),
+    }
+}
+
 /// Marks a variable.
 fn mark_variable<'t>(
     marked: &mut Marked<'t>,
@@ -49,12 +60,13 @@ fn mark_variable<'t>(
         ≡ marked_by (var_form name.now term.now (option_map initializer_of init.now)) marked.old) }
 {
     match (term, init) {
+        (Some(term), _) => mark_term(marked, name, term),
+        (None, None) => Ok(()),
         (None, Some(Init::Plain(value))) => mark_value(marked, name, value),
         (None, Some(Init::Region { .. })) => marked.add_region(name),
         (None, Some(Init::Equal { .. } | Init::ByField { .. })) => marked.add_partition(name),
         (None, Some(Init::Image { .. } | Init::Preimage { .. })) => marked.add_partition(name),
         (None, Some(Init::Both { .. } | Init::Either { .. })) => marked.add_partition(name),
-        _ => Ok(()),
     }
 }
 

@@ -11,19 +11,18 @@ ghost use Rattle.local_form.specs.Seen.{assigns_beside, is_local_arm, is_local_f
 
 use crate::differences::is_difference;
 use crate::expressions::{
-    are_local_arguments, are_local_expressions, is_behind, is_local_expression, is_name,
-    is_region_name,
+    are_local_arguments, are_local_expressions, is_behind, is_local_expression, is_region_name,
 };
-use crate::giving::{gives_pointer, gives_scalar};
+use crate::giving::{gives_pointer, gives_scalar, is_pointing};
 use crate::marked::Marked;
+use crate::terms::is_kept_term;
 use regent_tree::{Arm, Expr, How, Init, Name, Step, Stmt, TypeTerm, What};
-use scalar_form::{is_scalar_if_said, is_scalar_term};
 
-/// Whether a variable that begins with what may be a pointer is a copy of a name, and known as such.
+/// Whether a variable that begins with what may be a pointer is a copy of a name or an element, and known as such.
 fn keeps_pointer(marked: &Marked<'_>, name: &Name, value: &Expr) -> bool
     ensures { result ≡ keeps_pointer marked.now name.now (expression_of value.now) }
 {
-    !gives_pointer(marked, value) || (is_name(value) && marked.is_pointer(name))
+    !gives_pointer(marked, value) || (is_pointing(value) && marked.is_pointer(name))
 }
 
 /// Whether a loop goes over a region that has a name, where it takes pointers, or over an index space.
@@ -46,9 +45,10 @@ fn is_local_variable(
         (var_form name.now term.now (option_map initializer_of init.now)) }
 {
     match (term, init) {
-        (term, None) => is_scalar_if_said(term),
+        (None, None) => true,
+        (Some(term), None) => is_kept_term(marked, name, term),
         (Some(term), Some(Init::Plain(value))) => {
-            is_scalar_term(term) && is_local_expression(marked, value)
+            is_kept_term(marked, name, term) && is_local_expression(marked, value)
         }
         (None, Some(Init::Plain(value))) => {
             (gives_scalar(marked, value) || marked.is_index(name))
@@ -68,7 +68,7 @@ fn is_local_variable(
     }
 }
 
-/// Whether a number or truth is assigned to a variable, or to a field at a point of a region.
+/// Whether a value is assigned to a variable, or to a field at a point of a region.
 fn assigns_beside(
     marked: &Marked<'_>,
     target: &Name,
@@ -80,11 +80,7 @@ fn assigns_beside(
         marked.now target.now (steps_in steps.now) how (expression_of value.now) }
 {
     match (steps, how) {
-        ([], How::Set) => {
-            !marked.is_kept_apart(target)
-                && !marked.is_index(target)
-                && is_local_expression(marked, value)
-        }
+        ([], How::Set) => { marked.takes_value(target) && is_local_expression(marked, value) }
         ([], How::Reduce(_)) => is_local_expression(marked, value),
         ([Step::At(place), Step::Field(_)], _) => {
             is_local_expression(marked, place) && is_local_expression(marked, value)

@@ -1,0 +1,139 @@
+-- Elements of regions that have names, which are pointers, in a text with marked names of which no breach is told.
+use Rattle.std.proofs.Common.{◌≡◌, Bool, List, [], None, false, true, ap, refl, sym, subst, ◌∙◌, not, ℕ, ◌||◌, ◌&&◌}
+use Rattle.std.proofs.lemmas.Bool.{and_parts, not-false, not-true}
+use Rattle.plain_values.proofs.Plain.{option_or_parts}
+use Rattle.regent_tree.specs.Accesses.{space_in}
+use Rattle.regent_tree.specs.Lookup.{is_bound}
+use Rattle.regent_tree.specs.Scopes.{bound_as, bound_to}
+use Rattle.regent_tree.specs.StaticTypes.{Reach}
+use Rattle.regent_tree.specs.Syntax.{Expression, Name, TaskTree, access_expr, at_step, call_expr, cast_expr, chain_expr, convert_expr, field_step, is_null_expr, no_step, null_expr, number_expr, prefix_expr, space_expr, truth_expr}
+use Rattle.regent_tree.specs.Typing.{reaches_of, taken_from, type_of_element}
+use Rattle.regent_tree.specs.declared.facts.Term.TheVariants as place
+use Rattle.regent_tree.specs.declared.types.Kind.{Kind}
+use Rattle.regent_tree.specs.declared.typing.Bound.{Bound}
+use Rattle.regent_tree.specs.declared.typing.StaticType.{StaticType}
+use Rattle.regent_tree.specs.declared.typing.StaticType.TheVariants.{Region as region_type}
+use Rattle.check_laws.proofs.Scopes.{found_by_number}
+use Rattle.check_laws.specs.SoundScopes.{Falls, IsSoundScope}
+use Rattle.check_rules.specs.first.FirstInExpressions.{first_in_expression, first_of_standing, first_of_step, first_of_taking}
+use Rattle.check_rules.specs.first.Rules.{rule_if}
+use Rattle.check_rules.specs.rules.Standing.{number_spot, stands}
+use Rattle.check_rules.specs.scopes.Sound.{IsSound, IsSoundTask}
+use Rattle.check_rules.specs.types.KnownTypes.{known_type}
+use Rattle.check_rules.specs.types.Sorts.{is_number, is_partition, is_region, may_be}
+use Rattle.check_rules.specs.types.TypedForms.{element_of}
+use Rattle.check_rules.specs.declared.rule.Rule.TheVariants as rule
+use Rattle.code_rules.specs.Slots.{Where, bound, typed}
+use Rattle.local_form.specs.LocalForm.{Marked, is_among, is_pointing, takes_element}
+use Rattle.code_laws.specs.Handing.{forms_by}
+use Rattle.code_laws.specs.Pointers.{IsCounting}
+use Rattle.code_laws.specs.Simple.{IsRegion, a_region_type, term_in}
+use Rattle.code_laws.specs.Steps.{Forms}
+use Rattle.code_laws.specs.Typed.{IsOwnRegion, IsPointing, IsTyped}
+use Rattle.code_laws.proofs.KnownHeads.{KnowsHead}
+use Rattle.code_laws.proofs.LocalNames.{AllKept, IsKept, IsLocalTree, kept_partition, kept_region, kept_scalar, kept_value, named_kept, taking_told, value_no_region}
+use Rattle.code_laws.proofs.LocalPoints.{IsWell, local_known, name_there}
+use Rattle.code_laws.proofs.LocalValues.{IsRegionAmong, IsValue, bound_among, value_counts, value_pointer, value_simple}
+use Rattle.code_laws.proofs.Typing.{no_way, no_way_back, stands_well}
+use Rattle.code_laws.proofs.Values.{scalar_simple}
+use Rattle.code_laws.proofs.Wider.{counting}
+
+-- a name that stands alone, an element, null and a cast are pointers of which the regions are known
+pub points_by_form : (w : Where) (e : Expression) → Falls w.scope.next w.scope.names → is_pointing e ≡ true → IsPointing w e
+points_by_form w (access_expr n no_step) falls h = falls
+points_by_form w (access_expr n (at_step e no_step)) falls h = tt
+points_by_form w (access_expr n (at_step e (field_step _ _))) falls h = absurd (no_way_back h)
+points_by_form w (access_expr n (at_step e (at_step _ _))) falls h = absurd (no_way_back h)
+points_by_form w (access_expr n (field_step _ _)) falls h = absurd (no_way_back h)
+points_by_form w (number_expr _ _) falls h = absurd (no_way_back h)
+points_by_form w (truth_expr _) falls h = absurd (no_way_back h)
+points_by_form w (chain_expr _ _) falls h = absurd (no_way_back h)
+points_by_form w (prefix_expr _ _) falls h = absurd (no_way_back h)
+points_by_form w (call_expr _ _) falls h = absurd (no_way_back h)
+points_by_form w (convert_expr _ _) falls h = absurd (no_way_back h)
+points_by_form w (is_null_expr _) falls h = absurd (no_way_back h)
+points_by_form w (null_expr _) falls h = tt
+points_by_form w (cast_expr _ _) falls h = tt
+points_by_form w (space_expr _ _) falls h = absurd (no_way_back h)
+
+-- ---- a name that is bound to a region under its own number
+
+module _ (next : ℕ) (bs : List Bound) (falls : Falls next bs) (n : Name) (there : is_bound bs n ≡ true) (k : Kind) (sp : ℕ) (args : List Reach)
+    (same : (bound_to bs n).static_type ≡ region_type k sp args (place.Name (bound_to bs n).number)) where
+  pub region_bound : IsRegion (bound_to bs n).static_type
+  region_bound = subst IsRegion (sym same) (a_region_type k sp args (place.Name (bound_to bs n).number))
+
+  pub region_found : bound_as bs (bound_to bs n).number ≡ bound_to bs n
+  region_found = (found_by_number next bs n falls there).0
+
+  pub region_typed : IsRegion (bound_as bs (bound_to bs n).number).static_type
+  region_typed = subst IsRegion (sym (ap (λ (c : Bound). c.static_type) region_found)) region_bound
+
+  pub region_among : IsRegionAmong bs (bound_to bs n).number
+  region_among = record { named = bound_to bs n; among = bound_among bs n there; number = refl; region = region_bound; term = ap term_in same }
+
+pub own_region : (w : Where) → Falls w.scope.next w.scope.names → (n : Name) → is_bound w.scope.names n ≡ true → (k : Kind) (sp : ℕ) (args : List Reach) →
+    (bound w n).static_type ≡ region_type k sp args (place.Name (bound w n).number) → IsOwnRegion w (bound w n) (bound w n).static_type
+own_region w falls n there k sp args same =
+    let found = region_found w.scope.next w.scope.names falls n there k sp args same in record {
+      number = (bound w n).number;
+      numbered = ap (λ (c : Bound). c.number) found;
+      place = ap (λ (c : Bound). c.place) found;
+      typed = region_typed w.scope.next w.scope.names falls n there k sp args same;
+      space = ap (λ (c : Bound). space_in c.static_type) found;
+      is = ap (λ t. reaches_of (taken_from t)) same;
+    }
+
+-- ---- elements
+
+module _ (handing keeping : Bool) (task : TaskTree) (w : Where) (sound : IsSound w.tree) (sound_task : IsSoundTask w.tree task) (m : Marked)
+    (local : IsLocalTree handing keeping m w.tree) (scope : IsSoundScope w.scope) (names : AllKept keeping m w.scope.names) (head : KnowsHead w.tree task w.scope) where
+  abbrev forms : Forms
+  forms = forms_by handing keeping w.tree task
+
+  abbrev Well : Expression → Type 0
+  Well e = IsWell handing keeping task w sound sound_task m local scope names head e
+
+  abbrev element : Name → Expression → Expression
+  element n e = access_expr n (at_step e no_step)
+
+  -- of a name that is bound to a region under its own number
+  of_region : (n : Name) (e : Expression) → is_bound w.scope.names n ≡ true → keeping ≡ true → (k : Kind) (sp : ℕ) (args : List Reach) →
+      (bound w n).static_type ≡ region_type k sp args (place.Name (bound w n).number) → IsTyped forms w e → IsCounting (typed w e) → Well (element n e)
+  of_region n e there keeps k sp args same is counts = record {
+    is = (keeps, is, counts, there, region_bound w.scope.next w.scope.names scope.numbers n there k sp args same, own_region w scope.numbers n there k sp args same);
+    value = subst (λ t. IsValue keeping w.scope.names (type_of_element w.scope t e)) (sym same)
+        (value_pointer k sp args (bound w n).number keeps (region_among w.scope.next w.scope.names scope.numbers n there k sp args same));
+    scalar = λ q. absurd (no_way_back q);
+    plain = λ q. absurd (no_way q);
+  }
+
+  of_kept : (n : Name) (e : Expression) → is_bound w.scope.names n ≡ true → keeping ≡ true → is_among m.partitions n ≡ false →
+      (t : StaticType) → (bound w n).static_type ≡ t → IsKept keeping m w.scope.names n (bound w n).number t →
+      may_be (λ u. is_region u || is_partition u) t ≡ true → IsTyped forms w e → IsCounting (typed w e) → Well (element n e)
+  of_kept n e there keeps other t same (kept_scalar _ a) may is counts =
+      absurd (no_way (sym may ∙ value_no_region keeping w.scope.names t (value_simple t (scalar_simple t a))))
+  of_kept n e there keeps other t same (kept_value _ a h p) may is counts = absurd (no_way (sym may ∙ value_no_region keeping w.scope.names t a))
+  of_kept n e there keeps other _ same (kept_partition d r q a h) may is counts = absurd (no_way (sym h ∙ other))
+  of_kept n e there keeps other _ same (kept_region k sp args h) may is counts = of_region n e there keeps k sp args same is counts
+
+  pub element_well : (n : Name) (e : Expression) → takes_element m n ≡ true → first_in_expression w.tree task w.scope (element n e) ≡ None →
+      (first_in_expression w.tree task w.scope e ≡ None → Well e) → Well (element n e)
+  element_well n e takes none own =
+      let t = (bound w n).static_type in
+      let at = known_type w.tree w.scope e in
+      let taking = element_of t at in
+      let kept = and_parts m.keeps (is_among m.regions n && not (is_among m.partitions n)) takes in
+      let keeps = local.keeps kept.0 in
+      let other = not-true (is_among m.partitions n) (and_parts (is_among m.regions n) (not (is_among m.partitions n)) kept.1).1 in
+      let told = option_or_parts (rule_if (not (is_bound w.scope.names n)) rule.Name) _ none in
+      let there = name_there handing keeping task w sound sound_task m local scope names head n told.0 in
+      let index = option_or_parts (first_in_expression w.tree task w.scope e) _ told.1 in
+      let step = option_or_parts (first_of_step w.tree task w.scope taking) _ index.1 in
+      let first = (option_or_parts (first_of_taking w.tree taking) _ step.0).0 in
+      let a = own index.0 in
+      let stood = (option_or_parts (first_of_standing [] (stands at number_spot)) _ (taking_told w.tree taking first).2).0 in
+      let number = value_counts keeping w.scope.names (typed w e) a.value
+      (subst (λ u. may_be is_number u ≡ true) (local_known handing keeping task w sound sound_task m local scope names head e index.0) (stands_well [] at number_spot stood)) in
+      of_kept n e there keeps other t refl (named_kept keeping m w.scope.names n names there) (not-false _ (taking_told w.tree taking first).1) a.is
+      (counting keeping (typed w e) number)

@@ -1,0 +1,249 @@
+-- Null, casts and written types of pointers and indices, in a text with marked names of which no breach is told.
+use Rattle.std.proofs.Common.{◌≡◌, Bool, List, [], ◌∷◌, None, false, true, ap, refl, sym, subst, ◌∙◌, not, map}
+use Rattle.std.specs.Prelude.{◌||◌, ◌&&◌}
+use Rattle.std.specs.List.{list_any}
+use Rattle.std.proofs.lemmas.Bool.{and_parts, eqb-true, not-false, or_parts}
+use Rattle.plain_values.proofs.Plain.{option_or_parts}
+use Rattle.regent_tree.specs.Accesses.{space_in}
+use Rattle.regent_tree.specs.Lookup.{has_space, is_bound, type_named}
+use Rattle.regent_tree.specs.Scopes.{Scope, bound_to, in_scope}
+use Rattle.regent_tree.specs.StaticTypes.{looked_up, place_of_space, type_said, written_pointer}
+use Rattle.regent_tree.specs.Syntax.{Expression, Name, TaskTree, Tree, cast_expr, is_null_expr, null_expr}
+use Rattle.regent_tree.specs.Typing.{is_pointer}
+use Rattle.regent_tree.specs.declared.facts.Known.{Known}
+use Rattle.regent_tree.specs.declared.types.Kind.{Kind}
+use Rattle.regent_tree.specs.declared.types.NumberTerm.TheVariants as number
+use Rattle.regent_tree.specs.declared.types.PointerTerm.{PointerTerm}
+use Rattle.regent_tree.specs.declared.types.Ref.{Ref}
+use Rattle.regent_tree.specs.declared.types.Ref.TheVariants.{Named, Wild}
+use Rattle.regent_tree.specs.declared.types.TypeTerm.{TypeTerm}
+use Rattle.regent_tree.specs.declared.types.TypeTerm.TheVariants as term
+use Rattle.regent_tree.specs.declared.typing.Bound.{Bound}
+use Rattle.regent_tree.specs.declared.typing.StaticType.{StaticType}
+use Rattle.regent_tree.specs.declared.typing.StaticType.TheVariants.{Index as index_type, Pointer as pointer_type}
+use Rattle.check_laws.proofs.Parts.{unless_false}
+use Rattle.check_laws.specs.SoundScopes.{IsSoundScope}
+use Rattle.check_rules.proofs.Untold.{rule_none}
+use Rattle.check_rules.proofs.Written.{names_known}
+use Rattle.check_rules.specs.declared.rule.Rule.TheVariants as rule
+use Rattle.check_rules.specs.first.FirstInExpressions.{first_in_expression, first_in_type, first_of_standing}
+use Rattle.check_rules.specs.rules.Counts.{miscounts_in_type}
+use Rattle.check_rules.specs.rules.Names.{misses_region, unbound_name_in_type}
+use Rattle.check_rules.specs.rules.Pointers.{is_region_in, is_wrong_region_of_pointer, wrong_region_in_type}
+use Rattle.check_rules.specs.rules.Spaces.{misfits_in_type}
+use Rattle.check_rules.specs.rules.Standing.{number_spot, pointer_spot, stands}
+use Rattle.check_rules.specs.scopes.Sound.{IsSound, IsSoundTask}
+use Rattle.check_rules.specs.scopes.Variables.{declared_type}
+use Rattle.check_rules.specs.types.Declarations.{is_flawed_type}
+use Rattle.check_rules.specs.types.Fitting.{fits}
+use Rattle.check_rules.specs.types.KnownTypes.{known_type}
+use Rattle.check_rules.specs.types.Lookup.{names_a}
+use Rattle.check_rules.specs.types.Sorts.{may_be, same_kind}
+use Rattle.code_rules.specs.Slots.{Where, typed}
+use Rattle.local_form.specs.LocalForm.{Marked, goes_to_name, is_among, is_kept_term}
+use Rattle.code_laws.specs.Handing.{forms_by}
+use Rattle.code_laws.specs.Pointers.{BeginsAs, BeginsWith, GoesInto, IsPointer, IsWritten, a_pointer_type, begins_plain, begins_pointer, fills_index, into_index, into_plain, itself_null, itself_plain, zero_index}
+use Rattle.code_laws.specs.Simple.{IsScalar, number_index, number_integer, scalar_truth, simple_index, simple_integer, simple_space, simple_truth}
+use Rattle.code_laws.specs.Steps.{Forms}
+use Rattle.code_laws.proofs.KnownHeads.{KnowsHead}
+use Rattle.code_laws.proofs.LocalElements.{region_among, region_found, region_typed}
+use Rattle.code_laws.proofs.LocalNames.{AllKept, IsKept, IsLocalTree, kept_partition, kept_region, kept_scalar, kept_value, named_kept}
+use Rattle.code_laws.proofs.LocalPoints.{IsWell, local_known, scalar_well}
+use Rattle.code_laws.proofs.LocalTypes.{term_scalar}
+use Rattle.code_laws.proofs.LocalValues.{IsValue, alike_begins, scalar_begins, value_counts, value_fitting, value_pointer, value_simple}
+use Rattle.code_laws.proofs.Typing.{no_way, no_way_back, stands_well}
+use Rattle.code_laws.proofs.Values.{scalar_simple}
+use Rattle.code_laws.proofs.Wider.{counting}
+
+-- no value is a region
+value_not_in : (keeping : Bool) (bs : List Bound) (tree : Tree) (p : PointerTerm) (t : StaticType) → IsValue keeping bs t → may_be (is_region_in tree p) t ≡ false
+value_not_in keeping bs tree p _ (value_simple _ (simple_integer w)) = refl
+value_not_in keeping bs tree p _ (value_simple _ simple_truth) = refl
+value_not_in keeping bs tree p _ (value_simple _ (simple_space k)) = refl
+value_not_in keeping bs tree p _ (value_simple _ (simple_index k)) = refl
+value_not_in keeping bs tree p _ (value_pointer k sp args i q r) = refl
+
+-- where the field space is there, a region's is the pointer's
+space_same : (a b c : Bool) → a ≡ true → (b && (not a || c)) ≡ true → c ≡ true
+space_same true b c h e = (and_parts b c e).1
+space_same false b c h e = absurd (no_way_back h)
+
+-- ---- written types
+
+module _ (keeping : Bool) (m : Marked) (keeps : m.keeps ≡ true → keeping ≡ true) (tree : Tree) (s : Scope) (scope : IsSoundScope s) (names : AllKept keeping m s.names) where
+  -- a pointer's type that is written, and may be kept
+  pub record IsSaid (u : StaticType) : Type 0 where
+    pub keep : keeping ≡ true
+    pub value : IsValue keeping s.names u
+    pub written : IsWritten s.names u
+
+  abbrev said : PointerTerm → List Ref → StaticType
+  said p rs = pointer_type p.kind (place_of_space tree p.space.name) (map (looked_up (in_scope s)) p.space.args) (map (looked_up (in_scope s)) rs)
+
+  said_of : (p : PointerTerm) (n : Name) → keeping ≡ true → is_bound s.names n ≡ true → has_space tree p.space.name ≡ true →
+      (t : StaticType) → type_named s.names n ≡ t → IsKept keeping m s.names n (bound_to s.names n).number t → may_be (is_region_in tree p) t ≡ true →
+      IsSaid (said p (Named n ∷ []))
+  said_of p n keep there space t same (kept_scalar _ a) e =
+      absurd (no_way (sym e ∙ value_not_in keeping s.names tree p t (value_simple t (scalar_simple t a))))
+  said_of p n keep there space t same (kept_value _ a h q) e = absurd (no_way (sym e ∙ value_not_in keeping s.names tree p t a))
+  said_of p n keep there space _ same (kept_partition d r q a h) e = absurd (no_way_back e)
+  said_of p n keep there space _ same (kept_region k sp args h) e =
+      let b = bound_to s.names n in
+      let found = region_found s.next s.names scope.numbers n there k sp args same in
+      let place_same : place_of_space tree p.space.name ≡ sp =
+      eqb-true (place_of_space tree p.space.name) sp (space_same (has_space tree p.space.name) (same_kind p.kind k) _ space e) in record {
+        keep = keep;
+        value = value_pointer p.kind _ _ b.number keep (region_among s.next s.names scope.numbers n there k sp args same);
+        written = (
+          a_pointer_type _ _ _ _ tt,
+          (
+            ap (λ (c : Bound). c.number) found,
+            region_typed s.next s.names scope.numbers n there k sp args same,
+            ap (λ (c : Bound). space_in c.static_type) found ∙ ap space_in same ∙ sym place_same,
+            tt,
+          ),
+        );
+      }
+
+  said_by : (p : PointerTerm) (rs : List Ref) → goes_to_name m rs ≡ true → has_space tree p.space.name ≡ true →
+      list_any (is_wrong_region_of_pointer tree s.names p) rs ≡ false → IsSaid (said p rs)
+  said_by p (Named n ∷ []) goes space right =
+      let keep = keeps (and_parts m.keeps (is_among m.regions n && not (is_among m.partitions n)) goes).0 in
+      let named = and_parts (is_bound s.names n) (may_be (is_region_in tree p) (type_named s.names n))
+      (not-false (names_a (is_region_in tree p) s.names n) (or_parts (not (names_a (is_region_in tree p) s.names n)) false right).0) in
+      said_of p n keep named.0 space (type_named s.names n) refl (named_kept keeping m s.names n names named.0) named.1
+  said_by p (Named n ∷ r ∷ rs) goes space right = absurd (no_way_back goes)
+  said_by p (Wild ∷ rs) goes space right = absurd (no_way_back goes)
+  said_by p [] goes space right = absurd (no_way_back goes)
+
+  pub pointer_said : (p : PointerTerm) → goes_to_name m p.regions ≡ true → first_in_type tree s.names (term.Pointer p) ≡ None →
+      IsSaid (written_pointer tree (in_scope s) p)
+  pointer_said p goes e =
+      let a = option_or_parts _ _ e in
+      let b = option_or_parts _ _ a.1 in
+      let c = option_or_parts _ _ b.1 in
+      let bound = or_parts (not (has_space tree p.space.name) || list_any (misses_region s.names) p.space.args) (list_any (misses_region s.names) p.regions)
+      (rule_none (unbound_name_in_type tree s.names (term.Pointer p)) rule.Name a.0) in
+      let space = not-false (has_space tree p.space.name) (or_parts (not (has_space tree p.space.name)) (list_any (misses_region s.names) p.space.args) bound.0).0 in
+      said_by p p.regions goes space (rule_none (wrong_region_in_type tree s.names (term.Pointer p)) rule.Pointer c.0)
+
+  -- a type of which nothing is told is as it is written
+  pub type_flawless : (t : TypeTerm) → first_in_type tree s.names t ≡ None → declared_type tree s t ≡ type_said tree (in_scope s) s.next t
+  type_flawless t e =
+      let a = option_or_parts _ _ e in
+      let b = option_or_parts _ _ a.1 in
+      let c = option_or_parts _ _ b.1 in
+      let d = option_or_parts _ _ c.1 in
+      let named = rule_none (unbound_name_in_type tree s.names t) rule.Name a.0 in
+      let counted = rule_none (miscounts_in_type tree t) rule.Count b.0 in
+      let points = rule_none (wrong_region_in_type tree s.names t) rule.Pointer c.0 in
+      let right = rule_none (misfits_in_type tree s.names t) rule.Spaces d.0 in
+      let known = names_known tree s.names (λ n b. (scope.types n b).known) t named in
+      unless_false (is_flawed_type tree s.names t) (type_said tree (in_scope s) s.next t) (λ j. named j || counted j || points j || right j || known j)
+
+-- what fits an index or a pointer's variable, and begins it
+index_goes : (b : Bool) (bs : List Bound) (known : List Known) (from : StaticType) (k : Kind) → IsValue b bs from → fits known from (index_type k) ≡ true →
+    GoesInto from (index_type k)
+index_goes b bs known _ k (value_simple _ (simple_integer w)) e = into_plain _ _ (fills_index _ k (number_integer w))
+index_goes b bs known _ k (value_simple _ (simple_index j)) e = into_plain _ _ (fills_index _ k (number_index j))
+index_goes b bs known _ k (value_simple _ simple_truth) e = absurd (no_way_back e)
+index_goes b bs known _ k (value_simple _ (simple_space j)) e = absurd (no_way_back e)
+index_goes b bs known _ k (value_pointer j sp args i h r) e = into_index j sp args _ k
+
+pointer_goes : (b : Bool) (bs : List Bound) (known : List Known) (from u : StaticType) → IsValue b bs from → IsPointer u → fits known from u ≡ true → IsPointer from
+pointer_goes b bs known _ _ (value_simple _ (simple_integer w)) (a_pointer_type k sp args rs ns) e = absurd (no_way_back e)
+pointer_goes b bs known _ _ (value_simple _ (simple_index j)) (a_pointer_type k sp args rs ns) e = absurd (no_way_back e)
+pointer_goes b bs known _ _ (value_simple _ simple_truth) (a_pointer_type k sp args rs ns) e = absurd (no_way_back e)
+pointer_goes b bs known _ _ (value_simple _ (simple_space j)) (a_pointer_type k sp args rs ns) e = absurd (no_way_back e)
+pointer_goes b bs known _ _ (value_pointer j sq brgs i h r) u e = a_pointer_type j sq brgs _ tt
+
+module _ (keeping : Bool) (m : Marked) (keeps : m.keeps ≡ true → keeping ≡ true) (tree : Tree) (s : Scope) (scope : IsSoundScope s) (names : AllKept keeping m s.names) where
+  -- a variable of a written type: what it is, and how it begins, by itself or with what fits
+  pub record IsVariable (n : Name) (u : StaticType) : Type 0 where
+    pub value : IsValue keeping s.names u
+    pub kept : IsKept keeping m s.names n s.next u
+    pub itself : BeginsAs keeping s.names u
+    pub begins : (from : StaticType) → IsValue keeping s.names from → fits s.known from u ≡ true → BeginsWith keeping s.names from u
+
+  scalar_variable : (n : Name) (u : StaticType) → IsScalar u → IsVariable n u
+  scalar_variable n u a = record {
+    value = value_simple u (scalar_simple u a);
+    kept = kept_scalar u a;
+    itself = scalar_begins keeping s.names u a;
+    begins = λ from v e. alike_begins keeping s.names from u (value_fitting keeping s.names s.known from u v a e);
+  }
+
+  pub variable_said : (n : Name) (t : TypeTerm) → is_kept_term m n t ≡ true → first_in_type tree s.names t ≡ None →
+      IsVariable n (type_said tree (in_scope s) s.next t)
+  variable_said n (term.Number number.Int32) lo e = scalar_variable n _ (term_scalar (term.Number number.Int32) refl tree (in_scope s) s.next)
+  variable_said n (term.Number number.Int64) lo e = scalar_variable n _ (term_scalar (term.Number number.Int64) refl tree (in_scope s) s.next)
+  variable_said n term.Truth lo e = scalar_variable n _ scalar_truth
+  variable_said n (term.Number (number.Index k)) lo e =
+      let both = and_parts m.keeps (is_among m.indices n) lo in
+      let value = value_simple (index_type k) (simple_index k) in record {
+        value = value;
+        kept = kept_value (index_type k) value both.1 (λ p. absurd (no_way_back p));
+        itself = subst (λ b. BeginsAs b s.names (index_type k)) (sym (keeps both.0)) (itself_plain (index_type k) (zero_index k));
+        begins = λ from v fit. subst (λ b. BeginsWith b s.names from (index_type k)) (sym (keeps both.0))
+            (begins_plain from (index_type k) (index_goes keeping s.names s.known from k v fit));
+      }
+  variable_said n (term.Pointer p) lo e =
+      let one = and_parts (goes_to_name m p.regions) (is_among m.indices n && is_among m.pointers n) lo in
+      let two = and_parts (is_among m.indices n) (is_among m.pointers n) one.1 in
+      let u = written_pointer tree (in_scope s) p in
+      let is = pointer_said keeping m keeps tree s scope names p one.0 e in record {
+        value = is.value;
+        kept = kept_value u is.value two.0 (λ q. two.1);
+        itself = subst (λ b. BeginsAs b s.names u) (sym is.keep) (itself_null u is.written);
+        begins = λ from v fit. subst (λ b. BeginsWith b s.names from u) (sym is.keep)
+            (begins_pointer from u (pointer_goes keeping s.names s.known from u v is.written.0 fit) is.written);
+      }
+  variable_said n (term.Ispace k) lo e = absurd (no_way_back lo)
+  variable_said n (term.Region k u) lo e = absurd (no_way_back lo)
+  variable_said n (term.Partition d r c) lo e = absurd (no_way_back lo)
+
+-- ---- expressions
+
+module _ (handing keeping : Bool) (task : TaskTree) (w : Where) (sound : IsSound w.tree) (sound_task : IsSoundTask w.tree task) (m : Marked)
+    (local : IsLocalTree handing keeping m w.tree) (scope : IsSoundScope w.scope) (names : AllKept keeping m w.scope.names) (head : KnowsHead w.tree task w.scope) where
+  abbrev forms : Forms
+  forms = forms_by handing keeping w.tree task
+
+  abbrev Well : Expression → Type 0
+  Well e = IsWell handing keeping task w sound sound_task m local scope names head e
+
+  abbrev known : (e : Expression) → first_in_expression w.tree task w.scope e ≡ None → known_type w.tree w.scope e ≡ typed w e
+  known e told = local_known handing keeping task w sound sound_task m local scope names head e told
+
+  pub null_well : (p : PointerTerm) → goes_to_name m p.regions ≡ true → first_in_expression w.tree task w.scope (null_expr p) ≡ None → Well (null_expr p)
+  null_well p goes none =
+      let is = pointer_said keeping m local.keeps w.tree w.scope scope names p goes none in
+      record { is = (is.keep, is.written); value = is.value; scalar = λ q. absurd (no_way_back q); plain = λ q. absurd (no_way q) }
+
+  pub cast_well : (p : PointerTerm) (e : Expression) → goes_to_name m p.regions ≡ true → first_in_expression w.tree task w.scope (cast_expr p e) ≡ None →
+      (first_in_expression w.tree task w.scope e ≡ None → Well e) → Well (cast_expr p e)
+  cast_well p e goes none own =
+      let told = option_or_parts (first_in_expression w.tree task w.scope e) _ none in
+      let a = own told.0 in
+      let more = option_or_parts (first_of_standing [] (stands (known_type w.tree w.scope e) number_spot)) _ told.1 in
+      let may = stands_well [] (typed w e) number_spot (subst (λ u. first_of_standing [] (stands u number_spot) ≡ None) (known e told.0) more.0) in
+      let counts = counting keeping (typed w e) (value_counts keeping w.scope.names (typed w e) a.value may) in
+      let is = pointer_said keeping m local.keeps w.tree w.scope scope names p goes more.1 in
+      record { is = (is.keep, is.written, counts, a.is); value = is.value; scalar = λ q. absurd (no_way_back q); plain = λ q. absurd (no_way q) }
+
+  -- what may be a pointer is one, where pointers are kept
+  pointer_value : (t : StaticType) → IsValue keeping w.scope.names t → may_be is_pointer t ≡ true → (keeping ≡ true) × IsPointer t
+  pointer_value _ (value_simple _ (simple_integer v)) e = absurd (no_way_back e)
+  pointer_value _ (value_simple _ simple_truth) e = absurd (no_way_back e)
+  pointer_value _ (value_simple _ (simple_space k)) e = absurd (no_way_back e)
+  pointer_value _ (value_simple _ (simple_index k)) e = absurd (no_way_back e)
+  pointer_value _ (value_pointer k sp args i q r) e = (q, a_pointer_type k sp args _ tt)
+
+  pub is_null_well : (e : Expression) → first_in_expression w.tree task w.scope (is_null_expr e) ≡ None →
+      (first_in_expression w.tree task w.scope e ≡ None → Well e) → Well (is_null_expr e)
+  is_null_well e none own =
+      let told = option_or_parts (first_in_expression w.tree task w.scope e) _ none in
+      let a = own told.0 in
+      let may = stands_well [] (typed w e) pointer_spot (subst (λ u. first_of_standing [] (stands u pointer_spot) ≡ None) (known e told.0) told.1) in
+      let is = pointer_value (typed w e) a.value may in
+      scalar_well handing keeping task w sound sound_task m local scope names head (is_null_expr e) (is.0, is.1, a.is) scalar_truth

@@ -1,0 +1,5 @@
+use Rattle.local_form.proofs.Laws.{two_pointing}
+use Rattle.local_form.proofs.giving.access_is_pointing.Goals as goal
+
+pub returns-in_default-2 : goal.returns-in_default-2
+returns-in_default-2 c = two_pointing c.args.name.now c.args.steps.now c.in_default.len_at_least
