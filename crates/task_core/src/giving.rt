@@ -6,23 +6,15 @@ ghost use Rattle.board_state.specs.Kept.{IsKept};
 ghost use Rattle.run_journal.specs.declared.entry.StepKind.TheVariants as step;
 ghost use Rattle.task_core.specs.Boards.{HasMade, activity_of, step_by};
 ghost use Rattle.task_core.specs.Givens.{IsAnswer, IsJudged, IsTaken};
-ghost use Rattle.board_state.specs.Steps.{before_out};
-ghost use Rattle.board_terms.specs.Gives.{given_after};
-ghost use Rattle.board_terms.specs.States.{operation_at};
-ghost use Rattle.machine_terms.specs.Segments.{segment};
-
 use crate::answers::Given;
 use crate::board::Board;
 use crate::finishing::{finished, make_room, push_image};
-use board_state::BoardState;
 use board_terms::Claim;
 use frame_equality::is_same_before;
 use machine_terms::{Before, Ran};
 use plain_values::Shared;
-use region_tree::OpNumber;
 use run_journal::{Entry, StepKind};
 use std::alloc::{AllocError, Global};
-use task_code::Code;
 
 /// Whose a run is: the claim's own, or a stranger's, with what is kept for the claim.
 #[derive(Drop)]
@@ -84,13 +76,8 @@ impl Board {
             Ok(room) => room,
             Err(failed) => return Err((failed, ran)),
         };
-        give_state(
-            &mut self.state,
-            claim.op,
-            self.job.code.get(),
-            self.job.turns,
-            ran,
-        )?;
+        self.state
+            .give(claim.op, self.job.code.get(), self.job.turns, ran)?;
         self.journal.push_reserved(Entry {
             kind: StepKind::Give,
             op: claim.op,
@@ -113,19 +100,4 @@ fn judge_kept(alloc: Global, kept: &Shared<Before>, ran: &Ran) -> Result<Judged,
     } else {
         Ok(Judged::Strange(Some(kept.share()?)))
     }
-}
-
-fn give_state(
-    _state: &mut BoardState,
-    _op: OpNumber,
-    _code: &Code,
-    _turns: u64,
-    ran: Ran,
-) -> Result<(), (AllocError, Ran)>
-    requires { before_out (operation_at _state.old _op.0).activity ≡ Some ran }
-    ensures given { OnOk result (_state.new ≡ given_after _code.now _turns _state.old _op.0 (segment ran)) }
-    ensures unchanged { OnErr result (_state.new ≡ _state.old) }
-    ensures handed { IfErr result (λ e. e.1 ≡ ran) }
-{
-    Err((AllocError, ran))
 }

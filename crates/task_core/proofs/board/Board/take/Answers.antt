@@ -37,12 +37,12 @@ finished-requires-clause-room c =
     let none : b.outcome ≡ None = c.self.invariant.0.told ∙ given_open s c.args.claim c.args.ran kept own in
     let board : IsBoard b.job b.journal.items s None b.owed = subst (λ (o : Option Outcome). IsBoard b.job b.journal.items s o b.owed) none c.self.invariant.0 in
     let ready = c.self.invariant.1.1 none in
-    let behind : c.give_state.new._state ≡ given_after b.job.code b.job.turns s c.args.claim.op.0 (segment c.args.ran) =
-    c.in_ok-give_state.ensures.given ∙ ap (λ (x : Code). given_after x b.job.turns s c.args.claim.op.0 (segment c.args.ran)) c.get-2.ensures in
+    let behind : c.give.new.self ≡ given_after b.job.code b.job.turns s c.args.claim.op.0 (segment c.args.ran) =
+    c.in_ok-give.ensures.given ∙ ap (λ (x : Code). given_after x b.job.turns s c.args.claim.op.0 (segment c.args.ran)) c.get-2.ensures in
     let more : c.in-Ok.room.said ≡ b.said + length (segment c.args.ran).text =
     c.in-Ok.ensures.said ∙ ap (λ (x : After). b.said + length x.text) c.after.ensures in
     let told = told_room b.job b.journal.items s b.owed c.args.claim c.args.ran board own b.said b.text.items (vec_capacity b.text) b.images.items
-    c.give_state.new._state c.in-Ok.room.said ready behind more in
+    c.give.new.self c.in-Ok.room.said ready behind more in
     omega (arith, told, c.in-Ok.ensures.room)
 
 pub finished-requires-clause-images : goal.finished-requires-clause-images
@@ -55,18 +55,18 @@ finished-requires-clause-images c =
     let none : b.outcome ≡ None = c.self.invariant.0.told ∙ given_open s c.args.claim c.args.ran kept own in
     let board : IsBoard b.job b.journal.items s None b.owed = subst (λ (o : Option Outcome). IsBoard b.job b.journal.items s o b.owed) none c.self.invariant.0 in
     let ready = c.self.invariant.1.1 none in
-    let behind : c.give_state.new._state ≡ given_after b.job.code b.job.turns s c.args.claim.op.0 (segment c.args.ran) =
-    c.in_ok-give_state.ensures.given ∙ ap (λ (x : Code). given_after x b.job.turns s c.args.claim.op.0 (segment c.args.ran)) c.get-2.ensures in
+    let behind : c.give.new.self ≡ given_after b.job.code b.job.turns s c.args.claim.op.0 (segment c.args.ran) =
+    c.in_ok-give.ensures.given ∙ ap (λ (x : Code). given_after x b.job.turns s c.args.claim.op.0 (segment c.args.ran)) c.get-2.ensures in
     let more : c.in-Ok.room.said ≡ b.said + length (segment c.args.ran).text =
     c.in-Ok.ensures.said ∙ ap (λ (x : After). b.said + length x.text) c.after.ensures in
     let image : IsImageFor b.job.code (main_makes c.args.claim.op.0 (segment c.args.ran).ends) c.in-Ok.room.image =
     subst (λ (x : Code). IsImageFor x (main_makes c.args.claim.op.0 (segment c.args.ran).ends) c.in-Ok.room.image) c.get.ensures
     (subst (λ (x : After). IsImageFor c.get.result.now (main_makes c.args.claim.op.0 x.ends) c.in-Ok.room.image) c.after.ensures c.in-Ok.ensures.image) in
     let room = room_given b.job b.journal.items s b.owed c.args.claim c.args.ran board own b.said b.text.items (vec_capacity b.text) b.images.items
-    c.give_state.new._state c.in-Ok.room.said c.in-Ok.room.image ready behind more (vec_capacity c.make_room-made.new.text) c.in-Ok.ensures.room image in
+    c.give.new.self c.in-Ok.room.said c.in-Ok.room.image ready behind more (vec_capacity c.make_room-made.new.text) c.in-Ok.ensures.room image in
     let images : c.push_image.new.images.items ≡ b.images.items ++ listed c.in-Ok.room.image =
     c.push_image.ensures ∙ ap (λ (xs : List RootImage). xs ++ listed c.in-Ok.room.image) c.make_room-made.ensures.images in
-    subst (λ (xs : List RootImage). AreRooms c.give_state.new._state (operation_at c.give_state.new._state 0).frame.own xs) (sym images) room.images
+    subst (λ (xs : List RootImage). AreRooms c.give.new.self (operation_at c.give.new.self 0).frame.own xs) (sym images) room.images
 
 pub invariant_of-self-2 : goal.invariant_of-self-2
 invariant_of-self-2 c =
@@ -78,18 +78,18 @@ invariant_of-self-2 c =
     let none : b.outcome ≡ None = c.self.invariant.0.told ∙ given_open s c.args.claim c.args.ran kept own in
     let board : IsBoard b.job b.journal.items s None b.owed = subst (λ (o : Option Outcome). IsBoard b.job b.journal.items s o b.owed) none c.self.invariant.0 in
     let ready = c.self.invariant.1.1 none in
-    let behind : c.give_state.new._state ≡ given_after b.job.code b.job.turns s c.args.claim.op.0 (segment c.args.ran) =
-    c.in_ok-give_state.ensures.given ∙ ap (λ (x : Code). given_after x b.job.turns s c.args.claim.op.0 (segment c.args.ran)) c.get-2.ensures in
+    let behind : c.give.new.self ≡ given_after b.job.code b.job.turns s c.args.claim.op.0 (segment c.args.ran) =
+    c.in_ok-give.ensures.given ∙ ap (λ (x : Code). given_after x b.job.turns s c.args.claim.op.0 (segment c.args.ran)) c.get-2.ensures in
     let more : c.in-Ok.room.said ≡ b.said + length (segment c.args.ran).text =
     c.in-Ok.ensures.said ∙ ap (λ (x : After). b.said + length x.text) c.after.ensures in
     let image : IsImageFor b.job.code (main_makes c.args.claim.op.0 (segment c.args.ran).ends) c.in-Ok.room.image =
     subst (λ (x : Code). IsImageFor x (main_makes c.args.claim.op.0 (segment c.args.ran).ends) c.in-Ok.room.image) c.get.ensures
     (subst (λ (x : After). IsImageFor c.get.result.now (main_makes c.args.claim.op.0 x.ends) c.in-Ok.room.image) c.after.ensures c.in-Ok.ensures.image) in
     let room = room_given b.job b.journal.items s b.owed c.args.claim c.args.ran board own b.said b.text.items (vec_capacity b.text) b.images.items
-    c.give_state.new._state c.in-Ok.room.said c.in-Ok.room.image ready behind more (vec_capacity c.make_room-made.new.text) c.in-Ok.ensures.room image in
+    c.give.new.self c.in-Ok.room.said c.in-Ok.room.image ready behind more (vec_capacity c.make_room-made.new.text) c.in-Ok.ensures.room image in
     let images : c.push_image.new.images.items ≡ b.images.items ++ listed c.in-Ok.room.image =
     c.push_image.ensures ∙ ap (λ (xs : List RootImage). xs ++ listed c.in-Ok.room.image) c.make_room-made.ensures.images in
-    let given = board_given b.job b.journal.items s b.owed c.args.claim c.args.ran board own c.push_reserved.new.self.items c.give_state.new._state
+    let given = board_given b.job b.journal.items s b.owed c.args.claim c.args.ran board own c.push_reserved.new.self.items c.give.new.self
     c.finished.result c.push_reserved.ensures.items behind c.finished.ensures.outcome in (
       given.0,
       (
@@ -101,7 +101,7 @@ invariant_of-self-2 c =
               said = room.said;
               empty = text.0;
               room = omega (arith, c.in-Ok.ensures.room, text.1);
-              images = subst (λ (xs : List RootImage). AreRooms c.give_state.new._state (operation_at c.give_state.new._state 0).frame.own xs)
+              images = subst (λ (xs : List RootImage). AreRooms c.give.new.self (operation_at c.give.new.self 0).frame.own xs)
                   (sym (same ∙ images)) room.images;
             },
       ),
@@ -113,12 +113,12 @@ returns-clause-made c =
     let s = b.state in
     let own : before_by c.args.claim (operation_at s c.args.claim.op.0).activity ≡ Some c.args.ran =
     ap (λ (x : Standing). before_by c.args.claim (operation_at x.state c.args.claim.op.0).activity) c.self.view_is ∙ c.requires.own in
-    let behind : c.give_state.new._state ≡ given_after b.job.code b.job.turns s c.args.claim.op.0 (segment c.args.ran) =
-    c.in_ok-give_state.ensures.given ∙ ap (λ (x : Code). given_after x b.job.turns s c.args.claim.op.0 (segment c.args.ran)) c.get-2.ensures in
+    let behind : c.give.new.self ≡ given_after b.job.code b.job.turns s c.args.claim.op.0 (segment c.args.ran) =
+    c.in_ok-give.ensures.given ∙ ap (λ (x : Code). given_after x b.job.turns s c.args.claim.op.0 (segment c.args.ran)) c.get-2.ensures in
     subst (λ (x : Standing). HasMade x (step_by step.Give c.args.claim.op c.args.claim.seat) (record {
       job = b.job;
       journal = c.push_reserved.new.self.items;
-      state = c.give_state.new._state;
+      state = c.give.new.self;
     })) c.self.view_is (record {
       job = refl;
       journal = c.push_reserved.ensures.items;
