@@ -1,12 +1,11 @@
 -- What a board keeps behind a run that was given back.
 use Rattle.std.specs.Prelude.{IfNone}
-use Rattle.std.proofs.Common.{◌≡◌, ◌≢◌, ◌<◌, ◌≤◌, ◌∙◌, ◌+◌, ◌-◌, ◌++◌, ◌==◌, ◌⊎◌, ℕ, zero, suc, Bool, true, false, List, [], ◌∷◌, None, Option, Some, ap, arith, cond, get_or, inl, inr, length, map, refl, set, subst, sym}
+use Rattle.std.proofs.Common.{◌≡◌, ◌≢◌, ◌<◌, ◌≤◌, ◌∙◌, ◌+◌, ◌-◌, ◌++◌, ◌==◌, ℕ, zero, suc, Bool, true, false, List, [], ◌∷◌, None, Option, Some, ap, arith, cond, get_or, length, map, refl, set, subst, sym}
 use Rattle.std.proofs.Math.Seq.{get_or-append_seam}
 use Rattle.std.proofs.lemmas.Bool.{false≢true}
 use Rattle.std.proofs.lemmas.Option.{none-some, same_Some}
 use Rattle.std.proofs.lemmas.List.{append-nil, get_or-set_other, get_or-set_same, get_or_append_left, length-set}
 use Rattle.std.proofs.lemmas.List.Elements.{All-get_or, All-head, All-tail}
-use Rattle.region_tree.specs.declared.tree.OpNumber.{OpNumber}
 use Rattle.region_tree.specs.declared.tree.RootId.{RootId}
 use Rattle.regent_tree.specs.declared.outcome.Outcome.{Outcome}
 use Rattle.regent_tree.specs.declared.outcome.RootImage.{RootImage}
@@ -17,7 +16,6 @@ use Rattle.run_journal.specs.declared.entry.Entry.{Entry}
 use Rattle.run_journal.specs.declared.entry.StepKind.TheVariants as step
 use Rattle.machine_terms.specs.Segments.{segment}
 use Rattle.machine_terms.specs.declared.frame.Before.{Before}
-use Rattle.machine_terms.specs.declared.frame.Frame.{Frame}
 use Rattle.machine_terms.specs.declared.outcome.After.{After}
 use Rattle.machine_terms.specs.declared.outcome.Made.TheVariants as made
 use Rattle.machine_terms.specs.declared.outcome.Yield.{Yield}
@@ -42,12 +40,11 @@ use Rattle.board_facts.proofs.Replays.{out_there, replays_are_sound}
 use Rattle.board_facts.proofs.Telling.{text_is_what_was_said}
 use Rattle.board_facts.specs.Families.{AreMade, HasMadeOwn, IsSound}
 use Rattle.board_facts.specs.Given.{IsGiven, IsHeldBehind, IsMadeIn, IsUnclaimed}
-use Rattle.board_facts.specs.Rooms.{IsRoomFor, IsShaped, shape_of}
-use Rattle.board_facts.specs.Texts.{said_in}
+use Rattle.board_facts.specs.Rooms.{IsShaped}
 use Rattle.task_core.proofs.Finished.{claimed_open}
 use Rattle.task_core.proofs.Steps.{replay_more, seat_of}
 use Rattle.task_core.specs.Boards.{IsBoard, step_by}
-use Rattle.task_core.specs.Rooms.{AreRooms, HasOutcomeRoom, IsImageFor, IsReady, IsRoomOf, listed, main_makes}
+use Rattle.task_core.specs.Rooms.{AreRooms, HasOutcomeRoom, IsImageFor, IsRoomOf, listed, main_makes}
 
 -- ---- the step
 

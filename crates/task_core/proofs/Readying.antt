@@ -1,5 +1,5 @@
 -- Room for the outcome behind steps that change what an operation does, and nothing else.
-use Rattle.std.proofs.Common.{◌≡◌, ◌<◌, ◌≤◌, ◌∙◌, ℕ, zero, suc, List, [], ◌∷◌, None, Option, ap, get_or, refl, set, subst, sym}
+use Rattle.std.proofs.Common.{◌≡◌, ◌∙◌, ℕ, zero, suc, List, [], ◌∷◌, Option, ap, get_or, refl, set, subst, sym}
 use Rattle.region_tree.specs.declared.tree.RootId.{RootId}
 use Rattle.regent_tree.specs.declared.outcome.Outcome.{Outcome}
 use Rattle.regent_tree.specs.declared.outcome.RootImage.{RootImage}
@@ -16,7 +16,7 @@ use Rattle.board_state.specs.Steps.{copied_activity, copy_made}
 use Rattle.board_facts.proofs.Lists.{sum_set_same}
 use Rattle.board_facts.specs.Rooms.{IsRoomFor}
 use Rattle.board_facts.specs.Texts.{said_by, said_in}
-use Rattle.task_core.specs.Rooms.{AreRooms, HasOutcomeRoom, IsReady, IsRoomOf}
+use Rattle.task_core.specs.Rooms.{AreRooms, IsReady, IsRoomOf}
 
 seen_same : {A B : Type 0} (g : A → B) (xs : List A) (k j : ℕ) (y d : A) → g y ≡ g (get_or xs k d) → g (get_or (set xs k y) j d) ≡ g (get_or xs j d)
 seen_same g [] k j y d e = refl

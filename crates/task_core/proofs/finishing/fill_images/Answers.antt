@@ -1,4 +1,4 @@
-use Rattle.std.proofs.Common.{◌≡◌, ◌<◌, ◌≤◌, ◌∙◌, ◌+◌, ℕ, Global, List, Vec, ap, arith, get_or, length, map, set, subst, sym}
+use Rattle.std.proofs.Common.{◌≡◌, ◌<◌, ◌∙◌, ℕ, Global, List, Vec, ap, arith, get_or, length, map, set, subst, sym}
 use Rattle.std.proofs.Math.Seq.{paste}
 use Rattle.std.proofs.lemmas.List.{length-set}
 use Rattle.region_tree.specs.declared.tree.RootId.{RootId}

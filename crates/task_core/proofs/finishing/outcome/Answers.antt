@@ -1,7 +1,5 @@
-use Rattle.std.proofs.Common.{◌≡◌, ◌≤◌, ◌∙◌, ◌+◌, ◌++◌, ℕ, Global, List, Vec, ap, arith, length, sym}
-use Rattle.std.specs.Vec.{vec_capacity, vec_len}
+use Rattle.std.proofs.Common.{◌≡◌, ◌∙◌, ◌++◌, ℕ, Global, List, Vec, ap, arith, length, sym}
 use Rattle.regent_tree.specs.declared.outcome.Ending.{Ending as RunEnding}
-use Rattle.regent_tree.specs.declared.outcome.Outcome.{Outcome}
 use Rattle.board_terms.specs.declared.operation.Operation.{Operation}
 use Rattle.board_terms.specs.Outcomes.{Told, ending_by, told}
 use Rattle.board_outcomes.proofs.Tellings.{told_by_list}

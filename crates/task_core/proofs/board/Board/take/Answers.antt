@@ -1,4 +1,4 @@
-use Rattle.std.proofs.Common.{◌≡◌, ◌≤◌, ◌∙◌, ◌+◌, ◌++◌, ◌∷◌, [], ℕ, List, None, Option, Some, ap, arith, length, refl, subst, sym}
+use Rattle.std.proofs.Common.{◌≡◌, ◌∙◌, ◌+◌, ◌++◌, List, None, Option, Some, ap, arith, length, refl, subst, sym}
 use Rattle.std.specs.Vec.{vec_capacity}
 use Rattle.regent_tree.specs.declared.outcome.Outcome.{Outcome}
 use Rattle.regent_tree.specs.declared.outcome.RootImage.{RootImage}
