@@ -10,8 +10,10 @@ mod rooting;
 mod telling;
 mod waiting;
 
-pub use ending::{end, fail, frame_of_roots};
+pub use ending::{end, fail, frame_of_roots, leave, take_parts};
 pub use parking::{Waits, wait_for_nothing};
 pub use parting::make_partition;
+pub use returning::give_parts;
 pub use rooting::make_root;
+pub use telling::{tell, untell};
 pub use waiting::{await_child, want};

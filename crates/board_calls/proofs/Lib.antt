@@ -1,0 +1,4 @@
+pub mod Frames
+pub mod Issues
+pub mod Maps
+pub mod Same
