@@ -42,13 +42,13 @@ ok_then (Err e) P Q p f = tt
 
 -- ---- one operation that is changed twice
 
-changed_twice : (s : State) (k : ℕ) (o : Operation) (f : Operation → Operation) → k < length s.operations →
+pub changed_twice : (s : State) (k : ℕ) (o : Operation) (f : Operation → Operation) → k < length s.operations →
     with_operation (with_operation s k o) k (f (operation_at (with_operation s k o) k)) ≡ with_operation s k (f o)
 changed_twice s k o f b =
     ap (λ (x : Operation). with_operation (with_operation s k o) k (f x)) (get_or-set_same s.operations k o no_operation b)
     ∙ ap (λ (os : List Operation). record s { operations = os }) (set-set s.operations k o (f o))
 
-left_at : (s : State) (k : ℕ) (a : After) → k < length s.operations → operation_at (behind s k a) k ≡ behind_segment (operation_at s k) a
+pub left_at : (s : State) (k : ℕ) (a : After) → k < length s.operations → operation_at (behind s k a) k ≡ behind_segment (operation_at s k) a
 left_at s k a b = get_or-set_same s.operations k (behind_segment (operation_at s k) a) no_operation b
 
 -- ---- its own work has ended

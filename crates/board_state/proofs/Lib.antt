@@ -1,4 +1,6 @@
 pub mod Keeping
+pub mod Called
+pub mod CallsGiven
 pub mod Claims
 pub mod Given
 pub mod Gives

@@ -12,13 +12,15 @@ use Rattle.board_terms.specs.declared.operation.Activity.TheVariants as activity
 use Rattle.board_terms.specs.declared.operation.Operation.{Operation}
 use Rattle.board_terms.specs.Claims.{activity_behind, moved_on}
 use Rattle.board_terms.specs.States.{State, doing, operation_at, with_operation}
-use Rattle.board_terms.specs.Gives.{behind_segment, yielded}
+use Rattle.board_terms.specs.Gives.{behind_segment, with_parts, yielded}
 use Rattle.board_terms.specs.declared.operation.Ending.{Ending}
 use Rattle.board_terms.specs.declared.operation.Ending.TheVariants.{Broken}
 use Rattle.board_terms.specs.declared.operation.Wait.{Wait}
 use Rattle.board_gives.specs.Gives.{ended_with, parked_with}
 use Rattle.board_gives.specs.Makes.{may_part, parted_with, rooted_with}
+use Rattle.board_calls.specs.Calls.{are_all, called_operations, called_waits, frames_of}
 use Rattle.dependence_graph.specs.Graphs.{parked, parked_on}
+use Rattle.dependence_graph.specs.Knots.{number}
 use Rattle.dependence_graph.specs.declared.stage.Waiting.{Waiting}
 use Rattle.machine_terms.specs.declared.outcome.After.{After}
 use Rattle.machine_terms.specs.declared.value.RegionValue.{RegionValue}
@@ -115,3 +117,11 @@ parted_in r sets disjoint s k a = record (with_operation s k (parted_with s.tree
 abbrev pub parting_in : RegionValue → List (List ℕ) → Bool → State → ℕ → After → State
 parting_in r sets disjoint s k a =
     cond (may_part s.tree r sets disjoint) (parted_in r sets disjoint s k a) (ended_in s k a Broken s.map)
+
+-- calls are issued, as far as they may be, and the parts go back
+abbrev pub called_with : Code → ℕ → State → ℕ → After → State
+called_with code turns s k a = record s {
+  map = with_parts a.parts s.map;
+  operations = called_operations s.operations (number k) a (frames_of code turns s.tree s.map a) (are_all code turns s.tree s.map a);
+  waits = called_waits s.tree s.waits (number k) (frames_of code turns s.tree s.map a) (are_all code turns s.tree s.map a);
+}

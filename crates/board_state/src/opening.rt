@@ -2,16 +2,16 @@
 
 ghost use Rattle.std.specs.Prelude.{◌≡◌, [], IfOk, Some, false};
 ghost use Rattle.board_state.specs.Kept.{IsLent, is_claimed};
-ghost use Rattle.board_terms.specs.States.{begun_with, called_by, opened, opened_with, void_state};
+ghost use Rattle.board_terms.specs.States.{begun_with, opened, opened_with, void_state};
 ghost use Rattle.dependence_graph.specs.Graphs.{new_graph};
 ghost use Rattle.region_tree.specs.Trees.{empty_tree};
 ghost use Rattle.std.specs.Prelude.{length};
 
 use crate::state::BoardState;
+use board_calls::called_by;
 use board_gives::{Waits, frame_of_roots, wait_for_nothing};
-use board_terms::{Activity, Ending, Operation, Wait};
+use board_terms::{Activity, Ending, Operation};
 use dependence_graph::{Graph, How};
-use machine_terms::Frame;
 use physical_instances::Contents;
 use plain_values::Sequence;
 use region_forest::Forest;
@@ -99,19 +99,4 @@ fn begun_with(
         graph,
         turns: 0,
     })
-}
-
-/// An operation that begins in a frame, called by another one.
-fn called_by(alloc: Global, parent: OpNumber, frame: Frame) -> Operation
-    ensures { result ≡ called_by parent frame }
-{
-    Operation {
-        parent,
-        children: Sequence::new(alloc),
-        frame,
-        parts: Sequence::new(alloc),
-        said: Sequence::new(alloc),
-        wait: Wait::Beginning,
-        activity: Activity::Idle,
-    }
 }
