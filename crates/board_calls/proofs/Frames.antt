@@ -1,10 +1,10 @@
 -- The frames in which calls begin.
-use Rattle.std.specs.Prelude.{◌==◌, ◌&&◌, nat_le, nat_lt, IfSome}
+use Rattle.std.specs.Prelude.{◌&&◌, nat_le, nat_lt, IfSome}
 use Rattle.std.proofs.Common.{◌≡◌, ◌≤◌, ◌+◌, ℕ, suc, Bool, true, false, List, [], ◌∷◌, All, Option, Some, None, ap, arith, cond, length, slice_get, subst, refl, sym}
 use Rattle.std.proofs.lemmas.Bool.{and_parts, eqb-true, ltb-true}
 use Rattle.std.proofs.lemmas.List.Elements.{All-cons, All-nil}
 use Rattle.region_tree.specs.Needs.{AreNeeds, IsNeed}
-use Rattle.region_tree.specs.Trees.{IsRegion, RegionTree}
+use Rattle.region_tree.specs.Trees.{RegionTree}
 use Rattle.region_tree.specs.declared.needs.Need.{Need}
 use Rattle.logical_map.specs.Maps.{LogicalMap}
 use Rattle.task_code.specs.declared.code.Code.{Code}
@@ -17,7 +17,7 @@ use Rattle.machine_terms.specs.declared.value.RegionValue.{RegionValue}
 use Rattle.machine_terms.specs.declared.value.Value.{Value}
 use Rattle.machine_terms.specs.Opening.{need_on, needs_on, with_points}
 use Rattle.machine_terms.specs.Pointers.{region_in}
-use Rattle.board_terms.specs.Calls.{are_declared, first_opens, has_field, is_there, needs_within, opening_of, opens}
+use Rattle.board_terms.specs.Calls.{are_declared, first_opens, has_field, opening_of, opens}
 use Rattle.board_terms.specs.Makes.{is_here}
 use Rattle.board_terms.specs.States.{State}
 use Rattle.board_terms.specs.declared.operation.Operation.{Operation}

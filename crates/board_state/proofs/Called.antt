@@ -1,11 +1,10 @@
 -- What a state keeps behind calls that are issued.
 use Rattle.std.specs.Prelude.{◌≢◌, IfSome, OnErr, OnOk, Result, Ok, Err}
-use Rattle.std.proofs.Common.{◌≡◌, ◌<◌, ◌≤◌, ◌∙◌, ◌+◌, ◌-◌, ◌++◌, ℕ, zero, suc, Bool, true, false, List, [], ◌∷◌, All, None, Option, Some, ap, arith, get_or, inl, inr, length, map, refl, set, subst, sym, ⊎_elim}
+use Rattle.std.proofs.Common.{◌≡◌, ◌<◌, ◌≤◌, ◌∙◌, ◌+◌, ◌-◌, ◌++◌, ℕ, zero, suc, Bool, true, false, List, [], ◌∷◌, All, Some, ap, arith, get_or, inl, inr, length, map, refl, set, subst, sym, ⊎_elim}
 use Rattle.std.proofs.lemmas.Bool.{cases_lt, false≢true}
 use Rattle.std.proofs.lemmas.Bool.Decides.{eqb_tells}
 use Rattle.std.proofs.lemmas.List.{get_or-append_right, get_or-set_other, get_or-set_same, get_or_append_left, get_or_push, length-append, length-map, length-set}
-use Rattle.std.proofs.lemmas.List.Elements.{All-append, All-cons, All-get_or, All-head, All-map, All-nil, All-set, All-tail, All-weaker}
-use Rattle.plain_values.specs.Points.{counted_from}
+use Rattle.std.proofs.lemmas.List.Elements.{All-append, All-cons, All-map, All-nil, All-set, All-weaker}
 use Rattle.region_finder.specs.Listings.{IsListingOf, earlier}
 use Rattle.region_tree.specs.Needs.{AreNeeds}
 use Rattle.region_tree.specs.Trees.{RegionTree}
@@ -14,7 +13,7 @@ use Rattle.region_tree.specs.declared.tree.OpNumber.{OpNumber}
 use Rattle.logical_map.specs.Maps.{LogicalMap}
 use Rattle.dependence_graph.proofs.Extending.{extends_issued, size_issued}
 use Rattle.dependence_graph.specs.Entries.{Knot}
-use Rattle.dependence_graph.specs.Graphs.{Waits, issued, issued_one, knot_on, parked_on}
+use Rattle.dependence_graph.specs.Graphs.{Waits, issued, issued_one, knot_on}
 use Rattle.dependence_graph.specs.Knots.{knot_at, no_knot, number}
 use Rattle.dependence_graph.specs.declared.stage.Stage.TheVariants.{Begun, Dropped, Parked, Stopped, Waiting}
 use Rattle.machine_terms.specs.declared.frame.Before.{Before}
@@ -30,7 +29,7 @@ use Rattle.board_calls.proofs.Issues.{all_need, listing_issued}
 use Rattle.board_calls.specs.Calls.{HasNeedsOf, activity_by, are_all, called_waits, calling, frames_of, numbers_from, waiting_by}
 use Rattle.board_gives.specs.Gives.{IsIssuedBy}
 use Rattle.board_gives.specs.Makes.{IsRootBelow}
-use Rattle.board_state.proofs.Keeping.{StaysBut, issued_stays, stays_set}
+use Rattle.board_state.proofs.Keeping.{StaysBut, stays_set}
 use Rattle.board_state.proofs.Gives.{left_needs, out_needs, out_there, own_needs}
 use Rattle.board_state.proofs.Roots.{live_with_parts}
 use Rattle.board_state.proofs.Segments.{segment_needs}

@@ -1,9 +1,7 @@
 -- That what a method makes of calls is what board_terms says of a segment that ends in them.
 use Rattle.std.specs.Prelude.{nat_lt, ◌==◌}
-use Rattle.std.proofs.Common.{◌≡◌, ◌<◌, ◌∙◌, ◌++◌, ℕ, Bool, true, false, List, [], None, Option, Some, ap, length, map, refl, set, subst, sym}
+use Rattle.std.proofs.Common.{◌≡◌, ◌<◌, ◌∙◌, ◌++◌, ℕ, Bool, true, false, List, [], Option, Some, ap, length, map, refl, set, sym}
 use Rattle.std.proofs.lemmas.List.{get_or-set_same, length-set, set-set}
-use Rattle.plain_values.specs.Points.{counted_from}
-use Rattle.logical_map.specs.Maps.{LogicalMap, columns_of}
 use Rattle.dependence_graph.specs.Knots.{number}
 use Rattle.task_code.specs.declared.code.Code.{Code}
 use Rattle.machine_terms.specs.declared.frame.Before.{Before}
@@ -20,7 +18,7 @@ use Rattle.board_terms.specs.Gives.{behind_segment, frame_left, parts_given, wit
 use Rattle.board_terms.specs.States.{State, called_by, no_operation, operation_at, with_operation}
 use Rattle.board_calls.proofs.Maps.{same_fields}
 use Rattle.board_calls.proofs.Same.{same_frames}
-use Rattle.board_calls.specs.Calls.{activity_by, are_all, called_operations, called_waits, caller_in, calling, calls_in, frames_by, frames_in, frames_of, numbers_from, place}
+use Rattle.board_calls.specs.Calls.{activity_by, are_all, called_operations, called_waits, caller_in, calls_in, frames_by, frames_in, frames_of, numbers_from, place}
 use Rattle.board_state.proofs.Given.{changed_twice, left_at}
 use Rattle.board_state.specs.Steps.{behind, called_with, given_by}
 

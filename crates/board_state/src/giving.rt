@@ -42,6 +42,7 @@ impl BoardState {
     }
 
     /// What a segment yields is done.
+    #[tactic(auto, using(crate::proofs::CallsGiven::calls_there))]
     fn give_yielded(
         &mut self,
         op: OpNumber,

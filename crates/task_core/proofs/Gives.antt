@@ -206,7 +206,7 @@ module _ (code : Code) (s t : State) (a : After) (sound : IsSound s) (there : 0 
   by_yield (yield.Make (made.Root size space)) m (Some x) i =
       subst (λ (rs : List RootId). AreRooms t rs (images ++ x ∷ [])) (sym (m.1.1.0 ∙ ap (λ (rs : List RootId). rs ++ next_root s ∷ []) kept))
       (one_room_more t own images (next_root s) x before (image_made size space x i m.1.0
-          (subst (λ (ns : List ℕ). IsShaped ns t.map s.tree.roots) (sym i.1.1.1) m.1.1.1)))
+      (subst (λ (ns : List ℕ). IsShaped ns t.map s.tree.roots) (sym i.1.1.1) m.1.1.1)))
   by_yield (yield.Make (made.Partition r sets disjoint)) m image i = same m.1.1.0 image i
   by_yield (yield.Calls cs) m image i = same m.1.1.0 image i
   by_yield (yield.Want root field) m image i = same m.1.1.0 image i
@@ -226,10 +226,10 @@ rooms_given code s t (suc k) a sound there g kept images rooms image i =
     let first : 0 < length s.operations = omega (arith, there) in
     subst (λ (o : Operation). AreRooms t o.frame.own (images ++ listed image)) (sym (main_stays code s t (suc k) a g first (λ e. omega (arith, e))))
     (subst (λ (xs : List RootImage). AreRooms t (operation_at s 0).frame.own xs)
-        (sym (ap (λ (o : Option RootImage). images ++ listed o) (no_image code image i) ∙ append-nil images))
-        (rooms_behind s t s.tree.roots (operation_at s 0).frame.own images (All-get_or (HasMadeOwn s.tree.roots) s.operations 0 no_operation first sound.own)
-        (λ r b. extents_kept code a.ends s t (frame_left (operation_at s (suc k)).frame a.frame).own g.operation.frame.own r g.made (omega (arith, b, sound.extents)))
-        (λ r b. g.held r (λ e. omega (arith, e, b))) rooms))
+    (sym (ap (λ (o : Option RootImage). images ++ listed o) (no_image code image i) ∙ append-nil images))
+    (rooms_behind s t s.tree.roots (operation_at s 0).frame.own images (All-get_or (HasMadeOwn s.tree.roots) s.operations 0 no_operation first sound.own)
+    (λ r b. extents_kept code a.ends s t (frame_left (operation_at s (suc k)).frame a.frame).own g.operation.frame.own r g.made (omega (arith, b, sound.extents)))
+    (λ r b. g.held r (λ e. omega (arith, e, b))) rooms))
 
 -- ---- all of it
 
@@ -275,11 +275,14 @@ module _ (job : Job) (es : List Entry) (s : State) (owed : ℕ) (c : Claim) (b :
   -- what is owed, and the outcome that is told of it
   pub board_given : (new : List Entry) (t : State) (outcome : Option Outcome) → new ≡ es ++ step_by step.Give c.op c.seat ∷ [] → t ≡ behind →
       outcome ≡ result t → IsBoard job new t outcome (owed - 1) × (0 < owed)
-  board_given new t outcome n m told = (record {
-    replayed = ap (replay job) n ∙ replayed ∙ ap (λ (x : State). Some x) (sym m);
-    told = told;
-    owes = sym owes.0 ∙ ap (λ (x : State). owed_by x.operations) (sym m);
-  }, owes.1)
+  board_given new t outcome n m told = (
+    record {
+      replayed = ap (replay job) n ∙ replayed ∙ ap (λ (x : State). Some x) (sym m);
+      told = told;
+      owes = sym owes.0 ∙ ap (λ (x : State). owed_by x.operations) (sym m);
+    },
+    owes.1,
+  )
 
   -- room for the outcome
   pub room_given : (said : ℕ) (text : List ℕ) (capacity : ℕ) (images : List RootImage) (t : State) (more : ℕ) (image : Option RootImage) →

@@ -6,6 +6,7 @@ ghost use Rattle.board_state.specs.Kept.{IsKept};
 ghost use Rattle.run_journal.specs.declared.entry.StepKind.TheVariants as step;
 ghost use Rattle.task_core.specs.Boards.{HasMade, activity_of, step_by};
 ghost use Rattle.task_core.specs.Givens.{IsAnswer, IsJudged, IsTaken};
+
 use crate::answers::Given;
 use crate::board::Board;
 use crate::finishing::{finished, make_room, push_image};

@@ -11,9 +11,15 @@ tell-stop-requires c =
     let s = c.args.state.now in
     let same : told_among (length c.operations-operations.result.now) c.operations-operations.result.now 0 ≡ told s =
     ap (λ (os : List Operation). told_among (length os) os 0) c.operations-operations.ensures ∙ sym (told_by_list (length s.operations) s 0) in
-    omega (arith, c.requires.room, ap (λ (t : Told). length t.text) same, c.replace-told.result.ok.0,
-    ap (λ (v : Vec ℕ Global). length v.items) c.replace-told.ensures.value, ap length c.requires.empty,
-    ap (λ (v : Vec ℕ Global). v.cap) c.replace-told.ensures.value)
+    omega (
+      arith,
+      c.requires.room,
+      ap (λ (t : Told). length t.text) same,
+      c.replace-told.result.ok.0,
+      ap (λ (v : Vec ℕ Global). length v.items) c.replace-told.ensures.value,
+      ap length c.requires.empty,
+      ap (λ (v : Vec ℕ Global). v.cap) c.replace-told.ensures.value,
+    )
 
 pub returns : goal.returns
 returns c =
