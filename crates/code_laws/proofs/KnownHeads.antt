@@ -1,16 +1,16 @@
 -- What is known at a place of a task's body, where each region in it has a name or is a part: what the task's head tells
 -- of its parameters, what was made behind them, and of which regions partitions are. So what the rules allow may be done.
-use Rattle.std.proofs.Common.{◌≡◌, Bool, List, [], ◌∷◌, false, true, refl, ap, sym, subst, ℕ, ◌<◌, ◌≤◌, ◌∙◌, cond, arith, ◌⊎◌, inl, inr, ⊎_elim}
+use Rattle.std.proofs.Common.{◌≡◌, Bool, List, [], ◌∷◌, None, Some, false, true, refl, ap, sym, subst, ℕ, ◌<◌, ◌≤◌, ◌∙◌, cond, not, map, arith, ◌⊎◌, inl, inr, ⊎_elim}
 use Rattle.std.specs.Prelude.{length, ◌&&◌}
-use Rattle.std.specs.List.{Contains}
+use Rattle.std.specs.List.{Contains, list_all}
 use Rattle.std.proofs.lemmas.Bool.{and_parts, not-false, or_parts}
 use Rattle.regent_tree.proofs.Members.{Contains-from_Has, Has, Has-append_cases, Has-from_Contains}
 use Rattle.regent_tree.specs.Accesses.{space_in}
 use Rattle.regent_tree.specs.Lookup.{has_field}
-use Rattle.regent_tree.specs.Scopes.{Scope, bound_as, knowing, known_of_clause, known_of_clauses, known_of_params, known_of_type, past, scope_of, with_name}
-use Rattle.regent_tree.specs.StaticTypes.{field_place, place_in}
-use Rattle.regent_tree.specs.Syntax.{Expression, Name, TaskTree, Tree, truth_expr}
-use Rattle.regent_tree.specs.Typing.{reaches_of, type_of_element}
+use Rattle.regent_tree.specs.Scopes.{Scope, knowing, known_of_clause, known_of_clauses, known_of_params, known_of_type, past, scope_of, with_name}
+use Rattle.regent_tree.specs.StaticTypes.{Reach, field_place, place_in}
+use Rattle.regent_tree.specs.Syntax.{Expression, Name, TaskTree, Tree}
+use Rattle.regent_tree.specs.Typing.{has_wild, reaches_of, type_of_element}
 use Rattle.regent_tree.specs.declared.facts.Known.{Known}
 use Rattle.regent_tree.specs.declared.facts.Known.TheVariants.{Apart, Made, PartOf, Within}
 use Rattle.regent_tree.specs.declared.facts.Term.{Term}
@@ -21,7 +21,7 @@ use Rattle.regent_tree.specs.declared.rights.Access.{Access}
 use Rattle.regent_tree.specs.declared.rights.Access.TheVariants as access
 use Rattle.regent_tree.specs.declared.typing.StaticType.{StaticType}
 use Rattle.check_rules.specs.rules.Clauses.{is_no_region, misdeclares}
-use Rattle.check_rules.specs.rules.Privileges.{lacks, may_do, rights_declared, wanted_of_step, wanting}
+use Rattle.check_rules.specs.rules.Privileges.{lacks, may_do, regions_named, rights_declared, wanted_of_step, wanting}
 use Rattle.check_rules.specs.scopes.Sound.{IsSoundTask}
 use Rattle.check_rules.specs.types.Declarations.{params_bound}
 use Rattle.check_rules.specs.types.TypedForms.{field_of}
@@ -34,11 +34,11 @@ use Rattle.code_rules.specs.Slots.{Where, bound}
 use Rattle.code_laws.specs.Simple.{IsRegion, a_region_type, term_in}
 use Rattle.code_laws.specs.Typed.{MayGo, MayReach}
 use Rattle.regent_tree.specs.declared.typing.Bound.{Bound}
-use Rattle.regent_tree.specs.declared.typing.StaticType.TheVariants.{Partition as partition_type, Region as region_type}
-use Rattle.code_laws.proofs.LocalValues.{found_among, value_other}
+use Rattle.regent_tree.specs.declared.typing.StaticType.TheVariants.{Partition as partition_type}
+use Rattle.code_laws.proofs.LocalValues.{AreAmong, found_among, none_wild, value_other}
 use Rattle.code_laws.specs.Taking.{MayDo, pairs_in}
 use Rattle.code_laws.proofs.DeclaredNeeds.{none_made, none_within, pair_listed, region_param}
-use Rattle.code_laws.proofs.LocalNames.{AllKept, IsAimed, IsKept, kept_partition, kept_region, kept_scalar, kept_value}
+use Rattle.code_laws.proofs.LocalNames.{AllKept, IsAimed, IsKept, kept_partition, kept_region, kept_scalar, kept_value, region_of_number}
 use Rattle.code_laws.proofs.Privileges.{allowed_is_needed, mode_in}
 use Rattle.code_laws.proofs.LocalTypes.{simple_other}
 use Rattle.code_laws.proofs.Values.{scalar_simple}
@@ -111,22 +111,36 @@ granted_at tree task s _ e f a (a_region_type k sp args r) there lacking =
     let all : lacks tree task s (want ∷ []) ≡ false = ap (λ b. lacks tree task s (cond (b && true) (want ∷ []) [])) (sym there) ∙ lacking in
     (and_parts (may_do (rights_declared tree task) s.known want) true (not-false _ all)).0
 
+-- so of each region that a pointer may go to
+reach_may : (handing keeping : Bool) (task : TaskTree) (w : Where) → IsSoundTask w.tree task → KnowsHead w.tree task w.scope → Falls w.scope.next w.scope.names →
+    (field : ℕ) (a : Access) (rs : List Reach) → AreAmong w.scope.names rs →
+    list_all (may_do (rights_declared w.tree task) w.scope.known) (map (wanting field a) (regions_named rs)) ≡ true →
+    MayReach (forms_by handing keeping w.tree task) w rs field (mode_in a)
+reach_may handing keeping task w sound h falls field a [] among e = tt
+reach_may handing keeping task w sound h falls field a (Some (place.Name i) ∷ rs) among e =
+    let both = and_parts (may_do (rights_declared w.tree task) w.scope.known (wanting field a (place.Name i))) _ e in
+    let own = (region_of_number w.scope.next w.scope.names i falls among.0).1 in (
+      subst (λ u. MayDo (takes_by handing w.tree task) u field (mode_in a)) (sym own) (may_touch handing w.tree task w.scope sound h i field a both.0),
+      reach_may handing keeping task w sound h falls field a rs among.1 both.1,
+    )
+reach_may handing keeping task w sound h falls field a (Some (place.Child p c) ∷ rs) among e = absurd among
+reach_may handing keeping task w sound h falls field a (None ∷ rs) among e = absurd among
+
 -- so of a field of what a name's pointer goes to
 pub aimed_may : (handing keeping : Bool) (marked : List Name) (task : TaskTree) (w : Where) → IsSoundTask w.tree task → KnowsHead w.tree task w.scope → Falls w.scope.next w.scope.names →
     (n f : Name) (a : Access) → (p : IsAimed keeping marked w.tree w.scope.names (bound w n).static_type f) →
     lacks w.tree task w.scope (wanted_of_step w.tree a (field_of (bound w n).static_type f)) ≡ false → MayGo (forms_by handing keeping w.tree task) w n f (mode_in a)
 aimed_may handing keeping marked task w sound h falls n f a p lacking =
     let t = (bound w n).static_type in
-    let r = p.among in
-    let granted = granted_at w.tree task w.scope (region_type p.kind (space_in t) p.args (place.Name p.region)) (truth_expr true) f a
-    (a_region_type p.kind (space_in t) p.args (place.Name p.region)) p.there
-    (subst (λ u. lacks w.tree task w.scope (wanted_of_step w.tree a (field_of u f)) ≡ false) p.is lacking) in
-    let may = may_touch handing w.tree task w.scope sound h p.region (field_place w.tree (space_in t) f) a granted in
-    let found : bound_as w.scope.names p.region ≡ r.named =
-    subst (λ j. bound_as w.scope.names j ≡ r.named) r.number (found_among w.scope.next w.scope.names r.named falls r.among).0 in
-    let own : term_in (bound_as w.scope.names p.region).static_type ≡ place.Name p.region = ap (λ (b : Bound). term_in b.static_type) found ∙ r.term in
-    subst (λ rs. MayReach (forms_by handing keeping w.tree task) w rs (field_place w.tree (space_in t) f) (mode_in a)) (sym (ap reaches_of p.is))
-    (subst (λ u. MayDo (takes_by handing w.tree task) u (field_place w.tree (space_in t) f) (mode_in a)) (sym own) may, tt)
+    let field = field_place w.tree (space_in t) f in
+    let wants = map (wanting field a) (regions_named p.reaches) in
+    let allowed : lacks w.tree task w.scope (cond (has_field w.tree (space_in t) f && not (has_wild p.reaches)) wants []) ≡ false =
+    subst (λ u. lacks w.tree task w.scope (wanted_of_step w.tree a (field_of u f)) ≡ false) p.is lacking in
+    let some : (has_field w.tree (space_in t) f && not (has_wild p.reaches)) ≡ true =
+    ap (λ b. b && not (has_wild p.reaches)) p.there ∙ ap not (none_wild w.scope.names p.reaches p.among) in
+    let all : lacks w.tree task w.scope wants ≡ false = ap (λ b. lacks w.tree task w.scope (cond b wants [])) (sym some) ∙ allowed in
+    subst (λ rs. MayReach (forms_by handing keeping w.tree task) w rs field (mode_in a)) (sym (ap reaches_of p.is))
+    (reach_may handing keeping task w sound h falls field a p.reaches p.among (not-false _ all))
 
 abbrev IsMade : Known → Type 0
 IsMade (Made i) = Unit {0}

@@ -103,7 +103,7 @@ module _ (handing keeping : Bool) (task : TaskTree) (w : Where) (sound : IsSound
   of_region n e there keeps k sp args same is counts = record {
     is = (keeps, is, counts, there, region_bound w.scope.next w.scope.names scope.numbers n there k sp args same, own_region w scope.numbers n there k sp args same);
     value = subst (λ t. IsValue keeping w.scope.names (type_of_element w.scope t e)) (sym same)
-        (value_pointer k sp args (bound w n).number keeps (region_among w.scope.next w.scope.names scope.numbers n there k sp args same));
+        (value_pointer k sp args _ keeps (region_among w.scope.next w.scope.names scope.numbers n there k sp args same, tt));
     scalar = λ q. absurd (no_way_back q);
     plain = λ q. absurd (no_way q);
   }

@@ -29,7 +29,7 @@ use Rattle.check_rules.specs.types.TypedForms.{calling, computing, element_of, f
 use Rattle.check_rules.specs.declared.rule.Rule.TheVariants as rule
 use Rattle.check_rules.proofs.Untold.{rule_none}
 use Rattle.code_rules.specs.Slots.{Where, bound, typed}
-use Rattle.local_form.specs.LocalForm.{Marked, are_local_arguments, are_local_expressions, are_local_links, gives_scalar, is_among, is_local_expression, is_name, is_part, links_give, gives_pointer, goes_to_name, takes_element}
+use Rattle.local_form.specs.LocalForm.{Marked, are_local_arguments, are_local_expressions, are_local_links, gives_scalar, is_among, is_local_expression, is_name, is_part, links_give, gives_pointer, goes_to_names, takes_element}
 use Rattle.code_laws.specs.Handing.{forms_by}
 use Rattle.code_laws.specs.Simple.{IsPartition, IsScalar, IsSimple, a_partition_type, scalar_integer, scalar_truth, simple_space, simple_truth}
 use Rattle.code_laws.specs.Steps.{Forms}
@@ -227,7 +227,7 @@ module _ (handing keeping : Bool) (task : TaskTree) (w : Where) (sound : IsSound
         is_null_well handing keeping task w sound sound_task m local scope names head e none (λ own. local_well e lo (kept_behind node (parts_of_expression e) k) own)
     local_well (null_expr p) lo k none = null_well handing keeping task w sound sound_task m local scope names head p lo none
     local_well (cast_expr p e) lo k none =
-        let s = and_parts (goes_to_name m p.regions) (is_local_expression m e) lo in
+        let s = and_parts (goes_to_names m p.regions) (is_local_expression m e) lo in
         cast_well handing keeping task w sound sound_task m local scope names head p e s.0 none
         (λ own. local_well e s.1 (kept_right (parts_of_pointer p) (parts_of_expression e) (kept_behind node (parts_of_pointer p ++ parts_of_expression e) k)) own)
 

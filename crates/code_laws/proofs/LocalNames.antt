@@ -10,7 +10,7 @@ use Rattle.regent_tree.specs.Scopes.{bound_as, bound_to}
 use Rattle.regent_tree.proofs.Members.{Has}
 use Rattle.regent_tree.specs.StaticTypes.{Reach, among_args, field_kind, field_place, field_term, field_type, space_at, task_named}
 use Rattle.regent_tree.specs.Syntax.{Expression, Name, TaskTree, Tree}
-use Rattle.regent_tree.specs.Typing.{child_type, colour_of, is_disjoint, is_pointer, param_types, parent_of, type_of_element, type_of_field}
+use Rattle.regent_tree.specs.Typing.{child_type, colour_of, has_wild, is_disjoint, is_pointer, param_types, parent_of, type_of_element, type_of_field}
 use Rattle.regent_tree.specs.declared.facts.Term.{Term}
 use Rattle.regent_tree.specs.declared.facts.Term.TheVariants as place
 use Rattle.regent_tree.specs.declared.types.Kind.{Kind}
@@ -44,7 +44,7 @@ use Rattle.code_rules.specs.Programs.{task_code}
 use Rattle.code_laws.specs.Typed.{GoesThrough, IsFieldOf, element_field}
 use Rattle.code_laws.specs.Pointers.{IsPointer, a_pointer_type}
 use Rattle.code_laws.proofs.LocalFields.{IsFieldTerm, IsHeld, held_field, term_held}
-use Rattle.code_laws.proofs.LocalValues.{IsRegionAmong, IsValue, found_among, region_before, region_behind, value_before, value_behind, value_integer, value_is_no_region, value_no_partition, value_not_partition, value_pointer, value_simple}
+use Rattle.code_laws.proofs.LocalValues.{AreAmong, IsRegionAmong, IsValue, found_among, names_among, none_wild, region_before, region_behind, value_before, value_behind, value_integer, value_is_no_region, value_no_partition, value_not_partition, value_pointer, value_simple}
 use Rattle.code_laws.proofs.LocalTypes.{IsTakable, simple_as_integer, simple_is_no_region, simple_no_partition, simple_not_partition}
 use Rattle.code_laws.proofs.Typing.{no_way, no_way_back}
 pub use Rattle.code_laws.proofs.Typing.{first_below}
@@ -85,7 +85,7 @@ pub record IsLocalTree (handing keeping : Bool) (m : Marked) (tree : Tree) : Typ
 -- ---- names
 
 -- A name is bound with a number to a number or truth; or to an index, an index space or a pointer, and is marked so; or
--- to the region or the partition of that number, and is marked so. A pointer goes to a region that was bound before, and a
+-- to the region or the partition of that number, and is marked so. A pointer goes to regions that were bound before, and a
 -- partition is of one.
 pub data IsKept (keeping : Bool) (m : Marked) (bs : List Bound) (n : Name) (i : ℕ) : StaticType → Type 0 where
   kept_scalar : (t : StaticType) → IsScalar t → IsKept keeping m bs n i t
@@ -291,10 +291,10 @@ pub record IsAimed (keeping : Bool) (marked : List Name) (tree : Tree) (bs : Lis
   pub pointer : IsPointer t
   pub kind : Kind
   pub args : List Reach
-  pub region : ℕ
-  pub is : t ≡ pointer_type kind (space_in t) args (Some (place.Name region) ∷ [])
+  pub reaches : List Reach
+  pub is : t ≡ pointer_type kind (space_in t) args reaches
   pub there : has_field tree (space_in t) f ≡ true
-  pub among : IsRegionAmong bs region
+  pub among : AreAmong bs reaches
   pub field : field_place tree (space_in t) f < length (space_at tree (space_in t)).fields
   pub held : IsHeld keeping marked f (field_kind tree (space_in t) (field_place tree (space_in t) f)) (type_of_field tree t f)
   pub known : known_type_after_step tree (field_of t f) (type_of_field tree t f) ≡ type_of_field tree t f
@@ -306,22 +306,23 @@ module _ (handing keeping : Bool) (tree : Tree) (sound : IsSound tree) (m : Mark
   aimed_value _ f (value_simple _ simple_truth) e = absurd (no_way (taking_told tree (field_of truth_type f) e).1)
   aimed_value _ f (value_simple _ (simple_space k)) e = absurd (no_way (taking_told tree (field_of (ispace_type k) f) e).1)
   aimed_value _ f (value_simple _ (simple_index k)) e = absurd (no_way (taking_told tree (field_of (index_type k) f) e).1)
-  aimed_value _ f (value_pointer k sp args j q r) e =
-      let t = pointer_type k sp args (Some (place.Name j) ∷ []) in
+  aimed_value _ f (value_pointer k sp args rs q r) e =
+      let t = pointer_type k sp args rs in
       let there = not-false (has_field tree sp f) (taking_told tree (field_of t f) e).0 in
       let term = field_term tree sp (field_place tree sp f) in record {
         keeps = q;
-        pointer = a_pointer_type k sp args _ tt;
+        pointer = a_pointer_type k sp args rs (names_among bs rs r);
         kind = k;
         args = args;
-        region = j;
+        reaches = rs;
         is = refl;
         there = there;
         among = r;
         field = first_below (λ (p : Param). bytes_eq p.name f) (space_at tree sp).fields there;
         held = term_held keeping m.index_fields f term (local.fields sp f there) tree (among_args (space_at tree sp).params args) 0;
-        known = ap (λ b. type_unless (b || not (has_field tree sp f) || false || false) (type_of_field tree t f)) (sound.fields sp f there)
-            ∙ ap (λ b. type_unless (not b || false || false) (type_of_field tree t f)) there;
+        known = ap (λ b. type_unless (b || not (has_field tree sp f) || false || has_wild rs) (type_of_field tree t f)) (sound.fields sp f there)
+            ∙ ap (λ b. type_unless (not b || false || has_wild rs) (type_of_field tree t f)) there
+            ∙ ap (λ b. type_unless b (type_of_field tree t f)) (none_wild bs rs r);
       }
 
   pub aimed_at : (t : StaticType) (f : Name) → IsKept keeping m bs n i t → (IsPartition t → ⊥) → first_of_taking tree (field_of t f) ≡ None →

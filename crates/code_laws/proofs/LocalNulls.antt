@@ -1,7 +1,7 @@
 -- Null, casts and written types of pointers and indices, in a text with marked names of which no breach is told.
-use Rattle.std.proofs.Common.{◌≡◌, Bool, List, [], ◌∷◌, None, false, true, ap, refl, sym, subst, ◌∙◌, not, map}
+use Rattle.std.proofs.Common.{◌≡◌, Bool, List, [], ◌∷◌, None, Some, false, true, ap, refl, sym, subst, ◌∙◌, not, map}
 use Rattle.std.specs.Prelude.{◌||◌, ◌&&◌}
-use Rattle.std.specs.List.{list_any}
+use Rattle.std.specs.List.{list_all, list_any}
 use Rattle.std.proofs.lemmas.Bool.{and_parts, eqb-true, not-false, or_parts}
 use Rattle.plain_values.proofs.Plain.{option_or_parts}
 use Rattle.regent_tree.specs.Accesses.{space_in}
@@ -11,6 +11,7 @@ use Rattle.regent_tree.specs.StaticTypes.{looked_up, place_of_space, type_said, 
 use Rattle.regent_tree.specs.Syntax.{Expression, Name, TaskTree, Tree, cast_expr, is_null_expr, null_expr}
 use Rattle.regent_tree.specs.Typing.{is_pointer}
 use Rattle.regent_tree.specs.declared.facts.Known.{Known}
+use Rattle.regent_tree.specs.declared.facts.Term.TheVariants as place
 use Rattle.regent_tree.specs.declared.types.Kind.{Kind}
 use Rattle.regent_tree.specs.declared.types.NumberTerm.TheVariants as number
 use Rattle.regent_tree.specs.declared.types.PointerTerm.{PointerTerm}
@@ -20,7 +21,7 @@ use Rattle.regent_tree.specs.declared.types.TypeTerm.{TypeTerm}
 use Rattle.regent_tree.specs.declared.types.TypeTerm.TheVariants as term
 use Rattle.regent_tree.specs.declared.typing.Bound.{Bound}
 use Rattle.regent_tree.specs.declared.typing.StaticType.{StaticType}
-use Rattle.regent_tree.specs.declared.typing.StaticType.TheVariants.{Index as index_type, Pointer as pointer_type}
+use Rattle.regent_tree.specs.declared.typing.StaticType.TheVariants.{Index as index_type}
 use Rattle.check_laws.proofs.Parts.{unless_false}
 use Rattle.check_laws.specs.SoundScopes.{IsSoundScope}
 use Rattle.check_rules.proofs.Untold.{rule_none}
@@ -40,9 +41,9 @@ use Rattle.check_rules.specs.types.KnownTypes.{known_type}
 use Rattle.check_rules.specs.types.Lookup.{names_a}
 use Rattle.check_rules.specs.types.Sorts.{may_be, same_kind}
 use Rattle.code_rules.specs.Slots.{Where, typed}
-use Rattle.local_form.specs.LocalForm.{Marked, goes_to_name, is_among, is_kept_term}
+use Rattle.local_form.specs.LocalForm.{Marked, goes_to_name, goes_to_names, is_among, is_kept_term, takes_element}
 use Rattle.code_laws.specs.Handing.{forms_by}
-use Rattle.code_laws.specs.Pointers.{BeginsAs, BeginsWith, GoesInto, IsPointer, IsWritten, a_pointer_type, begins_plain, begins_pointer, fills_index, into_index, into_plain, itself_null, itself_plain, zero_index}
+use Rattle.code_laws.specs.Pointers.{AreThere, BeginsAs, BeginsWith, GoesInto, IsPointer, IsWritten, a_pointer_type, begins_plain, begins_pointer, fills_index, into_index, into_plain, itself_null, itself_plain, zero_index}
 use Rattle.code_laws.specs.Simple.{IsScalar, number_index, number_integer, scalar_truth, simple_index, simple_integer, simple_space, simple_truth}
 use Rattle.code_laws.specs.Steps.{Forms}
 use Rattle.code_laws.proofs.KnownHeads.{KnowsHead}
@@ -50,7 +51,7 @@ use Rattle.code_laws.proofs.LocalElements.{region_among, region_found, region_ty
 use Rattle.code_laws.proofs.LocalNames.{AllKept, IsKept, IsLocalTree, kept_partition, kept_region, kept_scalar, kept_value, named_kept}
 use Rattle.code_laws.proofs.LocalPoints.{IsWell, local_known, scalar_well}
 use Rattle.code_laws.proofs.LocalTypes.{term_scalar}
-use Rattle.code_laws.proofs.LocalValues.{IsValue, alike_begins, scalar_begins, value_counts, value_fitting, value_pointer, value_simple}
+use Rattle.code_laws.proofs.LocalValues.{AreAmong, IsRegionAmong, IsValue, alike_begins, names_among, scalar_begins, value_counts, value_fitting, value_pointer, value_simple}
 use Rattle.code_laws.proofs.Typing.{no_way, no_way_back, stands_well}
 use Rattle.code_laws.proofs.Values.{scalar_simple}
 use Rattle.code_laws.proofs.Wider.{counting}
@@ -77,46 +78,55 @@ module _ (keeping : Bool) (m : Marked) (keeps : m.keeps ≡ true → keeping ≡
     pub value : IsValue keeping s.names u
     pub written : IsWritten s.names u
 
-  abbrev said : PointerTerm → List Ref → StaticType
-  said p rs = pointer_type p.kind (place_of_space tree p.space.name) (map (looked_up (in_scope s)) p.space.args) (map (looked_up (in_scope s)) rs)
+  -- a name in the type's list is bound to a region of the pointer's field space
+  record IsNamed (p : PointerTerm) (n : Name) : Type 0 where
+    among : IsRegionAmong s.names (bound_to s.names n).number
+    there : AreThere s.names (place_of_space tree p.space.name) (Some (place.Name (bound_to s.names n).number) ∷ [])
 
-  said_of : (p : PointerTerm) (n : Name) → keeping ≡ true → is_bound s.names n ≡ true → has_space tree p.space.name ≡ true →
+  named_of : (p : PointerTerm) (n : Name) → is_bound s.names n ≡ true → has_space tree p.space.name ≡ true →
       (t : StaticType) → type_named s.names n ≡ t → IsKept keeping m s.names n (bound_to s.names n).number t → may_be (is_region_in tree p) t ≡ true →
-      IsSaid (said p (Named n ∷ []))
-  said_of p n keep there space t same (kept_scalar _ a) e =
+      IsNamed p n
+  named_of p n there space t same (kept_scalar _ a) e =
       absurd (no_way (sym e ∙ value_not_in keeping s.names tree p t (value_simple t (scalar_simple t a))))
-  said_of p n keep there space t same (kept_value _ a h q) e = absurd (no_way (sym e ∙ value_not_in keeping s.names tree p t a))
-  said_of p n keep there space _ same (kept_partition d r q a h) e = absurd (no_way_back e)
-  said_of p n keep there space _ same (kept_region k sp args h) e =
-      let b = bound_to s.names n in
+  named_of p n there space t same (kept_value _ a h q) e = absurd (no_way (sym e ∙ value_not_in keeping s.names tree p t a))
+  named_of p n there space _ same (kept_partition d r q a h) e = absurd (no_way_back e)
+  named_of p n there space _ same (kept_region k sp args h) e =
       let found = region_found s.next s.names scope.numbers n there k sp args same in
       let place_same : place_of_space tree p.space.name ≡ sp =
       eqb-true (place_of_space tree p.space.name) sp (space_same (has_space tree p.space.name) (same_kind p.kind k) _ space e) in record {
-        keep = keep;
-        value = value_pointer p.kind _ _ b.number keep (region_among s.next s.names scope.numbers n there k sp args same);
-        written = (
-          a_pointer_type _ _ _ _ tt,
-          (
-            ap (λ (c : Bound). c.number) found,
-            region_typed s.next s.names scope.numbers n there k sp args same,
-            ap (λ (c : Bound). space_in c.static_type) found ∙ ap space_in same ∙ sym place_same,
-            tt,
-          ),
+        among = region_among s.next s.names scope.numbers n there k sp args same;
+        there = (
+          ap (λ (c : Bound). c.number) found,
+          region_typed s.next s.names scope.numbers n there k sp args same,
+          ap (λ (c : Bound). space_in c.static_type) found ∙ ap space_in same ∙ sym place_same,
+          tt,
         );
       }
 
-  said_by : (p : PointerTerm) (rs : List Ref) → goes_to_name m rs ≡ true → has_space tree p.space.name ≡ true →
-      list_any (is_wrong_region_of_pointer tree s.names p) rs ≡ false → IsSaid (said p rs)
-  said_by p (Named n ∷ []) goes space right =
-      let keep = keeps (and_parts m.keeps (is_among m.regions n && not (is_among m.partitions n)) goes).0 in
+  -- so each name of a list
+  named_all : (p : PointerTerm) (rs : List Ref) → list_all (goes_to_name m) rs ≡ true → has_space tree p.space.name ≡ true →
+      list_any (is_wrong_region_of_pointer tree s.names p) rs ≡ false →
+      AreAmong s.names (map (looked_up (in_scope s)) rs) × AreThere s.names (place_of_space tree p.space.name) (map (looked_up (in_scope s)) rs)
+  named_all p [] goes space right = (tt, tt)
+  named_all p (Named n ∷ rs) goes space right =
+      let both = and_parts (takes_element m n) (list_all (goes_to_name m) rs) goes in
+      let apart = or_parts (not (names_a (is_region_in tree p) s.names n)) (list_any (is_wrong_region_of_pointer tree s.names p) rs) right in
       let named = and_parts (is_bound s.names n) (may_be (is_region_in tree p) (type_named s.names n))
-      (not-false (names_a (is_region_in tree p) s.names n) (or_parts (not (names_a (is_region_in tree p) s.names n)) false right).0) in
-      said_of p n keep named.0 space (type_named s.names n) refl (named_kept keeping m s.names n names named.0) named.1
-  said_by p (Named n ∷ r ∷ rs) goes space right = absurd (no_way_back goes)
-  said_by p (Wild ∷ rs) goes space right = absurd (no_way_back goes)
-  said_by p [] goes space right = absurd (no_way_back goes)
+      (not-false (names_a (is_region_in tree p) s.names n) apart.0) in
+      let is = named_of p n named.0 space (type_named s.names n) refl (named_kept keeping m s.names n names named.0) named.1 in
+      let more = named_all p rs both.1 space apart.1 in
+      ((is.among, more.0), (is.there.0, is.there.1, is.there.2, more.1))
+  named_all p (Wild ∷ rs) goes space right = absurd (no_way_back goes)
 
-  pub pointer_said : (p : PointerTerm) → goes_to_name m p.regions ≡ true → first_in_type tree s.names (term.Pointer p) ≡ None →
+  -- there is a name in the list, so pointers are kept
+  keeps_some : (rs : List Ref) → goes_to_names m rs ≡ true → (keeping ≡ true) × (list_all (goes_to_name m) rs ≡ true)
+  keeps_some (Named n ∷ rs) goes =
+      let one = (and_parts (takes_element m n) (list_all (goes_to_name m) rs) goes).0 in
+      (keeps (and_parts m.keeps (is_among m.regions n && not (is_among m.partitions n)) one).0, goes)
+  keeps_some (Wild ∷ rs) goes = absurd (no_way_back goes)
+  keeps_some [] goes = absurd (no_way_back goes)
+
+  pub pointer_said : (p : PointerTerm) → goes_to_names m p.regions ≡ true → first_in_type tree s.names (term.Pointer p) ≡ None →
       IsSaid (written_pointer tree (in_scope s) p)
   pointer_said p goes e =
       let a = option_or_parts _ _ e in
@@ -125,7 +135,13 @@ module _ (keeping : Bool) (m : Marked) (keeps : m.keeps ≡ true → keeping ≡
       let bound = or_parts (not (has_space tree p.space.name) || list_any (misses_region s.names) p.space.args) (list_any (misses_region s.names) p.regions)
       (rule_none (unbound_name_in_type tree s.names (term.Pointer p)) rule.Name a.0) in
       let space = not-false (has_space tree p.space.name) (or_parts (not (has_space tree p.space.name)) (list_any (misses_region s.names) p.space.args) bound.0).0 in
-      said_by p p.regions goes space (rule_none (wrong_region_in_type tree s.names (term.Pointer p)) rule.Pointer c.0)
+      let some = keeps_some p.regions goes in
+      let named = named_all p p.regions some.1 space (rule_none (wrong_region_in_type tree s.names (term.Pointer p)) rule.Pointer c.0) in
+      let reaches = map (looked_up (in_scope s)) p.regions in record {
+        keep = some.0;
+        value = value_pointer p.kind _ _ reaches some.0 named.0;
+        written = (a_pointer_type _ _ _ reaches (names_among s.names reaches named.0), named.1);
+      }
 
   -- a type of which nothing is told is as it is written
   pub type_flawless : (t : TypeTerm) → first_in_type tree s.names t ≡ None → declared_type tree s t ≡ type_said tree (in_scope s) s.next t
@@ -155,7 +171,7 @@ pointer_goes b bs known _ _ (value_simple _ (simple_integer w)) (a_pointer_type 
 pointer_goes b bs known _ _ (value_simple _ (simple_index j)) (a_pointer_type k sp args rs ns) e = absurd (no_way_back e)
 pointer_goes b bs known _ _ (value_simple _ simple_truth) (a_pointer_type k sp args rs ns) e = absurd (no_way_back e)
 pointer_goes b bs known _ _ (value_simple _ (simple_space j)) (a_pointer_type k sp args rs ns) e = absurd (no_way_back e)
-pointer_goes b bs known _ _ (value_pointer j sq brgs i h r) u e = a_pointer_type j sq brgs _ tt
+pointer_goes b bs known _ _ (value_pointer j sq brgs i h r) u e = a_pointer_type j sq brgs i (names_among bs i r)
 
 module _ (keeping : Bool) (m : Marked) (keeps : m.keeps ≡ true → keeping ≡ true) (tree : Tree) (s : Scope) (scope : IsSoundScope s) (names : AllKept keeping m s.names) where
   -- a variable of a written type: what it is, and how it begins, by itself or with what fits
@@ -188,7 +204,7 @@ module _ (keeping : Bool) (m : Marked) (keeps : m.keeps ≡ true → keeping ≡
             (begins_plain from (index_type k) (index_goes keeping s.names s.known from k v fit));
       }
   variable_said n (term.Pointer p) lo e =
-      let one = and_parts (goes_to_name m p.regions) (is_among m.indices n && is_among m.pointers n) lo in
+      let one = and_parts (goes_to_names m p.regions) (is_among m.indices n && is_among m.pointers n) lo in
       let two = and_parts (is_among m.indices n) (is_among m.pointers n) one.1 in
       let u = written_pointer tree (in_scope s) p in
       let is = pointer_said keeping m keeps tree s scope names p one.0 e in record {
@@ -215,12 +231,12 @@ module _ (handing keeping : Bool) (task : TaskTree) (w : Where) (sound : IsSound
   abbrev known : (e : Expression) → first_in_expression w.tree task w.scope e ≡ None → known_type w.tree w.scope e ≡ typed w e
   known e told = local_known handing keeping task w sound sound_task m local scope names head e told
 
-  pub null_well : (p : PointerTerm) → goes_to_name m p.regions ≡ true → first_in_expression w.tree task w.scope (null_expr p) ≡ None → Well (null_expr p)
+  pub null_well : (p : PointerTerm) → goes_to_names m p.regions ≡ true → first_in_expression w.tree task w.scope (null_expr p) ≡ None → Well (null_expr p)
   null_well p goes none =
       let is = pointer_said keeping m local.keeps w.tree w.scope scope names p goes none in
       record { is = (is.keep, is.written); value = is.value; scalar = λ q. absurd (no_way_back q); plain = λ q. absurd (no_way q) }
 
-  pub cast_well : (p : PointerTerm) (e : Expression) → goes_to_name m p.regions ≡ true → first_in_expression w.tree task w.scope (cast_expr p e) ≡ None →
+  pub cast_well : (p : PointerTerm) (e : Expression) → goes_to_names m p.regions ≡ true → first_in_expression w.tree task w.scope (cast_expr p e) ≡ None →
       (first_in_expression w.tree task w.scope e ≡ None → Well e) → Well (cast_expr p e)
   cast_well p e goes none own =
       let told = option_or_parts (first_in_expression w.tree task w.scope e) _ none in
@@ -237,7 +253,7 @@ module _ (handing keeping : Bool) (task : TaskTree) (w : Where) (sound : IsSound
   pointer_value _ (value_simple _ simple_truth) e = absurd (no_way_back e)
   pointer_value _ (value_simple _ (simple_space k)) e = absurd (no_way_back e)
   pointer_value _ (value_simple _ (simple_index k)) e = absurd (no_way_back e)
-  pointer_value _ (value_pointer k sp args i q r) e = (q, a_pointer_type k sp args _ tt)
+  pointer_value _ (value_pointer k sp args i q r) e = (q, a_pointer_type k sp args i (names_among w.scope.names i r))
 
   pub is_null_well : (e : Expression) → first_in_expression w.tree task w.scope (is_null_expr e) ≡ None →
       (first_in_expression w.tree task w.scope e ≡ None → Well e) → Well (is_null_expr e)

@@ -202,7 +202,7 @@ module _ (handing keeping : Bool) (tree : Tree) (task : TaskTree) (sound : IsSou
         over = subst (λ c. LoopsOver c (here s line) (access_expr r no_step)) (sym keeps) (inr (region_bound s.next s.names scope.numbers r there k sp args same, own));
         is = (there, subst (λ c. IsRead c b.static_type) (sym keeps) tt);
         taken = subst (λ t. IsKept keeping m s.names n s.next (taken_from t)) (sym same)
-            (kept_value _ (value_pointer k sp args b.number keeps (region_among s.next s.names scope.numbers r there k sp args same)) marked (λ p. points));
+            (kept_value _ (value_pointer k sp args _ keeps (region_among s.next s.names scope.numbers r there k sp args same, tt)) marked (λ p. points));
       }
 
   named_domain : (s : Scope) (line : ℕ) (n r : Name) → IsSoundScope s → is_bound s.names r ≡ true → is_among m.indices n ≡ true → is_among m.pointers n ≡ true →

@@ -1,6 +1,6 @@
 -- What expressions give where nothing is told of their types: numbers, truths, indices and index spaces, and where they
--- are kept also pointers to elements of a region that has a name.
-use Rattle.std.proofs.Common.{◌≡◌, Bool, List, [], ◌∷◌, ◌++◌, Some, false, true, refl, ap, sym, ℕ, ◌<◌, ◌∙◌, ◌||◌, cond, not, inl, inr, arith, ⊎_elim, ◌&&◌, ◌⊎◌}
+-- are kept also pointers into regions that have names.
+use Rattle.std.proofs.Common.{◌≡◌, Bool, List, [], ◌∷◌, ◌++◌, None, Some, false, true, refl, ap, sym, ℕ, ◌<◌, ◌∙◌, ◌||◌, cond, not, inl, inr, arith, ⊎_elim, ◌&&◌, ◌⊎◌}
 use Rattle.std.specs.Prelude.{bytes_eq, ◌==◌}
 use Rattle.std.proofs.lemmas.Bool.{and_parts}
 use Rattle.regent_tree.proofs.Members.{Has, Has-append_left}
@@ -8,7 +8,7 @@ use Rattle.regent_tree.specs.Lookup.{is_bound}
 use Rattle.regent_tree.specs.Scopes.{bound_as, bound_to, known_of_type}
 use Rattle.regent_tree.specs.StaticTypes.{Reach}
 use Rattle.regent_tree.specs.Syntax.{Name, Expression}
-use Rattle.regent_tree.specs.Typing.{are_pointers, counting_as, is_pointer, known_of_child, operated, owned}
+use Rattle.regent_tree.specs.Typing.{are_pointers, counting_as, has_wild, is_pointer, known_of_child, operated, owned}
 use Rattle.regent_tree.specs.declared.expression.Arithmetic.{Arithmetic}
 use Rattle.regent_tree.specs.declared.expression.Comparison.{Comparison}
 use Rattle.regent_tree.specs.declared.expression.Comparison.TheVariants as comparison
@@ -31,7 +31,7 @@ use Rattle.check_rules.specs.types.KnownTypes.{known_type_after_operator}
 use Rattle.check_rules.specs.types.Sorts.{is_collection, is_integer, is_number, is_partition, is_region, is_space, is_truth, is_unknown_type, may_be}
 use Rattle.check_rules.specs.types.TypedForms.{computing}
 use Rattle.code_rules.specs.Slots.{Where, typed}
-use Rattle.code_laws.specs.Pointers.{Assigned, BeginsAs, BeginsWith, ConvertsTo, CountsAs, FillsInto, FitsInto, IsAssigned, IsCompared, IsRead, SignedAs, assigned_plain, assigned_pointer, begins_plain, compared_different, compared_equal, compared_left, compared_plain, compared_right, a_pointer_type, counts_number, counts_pointer, fills_alike, fills_index, into_index, into_plain, itself_plain, signs_plain, term_integer, zero_scalar}
+use Rattle.code_laws.specs.Pointers.{AreNames, Assigned, BeginsAs, BeginsWith, ConvertsTo, CountsAs, FillsInto, FitsInto, IsAssigned, IsCompared, IsRead, SignedAs, assigned_plain, assigned_pointer, begins_plain, compared_different, compared_equal, compared_left, compared_plain, compared_right, a_pointer_type, counts_number, counts_pointer, fills_alike, fills_index, into_index, into_plain, itself_plain, signs_plain, term_integer, zero_scalar}
 use Rattle.code_laws.specs.Simple.{AreAlike, AreComparable, IsInteger, IsIntegerTerm, IsNumber, IsRegion, IsScalar, IsSimple, IsSpace, IsTruth, SignsFit, a_region_type, number_index, number_integer, scalar_integer, scalar_truth, simple_index, simple_integer, simple_space, simple_truth, term_in, IsPartition, a_partition_type}
 use Rattle.code_laws.specs.Typed.{IsField, IsFieldOf, IsKeepable, LoopsOver}
 use Rattle.code_laws.proofs.LocalTypes.{either, number_is, operated_simple, owned_simple, param_fitting, simple_as_domain, simple_as_integer, simple_as_number, simple_as_space, simple_as_truth, simple_compared, simple_computed, simple_fitting, simple_for_region, simple_is_no_region, simple_known, simple_no_partition}
@@ -54,6 +54,38 @@ region_behind b bs i r = record { named = r.named; among = inr r.among; number =
 pub region_before : (bs more : List Bound) (i : ℕ) → IsRegionAmong bs i → IsRegionAmong (bs ++ more) i
 region_before bs more i r =
     record { named = r.named; among = Has-append_left bs more r.named r.among; number = r.number; region = r.region; term = r.term }
+
+-- so is each region of a list
+abbrev pub AreAmong : List Bound → List Reach → Type 0
+AreAmong bs [] = Unit {0}
+AreAmong bs (Some (place.Name i) ∷ rs) = IsRegionAmong bs i × AreAmong bs rs
+AreAmong bs (Some (place.Child p c) ∷ rs) = ⊥
+AreAmong bs (None ∷ rs) = ⊥
+
+among_behind : (b : Bound) (bs : List Bound) (rs : List Reach) → AreAmong bs rs → AreAmong (b ∷ bs) rs
+among_behind b bs [] a = tt
+among_behind b bs (Some (place.Name i) ∷ rs) a = (region_behind b bs i a.0, among_behind b bs rs a.1)
+among_behind b bs (Some (place.Child p c) ∷ rs) a = absurd a
+among_behind b bs (None ∷ rs) a = absurd a
+
+among_before : (bs more : List Bound) (rs : List Reach) → AreAmong bs rs → AreAmong (bs ++ more) rs
+among_before bs more [] a = tt
+among_before bs more (Some (place.Name i) ∷ rs) a = (region_before bs more i a.0, among_before bs more rs a.1)
+among_before bs more (Some (place.Child p c) ∷ rs) a = absurd a
+among_before bs more (None ∷ rs) a = absurd a
+
+-- they have names, and `wild` isn't one
+pub names_among : (bs : List Bound) (rs : List Reach) → AreAmong bs rs → AreNames rs
+names_among bs [] a = tt
+names_among bs (Some (place.Name i) ∷ rs) a = names_among bs rs a.1
+names_among bs (Some (place.Child p c) ∷ rs) a = absurd a
+names_among bs (None ∷ rs) a = absurd a
+
+pub none_wild : (bs : List Bound) (rs : List Reach) → AreAmong bs rs → has_wild rs ≡ false
+none_wild bs [] a = refl
+none_wild bs (Some (place.Name i) ∷ rs) a = none_wild bs rs a.1
+none_wild bs (Some (place.Child p c) ∷ rs) a = absurd a
+none_wild bs (None ∷ rs) a = absurd a
 
 -- what a name is bound to is among what is bound
 pub bound_among : (bs : List Bound) (n : Name) → is_bound bs n ≡ true → Has bs (bound_to bs n)
@@ -85,8 +117,7 @@ found_among next (c ∷ bs) b falls (inr h) =
 -- the type of what an expression gives
 pub data IsValue (keeping : Bool) (bs : List Bound) : StaticType → Type 0 where
   value_simple : (t : StaticType) → IsSimple t → IsValue keeping bs t
-  value_pointer : (k : Kind) (sp : ℕ) (args : List Reach) (i : ℕ) → keeping ≡ true → IsRegionAmong bs i →
-      IsValue keeping bs (pointer_type k sp args (Some (place.Name i) ∷ []))
+  value_pointer : (k : Kind) (sp : ℕ) (args rs : List Reach) → keeping ≡ true → AreAmong bs rs → IsValue keeping bs (pointer_type k sp args rs)
 
 pub counts_is : (keeping : Bool) (t : StaticType) → CountsAs keeping t → is_number t ≡ true
 counts_is false t c = number_is t c
@@ -103,11 +134,11 @@ module _ (keeping : Bool) (bs : List Bound) where
 
   pub value_behind : (b : Bound) (t : StaticType) → Value t → IsValue keeping (b ∷ bs) t
   value_behind b t (value_simple _ a) = value_simple t a
-  value_behind b _ (value_pointer k sp args i q r) = value_pointer k sp args i q (region_behind b bs i r)
+  value_behind b _ (value_pointer k sp args i q r) = value_pointer k sp args i q (among_behind b bs i r)
 
   pub value_before : (more : List Bound) (t : StaticType) → Value t → IsValue keeping (bs ++ more) t
   value_before more t (value_simple _ a) = value_simple t a
-  value_before more _ (value_pointer k sp args i q r) = value_pointer k sp args i q (region_before bs more i r)
+  value_before more _ (value_pointer k sp args i q r) = value_pointer k sp args i q (among_before bs more i r)
 
   -- ---- what may be of a sort is of it
 
@@ -258,13 +289,13 @@ value_compared keeping bs c t u (value_simple _ a) (value_simple _ b) e = plain_
 value_compared false bs c t _ (value_simple _ a) (value_pointer k sp args i q r) e = absurd (no_way_back q)
 value_compared false bs c _ u (value_pointer k sp args i q r) b e = absurd (no_way_back q)
 value_compared true bs c t _ (value_simple _ a) (value_pointer k sp args i q r) e =
-    compared_right c t k sp args _ (simple_as_number t a (compared_numbers c t (pointer_type k sp args (Some (place.Name i) ∷ [])) (and_none (may_be is_truth t)) e).0)
+    compared_right c t k sp args _ (simple_as_number t a (compared_numbers c t (pointer_type k sp args i) (and_none (may_be is_truth t)) e).0)
 value_compared true bs c _ u (value_pointer k sp args i q r) (value_simple _ b) e =
-    compared_left c k sp args _ u (simple_as_number u b (compared_numbers c (pointer_type k sp args (Some (place.Name i) ∷ [])) u refl e).1)
+    compared_left c k sp args _ u (simple_as_number u b (compared_numbers c (pointer_type k sp args i) u refl e).1)
 value_compared true bs comparison.Equal _ _ (value_pointer k sp args i q r) (value_pointer j s brgs h p u) e =
-    compared_equal _ _ (a_pointer_type k sp args _ tt) (a_pointer_type j s brgs _ tt)
+    compared_equal _ _ (a_pointer_type k sp args i (names_among bs i r)) (a_pointer_type j s brgs h (names_among bs h u))
 value_compared true bs comparison.NotEqual _ _ (value_pointer k sp args i q r) (value_pointer j s brgs h p u) e =
-    compared_different _ _ (a_pointer_type k sp args _ tt) (a_pointer_type j s brgs _ tt)
+    compared_different _ _ (a_pointer_type k sp args i (names_among bs i r)) (a_pointer_type j s brgs h (names_among bs h u))
 value_compared true bs comparison.Less _ _ (value_pointer k sp args i q r) (value_pointer j s brgs h p u) e = absurd (no_way_back e)
 value_compared true bs comparison.AtMost _ _ (value_pointer k sp args i q r) (value_pointer j s brgs h p u) e = absurd (no_way_back e)
 value_compared true bs comparison.Greater _ _ (value_pointer k sp args i q r) (value_pointer j s brgs h p u) e = absurd (no_way_back e)
@@ -307,7 +338,7 @@ kept_assigned bs known _ _ (value_pointer j sp args i q r) (value_simple _ (simp
 kept_assigned bs known _ _ (value_simple _ simple_truth) (value_simple _ (simple_index k)) c e = absurd (no_way_back e)
 kept_assigned bs known _ _ (value_simple _ (simple_space j)) (value_simple _ (simple_index k)) c e = absurd (no_way_back e)
 kept_assigned bs known _ _ (value_pointer j s brgs h p u) (value_pointer k sp args i q r) c e =
-    assigned_pointer _ _ (a_pointer_type j s brgs _ tt) (a_pointer_type k sp args _ tt)
+    assigned_pointer _ _ (a_pointer_type j s brgs h (names_among bs h u)) (a_pointer_type k sp args i (names_among bs i r))
 kept_assigned bs known _ _ (value_simple _ (simple_integer w)) (value_pointer k sp args i q r) c e = absurd (no_way_back e)
 kept_assigned bs known _ _ (value_simple _ (simple_index j)) (value_pointer k sp args i q r) c e = absurd (no_way_back e)
 kept_assigned bs known _ _ (value_simple _ simple_truth) (value_pointer k sp args i q r) c e = absurd (no_way_back e)

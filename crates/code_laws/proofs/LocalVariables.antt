@@ -47,7 +47,7 @@ use Rattle.code_laws.proofs.LocalNames.{IsKept, IsLocalTree, first_below, kept_r
 use Rattle.code_laws.proofs.TypedStatements.{HasNoPartition, first_stands, initial_told}
 use Rattle.code_laws.proofs.Typing.{AreKept, kept_right, no_way, no_way_back}
 use Rattle.scalar_form.specs.ScalarForm.{is_scalar_if_said}
-use Rattle.code_laws.proofs.LocalValues.{IsValue, owned_value, simple_keepable, simple_no_pointer, value_pointer, value_simple, value_space, value_tells}
+use Rattle.code_laws.proofs.LocalValues.{IsValue, names_among, owned_value, simple_keepable, simple_no_pointer, value_pointer, value_simple, value_space, value_tells}
 use Rattle.code_laws.specs.Pointers.{IsPointer, a_pointer_type}
 use Rattle.code_laws.proofs.LocalElements.{points_by_form}
 use Rattle.code_laws.proofs.LocalNulls.{type_flawless, variable_said}
@@ -59,7 +59,7 @@ value_keepable : (b : Bool) (w : Where) (e : Expression) (t : StaticType) → ty
 value_keepable b w e t same falls h (value_simple _ a) = simple_keepable b w e (subst IsSimple (sym same) a)
 value_keepable false w e _ same falls h (value_pointer k sp args i q r) = absurd (no_way_back q)
 value_keepable true w e _ same falls h (value_pointer k sp args i q r) =
-    inr (subst IsPointer (sym same) (a_pointer_type k sp args _ tt), points_by_form w e falls h)
+    inr (subst IsPointer (sym same) (a_pointer_type k sp args i (names_among w.scope.names i r)), points_by_form w e falls h)
 
 module _ (handing keeping : Bool) (tree : Tree) (task : TaskTree) (sound : IsSound tree) (sound_task : IsSoundTask tree task) (m : Marked)
     (local : IsLocalTree handing keeping m tree) (params : ℕ) (result : is_scalar_if_said task.result ≡ true) where

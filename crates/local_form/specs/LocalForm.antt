@@ -11,7 +11,7 @@ use Rattle.regent_tree.specs.declared.statement.How.TheVariants as how
 use Rattle.regent_tree.specs.declared.types.NumberTerm.TheVariants as number
 use Rattle.regent_tree.specs.declared.types.Param.{Param}
 use Rattle.regent_tree.specs.declared.types.Ref.{Ref}
-use Rattle.regent_tree.specs.declared.types.Ref.TheVariants.{Named}
+use Rattle.regent_tree.specs.declared.types.Ref.TheVariants.{Named, Wild}
 use Rattle.regent_tree.specs.declared.types.TypeTerm.{TypeTerm}
 use Rattle.regent_tree.specs.declared.types.TypeTerm.TheVariants as term
 use Rattle.scalar_form.specs.ScalarForm.{is_scalar_if_said, is_scalar_number, is_scalar_term}
@@ -105,10 +105,14 @@ is_kept_apart m n = is_among m.regions n || is_among m.partitions n
 abbrev pub takes_element : Marked → Name → Bool
 takes_element m n = m.keeps && (is_among m.regions n && not (is_among m.partitions n))
 
--- whether pointers of a written type go into one region, which has a name
-abbrev pub goes_to_name : Marked → List Ref → Bool
-goes_to_name m (Named n ∷ []) = takes_element m n
-goes_to_name m rs = false
+-- whether pointers of a written type go into regions that have names, one or more
+abbrev pub goes_to_name : Marked → Ref → Bool
+goes_to_name m (Named n) = takes_element m n
+goes_to_name m Wild = false
+
+abbrev pub goes_to_names : Marked → List Ref → Bool
+goes_to_names m [] = false
+goes_to_names m (r ∷ rs) = list_all (goes_to_name m) (r ∷ rs)
 
 -- whether a name may be assigned
 abbrev pub takes_value : Marked → Name → Bool
@@ -132,8 +136,8 @@ abbrev mutual
   is_local_expression m (convert_expr t e) = is_scalar_number t && is_local_expression m e
   is_local_expression m (space_expr k e) = is_local_expression m e
   is_local_expression m (is_null_expr e) = is_local_expression m e
-  is_local_expression m (null_expr t) = goes_to_name m t.regions
-  is_local_expression m (cast_expr t e) = goes_to_name m t.regions && is_local_expression m e
+  is_local_expression m (null_expr t) = goes_to_names m t.regions
+  is_local_expression m (cast_expr t e) = goes_to_names m t.regions && is_local_expression m e
   is_local_expression m e = false
 
   pub are_local_links : Marked → Links → Bool
@@ -163,7 +167,7 @@ keeps_pointer m n e = not (gives_pointer m e) || (is_pointing e && is_among m.po
 -- a variable of a written type is a number or truth, or an index or a pointer of whose name this is known
 abbrev pub is_kept_term : Marked → Name → TypeTerm → Bool
 is_kept_term m n (term.Number (number.Index k)) = m.keeps && is_among m.indices n
-is_kept_term m n (term.Pointer p) = goes_to_name m p.regions && (is_among m.indices n && is_among m.pointers n)
+is_kept_term m n (term.Pointer p) = goes_to_names m p.regions && (is_among m.indices n && is_among m.pointers n)
 is_kept_term m n t = is_scalar_term t
 
 -- a loop goes over a region that has a name, and takes pointers, or over an index space

@@ -9,7 +9,7 @@ ghost use Rattle.local_form.specs.Seen.{is_behind, is_behind_read, is_beside, is
 
 use crate::giving::gives_scalar;
 use crate::marked::Marked;
-use crate::terms::goes_to_name;
+use crate::terms::goes_to_names;
 use regent_tree::{Expr, Link, Name, Step};
 use scalar_form::is_scalar_number;
 
@@ -34,9 +34,9 @@ pub fn is_local_expression(marked: &Marked<'_>, e: &Expr) -> bool
         }
         Expr::Space { size, .. } => is_local_expression(marked, size),
         Expr::IsNull(inner) => is_local_expression(marked, inner),
-        Expr::Null(pointer) => goes_to_name(marked, pointer.regions.as_slice()),
+        Expr::Null(pointer) => goes_to_names(marked, pointer.regions.as_slice()),
         Expr::Cast { pointer, inner } => {
-            goes_to_name(marked, pointer.regions.as_slice()) && is_local_expression(marked, inner)
+            goes_to_names(marked, pointer.regions.as_slice()) && is_local_expression(marked, inner)
         }
     }
 }
