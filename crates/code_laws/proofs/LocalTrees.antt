@@ -32,7 +32,7 @@ use Rattle.local_form.specs.LocalForm.{Marked, are_local_params, are_scalar_para
 use Rattle.code_laws.specs.Simple.{IsScalar, a_region_type, scalar_integer, scalar_truth}
 use Rattle.code_laws.proofs.LocalMarks.{HasFieldTerms, among_added, among_left, space_terms}
 use Rattle.code_laws.proofs.LocalNames.{AllKept, AreScalars, AreTakable, IsAlone, IsKept, IsLocalTree, kept_before, kept_region, kept_scalar}
-use Rattle.code_laws.proofs.LocalTypes.{IsTakable, takable_region, takable_scalar, term_scalar}
+use Rattle.code_laws.proofs.LocalTypes.{IsTakable, left_alone, takable_region, takable_scalar, term_scalar}
 use Rattle.code_laws.proofs.Openings.{types_cons, types_in}
 use Rattle.code_laws.proofs.Entries.{all_of, found, kept_all, kept_item, no_clauses}
 use Rattle.code_laws.proofs.Typing.{AllScalar, AreKept, no_way_back}
@@ -100,10 +100,6 @@ item_of_form tree e i h t same =
     task_of_form tree t (subst (λ form. is_local_item tree form ≡ true) same (all_of (λ i. is_local_item tree i.form) tree e i h))
 
 -- ---- parameters
-
-left_alone : (b : Bool) → (b || false) ≡ true → b ≡ true
-left_alone true e = refl
-left_alone false e = e
 
 -- what a parameter takes, by its type
 term_takable : (t : TypeTerm) → (is_scalar_term t || is_region_term t) ≡ true → (tree : Tree) (look : Looking) (own : ℕ) → IsTakable (type_said tree look own t)

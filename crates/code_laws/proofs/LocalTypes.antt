@@ -173,6 +173,11 @@ simple_truths t u a b e =
 compare_both : (t u : StaticType) → IsTruth t → IsTruth u → AreComparable t u
 compare_both _ _ a_truth_type a_truth_type = compare_truths
 
+-- the first of two, where the second isn't so
+pub left_alone : (b : Bool) → (b || false) ≡ true → b ≡ true
+left_alone true e = refl
+left_alone false e = e
+
 -- of two truths one is
 pub either : (x y : Bool) → (x || y) ≡ true → (x ≡ true) ⊎ (y ≡ true)
 either true y e = inl refl

@@ -10,9 +10,10 @@ use Rattle.regent_tree.specs.declared.statement.How.{How}
 use Rattle.regent_tree.specs.declared.statement.How.TheVariants as how
 use Rattle.regent_tree.specs.declared.types.Param.{Param}
 use Rattle.regent_tree.specs.declared.types.TypeTerm.{TypeTerm}
+use Rattle.regent_tree.specs.declared.types.NumberTerm.{NumberTerm}
 use Rattle.regent_tree.specs.declared.types.NumberTerm.TheVariants as number
 use Rattle.regent_tree.specs.declared.types.TypeTerm.TheVariants as term
-use Rattle.local_form.specs.LocalForm.{Marked, gives_pointer, is_difference, is_partition_name, keeps_pointer, is_kept_term, is_pointing, marked_by_term, takes_partition_off, takes_value, with_either, with_partition, are_local_arms, are_local_expressions, are_local_links, are_local_params, are_scalar_params, gives_scalar, is_local_block, is_local_else, is_local_expression, is_local_form, is_local_item, is_local_program, is_local_task, is_region_term, links_give, marked_by, marked_by_arms, marked_by_else, marked_by_item, marked_by_items, marked_by_task, marked_in, marked_params, unmarked, with_region}
+use Rattle.local_form.specs.LocalForm.{Marked, converts_to, gives_pointer, is_difference, is_partition_name, keeps_pointer, is_kept_term, is_pointing, marked_by_term, takes_partition_off, takes_value, with_either, with_partition, are_local_arms, are_local_expressions, are_local_links, are_local_params, are_scalar_params, gives_scalar, is_local_block, is_local_else, is_local_expression, is_local_form, is_local_item, is_local_program, is_local_task, is_region_term, links_give, marked_by, marked_by_arms, marked_by_else, marked_by_item, marked_by_items, marked_by_task, marked_in, marked_params, unmarked, with_region}
 use Rattle.code_laws.specs.LocalPrograms.{has_no_pointer, keeps_nothing, takes_scalars}
 use Rattle.code_laws.proofs.Typing.{no_way_back}
 use Rattle.scalar_form.specs.ScalarForm.{are_scalar_arms, are_scalar_expressions, are_scalar_links, is_empty, is_scalar_block, is_scalar_else, is_scalar_expression, is_scalar_form, is_scalar_if_said, is_scalar_item, is_scalar_number, is_scalar_program, is_scalar_task, is_scalar_term}
@@ -20,14 +21,20 @@ use Rattle.scalar_form.specs.ScalarForm.{are_scalar_arms, are_scalar_expressions
 both_true : (a b : Bool) → a ≡ true → b ≡ true → (a && b) ≡ true
 both_true a b h k = ap (λ x. x && b) h ∙ k
 
+or_true : (k : Bool) → (k || true) ≡ true
+or_true true = refl
+or_true false = refl
+
 module _ (keeping : Bool) where
   -- no marks, where indices and pointers may be assigned or may not
   abbrev bare : Marked
   bare = record { regions = []; partitions = []; indices = []; pointers = []; index_fields = []; keeps = keeping }
 
-  takes : (n : Name) → (b : Bool) → keeping ≡ b → takes_value bare n ≡ true
-  takes n true e = ap (λ k. (k || true) && true) e
-  takes n false e = ap (λ k. (k || true) && true) e
+  takes : (n : Name) → takes_value bare n ≡ true
+  takes n = ap (λ k. k && true) (or_true keeping)
+
+  converts : (t : NumberTerm) → is_scalar_number t ≡ true → converts_to bare t ≡ true
+  converts t h = ap (λ x. keeping || x) h ∙ or_true keeping
 
   -- ---- expressions
 
@@ -50,7 +57,7 @@ module _ (keeping : Bool) where
     expression_local (access_expr n (at_step _ _)) sc = absurd (no_way_back sc)
     expression_local (convert_expr t e) sc =
         let s = and_parts (is_scalar_number t) (is_scalar_expression e) sc in
-        (both_true (is_scalar_number t) (is_local_expression bare e) s.0 (expression_local e s.1).0, refl)
+        (both_true (converts_to bare t) (is_local_expression bare e) (converts t s.0) (expression_local e s.1).0, s.0)
     expression_local (call_expr _ _) sc = absurd (no_way_back sc)
     expression_local (is_null_expr _) sc = absurd (no_way_back sc)
     expression_local (null_expr _) sc = absurd (no_way_back sc)
@@ -170,7 +177,7 @@ module _ (keeping : Bool) where
 
   assign_local : (n : Name) (steps : Steps) (h : How) (e : Expression) → is_scalar_form (assign_form n steps h e) ≡ true →
       is_local_form bare (assign_form n steps h e) ≡ true
-  assign_local n no_step how.Set e sc = both_true (takes_value bare n) (is_local_expression bare e) (takes n keeping refl) (expression_local e sc).0
+  assign_local n no_step how.Set e sc = both_true (takes_value bare n) (is_local_expression bare e) (takes n) (expression_local e sc).0
   assign_local n no_step (how.Reduce o) e sc = (expression_local e sc).0
   assign_local n (field_step _ _) h e sc = absurd (no_way_back sc)
   assign_local n (at_step _ _) h e sc = absurd (no_way_back sc)

@@ -8,6 +8,7 @@ use Rattle.regent_tree.specs.Syntax.{Arms, Block, Expression, Expressions, Form,
 use Rattle.regent_tree.specs.declared.expression.Arithmetic.TheVariants.{Subtract}
 use Rattle.regent_tree.specs.declared.expression.Operator.TheVariants.{Compute}
 use Rattle.regent_tree.specs.declared.statement.How.TheVariants as how
+use Rattle.regent_tree.specs.declared.types.NumberTerm.{NumberTerm}
 use Rattle.regent_tree.specs.declared.types.NumberTerm.TheVariants as number
 use Rattle.regent_tree.specs.declared.types.Param.{Param}
 use Rattle.regent_tree.specs.declared.types.Ref.{Ref}
@@ -20,7 +21,7 @@ use Rattle.scalar_form.specs.ScalarForm.{is_scalar_if_said, is_scalar_number, is
 
 -- the names of regions in a task, those of partitions, those that may stand for an index, an index space or a pointer,
 -- and those among them that may stand for a pointer; the names of fields that hold indices; and whether such indices,
--- index spaces and pointers may be assigned, and elements be taken as pointers
+-- index spaces and pointers may be assigned, elements be taken as pointers, and numbers be converted to indices
 pub record Marked : Type 0 where
   pub regions : List Name
   pub partitions : List Name
@@ -46,7 +47,7 @@ abbrev mutual
   gives_scalar m (access_expr n (at_step e rest)) = false
   gives_scalar m (access_expr n (field_step f rest)) = not (is_among m.partitions n) && not (is_among m.index_fields f)
   gives_scalar m (call_expr task args) = true
-  gives_scalar m (convert_expr t e) = true
+  gives_scalar m (convert_expr t e) = is_scalar_number t
   gives_scalar m (is_null_expr e) = true
   gives_scalar m e = false
 
@@ -114,6 +115,10 @@ abbrev pub goes_to_names : Marked → List Ref → Bool
 goes_to_names m [] = false
 goes_to_names m (r ∷ rs) = list_all (goes_to_name m) (r ∷ rs)
 
+-- whether what counts as a number is converted to a type: an integer's, or that of an index
+abbrev pub converts_to : Marked → NumberTerm → Bool
+converts_to m t = m.keeps || is_scalar_number t
+
 -- whether a name may be assigned
 abbrev pub takes_value : Marked → Name → Bool
 takes_value m n = (m.keeps || not (is_among m.indices n)) && not (is_kept_apart m n)
@@ -133,7 +138,7 @@ abbrev mutual
   is_local_expression m (access_expr n (at_step e (field_step f no_step))) = is_local_expression m e
   is_local_expression m (access_expr n (field_step f no_step)) = is_among m.pointers n || is_among m.partitions n
   is_local_expression m (call_expr task args) = are_local_arguments m args
-  is_local_expression m (convert_expr t e) = is_scalar_number t && is_local_expression m e
+  is_local_expression m (convert_expr t e) = converts_to m t && is_local_expression m e
   is_local_expression m (space_expr k e) = is_local_expression m e
   is_local_expression m (is_null_expr e) = is_local_expression m e
   is_local_expression m (null_expr t) = goes_to_names m t.regions

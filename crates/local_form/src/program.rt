@@ -4,7 +4,7 @@ ghost use Rattle.std.specs.Prelude.{◌≡◌, IfOk, OnOk, map};
 ghost use Rattle.regent_tree.specs.PlainProgram.{item_of, item_tree_of, task_of, tree_of};
 ghost use Rattle.local_form.specs.LocalForm.{are_local_params};
 ghost use Rattle.local_form.specs.LocalForm.{is_local_item, is_local_program, is_local_task};
-ghost use Rattle.local_form.specs.LocalForm.{is_region_term, marked_params};
+ghost use Rattle.local_form.specs.LocalForm.{is_region_term, marked_by_task, marked_params};
 ghost use Rattle.local_form.specs.Seen.{is_local_head, is_local_param, marked_param};
 
 use crate::fields::{are_local_fields, mark_items};
@@ -66,6 +66,17 @@ fn mark_params<'t>(marked: &mut Marked<'t>, params: &'t [Param]) -> Result<(), A
     Ok(())
 }
 
+/// What a task of a program marks.
+fn marks<'t>(alloc: Global, items: &'t [Item], task: &'t Task) -> Result<Marked<'t>, AllocError>
+    ensures { IfOk result (λ m. m ≡ marked_by_task (map item_tree_of items.now) (task_of task.now)) }
+{
+    let mut marked = Marked::new(alloc);
+    mark_items(&mut marked, items)?;
+    mark_params(&mut marked, task.params.as_slice())?;
+    mark_block(&mut marked, task.body.as_slice())?;
+    Ok(marked)
+}
+
 /// Whether a task of a program is of the form.
 fn is_local_task(alloc: Global, items: &[Item], task: &Task) -> Result<bool, AllocError>
     ensures { IfOk result (λ is. is ≡ is_local_task (map item_tree_of items.now) (task_of task.now)) }
@@ -73,10 +84,7 @@ fn is_local_task(alloc: Global, items: &[Item], task: &Task) -> Result<bool, All
     if !is_local_head(task) {
         return Ok(false);
     }
-    let mut marked = Marked::new(alloc);
-    mark_items(&mut marked, items)?;
-    mark_params(&mut marked, task.params.as_slice())?;
-    mark_block(&mut marked, task.body.as_slice())?;
+    let marked = marks(alloc, items, task)?;
     Ok(is_local_block(&marked, task.body.as_slice()))
 }
 
