@@ -31,8 +31,8 @@ use Rattle.check_rules.proofs.Untold.{rule_none}
 use Rattle.code_rules.specs.Slots.{Where, bound, typed}
 use Rattle.local_form.specs.LocalForm.{Marked, is_local_expression, is_name, is_part}
 use Rattle.code_laws.specs.Handing.{forms_by, takes_by}
-use Rattle.code_laws.specs.Pointers.{CountsAs, IsCounting}
-use Rattle.code_laws.specs.Simple.{AreAlike, AreRegions, IsPartition, IsRegion, IsScalar, a_partition_type, a_region_type, scalar_integer, scalar_truth}
+use Rattle.code_laws.specs.Pointers.{CountsAs, FitsInto, IsCounting}
+use Rattle.code_laws.specs.Simple.{AreRegions, IsPartition, IsRegion, IsScalar, a_partition_type, a_region_type, scalar_integer, scalar_truth}
 use Rattle.code_laws.specs.Steps.{Forms}
 use Rattle.code_laws.specs.Arguments.{IsCutName, IsHanded, IsHandedPart}
 use Rattle.code_laws.specs.Typed.{ArePassed, IsCallable, IsIndexed, IsPassed, IsTyped}
@@ -45,7 +45,7 @@ use Rattle.code_laws.proofs.LocalTypes.{IsTakable, either, region_for_scalar, re
 use Rattle.code_laws.proofs.Openings.{params_length, types_length}
 use Rattle.code_laws.proofs.Typing.{no_way, no_way_back, stands_well}
 use Rattle.code_laws.proofs.Values.{scalar_simple}
-use Rattle.code_laws.proofs.LocalValues.{IsValue, value_counts, value_for_region, value_param, value_read, value_simple}
+use Rattle.code_laws.proofs.LocalValues.{IsValue, alike_fits, value_counts, value_for_region, value_param, value_read, value_simple}
 use Rattle.code_laws.proofs.LocalPoints.{IsWell, local_known}
 
 module _ (handing keeping : Bool) (task : TaskTree) (w : Where) (sound : IsSound w.tree) (sound_task : IsSoundTask w.tree task) (m : Marked)
@@ -196,7 +196,7 @@ module _ (handing keeping : Bool) (task : TaskTree) (w : Where) (sound : IsSound
       let stood = subst (λ q. may_stand w.scope.known (stands (known_type w.tree w.scope e) (param_spot q)) ≡ true) (put_scalar all p s) may in
       let alike = value_param keeping w.scope.names w.scope.known (typed w e) p a.value s
       (subst (λ u. may_stand w.scope.known (stands u (param_spot p)) ≡ true) (known e told) stood) in
-      inl (subst (AreAlike (typed w e)) (sym same) alike, same, a.is)
+      inl (subst (FitsInto keeping (typed w e)) (sym same) (alike_fits keeping (typed w e) p alike), same, a.is)
   given_one all types e p (inl a) (takable_region _ r) alone told may fits =
       let stood = subst (λ q. may_stand w.scope.known (stands (known_type w.tree w.scope e) (param_spot q)) ≡ true) (put_region all p r) may in
       absurd (value_for_region keeping w.scope.names w.scope.known (typed w e) p a.value r
