@@ -287,7 +287,7 @@ module _ (handing keeping : Bool) (task : TaskTree) (w : Where) (sound : IsSound
         (value_simple (operated o t u) operand) number next)
 
     local_given : (all types : List StaticType) (ps : List StaticType) (es : Expressions) → are_local_arguments m es ≡ true → AreKept (parts_of_expressions es) →
-        AreTakable ps → (handing ≡ false → AreScalars ps) → first_in_args w.tree task w.scope es ≡ None →
+        AreTakable keeping ps → (handing ≡ false → AreScalars ps) → first_in_args w.tree task w.scope es ≡ None →
         list_any (is_ill_typed_at_place w.scope.known) (stand_at all ps (known_types w.tree w.scope es)) ≡ false →
         misfit_in all ps (known_types w.tree w.scope es) ≡ false →
         length (known_types w.tree w.scope es) ≡ length ps → ArePassed forms w (map (put_in types) ps) ps es

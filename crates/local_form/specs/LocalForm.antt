@@ -1,6 +1,6 @@
 -- Programs whose tasks know each region by a local name, that of a parameter or of a variable that begins with
--- region(..), and hand it over by that name, or by parts of partitions: each task takes numbers, truths and regions, and
--- gives a number or truth, or nothing. Which names stand for regions and partitions, and which may stand for
+-- region(..), and hand it over by that name, or by parts of partitions: each task takes numbers, truths, indices and regions,
+-- and gives a number or truth, or nothing. Which names stand for regions and partitions, and which may stand for
 -- an index, an index space or a pointer, is read from the text of a task; which fields hold indices, from the field spaces.
 use Rattle.std.specs.Prelude.{Bool, true, false, List, [], ◌∷◌, ◌++◌, Some, None, bytes_eq, not, cond, ◌&&◌, ◌||◌}
 use Rattle.std.specs.List.{list_all, list_any}
@@ -313,9 +313,13 @@ are_scalar_params ps = list_all (λ (p : Param). is_scalar_term p.term) ps
 abbrev pub are_local_fields : List Param → Bool
 are_local_fields ps = list_all (λ (p : Param). is_scalar_term p.term || is_index_term p.term) ps
 
--- parameters that are numbers, truths and regions
-abbrev pub are_local_params : List Param → Bool
-are_local_params ps = list_all (λ (p : Param). is_scalar_term p.term || is_region_term p.term) ps
+-- parameters that are numbers, truths and regions, or indices of whose names this is known
+abbrev pub is_local_param : Marked → Param → Bool
+is_local_param m p =
+    is_scalar_term p.term || (is_region_term p.term || (is_index_term p.term && (m.keeps && is_among m.indices p.name)))
+
+abbrev pub are_local_params : Marked → List Param → Bool
+are_local_params m ps = list_all (is_local_param m) ps
 
 -- the names of fields that hold indices, beside those that are marked before them
 abbrev pub marked_fields : List Param → Marked → Marked
@@ -331,17 +335,24 @@ abbrev pub marked_by_items : Tree → Marked → Marked
 marked_by_items [] m = m
 marked_by_items (i ∷ is) m = marked_by_items is (marked_by_item i.form m)
 
--- the names of parameters that are regions, beside those that are marked before them
+-- the names of parameters that are regions and indices, beside those that are marked before them
+abbrev pub marked_param : Param → Marked → Marked
+marked_param p m = cond (is_region_term p.term) (with_region p.name m) (cond (is_index_term p.term) (with_index p.name m) m)
+
 abbrev pub marked_params : List Param → Marked → Marked
 marked_params [] m = m
-marked_params (p ∷ ps) m = marked_params ps (cond (is_region_term p.term) (with_region p.name m) m)
+marked_params (p ∷ ps) m = marked_params ps (marked_param p m)
 
 -- what a task of a program marks: the names of fields, and those in the task, its parameters first
 abbrev pub marked_by_task : Tree → TaskTree → Marked
 marked_by_task tree t = marked_in t.body (marked_params t.params (marked_by_items tree unmarked))
 
+-- a task is of the form with such marks
+abbrev pub is_local_with : Marked → TaskTree → Bool
+is_local_with m t = are_local_params m t.params && (is_scalar_if_said t.result && is_local_block m t.body)
+
 abbrev pub is_local_task : Tree → TaskTree → Bool
-is_local_task tree t = are_local_params t.params && (is_scalar_if_said t.result && is_local_block (marked_by_task tree t) t.body)
+is_local_task tree t = is_local_with (marked_by_task tree t) t
 
 abbrev pub is_local_item : Tree → ItemForm → Bool
 is_local_item tree import_item = true
