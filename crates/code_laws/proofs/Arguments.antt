@@ -16,7 +16,8 @@ use Rattle.regent_tree.specs.declared.typing.StaticType.TheVariants.{Index as in
 use Rattle.code_rules.specs.Instructions.{converted_code}
 use Rattle.code_rules.specs.Pieces.{empty}
 use Rattle.code_rules.specs.Slots.{Where, bound, typed}
-use Rattle.code_laws.specs.Simple.{AreAlike, AreRegions, IsPartition, IsRegion, IsScalar, a_partition_type, a_region_type, scalar_integer, scalar_truth, two_integers, two_regions, two_truths}
+use Rattle.code_laws.specs.Pointers.{FitsInto, GoesInto, fills_alike, fills_index, into_index, into_plain}
+use Rattle.code_laws.specs.Simple.{AreAlike, AreRegions, IsPartition, IsRegion, a_partition_type, a_region_type, two_integers, two_regions, two_truths, number_index, number_integer}
 use Rattle.code_laws.specs.Steps.{Taking}
 use Rattle.code_laws.specs.Arguments.{IsCutName, IsHanded, IsHandedPart, name_of, parent_bound, part_of}
 
@@ -88,19 +89,34 @@ no_both (null_expr _) n p a b = absurd (none-some n a)
 no_both (cast_expr _ _) n p a b = absurd (none-some n a)
 no_both (space_expr _ _) n p a b = absurd (none-some n a)
 
--- a part of a partition is no number or truth
-child_other : (t u : StaticType) (r : Term) → AreAlike (child_type t r) u → ⊥
-child_other (region_type k sp args q) u r a = elim a [ ]
-child_other (integer_type _) u r a = elim a [ ]
-child_other truth_type u r a = elim a [ ]
-child_other (index_type _) u r a = elim a [ ]
-child_other (pointer_type _ _ _ _) u r a = elim a [ ]
-child_other (ispace_type _) u r a = elim a [ ]
-child_other (partition_type _ _ _) u r a = elim a [ ]
-child_other no_type u r a = elim a [ ]
-child_other unknown_type u r a = elim a [ ]
+-- what goes into something is a number, a truth, an index or a pointer
+abbrev IsGoing : StaticType → Type 0
+IsGoing (integer_type w) = Unit {0}
+IsGoing truth_type = Unit {0}
+IsGoing (index_type k) = Unit {0}
+IsGoing (pointer_type k sp args rs) = Unit {0}
+IsGoing t = ⊥
 
-cut_other : (s : Scope) (t u : StaticType) (e : Expression) → IsPartition t → AreAlike (type_of_element s t e) u → ⊥
+goes_as : (t u : StaticType) → GoesInto t u → IsGoing t
+goes_as _ _ (into_plain _ _ (fills_alike _ _ (two_integers v w))) = tt
+goes_as _ _ (into_plain _ _ (fills_alike _ _ two_truths)) = tt
+goes_as _ _ (into_plain _ _ (fills_index _ k (number_integer w))) = tt
+goes_as _ _ (into_plain _ _ (fills_index _ k (number_index j))) = tt
+goes_as _ _ (into_index k sp args rs j) = tt
+
+-- so a part of a partition goes into nothing
+child_other : (t u : StaticType) (r : Term) → GoesInto (child_type t r) u → ⊥
+child_other (region_type k sp args q) u r a = goes_as _ u a
+child_other (integer_type _) u r a = goes_as _ u a
+child_other truth_type u r a = goes_as _ u a
+child_other (index_type _) u r a = goes_as _ u a
+child_other (pointer_type _ _ _ _) u r a = goes_as _ u a
+child_other (ispace_type _) u r a = goes_as _ u a
+child_other (partition_type _ _ _) u r a = goes_as _ u a
+child_other no_type u r a = goes_as _ u a
+child_other unknown_type u r a = goes_as _ u a
+
+cut_other : (s : Scope) (t u : StaticType) (e : Expression) → IsPartition t → GoesInto (type_of_element s t e) u → ⊥
 cut_other s _ u e (a_partition_type d r own) a = child_other (bound_as s.names r).static_type u (term.Child own (colour_of s e)) a
 
 child_space : (t : StaticType) (r : Term) → IsRegion t → space_in (child_type t r) ≡ space_in t
@@ -128,8 +144,8 @@ part_is (null_expr _) p is = absurd (none-some p is)
 part_is (cast_expr _ _) p is = absurd (none-some p is)
 part_is (space_expr _ _) p is = absurd (none-some p is)
 
-pub part_other : (w : Where) (e : Expression) (u : StaticType) (p : Name × Expression) → part_of e ≡ Some p → IsCutName w p.0 → AreAlike (typed w e) u → ⊥
-part_other w e u p is cut a = cut_other w.scope (bound w p.0).static_type u p.1 cut.partition (subst (λ e. AreAlike (typed w e) u) (part_is e p is) a)
+pub part_other : (w : Where) (e : Expression) (u : StaticType) (p : Name × Expression) → part_of e ≡ Some p → IsCutName w p.0 → GoesInto (typed w e) u → ⊥
+part_other w e u p is cut a = cut_other w.scope (bound w p.0).static_type u p.1 cut.partition (subst (λ e. GoesInto (typed w e) u) (part_is e p is) a)
 
 pub part_space : (w : Where) (e : Expression) (p : Name × Expression) → part_of e ≡ Some p → IsCutName w p.0 → IsRegion (parent_bound w p.0).static_type →
     space_in (typed w e) ≡ space_in (parent_bound w p.0).static_type
@@ -161,12 +177,14 @@ pub alike_other : (t u : StaticType) → AreAlike t u → IsNoRegion t
 alike_other _ _ (two_integers v w) = tt
 alike_other _ _ two_truths = tt
 
+pub goes_other : (t u : StaticType) → GoesInto t u → IsNoRegion t
+goes_other _ _ (into_plain t u (fills_alike _ _ a)) = alike_other t u a
+goes_other _ _ (into_plain _ _ (fills_index _ k (number_integer w))) = tt
+goes_other _ _ (into_plain _ _ (fills_index _ k (number_index j))) = tt
+goes_other _ _ (into_index k sp args rs j) = tt
+
 pub region_other : (t : StaticType) → IsRegion t → IsNoRegion t → ⊥
 region_other _ (a_region_type k sp args r) h = absurd h
-
-pub alike_scalar : (t u : StaticType) → AreAlike t u → IsScalar u
-alike_scalar _ _ (two_integers v w) = scalar_integer w
-alike_scalar _ _ two_truths = scalar_truth
 
 pub first_region : (t u : StaticType) → AreRegions t u → IsRegion t
 first_region _ _ (two_regions k l sp args brgs r u) = a_region_type k sp args r
@@ -179,11 +197,11 @@ pub record Unchanged (h : Here) (w : Where) (from t : StaticType) : Type 0 where
 pub unchanged : (h : Here) (w : Where) (from b p : StaticType) → AreRegions b p → Unchanged h w from p
 unchanged h w from _ _ (two_regions k l sp args brgs r u) = record { code = refl; value = λ v s. refl }
 
--- what is passed is a number or truth, a region that has a name, or a part
+-- what is passed is a number, a truth or an index, a region that has a name, or a part
 pub given_by : (keeps : Bool) (o : Option Taking) (w : Where) (t p : StaticType) (e : Expression) (Typed Part Goal : Type 0) →
-    (AreAlike (typed w e) t → t ≡ p → Typed → Goal) → ((y : Taking) → o ≡ Some y → IsHanded (Some y) w t p e → Goal) →
+    (FitsInto keeps (typed w e) t → t ≡ p → Typed → Goal) → ((y : Taking) → o ≡ Some y → IsHanded (Some y) w t p e → Goal) →
     (IsPartArgument o w t p e Part → Goal) →
-    (AreAlike (typed w e) t × (t ≡ p) × Typed) ⊎ (IsHanded o w t p e ⊎ IsHandedPart keeps o w t p e Part) → Goal
+    (FitsInto keeps (typed w e) t × (t ≡ p) × Typed) ⊎ (IsHanded o w t p e ⊎ IsHandedPart keeps o w t p e Part) → Goal
 given_by keeps o w t p e Typed Part Goal this that other (inl a) = this a.0 a.1 a.2
 given_by keeps None w t p e Typed Part Goal this that other (inr (inl h)) = absurd h
 given_by keeps (Some y) w t p e Typed Part Goal this that other (inr (inl h)) = that y refl h

@@ -36,17 +36,18 @@ use Rattle.code_rules.specs.Programs.{task_code}
 use Rattle.code_rules.specs.Slots.{Where, typed}
 use Rattle.code_laws.specs.Arguments.{AreMet, AreOneColour, AreParted, IsPartBelow, IsCutName, IsMet, IsMetAt, IsMetPart, IsPart, IsParted, IsPartedAt, name_at, one_name, one_number, parent_bound, part_at}
 use Rattle.code_laws.specs.Simple.{AreRegions, IsRegion, term_in, two_regions}
-use Rattle.code_laws.specs.Standing.{Agrees, AreTaken, Aside, IsInside, IsOf, IsTaken, LiesIn, SlotsFit, Takes, machine_value, nothing, takes_region, takes_scalar, where_of}
+use Rattle.code_laws.specs.Standing.{Agrees, AreTaken, Aside, IsInside, IsOf, IsTaken, LiesIn, SlotsFit, Takes, machine_value, nothing, takes_region, takes_value, where_of}
 use Rattle.code_laws.specs.Steps.{Setting, Taking}
 use Rattle.code_laws.specs.Taking.{AreParts, IsHad, IsHadBy, MayDo, given_region, pairs_in, pairs_taken, IsSubregion}
 use Rattle.code_laws.specs.Typed.{IsCallable}
-use Rattle.code_laws.proofs.Arguments.{alike_other, alike_scalar, first_region, named_typed, no_both, part_other, part_space, region_other}
+use Rattle.code_laws.proofs.Arguments.{first_region, goes_other, named_typed, no_both, part_other, part_space, region_other}
 use Rattle.code_laws.proofs.Calling.{given_number}
 use Rattle.code_laws.proofs.Handing.{AreGivenBy, IsGivenBy, IsHandedAs, IsPartAs}
 use Rattle.code_laws.proofs.Parts.{IsColoured, colour_seen, cut_of, parent_inside, part_at_colour, part_lies_in, part_within, point_of}
 use Rattle.code_laws.proofs.Reaching.{a_region_there, field_there, part_lies, region_covered, region_had, region_lies_in}
 use Rattle.code_laws.proofs.Requiring.{covered_within, requirements_there}
 use Rattle.code_laws.proofs.Values.{named}
+use Rattle.code_laws.proofs.Wider.{into_simple}
 
 module _ (x : Setting) (params slots : ℕ) (fit : SlotsFit x slots) (aside : Aside) where
   abbrev AreGiven : Here → List StaticType → Expressions → List Value → List Value → Type 0
@@ -63,7 +64,7 @@ module _ (x : Setting) (params slots : ℕ) (fit : SlotsFit x slots) (aside : As
   value_at h (p ∷ ps) (an_expr e es) (v ∷ vs) names zero n a at r =
       ⊎_elim
       (λ scalar. absurd (region_other (typed (where_of params h) e)
-      (subst IsRegion (sym (named_typed (where_of params h) e n at)) r) (alike_other (typed (where_of params h) e) p scalar.0)))
+      (subst IsRegion (sym (named_typed (where_of params h) e n at)) r) (goes_other (typed (where_of params h) e) p scalar.0)))
       (λ given. ⊎_elim
       (λ (is : IsHandedAs x params slots fit aside h p e v names).
       let same : is.name ≡ n = same_Some is.name n (sym is.stands ∙ at) in
@@ -176,7 +177,7 @@ module _ (x : Setting) (params slots : ℕ) (fit : SlotsFit x slots) (aside : As
       region _ _ q y takes (two_regions k l sp args brgs r u) lies = takes_region y l sp brgs u q takes lies
 
       one : IsGivenBy x params slots fit aside h p e v s.names → IsTaken x.forms.takes x.code s.store p v
-      one (inl c) = takes_scalar p v (alike_scalar (typed (where_of params h) e) p c.0) c.1
+      one (inl c) = takes_value p v (into_simple (typed (where_of params h) e) p c.0) c.1
       one (inr (inr is)) =
           let w = where_of params h in
           let k = is.coloured in

@@ -13,7 +13,7 @@ use Rattle.regent_tree.specs.declared.facts.Term.{Term}
 use Rattle.regent_tree.specs.declared.facts.Term.TheVariants as term
 use Rattle.regent_tree.specs.declared.types.Kind.{Kind}
 use Rattle.regent_tree.specs.declared.typing.StaticType.{StaticType}
-use Rattle.regent_tree.specs.declared.typing.StaticType.TheVariants.{Partition as partition_type, Pointer as pointer_type}
+use Rattle.regent_tree.specs.declared.typing.StaticType.TheVariants.{Index as index_type, Partition as partition_type, Pointer as pointer_type, Region as region_type}
 use Rattle.check_laws.specs.SoundScopes.{IsSoundScope}
 use Rattle.check_rules.specs.first.FirstInExpressions.{first_in_args, first_in_expression, first_of_call, first_of_standing, first_of_step, first_of_taking}
 use Rattle.check_rules.specs.first.Rules.{rule_if}
@@ -31,8 +31,8 @@ use Rattle.check_rules.proofs.Untold.{rule_none}
 use Rattle.code_rules.specs.Slots.{Where, bound, typed}
 use Rattle.local_form.specs.LocalForm.{Marked, is_local_expression, is_name, is_part}
 use Rattle.code_laws.specs.Handing.{forms_by, takes_by}
-use Rattle.code_laws.specs.Pointers.{CountsAs, IsCounting}
-use Rattle.code_laws.specs.Simple.{AreAlike, AreRegions, IsPartition, IsRegion, IsScalar, a_partition_type, a_region_type, scalar_integer, scalar_truth}
+use Rattle.code_laws.specs.Pointers.{CountsAs, FitsInto, IsCounting, fills_index, into_index, into_plain}
+use Rattle.code_laws.specs.Simple.{AreRegions, IsPartition, IsRegion, IsScalar, a_partition_type, a_region_type, number_index, number_integer, scalar_integer, scalar_truth, simple_index, simple_integer, simple_space, simple_truth}
 use Rattle.code_laws.specs.Steps.{Forms}
 use Rattle.code_laws.specs.Arguments.{IsCutName, IsHanded, IsHandedPart}
 use Rattle.code_laws.specs.Typed.{ArePassed, IsCallable, IsIndexed, IsPassed, IsTyped}
@@ -41,11 +41,12 @@ use Rattle.code_laws.proofs.KnownHeads.{KnowsHead}
 use Rattle.code_laws.proofs.LocalCalls.{may_call}
 use Rattle.code_laws.proofs.LocalParts.{and_then, named_alone, put_region, put_scalar}
 use Rattle.code_laws.proofs.LocalNames.{AllKept, IsKept, IsLocalTree, kept_partition, kept_region, kept_scalar, named_kept, kept_value, region_of_number, taking_told, value_kept, value_no_region, kept_plain}
-use Rattle.code_laws.proofs.LocalTypes.{IsTakable, either, region_for_scalar, regions_alike, simple_other, takable_region, takable_scalar}
+use Rattle.code_laws.proofs.LocalTypes.{IsTakable, either, region_for_index, region_for_scalar, regions_alike, simple_other, takable_index, takable_region, takable_scalar}
 use Rattle.code_laws.proofs.Openings.{params_length, types_length}
 use Rattle.code_laws.proofs.Typing.{no_way, no_way_back, stands_well}
 use Rattle.code_laws.proofs.Values.{scalar_simple}
-use Rattle.code_laws.proofs.LocalValues.{IsValue, value_counts, value_for_region, value_param, value_read, value_simple}
+use Rattle.code_laws.proofs.LocalValues.{IsValue, alike_fits, value_counts, value_for_region, value_param, value_pointer, value_read, value_simple}
+use Rattle.code_laws.proofs.LocalElements.{of_region}
 use Rattle.code_laws.proofs.LocalPoints.{IsWell, local_known}
 
 module _ (handing keeping : Bool) (task : TaskTree) (w : Where) (sound : IsSound w.tree) (sound_task : IsSoundTask w.tree task) (m : Marked)
@@ -103,7 +104,8 @@ module _ (handing keeping : Bool) (task : TaskTree) (w : Where) (sound : IsSound
         plain = λ q. kept_plain keeping m w.scope.names n (bound w n).number t kept q value;
       }
 
-  -- an argument has a value of its own, or it is a region that has a name, a part, or nothing that is taken
+  -- an argument has a value of its own, or it is a region that has a name, a part, or an element of a region that is named as a
+  -- partition, or nothing that is taken
   pub record IsRegionName (e : Expression) : Type 0 where
     pub name : Name
     pub is : e ≡ access_expr name no_step
@@ -124,22 +126,33 @@ module _ (handing keeping : Bool) (task : TaskTree) (w : Where) (sound : IsSound
     other_partition : (d : Bool) (r p : ℕ) → IsOther (partition_type d r p)
     other_pointer : (k : Kind) (sp : ℕ) (args rs : List Reach) → IsOther (pointer_type k sp args rs)
 
+  -- which an index takes where pointers are kept
+  abbrev Goes : Expression → Type 0
+  Goes e = (k : Kind) → keeping ≡ true → may_stand w.scope.known (stands (typed w e) (param_spot (index_type k))) ≡ true → Well e
+
   abbrev pub IsArgument : Expression → Type 0
-  IsArgument e = Well e ⊎ (IsRegionName e ⊎ (IsPartName e ⊎ IsOther (typed w e)))
+  IsArgument e = Well e ⊎ (IsRegionName e ⊎ (IsPartName e ⊎ (IsOther (typed w e) × Goes e)))
 
-  -- no parameter takes a partition or a pointer
-  none_takes : (t p : StaticType) → IsOther t → IsTakable p → may_stand w.scope.known (stands t (param_spot p)) ≡ true → ⊥
-  none_takes _ _ (other_partition d r q) (takable_scalar _ (scalar_integer v)) e = no_way_back e
-  none_takes _ _ (other_partition d r q) (takable_scalar _ scalar_truth) e = no_way_back e
-  none_takes _ _ (other_partition d r q) (takable_region _ (a_region_type k sp args u)) e = no_way_back e
-  none_takes _ _ (other_pointer k sp args rs) (takable_scalar _ (scalar_integer v)) e = no_way_back e
-  none_takes _ _ (other_pointer k sp args rs) (takable_scalar _ scalar_truth) e = no_way_back e
-  none_takes _ _ (other_pointer k sp args rs) (takable_region _ (a_region_type j sq brgs u)) e = no_way_back e
+  -- no parameter that is a number, a truth or a region takes a partition or a pointer
+  none_scalar : (t p : StaticType) → IsOther t → IsScalar p → may_stand w.scope.known (stands t (param_spot p)) ≡ true → ⊥
+  none_scalar _ _ (other_partition d r q) (scalar_integer v) e = no_way_back e
+  none_scalar _ _ (other_partition d r q) scalar_truth e = no_way_back e
+  none_scalar _ _ (other_pointer k sp args rs) (scalar_integer v) e = no_way_back e
+  none_scalar _ _ (other_pointer k sp args rs) scalar_truth e = no_way_back e
 
-  -- a parameter's type is the same with all arguments
-  put_takable : (types : List StaticType) (p : StaticType) → IsTakable p → put_in types p ≡ p
-  put_takable types p (takable_scalar _ s) = put_scalar types p s
-  put_takable types p (takable_region _ r) = put_region types p r
+  none_region : (t p : StaticType) → IsOther t → IsRegion p → may_stand w.scope.known (stands t (param_spot p)) ≡ true → ⊥
+  none_region _ _ (other_partition d r q) (a_region_type k sp args u) e = no_way_back e
+  none_region _ _ (other_pointer k sp args rs) (a_region_type j sq brgs u) e = no_way_back e
+
+  -- what an index takes
+  index_param : (b : Bool) (t : StaticType) (k : Kind) → b ≡ true → IsValue b w.scope.names t →
+      may_stand w.scope.known (stands t (param_spot (index_type k))) ≡ true → FitsInto b t (index_type k)
+  index_param false t k q a e = absurd (no_way_back q)
+  index_param true _ k q (value_simple _ (simple_integer v)) e = into_plain _ _ (fills_index _ k (number_integer v))
+  index_param true _ k q (value_simple _ (simple_index j)) e = into_plain _ _ (fills_index _ k (number_index j))
+  index_param true _ k q (value_simple _ simple_truth) e = absurd (no_way_back e)
+  index_param true _ k q (value_simple _ (simple_space j)) e = absurd (no_way_back e)
+  index_param true _ k q (value_pointer j sp args rs h r) e = into_index j sp args rs k
 
   name_argument : (n : Name) → is_bound w.scope.names n ≡ true → (t : StaticType) → (bound w n).static_type ≡ t → IsKept keeping m w.scope.names n (bound w n).number t →
       IsArgument (access_expr n no_step)
@@ -147,7 +160,10 @@ module _ (handing keeping : Bool) (task : TaskTree) (w : Where) (sound : IsSound
   name_argument n there t same (kept_value _ a h p) = inl (name_well n there (subst (IsValue keeping w.scope.names) (sym same) a))
   name_argument n there _ same (kept_region k sp args h) =
       inr (inl (record { name = n; is = refl; there = there; region = subst IsRegion (sym same) (a_region_type k sp args (term.Name (bound w n).number)) }))
-  name_argument n there _ same (kept_partition d r q among h) = inr (inr (inr (subst IsOther (sym same) (other_partition d r (bound w n).number))))
+  name_argument n there _ same (kept_partition d r q among h) = inr (inr (inr (
+    subst IsOther (sym same) (other_partition d r (bound w n).number),
+    λ k q may. absurd (no_way_back (subst (λ t. may_stand w.scope.known (stands t (param_spot (index_type k))) ≡ true) same may)),
+  )))
 
   child_region : (t : StaticType) (r : Term) → IsRegion t → IsRegion (child_type t r)
   child_region _ r (a_region_type k sp args q) = a_region_type k sp args r
@@ -167,7 +183,14 @@ module _ (handing keeping : Bool) (task : TaskTree) (w : Where) (sound : IsSound
   part_argument n e there t same (kept_value _ a h p) taking told well =
       absurd (no_way (sym (not-false _ (taking_told w.tree (element_of t (known_type w.tree w.scope e)) taking).1) ∙ value_no_region keeping w.scope.names t a))
   part_argument n e there _ same (kept_region k sp args h) taking told well =
-      inr (inr (inr (subst IsOther (sym (ap (λ t. type_of_element w.scope t e) same)) (other_pointer k sp args (Some (term.Name (bound w n).number) ∷ [])))))
+      let t = region_type k sp args (term.Name (bound w n).number) in
+      let at = known_type w.tree w.scope e in
+      let stood = (option_or_parts (first_of_standing [] (stands at number_spot)) _ (taking_told w.tree (element_of t at) taking).2).0 in
+      let number = value_counts keeping w.scope.names (typed w e) well.value (subst (λ u. may_be is_number u ≡ true) (known e told) (stands_well [] at number_spot stood)) in
+      inr (inr (inr (
+        subst IsOther (sym (ap (λ t. type_of_element w.scope t e) same)) (other_pointer k sp args (Some (term.Name (bound w n).number) ∷ [])),
+        λ j q may. of_region handing keeping task w sound sound_task m local scope names head n e there q k sp args same well.is (counts_kept keeping (typed w e) q number),
+      )))
   part_argument n e there _ same (kept_partition d r keeps among h) taking told well =
       let at = known_type w.tree w.scope e in
       let stood = (option_or_parts (first_of_standing [] (stands at number_spot)) _
@@ -188,7 +211,7 @@ module _ (handing keeping : Bool) (task : TaskTree) (w : Where) (sound : IsSound
       })))
 
   -- it is passed to a parameter of its type
-  pub given_one : (all types : List StaticType) (e : Expression) (p : StaticType) → IsArgument e → IsTakable p → (handing ≡ false → IsScalar p) →
+  pub given_one : (all types : List StaticType) (e : Expression) (p : StaticType) → IsArgument e → IsTakable keeping p → (handing ≡ false → IsScalar p) →
       first_in_expression w.tree task w.scope e ≡ None → may_stand w.scope.known (stands (known_type w.tree w.scope e) (param_spot (put_in all p))) ≡ true →
       (is_region p && differs all p (known_type w.tree w.scope e)) ≡ false → IsPassed forms w (put_in types p) p e (IsTyped forms w e) (IsIndexed forms w e)
   given_one all types e p (inl a) (takable_scalar _ s) alone told may fits =
@@ -196,14 +219,29 @@ module _ (handing keeping : Bool) (task : TaskTree) (w : Where) (sound : IsSound
       let stood = subst (λ q. may_stand w.scope.known (stands (known_type w.tree w.scope e) (param_spot q)) ≡ true) (put_scalar all p s) may in
       let alike = value_param keeping w.scope.names w.scope.known (typed w e) p a.value s
       (subst (λ u. may_stand w.scope.known (stands u (param_spot p)) ≡ true) (known e told) stood) in
-      inl (subst (AreAlike (typed w e)) (sym same) alike, same, a.is)
+      inl (subst (FitsInto keeping (typed w e)) (sym same) (alike_fits keeping (typed w e) p alike), same, a.is)
   given_one all types e p (inl a) (takable_region _ r) alone told may fits =
       let stood = subst (λ q. may_stand w.scope.known (stands (known_type w.tree w.scope e) (param_spot q)) ≡ true) (put_region all p r) may in
       absurd (value_for_region keeping w.scope.names w.scope.known (typed w e) p a.value r
       (subst (λ u. may_stand w.scope.known (stands u (param_spot p)) ≡ true) (known e told) stood))
-  given_one all types e p (inr (inr (inr other))) takable alone told may fits =
-      let stood = subst (λ q. may_stand w.scope.known (stands (known_type w.tree w.scope e) (param_spot q)) ≡ true) (put_takable all p takable) may in
-      absurd (none_takes (typed w e) p other takable (subst (λ u. may_stand w.scope.known (stands u (param_spot p)) ≡ true) (known e told) stood))
+  given_one all types e p (inl a) (takable_index k q) alone told may fits =
+      inl (index_param keeping (typed w e) k q a.value (subst (λ u. may_stand w.scope.known (stands u (param_spot (index_type k))) ≡ true) (known e told) may), refl, a.is)
+  given_one all types e p (inr (inr (inr other))) (takable_scalar _ s) alone told may fits =
+      let stood = subst (λ q. may_stand w.scope.known (stands (known_type w.tree w.scope e) (param_spot q)) ≡ true) (put_scalar all p s) may in
+      absurd (none_scalar (typed w e) p other.0 s (subst (λ u. may_stand w.scope.known (stands u (param_spot p)) ≡ true) (known e told) stood))
+  given_one all types e p (inr (inr (inr other))) (takable_region _ r) alone told may fits =
+      let stood = subst (λ q. may_stand w.scope.known (stands (known_type w.tree w.scope e) (param_spot q)) ≡ true) (put_region all p r) may in
+      absurd (none_region (typed w e) p other.0 r (subst (λ u. may_stand w.scope.known (stands u (param_spot p)) ≡ true) (known e told) stood))
+  given_one all types e p (inr (inr (inr other))) (takable_index k q) alone told may fits =
+      let stood = subst (λ u. may_stand w.scope.known (stands u (param_spot (index_type k))) ≡ true) (known e told) may in
+      let a = other.1 k q stood in
+      inl (index_param keeping (typed w e) k q a.value stood, refl, a.is)
+  given_one all types e p (inr (inr (inl r))) (takable_index k q) alone told may fits =
+      absurd (region_for_index w.scope.known (typed w (access_expr r.name (at_step r.index no_step))) k r.region
+      (subst (λ u. may_stand w.scope.known (stands u (param_spot (index_type k))) ≡ true) (known e told ∙ ap (typed w) r.is) may))
+  given_one all types e p (inr (inl r)) (takable_index k q) alone told may fits =
+      absurd (region_for_index w.scope.known (bound w r.name).static_type k r.region
+      (subst (λ y. may_stand w.scope.known (stands (known_type w.tree w.scope y) (param_spot (index_type k))) ≡ true) r.is may))
   given_one all types e p (inr (inr (inl r))) (takable_scalar _ s) alone told may fits =
       let stood = subst (λ q. may_stand w.scope.known (stands (known_type w.tree w.scope e) (param_spot q)) ≡ true) (put_scalar all p s) may in
       absurd (region_for_scalar w.scope.known (typed w (access_expr r.name (at_step r.index no_step))) p r.region s

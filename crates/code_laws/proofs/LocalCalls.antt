@@ -358,7 +358,7 @@ module _ (keeping : Bool) (task : TaskTree) (w : Where) (sound : IsSound w.tree)
 
 -- with regions that are handed over, or without
 pub may_call : (handing keeping : Bool) (task : TaskTree) (w : Where) → IsSound w.tree → IsSoundTask w.tree task → (m : Marked) → IsLocalTree handing keeping m w.tree →
-    IsSoundScope w.scope → AllKept keeping m w.scope.names → KnowsHead w.tree task w.scope → (n : Name) (args : Expressions) → IsLocalTask handing w.tree n →
+    IsSoundScope w.scope → AllKept keeping m w.scope.names → KnowsHead w.tree task w.scope → (n : Name) (args : Expressions) → IsLocalTask handing keeping w.tree n →
     first_in_args w.tree task w.scope args ≡ None → IsFlawless w.tree task w.scope (calling n (known_types w.tree w.scope args)) →
     ArePassed (forms_by handing keeping w.tree task) w (params_at w.tree w.scope (task_named w.tree n) args) (param_types w.tree (task_named w.tree n)) args →
     IsCallable (forms_by handing keeping w.tree task) w n args

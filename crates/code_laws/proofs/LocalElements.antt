@@ -98,7 +98,7 @@ module _ (handing keeping : Bool) (task : TaskTree) (w : Where) (sound : IsSound
   element n e = access_expr n (at_step e no_step)
 
   -- of a name that is bound to a region under its own number
-  of_region : (n : Name) (e : Expression) → is_bound w.scope.names n ≡ true → keeping ≡ true → (k : Kind) (sp : ℕ) (args : List Reach) →
+  pub of_region : (n : Name) (e : Expression) → is_bound w.scope.names n ≡ true → keeping ≡ true → (k : Kind) (sp : ℕ) (args : List Reach) →
       (bound w n).static_type ≡ region_type k sp args (place.Name (bound w n).number) → IsTyped forms w e → IsCounting (typed w e) → Well (element n e)
   of_region n e there keeps k sp args same is counts = record {
     is = (keeps, is, counts, there, region_bound w.scope.next w.scope.names scope.numbers n there k sp args same, own_region w scope.numbers n there k sp args same);

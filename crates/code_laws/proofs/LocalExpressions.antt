@@ -14,8 +14,10 @@ use Rattle.regent_tree.specs.declared.expression.Operator.{Operator}
 use Rattle.regent_tree.specs.declared.expression.Operator.TheVariants.{And, Compare, Compute, Or}
 use Rattle.regent_tree.specs.declared.rights.Access.TheVariants as access
 use Rattle.regent_tree.specs.declared.types.Kind.TheVariants.{Int1d}
+use Rattle.regent_tree.specs.declared.types.NumberTerm.{NumberTerm}
+use Rattle.regent_tree.specs.declared.types.NumberTerm.TheVariants as number
 use Rattle.regent_tree.specs.declared.typing.StaticType.{StaticType}
-use Rattle.regent_tree.specs.declared.typing.StaticType.TheVariants.{Ispace as ispace_type}
+use Rattle.regent_tree.specs.declared.typing.StaticType.TheVariants.{Index as index_type, Ispace as ispace_type}
 use Rattle.check_laws.specs.SoundScopes.{IsSoundScope}
 use Rattle.check_rules.specs.first.FirstInExpressions.{first_in_args, first_in_expression, first_in_links, first_of_call, first_of_operator, first_of_signs, first_of_standing, first_of_step, first_of_taking}
 use Rattle.check_rules.specs.first.Rules.{rule_if}
@@ -29,9 +31,10 @@ use Rattle.check_rules.specs.types.TypedForms.{calling, computing, element_of, f
 use Rattle.check_rules.specs.declared.rule.Rule.TheVariants as rule
 use Rattle.check_rules.proofs.Untold.{rule_none}
 use Rattle.code_rules.specs.Slots.{Where, bound, typed}
-use Rattle.local_form.specs.LocalForm.{Marked, are_local_arguments, are_local_expressions, are_local_links, gives_scalar, is_among, is_local_expression, is_name, is_part, links_give, gives_pointer, goes_to_names, takes_element}
+use Rattle.local_form.specs.LocalForm.{Marked, are_local_arguments, are_local_expressions, are_local_links, gives_scalar, is_among, is_local_expression, is_name, is_part, links_give, converts_to, gives_pointer, goes_to_names, takes_element}
 use Rattle.code_laws.specs.Handing.{forms_by}
-use Rattle.code_laws.specs.Simple.{IsPartition, IsScalar, IsSimple, a_partition_type, scalar_integer, scalar_truth, simple_space, simple_truth}
+use Rattle.code_laws.specs.Pointers.{ConvertsTo, CountsAs, term_index}
+use Rattle.code_laws.specs.Simple.{IsPartition, IsScalar, IsSimple, a_partition_type, scalar_integer, scalar_truth, simple_index, simple_space, simple_truth, term_32, term_64}
 use Rattle.code_laws.specs.Steps.{Forms}
 use Rattle.code_laws.specs.Typed.{AreNumbers, ArePassed, AreTypedLinks}
 use Rattle.code_laws.proofs.KnownHeads.{KnowsHead}
@@ -39,12 +42,11 @@ use Rattle.code_laws.proofs.LocalElements.{element_well}
 use Rattle.code_laws.proofs.LocalNulls.{cast_well, is_null_well, null_well}
 use Rattle.code_laws.proofs.LocalParts.{and_then, given_result}
 use Rattle.code_laws.proofs.LocalNames.{AllKept, AreScalars, AreTakable, IsLocalTree, named_kept, named_place, no_partition_kept, kept_as_value, partition_keeps, partition_or}
-use Rattle.code_laws.proofs.LocalTypes.{operated_number, simple_computed}
+use Rattle.code_laws.proofs.LocalTypes.{left_alone, operated_number, simple_computed}
 use Rattle.code_laws.proofs.TypedStatements.{first_stands}
 use Rattle.check_laws.proofs.Widths.{literal_fits}
-use Rattle.code_laws.proofs.Typing.{AreKept, integer_term, kept_behind, kept_left, kept_right, no_way, no_way_back, number_scalar, operates, signed_scalar, signs_fit, stands_well}
+use Rattle.code_laws.proofs.Typing.{AreKept, kept_behind, kept_left, kept_right, no_way, no_way_back, number_scalar, operates, signed_scalar, signs_fit, stands_well}
 use Rattle.code_laws.proofs.Values.{scalar_simple}
-use Rattle.scalar_form.specs.ScalarForm.{is_scalar_number}
 use Rattle.code_laws.proofs.LocalValues.{IsValue, integer_converts, signs_as, value_after, value_compared, value_computed, value_counts, value_integer, value_operated, value_simple, value_truths}
 use Rattle.code_laws.proofs.LocalPoints.{IsWell, at_point, behind_name, cut_name, gone, held_well, is_behind, local_known, name_there, scalar_well, touched}
 use Rattle.code_laws.proofs.LocalArguments.{IsArgument, IsCallWell, argument_of, call_well, given_one, name_well, part_of_name}
@@ -125,6 +127,19 @@ module _ (handing keeping : Bool) (task : TaskTree) (w : Where) (sound : IsSound
         plain = λ q. space;
       }
 
+  -- what is converted is an integer, or an index where these are kept
+  converted_well : (t : NumberTerm) (e : Expression) → Well e → CountsAs keeping (typed w e) → converts_to m t ≡ true → Well (convert_expr t e)
+  converted_well number.Int32 e a counts may =
+      scalar_well handing keeping task w sound sound_task m local scope names head (convert_expr number.Int32 e) (a.is, counts, integer_converts keeping _ term_32) (number_scalar _ term_32)
+  converted_well number.Int64 e a counts may =
+      scalar_well handing keeping task w sound sound_task m local scope names head (convert_expr number.Int64 e) (a.is, counts, integer_converts keeping _ term_64) (number_scalar _ term_64)
+  converted_well (number.Index k) e a counts may = record {
+    is = (a.is, counts, subst (λ b. ConvertsTo b (number.Index k)) (sym (local.keeps (left_alone m.keeps may))) (term_index k));
+    value = value_simple (index_type k) (simple_index k);
+    scalar = λ q. absurd (no_way_back q);
+    plain = λ q. simple_index k;
+  }
+
   mutual
     pub local_well : (e : Expression) → is_local_expression m e ≡ true → AreKept (parts_of_expression e) →
         first_in_expression w.tree task w.scope e ≡ None → Well e
@@ -184,13 +199,12 @@ module _ (handing keeping : Bool) (task : TaskTree) (w : Where) (sound : IsSound
         held_well handing keeping task w sound sound_task m local scope names head (access_expr n (at_step e (field_step f no_step))) f _
         (a.is, p.number, is.0, is.1, may) p.place.held (λ q. not-true (is_among m.index_fields f) q)
     local_well (convert_expr t e) lo k none =
-        let s = and_parts (is_scalar_number t) (is_local_expression m e) lo in
+        let s = and_parts (converts_to m t) (is_local_expression m e) lo in
         let told = option_or_parts (first_in_expression w.tree task w.scope e) _ none in
         let a = local_well e s.1 (kept_behind node (parts_of_expression e) k) told.0 in
         let may = stands_well [] (typed w e) number_spot
         (subst (λ u. first_of_standing [] (stands u number_spot) ≡ None) (known e told.0) told.1) in
-        let term = integer_term t s.0 in
-        scalar_well handing keeping task w sound sound_task m local scope names head (convert_expr t e) (a.is, value_counts keeping w.scope.names (typed w e) a.value may, integer_converts keeping t term) (number_scalar t term)
+        converted_well t e a (value_counts keeping w.scope.names (typed w e) a.value may) s.0
     local_well (call_expr n args) lo k none =
         let told = option_or_parts (first_in_args w.tree task w.scope args) _ none in
         let c = calling n (known_types w.tree w.scope args) in
@@ -273,7 +287,7 @@ module _ (handing keeping : Bool) (task : TaskTree) (w : Where) (sound : IsSound
         (value_simple (operated o t u) operand) number next)
 
     local_given : (all types : List StaticType) (ps : List StaticType) (es : Expressions) → are_local_arguments m es ≡ true → AreKept (parts_of_expressions es) →
-        AreTakable ps → (handing ≡ false → AreScalars ps) → first_in_args w.tree task w.scope es ≡ None →
+        AreTakable keeping ps → (handing ≡ false → AreScalars ps) → first_in_args w.tree task w.scope es ≡ None →
         list_any (is_ill_typed_at_place w.scope.known) (stand_at all ps (known_types w.tree w.scope es)) ≡ false →
         misfit_in all ps (known_types w.tree w.scope es) ≡ false →
         length (known_types w.tree w.scope es) ≡ length ps → ArePassed forms w (map (put_in types) ps) ps es

@@ -20,15 +20,18 @@ use Rattle.check_laws.specs.SoundScopes.{Falls}
 use Rattle.check_rules.specs.types.Sorts.{is_region, type_at}
 use Rattle.code_rules.specs.Slots.{Where, bound, typed}
 use Rattle.code_laws.specs.Arguments.{AreOneColour, IsCutName, IsHanded, IsHandedPart, name_at, name_of, one_name, one_number, part_at, part_of, parent_bound}
-use Rattle.code_laws.specs.Simple.{AreRegions, IsScalar, scalar_integer, scalar_truth, IsRegion, a_region_type, term_in}
+use Rattle.code_laws.specs.Simple.{AreRegions, IsSimple, IsRegion, a_region_type, simple_index, simple_integer, simple_space, simple_truth, term_in}
 use Rattle.code_laws.specs.Steps.{Forms, Taking}
 use Rattle.code_laws.specs.Typed.{ArePassed, IsIndexed, IsPassed, IsTyped}
-use Rattle.code_laws.proofs.Arguments.{alike_scalar, handed_name, handed_part}
+use Rattle.code_laws.proofs.Arguments.{handed_name, handed_part}
 use Rattle.code_laws.proofs.Typing.{no_way_back}
+use Rattle.code_laws.proofs.Wider.{going, into_simple}
 
-scalar_sort : (t : StaticType) → IsScalar t → is_region t ≡ true → ⊥
-scalar_sort _ (scalar_integer w) e = no_way_back e
-scalar_sort _ scalar_truth e = no_way_back e
+simple_sort : (t : StaticType) → IsSimple t → is_region t ≡ true → ⊥
+simple_sort _ (simple_integer w) e = no_way_back e
+simple_sort _ simple_truth e = no_way_back e
+simple_sort _ (simple_space k) e = no_way_back e
+simple_sort _ (simple_index k) e = no_way_back e
 
 -- a name is that of what it is bound to
 bound_name : (bs : List Bound) (n : Name) → is_bound bs n ≡ true → (bound_to bs n).name ≡ n
@@ -69,7 +72,7 @@ module _ (forms : Forms) (y : Taking) (takes : forms.takes ≡ Some y) (w : Wher
 
   handed_first : (t p : StaticType) (e : Expression) (es : Expressions) → is_region p ≡ true →
       IsPassed forms w t p e (IsTyped forms w e) (IsIndexed forms w e) → IsGivenAt (an_expr e es) 0 p
-  handed_first t p e es region (inl c) = absurd (scalar_sort p (subst IsScalar c.1 (alike_scalar (typed w e) t c.0)) region)
+  handed_first t p e es region (inl c) = absurd (simple_sort p (subst IsSimple c.1 (into_simple (typed w e) t (going forms.keeps (typed w e) t c.0))) region)
   handed_first t p e es region (inr (inl h)) =
       let n = handed_name y w t p e (subst (λ o. IsHanded o w t p e) takes h) in
       inl (record { name = n.0; at = ap name_of n.1; there = n.2; regions = n.4 })

@@ -14,7 +14,7 @@ use Rattle.regent_tree.specs.declared.types.Param.{Param}
 use Rattle.regent_tree.specs.declared.types.TypeTerm.{TypeTerm}
 use Rattle.regent_tree.specs.declared.types.TypeTerm.TheVariants as term
 use Rattle.check_laws.proofs.Parameters.{place_step}
-use Rattle.local_form.specs.LocalForm.{Marked, are_local_fields, are_scalar_params, gives_pointer, gives_scalar, is_among, is_difference, is_index_term, is_region_name, is_region_term, marked_by, marked_by_arms, marked_by_else, marked_by_item, marked_by_items, marked_by_task, marked_by_term, marked_fields, marked_in, marked_params, unmarked, with_either, with_index_field, with_partition, with_region}
+use Rattle.local_form.specs.LocalForm.{Marked, are_local_fields, are_scalar_params, gives_pointer, gives_scalar, is_among, is_difference, is_index_term, is_region_name, is_region_term, marked_by, marked_by_arms, marked_by_else, marked_by_item, marked_by_items, marked_by_task, marked_by_term, marked_fields, marked_in, marked_param, marked_params, unmarked, with_either, with_index, with_index_field, with_partition, with_region}
 use Rattle.code_laws.proofs.LocalFields.{IsFieldTerm, field_index, field_scalar}
 use Rattle.code_laws.proofs.Typing.{no_way_back}
 use Rattle.scalar_form.specs.ScalarForm.{is_scalar_term}
@@ -91,11 +91,12 @@ mutual
 
 params_fields : (ps : List Param) (m : Marked) → Fields (marked_params ps m) ≡ Fields m
 params_fields [] m = refl
-params_fields (p ∷ ps) m = params_fields ps (cond (is_region_term p.term) (with_region p.name m) m) ∙ one (is_region_term p.term)
+params_fields (p ∷ ps) m = params_fields ps (marked_param p m) ∙ one (is_region_term p.term) (is_index_term p.term)
   where
-    one : (b : Bool) → Fields (cond b (with_region p.name m) m) ≡ Fields m
-    one true = refl
-    one false = refl
+    one : (b c : Bool) → Fields (cond b (with_region p.name m) (cond c (with_index p.name m) m)) ≡ Fields m
+    one true c = refl
+    one false true = refl
+    one false false = refl
 
 -- so a task has what the program marks
 task_fields : (tree : Tree) (t : TaskTree) → Fields (marked_by_task tree t) ≡ Fields (marked_by_items tree unmarked)

@@ -56,20 +56,20 @@ abbrev pub AreScalars : List StaticType → Type 0
 AreScalars [] = Unit {0}
 AreScalars (t ∷ ts) = IsScalar t × AreScalars ts
 
-abbrev pub AreTakable : List StaticType → Type 0
-AreTakable [] = Unit {0}
-AreTakable (t ∷ ts) = IsTakable t × AreTakable ts
+abbrev pub AreTakable : Bool → List StaticType → Type 0
+AreTakable keeping [] = Unit {0}
+AreTakable keeping (t ∷ ts) = IsTakable keeping t × AreTakable keeping ts
 
 -- where no regions are handed over, a task takes numbers and truths, and needs nothing
 pub record IsAlone (tree : Tree) (t : TaskTree) : Type 0 where
   pub needs : (task_code tree t).needs ≡ []
   pub params : AreScalars (param_types tree t)
 
--- a task that is called takes numbers, truths and regions, and gives numbers and truths
-pub record IsLocalTask (handing : Bool) (tree : Tree) (n : Name) : Type 0 where
+-- a task that is called takes numbers, truths, regions and indices, and gives numbers and truths
+pub record IsLocalTask (handing keeping : Bool) (tree : Tree) (n : Name) : Type 0 where
   pub stands : StandsIn tree (task_named tree n)
   pub called : slice_get (tasks_of tree) (place_of_task tree n) ≡ Some (task_named tree n)
-  pub params : AreTakable (param_types tree (task_named tree n))
+  pub params : AreTakable keeping (param_types tree (task_named tree n))
   pub result : is_scalar_if_said (task_named tree n).result ≡ true
   pub alone : handing ≡ false → IsAlone tree (task_named tree n)
 
@@ -80,7 +80,7 @@ pub record IsLocalTree (handing keeping : Bool) (m : Marked) (tree : Tree) : Typ
   pub keeps : m.keeps ≡ true → keeping ≡ true
   pub few : (sp : ℕ) → length (space_at tree sp).fields ≤ 256
   pub named : (sp i : ℕ) → i < length (space_at tree sp).fields → Has (fields_named tree sp None) i
-  pub tasks : (n : Name) → has_task tree n ≡ true → IsLocalTask handing tree n
+  pub tasks : (n : Name) → has_task tree n ≡ true → IsLocalTask handing keeping tree n
 
 -- ---- names
 

@@ -20,14 +20,14 @@ use Rattle.check_rules.specs.types.Sorts.{is_region, type_at}
 use Rattle.code_rules.specs.Instructions.{place_of_task, tasks_of}
 use Rattle.code_rules.specs.Programs.{task_code}
 use Rattle.code_laws.specs.Handing.{AreTypedBy, forms_by}
-use Rattle.local_form.specs.LocalForm.{Marked, are_scalar_params, is_among, is_local_block, marked_by_task}
+use Rattle.local_form.specs.LocalForm.{Marked, are_local_params, are_scalar_params, is_among, is_local_block, is_local_with, marked_by_task}
 use Rattle.code_laws.specs.Simple.{IsInteger, an_integer}
 use Rattle.code_laws.specs.LocalPrograms.{AcceptedProgramsEndWell, AcceptedProgramsRunAsMeant, IsKeptProgramRun, IsLocalProgramRun, IsPlainProgramRun, has_no_pointer, keeps_nothing, takes_scalars, without_keeping}
 use Rattle.code_laws.specs.Programs.{AreTypedTasks, IsGiven, IsTypedRun, call_forms, gives_nothing, gives_scalar}
 use Rattle.code_laws.proofs.LocalBlocks.{block_local}
 use Rattle.code_laws.proofs.DeclaredNeeds.{needs_none}
 use Rattle.code_laws.proofs.KnownHeads.{IsReady, head_begins}
-use Rattle.code_laws.proofs.LocalTrees.{TakesScalars, begins_kept, local_tree, item_of_form, item_stands, params_tell, task_stands}
+use Rattle.code_laws.proofs.LocalTrees.{IsHead, IsOfForm, TakesScalars, begins_kept, local_tree, item_of_form, item_stands, params_tell, task_stands}
 use Rattle.code_laws.proofs.LocalTypes.{term_scalar}
 use Rattle.code_laws.proofs.Openings.{params_length, types_length}
 use Rattle.check_laws.proofs.Entries.{begins}
@@ -52,7 +52,7 @@ integers_no_region (t ∷ ts) a (suc i) = integers_no_region ts a.1 i
 
 -- a task that marks no name as a pointer's or a partition's, and keeps none
 abbrev pub HasNoPointer : Tree → TaskTree → Type 0
-HasNoPointer tree t = keeps_nothing (marked_by_task tree t) t.body ≡ true
+HasNoPointer tree t = keeps_nothing (marked_by_task tree t) t ≡ true
 
 -- so is no task of a program, and no field holds indices
 abbrev pub HasNoPointers : Tree → Type 0
@@ -69,22 +69,24 @@ record AreMarks (keeping : Bool) (tree : Tree) (t : TaskTree) : Type 0 where
   fields : marks.index_fields ≡ (marked_by_task tree t).index_fields
   assigns : marks.keeps ≡ true → keeping ≡ true
   keeps : (n : Name) → (is_among marks.pointers n ≡ true) ⊎ (is_among marks.partitions n ≡ true) → keeping ≡ true
+  params : are_local_params marks t.params ≡ true
   body : is_local_block marks t.body ≡ true
 
-marks_of : (keeping : Bool) (tree : Tree) (t : TaskTree) → is_local_block (marked_by_task tree t) t.body ≡ true → (keeping ≡ false → HasNoPointer tree t) →
-    AreMarks keeping tree t
-marks_of true tree t body none =
-    record { marks = marked_by_task tree t; regions = refl; fields = refl; assigns = λ q. refl; keeps = λ n h. refl; body = body }
-marks_of false tree t body none =
+marks_of : (keeping : Bool) (tree : Tree) (t : TaskTree) → IsOfForm tree t → (keeping ≡ false → HasNoPointer tree t) → AreMarks keeping tree t
+marks_of true tree t is none =
+    record { marks = marked_by_task tree t; regions = refl; fields = refl; assigns = λ q. refl; keeps = λ n h. refl; params = is.params; body = is.body }
+marks_of false tree t is none =
     let m = marked_by_task tree t in
-    let both = and_parts (is_empty m.pointers && is_empty m.partitions) (is_local_block (without_keeping m) t.body) (none refl) in
+    let both = and_parts (is_empty m.pointers && is_empty m.partitions) (is_local_with (without_keeping m) t) (none refl) in
+    let with_these = and_parts (are_local_params (without_keeping m) t.params) _ both.1 in
     let names = and_parts (is_empty m.pointers) (is_empty m.partitions) both.0 in record {
       marks = without_keeping m;
       regions = refl;
       fields = refl;
       assigns = λ q. absurd (no_way_back q);
       keeps = λ n. ⊎_elim (λ h. absurd (none_among m.pointers names.0 n h)) (λ h. absurd (none_among m.partitions names.1 n h));
-      body = both.1;
+      params = with_these.0;
+      body = (and_parts (is_scalar_if_said t.result) (is_local_block (without_keeping m) t.body) with_these.1).1;
     }
 
 -- a program of which nothing is told, whose tasks hand regions over or not, and where they do, keep pointers or not
@@ -93,6 +95,13 @@ module _ (handing keeping : Bool) (tree : Tree) (inputs : List ℤ) (p : IsLocal
     (plain : keeping ≡ false → HasNoPointers tree) (hands : keeping ≡ true → handing ≡ true) where
   abbrev no_index : keeping ≡ false → (i : ItemTree) → Has tree i → (s : FieldSpace) → i.form ≡ space_item s → are_scalar_params s.fields ≡ true
   no_index q i h s same = subst (λ form. has_no_pointer tree form ≡ true) same (plain q i h)
+
+  marks_here : (i : ItemTree) → Has tree i → (t : TaskTree) → i.form ≡ task_item t → AreMarks keeping tree t
+  marks_here i h t same =
+      marks_of keeping tree t (item_of_form tree p.local i h t same) (λ q. subst (λ form. has_no_pointer tree form ≡ true) same (plain q i h))
+
+  heads : (i : ItemTree) → Has tree i → (t : TaskTree) → i.form ≡ task_item t → IsHead keeping t
+  heads i h t same = let k = marks_here i h t same in record { marks = k.marks; keeps = k.assigns; params = k.params }
 
   every_task : AreTypedBy handing keeping tree
   every_task k t at =
@@ -106,10 +115,10 @@ module _ (handing keeping : Bool) (tree : Tree) (inputs : List ℤ) (p : IsLocal
       let body = kept_right (parts_of_type t.result) (parts_of_block t.body)
       (kept_right (parts_of_params t.params) (parts_of_type t.result ++ parts_of_block t.body) (λ q h. parts q (inr h))) in
       let short = short_body tree k t p.within at in
-      let k = marks_of keeping tree t is.body (λ q. subst (λ form. has_no_pointer tree form ≡ true) s.2 (plain q item s.1)) in
-      let local = local_tree handing keeping tree t k.marks k.fields k.assigns p.within p.accepted p.local alone no_index in
+      let k = marks_here item s.1 t s.2 in
+      let local = local_tree handing keeping tree t k.marks k.fields k.assigns p.within p.accepted p.local alone no_index heads in
       let ready : IsReady keeping tree t k.marks (scope_of tree t) =
-      record { names = begins_kept keeping tree t k.marks k.regions is.params; head = head_begins tree t told.sound_task (params_tell tree t is.params) } in record {
+      record { names = begins_kept keeping tree t k.marks k.regions k.params; head = head_begins tree t told.sound_task (params_tell keeping tree t (heads item s.1 t s.2)) } in record {
         given = given_scalar tree t.result is.result;
         typed = (block_local handing keeping tree t told.sound told.sound_task k.marks local k.keeps hands (length t.params) is.result (scope_of tree t) 0 t.body k.body body
             told.scope ready told.told).0;
@@ -127,7 +136,7 @@ module _ (handing keeping : Bool) (tree : Tree) (inputs : List ℤ) (p : IsLocal
       let bound = params_integers tree t.params 0 t.params b.integers in
       let ts = param_types tree t in
       let integers = types_integers (scope_of tree t).names bound in
-      let local = local_tree handing keeping tree t (without_keeping (marked_by_task tree t)) refl (λ q. absurd (no_way_back q)) p.within p.accepted p.local alone no_index in
+      let local = local_tree handing keeping tree t (without_keeping (marked_by_task tree t)) refl (λ q. absurd (no_way_back q)) p.within p.accepted p.local alone no_index heads in
       let long : length ts ≡ length t.params = types_length (scope_of tree t).names ∙ params_length tree t.params 0 t.params in record {
         start = slice_get-map (task_code tree) (tasks_of tree) (place_of_task tree main) ∙ ap (option_map (task_code tree)) f.at;
         needs = needs_none tree t told.sound_task local.named (integers_no_region ts integers);

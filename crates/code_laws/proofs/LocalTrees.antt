@@ -1,6 +1,6 @@
 -- What an accepted program has whose tasks hand regions over by name: its field spaces and its tasks.
 use Rattle.std.proofs.Common.{◌≡◌, Bool, List, [], ◌∷◌, ◌++◌, None, Some, true, false, refl, ap, sym, subst, ◌∙◌, ℕ, zero, suc, ◌≤◌, ◌<◌, ◌+◌, inl, inr, arith, cond}
-use Rattle.std.specs.Prelude.{bytes_eq, get_or, length, map, slice_get, ◌||◌}
+use Rattle.std.specs.Prelude.{bytes_eq, get_or, length, map, slice_get, ◌||◌, ◌&&◌}
 use Rattle.std.specs.List.{list_any}
 use Rattle.std.proofs.lemmas.Bool.{and_parts, or_parts}
 use Rattle.std.proofs.lemmas.Option.{none-some, same_Some}
@@ -19,6 +19,7 @@ use Rattle.regent_tree.specs.declared.types.NumberTerm.TheVariants as number
 use Rattle.regent_tree.specs.declared.types.TypeTerm.TheVariants as term
 use Rattle.regent_tree.specs.declared.typing.Bound.{Bound}
 use Rattle.regent_tree.specs.declared.typing.StaticType.{StaticType}
+use Rattle.regent_tree.specs.declared.typing.StaticType.TheVariants.{Index as index_type}
 use Rattle.check_laws.proofs.Entries.{no_line, none_left}
 use Rattle.check_laws.proofs.Parameters.{place_step}
 use Rattle.check_laws.proofs.Trees.{declared_none, none_of}
@@ -28,11 +29,12 @@ use Rattle.check_rules.specs.first.FirstInItems.{first_declared, first_line}
 use Rattle.check_rules.specs.rules.Repeats.{Given, given_by, repeats, repeats_after, repeats_within, was_given}
 use Rattle.check_rules.specs.scopes.Sound.{StandsIn}
 use Rattle.code_rules.specs.Instructions.{tasks_of}
-use Rattle.local_form.specs.LocalForm.{Marked, are_local_params, are_scalar_params, is_among, is_local_block, is_local_item, is_local_program, is_local_task, gives_pointer, gives_scalar, is_difference, is_region_name, is_region_term, marked_by, marked_by_arms, marked_by_else, marked_by_items, marked_by_task, marked_by_term, marked_in, marked_params, unmarked, with_either, with_partition, with_region}
-use Rattle.code_laws.specs.Simple.{IsScalar, a_region_type, scalar_integer, scalar_truth}
+use Rattle.local_form.specs.LocalForm.{Marked, are_local_params, are_scalar_params, is_among, is_index_term, is_local_param, is_local_block, is_local_item, is_local_program, is_local_task, gives_pointer, gives_scalar, is_difference, is_region_name, is_region_term, marked_by, marked_by_arms, marked_by_else, marked_by_items, marked_by_task, marked_by_term, marked_in, marked_param, marked_params, unmarked, with_either, with_index, with_partition, with_region}
+use Rattle.code_laws.specs.Simple.{IsScalar, a_region_type, scalar_integer, scalar_truth, simple_index}
 use Rattle.code_laws.proofs.LocalMarks.{HasFieldTerms, among_added, among_left, space_terms}
-use Rattle.code_laws.proofs.LocalNames.{AllKept, AreScalars, AreTakable, IsAlone, IsKept, IsLocalTree, kept_before, kept_region, kept_scalar}
-use Rattle.code_laws.proofs.LocalTypes.{IsTakable, takable_region, takable_scalar, term_scalar}
+use Rattle.code_laws.proofs.LocalNames.{AllKept, AreScalars, AreTakable, IsAlone, IsKept, IsLocalTree, kept_before, kept_region, kept_scalar, kept_value}
+use Rattle.code_laws.proofs.LocalTypes.{IsTakable, takable_index, takable_region, takable_scalar, term_scalar}
+use Rattle.code_laws.proofs.LocalValues.{value_simple}
 use Rattle.code_laws.proofs.Openings.{types_cons, types_in}
 use Rattle.code_laws.proofs.Entries.{all_of, found, kept_all, kept_item, no_clauses}
 use Rattle.code_laws.proofs.Typing.{AllScalar, AreKept, no_way_back}
@@ -85,13 +87,19 @@ item_stands tree i h t same = Contains-from_Has (map (λ (i : ItemTree). i.form)
 
 -- the parts of a task of the form
 pub record IsOfForm (tree : Tree) (t : TaskTree) : Type 0 where
-  pub params : are_local_params t.params ≡ true
+  pub params : are_local_params (marked_by_task tree t) t.params ≡ true
   pub result : is_scalar_if_said t.result ≡ true
   pub body : is_local_block (marked_by_task tree t) t.body ≡ true
 
+-- so of a program that keeps pointers, or doesn't
+pub record IsHead (keeping : Bool) (t : TaskTree) : Type 0 where
+  pub marks : Marked
+  pub keeps : marks.keeps ≡ true → keeping ≡ true
+  pub params : are_local_params marks t.params ≡ true
+
 task_of_form : (tree : Tree) (t : TaskTree) → is_local_task tree t ≡ true → IsOfForm tree t
 task_of_form tree t e =
-    let one = and_parts (are_local_params t.params) _ e in
+    let one = and_parts (are_local_params (marked_by_task tree t) t.params) _ e in
     let two = and_parts (is_scalar_if_said t.result) (is_local_block (marked_by_task tree t) t.body) one.1 in
     record { params = one.0; result = two.0; body = two.1 }
 
@@ -101,44 +109,48 @@ item_of_form tree e i h t same =
 
 -- ---- parameters
 
-left_alone : (b : Bool) → (b || false) ≡ true → b ≡ true
-left_alone true e = refl
-left_alone false e = e
-
 -- what a parameter takes, by its type
-term_takable : (t : TypeTerm) → (is_scalar_term t || is_region_term t) ≡ true → (tree : Tree) (look : Looking) (own : ℕ) → IsTakable (type_said tree look own t)
-term_takable (term.Region k u) e tree look own = takable_region _ (a_region_type k _ _ _)
-term_takable (term.Number n) e tree look own = takable_scalar _ (term_scalar (term.Number n) (left_alone _ e) tree look own)
-term_takable term.Truth e tree look own = takable_scalar _ scalar_truth
-term_takable (term.Pointer p) e tree look own = absurd (no_way_back e)
-term_takable (term.Ispace k) e tree look own = absurd (no_way_back e)
-term_takable (term.Partition d r c) e tree look own = absurd (no_way_back e)
+term_takable : (keeping x : Bool) (t : TypeTerm) → (is_scalar_term t || (is_region_term t || (is_index_term t && x))) ≡ true → (x ≡ true → keeping ≡ true) →
+    (tree : Tree) (look : Looking) (own : ℕ) → IsTakable keeping (type_said tree look own t)
+term_takable keeping x (term.Region k u) e keeps tree look own = takable_region _ (a_region_type k _ _ _)
+term_takable keeping x (term.Number number.Int32) e keeps tree look own = takable_scalar _ (term_scalar (term.Number number.Int32) refl tree look own)
+term_takable keeping x (term.Number number.Int64) e keeps tree look own = takable_scalar _ (term_scalar (term.Number number.Int64) refl tree look own)
+term_takable keeping x (term.Number (number.Index k)) e keeps tree look own = takable_index k (keeps e)
+term_takable keeping x term.Truth e keeps tree look own = takable_scalar _ scalar_truth
+term_takable keeping x (term.Pointer p) e keeps tree look own = absurd (no_way_back e)
+term_takable keeping x (term.Ispace k) e keeps tree look own = absurd (no_way_back e)
+term_takable keeping x (term.Partition d r c) e keeps tree look own = absurd (no_way_back e)
 
 -- the marks of parameters
 marked_later : (ps : List Param) (m : Marked) (n : Name) → is_among m.regions n ≡ true → is_among (marked_params ps m).regions n ≡ true
 marked_later [] m n h = h
-marked_later (p ∷ ps) m n h = marked_later ps (cond (is_region_term p.term) (with_region p.name m) m) n (chosen (is_region_term p.term))
+marked_later (p ∷ ps) m n h = marked_later ps (marked_param p m) n (chosen (is_region_term p.term) (is_index_term p.term))
   where
-    chosen : (b : Bool) → is_among (cond b (with_region p.name m) m).regions n ≡ true
-    chosen true = among_left m.regions (p.name ∷ []) n h
-    chosen false = h
+    chosen : (b c : Bool) → is_among (cond b (with_region p.name m) (cond c (with_index p.name m) m)).regions n ≡ true
+    chosen true c = among_left m.regions (p.name ∷ []) n h
+    chosen false true = h
+    chosen false false = h
 
 marked_region : (ps : List Param) (m : Marked) (p : Param) → Has ps p → is_region_term p.term ≡ true → is_among (marked_params ps m).regions p.name ≡ true
 marked_region [] m p h e = absurd h
-marked_region (q ∷ ps) m p (inr h) e = marked_region ps (cond (is_region_term q.term) (with_region q.name m) m) p h e
+marked_region (q ∷ ps) m p (inr h) e = marked_region ps (marked_param q m) p h e
 marked_region (q ∷ ps) m p (inl same) e =
     let here : is_region_term q.term ≡ true = ap (λ (x : Param). is_region_term x.term) same ∙ e in
-    marked_later ps (cond (is_region_term q.term) (with_region q.name m) m) p.name
-    (subst (λ b. is_among (cond b (with_region q.name m) m).regions p.name ≡ true) (sym here)
+    marked_later ps (marked_param q m) p.name
+    (subst (λ b. is_among (cond b (with_region q.name m) (cond (is_index_term q.term) (with_index q.name m) m)).regions p.name ≡ true) (sym here)
     (among_added m.regions q.name p.name (ap (λ (x : Param). x.name) same)))
 
 module _ (keeping : Bool) (tree : Tree) (all : List Param) (m : Marked) where
   -- a parameter is kept as what its mark says
-  param_kept : (bs : List Bound) (p : Param) (i : ℕ) (t : TypeTerm) → p.term ≡ t → (is_scalar_term t || is_region_term t) ≡ true →
+  param_kept : (bs : List Bound) (p : Param) (i : ℕ) (t : TypeTerm) → p.term ≡ t →
+      (is_scalar_term t || (is_region_term t || (is_index_term t && (m.keeps && is_among m.indices p.name)))) ≡ true →
       (is_region_term p.term ≡ true → is_among m.regions p.name ≡ true) → IsKept keeping m bs p.name i (type_said tree (among_params all) i t)
   param_kept bs p i (term.Region k u) same e marked =
       kept_region k (place_of_space tree u.name) (map (looked_up (among_params all)) u.args) (marked (ap is_region_term same))
-  param_kept bs p i (term.Number n) same e marked = kept_scalar _ (term_scalar (term.Number n) (left_alone _ e) tree (among_params all) i)
+  param_kept bs p i (term.Number number.Int32) same e marked = kept_scalar _ (term_scalar (term.Number number.Int32) refl tree (among_params all) i)
+  param_kept bs p i (term.Number number.Int64) same e marked = kept_scalar _ (term_scalar (term.Number number.Int64) refl tree (among_params all) i)
+  param_kept bs p i (term.Number (number.Index k)) same e marked =
+      kept_value (index_type k) (value_simple (index_type k) (simple_index k)) (and_parts m.keeps (is_among m.indices p.name) e).1 (λ q. absurd (no_way_back q))
   param_kept bs p i term.Truth same e marked = kept_scalar _ scalar_truth
   param_kept bs p i (term.Pointer q) same e marked = absurd (no_way_back e)
   param_kept bs p i (term.Ispace k) same e marked = absurd (no_way_back e)
@@ -148,11 +160,11 @@ module _ (keeping : Bool) (tree : Tree) (all : List Param) (m : Marked) where
   kept_behind_all [] b a k = (k, tt)
   kept_behind_all (c ∷ bs) b a k = (kept_before keeping m bs (b ∷ []) c.name c.number c.static_type a.0, kept_behind_all bs b a.1 k)
 
-  pub params_kept : (i : ℕ) (ps : List Param) → are_local_params ps ≡ true →
+  pub params_kept : (i : ℕ) (ps : List Param) → are_local_params m ps ≡ true →
       ((p : Param) → Has ps p → is_region_term p.term ≡ true → is_among m.regions p.name ≡ true) → AllKept keeping m (bound_params tree all i ps)
   params_kept i [] e marked = tt
   params_kept i (p ∷ ps) e marked =
-      let both = and_parts (is_scalar_term p.term || is_region_term p.term) (are_local_params ps) e in
+      let both = and_parts (is_local_param m p) (are_local_params m ps) e in
       kept_behind_all (bound_params tree all (suc i) ps) _ (params_kept (suc i) ps both.1 (λ q h. marked q (inr h)))
       (param_kept [] p i p.term refl both.0 (marked p (inl refl)))
 
@@ -219,48 +231,51 @@ module _ (n : Name) where
     marks_stay_else (else_block body) m h = marks_stay_in body m h
 
 -- so where a task begins
-pub begins_kept : (keeping : Bool) (tree : Tree) (t : TaskTree) (m : Marked) → m.regions ≡ (marked_by_task tree t).regions → are_local_params t.params ≡ true →
+pub begins_kept : (keeping : Bool) (tree : Tree) (t : TaskTree) (m : Marked) → m.regions ≡ (marked_by_task tree t).regions → are_local_params m t.params ≡ true →
     AllKept keeping m (scope_of tree t).names
 begins_kept keeping tree t m same e = params_kept keeping tree t.params m 0 t.params e
     (λ p h r. subst (λ rs. is_among rs p.name ≡ true) (sym same)
     (marks_stay_in p.name t.body (marked_params t.params (marked_by_items tree unmarked)) (marked_region t.params (marked_by_items tree unmarked) p h r)))
 
-abbrev AllTakable : List Bound → Type 0
-AllTakable [] = Unit {0}
-AllTakable (b ∷ bs) = IsTakable b.static_type × AllTakable bs
+module _ (keeping : Bool) where
+  abbrev AllTakable : List Bound → Type 0
+  AllTakable [] = Unit {0}
+  AllTakable (b ∷ bs) = IsTakable keeping b.static_type × AllTakable bs
 
-takable_behind : (bs : List Bound) (b : Bound) → AllTakable bs → IsTakable b.static_type → AllTakable (bs ++ b ∷ [])
-takable_behind [] b a i = (i, tt)
-takable_behind (c ∷ bs) b a i = (a.0, takable_behind bs b a.1 i)
+  takable_behind : (bs : List Bound) (b : Bound) → AllTakable bs → IsTakable keeping b.static_type → AllTakable (bs ++ b ∷ [])
+  takable_behind [] b a i = (i, tt)
+  takable_behind (c ∷ bs) b a i = (a.0, takable_behind bs b a.1 i)
 
-params_takable : (tree : Tree) (all : List Param) (i : ℕ) (ps : List Param) → are_local_params ps ≡ true → AllTakable (bound_params tree all i ps)
-params_takable tree all i [] e = tt
-params_takable tree all i (p ∷ ps) e =
-    let both = and_parts (is_scalar_term p.term || is_region_term p.term) (are_local_params ps) e in
-    takable_behind (bound_params tree all (suc i) ps) _ (params_takable tree all (suc i) ps both.1) (term_takable p.term both.0 tree (among_params all) i)
+  params_takable : (m : Marked) → (m.keeps ≡ true → keeping ≡ true) → (tree : Tree) (all : List Param) (i : ℕ) (ps : List Param) → are_local_params m ps ≡ true →
+      AllTakable (bound_params tree all i ps)
+  params_takable m keeps tree all i [] e = tt
+  params_takable m keeps tree all i (p ∷ ps) e =
+      let both = and_parts (is_local_param m p) (are_local_params m ps) e in
+      takable_behind (bound_params tree all (suc i) ps) _ (params_takable m keeps tree all (suc i) ps both.1)
+      (term_takable keeping (m.keeps && is_among m.indices p.name) p.term both.0 (λ q. keeps (and_parts m.keeps (is_among m.indices p.name) q).0) tree (among_params all) i)
 
--- what such a parameter is tells nothing of regions
-takable_tells : (t : StaticType) → IsTakable t → known_of_type t ≡ []
-takable_tells _ (takable_scalar _ (scalar_integer w)) = refl
-takable_tells _ (takable_scalar _ scalar_truth) = refl
-takable_tells _ (takable_region _ (a_region_type k sp args r)) = refl
+  -- what such a parameter is tells nothing of regions
+  takable_tells : (t : StaticType) → IsTakable keeping t → known_of_type t ≡ []
+  takable_tells _ (takable_scalar _ (scalar_integer w)) = refl
+  takable_tells _ (takable_scalar _ scalar_truth) = refl
+  takable_tells _ (takable_region _ (a_region_type k sp args r)) = refl
+  takable_tells _ (takable_index k q) = refl
 
-all_tell : (bs : List Bound) → AllTakable bs → (b : Bound) → Has bs b → known_of_type b.static_type ≡ []
-all_tell [] a b h = absurd h
-all_tell (c ∷ bs) a b (inl same) = subst (λ (b : Bound). known_of_type b.static_type ≡ []) same (takable_tells c.static_type a.0)
-all_tell (c ∷ bs) a b (inr h) = all_tell bs a.1 b h
+  all_tell : (bs : List Bound) → AllTakable bs → (b : Bound) → Has bs b → known_of_type b.static_type ≡ []
+  all_tell [] a b h = absurd h
+  all_tell (c ∷ bs) a b (inl same) = subst (λ (b : Bound). known_of_type b.static_type ≡ []) same (takable_tells c.static_type a.0)
+  all_tell (c ∷ bs) a b (inr h) = all_tell bs a.1 b h
 
-pub params_tell : (tree : Tree) (t : TaskTree) → are_local_params t.params ≡ true → (b : Bound) → Has (scope_of tree t).names b →
-    known_of_type b.static_type ≡ []
-params_tell tree t e = all_tell (scope_of tree t).names (params_takable tree t.params 0 t.params e)
+  pub params_tell : (tree : Tree) (t : TaskTree) → IsHead keeping t → (b : Bound) → Has (scope_of tree t).names b → known_of_type b.static_type ≡ []
+  params_tell tree t h = all_tell (scope_of tree t).names (params_takable h.marks h.keeps tree t.params 0 t.params h.params)
 
-takable_types_behind : (ts : List StaticType) (t : StaticType) → AreTakable ts → IsTakable t → AreTakable (ts ++ t ∷ [])
-takable_types_behind [] t a i = (i, tt)
-takable_types_behind (u ∷ ts) t a i = (a.0, takable_types_behind ts t a.1 i)
+  takable_types_behind : (ts : List StaticType) (t : StaticType) → AreTakable keeping ts → IsTakable keeping t → AreTakable keeping (ts ++ t ∷ [])
+  takable_types_behind [] t a i = (i, tt)
+  takable_types_behind (u ∷ ts) t a i = (a.0, takable_types_behind ts t a.1 i)
 
-types_takable : (bs : List Bound) → AllTakable bs → AreTakable (types_in bs)
-types_takable [] a = tt
-types_takable (b ∷ bs) a = subst AreTakable (sym (types_cons b bs)) (takable_types_behind (types_in bs) b.static_type (types_takable bs a.1) a.0)
+  types_takable : (bs : List Bound) → AllTakable bs → AreTakable keeping (types_in bs)
+  types_takable [] a = tt
+  types_takable (b ∷ bs) a = subst (AreTakable keeping) (sym (types_cons b bs)) (takable_types_behind (types_in bs) b.static_type (types_takable bs a.1) a.0)
 
 scalars_behind : (bs : List Bound) (b : Bound) → AllScalar bs → IsScalar b.static_type → AllScalar (bs ++ b ∷ [])
 scalars_behind [] b a i = (i, tt)
@@ -335,8 +350,8 @@ pub local_tree : (handing keeping : Bool) (tree : Tree) (task : TaskTree) (m : M
     (m.keeps ≡ true → keeping ≡ true) → WithinLimits tree → breaches tree ≡ [] → is_local_program tree ≡ true →
     (handing ≡ false → (i : ItemTree) → Has tree i → (t : TaskTree) → i.form ≡ task_item t → TakesScalars t) →
     (keeping ≡ false → (i : ItemTree) → Has tree i → (s : FieldSpace) → i.form ≡ space_item s → are_scalar_params s.fields ≡ true) →
-    IsLocalTree handing keeping m tree
-local_tree handing keeping tree task m fields keeps within none e alone plain = record {
+    ((i : ItemTree) → Has tree i → (t : TaskTree) → i.form ≡ task_item t → IsHead keeping t) → IsLocalTree handing keeping m tree
+local_tree handing keeping tree task m fields keeps within none e alone plain heads = record {
   fields = space_has (HasFieldTerms keeping m.index_fields) (λ f has. absurd (no_way_back has)) tree
       (λ i h s same. subst (λ ns. HasFieldTerms keeping ns s) (sym fields) (space_terms keeping tree task i h s same
       (subst (λ form. is_local_item tree form ≡ true) same (all_of (λ i. is_local_item tree i.form) tree e i h)) (λ q. plain q i h s same)));
@@ -350,8 +365,9 @@ local_tree handing keeping tree task m fields keeps within none e alone plain = 
       let t = item_of_form tree e f.stands.0 f.stands.1 (task_named tree n) f.stands.2 in record {
         stands = item_stands tree f.stands.0 f.stands.1 (task_named tree n) f.stands.2;
         called = f.at;
-        params = types_takable (scope_of tree (task_named tree n)).names
-            (params_takable tree (task_named tree n).params 0 (task_named tree n).params t.params);
+        params = let h = heads f.stands.0 f.stands.1 (task_named tree n) f.stands.2 in
+            types_takable keeping (scope_of tree (task_named tree n)).names
+            (params_takable keeping h.marks h.keeps tree (task_named tree n).params 0 (task_named tree n).params h.params);
         result = t.result;
         alone = λ q. task_alone tree (task_named tree n) (alone q f.stands.0 f.stands.1 (task_named tree n) f.stands.2);
       };

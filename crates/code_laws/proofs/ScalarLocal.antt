@@ -10,9 +10,10 @@ use Rattle.regent_tree.specs.declared.statement.How.{How}
 use Rattle.regent_tree.specs.declared.statement.How.TheVariants as how
 use Rattle.regent_tree.specs.declared.types.Param.{Param}
 use Rattle.regent_tree.specs.declared.types.TypeTerm.{TypeTerm}
+use Rattle.regent_tree.specs.declared.types.NumberTerm.{NumberTerm}
 use Rattle.regent_tree.specs.declared.types.NumberTerm.TheVariants as number
 use Rattle.regent_tree.specs.declared.types.TypeTerm.TheVariants as term
-use Rattle.local_form.specs.LocalForm.{Marked, gives_pointer, is_difference, is_partition_name, keeps_pointer, is_kept_term, is_pointing, marked_by_term, takes_partition_off, takes_value, with_either, with_partition, are_local_arms, are_local_expressions, are_local_links, are_local_params, are_scalar_params, gives_scalar, is_local_block, is_local_else, is_local_expression, is_local_form, is_local_item, is_local_program, is_local_task, is_region_term, links_give, marked_by, marked_by_arms, marked_by_else, marked_by_item, marked_by_items, marked_by_task, marked_in, marked_params, unmarked, with_region}
+use Rattle.local_form.specs.LocalForm.{Marked, converts_to, gives_pointer, is_difference, is_partition_name, keeps_pointer, is_kept_term, is_pointing, marked_by_term, takes_partition_off, takes_value, with_either, with_partition, are_local_arms, are_local_expressions, are_local_links, are_local_params, are_scalar_params, gives_scalar, is_local_block, is_local_else, is_local_expression, is_local_form, is_local_item, is_local_program, is_local_task, is_index_term, is_local_param, is_local_with, is_among, is_region_term, links_give, marked_by, marked_by_arms, marked_by_else, marked_by_item, marked_by_items, marked_by_task, marked_in, marked_params, unmarked, with_index, with_region}
 use Rattle.code_laws.specs.LocalPrograms.{has_no_pointer, keeps_nothing, takes_scalars}
 use Rattle.code_laws.proofs.Typing.{no_way_back}
 use Rattle.scalar_form.specs.ScalarForm.{are_scalar_arms, are_scalar_expressions, are_scalar_links, is_empty, is_scalar_block, is_scalar_else, is_scalar_expression, is_scalar_form, is_scalar_if_said, is_scalar_item, is_scalar_number, is_scalar_program, is_scalar_task, is_scalar_term}
@@ -20,14 +21,20 @@ use Rattle.scalar_form.specs.ScalarForm.{are_scalar_arms, are_scalar_expressions
 both_true : (a b : Bool) → a ≡ true → b ≡ true → (a && b) ≡ true
 both_true a b h k = ap (λ x. x && b) h ∙ k
 
+or_true : (k : Bool) → (k || true) ≡ true
+or_true true = refl
+or_true false = refl
+
 module _ (keeping : Bool) where
   -- no marks, where indices and pointers may be assigned or may not
   abbrev bare : Marked
   bare = record { regions = []; partitions = []; indices = []; pointers = []; index_fields = []; keeps = keeping }
 
-  takes : (n : Name) → (b : Bool) → keeping ≡ b → takes_value bare n ≡ true
-  takes n true e = ap (λ k. (k || true) && true) e
-  takes n false e = ap (λ k. (k || true) && true) e
+  takes : (n : Name) → takes_value bare n ≡ true
+  takes n = ap (λ k. k && true) (or_true keeping)
+
+  converts : (t : NumberTerm) → is_scalar_number t ≡ true → converts_to bare t ≡ true
+  converts t h = ap (λ x. keeping || x) h ∙ or_true keeping
 
   -- ---- expressions
 
@@ -50,7 +57,7 @@ module _ (keeping : Bool) where
     expression_local (access_expr n (at_step _ _)) sc = absurd (no_way_back sc)
     expression_local (convert_expr t e) sc =
         let s = and_parts (is_scalar_number t) (is_scalar_expression e) sc in
-        (both_true (is_scalar_number t) (is_local_expression bare e) s.0 (expression_local e s.1).0, refl)
+        (both_true (converts_to bare t) (is_local_expression bare e) (converts t s.0) (expression_local e s.1).0, s.0)
     expression_local (call_expr _ _) sc = absurd (no_way_back sc)
     expression_local (is_null_expr _) sc = absurd (no_way_back sc)
     expression_local (null_expr _) sc = absurd (no_way_back sc)
@@ -170,7 +177,7 @@ module _ (keeping : Bool) where
 
   assign_local : (n : Name) (steps : Steps) (h : How) (e : Expression) → is_scalar_form (assign_form n steps h e) ≡ true →
       is_local_form bare (assign_form n steps h e) ≡ true
-  assign_local n no_step how.Set e sc = both_true (takes_value bare n) (is_local_expression bare e) (takes n keeping refl) (expression_local e sc).0
+  assign_local n no_step how.Set e sc = both_true (takes_value bare n) (is_local_expression bare e) (takes n) (expression_local e sc).0
   assign_local n no_step (how.Reduce o) e sc = (expression_local e sc).0
   assign_local n (field_step _ _) h e sc = absurd (no_way_back sc)
   assign_local n (at_step _ _) h e sc = absurd (no_way_back sc)
@@ -254,17 +261,34 @@ scalar_no_region (term.Ispace k) e = refl
 scalar_no_region (term.Region k u) e = absurd (no_way_back e)
 scalar_no_region (term.Partition d r c) e = refl
 
+scalar_no_index : (t : TypeTerm) → is_scalar_term t ≡ true → is_index_term t ≡ false
+scalar_no_index (term.Number number.Int32) e = refl
+scalar_no_index (term.Number number.Int64) e = refl
+scalar_no_index (term.Number (number.Index k)) e = absurd (no_way_back e)
+scalar_no_index term.Truth e = refl
+scalar_no_index (term.Pointer p) e = refl
+scalar_no_index (term.Ispace k) e = refl
+scalar_no_index (term.Region k u) e = refl
+scalar_no_index (term.Partition d r c) e = refl
+
 none_marked : (ps : List Param) (m : Marked) → are_scalar_params ps ≡ true → marked_params ps m ≡ m
 none_marked [] m e = refl
 none_marked (p ∷ ps) m e =
     let both = and_parts (is_scalar_term p.term) (are_scalar_params ps) e in
-    ap (λ b. marked_params ps (cond b (with_region p.name m) m)) (scalar_no_region p.term both.0) ∙ none_marked ps m both.1
+    ap (λ b. marked_params ps (cond b (with_region p.name m) (cond (is_index_term p.term) (with_index p.name m) m))) (scalar_no_region p.term both.0)
+    ∙ ap (λ b. marked_params ps (cond b (with_index p.name m) m)) (scalar_no_index p.term both.0) ∙ none_marked ps m both.1
 
-params_local : (ps : List Param) → are_scalar_params ps ≡ true → are_local_params ps ≡ true
-params_local [] e = refl
-params_local (p ∷ ps) e =
+params_local : (m : Marked) (ps : List Param) → are_scalar_params ps ≡ true → are_local_params m ps ≡ true
+params_local m [] e = refl
+params_local m (p ∷ ps) e =
     let both = and_parts (is_scalar_term p.term) (are_scalar_params ps) e in
-    both_true (is_scalar_term p.term || is_region_term p.term) (are_local_params ps) (ap (λ b. b || is_region_term p.term) both.0) (params_local ps both.1)
+    both_true (is_local_param m p) (are_local_params m ps)
+    (ap (λ b. b || (is_region_term p.term || (is_index_term p.term && (m.keeps && is_among m.indices p.name)))) both.0) (params_local m ps both.1)
+
+-- a task is of the form without marks
+task_bare : (k : Bool) (t : TaskTree) → IsScalarTask t → is_local_with (bare k) t ≡ true
+task_bare k t s = both_true (are_local_params (bare k) t.params) _ (params_local (bare k) t.params s.params)
+    (both_true (is_scalar_if_said t.result) _ s.result (block_local k t.body s.body).0)
 
 -- there are no fields
 no_item_marks : (i : ItemForm) (m : Marked) → is_scalar_item i ≡ true → marked_by_item i m ≡ m
@@ -289,11 +313,7 @@ scalar_marks tree t all s =
 
 task_is_local : (tree : Tree) (t : TaskTree) → AreScalar tree → is_scalar_task t ≡ true → is_local_task tree t ≡ true
 task_is_local tree t all e =
-    let s = scalar_task t e in
-    let b = block_local true t.body s.body in
-    let marks = scalar_marks tree t all s in
-    both_true (are_local_params t.params) _ (params_local t.params s.params) (both_true (is_scalar_if_said t.result) _ s.result
-    (subst (λ m. is_local_block m t.body ≡ true) (sym marks) b.0))
+    let s = scalar_task t e in subst (λ m. is_local_with m t ≡ true) (sym (scalar_marks tree t all s)) (task_bare true t s)
 
 item_is_local : (tree : Tree) (i : ItemForm) → AreScalar tree → is_scalar_item i ≡ true → is_local_item tree i ≡ true
 item_is_local tree import_item all e = refl
@@ -328,7 +348,7 @@ item_keeps_none tree (alias_item n) all e = refl
 item_keeps_none tree (start_item n) all e = refl
 item_keeps_none tree (space_item s) all e = absurd (no_way_back e)
 item_keeps_none tree (task_item t) all e =
-    let s = scalar_task t e in ap (λ m. keeps_nothing m t.body) (scalar_marks tree t all s) ∙ (block_local false t.body s.body).0
+    let s = scalar_task t e in ap (λ m. keeps_nothing m t) (scalar_marks tree t all s) ∙ task_bare false t s
 
 items_keep_none : (tree items : Tree) → AreScalar tree → AreScalar items → list_all (λ (i : ItemTree). has_no_pointer tree i.form) items ≡ true
 items_keep_none tree [] all e = refl

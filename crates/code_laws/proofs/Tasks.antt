@@ -48,7 +48,7 @@ use Rattle.memory_laws.proofs.Given.{given_keeps_numbers, given_stands}
 use Rattle.code_laws.specs.Handing.{AreTypedBy, forms_by, takes_by}
 use Rattle.code_laws.specs.Programs.{IsGiven, called_setting, gives_nothing, gives_scalar}
 use Rattle.code_laws.specs.Simple.{IsScalar, scalar_integer, scalar_truth}
-use Rattle.code_laws.specs.Standing.{Answering, AreTaken, Does, IsFramed, IsInside, IsOf, IsTaken, LiesIn, Matches, Returns, Stands, Takes, back, both_back, both_broke, called_with, of_integer, of_region, of_truth, takes_region, takes_scalar}
+use Rattle.code_laws.specs.Standing.{Answering, AreTaken, Does, IsFramed, IsInside, IsOf, IsTaken, LiesIn, Matches, Returns, Stands, Takes, back, both_back, both_broke, called_with, of_integer, of_region, of_truth, takes_region, takes_value}
 use Rattle.code_laws.specs.Steps.{Ends, Setting, Taking, placed}
 use Rattle.code_laws.specs.Taking.{AreParts, IsGivenAs, IsHadBy, needs_taken, pairs_in, pairs_taken}
 use Rattle.code_laws.proofs.Calling.{code_there, room_for}
@@ -60,7 +60,7 @@ use Rattle.code_laws.proofs.Pointing.{IsPlain, simple_plain}
 use Rattle.code_laws.proofs.Runs.{ends_by, leads_end}
 use Rattle.code_laws.proofs.Segments.{segments_give}
 use Rattle.code_laws.proofs.Statements.{block_runs}
-use Rattle.code_laws.proofs.Values.{scalar_simple, simple_inside}
+use Rattle.code_laws.proofs.Values.{simple_inside}
 
 -- ---- arguments and results
 
@@ -70,7 +70,7 @@ taken_typed takes code store [] [] a = tt
 taken_typed takes code store (t ∷ ts) (v ∷ vs) a = (one t v a.0, taken_typed takes code store ts vs a.1)
   where
     one : (t : StaticType) (v : Value) → IsTaken takes code store t v → IsOf t v
-    one _ _ (takes_scalar t v s o) = o
+    one _ _ (takes_value t v s o) = o
     one _ _ (takes_region y k sp args r q e l) = of_region k sp args r q
 taken_typed takes code store [] (v ∷ vs) a = absurd a
 taken_typed takes code store (t ∷ ts) [] a = absurd a
@@ -120,7 +120,7 @@ taken_inside x all takes code store i n (t ∷ ts) (v ∷ vs) ec ea has long at 
     had (Some y) z r q e g = inr (subst (λ (y : Taking). IsGivenAs x.args y.params r q) (sym (same_Some y z e)) g)
 
     one : (t : StaticType) (v : Value) → IsOwnTerm i t → get_or all i (a_truth false) ≡ v → IsTaken takes code store t v → IsInside x store t v
-    one _ _ own here (takes_scalar t v s o) = simple_inside x store t v (scalar_simple t s)
+    one _ _ own here (takes_value t v s o) = simple_inside x store t v s
     one _ _ own here (takes_region y k sp args r q e l) =
         let z = has y e in (
           subst (λ c. LiesIn c store sp q) (sym ec) l,
@@ -140,7 +140,7 @@ taken_plain takes code store [] [] a = tt
 taken_plain takes code store (t ∷ ts) (v ∷ vs) a = (one t v a.0, taken_plain takes code store ts vs a.1)
   where
     one : (t : StaticType) (v : Value) → IsTaken takes code store t v → IsPlain v
-    one _ _ (takes_scalar t v s o) = simple_plain t v (scalar_simple t s) o
+    one _ _ (takes_value t v s o) = simple_plain t v s o
     one _ _ (takes_region y k sp args r q e l) = tt
 taken_plain takes code store [] (v ∷ vs) a = absurd a
 taken_plain takes code store (t ∷ ts) [] a = absurd a

@@ -3,7 +3,7 @@ use Rattle.std.specs.Prelude.{◌≡◌, ◌<◌, ◌^◌, ◌&&◌, Bool, ℕ, 
 use Rattle.std.specs.List.{list_all}
 use Rattle.regent_tree.specs.Limits.{WithinLimits}
 use Rattle.regent_tree.specs.Meaning.{meaning}
-use Rattle.regent_tree.specs.Syntax.{Block, ItemForm, ItemTree, Tree, space_item, task_item}
+use Rattle.regent_tree.specs.Syntax.{ItemForm, ItemTree, TaskTree, Tree, space_item, task_item}
 use Rattle.regent_tree.specs.declared.outcome.Ending.{Ending}
 use Rattle.regent_tree.specs.declared.outcome.Ending.TheVariants.{Broken, Faulted, Finished}
 use Rattle.code_rules.specs.Programs.{code_of}
@@ -11,7 +11,7 @@ use Rattle.run_report.specs.Dumps.{fits_spaces}
 use Rattle.check_rules.specs.Acceptance.{input_widths}
 use Rattle.check_rules.specs.Breaches.{breaches}
 use Rattle.scalar_form.specs.ScalarForm.{is_empty}
-use Rattle.local_form.specs.LocalForm.{Marked, are_scalar_params, is_local_block, is_local_program, marked_by_task}
+use Rattle.local_form.specs.LocalForm.{Marked, are_scalar_params, is_local_program, is_local_with, marked_by_task}
 use Rattle.code_laws.specs.Programs.{RunsAsMeant}
 use Rattle.code_laws.specs.ScalarPrograms.{AreInputs}
 
@@ -43,17 +43,18 @@ abbrev pub AcceptedProgramsEndWell : Type 0
 AcceptedProgramsEndWell = (tree : Tree) (inputs : List ℤ) (turns : ℕ) → turns < 2 ^ 64 → IsLocalProgramRun tree inputs →
     EndsWell tree inputs turns
 
--- the marks of a task that assigns no index, index space or pointer, and takes no element as a pointer
+-- the marks of a task that assigns no index, index space or pointer, takes no index as a parameter and no element as a
+-- pointer, and makes no index of a number
 abbrev pub without_keeping : Marked → Marked
 without_keeping m = record m { keeps = false }
 
--- no name that is marked may stand for a pointer, and none for a partition, and a body of these is of the form without such
-abbrev pub keeps_nothing : Marked → Block → Bool
-keeps_nothing m body = (is_empty m.pointers && is_empty m.partitions) && is_local_block (without_keeping m) body
+-- no name that is marked may stand for a pointer, and none for a partition, and a task of these is of the form without such
+abbrev pub keeps_nothing : Marked → TaskTree → Bool
+keeps_nothing m t = (is_empty m.pointers && is_empty m.partitions) && is_local_with (without_keeping m) t
 
 -- a task of a program keeps no pointer: none of its loops goes over a region; and no field holds indices
 abbrev pub has_no_pointer : Tree → ItemForm → Bool
-has_no_pointer tree (task_item t) = keeps_nothing (marked_by_task tree t) t.body
+has_no_pointer tree (task_item t) = keeps_nothing (marked_by_task tree t) t
 has_no_pointer tree (space_item s) = are_scalar_params s.fields
 has_no_pointer tree item = true
 

@@ -32,7 +32,7 @@ use Rattle.machine_terms.specs.Jumps.{fetch}
 use Rattle.machine_terms.specs.Makes.{region_with}
 use Rattle.machine_terms.specs.Orders.{begun, result_of}
 use Rattle.code_laws.specs.Pointers.{ArePointed, IsTarget}
-use Rattle.code_laws.specs.Simple.{IsScalar}
+use Rattle.code_laws.specs.Simple.{IsScalar, IsSimple}
 use Rattle.code_rules.specs.Instructions.{place_of_task, tasks_of}
 use Rattle.machine_terms.specs.Opening.{opening, requirements_on}
 use Rattle.region_tree.specs.Requirements.{Requirement}
@@ -181,10 +181,10 @@ pub record IsFramed (x : Setting) (store : Store) (own : List RootId) (m : Memor
 
 -- ---- calls
 
--- A value that is given to a parameter: a number or truth; or, where regions are handed over, one that lies in the
--- store.
+-- A value that is given to a parameter: a number, a truth or an index; or, where regions are handed over, one that lies in
+-- the store.
 pub data IsTaken (takes : Option Taking) (code : Code) (store : Store) : StaticType → Value → Type 0 where
-  takes_scalar : (t : StaticType) (v : Value) → IsScalar t → IsOf t v → IsTaken takes code store t v
+  takes_value : (t : StaticType) (v : Value) → IsSimple t → IsOf t v → IsTaken takes code store t v
   takes_region : (y : Taking) (k : Kind) (space : ℕ) (args : List Reach) (r : Term) (q : Region) → takes ≡ Some y →
       LiesIn code store space q → IsTaken takes code store (region_type k space args r) (a_region q)
 

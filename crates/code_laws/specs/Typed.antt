@@ -166,10 +166,11 @@ IsCallable forms w task args =
     × AreMet forms.keeps forms.takes w args (task_code w.tree (task_named w.tree task)).needs
     × AreParted forms.keeps forms.takes w args (pairs_in (scope_of w.tree (task_named w.tree task)).known)
 
--- a number or truth, a region that has a name, or a part of a partition that has one is given to a parameter
+-- a number or truth, an index where these are kept, a region that has a name, or a part of a partition that has one is given
+-- to a parameter
 abbrev pub IsPassed : Forms → Where → StaticType → StaticType → Expression → Type 0 → Type 0 → Type 0
 IsPassed forms w t p e Typed Part =
-    (AreAlike (typed w e) t × (t ≡ p) × Typed) ⊎ (IsHanded forms.takes w t p e ⊎ IsHandedPart forms.keeps forms.takes w t p e Part)
+    (FitsInto forms.keeps (typed w e) t × (t ≡ p) × Typed) ⊎ (IsHanded forms.takes w t p e ⊎ IsHandedPart forms.keeps forms.takes w t p e Part)
 
 abbrev mutual
   pub IsTyped : Forms → Where → Expression → Type 0

@@ -80,9 +80,9 @@ pub fn scalar_programs_leave_no_roots()
     ensures { ScalarProgramsLeaveNoRoots }
 {}
 
-/// So it is for each accepted program whose tasks hand regions over by name: each takes numbers, truths and regions, with
-/// privileges and constraints on them, and gives a number or truth, or nothing; it may loop over its regions, and take
-/// fields of the pointers that it gets so. Nothing is supposed of types.
+/// So it is for each accepted program whose tasks hand regions over by name: each takes numbers, truths, indices and regions,
+/// with privileges and constraints on them, and gives a number or truth, or nothing; it may loop over its regions, keep
+/// pointers to their elements, and take fields of these. Nothing is supposed of types.
 #[tactic(auto, using(crate::proofs::LocalRuns::accepted_programs_run_as_meant))]
 pub fn accepted_programs_run_as_meant()
     ensures { AcceptedProgramsRunAsMeant }

@@ -1,6 +1,6 @@
 -- Programs whose tasks know each region by a local name, that of a parameter or of a variable that begins with
--- region(..), and hand it over by that name, or by parts of partitions: each task takes numbers, truths and regions, and
--- gives a number or truth, or nothing. Which names stand for regions and partitions, and which may stand for
+-- region(..), and hand it over by that name, or by parts of partitions: each task takes numbers, truths, indices and regions,
+-- and gives a number or truth, or nothing. Which names stand for regions and partitions, and which may stand for
 -- an index, an index space or a pointer, is read from the text of a task; which fields hold indices, from the field spaces.
 use Rattle.std.specs.Prelude.{Bool, true, false, List, [], ◌∷◌, ◌++◌, Some, None, bytes_eq, not, cond, ◌&&◌, ◌||◌}
 use Rattle.std.specs.List.{list_all, list_any}
@@ -8,6 +8,7 @@ use Rattle.regent_tree.specs.Syntax.{Arms, Block, Expression, Expressions, Form,
 use Rattle.regent_tree.specs.declared.expression.Arithmetic.TheVariants.{Subtract}
 use Rattle.regent_tree.specs.declared.expression.Operator.TheVariants.{Compute}
 use Rattle.regent_tree.specs.declared.statement.How.TheVariants as how
+use Rattle.regent_tree.specs.declared.types.NumberTerm.{NumberTerm}
 use Rattle.regent_tree.specs.declared.types.NumberTerm.TheVariants as number
 use Rattle.regent_tree.specs.declared.types.Param.{Param}
 use Rattle.regent_tree.specs.declared.types.Ref.{Ref}
@@ -20,7 +21,7 @@ use Rattle.scalar_form.specs.ScalarForm.{is_scalar_if_said, is_scalar_number, is
 
 -- the names of regions in a task, those of partitions, those that may stand for an index, an index space or a pointer,
 -- and those among them that may stand for a pointer; the names of fields that hold indices; and whether such indices,
--- index spaces and pointers may be assigned, and elements be taken as pointers
+-- index spaces and pointers may be assigned, elements be taken as pointers, and numbers be converted to indices
 pub record Marked : Type 0 where
   pub regions : List Name
   pub partitions : List Name
@@ -46,7 +47,7 @@ abbrev mutual
   gives_scalar m (access_expr n (at_step e rest)) = false
   gives_scalar m (access_expr n (field_step f rest)) = not (is_among m.partitions n) && not (is_among m.index_fields f)
   gives_scalar m (call_expr task args) = true
-  gives_scalar m (convert_expr t e) = true
+  gives_scalar m (convert_expr t e) = is_scalar_number t
   gives_scalar m (is_null_expr e) = true
   gives_scalar m e = false
 
@@ -114,6 +115,10 @@ abbrev pub goes_to_names : Marked → List Ref → Bool
 goes_to_names m [] = false
 goes_to_names m (r ∷ rs) = list_all (goes_to_name m) (r ∷ rs)
 
+-- whether what counts as a number is converted to a type: an integer's, or that of an index
+abbrev pub converts_to : Marked → NumberTerm → Bool
+converts_to m t = m.keeps || is_scalar_number t
+
 -- whether a name may be assigned
 abbrev pub takes_value : Marked → Name → Bool
 takes_value m n = (m.keeps || not (is_among m.indices n)) && not (is_kept_apart m n)
@@ -133,7 +138,7 @@ abbrev mutual
   is_local_expression m (access_expr n (at_step e (field_step f no_step))) = is_local_expression m e
   is_local_expression m (access_expr n (field_step f no_step)) = is_among m.pointers n || is_among m.partitions n
   is_local_expression m (call_expr task args) = are_local_arguments m args
-  is_local_expression m (convert_expr t e) = is_scalar_number t && is_local_expression m e
+  is_local_expression m (convert_expr t e) = converts_to m t && is_local_expression m e
   is_local_expression m (space_expr k e) = is_local_expression m e
   is_local_expression m (is_null_expr e) = is_local_expression m e
   is_local_expression m (null_expr t) = goes_to_names m t.regions
@@ -308,9 +313,13 @@ are_scalar_params ps = list_all (λ (p : Param). is_scalar_term p.term) ps
 abbrev pub are_local_fields : List Param → Bool
 are_local_fields ps = list_all (λ (p : Param). is_scalar_term p.term || is_index_term p.term) ps
 
--- parameters that are numbers, truths and regions
-abbrev pub are_local_params : List Param → Bool
-are_local_params ps = list_all (λ (p : Param). is_scalar_term p.term || is_region_term p.term) ps
+-- parameters that are numbers, truths and regions, or indices of whose names this is known
+abbrev pub is_local_param : Marked → Param → Bool
+is_local_param m p =
+    is_scalar_term p.term || (is_region_term p.term || (is_index_term p.term && (m.keeps && is_among m.indices p.name)))
+
+abbrev pub are_local_params : Marked → List Param → Bool
+are_local_params m ps = list_all (is_local_param m) ps
 
 -- the names of fields that hold indices, beside those that are marked before them
 abbrev pub marked_fields : List Param → Marked → Marked
@@ -326,17 +335,24 @@ abbrev pub marked_by_items : Tree → Marked → Marked
 marked_by_items [] m = m
 marked_by_items (i ∷ is) m = marked_by_items is (marked_by_item i.form m)
 
--- the names of parameters that are regions, beside those that are marked before them
+-- the names of parameters that are regions and indices, beside those that are marked before them
+abbrev pub marked_param : Param → Marked → Marked
+marked_param p m = cond (is_region_term p.term) (with_region p.name m) (cond (is_index_term p.term) (with_index p.name m) m)
+
 abbrev pub marked_params : List Param → Marked → Marked
 marked_params [] m = m
-marked_params (p ∷ ps) m = marked_params ps (cond (is_region_term p.term) (with_region p.name m) m)
+marked_params (p ∷ ps) m = marked_params ps (marked_param p m)
 
 -- what a task of a program marks: the names of fields, and those in the task, its parameters first
 abbrev pub marked_by_task : Tree → TaskTree → Marked
 marked_by_task tree t = marked_in t.body (marked_params t.params (marked_by_items tree unmarked))
 
+-- a task is of the form with such marks
+abbrev pub is_local_with : Marked → TaskTree → Bool
+is_local_with m t = are_local_params m t.params && (is_scalar_if_said t.result && is_local_block m t.body)
+
 abbrev pub is_local_task : Tree → TaskTree → Bool
-is_local_task tree t = are_local_params t.params && (is_scalar_if_said t.result && is_local_block (marked_by_task tree t) t.body)
+is_local_task tree t = is_local_with (marked_by_task tree t) t
 
 abbrev pub is_local_item : Tree → ItemForm → Bool
 is_local_item tree import_item = true

@@ -6,9 +6,9 @@ use Rattle.regent_tree.specs.declared.statement.How.TheVariants as how
 use Rattle.regent_tree.specs.declared.types.Param.{Param}
 use Rattle.regent_tree.specs.Plain.{expression_of}
 use Rattle.regent_tree.specs.PlainProgram.{block_in}
-use Rattle.regent_tree.specs.Syntax.{Expression, Name, Steps, TaskTree, at_step, field_step, no_step}
-use Rattle.scalar_form.specs.ScalarForm.{is_scalar_if_said, is_scalar_term}
-use Rattle.local_form.specs.LocalForm.{Marked, are_local_params, gives_pointer, is_among, is_kept_apart, is_local_block, is_local_expression, is_name, is_part, is_region_name, is_index_term, is_region_term, takes_element, takes_value, with_either, with_index_field, with_region}
+use Rattle.regent_tree.specs.Syntax.{Expression, Name, Steps, at_step, field_step, no_step}
+use Rattle.scalar_form.specs.ScalarForm.{is_scalar_term}
+use Rattle.local_form.specs.LocalForm.{Marked, gives_pointer, is_among, is_kept_apart, is_local_block, is_local_expression, is_name, is_part, is_region_name, is_index_term, takes_element, takes_value, with_either, with_index_field}
 
 abbrev pub is_local_arm : Marked → Arm → Bool
 is_local_arm m a =
@@ -25,21 +25,11 @@ marked_by_loop n domain m = with_either (is_region_name m domain) n m
 abbrev pub is_local_filling : Marked → Expression → Bool
 is_local_filling m e = not (gives_pointer m e) && is_local_expression m e
 
-abbrev pub marked_param : Param → Marked → Marked
-marked_param p m = cond (is_region_term p.term) (with_region p.name m) m
-
 abbrev pub marked_field : Param → Marked → Marked
 marked_field p m = cond (is_index_term p.term) (with_index_field p.name m) m
 
 abbrev pub is_local_field : Param → Bool
 is_local_field p = is_scalar_term p.term || is_index_term p.term
-
-abbrev pub is_local_param : Param → Bool
-is_local_param p = is_scalar_term p.term || is_region_term p.term
-
--- what a task takes and gives
-abbrev pub is_local_head : TaskTree → Bool
-is_local_head t = are_local_params t.params && is_scalar_if_said t.result
 
 -- ---- accesses
 

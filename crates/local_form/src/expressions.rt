@@ -11,7 +11,6 @@ use crate::giving::gives_scalar;
 use crate::marked::Marked;
 use crate::terms::goes_to_names;
 use regent_tree::{Expr, Link, Name, Step};
-use scalar_form::is_scalar_number;
 
 /// Whether a task may have an expression: numbers, truths, indices, index spaces and pointers, elements of regions, fields
 /// of these and of what pointers go to, null, casts, and the colours of partitions.
@@ -30,7 +29,7 @@ pub fn is_local_expression(marked: &Marked<'_>, e: &Expr) -> bool
         Expr::Access { name, steps } => is_local_access(marked, name, steps.as_slice()),
         Expr::Call { args, .. } => are_local_arguments(marked, args.as_slice()),
         Expr::Convert { to, inner } => {
-            is_scalar_number(*to) && is_local_expression(marked, inner)
+            marked.converts_to(*to) && is_local_expression(marked, inner)
         }
         Expr::Space { size, .. } => is_local_expression(marked, size),
         Expr::IsNull(inner) => is_local_expression(marked, inner),

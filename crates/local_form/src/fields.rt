@@ -11,7 +11,8 @@ use regent_tree::{Item, ItemKind, NumberTerm, Param, TypeTerm};
 use scalar_form::is_scalar_term;
 use std::alloc::AllocError;
 
-fn is_index_term(term: &TypeTerm) -> bool
+/// Whether a type is an index's.
+pub fn is_index_term(term: &TypeTerm) -> bool
     ensures { result ≡ is_index_term term.now }
 {
     match term {

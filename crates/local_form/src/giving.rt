@@ -7,6 +7,7 @@ ghost use Rattle.local_form.specs.LocalForm.{gives_pointer, gives_scalar, is_poi
 
 use crate::marked::Marked;
 use regent_tree::{Expr, Link, Name, Operator, Step};
+use scalar_form::is_scalar_number;
 
 /// Whether an access gives a number or truth: a name that isn't marked, or a field that holds no indices. The colours of a
 /// partition are none, nor are elements.
@@ -31,8 +32,8 @@ pub fn gives_scalar(marked: &Marked<'_>, e: &Expr) -> bool
         | Expr::Truth(_)
         | Expr::Prefix { .. }
         | Expr::Call { .. }
-        | Expr::Convert { .. }
         | Expr::IsNull(_) => true,
+        Expr::Convert { to, .. } => is_scalar_number(*to),
         Expr::Chain { first, rest } => {
             links_give(marked, gives_scalar(marked, first), rest.as_slice())
         }

@@ -1,16 +1,19 @@
 //! The names that a task marks.
 
 ghost use Rattle.std.specs.Prelude.{◌≡◌, ◌&&◌, List, OnOk, bytes_eq, map, ℕ};
-ghost use Rattle.local_form.specs.LocalForm.{is_among, is_kept_apart, takes_element, takes_value, unmarked};
+ghost use Rattle.local_form.specs.LocalForm.{converts_to, is_among, is_kept_apart, takes_element, takes_value};
+ghost use Rattle.local_form.specs.LocalForm.{unmarked};
 ghost use Rattle.local_form.specs.LocalForm.{with_either, with_index, with_index_field, with_partition};
 ghost use Rattle.local_form.specs.LocalForm.{with_pointer, with_region};
 
-use regent_tree::Name;
+use regent_tree::{Name, NumberTerm};
+use scalar_form::is_scalar_number;
 use std::alloc::{AllocError, Global};
 use std::marker::Model;
 
 /// The names of regions in a task, those of partitions, those that may stand for an index, an index space or a pointer,
-/// and those among them that may stand for a pointer; and the names of fields that hold indices.
+/// and those among them that may stand for a pointer; the names of fields that hold indices; and whether such indices and
+/// pointers are kept: assigned, taken of elements, and converted from numbers.
 #[derive(Drop)]
 pub struct Marked<'t> {
     regions: Vec<&'t Name>,
@@ -18,10 +21,11 @@ pub struct Marked<'t> {
     indices: Vec<&'t Name>,
     pointers: Vec<&'t Name>,
     index_fields: Vec<&'t Name>,
+    keeps: bool,
 }
 
 impl<'t> Model for Marked<'t> {
-    ghost use Rattle.std.specs.Prelude.{map, true};
+    ghost use Rattle.std.specs.Prelude.{map};
     ghost use Rattle.local_form.specs.LocalForm.{Marked as SeenMarked};
 
     ghost Value = { SeenMarked };
@@ -32,7 +36,7 @@ impl<'t> Model for Marked<'t> {
       indices = map (λ n. n.now) s.indices.items;
       pointers = map (λ n. n.now) s.pointers.items;
       index_fields = map (λ n. n.now) s.index_fields.items;
-      keeps = true;
+      keeps = s.keeps;
     } };
 }
 
@@ -43,7 +47,7 @@ fn is_among(names: &[&Name], name: &Name) -> bool
 }
 
 impl<'t> Marked<'t> {
-    /// No names; it takes no memory.
+    /// No names, and indices and pointers are kept; it takes no memory.
     pub fn new(alloc: Global) -> Self
         ensures { result ≡ unmarked }
     {
@@ -53,6 +57,7 @@ impl<'t> Marked<'t> {
             indices: Vec::new(alloc),
             pointers: Vec::new(alloc),
             index_fields: Vec::new(alloc),
+            keeps: true,
         }
     }
 
@@ -79,14 +84,15 @@ impl<'t> Marked<'t> {
     pub fn takes_element(&self, name: &Name) -> bool
         ensures { result ≡ takes_element self.now name.now }
     {
-        is_among(self.regions.as_slice(), name) && !self.is_partition(name)
+        self.keeps && self.is_region(name) && !self.is_partition(name)
     }
 
-    /// Whether a name may be assigned: where it stands for no region and no partition.
+    /// Whether a name may be assigned: where it stands for no region and no partition, nor for an index or a pointer that
+    /// isn't kept.
     pub fn takes_value(&self, name: &Name) -> bool
         ensures { result ≡ takes_value self.now name.now }
     {
-        !is_among(self.regions.as_slice(), name) && !self.is_partition(name)
+        (self.keeps || !self.is_index(name)) && !self.is_kept_apart(name)
     }
 
     pub fn is_index(&self, name: &Name) -> bool
@@ -95,11 +101,18 @@ impl<'t> Marked<'t> {
         is_among(self.indices.as_slice(), name)
     }
 
+    /// Whether what counts as a number is converted to a type.
+    pub fn converts_to(&self, to: NumberTerm) -> bool
+        ensures { result ≡ converts_to self.now to }
+    {
+        self.keeps || is_scalar_number(to)
+    }
+
     /// Whether a name may stand for an index that is kept.
     pub fn keeps_index(&self, name: &Name) -> bool
         ensures { result ≡ (self.now.keeps && is_among self.now.indices name.now) }
     {
-        is_among(self.indices.as_slice(), name)
+        self.keeps && self.is_index(name)
     }
 
     pub fn is_pointer(&self, name: &Name) -> bool

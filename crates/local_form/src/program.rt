@@ -2,12 +2,11 @@
 
 ghost use Rattle.std.specs.Prelude.{◌≡◌, IfOk, OnOk, map};
 ghost use Rattle.regent_tree.specs.PlainProgram.{item_of, item_tree_of, task_of, tree_of};
-ghost use Rattle.local_form.specs.LocalForm.{are_local_params};
-ghost use Rattle.local_form.specs.LocalForm.{is_local_item, is_local_program, is_local_task};
-ghost use Rattle.local_form.specs.LocalForm.{is_region_term, marked_params};
-ghost use Rattle.local_form.specs.Seen.{is_local_head, is_local_param, marked_param};
+ghost use Rattle.local_form.specs.LocalForm.{are_local_params, is_local_item, is_local_param};
+ghost use Rattle.local_form.specs.LocalForm.{is_local_program, is_local_task, is_local_with};
+ghost use Rattle.local_form.specs.LocalForm.{is_region_term, marked_by_task, marked_param, marked_params};
 
-use crate::fields::{are_local_fields, mark_items};
+use crate::fields::{are_local_fields, is_index_term, mark_items};
 use crate::marked::Marked;
 use crate::marking::mark_block;
 use crate::statements::is_local_block;
@@ -24,39 +23,41 @@ fn is_region_term(term: &TypeTerm) -> bool
     }
 }
 
-/// Whether a parameter is a number, a truth or a region.
-fn is_local_param(param: &Param) -> bool
-    ensures { result ≡ is_local_param param.now }
+/// Whether a parameter is a number, a truth or a region, or an index, and known as such.
+fn is_local_param(marked: &Marked<'_>, param: &Param) -> bool
+    ensures { result ≡ is_local_param marked.now param.now }
 {
-    is_scalar_term(&param.term) || is_region_term(&param.term)
+    is_scalar_term(&param.term)
+        || is_region_term(&param.term)
+        || (is_index_term(&param.term) && marked.keeps_index(&param.name))
 }
 
 /// Whether all parameters are such.
-fn are_local_params(params: &[Param]) -> bool
-    ensures { result ≡ are_local_params params.now }
+fn are_local_params(marked: &Marked<'_>, params: &[Param]) -> bool
+    ensures { result ≡ are_local_params marked.now params.now }
 {
-    params.iter().all(is_local_param)
+    for param in params {
+        if !is_local_param(marked, param) {
+            return false;
+        }
+    }
+    true
 }
 
-/// Whether a task takes numbers, truths and regions, and gives a number or truth, or nothing.
-fn is_local_head(task: &Task) -> bool
-    ensures { result ≡ is_local_head (task_of task.now) }
-{
-    are_local_params(task.params.as_slice()) && is_scalar_if_said(&task.result)
-}
-
-/// Marks a parameter that is a region.
+/// Marks a parameter that is a region or an index.
 fn mark_param<'t>(marked: &mut Marked<'t>, param: &'t Param) -> Result<(), AllocError>
     ensures { OnOk result (marked.new ≡ marked_param param.now marked.old) }
 {
     if is_region_term(&param.term) {
         marked.add_region(&param.name)
+    } else if is_index_term(&param.term) {
+        marked.add_index(&param.name)
     } else {
         Ok(())
     }
 }
 
-/// Marks the parameters that are regions.
+/// Marks the parameters that are regions and indices.
 fn mark_params<'t>(marked: &mut Marked<'t>, params: &'t [Param]) -> Result<(), AllocError>
     ensures { OnOk result (marked.new ≡ marked_params params.now marked.old) }
 {
@@ -66,18 +67,33 @@ fn mark_params<'t>(marked: &mut Marked<'t>, params: &'t [Param]) -> Result<(), A
     Ok(())
 }
 
-/// Whether a task of a program is of the form.
-fn is_local_task(alloc: Global, items: &[Item], task: &Task) -> Result<bool, AllocError>
-    ensures { IfOk result (λ is. is ≡ is_local_task (map item_tree_of items.now) (task_of task.now)) }
+/// What a task of a program marks.
+fn marks<'t>(alloc: Global, items: &'t [Item], task: &'t Task) -> Result<Marked<'t>, AllocError>
+    ensures { IfOk result (λ m. m ≡ marked_by_task (map item_tree_of items.now) (task_of task.now)) }
 {
-    if !is_local_head(task) {
-        return Ok(false);
-    }
     let mut marked = Marked::new(alloc);
     mark_items(&mut marked, items)?;
     mark_params(&mut marked, task.params.as_slice())?;
     mark_block(&mut marked, task.body.as_slice())?;
-    Ok(is_local_block(&marked, task.body.as_slice()))
+    Ok(marked)
+}
+
+/// Whether a task takes numbers, truths, indices and regions, gives a number or truth, or nothing, and is of the form with
+/// such marks.
+fn is_local_with(marked: &Marked<'_>, task: &Task) -> bool
+    ensures { result ≡ is_local_with marked.now (task_of task.now) }
+{
+    are_local_params(marked, task.params.as_slice())
+        && is_scalar_if_said(&task.result)
+        && is_local_block(marked, task.body.as_slice())
+}
+
+/// Whether a task of a program is of the form.
+fn is_local_task(alloc: Global, items: &[Item], task: &Task) -> Result<bool, AllocError>
+    ensures { IfOk result (λ is. is ≡ is_local_task (map item_tree_of items.now) (task_of task.now)) }
+{
+    let marked = marks(alloc, items, task)?;
+    Ok(is_local_with(&marked, task))
 }
 
 fn is_local_item(alloc: Global, items: &[Item], item: &ItemKind) -> Result<bool, AllocError>
@@ -90,7 +106,7 @@ fn is_local_item(alloc: Global, items: &[Item], item: &ItemKind) -> Result<bool,
     }
 }
 
-/// Whether each task of a program takes numbers, truths and regions, gives a number or truth, or nothing, knows its
+/// Whether each task of a program takes numbers, truths, indices and regions, gives a number or truth, or nothing, knows its
 /// regions by names, and hands them over by these.
 ///
 /// It asks nothing of the rules: a program that breaches one may be such. Memory is taken for the names that a
