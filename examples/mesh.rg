@@ -1,0 +1,60 @@
+import "regent"
+
+fspace corner { x : int64, y : int64, load : int64 }
+fspace triangle { a : int1d, b : int1d, c : int1d }
+
+-- a square of n by n squares, each of which is cut into two triangles
+task lay_out(corners : region(ispace(int1d), corner), triangles : region(ispace(int1d), triangle), n : int64)
+where writes(corners.{x, y}), writes(triangles.{a, b, c}) do
+  for k in corners do
+    k.x = int64(k) % (n + 1)
+    k.y = int64(k) / (n + 1)
+  end
+  for t in triangles do
+    var s = int64(t) / 2
+    var low = s / n * (n + 1) + s % n
+    if int64(t) % 2 == 0 then
+      t.a = low
+      t.b = low + 1
+    else
+      t.a = low + n + 2
+      t.b = low + n + 1
+    end
+    if int64(t) % 2 == 0 then t.c = low + n + 1 else t.c = low + 1 end
+  end
+end
+
+-- each triangle loads its corners with twice its area
+task load(own : region(ispace(int1d), triangle), reached : region(ispace(int1d), corner))
+where reads(own), reads(reached.{x, y}), reduces +(reached.load) do
+  for t in own do
+    var width = reached[t.b].x - reached[t.a].x
+    var height = reached[t.b].y - reached[t.a].y
+    var area = width * (reached[t.c].y - reached[t.a].y) - height * (reached[t.c].x - reached[t.a].x)
+    reached[t.a].load += area
+    reached[t.b].load += area
+    reached[t.c].load += area
+  end
+end
+
+task main(n : int64, count : int64)
+  var corners = region(ispace(int1d, (n + 1) * (n + 1)), corner)
+  var triangles = region(ispace(int1d, 2 * n * n), triangle)
+  lay_out(corners, triangles, n)
+  var pieces = partition(equal, triangles, ispace(int1d, count))
+  var first = image(corners, pieces, triangles.a)
+  var second = image(corners, pieces, triangles.b)
+  var third = image(corners, pieces, triangles.c)
+  var two = first | second
+  var reached = two | third
+  for p in pieces.colors do load(pieces[p], reached[p]) end
+  var all : int64 = 0
+  for k in corners do
+    regentlib.c.printf("%lld ", k.load)
+    all += k.load
+  end
+  regentlib.assert(all == 6 * n * n, "three corners to a triangle")
+  regentlib.c.printf("\n")
+end
+
+regentlib.start(main)
