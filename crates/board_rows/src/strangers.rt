@@ -4,7 +4,7 @@ use crate::driving::{give, take};
 use plain_values::{Sequence, Shared};
 use std::alloc::{AllocError, Global};
 use task_code::{Code, Instr, Job, Line, TaskCode};
-use task_core::{Board, Given};
+use task_core::{Board, Copied, Given};
 use task_machine::run_segment;
 
 /// The job of a task that comes to its end at once.
@@ -34,8 +34,8 @@ fn empty_job(alloc: Global) -> Result<Job, AllocError> {
     })
 }
 
-/// Whether a board hands another board's run back with what it keeps for the claim, then takes its own run, and hands one
-/// that comes once more back with nothing.
+/// Whether a board hands another board's run back with what it keeps for the claim, then takes its own run, and knows the
+/// claim no longer: a run that comes once more comes back with nothing, no copy is made, and nothing is taken back.
 pub fn strangers_come_back(alloc: Global, job: Job) -> Result<bool, AllocError> {
     let mut other = Board::open(alloc, empty_job(alloc)?)?;
     let mut board = Board::open(alloc, job)?;
@@ -49,9 +49,10 @@ pub fn strangers_come_back(alloc: Global, job: Job) -> Result<bool, AllocError> 
         Err((failed, _)) => return Err(failed),
     };
     let taken = give(alloc, &mut board, &own)?;
+    let gone = matches!(board.copy(own.claim)?, Copied::Gone) && !board.take_back(own.claim);
     let again = run_segment(alloc, own.before.share()?)?;
     match board.give(own.claim, again) {
-        Ok(Given::Stranger(_, None)) => Ok(kept && taken),
+        Ok(Given::Stranger(_, None)) => Ok(kept && taken && gone),
         Ok(_) => Ok(false),
         Err((failed, _)) => Err(failed),
     }

@@ -28,6 +28,8 @@ fn print_told(rt: &HostRuntime, row: &Row) -> io::Result<()> {
     let outcome = run_in_order(alloc, &job)?;
     let told = told(alloc, &outcome)?;
     println!(rt; "{}: {}", row.name(), told.as_str())?;
+    let journal = journal(alloc, row)?;
+    print!(rt; "{}", journal.as_str())?;
     for order in ORDERS {
         let steps = steps(alloc, row, order, &outcome)?;
         println!(rt; "  {order:?}: {}", steps.as_str())?;
@@ -37,6 +39,23 @@ fn print_told(rt: &HostRuntime, row: &Row) -> io::Result<()> {
     } else {
         println!(rt; "  strangers don't come back")
     }
+}
+
+/// The journal of a board that is driven one claim at a time, where it is short: a line for each entry.
+fn journal(alloc: Global, row: &Row) -> Result<String, AllocError> {
+    let Some(job) = row.job(alloc)? else {
+        return Ok(String::new(alloc));
+    };
+    let mut board = Board::open(alloc, job)?;
+    drive(alloc, &mut board, Order::OneByOne)?;
+    let mut lines = String::new(alloc);
+    if board.journal().len() <= 3 {
+        for entry in board.journal() {
+            let line = format!(in alloc; "  {:?} {} by {}\n", entry.kind, entry.op.0, entry.seat)?;
+            lines.push_str(line.as_str())?;
+        }
+    }
+    Ok(lines)
 }
 
 /// An outcome: the text, and how it ended.

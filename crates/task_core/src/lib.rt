@@ -6,6 +6,7 @@ mod answers;
 mod board;
 mod claiming;
 mod copying;
+mod desk;
 mod finishing;
 mod giving;
 mod opening;
@@ -14,3 +15,6 @@ mod tests;
 
 pub use answers::{Copied, Given};
 pub use board::Board;
+pub use board_terms::Claim;
+pub use desk::{Desk, Work};
+pub use run_journal::{Entry, StepKind};
