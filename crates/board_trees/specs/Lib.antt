@@ -1,0 +1,6 @@
+pub mod Names
+pub mod Frames
+pub mod Waits
+pub mod Stages
+pub mod Shows
+pub mod Laws

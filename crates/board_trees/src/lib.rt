@@ -1,0 +1,12 @@
+//! A board's table of operations, read as the tree of operations of the boards' laws.
+//!
+//! What is said stands under specs/. Each function has an empty body; its contract is a law.
+#![tactic(auto)]
+
+ghost use Rattle.board_trees.specs.Laws.{NewBoardsShow};
+
+/// The board of a job that isn't void shows the tree's beginning.
+#[tactic(auto, using(crate::proofs::Beginning::new_boards_show))]
+pub fn new_boards_show()
+    ensures { NewBoardsShow }
+{}
