@@ -1,5 +1,5 @@
 -- A new board shows the tree's beginning.
-use Rattle.std.proofs.Common.{◌≡◌, ℕ, zero, suc, ◌<◌, ℤ, pos, List, [], ◌∷◌, ◌++◌, true, false, cond, Some, refl, sym, ap, ◌∙◌, subst, map, arith, ◌==◌, eqb-true}
+use Rattle.std.proofs.Common.{◌≡◌, ℕ, zero, suc, ◌<◌, ℤ, pos, List, [], ◌∷◌, ◌++◌, true, false, cond, Some, refl, sym, ap, ◌∙◌, subst, map, arith, ◌==◌, eqb-true, inr}
 use Rattle.std.specs.Prelude.{All, length, nat_le, replicate, ◌-◌}
 use Rattle.std.proofs.lemmas.Bool.{and_parts, false≢true}
 use Rattle.std.proofs.lemmas.List.{length-map, map-append}
@@ -68,7 +68,8 @@ module _ (job : Job) (t : TaskCode) (may : may_start job t ≡ true) where
   main_shows : ShowsBoard job (with_main (first_frame job t)) (start (regent_ground (spaces_of job.code)) (machine_of job) (main_of job t))
   main_shows = record {
     who = λ r. 0;
-    made = record { all = refl; below = λ r l. absurd (omega (arith, l)); rising = λ a b l k. absurd (omega (arith, k)) };
+    extents = refl;
+    made = record { below = λ r l. absurd (omega (arith, l)); rising = λ a b l k. absurd (omega (arith, k)) };
     regions = λ n l. absurd (omega (arith, l));
     held = λ r e. absurd (false≢true e);
     shows = (
@@ -88,13 +89,14 @@ module _ (job : Job) (t : TaskCode) (may : may_start job t ≡ true) where
             stack = All-nil (HasPlaces empty_tree);
             needs = subst (λ ns. AreNeeds empty_tree (needs_on ns (map Number job.inputs))) (sym none_needed) (All-nil (IsNeed empty_tree));
           };
-          live = All-nil (λ (r : RootId). is_live [] r.0 ≡ true);
+          own = All-nil (λ (r : RootId). is_live [] r.0 ≡ true);
           fields = subst (λ ns. All (λ (n : Need). n.field < length (columns_of [] n.root.0)) (needs_on ns (map Number job.inputs))) (sym none_needed)
               (All-nil (λ (n : Need). n.field < length (columns_of [] n.root.0)));
         };
         said_is = refl;
-        stands = (refl, tt);
-        settled = (refl, refl);
+        stands = (inr refl, (refl, tt));
+        waits = (refl, refl);
+        children_are = tt;
       },
       refl,
     );

@@ -9,7 +9,7 @@ use Rattle.region_tree.specs.declared.content.Content.TheVariants as content
 use Rattle.region_tree.specs.declared.needs.Need.{Need}
 use Rattle.region_tree.specs.declared.piece.Part.{Part}
 use Rattle.region_tree.specs.declared.tree.RootId.{RootId}
-use Rattle.logical_map.specs.Maps.{columns_of, is_live}
+use Rattle.logical_map.specs.Maps.{LogicalMap, columns_of, is_live}
 use Rattle.task_code.specs.declared.code.Code.{Code}
 use Rattle.machine_terms.specs.declared.frame.Frame.{Frame}
 use Rattle.machine_terms.specs.declared.value.RegionValue.{RegionValue}
@@ -21,7 +21,7 @@ use Rattle.regent_boards.specs.RegentMachine.{as_held, regent_ground}
 use Rattle.code_boards.specs.Views.{frame_in, mode_in, parts_in, spaces_of}
 use Rattle.segment_renaming.specs.Renaming.{frame_to, part_to}
 use Rattle.board_terms.specs.declared.operation.Operation.{Operation}
-use Rattle.board_terms.specs.States.{State}
+use Rattle.board_terms.specs.declared.extent.Extent.{Extent}
 use Rattle.board_trees.specs.Names.{IsNaming, named, pointed, requirement_named}
 
 -- ---- regions are those of the tree
@@ -54,14 +54,14 @@ module _ (code : Code) where
 
   -- The operation's frame and parts are these, with roots by their names; whatever names the roots have that it and its
   -- callers didn't make, so it speaks of none of them. Its own roots are there, and so are the fields that it needs.
-  pub record IsSeen (s : State) (who : ℕ → ℕ) (roots : List RootId) (o : Operation) (N : List Requirement) (f : board.Frame)
+  pub record IsSeen (t : RegionTree) (live : LogicalMap) (extents : List Extent) (who : ℕ → ℕ) (roots : List RootId) (o : Operation) (N : List Requirement) (f : board.Frame)
       (ps : List (Element (regent_ground (spaces_of code)))) : Type 0 where
-    pub frame : (name : ℕ → ℕ) → IsNaming s who roots name → frame_in f ≡ frame_to (named name) o.frame
+    pub frame : (name : ℕ → ℕ) → IsNaming extents who roots name → frame_in f ≡ frame_to (named name) o.frame
     pub needs : f.needs ≡ N
-    pub required : (name : ℕ → ℕ) → IsNaming s who roots name → pointed N ≡ map (requirement_named name) (requirements_of s.tree o.frame.needs.items)
-    pub parts : (name : ℕ → ℕ) → IsNaming s who roots name → parts_in code ps ≡ map (part_to (named name)) o.parts
+    pub required : (name : ℕ → ℕ) → IsNaming extents who roots name → pointed N ≡ map (requirement_named name) (requirements_of t o.frame.needs.items)
+    pub parts : (name : ℕ → ℕ) → IsNaming extents who roots name → parts_in code ps ≡ map (part_to (named name)) o.parts
     pub held : All IsHeld ps
     pub fitting : All HasFitting o.parts
-    pub placed : FrameHasPlaces s.tree o.frame
-    pub live : All (λ (r : RootId). is_live s.map r.0 ≡ true) o.frame.own
-    pub fields : All (λ (n : Need). n.field < length (columns_of s.map n.root.0)) o.frame.needs.items
+    pub placed : FrameHasPlaces t o.frame
+    pub own : All (λ (r : RootId). is_live live r.0 ≡ true) o.frame.own
+    pub fields : All (λ (n : Need). n.field < length (columns_of live n.root.0)) o.frame.needs.items

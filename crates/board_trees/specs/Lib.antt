@@ -4,3 +4,4 @@ pub mod Waits
 pub mod Stages
 pub mod Shows
 pub mod Laws
+pub mod Told

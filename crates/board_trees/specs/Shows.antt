@@ -6,10 +6,10 @@ use Rattle.plain_values.specs.Points.{counted_from, points}
 use Rattle.region_finder.specs.Listings.{Listed, listed_ops, needs_in}
 use Rattle.region_tree.specs.Needs.{requirements_of}
 use Rattle.region_tree.specs.Requirements.{Requirement}
-use Rattle.region_tree.specs.Trees.{root_at, set_at}
+use Rattle.region_tree.specs.Trees.{RegionTree, root_at, set_at}
 use Rattle.region_tree.specs.declared.tree.OpNumber.{OpNumber}
 use Rattle.region_tree.specs.declared.tree.RootId.{RootId}
-use Rattle.logical_map.specs.Maps.{Column, column_of, columns_of, is_live, number_at}
+use Rattle.logical_map.specs.Maps.{Column, LogicalMap, column_of, columns_of, is_live, number_at}
 use Rattle.dependence_graph.specs.Knots.{knot_at, number}
 use Rattle.task_code.specs.declared.job.Job.{Job}
 use Rattle.machine_terms.specs.Contents.{kinds_of}
@@ -22,6 +22,7 @@ use Rattle.regent_boards.specs.Frames as board
 use Rattle.regent_boards.specs.RegentMachine.{regent_ground}
 use Rattle.code_boards.specs.Laws.{machine_of}
 use Rattle.code_boards.specs.Views.{spaces_of}
+use Rattle.board_terms.specs.declared.extent.Extent.{Extent}
 use Rattle.board_terms.specs.declared.operation.Activity.{Activity}
 use Rattle.board_terms.specs.declared.operation.Activity.TheVariants as activity
 use Rattle.board_terms.specs.declared.operation.Operation.{Operation}
@@ -29,25 +30,25 @@ use Rattle.board_terms.specs.declared.operation.Said.{Said}
 use Rattle.board_terms.specs.States.{State, no_extent, operation_at}
 use Rattle.board_trees.specs.Frames.{IsSeen}
 use Rattle.board_trees.specs.Names.{AreMade, IsNaming, name_of, pointed, requirement_named}
-use Rattle.board_trees.specs.Stages.{IsSettled, Stands}
+use Rattle.board_trees.specs.Stages.{ChildrenAre, Stands, WaitsWell}
 use Rattle.board_trees.specs.Waits.{Sibling, has_ended}
 
 module _ (job : Job) where
   -- ---- the map
 
   -- a root that is there has its fields, and on the map its numbers
-  pub record HoldsMap (s : State) (who : ℕ → ℕ) (m : Map (regent_ground (spaces_of job.code))) (root : ℕ) : Type 0 where
-    pub made : root < length s.roots
-    pub kinds : map (λ (c : Column). c.kind) (columns_of s.map root) ≡ kinds_of job.code (get_or s.roots root no_extent).space
-    pub points_are : All (λ (c : Column). c.points ≡ points (get_or s.roots root no_extent).count) (columns_of s.map root)
-    pub numbers : (field point : ℕ) → field < length (columns_of s.map root) → point < (get_or s.roots root no_extent).count →
-        number_at s.map root field point ≡ m (record { root = name_of s who root; field = field; point = point })
-    pub fit : (field point : ℕ) → FitsWidth (width_of (column_of s.map root field).kind) (number_at s.map root field point)
+  pub record HoldsMap (live : LogicalMap) (extents : List Extent) (who : ℕ → ℕ) (m : Map (regent_ground (spaces_of job.code))) (root : ℕ) : Type 0 where
+    pub made : root < length extents
+    pub kinds : map (λ (c : Column). c.kind) (columns_of live root) ≡ kinds_of job.code (get_or extents root no_extent).space
+    pub points_are : All (λ (c : Column). c.points ≡ points (get_or extents root no_extent).count) (columns_of live root)
+    pub numbers : (field point : ℕ) → field < length (columns_of live root) → point < (get_or extents root no_extent).count →
+        number_at live root field point ≡ m (record { root = name_of extents who root; field = field; point = point })
+    pub fit : (field point : ℕ) → FitsWidth (width_of (column_of live root field).kind) (number_at live root field point)
 
   -- a region's root was made, and has its points
-  pub record IsWithinRoot (s : State) (node : ℕ) : Type 0 where
-    pub made : root_at s.tree node < length s.roots
-    pub below : All (λ p. p < (get_or s.roots (root_at s.tree node) no_extent).count) (set_at s.tree node)
+  pub record IsWithinRoot (t : RegionTree) (extents : List Extent) (node : ℕ) : Type 0 where
+    pub made : root_at t node < length extents
+    pub below : All (λ p. p < (get_or extents (root_at t node) no_extent).count) (set_at t node)
 
   -- ---- the operations
 
@@ -78,7 +79,7 @@ module _ (job : Job) where
     IsSeenIn roots o N f ps (closing e) = Unit {0}
     IsSeenIn roots o N f ps (over e) = Unit {0}
     IsSeenIn roots o N f ps dropped = Unit {0}
-    IsSeenIn roots o N f ps _ = IsSeen job.code s who roots o N f ps
+    IsSeenIn roots o N f ps _ = IsSeen job.code s.tree s.map s.roots who roots o N f ps
 
     -- operation k is the one at a way, whose earlier siblings are these, and these roots are its callers' and its own
     pub record Row (way : List ℕ) (k : ℕ) (earlier : List Sibling) (roots : List RootId) (D N : List Requirement) (f : board.Frame)
@@ -86,11 +87,12 @@ module _ (job : Job) where
         (is : Items (regent_ground (spaces_of job.code))) : Type 0 where
       pub within : k < length s.operations
       pub way_is : way_of (regent_ground (spaces_of job.code)) (machine_of job) ways k ≡ Some way
-      pub own : (name : ℕ → ℕ) → IsNaming s who roots name → f.own ≡ map (λ (r : RootId). name r.0) (operation_at s k).frame.own
+      pub own : (name : ℕ → ℕ) → IsNaming s.roots who roots name → f.own ≡ map (λ (r : RootId). name r.0) (operation_at s k).frame.own
       pub seen : IsSeenIn roots (operation_at s k) N f ps st
       pub said_is : said_in 0 is ≡ (operation_at s k).said
-      pub stands : Stands job.code s who roots (knot_at s.waits.knots k).stage (operation_at s k) N st
-      pub settled : IsSettled job.code s D N earlier (siblings (operation_at s k).children is) k st
+      pub stands : Stands job.code s.roots who roots s (knot_at s.waits.knots k).stage (operation_at s k) N st
+      pub waits : WaitsWell job.code s.waits.knots D N earlier (siblings (operation_at s k).children is) (knot_at s.waits.knots k).on st
+      pub children_are : ChildrenAre job.code s (operation_at s k).children st
 
     -- the graph lists it in its caller's context, with the needs with which it was issued
     pub record IsListed (j k : ℕ) (roots : List RootId) (D : List Requirement) : Type 0 where
@@ -98,7 +100,7 @@ module _ (job : Job) where
       pub there : Contains s.waits.listing entry
       pub op_is : entry.op ≡ number k
       pub context : entry.context ≡ number j
-      pub needs : (name : ℕ → ℕ) → IsNaming s who roots name → pointed D ≡ map (requirement_named name) (requirements_of s.tree (needs_in entry))
+      pub needs : (name : ℕ → ℕ) → IsNaming s.roots who roots name → pointed D ≡ map (requirement_named name) (requirements_of s.tree (needs_in entry))
 
     -- operation k is a child of operation j, called with needs on these roots
     pub record IsChild (j k : ℕ) (roots : List RootId) (D : List Requirement) : Type 0 where
@@ -135,9 +137,10 @@ module _ (job : Job) where
 
   pub record ShowsBoard (s : State) (b : Board (regent_ground (spaces_of job.code))) : Type 0 where
     pub who : ℕ → ℕ
-    pub made : AreMade s who (made_in (regent_ground (spaces_of job.code)) (machine_of job) b.state.tree)
-    pub regions : (node : ℕ) → node < length s.tree.nodes → IsWithinRoot s node
-    pub held : (root : ℕ) → is_live s.map root ≡ true → HoldsMap s who b.state.map root
+    pub extents : length s.roots ≡ s.tree.roots
+    pub made : AreMade (length s.roots) who (made_in (regent_ground (spaces_of job.code)) (machine_of job) b.state.tree)
+    pub regions : (node : ℕ) → node < length s.tree.nodes → IsWithinRoot s.tree s.roots node
+    pub held : (root : ℕ) → is_live s.map root ≡ true → HoldsMap s.map s.roots who b.state.map root
     pub shows : Shows s who b.ways [] 0 [] [] b.state.tree
     pub leads : (k : ℕ) (way : List ℕ) → way_of (regent_ground (spaces_of job.code)) (machine_of job) b.ways k ≡ Some way → Leads s 0 way k
     pub ways : length b.ways ≡ length s.operations

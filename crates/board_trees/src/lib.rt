@@ -4,9 +4,16 @@
 #![tactic(auto)]
 
 ghost use Rattle.board_trees.specs.Laws.{NewBoardsShow};
+ghost use Rattle.board_trees.specs.Told.{WaitsAreTold};
 
 /// The board of a job that isn't void shows the tree's beginning.
 #[tactic(auto, using(crate::proofs::Beginning::new_boards_show))]
 pub fn new_boards_show()
     ensures { NewBoardsShow }
+{}
+
+/// What the graph waits for tells whether all that interferes has ended, and whether some of it has failed.
+#[tactic(auto, using(crate::proofs::Told::waits_are_told))]
+pub fn waits_are_told()
+    ensures { WaitsAreTold }
 {}
