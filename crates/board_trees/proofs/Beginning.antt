@@ -75,6 +75,7 @@ module _ (job : Job) (t : TaskCode) (may : may_start job t ≡ true) where
     shows = (
       record {
         within = omega arith;
+        knot = omega arith;
         way_is = refl;
         own = λ name is. refl;
         seen = record {

@@ -9,7 +9,7 @@ use Rattle.dependence_graph.specs.declared.stage.Stage.TheVariants.{Waiting, Beg
 use Rattle.board_trees.specs.Told.{WaitsAreTold, WaitsTell, all_clear, some_bad}
 use Rattle.board_trees.specs.Waits.{Sibling, WaitsFor}
 
-done_unfailed : (o : Option Stage) → is_done o ≡ true → has_failed o ≡ false
+pub done_unfailed : (o : Option Stage) → is_done o ≡ true → has_failed o ≡ false
 done_unfailed None e = refl
 done_unfailed (Some Waiting) e = refl
 done_unfailed (Some Begun) e = refl
@@ -19,15 +19,15 @@ done_unfailed (Some Done) e = refl
 done_unfailed (Some Failed) e = absurd cc
 done_unfailed (Some Dropped) e = absurd cc
 
-or_off : (a : Bool) → (a || false) ≡ a
+pub or_off : (a : Bool) → (a || false) ≡ a
 or_off true = refl
 or_off false = refl
 
-and_off : (a : Bool) → (a && false) ≡ false
+pub and_off : (a : Bool) → (a && false) ≡ false
 and_off true = refl
 and_off false = refl
 
-and_on : (a : Bool) → (a && true) ≡ a
+pub and_on : (a : Bool) → (a && true) ≡ a
 and_on true = refl
 and_on false = refl
 

@@ -25,7 +25,6 @@ use Rattle.code_boards.specs.Views.{spaces_of}
 use Rattle.board_terms.specs.declared.extent.Extent.{Extent}
 use Rattle.board_terms.specs.declared.operation.Activity.{Activity}
 use Rattle.board_terms.specs.declared.operation.Activity.TheVariants as activity
-use Rattle.board_terms.specs.declared.operation.Operation.{Operation}
 use Rattle.board_terms.specs.declared.operation.Said.{Said}
 use Rattle.board_terms.specs.States.{State, no_extent, operation_at}
 use Rattle.board_trees.specs.Frames.{IsSeen}
@@ -72,23 +71,23 @@ module _ (job : Job) where
   siblings [] (child_op n is) = []
   siblings (k ∷ ks) (child_op n is) = record { op = k.0; needs = needs_issued n } ∷ siblings ks is
 
-  module _ (s : State) (who : ℕ → ℕ) (ways : List (List ℕ)) where
-    -- the frame and parts of one whose own work hasn't ended
-    abbrev pub IsSeenIn : List RootId → Operation → List Requirement → board.Frame → List (Element (regent_ground (spaces_of job.code))) →
-        BoardStage (regent_ground (spaces_of job.code)) → Type 0
-    IsSeenIn roots o N f ps (closing e) = Unit {0}
-    IsSeenIn roots o N f ps (over e) = Unit {0}
-    IsSeenIn roots o N f ps dropped = Unit {0}
-    IsSeenIn roots o N f ps _ = IsSeen job.code s.tree s.map s.roots who roots o N f ps
+  -- of one whose own work hasn't ended
+  abbrev pub IfRuns : BoardStage (regent_ground (spaces_of job.code)) → Type 0 → Type 0
+  IfRuns (closing e) P = Unit {0}
+  IfRuns (over e) P = Unit {0}
+  IfRuns dropped P = Unit {0}
+  IfRuns _ P = P
 
+  module _ (s : State) (who : ℕ → ℕ) (ways : List (List ℕ)) where
     -- operation k is the one at a way, whose earlier siblings are these, and these roots are its callers' and its own
     pub record Row (way : List ℕ) (k : ℕ) (earlier : List Sibling) (roots : List RootId) (D N : List Requirement) (f : board.Frame)
         (ps : List (Element (regent_ground (spaces_of job.code)))) (st : BoardStage (regent_ground (spaces_of job.code)))
         (is : Items (regent_ground (spaces_of job.code))) : Type 0 where
       pub within : k < length s.operations
+      pub knot : k < length s.waits.knots
       pub way_is : way_of (regent_ground (spaces_of job.code)) (machine_of job) ways k ≡ Some way
       pub own : (name : ℕ → ℕ) → IsNaming s.roots who roots name → f.own ≡ map (λ (r : RootId). name r.0) (operation_at s k).frame.own
-      pub seen : IsSeenIn roots (operation_at s k) N f ps st
+      pub seen : IfRuns st (IsSeen job.code s.tree s.map s.roots who roots (operation_at s k) N f ps)
       pub said_is : said_in 0 is ≡ (operation_at s k).said
       pub stands : Stands job.code s.roots who roots s (knot_at s.waits.knots k).stage (operation_at s k) N st
       pub waits : WaitsWell job.code s.waits.knots D N earlier (siblings (operation_at s k).children is) (knot_at s.waits.knots k).on st

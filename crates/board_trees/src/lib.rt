@@ -4,7 +4,7 @@
 #![tactic(auto)]
 
 ghost use Rattle.board_trees.specs.Laws.{NewBoardsShow};
-ghost use Rattle.board_trees.specs.Told.{WaitsAreTold};
+ghost use Rattle.board_trees.specs.Told.{ShownIsSettled, WaitsAreTold};
 
 /// The board of a job that isn't void shows the tree's beginning.
 #[tactic(auto, using(crate::proofs::Beginning::new_boards_show))]
@@ -16,4 +16,10 @@ pub fn new_boards_show()
 #[tactic(auto, using(crate::proofs::Told::waits_are_told))]
 pub fn waits_are_told()
     ensures { WaitsAreTold }
+{}
+
+/// What shows is settled, so that the tree is the same behind a step which changes nothing but the stage of an operation
+/// that goes on.
+pub fn shown_is_settled()
+    ensures { ShownIsSettled }
 {}
