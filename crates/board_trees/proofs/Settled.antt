@@ -1,5 +1,5 @@
 -- What shows is settled.
-use Rattle.std.proofs.Common.{◌≡◌, ◌<◌, ◌++◌, ◌∷◌, ◌∙◌, ◌&&◌, ◌||◌, ℕ, zero, suc, Bool, List, None, Option, Some, [], ap, cond, false, inl, inr, length, not, refl, subst, sym, true, arith}
+use Rattle.std.proofs.Common.{◌≡◌, ◌<◌, ◌++◌, ◌∷◌, ◌∙◌, ◌&&◌, ◌||◌, ℕ, zero, suc, Bool, List, None, Some, [], ap, cond, false, inl, inr, length, refl, subst, sym, true}
 use Rattle.std.specs.Prelude.{filter}
 use Rattle.std.proofs.Math.Bool.{or_comm}
 use Rattle.std.proofs.lemmas.Bool.{lt-ltb}
@@ -8,7 +8,7 @@ use Rattle.region_tree.specs.Requirements.{Requirement, interfere, is_of}
 use Rattle.region_tree.specs.declared.tree.OpNumber.{OpNumber}
 use Rattle.region_tree.specs.declared.tree.RootId.{RootId}
 use Rattle.dependence_graph.specs.Entries.{Knot}
-use Rattle.dependence_graph.specs.Knots.{has_failed, is_done, knot_at, number, some_failed, stage_at}
+use Rattle.dependence_graph.specs.Knots.{has_failed, is_done, knot_at, some_failed, stage_at}
 use Rattle.dependence_graph.specs.declared.stage.Stage.{Stage as Knotted}
 use Rattle.dependence_graph.specs.declared.stage.Stage.TheVariants as knot
 use Rattle.task_code.specs.declared.job.Job.{Job}
@@ -32,23 +32,23 @@ use Rattle.board_terms.specs.Stages as table
 use Rattle.board_terms.specs.States.{State, operation_at}
 use Rattle.board_trees.specs.Shows.{Shows, ShowsChildren, needs_issued, siblings}
 use Rattle.board_trees.specs.Stages.{MayIdle, Stands}
-use Rattle.board_trees.specs.Told.{ShownIsSettled, all_clear, some_bad}
+use Rattle.board_trees.specs.Told.{ShownIsSettled, some_bad}
 use Rattle.board_trees.specs.Waits.{Sibling, WaitsForChild, has_ended}
 use Rattle.board_trees.proofs.Told.{done_unfailed, or_off, waits_are_told}
 
-wait_open : (w : Wait) → is_over (by_wait w) ≡ false
+pub wait_open : (w : Wait) → is_over (by_wait w) ≡ false
 wait_open wait.Beginning = refl
 wait_open wait.Nothing = refl
 wait_open (wait.Part root field) = refl
 wait_open (wait.Child n) = refl
 
-activity_open : (a : Activity) → is_over (by_activity a) ≡ false
+pub activity_open : (a : Activity) → is_over (by_activity a) ≡ false
 activity_open activity.Idle = refl
 activity_open (activity.Filling claim fill) = refl
 activity_open (activity.Out claim before) = refl
 activity_open (activity.Closing e) = refl
 
-stage_there : (ks : List Knot) (k : ℕ) → k < length ks → stage_at ks k ≡ Some (knot_at ks k).stage
+pub stage_there : (ks : List Knot) (k : ℕ) → k < length ks → stage_at ks k ≡ Some (knot_at ks k).stage
 stage_there ks k l = ap (λ b. cond b (Some (knot_at ks k).stage) None) (lt-ltb k (length ks) l)
 
 module _ (job : Job) where
@@ -244,7 +244,7 @@ module _ (job : Job) where
           Shows job s who ways way k earlier above n → tree.settle G M n ≡ n
       settled way k earlier above (op D N i f ps st is) h =
           ap (tree.settled G M D N i f ps st)
-              (nothing_dropped [] way k 0 [] (above ++ (operation_at s k).frame.own) (operation_at s k).children is h.1 (λ Q. refl))
+          (nothing_dropped [] way k 0 [] (above ++ (operation_at s k).frame.own) (operation_at s k).children is h.1 (λ Q. refl))
           ∙ ap (λ x. op D N i f ps (tree.close G M x is) is) (nothing_stopped way k earlier above D N i f ps st is h)
           ∙ ap (λ x. op D N i f ps x is) (nothing_closed way k earlier above D N i f ps st is h)
 

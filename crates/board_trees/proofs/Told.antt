@@ -1,13 +1,10 @@
 -- What the graph waits for tells what interferes.
-use Rattle.std.proofs.Common.{◌≡◌, ◌∷◌, ◌∙◌, ◌&&◌, ◌||◌, Bool, List, None, Option, Some, [], ap, false, inl, inr, not, refl, sym, true}
-use Rattle.region_tree.specs.Requirements.{Requirement, interfere}
-use Rattle.region_tree.specs.declared.tree.OpNumber.{OpNumber}
-use Rattle.dependence_graph.specs.Entries.{Knot}
-use Rattle.dependence_graph.specs.Knots.{all_done, has_failed, is_done, number, some_failed, stage_at}
+use Rattle.std.proofs.Common.{◌≡◌, ◌∷◌, ◌∙◌, ◌&&◌, ◌||◌, Bool, None, Option, Some, [], ap, false, inl, inr, not, refl, sym, true}
+use Rattle.region_tree.specs.Requirements.{interfere}
+use Rattle.dependence_graph.specs.Knots.{all_done, has_failed, is_done, some_failed, stage_at}
 use Rattle.dependence_graph.specs.declared.stage.Stage.{Stage}
 use Rattle.dependence_graph.specs.declared.stage.Stage.TheVariants.{Waiting, Begun, Parked, Stopped, Done, Failed, Dropped}
-use Rattle.board_trees.specs.Told.{WaitsAreTold, WaitsTell, all_clear, some_bad}
-use Rattle.board_trees.specs.Waits.{Sibling, WaitsFor}
+use Rattle.board_trees.specs.Told.{WaitsAreTold, all_clear, some_bad}
 
 pub done_unfailed : (o : Option Stage) → is_done o ≡ true → has_failed o ≡ false
 done_unfailed None e = refl
