@@ -1,6 +1,6 @@
 -- Of boards: a claim is taken back on both, or on neither.
 use Rattle.std.proofs.Common.{◌≡◌, ◌<◌, ◌-◌, ◌++◌, ◌∷◌, ◌∙◌, ◌&&◌, ◌||◌, ◌==◌, ℕ, zero, suc, Bool, List, None, Option, Some, [], ap, cond, false, length, map, not, refl, subst, sym, true, arith, ⊎_elim, eqb-true}
-use Rattle.std.specs.Prelude.{filter, nat_eq, slice_get}
+use Rattle.std.specs.Prelude.{All, filter, nat_eq, slice_get}
 use Rattle.std.proofs.lemmas.Bool.{cases_lt, ne_eqb}
 use Rattle.std.proofs.lemmas.List.{append-nil, get_or_past}
 use Rattle.std.proofs.lemmas.Option.{none-some}
@@ -156,6 +156,10 @@ module _ (job : Job) where
         children_same = by_number job s k within there begun claim (λ j. (operation_at u j).children ≡ (operation_at s j).children)
             (ap (λ (o : Operation). o.children) (row_is job s k within there begun claim)) (λ j n. ap (λ (o : Operation). o.children) (others job s k within there begun claim j n))
 
+        own_same : (j : ℕ) → (operation_at u j).frame.own ≡ (operation_at s j).frame.own
+        own_same = by_number job s k within there begun claim (λ j. (operation_at u j).frame.own ≡ (operation_at s j).frame.own)
+            (ap (λ (o : Operation). o.frame.own) (row_is job s k within there begun claim)) (λ j n. ap (λ (o : Operation). o.frame.own) (others job s k within there begun claim j n))
+
         leads_kept : (way : List ℕ) (j x : ℕ) → Leads job s j way x → Leads job u j way x
         leads_kept [] j x l = l
         leads_kept (c ∷ way) j x l = (l.0, ap (λ ks. slice_get ks c) (children_same j) ∙ l.1, leads_kept way l.0 x l.2)
@@ -167,6 +171,9 @@ module _ (job : Job) where
           made = subst (λ n. AreMade (length s.roots) h.who n) (sym left.made) h.made;
           regions = h.regions;
           held = h.held;
+          own_made = λ j. subst (λ rs. All (λ (r : RootId). r.0 < length s.roots) rs) (sym (own_same j)) (h.own_made j);
+          own_apart = λ i j n. subst (λ rs. All (λ (r : RootId). All (λ (q : RootId). ¬ (r ≡ q)) rs) (operation_at u i).frame.own) (sym (own_same j))
+              (subst (λ rs. All (λ (r : RootId). All (λ (q : RootId). ¬ (r ≡ q)) (operation_at s j).frame.own) rs) (sym (own_same i)) (h.own_apart i j n));
           shows = left.shows;
           leads = λ j way e. leads_kept way 0 j (h.leads j way e);
           ways = h.ways ∙ sym (changes job s k within there begun claim).size;

@@ -71,6 +71,9 @@ module _ (job : Job) (t : TaskCode) (may : may_start job t ≡ true) where
     extents = refl;
     made = record { below = λ r l. absurd (omega (arith, l)); rising = λ a b l k. absurd (omega (arith, k)) };
     regions = λ n l. absurd (omega (arith, l));
+    own_made = λ k. subst (λ rs. All (λ (r : RootId). r.0 < 0) rs) (sym (none_own k)) (All-nil (λ (r : RootId). r.0 < 0));
+    own_apart = λ j k n. subst (λ rs. All (λ (r : RootId). All (λ (q : RootId). ¬ (r ≡ q)) (operation_at (with_main (first_frame job t)) k).frame.own) rs) (sym (none_own j))
+        (All-nil (λ (r : RootId). All (λ (q : RootId). ¬ (r ≡ q)) (operation_at (with_main (first_frame job t)) k).frame.own));
     held = λ r e. absurd (false≢true e);
     shows = (
       record {
@@ -113,6 +116,11 @@ module _ (job : Job) (t : TaskCode) (may : may_start job t ≡ true) where
       first_leads zero [] e = refl
       first_leads zero (c ∷ way) e = absurd cc
       first_leads (suc k) way e = absurd cc
+
+      none_own : (k : ℕ) → (operation_at (with_main (first_frame job t)) k).frame.own ≡ []
+      none_own zero = refl
+      none_own (suc zero) = refl
+      none_own (suc (suc k)) = refl
 
       first_claims : (k seat : ℕ) → false ≡ is_claimed job seat (operation_at (with_main (first_frame job t)) k).activity
       first_claims zero seat = refl

@@ -140,6 +140,10 @@ module _ (job : Job) where
     pub made : AreMade (length s.roots) who (made_in (regent_ground (spaces_of job.code)) (machine_of job) b.state.tree)
     pub regions : (node : ℕ) → node < length s.tree.nodes → IsWithinRoot s.tree s.roots node
     pub held : (root : ℕ) → is_live s.map root ≡ true → HoldsMap s.map s.roots who b.state.map root
+    -- no root was made by two
+    pub own_made : (k : ℕ) → All (λ (r : RootId). r.0 < length s.roots) (operation_at s k).frame.own
+    pub own_apart : (j k : ℕ) → ¬ (j ≡ k) →
+        All (λ (r : RootId). All (λ (q : RootId). ¬ (r ≡ q)) (operation_at s k).frame.own) (operation_at s j).frame.own
     pub shows : Shows s who b.ways [] 0 [] [] b.state.tree
     pub leads : (k : ℕ) (way : List ℕ) → way_of (regent_ground (spaces_of job.code)) (machine_of job) b.ways k ≡ Some way → Leads s 0 way k
     pub ways : length b.ways ≡ length s.operations

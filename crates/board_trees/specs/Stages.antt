@@ -27,9 +27,10 @@ use Rattle.board_terms.specs.declared.operation.Ending.TheVariants as ending
 use Rattle.board_terms.specs.declared.operation.Operation.{Operation}
 use Rattle.board_terms.specs.declared.operation.Wait.{Wait}
 use Rattle.board_terms.specs.declared.operation.Wait.TheVariants as wait
-use Rattle.board_terms.specs.Claims.{before_of}
+use Rattle.board_terms.specs.Claims.{before_of, part_filled}
 use Rattle.board_terms.specs.Closings.{all_over}
 use Rattle.board_terms.specs.States.{State}
+use Rattle.board_trees.specs.Frames.{HasFitting}
 use Rattle.board_trees.specs.Names.{IsNaming}
 use Rattle.board_trees.specs.Waits.{Sibling, WaitsFor, WaitsForChild}
 
@@ -84,6 +85,7 @@ module _ (code : Code) where
       pub kind : f.kind ≡ kind_of (spaces_of code) k.root k.field
       pub wanted : map (λ (h : Held). (h.points, h.mode)) f.pieces ≡ part_of N k.root k.field
       pub sized : All (λ (h : Held). length h.values ≡ length h.points) f.pieces
+      pub fitting : HasFitting (part_filled f)
       pub moved : f.moved ≤ elements_of f.pieces
       pub filled : d ≡ take f.moved (all_elements code k.root k.field f.pieces)
       pub left : l ≡ spots (regent_ground (spaces_of code)) (drop f.moved (all_elements code k.root k.field f.pieces))
