@@ -7,6 +7,7 @@ ghost use Rattle.board_terms.specs.Makes.{is_here};
 ghost use Rattle.machine_terms.specs.Pointers.{region_in};
 ghost use Rattle.physical_instances.specs.Kept.{map_of};
 
+use board_gives::is_here;
 use machine_terms::{RegionValue, Value};
 use physical_instances::Contents;
 use region_forest::Forest;
@@ -46,13 +47,6 @@ fn has_field(tree: &Forest, contents: &Contents, value: &Value, field: u8) -> bo
         Value::Region(region) => is_here(tree, region) && is_there(contents, region, field),
         Value::Number(_) | Value::Space(_) | Value::Partition(_) | Value::Pending(_) => false,
     }
-}
-
-/// Whether a region is one of the tree, with its root.
-fn is_here(tree: &Forest, region: &RegionValue) -> bool
-    ensures { result ≡ is_here tree.now region.now }
-{
-    tree.is_region(region.node) && tree.tree().root_of(region.node).0 == region.root.0
 }
 
 /// Whether the root of a region has a field.

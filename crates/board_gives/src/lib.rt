@@ -12,7 +12,7 @@ mod waiting;
 
 pub use ending::{end, fail, frame_of_roots, leave, take_parts};
 pub use parking::{Waits, wait_for_nothing};
-pub use parting::make_partition;
+pub use parting::{is_here, make_partition};
 pub use returning::give_parts;
 pub use rooting::make_root;
 pub use telling::{tell, untell};

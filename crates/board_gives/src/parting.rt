@@ -104,9 +104,9 @@ fn prepare_partition(
     }
 }
 
-/// Whether a region that a value names is one of the tree.
+/// Whether a region that a value names is one of the tree, with its root.
 #[tactic(auto, using(crate::proofs::Parts::here_is, crate::proofs::Parts::not_here))]
-fn is_here(tree: &Forest, region: &RegionValue) -> bool
+pub fn is_here(tree: &Forest, region: &RegionValue) -> bool
     ensures here { result ≡ is_here tree.now region.now }
     ensures region { result ≡ true → IsRegion tree.now region.now.node.0 }
     ensures forest { IsForest tree.now }

@@ -5,7 +5,7 @@ use Rattle.std.proofs.lemmas.List.{get_or_push, length_push}
 use Rattle.std.proofs.lemmas.List.Elements.{All-append, All-cons, All-nil, All-weaker}
 use Rattle.plain_values.specs.Points.{points as points_of}
 use Rattle.lane_kernels.specs.declared.numbers.Mode.TheVariants.{Write}
-use Rattle.region_finder.proofs.Staying.{listings_stay}
+use Rattle.region_finder.proofs.Staying.{listings_stay, need_stays}
 use Rattle.region_finder.specs.Forests.{IsForest}
 use Rattle.region_tree.specs.Entries.{TreeNode}
 use Rattle.region_tree.specs.Kept.{Grows}
@@ -39,15 +39,6 @@ use Rattle.board_state.proofs.Keeping.{kept_by, stays_set}
 use Rattle.board_state.proofs.Roots.{live_later, live_opened}
 
 -- ---- a tree that has grown
-
-need_stays : (t u : RegionTree) (n : Need) → Grows t u → IsNeed t n → IsNeed u n
-need_stays t u n g i = record {
-  region = record {
-    there = omega (arith, i.region.there, g.nodes);
-    kind = ap (λ (x : TreeNode). is_region x.content) (g.same n.node.0 i.region.there) ∙ i.region.kind;
-  };
-  root = i.root ∙ ap (λ (x : TreeNode). x.root) (sym (g.same n.node.0 i.region.there));
-}
 
 needs_stay : (t u : RegionTree) (ns : List Need) → Grows t u → AreNeeds t ns → AreNeeds u ns
 needs_stay t u ns g a = All-weaker (IsNeed t) (IsNeed u) (λ n i. need_stays t u n g i) ns a

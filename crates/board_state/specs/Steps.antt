@@ -28,7 +28,7 @@ use Rattle.machine_terms.specs.Contents.{kinds_of}
 
 -- ---- claims
 
--- whose claim it is
+-- two claims are one
 abbrev pub same_claim : Claim → Claim → Bool
 same_claim c d = (c.op.0 == d.op.0) && ((c.seat == d.seat) && (c.turn == d.turn))
 
@@ -94,7 +94,7 @@ behind s k a = with_operation s k (behind_segment (operation_at s k) a)
 abbrev pub given_by : Code → ℕ → State → ℕ → After → State
 given_by code turns s k a = yielded code turns (behind s k a) k a.ends
 
--- an operation is something else, and the map too
+-- its own work has ended, and the map is another
 abbrev pub ended_in : State → ℕ → After → Ending → LogicalMap → State
 ended_in s k a e map = record (with_operation s k (ended_with (operation_at s k) a e)) { map = map }
 

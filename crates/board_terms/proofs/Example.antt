@@ -3,7 +3,7 @@ use Rattle.std.proofs.Common.{refl}
 use Rattle.board_terms.specs.Example.{FirstFaultDecides, MayNotBegin, NoResultBefore, OthersMayNot, WaitingIsDropped}
 
 pub first_fault_decides : FirstFaultDecides
-first_fault_decides = refl
+first_fault_decides = (refl, refl)
 
 pub no_result_before : NoResultBefore
 no_result_before = refl

@@ -20,7 +20,7 @@ use Rattle.run_journal.specs.declared.entry.StepKind.{StepKind}
 use Rattle.run_journal.specs.declared.entry.StepKind.TheVariants.{Back, Claim, Copy, Give}
 use Rattle.board_terms.specs.Outcomes.{result}
 use Rattle.board_terms.specs.Replays.{replay}
-use Rattle.board_terms.specs.Stages.{Stage, is_dropped, stage_at}
+use Rattle.board_terms.specs.Stages.{Stage, dropped, stage_at}
 use Rattle.board_terms.specs.States.{State}
 
 abbrev pub at : ℕ → Instr → Line
@@ -86,8 +86,12 @@ main_runs = segment_by 0 0 ++ segment_by 0 1 ++ segment_by 0 0 ++ segment_by 0 0
 
 -- Then the second task by one seat, a claim on the first that
 -- is taken back, and the first task by another seat, which wants its region before it can divide.
-abbrev pub journal : List Entry
-journal = main_runs ++ segment_by 2 1 ++ entry Claim 1 0 ∷ entry Back 1 0 ∷ segment_by 1 0 ++ segment_by 1 1
+abbrev pub second_before : List Entry
+second_before = main_runs ++ segment_by 2 1 ++ entry Claim 1 0 ∷ entry Back 1 0 ∷ segment_by 1 0 ++ segment_by 1 1
+
+-- or the first task to its end, and then the second
+abbrev pub first_before : List Entry
+first_before = main_runs ++ segment_by 1 0 ++ segment_by 1 1 ++ segment_by 2 1
 
 abbrev pub result_of : Option State → Option Outcome
 result_of None = None
@@ -98,7 +102,7 @@ abbrev pub divided : Outcome
 divided = record { text = 97 ∷ []; ending = Faulted (record { kind = DivideByZero; line = 6 }) }
 
 abbrev pub FirstFaultDecides : Type 0
-FirstFaultDecides = result_of (replay job journal) ≡ Some divided
+FirstFaultDecides = (result_of (replay job second_before) ≡ Some divided) × (result_of (replay job first_before) ≡ Some divided)
 
 -- before the first task has failed there is no result
 abbrev pub NoResultBefore : Type 0
@@ -112,7 +116,7 @@ abbrev pub stage_with : ℕ → Option State → Option (Stage × Option Outcome
 stage_with k o = option_map (λ (s : State). (stage_at s k, result s)) o
 
 abbrev pub WaitingIsDropped : Type 0
-WaitingIsDropped = stage_with 2 (replay whole_job (main_runs ++ segment_by 1 0 ++ segment_by 1 1)) ≡ Some (is_dropped, Some divided)
+WaitingIsDropped = stage_with 2 (replay whole_job (main_runs ++ segment_by 1 0 ++ segment_by 1 1)) ≡ Some (dropped, Some divided)
 
 -- an operation that is out can't be claimed, and a seat gives back its own claim alone
 abbrev pub OthersMayNot : Type 0

@@ -19,9 +19,9 @@ pub data Stage : Type 0 where
   out : Stage
   parked : Stage
   closing : Stage
-  is_ended : Stage
-  has_failed : Stage
-  is_dropped : Stage
+  ended : Stage
+  failed : Stage
+  dropped : Stage
 
 -- one that waits for its beginning hasn't begun, be it that its claim was taken back
 abbrev pub by_wait : Wait → Stage
@@ -38,9 +38,9 @@ stage_of knot.Waiting w st = waiting
 stage_of knot.Begun w st = by_activity st
 stage_of knot.Parked w st = by_wait w
 stage_of knot.Stopped w st = closing
-stage_of knot.Done w st = is_ended
-stage_of knot.Failed w st = has_failed
-stage_of knot.Dropped w st = is_dropped
+stage_of knot.Done w st = ended
+stage_of knot.Failed w st = failed
+stage_of knot.Dropped w st = dropped
 
 abbrev pub stage_at : State → ℕ → Stage
 stage_at s k = stage_of (knot_at s.waits.knots k).stage (operation_at s k).wait (operation_at s k).activity
@@ -59,13 +59,13 @@ is_in_progress closing = true
 is_in_progress _ = false
 
 abbrev pub is_over : Stage → Bool
-is_over is_ended = true
-is_over has_failed = true
-is_over is_dropped = true
+is_over ended = true
+is_over failed = true
+is_over dropped = true
 is_over _ = false
 
 abbrev pub is_good : Stage → Bool
-is_good is_ended = true
+is_good ended = true
 is_good _ = false
 
 abbrev pub is_closing : Stage → Bool

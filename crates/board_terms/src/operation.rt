@@ -52,8 +52,8 @@ pub struct Said {
 }
 
 /// A task instance: who called it and whom it calls, in order, its frame and the parts that it holds, what it
-/// has printed, what it waits for and what it does. When its own work has ended, of its frame the roots that it made
-/// are kept.
+/// has printed, what it waits for and what it does. When its own work has ended, its frame stands for the roots that it
+/// made: they are closed when it is over, and main's are what the outcome shows.
 #[derive(Drop)]
 pub struct Operation {
     pub parent: OpNumber,

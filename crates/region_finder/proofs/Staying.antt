@@ -28,7 +28,7 @@ climb_stays t u (suc k) n f g l =
     ∙ and_on_alike (above t n) (climbed k u) (climbed k t)
     (λ s e. climb_stays t u k s.0.0 f g (omega (arith, l, (f.upward n s l e).smaller)))
 
-need_stays : (t u : RegionTree) (n : Need) → Grows t u → IsNeed t n → IsNeed u n
+pub need_stays : (t u : RegionTree) (n : Need) → Grows t u → IsNeed t n → IsNeed u n
 need_stays t u n g i = record {
   region = record {
     there = omega (arith, i.region.there, g.nodes);
