@@ -35,7 +35,7 @@ Leaves ss t x y = elim (board_of (ground_over base by_number) numbering (job two
 ]
 
 abbrev pub text_of : Outcome (ground_over base by_number) → Option (List ℕ)
-text_of (finished t m) = Some t
+text_of (finished t a m) = Some t
 text_of (faulted t x) = None
 text_of unfinished = None
 

@@ -19,7 +19,7 @@ abbrev pub turn : List ℕ → List Entry → List Entry
 turn w es = step claim w ∷ step copy w ∷ step give w ∷ es
 
 abbrev pub tells : Outcome small_ground → Option ℕ → List ℕ → Type 0
-tells (finished t m) x u = (None ≡ x) × (t ≡ u)
+tells (finished t a m) x u = (None ≡ x) × (t ≡ u)
 tells (faulted t y) x u = (Some y ≡ x) × (t ≡ u)
 tells unfinished x u = ⊥
 

@@ -3,10 +3,10 @@ use Rattle.std.proofs.Common.{◌≡◌, ◌++◌, ◌∷◌, ◌∙◌, List, N
 use Rattle.std.proofs.lemmas.Bool.{and_parts}
 use Rattle.std.proofs.lemmas.Option.{none-some, same_Some}
 use Rattle.board_rules.specs.Ground.{Ground}
-use Rattle.board_rules.specs.Processes.{Map, Process, Result, and_then, done, fails, gives, prefix, spent}
+use Rattle.board_rules.specs.Processes.{Map, Process, Result, and_then, done, fails, faults, gives, prefix, spent}
 use Rattle.board_rules.specs.Running.{Laws, Machine, Path, run_on}
 use Rattle.board_rules.specs.Boards.{Items, Operation, Stage, Stepped, all_over, at_fault, by, closing, dropped, filling, finish, finish_items, idle, is_over, child_op, no_item, op, out, over, remaining, said, stage_of, step_in, stopped}
-use Rattle.board_rules.specs.Journals.{Entry, FinishedAsOrdered, Job, State, Told, after_entries, after_entry, faulted, finished, joined, opened, outcome_with, own_fault, shown, stepped, told, told_items, unfinished}
+use Rattle.board_rules.specs.Journals.{Entry, FinishedAsOrdered, Job, State, Told, after_entries, after_entry, answered, faulted, finished, joined, opened, outcome_with, own_fault, shown, stepped, told, told_items, unfinished}
 use Rattle.board_laws.proofs.Processes.{prefix_none}
 use Rattle.board_laws.proofs.Turns.{Below, below_same, below_through, run_grows}
 use Rattle.board_laws.proofs.Good.{Good, GoodItems, GoodOp}
@@ -80,13 +80,41 @@ module _ (G : Ground) (M : Machine G) (L : Laws G M) where
 
   -- ---- journals
 
-  outcome_read : (x : Option G.Fault) (t : List G.Byte) (m : Map G) (r : Result G G.Answer) → Reads x t m r → outcome_with G M x t m ≡ shown G M r
-  outcome_read None t m (done v u o) h = λ i. finished (sym h.0 i) (sym h.1 i)
-  outcome_read None t m (fails y u) h = absurd h
-  outcome_read None t m spent h = absurd h
-  outcome_read (Some x) t m (done v u o) h = absurd h
-  outcome_read (Some x) t m (fails y u) h = λ i. faulted (sym h.0 i) (sym h.1 i)
-  outcome_read (Some x) t m spent h = absurd h
+  -- a result with this answer, where it comes to one
+  abbrev Answers : G.Answer → Result G G.Answer → Type 0
+  Answers a (done v u o) = a ≡ v
+  Answers a _ = Unit {0}
+
+  gives_answers : (a : G.Answer) (r : Result G (List G.Answer)) → Answers a (and_then G r (λ vs. gives G a))
+  gives_answers a (done vs t m) = refl
+  gives_answers a (fails x t) = tt
+  gives_answers a spent = tt
+
+  faults_answer : (a : G.Answer) (x : G.Fault) (r : Result G (List G.Answer)) → Answers a (and_then G r (λ vs. faults G x))
+  faults_answer a x (done vs t m) = tt
+  faults_answer a x (fails y t) = tt
+  faults_answer a x spent = tt
+
+  answer_read : (K : ℕ) (p : Path G) (n : Operation G) (m : Map G) → is_over G (stage_of G n) ≡ true → Answers (answered G M n) (finish G M K p n m)
+  answer_read K p (op D N i f ps st is) m e = by_stage st e
+    where
+      by_stage : (st : Stage G) → is_over G st ≡ true → Answers (answered G M (op D N i f ps st is)) (finish G M K p (op D N i f ps st is) m)
+      by_stage (idle w) e = absurd cc
+      by_stage (filling w d l) e = absurd cc
+      by_stage (out w d) e = absurd cc
+      by_stage (closing x) e = absurd cc
+      by_stage (over (by a)) e = gives_answers a (finish_items G M K p 0 is m)
+      by_stage (over (at_fault x)) e = faults_answer M.no_answer x (finish_items G M K p 0 is m)
+      by_stage (over stopped) e = faults_answer M.no_answer G.broken (finish_items G M K p 0 is m)
+      by_stage dropped e = faults_answer M.no_answer G.broken (finish_items G M K p 0 is m)
+
+  outcome_read : (x : Option G.Fault) (t : List G.Byte) (a : G.Answer) (m : Map G) (r : Result G G.Answer) → Reads x t m r → Answers a r → outcome_with G M x t a m ≡ shown G M r
+  outcome_read None t a m (done v u o) h k = λ i. finished (sym h.0 i) (k i) (sym h.1 i)
+  outcome_read None t a m (fails y u) h k = absurd h
+  outcome_read None t a m spent h k = absurd h
+  outcome_read (Some x) t a m (done v u o) h k = absurd h
+  outcome_read (Some x) t a m (fails y u) h k = λ i. faulted (sym h.0 i) (sym h.1 i)
+  outcome_read (Some x) t a m spent h k = absurd h
 
   -- from a good state to another, with the same outcome of all that runs on
   pub record Leads (s u : State G) : Type 0 where
@@ -120,7 +148,8 @@ module _ (G : Ground) (M : Machine G) (L : Laws G M) where
 
   pub finished_as_ordered : FinishedAsOrdered G M
   finished_as_ordered job journal s k e done_all ended =
-      outcome_read (told G M s.tree).fault (told G M s.tree).text s.map (finish G M (suc k) [] s.tree s.map) (told_read (suc k) s.map [] s.tree s.map s.map there.good done_all refl)
+      outcome_read (told G M s.tree).fault (told G M s.tree).text (answered G M s.tree) s.map (finish G M (suc k) [] s.tree s.map)
+      (told_read (suc k) s.map [] s.tree s.map s.map there.good done_all refl) (answer_read (suc k) [] s.tree s.map done_all)
       ∙ sym (in_the_end (run_on G M k [] job.needs 0 job.frame [] [] job.map) (finish G M (suc k) [] s.tree s.map) ended
       (below_through G _ _ _ (run_grows G M k [] job.needs 0 job.frame [] [] job.map) (below_through G _ _ _ (below_same G _ _ (sym (prefix_none G _))) (there.finishes k))))
     where

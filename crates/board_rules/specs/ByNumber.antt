@@ -6,7 +6,7 @@ use Rattle.std.specs.Prelude.{◌≡◌, ◌<◌, List, None, Option, Some, [], 
 use Rattle.board_rules.specs.Processes.{Map}
 use Rattle.board_rules.specs.Running.{Machine}
 use Rattle.board_rules.specs.Boards.{is_over, stage_of}
-use Rattle.board_rules.specs.Journals.{Entry, Job, Outcome, State, faulted, finished, opened, told, unfinished}
+use Rattle.board_rules.specs.Journals.{Entry, Job, Outcome, State, answered, faulted, finished, opened, told, unfinished}
 use Rattle.board_rules.specs.NumberedBoards.{Board, Step, board_of, entries, start}
 use Rattle.board_rules.specs.NumberedRuns.{Making, numbered_order_run, numbered_run}
 use Rattle.board_rules.specs.Renaming.{Base, Renamed, Renames, Roots, ground_over}
@@ -54,18 +54,19 @@ module _ (B : Base) (X Y : Roots B) (M : ℕ → Machine (ground_over B X)) (K :
 
   -- ---- the law
 
-  -- Text and fault are those of the run in order; and at locations of the two that have one name the
-  -- numbers are the same.
-  abbrev pub Agrees : Option B.Fault → List B.Byte → Map (ground_over B X) → (X.Location → Y.Location) → (X.Location → Y.Location) → Outcome (ground_over B X) → Type 0
-  Agrees x t m one two (finished s n) = (x ≡ None) × (t ≡ s) × ((l o : X.Location) → one l ≡ two o → m l ≡ n o)
-  Agrees x t m one two (faulted s y) = (x ≡ Some y) × (t ≡ s)
-  Agrees x t m one two unfinished = ⊥
+  -- Text, fault and the first task's answer are those of the run in order; and at locations of the two that have one
+  -- name the numbers are the same.
+  abbrev pub Agrees : Option B.Fault → List B.Byte → B.Answer → Map (ground_over B X) → (X.Location → Y.Location) → (X.Location → Y.Location) → Outcome (ground_over B X) → Type 0
+  Agrees x t a m one two (finished s v n) = (x ≡ None) × (t ≡ s) × (a ≡ v) × ((l o : X.Location) → one l ≡ two o → m l ≡ n o)
+  Agrees x t a m one two (faulted s y) = (x ≡ Some y) × (t ≡ s)
+  Agrees x t a m one two unfinished = ⊥
 
   -- whatever steps were made, by whichever seats, where the run in order comes to an end
   abbrev pub FinishedByNumber : (Job (ground_over B X) → Type 0) → Type 0
   FinishedByNumber IsJob = (job : Job (ground_over B X)) → IsJob job → (steps : List Step) (b : Board (ground_over B X)) (k : ℕ) →
       board_of (ground_over B X) M job steps ≡ Some b → is_over (ground_over B X) (stage_of (ground_over B X) b.state.tree) ≡ true →
       ¬ (numbered_order_run (ground_over B X) M k job ≡ unfinished) →
-      Agrees (told (ground_over B X) (M 0) b.state.tree).fault (told (ground_over B X) (M 0) b.state.tree).text b.state.map
+      Agrees (told (ground_over B X) (M 0) b.state.tree).fault (told (ground_over B X) (M 0) b.state.tree).text
+      (answered (ground_over B X) (M 0) b.state.tree) b.state.map
       (on_board job (entries (ground_over B X) M (Some (start (ground_over B X) M job)) steps) b.state) (in_order k job)
       (numbered_order_run (ground_over B X) M k job)

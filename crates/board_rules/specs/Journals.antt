@@ -1,9 +1,9 @@
 -- Journals, the states that they lead to, and the outcomes of finished states.
-use Rattle.std.specs.Prelude.{◌≡◌, ◌++◌, ◌∷◌, List, None, Option, Some, [], true, ℕ}
+use Rattle.std.specs.Prelude.{◌≡◌, ◌++◌, ◌∷◌, List, None, Option, Some, [], true, unwrap_or, ℕ}
 use Rattle.board_rules.specs.Ground.{Ground}
 use Rattle.board_rules.specs.Processes.{Map, Result, done, fails, run_all, spent}
 use Rattle.board_rules.specs.Running.{Machine, run_on}
-use Rattle.board_rules.specs.Boards.{Items, Kind, Operation, Stage, Stepped, at_fault, by, first, idle, is_over, child_op, no_item, op, over, said, stage_of, step_in}
+use Rattle.board_rules.specs.Boards.{Items, Kind, Operation, Stage, Stepped, at_fault, by, first, given_by, idle, is_over, child_op, no_item, op, over, said, stage_of, step_in}
 
 pub record State (G : Ground) : Type 0 where
   pub tree : Operation G
@@ -19,8 +19,9 @@ pub record Told (G : Ground) : Type 0 where
   pub text : List G.Byte
   pub fault : Option G.Fault
 
+-- a job that came to its end has its first task's answer
 pub data Outcome (G : Ground) : Type 0 where
-  finished : List G.Byte → Map G → Outcome G
+  finished : List G.Byte → G.Answer → Map G → Outcome G
   faulted : List G.Byte → G.Fault → Outcome G
   unfinished : Outcome G
 
@@ -70,16 +71,20 @@ module _ (G : Ground) (M : Machine G) where
     told_items (said t is) = record { text = t ++ (told_items is).text; fault = (told_items is).fault }
     told_items (child_op n is) = joined (told n).fault (told n).text (told_items is)
 
-  abbrev pub outcome_with : Option G.Fault → List G.Byte → Map G → Outcome G
-  outcome_with None t m = finished t m
-  outcome_with (Some x) t m = faulted t x
+  -- the answer of an operation that has ended
+  abbrev pub answered : Operation G → G.Answer
+  answered n = unwrap_or (given_by G M (stage_of G n)) M.no_answer
+
+  abbrev pub outcome_with : Option G.Fault → List G.Byte → G.Answer → Map G → Outcome G
+  outcome_with None t a m = finished t a m
+  outcome_with (Some x) t a m = faulted t x
 
   -- the outcome of a finished state
   abbrev pub outcome : State G → Outcome G
-  outcome s = outcome_with (told s.tree).fault (told s.tree).text s.map
+  outcome s = outcome_with (told s.tree).fault (told s.tree).text (answered s.tree) s.map
 
-  abbrev pub shown : {A : Type 0} → Result G A → Outcome G
-  shown (done a t m) = finished t m
+  abbrev pub shown : Result G G.Answer → Outcome G
+  shown (done a t m) = finished t a m
   shown (fails x t) = faulted t x
   shown spent = unfinished
 

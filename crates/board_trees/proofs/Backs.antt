@@ -85,7 +85,7 @@ module _ (job : Job) where
         may_fail (activity.Out c y) e q = absurd q
 
         by_value : (x : Rattle.board_rules.specs.Boards.Ending G) → Rattle.board_trees.specs.Stages.HasValue job.code (operation_at s k) x → (knot_at s.waits.knots k).stage ≡ knot.Begun
-        by_value (Rattle.board_rules.specs.Boards.by v) q = unclaimed (activity.Closing (Rattle.board_terms.specs.declared.operation.Ending.TheVariants.Value v)) q (λ y. y)
+        by_value (Rattle.board_rules.specs.Boards.by v) q = unclaimed (activity.Closing (Rattle.board_terms.specs.declared.operation.Ending.TheVariants.Value v.value)) q (λ y. y)
         by_value (Rattle.board_rules.specs.Boards.at_fault y) q = absurd q
         by_value Rattle.board_rules.specs.Boards.stopped q = absurd q
 

@@ -38,7 +38,7 @@ module _ (code : Code) where
   -- ---- how work ends
 
   abbrev pub IsEnding : Ending → BoardEnding (regent_ground (spaces_of code)) → Type 0
-  IsEnding (ending.Value v) (by u) = u ≡ v
+  IsEnding (ending.Value v) (by u) = u.value ≡ v
   IsEnding (ending.Fault x) (at_fault (faults_at y)) = y ≡ x
   IsEnding ending.Broken (at_fault broken) = Unit {0}
   IsEnding _ _ = ⊥
@@ -61,7 +61,7 @@ module _ (code : Code) where
 
   -- it came to its end with this value
   abbrev pub HasValue : Operation → BoardEnding (regent_ground (spaces_of code)) → Type 0
-  HasValue o (by v) = o.activity ≡ activity.Closing (ending.Value v)
+  HasValue o (by v) = o.activity ≡ activity.Closing (ending.Value v.value)
   HasValue o _ = ⊥
 
   -- ---- claims

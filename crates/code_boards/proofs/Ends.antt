@@ -1,5 +1,5 @@
 -- The run in order of a job ends, and a finished board has its outcome.
-use Rattle.std.proofs.Common.{◌≡◌, ℕ, zero, suc, ◌+◌, ◌*◌, ℤ, pos, List, [], ◌∷◌, ◌++◌, Option, refl, sym, ap, ◌∙◌, arith, map}
+use Rattle.std.proofs.Common.{◌≡◌, ℕ, zero, suc, ◌+◌, ◌*◌, ℤ, pos, List, [], ◌∷◌, ◌++◌, refl, sym, ap, ◌∙◌, arith, map}
 use Rattle.std.specs.Prelude.{length, replicate, ◌-◌}
 use Rattle.std.proofs.Math.Nat.{suc-mul}
 use Rattle.task_code.specs.declared.job.Job.{Job}
@@ -50,7 +50,7 @@ names_append : (name : ℕ → ℕ) (vs ws : List board.Value) → vs ≡ map (r
     vs ++ ws ≡ map (renamed_value name) (vs ++ ws)
 names_append name vs ws e d = (λ i. e i ++ d i) ∙ sym (Rattle.std.proofs.lemmas.List.map-append (renamed_value name) vs ws)
 
-main_names_no_root : (job : Job) (t : TaskCode) (name : ℕ → ℕ) → main_frame job t ≡ renamed_frame name (main_frame job t)
+pub main_names_no_root : (job : Job) (t : TaskCode) (name : ℕ → ℕ) → main_frame job t ≡ renamed_frame name (main_frame job t)
 main_names_no_root job t name = λ i. record (main_frame job t) {
   slots = names_append name (map board.a_number job.inputs) (replicate (t.slots - length job.inputs) (board.a_number (pos 0)))
       (names_no_number name job.inputs) (names_no_zero name (t.slots - length job.inputs)) i;
@@ -64,7 +64,7 @@ order_runs_end job t found e =
     (ends_soon job.code t.body job.turns (here job.code job.turns (main_frame job t) []) refl)
     (not_shown _ e)
   where
-    not_shown : (r : Result (regent_ground (spaces_of job.code)) (Option ℤ)) →
+    not_shown : (r : Result (regent_ground (spaces_of job.code)) board.Answer) →
         shown (regent_ground (spaces_of job.code)) (by_number (spaces_of job.code) (board_segment job.code job.turns) 0) r ≡ unfinished → r ≡ spent
     not_shown (done v s m) h = absurd cc
     not_shown (fails x s) h = absurd cc

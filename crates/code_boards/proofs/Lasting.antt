@@ -127,13 +127,13 @@ slot_met q i o slots s e =
     ∙ ap (λ p. option_map value_in (option_map (met_value q i o) (option_map value_out p))) e
     ∙ ap (λ v. Some v) (met_self q i o)
 
-answers_seen : (q : board.Spaces) (g : board.Frame) (x : Frame) (i : ℕ) (o : Option ℤ) →
-    Answers i (answered o) x (frame_in (met_frame q (frame_out g x) i o))
-answers_seen q g x i o None e = absurd (none-some (Pending i) e)
-answers_seen q g x i o (Some l) e = by_instr l.instr e
+answers_seen : (q : board.Spaces) (g : board.Frame) (x : Frame) (i : ℕ) (a : board.Answer) →
+    Answers i (answered a.value) x (frame_in (met_frame q (frame_out g x) i a))
+answers_seen q g x i a None e = absurd (none-some (Pending i) e)
+answers_seen q g x i a (Some l) e = by_instr l.instr e
   where
-    by_instr : (j : Instr) → slot_of j x ≡ Some (Pending i) → slot_of j (frame_in (met_frame q (frame_out g x) i o)) ≡ Some (Number (answered o))
-    by_instr (instr.Load s) e = slot_met q i o x.slots s e
+    by_instr : (j : Instr) → slot_of j x ≡ Some (Pending i) → slot_of j (frame_in (met_frame q (frame_out g x) i a)) ≡ Some (Number (answered a.value))
+    by_instr (instr.Load s) e = slot_met q i a.value x.slots s e
     by_instr _ e = absurd (none-some (Pending i) e)
 
 -- ---- runs that end
@@ -234,12 +234,12 @@ module _ (code : Code) (turns : ℕ) where
   -- nest below it
   abbrev pub Lasts : ℕ → Type 0
   Lasts k = (e n : ℕ) (t : TaskCode) (p : List ℕ) (N : List Requirement) (i : ℕ) (f : board.Frame) (ps : List (Element G))
-      (vs : List (Option ℤ)) (c : ℕ) (m : Map G) → slice_get code.tasks f.task ≡ Some t → f.needs ≡ N →
+      (vs : List board.Answer) (c : ℕ) (m : Map G) → slice_get code.tasks f.task ≡ Some t → f.needs ≡ N →
       n + e * most code.tasks ≤ k → 64 ≤ f.depth + e → Within code t.body n (here f ps) →
       (numbered_run G M k p N i f ps vs c m).result ≡ spent → ⊥
 
   module _ (k : ℕ) (more : Lasts k) (e n : ℕ) (t : TaskCode) (p : List ℕ) (N : List Requirement) (i : ℕ) (f : board.Frame)
-      (ps : List (Element G)) (vs : List (Option ℤ)) (c : ℕ) (m : Map G) (found : slice_get code.tasks f.task ≡ Some t)
+      (ps : List (Element G)) (vs : List board.Answer) (c : ℕ) (m : Map G) (found : slice_get code.tasks f.task ≡ Some t)
       (needs : f.needs ≡ N) (room : suc n + e * most code.tasks ≤ suc k) (deep : 64 ≤ f.depth + e) where
     -- a child
     child_done : (x : Call G) → Good f.depth x → nat_lt f.depth 64 ≡ true → (q : List ℕ) (d : ℕ) (u : Map G) →
@@ -272,7 +272,7 @@ module _ (code : Code) (turns : ℕ) where
       passed : Passed x.frame (frame_in g)
       passed = record { task = sym fx.task; pc = refl; turns = refl; depth = refl }
 
-      on : (q : List (Element G)) (ws : List (Option ℤ)) (d : ℕ) (u : Map G) → Within code t.body n (here g q) →
+      on : (q : List (Element G)) (ws : List board.Answer) (d : ℕ) (u : Map G) → Within code t.body n (here g q) →
           (numbered_run G M k p N i g q ws d u).result ≡ spent → ⊥
       on q ws d u w = more e n t p N i g q ws d u found needs (omega (arith, room)) (omega (arith, deep, fx.depth)) w
 
@@ -287,11 +287,11 @@ module _ (code : Code) (turns : ℕ) where
 
       -- behind a making
       made_on : (d : board.Made) (q : List (Element G)) (u : Map G) → ((y : Machine) → Passed x.frame y.frame → Within code t.body n y) →
-          Passed x.frame (frame_in (pushed_on (spaces_of code) c d g)) → (pushed_on (spaces_of code) c d g).needs ≡ grown_by (spaces_of code) c d N →
-          64 ≤ (pushed_on (spaces_of code) c d g).depth + e → slice_get code.tasks (pushed_on (spaces_of code) c d g).task ≡ Some t →
-          (numbered_run G M k p (grown_by (spaces_of code) c d N) (suc i) (pushed_on (spaces_of code) c d g) q vs (suc c) u).result ≡ spent → ⊥
-      made_on d q u w ready same low task = more e n t p (grown_by (spaces_of code) c d N) (suc i) (pushed_on (spaces_of code) c d g) q vs (suc c) u
-          task same (omega (arith, room)) low (w (here (pushed_on (spaces_of code) c d g) q) ready)
+          Passed x.frame (frame_in (pushed_on (spaces_of code) c i d g)) → (pushed_on (spaces_of code) c i d g).needs ≡ grown_by (spaces_of code) c d N →
+          64 ≤ (pushed_on (spaces_of code) c i d g).depth + e → slice_get code.tasks (pushed_on (spaces_of code) c i d g).task ≡ Some t →
+          (numbered_run G M k p (grown_by (spaces_of code) c d N) (suc i) (pushed_on (spaces_of code) c i d g) q vs (suc c) u).result ≡ spent → ⊥
+      made_on d q u w ready same low task = more e n t p (grown_by (spaces_of code) c d N) (suc i) (pushed_on (spaces_of code) c i d g) q vs (suc c) u
+          task same (omega (arith, room)) low (w (here (pushed_on (spaces_of code) c i d g) q) ready)
 
       made_done : (d : Made) (q : List (Element G)) → ((y : Machine) → Passed x.frame y.frame → Within code t.body n y) →
           (go_run G M (numbered_run G M k) p N i vs g q (make (made_out d)) c m).result ≡ spent → ⊥
@@ -305,7 +305,7 @@ module _ (code : Code) (turns : ℕ) where
           (λ e. absurd cc)
 
       by_yield : (y : Yield) (q : List (Element G)) → IsAsked y x → AfterStop (Within code t.body n) y x →
-          (go_run G M (numbered_run G M k) p N i vs (last_frame f (frame_after y x.frame)) q (yield_out code turns f.depth y) c m).result ≡ spent → ⊥
+          (go_run G M (numbered_run G M k) p N i vs (last_frame f (frame_after y x.frame)) q (yield_out code turns f y) c m).result ≡ spent → ⊥
       by_yield (yield.Calls cs) q wanted w = calls_done (called_all code turns f.depth cs) q (all_good f.depth cs)
           (ap (λ d. nat_lt d 64) (sym fx.depth) ∙ w.0) w.1
       by_yield (yield.Want r h) q wanted w =
@@ -317,7 +317,7 @@ module _ (code : Code) (turns : ℕ) where
           let v = answer_at G (M c) vs j in
           let met = met_frame (spaces_of code) g j v in
           more e n t p N i met q vs c m found needs (omega (arith, room)) (omega (arith, deep, fx.depth))
-          (w (here met q) (answered v) (record { task = sym fx.task; pc = refl; turns = refl; depth = refl })
+          (w (here met q) (answered v.value) (record { task = sym fx.task; pc = refl; turns = refl; depth = refl })
           (answers_seen (spaces_of code) f x.frame j v))
       by_yield (yield.Make d) q wanted w = made_done d q w
       by_yield (yield.End v) q wanted w = λ e. absurd cc

@@ -21,13 +21,13 @@ use Rattle.machine_terms.specs.declared.value.Value.{Value}
 use Rattle.machine_terms.specs.declared.value.Value.TheVariants as value
 use Rattle.machine_terms.specs.Parts.{is_part_of}
 use Rattle.machine_terms.specs.Segments.{segment}
-use Rattle.board_rules.specs.Running.{Call, Element, Yield as BoardYield, make, spots}
+use Rattle.board_rules.specs.Running.{Call, Element, Yield as BoardYield, ends, make, spots}
 use Rattle.board_rules.specs.Renaming.{after_to as board_after_to, calls_to, elements, yield_to as board_yield_to}
 use Rattle.regent_boards.specs.Laws as laws
 use Rattle.regent_boards.specs.RegentMachine.{base, kinds_of, regent_ground, regent_roots}
 use Rattle.regent_boards.specs.RootRenaming.{IsOneToOne as OneToOne, region_to as board_region_to, renamed_frame, renamed_made, renamed_value, renaming, requirement_to, root_to as board_root_to}
 use Rattle.regent_boards.specs.Frames as board
-use Rattle.regent_boards.proofs.RootRenaming.{kind_to, space_to, to_one}
+use Rattle.regent_boards.proofs.RootRenaming.{kind_to, own_roots_to, space_to, to_one}
 use Rattle.segment_renaming.specs.Renaming.{Names, IsOneToOne, after_to, before_to, call_to, frame_to, made_to, need_to, part_to, region_to, root_to, value_to, yield_to}
 use Rattle.code_boards.specs.Views.{after_out, and_all, before_in, board_segment, called, called_all, called_with, calls_out, frame_in, frame_out, last_frame, made_out, need_in, needs_in, numbers_in_parts, onto_parts, opening_with, part_with, parts_in, piece_with, mode_in, onto_pieces, spaces_of, region_in, region_out, required, required_all, root_in, value_in, value_out, with_numbers, yield_out}
 use Rattle.segment_renaming.proofs.Alike.{same_root}
@@ -134,6 +134,7 @@ module _ (code : Code) (name : ℕ → ℕ) (one : OneToOne name) where
     depth = f.depth;
     needs = map (requirement_to name) g.needs;
     own = map (board_root_to name) g.own;
+    makings = g.makings;
     children = f.children;
     later = g.later;
   }
@@ -272,6 +273,7 @@ module _ (code : Code) (name : ℕ → ℕ) (one : OneToOne name) where
       depth = suc depth;
       needs = map (requirement_to name) needs;
       own = [];
+      makings = [];
       children = 0;
       later = None;
     };
@@ -325,15 +327,16 @@ module _ (code : Code) (name : ℕ → ℕ) (one : OneToOne name) where
   calls_out_to None = refl
   calls_out_to (Some cs) = refl
 
-  yield_out_to : (turns depth : ℕ) (y : Yield) →
-      yield_out code turns depth (yield_to names y) ≡ renamed_yield (yield_out code turns depth y)
-  yield_out_to turns depth (yield.Calls cs) = ap (calls_out code) (called_all_to turns depth cs) ∙ calls_out_to (called_all code turns depth cs)
-  yield_out_to turns depth (yield.Want r f) = refl
-  yield_out_to turns depth (yield.Await i) = refl
-  yield_out_to turns depth (yield.Make d) = ap (λ x. make x) (made_out_to d)
-  yield_out_to turns depth (yield.End v) = refl
-  yield_out_to turns depth (yield.Fault f) = refl
-  yield_out_to turns depth yield.MachineFault = refl
+  yield_out_to : (turns : ℕ) (f : board.Frame) (y : Yield) →
+      yield_out code turns (renamed_frame name f) (yield_to names y) ≡ renamed_yield (yield_out code turns f y)
+  yield_out_to turns f (yield.Calls cs) = ap (calls_out code) (called_all_to turns f.depth cs) ∙ calls_out_to (called_all code turns f.depth cs)
+  yield_out_to turns f (yield.Want r k) = refl
+  yield_out_to turns f (yield.Await i) = refl
+  yield_out_to turns f (yield.Make d) = ap (λ x. make x) (made_out_to d)
+  yield_out_to turns f (yield.End v) =
+      ap (λ (rs : List board.OwnRoot). ends (record { value = v; roots = rs })) (own_roots_to (spaces_of code) name one f.own f.makings)
+  yield_out_to turns f (yield.Fault x) = refl
+  yield_out_to turns f yield.MachineFault = refl
 
   after_out_to : (turns : ℕ) (f : board.Frame) (ps : List (Element (regent_ground (spaces_of code)))) (a : After) →
       after_out code turns (renamed_frame name f) (renamed_elems ps) (after_to names a)
@@ -342,7 +345,7 @@ module _ (code : Code) (name : ℕ → ℕ) (one : OneToOne name) where
     text = a.text;
     frame = frame_out_to f a.frame i;
     parts = (ap (with_numbers code (renamed_elems ps)) (numbers_to a.parts) ∙ with_numbers_to ps (numbers_in_parts code a.parts)) i;
-    yields = yield_out_to turns f.depth a.ends i;
+    yields = yield_out_to turns f a.ends i;
   }
 
   before_in_to : (f : board.Frame) (ps : List (Element (regent_ground (spaces_of code)))) →

@@ -59,7 +59,7 @@ abbrev pub job : Job
 job = job_with (main_task ∷ child_task ∷ [])
 
 abbrev pub text_of : Outcome (regent_ground (spaces_of job.code)) → Option (List ℕ)
-text_of (finished s m) = Some s
+text_of (finished s a m) = Some s
 text_of (faulted s x) = None
 text_of unfinished = None
 
@@ -114,7 +114,7 @@ abbrev pub empty_job : Job
 empty_job = job_with (start_task ∷ reading_task ∷ [])
 
 abbrev pub stop_of : Outcome (regent_ground (spaces_of empty_job.code)) → Option Stop
-stop_of (finished s m) = None
+stop_of (finished s a m) = None
 stop_of (faulted s x) = Some x
 stop_of unfinished = None
 

@@ -6,7 +6,7 @@ use Rattle.task_code.specs.declared.code.TaskCode.{TaskCode}
 use Rattle.machine_terms.specs.Segments.{segment}
 use Rattle.board_rules.specs.Boards.{is_over, stage_of}
 use Rattle.board_rules.specs.ByNumber.{Agrees, in_order, on_board}
-use Rattle.board_rules.specs.Journals.{Job as BoardJob, Outcome, told, unfinished}
+use Rattle.board_rules.specs.Journals.{Job as BoardJob, Outcome, answered, told, unfinished}
 use Rattle.board_rules.specs.NumberedBoards.{Board, Step, board_of, entries, start}
 use Rattle.board_rules.specs.NumberedRuns.{numbered_order_run}
 use Rattle.board_rules.specs.Running.{Element, Machine}
@@ -37,6 +37,7 @@ main_frame job t = record {
   depth = 1;
   needs = [];
   own = [];
+  makings = [];
   children = 0;
   later = None;
 }
@@ -71,7 +72,7 @@ abbrev pub OrderRunsEnd : Type 0
 OrderRunsEnd = (job : Job) (t : TaskCode) → slice_get job.code.tasks job.code.start ≡ Some t →
     ¬ (ordered (room job) job t ≡ unfinished)
 
--- what a finished board of a job agrees on with the run in order: the text, the fault, and the numbers at places
+-- what a finished board of a job agrees on with the run in order: the text, the fault, the first task's answer, and the numbers at places
 -- whose roots have one maker and one making
 abbrev pub AgreesWithOrder : (job : Job) → TaskCode → List Step → Board (regent_ground (spaces_of job.code)) → Type 0
 AgreesWithOrder job t steps b =
@@ -80,7 +81,7 @@ AgreesWithOrder job t steps b =
     let M = machine_of job in
     let K = by_maker (spaces_of job.code) (board_segment job.code job.turns) in
     let to = to_makers (spaces_of job.code) (board_segment job.code job.turns) in
-    Agrees base R R M K to (told G (M 0) b.state.tree).fault (told G (M 0) b.state.tree).text b.state.map
+    Agrees base R R M K to (told G (M 0) b.state.tree).fault (told G (M 0) b.state.tree).text (answered G (M 0) b.state.tree) b.state.map
     (on_board base R R M K to (main_of job t) (entries G M (Some (start G M (main_of job t))) steps) b.state)
     (in_order base R R M K to (room job) (main_of job t)) (ordered (room job) job t)
 

@@ -28,7 +28,7 @@ use Rattle.machine_terms.specs.Parts.{is_part_of}
 use Rattle.machine_terms.specs.Segments.{segment}
 use Rattle.board_rules.specs.Ground.{Mode, reads, reduces, writes}
 use Rattle.board_rules.specs.Running.{After as BoardAfter, Call, Element, Yield as BoardYield, await, calls, ends, make, stops, want}
-use Rattle.regent_boards.specs.RegentMachine.{kind_of, kinds_of, regent_ground}
+use Rattle.regent_boards.specs.RegentMachine.{answer_with, kind_of, kinds_of, regent_ground}
 use Rattle.regent_boards.specs.Frames.{Spaces}
 use Rattle.regent_boards.specs.Frames as board
 
@@ -104,6 +104,7 @@ frame_out g f = record {
   depth = f.depth;
   needs = g.needs;
   own = g.own;
+  makings = g.makings;
   children = f.children;
   later = g.later;
 }
@@ -197,6 +198,7 @@ module _ (code : Code) where
       depth = suc depth;
       needs = needs;
       own = [];
+      makings = [];
       children = 0;
       later = None;
     };
@@ -222,14 +224,15 @@ module _ (code : Code) where
   calls_out (Some cs) = calls cs
   calls_out None = stops board.broken
 
-  abbrev pub yield_out : ℕ → ℕ → Yield → BoardYield (regent_ground (spaces_of code))
-  yield_out turns depth (yield.Calls cs) = calls_out (called_all turns depth cs)
-  yield_out turns depth (yield.Want r f) = want (record { root = r.0; field = f })
-  yield_out turns depth (yield.Await i) = await i
-  yield_out turns depth (yield.Make d) = make (made_out d)
-  yield_out turns depth (yield.End v) = ends v
-  yield_out turns depth (yield.Fault f) = stops (board.faults_at f)
-  yield_out turns depth yield.MachineFault = stops board.broken
+  -- behind the frame from which it ran
+  abbrev pub yield_out : ℕ → board.Frame → Yield → BoardYield (regent_ground (spaces_of code))
+  yield_out turns f (yield.Calls cs) = calls_out (called_all turns f.depth cs)
+  yield_out turns f (yield.Want r k) = want (record { root = r.0; field = k })
+  yield_out turns f (yield.Await i) = await i
+  yield_out turns f (yield.Make d) = make (made_out d)
+  yield_out turns f (yield.End v) = ends (answer_with f v)
+  yield_out turns f (yield.Fault x) = stops (board.faults_at x)
+  yield_out turns f yield.MachineFault = stops board.broken
 
   abbrev pub after_out :
       ℕ → board.Frame → List (Element (regent_ground (spaces_of code))) → After → BoardAfter (regent_ground (spaces_of code))
@@ -237,7 +240,7 @@ module _ (code : Code) where
     text = a.text;
     frame = last_frame f a.frame;
     parts = with_numbers ps (numbers_in_parts a.parts);
-    yields = yield_out turns f.depth a.ends;
+    yields = yield_out turns f a.ends;
   }
 
   abbrev pub before_in : board.Frame → List (Element (regent_ground (spaces_of code))) → Before

@@ -36,7 +36,7 @@ module _ (G : Ground) (M : ℕ → Machine G) where
       tested true = found (way_of G M b.ways s.number)
       tested false = tt
 
-  steps_reach : (ss : List Step) (b c : Board G) → after_steps G M (Some b) ss ≡ Some c → all_numbered G M (Some b.state) (entries G M (Some b) ss) ≡ Some c.state
+  pub steps_reach : (ss : List Step) (b c : Board G) → after_steps G M (Some b) ss ≡ Some c → all_numbered G M (Some b.state) (entries G M (Some b) ss) ≡ Some c.state
   steps_reach [] b c e = ap (λ (x : Board G). Some x.state) (same_Some b c e)
   steps_reach (s ∷ ss) b c e = first_then (after_step G M (Some b) s) (one_step b s) e (λ d h. steps_reach ss d c h)
     where

@@ -6,15 +6,15 @@ use Rattle.board_rules.specs.Ground.{Ground}
 use Rattle.board_rules.specs.Processes.{Map}
 use Rattle.board_rules.specs.Running.{Element, Laws, Machine, Yield, await, calls, ends, make, stops, want}
 use Rattle.board_rules.specs.Boards.{Items, Kind, Operation, Stage, Stepped, back, claim, closing, copy, dropped, filling, give, idle, is_over, child_op, no_item, op, out, over, said, stage_of, step_in}
-use Rattle.board_rules.specs.Journals.{Entry, Job, State, opened, order_run, outcome_with, stepped, told, unfinished}
-use Rattle.board_rules.specs.Renaming.{Base, Renamed, Renames, Roots, ground_over}
+use Rattle.board_rules.specs.Journals.{Entry, Job, State, answered, opened, order_run, outcome_with, replay, stepped, told, unfinished}
+use Rattle.board_rules.specs.Renaming.{Base, Renamed, Renames, Roots, ground_over, node_to}
 use Rattle.board_rules.specs.RootNames.{Name, made, makes, makes_among, makes_in, makes_now, makes_own, names}
 use Rattle.board_rules.specs.ByNumber.{Differ, Renamable, board_maker, board_making, on_board}
 use Rattle.board_rules.specs.RootNumbers.{after_numbered, all_numbered, count_among, count_at, made_among, made_in, replay_numbered, turned_onto}
 use Rattle.board_laws.proofs.Reaching.{by_test}
 use Rattle.number_laws.proofs.Counts.{none_stays, Counted, one_if, step_counted}
 use Rattle.number_laws.proofs.Renamed.{NamedAmong, NamedIn}
-use Rattle.number_laws.proofs.RootNames.{NamedJournal, numbered_as_ordered}
+use Rattle.number_laws.proofs.RootNames.{NamedJournal, numbered_as_ordered, numbered_is_named}
 
 module _ (G : Ground) (F : ℕ → Machine G) (c : ℕ) where
   mutual
@@ -180,36 +180,49 @@ module _ (G : Ground) (M : ℕ → Machine G) where
 
 module _ (B : Base) (X Y : Roots B) (M : ℕ → Machine (ground_over B X)) (K : Machine (ground_over B Y)) (rename : (ℕ → List ℕ) → (ℕ → ℕ) → Renames B X Y)
     (job : Job (ground_over B X)) (named : Job (ground_over B Y)) where
-  -- Over any journal the board by numbers, once it is finished, has told what the order run tells; and
-  -- its map is that of the order run, renamed.
-  pub numbers_as_ordered : Laws (ground_over B Y) K → Renamable B X Y M K rename job named → (journal : List Entry) (t : State (ground_over B X)) (k : ℕ) →
-      replay_numbered (ground_over B X) M job journal ≡ Some t → is_over (ground_over B X) (stage_of (ground_over B X) t.tree) ≡ true → ¬ (order_run (ground_over B Y) K k named ≡ unfinished) →
-      (v : Map (ground_over B Y)) × ((l : X.Location) → v (on_board B X Y M K rename job journal t l) ≡ t.map l)
-      × (outcome_with (ground_over B Y) K (told (ground_over B X) (M 0) t.tree).fault (told (ground_over B X) (M 0) t.tree).text v ≡ order_run (ground_over B Y) K k named)
-  numbers_as_ordered laws can journal t k h o e = numbered_as_ordered B X Y M K (rename maker making) maker making renamed laws job named journal t k
-      (can.frame maker making) (can.needs maker making) (can.map maker making)
-      (journal_named B X Y M K (rename maker making) maker making renamed limit journal start t h (λ n l. (refl, refl))) h o e
-    where
-      limit : ℕ
-      limit = suc (made_in (ground_over B X) M t.tree)
+  -- the renaming by who made the roots of the board that a journal leads to
+  abbrev pub board_renaming : List Entry → State (ground_over B X) → Renames B X Y
+  board_renaming journal t = rename (board_maker B X Y M K rename job journal t) (board_making B X Y M K rename job journal t)
 
-      start : State (ground_over B X)
-      start = opened (ground_over B X) (M 0) job
+  module _ (journal : List Entry) (t : State (ground_over B X)) (h : replay_numbered (ground_over B X) M job journal ≡ Some t) (can : Renamable B X Y M K rename job named) where
+    abbrev limit : ℕ
+    limit = suc (made_in (ground_over B X) M t.tree)
 
-      maker : ℕ → List ℕ
-      maker = board_maker B X Y M K rename job journal t
+    abbrev start : State (ground_over B X)
+    start = opened (ground_over B X) (M 0) job
 
-      making : ℕ → ℕ
-      making = board_making B X Y M K rename job journal t
+    abbrev maker : ℕ → List ℕ
+    maker = board_maker B X Y M K rename job journal t
 
-      name : ℕ → Name
-      name n = names (ground_over B X) M limit journal (Some start) n
+    abbrev making : ℕ → ℕ
+    making = board_making B X Y M K rename job journal t
 
-      same_way : (n m : ℕ) → maker n ≡ maker m → (name n).way ≡ (name m).way
-      same_way n m q = sym (turned_back (ground_over B X) M (name n).way) ∙ ap (λ w. turned_onto (ground_over B X) M w []) q ∙ turned_back (ground_over B X) M (name m).way
+    abbrev name : ℕ → Name
+    name n = names (ground_over B X) M limit journal (Some start) n
 
-      differ : Differ maker making
-      differ n m l a b = names_differ (ground_over B X) M limit journal start t n m h (omega arith) (omega arith) l (λ i. record { way = same_way n m a i; making = b i })
+    same_way : (n m : ℕ) → maker n ≡ maker m → (name n).way ≡ (name m).way
+    same_way n m q = sym (turned_back (ground_over B X) M (name n).way) ∙ ap (λ w. turned_onto (ground_over B X) M w []) q ∙ turned_back (ground_over B X) M (name m).way
 
-      renamed : Renamed B X Y M K (rename maker making) maker making
-      renamed = can.renamed maker making differ
+    differ : Differ maker making
+    differ n m l a b = names_differ (ground_over B X) M limit journal start t n m h (omega arith) (omega arith) l (λ i. record { way = same_way n m a i; making = b i })
+
+    renamed : Renamed B X Y M K (rename maker making) maker making
+    renamed = can.renamed maker making differ
+
+    are_named : NamedJournal B X Y M K (rename maker making) maker making renamed journal (Some start)
+    are_named = journal_named B X Y M K (rename maker making) maker making renamed limit journal start t h (λ n l. (refl, refl))
+
+    -- the same journal leads by names to what the board by numbers is, renamed
+    pub reached_by_name : (v : Map (ground_over B Y)) × ((l : X.Location) → v (on_board B X Y M K rename job journal t l) ≡ t.map l)
+        × (replay (ground_over B Y) K named journal ≡ Some (record { tree = node_to B X Y (board_renaming journal t) t.tree; map = v }))
+    reached_by_name = numbered_is_named B X Y M K (rename maker making) maker making renamed job named journal t
+        (can.frame maker making) (can.needs maker making) (can.map maker making) are_named h
+
+    -- Over any journal the board by numbers, once it is finished, has told what the order run tells; and
+    -- its map is that of the order run, renamed.
+    pub numbers_as_ordered : Laws (ground_over B Y) K → (k : ℕ) → is_over (ground_over B X) (stage_of (ground_over B X) t.tree) ≡ true → ¬ (order_run (ground_over B Y) K k named ≡ unfinished) →
+        (v : Map (ground_over B Y)) × ((l : X.Location) → v (on_board B X Y M K rename job journal t l) ≡ t.map l)
+        × (outcome_with (ground_over B Y) K (told (ground_over B X) (M 0) t.tree).fault (told (ground_over B X) (M 0) t.tree).text (answered (ground_over B X) (M 0) t.tree) v
+        ≡ order_run (ground_over B Y) K k named)
+    numbers_as_ordered laws k o e = numbered_as_ordered B X Y M K (rename maker making) maker making renamed laws job named journal t k
+        (can.frame maker making) (can.needs maker making) (can.map maker making) are_named h o e

@@ -3,7 +3,7 @@ use Rattle.std.proofs.Common.{◌≡◌, ◌+◌, ◌∷◌, ◌∙◌, ◌<◌,
 use Rattle.board_rules.specs.Processes.{Map, Result, done, fails, spent}
 use Rattle.board_rules.specs.Running.{Laws, Machine, run_on}
 use Rattle.board_rules.specs.Boards.{is_over, stage_of}
-use Rattle.board_rules.specs.Journals.{Entry, Job, Outcome, State, faulted, finished, order_run, outcome_with, shown, told, unfinished}
+use Rattle.board_rules.specs.Journals.{Entry, Job, Outcome, State, answered, faulted, finished, order_run, outcome_with, shown, told, unfinished}
 use Rattle.board_rules.specs.Renaming.{Base, Renamed, Renames, Roots, ground_over}
 use Rattle.board_rules.specs.RootNumbers.{replay_numbered}
 use Rattle.board_rules.specs.RootNames.{pick, total}
@@ -37,46 +37,56 @@ module _ (B : Base) (X Y : Roots B) (M : ℕ → Machine (ground_over B X)) (K :
     reads_picked R maker making W b xs (suc n) (λ j. (subst (λ k. maker k ≡ (pick b xs j).maker) (omega arith) (h (suc j)).0, subst (λ k. making k ≡ (pick b xs j).making) (omega arith) (h (suc j)).1)),
   )
 
-  -- the same text and fault, and maps that are alike by a renaming
+  -- the same text, answer and fault, and maps that are alike by a renaming
   abbrev SameOutcome : (X.Location → Y.Location) → Outcome (ground_over B X) → Outcome (ground_over B Y) → Type 0
-  SameOutcome loc (finished t m) (finished s u) = (t ≡ s) × ((l : X.Location) → u (loc l) ≡ m l)
+  SameOutcome loc (finished t a m) (finished s b u) = (t ≡ s) × (a ≡ b) × ((l : X.Location) → u (loc l) ≡ m l)
   SameOutcome loc (faulted t x) (faulted s y) = (t ≡ s) × (x ≡ y)
   SameOutcome loc unfinished unfinished = Unit {0}
   SameOutcome loc _ _ = ⊥
 
   text_in : List B.Byte → Outcome (ground_over B Y) → List B.Byte
-  text_in d (finished t m) = t
+  text_in d (finished t a m) = t
   text_in d (faulted t x) = t
   text_in d unfinished = d
 
+  answer_in : B.Answer → Outcome (ground_over B Y) → B.Answer
+  answer_in d (finished t a m) = a
+  answer_in d (faulted t x) = d
+  answer_in d unfinished = d
+
   map_in : Map (ground_over B Y) → Outcome (ground_over B Y) → Map (ground_over B Y)
-  map_in d (finished t m) = m
+  map_in d (finished t a m) = m
   map_in d (faulted t x) = d
   map_in d unfinished = d
 
   fault_in : Outcome (ground_over B Y) → Option B.Fault
-  fault_in (finished t m) = None
+  fault_in (finished t a m) = None
   fault_in (faulted t x) = Some x
   fault_in unfinished = None
 
-  agreed : (x : Option B.Fault) (t : List B.Byte) (m : Map (ground_over B X)) (v : Map (ground_over B Y)) (one two : X.Location → Y.Location) → ((l : X.Location) → v (one l) ≡ m l) → (q : Outcome (ground_over B X)) (s : Outcome (ground_over B Y)) →
-      SameOutcome two q s → outcome_with (ground_over B Y) K x t v ≡ s → ¬ (q ≡ unfinished) → Agrees B X Y M K rename x t m one two q
-  unfolding text_in map_in fault_in
-  agreed None t m v one two h (finished w n) (finished s u) a e z = (refl, ap (text_in t) e ∙ sym a.0, λ l o same. sym (h l) ∙ ap (λ (y : Outcome (ground_over B Y)). map_in v y (one l)) e ∙ ap u same ∙ a.1 o)
-  agreed None t m v one two h (faulted w y) (faulted s x) a e z = absurd cc
-  agreed (Some b) t m v one two h (finished w n) (finished s u) a e z = absurd cc
-  agreed (Some b) t m v one two h (faulted w y) (faulted s x) a e z = (ap fault_in e ∙ ap (λ y. Some y) (sym a.1), ap (text_in t) e ∙ sym a.0)
-  agreed x t m v one two h (finished w n) (faulted s y) a e z = absurd a
-  agreed x t m v one two h (finished w n) unfinished a e z = absurd a
-  agreed x t m v one two h (faulted w y) (finished s u) a e z = absurd a
-  agreed x t m v one two h (faulted w y) unfinished a e z = absurd a
-  agreed x t m v one two h unfinished s a e z = absurd (z refl)
+  agreed : (x : Option B.Fault) (t : List B.Byte) (a : B.Answer) (m : Map (ground_over B X)) (v : Map (ground_over B Y)) (one two : X.Location → Y.Location) → ((l : X.Location) → v (one l) ≡ m l) →
+      (q : Outcome (ground_over B X)) (s : Outcome (ground_over B Y)) → SameOutcome two q s → outcome_with (ground_over B Y) K x t a v ≡ s → ¬ (q ≡ unfinished) → Agrees B X Y M K rename x t a m one two q
+  unfolding text_in answer_in map_in fault_in
+  agreed None t c m v one two h (finished w b n) (finished s d u) a e z = (
+    refl,
+    ap (text_in t) e ∙ sym a.0,
+    ap (answer_in c) e ∙ sym a.1,
+    λ l o same. sym (h l) ∙ ap (λ (y : Outcome (ground_over B Y)). map_in v y (one l)) e ∙ ap u same ∙ a.2 o,
+  )
+  agreed None t c m v one two h (faulted w y) (faulted s x) a e z = absurd cc
+  agreed (Some b) t c m v one two h (finished w d n) (finished s g u) a e z = absurd cc
+  agreed (Some b) t c m v one two h (faulted w y) (faulted s x) a e z = (ap fault_in e ∙ ap (λ y. Some y) (sym a.1), ap (text_in t) e ∙ sym a.0)
+  agreed x t c m v one two h (finished w b n) (faulted s y) a e z = absurd a
+  agreed x t c m v one two h (finished w b n) unfinished a e z = absurd a
+  agreed x t c m v one two h (faulted w y) (finished s b u) a e z = absurd a
+  agreed x t c m v one two h (faulted w y) unfinished a e z = absurd a
+  agreed x t c m v one two h unfinished s a e z = absurd (z refl)
 
   same_ended : (two : X.Location → Y.Location) (q : Outcome (ground_over B X)) (s : Outcome (ground_over B Y)) → SameOutcome two q s → ¬ (q ≡ unfinished) → ¬ (s ≡ unfinished)
-  same_ended two (finished t m) (finished s u) a n i = absurd cc
-  same_ended two (finished t m) (faulted s y) a n i = absurd a
-  same_ended two (finished t m) unfinished a n i = absurd a
-  same_ended two (faulted t x) (finished s u) a n i = absurd a
+  same_ended two (finished t b m) (finished s d u) a n i = absurd cc
+  same_ended two (finished t b m) (faulted s y) a n i = absurd a
+  same_ended two (finished t b m) unfinished a n i = absurd a
+  same_ended two (faulted t x) (finished s d u) a n i = absurd a
   same_ended two (faulted t x) (faulted s y) a n i = absurd cc
   same_ended two (faulted t x) unfinished a n i = absurd a
   same_ended two unfinished s a n i = n refl
@@ -111,7 +121,7 @@ module _ (B : Base) (X Y : Roots B) (M : ℕ → Machine (ground_over B X)) (K :
 
         by_result : (q : Result (ground_over B X) B.Answer) (s : Result (ground_over B Y) B.Answer) → Same B X Y M K R maker making renamed q s →
             SameOutcome R.loc (shown (ground_over B X) (M 0) q) (shown (ground_over B Y) K s)
-        by_result (done a t m) (done b s u) h = (h.1, h.2)
+        by_result (done a t m) (done b s u) h = (h.1, h.0, h.2)
         by_result (done a t m) (fails y s) h = absurd h
         by_result (done a t m) spent h = absurd h
         by_result (fails x t) (done b s u) h = absurd h
@@ -125,11 +135,11 @@ module _ (B : Base) (X Y : Roots B) (M : ℕ → Machine (ground_over B X)) (K :
     -- roots by numbers.
     pub finished_by_journal : Laws (ground_over B Y) K → (journal : List Entry) (t : State (ground_over B X)) (k : ℕ) → replay_numbered (ground_over B X) M job journal ≡ Some t →
         is_over (ground_over B X) (stage_of (ground_over B X) t.tree) ≡ true → ¬ (numbered_order_run (ground_over B X) M k job ≡ unfinished) →
-        Agrees B X Y M K rename (told (ground_over B X) (M 0) t.tree).fault (told (ground_over B X) (M 0) t.tree).text t.map
+        Agrees B X Y M K rename (told (ground_over B X) (M 0) t.tree).fault (told (ground_over B X) (M 0) t.tree).text (answered (ground_over B X) (M 0) t.tree) t.map
         (on_board B X Y M K rename job journal t) (in_order B X Y M K rename k job) (numbered_order_run (ground_over B X) M k job)
     finished_by_journal laws journal t k h o e =
         let one = on_board B X Y M K rename job journal t in
         let two = in_order B X Y M K rename k job in
         let run = order_runs_same k in
-        let board = numbers_as_ordered B X Y M K rename job named laws can journal t k h o (same_ended two (numbered_order_run (ground_over B X) M k job) (order_run (ground_over B Y) K k named) run e) in
-        agreed (told (ground_over B X) (M 0) t.tree).fault (told (ground_over B X) (M 0) t.tree).text t.map board.0 one two board.1 (numbered_order_run (ground_over B X) M k job) (order_run (ground_over B Y) K k named) run board.2 e
+        let board = numbers_as_ordered B X Y M K rename job named journal t h can laws k o (same_ended two (numbered_order_run (ground_over B X) M k job) (order_run (ground_over B Y) K k named) run e) in
+        agreed (told (ground_over B X) (M 0) t.tree).fault (told (ground_over B X) (M 0) t.tree).text (answered (ground_over B X) (M 0) t.tree) t.map board.0 one two board.1 (numbered_order_run (ground_over B X) M k job) (order_run (ground_over B Y) K k named) run board.2 e

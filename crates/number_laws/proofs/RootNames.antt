@@ -3,8 +3,8 @@ use Rattle.std.proofs.Common.{◌≡◌, ◌++◌, ◌∷◌, ◌∙◌, List, N
 use Rattle.std.proofs.lemmas.Option.{none-some, same_Some}
 use Rattle.board_rules.specs.Processes.{Map, run_all}
 use Rattle.board_rules.specs.Running.{Laws, Machine}
-use Rattle.board_rules.specs.Boards.{Items, Operation, Stage, Stepped, at_fault, by, closing, dropped, filling, idle, is_over, child_op, no_item, op, out, over, said, stage_of, step_in, stopped}
-use Rattle.board_rules.specs.Journals.{Entry, Job, State, Told, after_entries, joined, opened, order_run, outcome_with, own_fault, stepped, told, told_items, unfinished}
+use Rattle.board_rules.specs.Boards.{Items, Operation, Stage, Stepped, at_fault, by, closing, dropped, filling, first, idle, is_over, child_op, no_item, op, out, over, said, stage_of, step_in, stopped}
+use Rattle.board_rules.specs.Journals.{Entry, Job, State, Told, after_entries, answered, joined, opened, order_run, outcome_with, own_fault, replay, stepped, told, told_items, unfinished}
 use Rattle.board_rules.specs.Renaming.{Base, Renamed, Renames, Roots, effects_to, ground_over, items_to, node_to, stage_to}
 use Rattle.board_rules.specs.RootNumbers.{after_numbered, all_numbered, made_in, replay_numbered}
 use Rattle.number_laws.proofs.Counts.{none_stays}
@@ -15,7 +15,7 @@ module _ (B : Base) (X Y : Roots B) (M : ℕ → Machine (ground_over B X)) (K :
   abbrev Numbered : Type 0
   Numbered = State (ground_over B X)
 
-  abbrev state_to : Numbered → Map (ground_over B Y) → State (ground_over B Y)
+  abbrev pub state_to : Numbered → Map (ground_over B Y) → State (ground_over B Y)
   state_to s u = record { tree = node_to B X Y R s.tree; map = u }
 
   -- each root that a journal makes has the name of its maker and making
@@ -85,18 +85,41 @@ module _ (B : Base) (X Y : Roots B) (M : ℕ → Machine (ground_over B X)) (K :
   over_alike (op D N i f ps (over x) is) = refl
   over_alike (op D N i f ps dropped is) = refl
 
+  answered_alike : (a : Operation (ground_over B X)) → answered (ground_over B Y) K (node_to B X Y R a) ≡ answered (ground_over B X) (M 0) a
+  answered_alike (op D N i f ps (idle w) is) = W.no_answer 0
+  answered_alike (op D N i f ps (filling w d l) is) = W.no_answer 0
+  answered_alike (op D N i f ps (out w d) is) = W.no_answer 0
+  answered_alike (op D N i f ps (closing x) is) = W.no_answer 0
+  answered_alike (op D N i f ps (over (by v)) is) = refl
+  answered_alike (op D N i f ps (over (at_fault x)) is) = W.no_answer 0
+  answered_alike (op D N i f ps (over stopped) is) = W.no_answer 0
+  answered_alike (op D N i f ps dropped is) = W.no_answer 0
+
+  -- the same journal leads by names to what the board by numbers is, renamed
+  pub numbered_is_named : (job : Job (ground_over B X)) (named : Job (ground_over B Y)) (journal : List Entry) (t : Numbered) →
+      named.frame ≡ R.frame job.frame → named.needs ≡ R.needs job.needs → Alike B X Y M K R maker making W 0 job.map named.map →
+      NamedJournal journal (Some (opened (ground_over B X) (M 0) job)) → replay_numbered (ground_over B X) M job journal ≡ Some t →
+      (v : Map (ground_over B Y)) × Alike B X Y M K R maker making W 0 t.map v × (replay (ground_over B Y) K named journal ≡ Some (state_to t v))
+  numbered_is_named job named journal t ef en a h g =
+      let r = journal_alike journal (opened (ground_over B X) (M 0) job) named.map t a h g in (
+        r.0,
+        r.1,
+        subst (λ (s : State (ground_over B Y)). after_entries (ground_over B Y) K (Some s) journal ≡ Some (state_to t r.0))
+            (λ i. record { tree = op (sym en i) (sym en i) 0 (sym ef i) [] (idle first) no_item; map = named.map }) r.2,
+      )
+
   -- the board by numbers ends as the order run by names does, with a map that is alike
   pub numbered_as_ordered : Laws (ground_over B Y) K → (job : Job (ground_over B X)) (named : Job (ground_over B Y)) (journal : List Entry) (t : Numbered) (k : ℕ) →
       named.frame ≡ R.frame job.frame → named.needs ≡ R.needs job.needs → Alike B X Y M K R maker making W 0 job.map named.map →
       NamedJournal journal (Some (opened (ground_over B X) (M 0) job)) → replay_numbered (ground_over B X) M job journal ≡ Some t → is_over (ground_over B X) (stage_of (ground_over B X) t.tree) ≡ true →
       ¬ (order_run (ground_over B Y) K k named ≡ unfinished) →
       (v : Map (ground_over B Y)) × Alike B X Y M K R maker making W 0 t.map v
-      × (outcome_with (ground_over B Y) K (told (ground_over B X) (M 0) t.tree).fault (told (ground_over B X) (M 0) t.tree).text v ≡ order_run (ground_over B Y) K k named)
+      × (outcome_with (ground_over B Y) K (told (ground_over B X) (M 0) t.tree).fault (told (ground_over B X) (M 0) t.tree).text (answered (ground_over B X) (M 0) t.tree) v
+      ≡ order_run (ground_over B Y) K k named)
   numbered_as_ordered laws job named journal t k ef en a h g o e =
-      let r = journal_alike journal (opened (ground_over B X) (M 0) job) named.map t a h g in
-      let reached = subst (λ (s : State (ground_over B Y)). after_entries (ground_over B Y) K (Some s) journal ≡ Some (state_to t r.0)) (λ i. record { tree = Rattle.board_rules.specs.Boards.op (sym en i) (sym en i) 0 (sym ef i) [] (Rattle.board_rules.specs.Boards.idle Rattle.board_rules.specs.Boards.first) no_item; map = named.map }) r.2 in (
+      let r = numbered_is_named job named journal t ef en a h g in (
         r.0,
         r.1,
-        (λ i. outcome_with (ground_over B Y) K (sym (told_alike t.tree) i).fault (sym (told_alike t.tree) i).text r.0)
-            ∙ finished_as_ordered (ground_over B Y) K laws named journal (state_to t r.0) k reached (over_alike t.tree ∙ o) e,
+        (λ i. outcome_with (ground_over B Y) K (sym (told_alike t.tree) i).fault (sym (told_alike t.tree) i).text (sym (answered_alike t.tree) i) r.0)
+            ∙ finished_as_ordered (ground_over B Y) K laws named journal (state_to t r.0) k r.2 (over_alike t.tree ∙ o) e,
       )

@@ -1,6 +1,6 @@
 -- When a task instance of the run in order and an operation of the run by numbers are one: the same frame, parts and
 -- needs but for the numbers of roots, and what the roots hold.
-use Rattle.std.proofs.Common.{◌≡◌, ◌⊎◌, ◌||◌, ⊎_elim, ℕ, zero, suc, ◌+◌, ◌<◌, ◌≤◌, ℤ, List, [], ◌∷◌, ◌++◌, Bool, true, false, Option, refl, ap, ◌∙◌, subst, map, arith, append_assoc, inl, inr, le_refl}
+use Rattle.std.proofs.Common.{◌≡◌, ◌||◌, ℕ, ◌+◌, ◌<◌, ◌≤◌, ℤ, List, ◌++◌, Bool, true, false, Option, refl, ap, ◌∙◌, subst, map, arith, append_assoc, le_refl}
 use Rattle.std.specs.Prelude.{length}
 use Rattle.plain_values.specs.Points.{has}
 use Rattle.point_sets.proofs.Rising.{has-append}
@@ -27,9 +27,10 @@ use Rattle.regent_boards.specs.RegentMachine.{regent_ground, root_of}
 use Rattle.regent_boards.proofs.NeedRenaming.{moved}
 use Rattle.segment_renaming.specs.Renaming.{frame_to, part_to}
 use Rattle.code_boards.specs.Views.{frame_in, parts_in, spaces_of}
-use Rattle.order_boards.specs.Outcomes.{IsMadeBy, fault_of}
+use Rattle.order_boards.specs.Outcomes.{fault_of}
 use Rattle.order_boards.proofs.Given.{AreAsHeld}
 use Rattle.order_boards.proofs.Needs.{Covered, pointed}
+use Rattle.order_boards.proofs.OwnRoots.{Owns, owns_on, told_roots}
 use Rattle.order_boards.proofs.Renumbering.{names}
 use Rattle.order_boards.proofs.Stands.{IsLive, Naming, Stands, live_below}
 
@@ -51,31 +52,9 @@ grown_then c d e who now later a b = record {
   shapes = λ r l. b.shapes r (a.live r l) ∙ a.shapes r l;
 }
 
--- ---- roots by their makers
-
--- a root that was among the first own ones, or is one of these makings, by the operation at a place
-abbrev pub IsFirstOrNew : List ℕ → List RootId → ℕ → List Making → (ℕ → ℕ) → ℕ → Type 0
-IsFirstOrNew p first n xs now r = (has (ids_of first) r ≡ true) ⊎ ((k : ℕ) × (now r ≡ n + k) × IsMadeBy p xs k)
-
-made_before : (p : List ℕ) (xs ys : List Making) (k : ℕ) → IsMadeBy p xs k → IsMadeBy p (xs ++ ys) k
-made_before p [] ys k h = absurd h
-made_before p (x ∷ xs) ys zero h = h
-made_before p (x ∷ xs) ys (suc k) h = made_before p xs ys k h
-
-made_behind : (p : List ℕ) (xs ys : List Making) (k : ℕ) → IsMadeBy p ys k → IsMadeBy p (xs ++ ys) (length xs + k)
-made_behind p [] ys k h = subst (IsMadeBy p ys) (omega arith) h
-made_behind p (x ∷ xs) ys k h =
-    let e : suc (length xs + k) ≡ length (x ∷ xs) + k = omega arith in
-    subst (IsMadeBy p (x ∷ xs ++ ys)) e (made_behind p xs ys k h)
-
--- with more makings behind those
-new_on : (p : List ℕ) (first own : List RootId) (n : ℕ) (xs ys : List Making) (now later : ℕ → ℕ) (r : ℕ) →
-    (has (ids_of own) r ≡ true → (later r ≡ now r) × IsFirstOrNew p first n xs now r) →
-    IsFirstOrNew p own (n + length xs) ys later r → IsFirstOrNew p first n (xs ++ ys) later r
-new_on p first own n xs ys now later r step (inl h) =
-    let s = step h in
-    ⊎_elim (λ e. inl e) (λ k. inr (k.0, s.0 ∙ k.1, made_before p xs ys k.0 k.2)) s.1
-new_on p first own n xs ys now later r step (inr k) = inr (length xs + k.0, k.1 ∙ omega arith, made_behind p xs ys k.0 k.2)
+-- the number that an instance has of an answer
+abbrev pub number_in : board.Answer → ℤ
+number_in a = result_of a.value
 
 module _ (code : Code) where
   abbrev G : Ground
@@ -92,7 +71,7 @@ module _ (code : Code) where
   -- The roots that were there when the instance began are before. It stands for an operation with these needs, this
   -- frame, these parts and answers, where there were so many makings.
   pub record Alike (before : List ℕ) (who : ℕ → ℕ) (n : ℕ) (i : Instance) (N : List Requirement) (f : board.Frame) (ps : List (Element G))
-      (vs : List (Option ℤ)) (m : Map G) : Type 0 where
+      (vs : List board.Answer) (m : Map G) : Type 0 where
     pub stands : Stands code who n i.contents m
     pub own : AreOwn before i.frame.own i.contents
     pub frame : (s : ℕ → ℕ) → Naming code i.contents who s → frame_in f ≡ frame_to (names s) i.frame
@@ -100,62 +79,70 @@ module _ (code : Code) where
     pub parts : (s : ℕ → ℕ) → Naming code i.contents who s → parts_in code ps ≡ map (part_to (names s)) i.parts
     pub needs : (s : ℕ → ℕ) → Naming code i.contents who s → pointed N ≡ map (moved s) i.needs
     pub covered : Covered i.contents i.needs
-    pub results : map result_of vs ≡ i.results
+    pub results : map number_in vs ≡ i.results
     pub fit : PartsFit i.parts
     pub held : AreAsHeld code ps
 
   -- ---- ends
 
   -- An instance that came back, of contents and makings from which it began. It stands at a place, and made its own
-  -- roots but for the first ones there.
-  pub record Came (p : List ℕ) (first : List RootId) (before : List ℕ) (who : ℕ → ℕ) (n : ℕ) (c : Contents) (text : List ℕ) (v : Option ℤ)
-      (roots : List RootId) (d : Contents) (u : List ℕ) (xs : List Making) (w : Option ℤ) (t : List ℕ) (m : Map G) : Type 0 where
-    pub value : v ≡ w
+  -- roots but for the first ones there; the answer tells of each.
+  pub record Came (p : List ℕ) (first : List RootId) (first_makings : List ℕ) (before : List ℕ) (who : ℕ → ℕ) (n : ℕ) (c : Contents) (text : List ℕ)
+      (v : Option ℤ) (roots : List RootId) (d : Contents) (u : List ℕ) (xs : List Making) (w : board.Answer) (t : List ℕ) (m : Map G) : Type 0 where
+    pub value : v ≡ w.value
     pub says : u ≡ text ++ t
     pub now : ℕ → ℕ
     pub stands : Stands code now (n + length xs) d m
-    pub mine : (r : ℕ) → has (ids_of roots) r ≡ true → IsFirstOrNew p first n xs now r
+    pub makings : List ℕ
+    pub owns : Owns p first first_makings n xs now roots makings
+    pub tells : w.roots ≡ told_roots d roots makings
     pub own : AreOwn before roots d
     pub grown : Grown c who d now
 
   -- the end of an instance, and what the run by numbers comes to
-  abbrev pub EndsAlike : List ℕ → List RootId → List ℕ → (ℕ → ℕ) → ℕ → Contents → List ℕ → Ended → List Making → Result G (Option ℤ) → Type 0
-  EndsAlike p first before who n c text (CameBack v own d u) xs (done w t m) = Came p first before who n c text v own d u xs w t m
-  EndsAlike p first before who n c text (Broke fault u) xs (fails x t) = (u ≡ text ++ t) × (fault ≡ fault_of x)
-  EndsAlike p first before who n c text (CameBack v own d u) xs (fails x t) = ⊥
-  EndsAlike p first before who n c text (Broke fault u) xs (done w t m) = ⊥
-  EndsAlike p first before who n c text (CameBack v own d u) xs spent = Unit {0}
-  EndsAlike p first before who n c text (Broke fault u) xs spent = Unit {0}
+  abbrev pub EndsAlike : List ℕ → List RootId → List ℕ → List ℕ → (ℕ → ℕ) → ℕ → Contents → List ℕ → Ended → List Making → Result G board.Answer → Type 0
+  EndsAlike p first makings before who n c text (CameBack v own d u) xs (done w t m) = Came p first makings before who n c text v own d u xs w t m
+  EndsAlike p first makings before who n c text (Broke fault u) xs (fails x t) = (u ≡ text ++ t) × (fault ≡ fault_of x)
+  EndsAlike p first makings before who n c text (CameBack v own d u) xs (fails x t) = ⊥
+  EndsAlike p first makings before who n c text (Broke fault u) xs (done w t m) = ⊥
+  EndsAlike p first makings before who n c text (CameBack v own d u) xs spent = Unit {0}
+  EndsAlike p first makings before who n c text (Broke fault u) xs spent = Unit {0}
 
-  abbrev pub RunsAlike : List ℕ → List RootId → List ℕ → (ℕ → ℕ) → ℕ → Contents → List ℕ → Ended → Run G (Option ℤ) → Type 0
-  RunsAlike p first before who n c text e r = EndsAlike p first before who n c text e r.made r.result
+  abbrev pub RunsAlike : List ℕ → List RootId → List ℕ → List ℕ → (ℕ → ℕ) → ℕ → Contents → List ℕ → Ended → Run G board.Answer → Type 0
+  RunsAlike p first makings before who n c text e r = EndsAlike p first makings before who n c text e r.made r.result
 
   -- behind a text and more makings
-  pub ends_on : (p : List ℕ) (first own : List RootId) (before : List ℕ) (who now : ℕ → ℕ) (n : ℕ) (c d : Contents) (text t : List ℕ) (xs : List Making) → Grown c who d now →
-      ((r : ℕ) → has (ids_of own) r ≡ true → (r < d.made) × IsFirstOrNew p first n xs now r) →
-      (e : Ended) (ys : List Making) (r : Result G (Option ℤ)) → EndsAlike p own before now (n + length xs) d (text ++ t) e ys r →
-      EndsAlike p first before who n c text e (xs ++ ys) (prefix G t r)
-  ends_on p first own before who now n c d text t xs g mine (CameBack v roots a u) ys (done w y m) h = record {
+  pub ends_on : (p : List ℕ) (first own : List RootId) (makings own_makings : List ℕ) (before : List ℕ) (who now : ℕ → ℕ) (n : ℕ) (c d : Contents) (text t : List ℕ)
+      (xs : List Making) → Grown c who d now → ((r : ℕ) → has (ids_of own) r ≡ true → r < d.made) → Owns p first makings n xs now own own_makings →
+      (e : Ended) (ys : List Making) (r : Result G board.Answer) → EndsAlike p own own_makings before now (n + length xs) d (text ++ t) e ys r →
+      EndsAlike p first makings before who n c text e (xs ++ ys) (prefix G t r)
+  ends_on p first own makings own_makings before who now n c d text t xs g below mine (CameBack v roots a u) ys (done w y m) h = record {
     value = h.value;
     says = h.says ∙ append_assoc text t y;
     now = h.now;
     stands = subst (λ k. Stands code h.now k a m) (omega (arith, length-append xs ys)) h.stands;
-    mine = λ r l. new_on p first own n xs ys now h.now r (λ k. let step = mine r k in (h.grown.same r step.0, step.1)) (h.mine r l);
+    makings = h.makings;
+    owns = owns_on p first own roots makings own_makings h.makings n xs ys now h.now (λ r k. h.grown.same r (below r k)) mine h.owns;
+    tells = h.tells;
     own = h.own;
     grown = grown_then c d a who now h.now g h.grown;
   }
-  ends_on p first own before who now n c d text t xs g mine (CameBack v roots a u) ys (fails x y) h = absurd h
-  ends_on p first own before who now n c d text t xs g mine (CameBack v roots a u) ys spent h = tt
-  ends_on p first own before who now n c d text t xs g mine (Broke fault u) ys (done w y m) h = absurd h
-  ends_on p first own before who now n c d text t xs g mine (Broke fault u) ys (fails x y) h = (h.0 ∙ append_assoc text t y, h.1)
-  ends_on p first own before who now n c d text t xs g mine (Broke fault u) ys spent h = tt
+  ends_on p first own makings own_makings before who now n c d text t xs g below mine (CameBack v roots a u) ys (fails x y) h = absurd h
+  ends_on p first own makings own_makings before who now n c d text t xs g below mine (CameBack v roots a u) ys spent h = tt
+  ends_on p first own makings own_makings before who now n c d text t xs g below mine (Broke fault u) ys (done w y m) h = absurd h
+  ends_on p first own makings own_makings before who now n c d text t xs g below mine (Broke fault u) ys (fails x y) h = (h.0 ∙ append_assoc text t y, h.1)
+  ends_on p first own makings own_makings before who now n c d text t xs g below mine (Broke fault u) ys spent h = tt
 
   -- own roots are there
-  pub own_below : (before : List ℕ) (who : ℕ → ℕ) (n : ℕ) (i : Instance) (N : List Requirement) (f : board.Frame) (ps : List (Element G))
-      (vs : List (Option ℤ)) (m : Map G) → Alike before who n i N f ps vs m → (r : ℕ) → has (ids_of i.frame.own) r ≡ true → r < i.contents.made
-  own_below before who n i N f ps vs m a r h = live_below i.contents r a.stands.numbered
-      (ap (λ ns. has ns r) a.own ∙ has-append before (ids_of i.frame.own) r ∙ ap (λ b. has before r || b) h ∙ always (has before r))
+  pub own_live : (before : List ℕ) (who : ℕ → ℕ) (n : ℕ) (i : Instance) (N : List Requirement) (f : board.Frame) (ps : List (Element G))
+      (vs : List board.Answer) (m : Map G) → Alike before who n i N f ps vs m → (r : ℕ) → has (ids_of i.frame.own) r ≡ true → IsLive i.contents r
+  own_live before who n i N f ps vs m a r h =
+      ap (λ ns. has ns r) a.own ∙ has-append before (ids_of i.frame.own) r ∙ ap (λ b. has before r || b) h ∙ always (has before r)
     where
       always : (b : Bool) → (b || true) ≡ true
       always true = refl
       always false = refl
+
+  pub own_below : (before : List ℕ) (who : ℕ → ℕ) (n : ℕ) (i : Instance) (N : List Requirement) (f : board.Frame) (ps : List (Element G))
+      (vs : List board.Answer) (m : Map G) → Alike before who n i N f ps vs m → (r : ℕ) → has (ids_of i.frame.own) r ≡ true → r < i.contents.made
+  own_below before who n i N f ps vs m a r h = live_below i.contents r a.stands.numbered (own_live before who n i N f ps vs m a r h)

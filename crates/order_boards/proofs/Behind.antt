@@ -1,5 +1,5 @@
 -- What a segment leaves of an instance and of its operation: they are one again.
-use Rattle.std.proofs.Common.{◌≡◌, ℕ, ℤ, List, [], ◌∷◌, ◌++◌, true, Option, Some, refl, sym, ap, ◌∙◌, subst, map, option_map, arith}
+use Rattle.std.proofs.Common.{◌≡◌, ℕ, ℤ, List, [], ◌∷◌, ◌++◌, true, Some, refl, sym, ap, ◌∙◌, subst, map, option_map, arith}
 use Rattle.std.proofs.lemmas.Option.{same_Some}
 use Rattle.plain_values.specs.Points.{has}
 use Rattle.region_tree.specs.declared.piece.Part.{Part}
@@ -59,7 +59,7 @@ module _ (code : Code) (turns : ℕ) where
 
   -- an instance with its operation, before a segment
   module _ (before : List ℕ) (who : ℕ → ℕ) (n : ℕ) (i : Instance) (N : List Requirement) (f : board.Frame) (ps : List (Element G))
-      (vs : List (Option ℤ)) (m : Map G) (a : Alike code before who n i N f ps vs m) where
+      (vs : List board.Answer) (m : Map G) (a : Alike code before who n i N f ps vs m) where
     -- some other numbers of its roots
     abbrev pub other : ℕ → ℕ
     other = named code who n i.contents m a.stands 0

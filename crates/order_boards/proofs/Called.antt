@@ -1,6 +1,6 @@
 -- Calls behind a segment: the child of the run in order and the operation that the board issues are one, and so are
 -- their callers when it came back.
-use Rattle.std.proofs.Common.{◌≡◌, ℕ, suc, ◌+◌, ◌<◌, ℤ, List, [], ◌∷◌, ◌++◌, Bool, true, false, cond, Option, Some, None, refl, sym, ap, ◌∙◌, inl, subst, map, option_map, append-nil}
+use Rattle.std.proofs.Common.{◌≡◌, ℕ, suc, ◌+◌, ◌<◌, ℤ, List, [], ◌∷◌, ◌++◌, Bool, true, false, cond, Option, Some, None, refl, sym, ap, ◌∙◌, subst, map, option_map, append-nil}
 use Rattle.std.specs.Prelude.{length, nat_le, slice_get}
 use Rattle.std.proofs.lemmas.List.{map-append}
 use Rattle.std.proofs.lemmas.Option.{same_Some}
@@ -34,10 +34,11 @@ use Rattle.segment_renaming.specs.Renaming.{call_to, value_to}
 use Rattle.segment_renaming.proofs.Alike.{same_root}
 use Rattle.segment_renaming.proofs.Openings.{openings_renamed}
 use Rattle.code_boards.specs.Views.{and_all, board_segment, called, called_with, calls_out, opening_with, required_all, spaces_of, value_out}
-use Rattle.order_boards.proofs.Alike.{Alike, Came, EndsAlike, Grown, RunsAlike, ends_on, naming_back, own_below}
+use Rattle.order_boards.proofs.Alike.{number_in, Alike, Came, EndsAlike, Grown, RunsAlike, ends_on, naming_back, own_below}
 use Rattle.order_boards.proofs.Calls.{as_many_values, opening_seen, requirements_same}
 use Rattle.order_boards.proofs.Closing.{image_left, left, stands_closed}
 use Rattle.order_boards.proofs.Needs.{covered_still, covered_within, pointed, within_pointed}
+use Rattle.order_boards.proofs.OwnRoots.{owns_same}
 use Rattle.order_boards.proofs.Renumbering.{names}
 use Rattle.order_boards.proofs.Stands.{IsLive, Naming, Stands, shown_live}
 
@@ -46,27 +47,27 @@ module _ (code : Code) where
   G = regent_ground (spaces_of code)
 
   -- whatever an instance comes to, where the run by numbers has no segments left
-  pub any_spent : (p : List ℕ) (first : List RootId) (before : List ℕ) (who : ℕ → ℕ) (n : ℕ) (c : Contents) (text : List ℕ) (e : Ended) (xs : List Making) → EndsAlike code p first before who n c text e xs spent
-  any_spent p first before who n c text (CameBack v own d u) xs = tt
-  any_spent p first before who n c text (Broke fault u) xs = tt
+  pub any_spent : (p : List ℕ) (first : List RootId) (makings : List ℕ) (before : List ℕ) (who : ℕ → ℕ) (n : ℕ) (c : Contents) (text : List ℕ) (e : Ended) (xs : List Making) → EndsAlike code p first makings before who n c text e xs spent
+  any_spent p first makings before who n c text (CameBack v own d u) xs = tt
+  any_spent p first makings before who n c text (Broke fault u) xs = tt
 
 module _ (code : Code) (turns : ℕ) where
   abbrev M : ℕ → BoardMachine (regent_ground (spaces_of code))
   M = by_number (spaces_of code) (board_segment code turns)
 
   -- a caller that gave its parts back, with its operation; and the segments that are left
-  module _ (k : ℕ) (before : List ℕ) (who : ℕ → ℕ) (n : ℕ) (i : Instance) (N : List Requirement) (f : board.Frame) (vs : List (Option ℤ)) (m : Map (G code))
+  module _ (k : ℕ) (before : List ℕ) (who : ℕ → ℕ) (n : ℕ) (i : Instance) (N : List Requirement) (f : board.Frame) (vs : List board.Answer) (m : Map (G code))
       (a : Alike code before who n i N f [] vs m) (p : List ℕ) (j : ℕ) (child : Runner) (next : Instance → Ended)
       (begins : (who : ℕ → ℕ) (n : ℕ) (c : Contents) (g : Frame) (needs : List Requirement) (N : List Requirement) (f : board.Frame) (m : Map (G code)) →
       Alike code (numbers c) who n (begun g needs c) N f [] [] m →
-      RunsAlike code (length vs ∷ p) g.own (numbers c) who n c [] (child (begun g needs c)) (numbered_run (G code) M k (length vs ∷ p) N 0 f [] [] n m))
-      (goes_on : (who : ℕ → ℕ) (n : ℕ) (i : Instance) (vs : List (Option ℤ)) (m : Map (G code)) → Alike code before who n i N f [] vs m →
-      RunsAlike code p i.frame.own before who n i.contents i.text (next i) (numbered_run (G code) M k p N j f [] vs n m))
+      RunsAlike code (length vs ∷ p) g.own f.makings (numbers c) who n c [] (child (begun g needs c)) (numbered_run (G code) M k (length vs ∷ p) N 0 f [] [] n m))
+      (goes_on : (who : ℕ → ℕ) (n : ℕ) (i : Instance) (vs : List board.Answer) (m : Map (G code)) → Alike code before who n i N f [] vs m →
+      RunsAlike code p i.frame.own f.makings before who n i.contents i.text (next i) (numbered_run (G code) M k p N j f [] vs n m))
       (parts : i.parts ≡ []) where
     -- ---- the child came back
 
-    module _ (v : Option ℤ) (own : List RootId) (d : Contents) (u : List ℕ) (xs : List Making) (w : Option ℤ) (t : List ℕ) (o : Map (G code))
-        (h : Came code (length vs ∷ p) [] (numbers i.contents) who n i.contents [] v own d u xs w t o) where
+    module _ (v : Option ℤ) (own : List RootId) (d : Contents) (u : List ℕ) (xs : List Making) (w : board.Answer) (t : List ℕ) (o : Map (G code))
+        (h : Came code (length vs ∷ p) [] [] (numbers i.contents) who n i.contents [] v own d u xs w t o) where
       abbrev back : Instance
       back = record i { contents = closed own d; results = i.results ++ result_of v ∷ []; text = i.text ++ u }
 
@@ -100,35 +101,36 @@ module _ (code : Code) (turns : ℕ) where
             covered = covered_still i.contents (closed own d)
                 (λ r g q l. subst (λ b. q < b) (sym (length_of (image_of (closed own d) r) (image_of i.contents r) g (shapes r (shown_live i.contents r g q l)))) l)
                 i.needs a.covered;
-            results = map-append result_of vs (w ∷ []) ∙ (λ b. a.results b ++ result_of (sym h.value b) ∷ []);
+            results = map-append number_in vs (w ∷ []) ∙ (λ b. a.results b ++ result_of (sym h.value b) ∷ []);
             fit = a.fit;
             held = tt;
           }
 
-      came_on : RunsAlike code p i.frame.own before who n i.contents i.text (next back)
+      came_on : RunsAlike code p i.frame.own f.makings before who n i.contents i.text (next back)
           (go_then (G code) M n (xs ++ []) (done (w ∷ []) (t ++ []) o) (λ ws. numbered_run (G code) M k p N j f [] (vs ++ ws)))
       came_on =
           let r = numbered_run (G code) M k p N j f [] (vs ++ w ∷ []) (n + length (xs ++ [])) o in
           let count : n + length (xs ++ []) ≡ n + length xs = ap (λ ys. n + length ys) (append-nil xs) in
-          ends_on code p i.frame.own i.frame.own before who h.now n i.contents (closed own d) i.text (t ++ []) (xs ++ []) back_grown
-          (λ b l. (own_below code before h.now (n + length xs) back N f [] (vs ++ w ∷ []) o back_alike b l, inl l)) (next back) r.made r.result
-          (subst (λ y. EndsAlike code p i.frame.own before h.now (n + length (xs ++ [])) (closed own d) y (next back) r.made r.result)
+          ends_on code p i.frame.own i.frame.own f.makings f.makings before who h.now n i.contents (closed own d) i.text (t ++ []) (xs ++ []) back_grown
+          (λ b l. own_below code before h.now (n + length xs) back N f [] (vs ++ w ∷ []) o back_alike b l)
+          (owns_same p i.frame.own i.frame.own f.makings n (xs ++ []) h.now refl) (next back) r.made r.result
+          (subst (λ y. EndsAlike code p i.frame.own f.makings before h.now (n + length (xs ++ [])) (closed own d) y (next back) r.made r.result)
           (ap (λ y. i.text ++ y) (h.says ∙ sym (append-nil t)))
           (goes_on h.now (n + length (xs ++ [])) back (vs ++ w ∷ []) o
           (subst (λ b. Alike code before h.now b back N f [] (vs ++ w ∷ []) o) (sym count) back_alike)))
 
     -- ---- what the child comes to
 
-    abbrev behind_child : List Making → Result (G code) (Option ℤ) → Run (G code) (Option ℤ)
+    abbrev behind_child : List Making → Result (G code) board.Answer → Run (G code) board.Answer
     behind_child xs r = bind_run (G code) M
         (λ n m. go_then (G code) M n xs r (λ v. bind_run (G code) M (just (G code) M []) (λ ws. just (G code) M (v ∷ ws))))
         (λ ws. numbered_run (G code) M k p N j f [] (vs ++ ws)) n m
 
-    behind : (e : Ended) (xs : List Making) (r : Result (G code) (Option ℤ)) → EndsAlike code (length vs ∷ p) [] (numbers i.contents) who n i.contents [] e xs r →
-        RunsAlike code p i.frame.own before who n i.contents i.text (until_over (on_resumed (after_call e i) (call_all code turns child [])) next) (behind_child xs r)
+    behind : (e : Ended) (xs : List Making) (r : Result (G code) board.Answer) → EndsAlike code (length vs ∷ p) [] [] (numbers i.contents) who n i.contents [] e xs r →
+        RunsAlike code p i.frame.own f.makings before who n i.contents i.text (until_over (on_resumed (after_call e i) (call_all code turns child [])) next) (behind_child xs r)
     behind (CameBack v own d u) xs (done w t o) h = came_on v own d u xs w t o h
     behind (CameBack v own d u) xs (fails x t) h = absurd h
-    behind (CameBack v own d u) xs spent h = any_spent code p i.frame.own before who n i.contents i.text _ xs
+    behind (CameBack v own d u) xs spent h = any_spent code p i.frame.own f.makings before who n i.contents i.text _ xs
     behind (Broke fault u) xs (done w t o) h = absurd h
     behind (Broke fault u) xs (fails x t) h = (ap (λ y. i.text ++ y) h.0, h.1)
     behind (Broke fault u) xs spent h = tt
@@ -141,7 +143,7 @@ module _ (code : Code) (turns : ℕ) where
       args = map value_out (map (value_to (names s)) c.args)
 
       -- a caller that is broken
-      broken_off : RunsAlike code p i.frame.own before who n i.contents i.text (until_over (on_resumed (breaks i) (call_all code turns child [])) next)
+      broken_off : RunsAlike code p i.frame.own f.makings before who n i.contents i.text (until_over (on_resumed (breaks i) (call_all code turns child [])) next)
           (go_run (G code) M (numbered_run (G code) M k) p N j vs f [] (calls_out code None) n m)
       broken_off = (sym (append-nil i.text), refl)
 
@@ -178,7 +180,7 @@ module _ (code : Code) (turns : ℕ) where
 
         by_test : (needs ours : List Requirement) → required_all code t.needs args ≡ Some ours → requirements_on code i.contents t.needs c.args ≡ Some needs →
             (b : Bool) → is_within needs i.needs ≡ b →
-            RunsAlike code p i.frame.own before who n i.contents i.text
+            RunsAlike code p i.frame.own f.makings before who n i.contents i.text
             (until_over (on_resumed (cond b (after_call (child (begun frame needs i.contents)) i) (breaks i)) (call_all code turns child [])) next)
             (bind_run (G code) M (λ n m. cond b
             (bind_run (G code) M (numbered_run (G code) M k (length vs ∷ p) ours 0 (x ours).frame [] [])
@@ -192,14 +194,14 @@ module _ (code : Code) (turns : ℕ) where
 
         by_needs : (o : Option (List Requirement)) (q : Option (List Requirement)) → required_all code t.needs args ≡ o → requirements_on code i.contents t.needs c.args ≡ q →
             option_map pointed o ≡ option_map (map (moved s)) q →
-            RunsAlike code p i.frame.own before who n i.contents i.text (until_over (on_resumed (call_within child frame q i) (call_all code turns child [])) next)
+            RunsAlike code p i.frame.own f.makings before who n i.contents i.text (until_over (on_resumed (call_within child frame q i) (call_all code turns child [])) next)
             (go_run (G code) M (numbered_run (G code) M k) p N j vs f []
             (calls_out code (and_all code (option_map (opening_with code turns f.depth c.task t.slots args) o) (Some []))) n m)
         by_needs None None e d l = broken_off
         by_needs (Some ours) None e d l = absurd cc
         by_needs None (Some needs) e d l = absurd cc
         by_needs (Some ours) (Some needs) e d l =
-            subst (λ b. RunsAlike code p i.frame.own before who n i.contents i.text
+            subst (λ b. RunsAlike code p i.frame.own f.makings before who n i.contents i.text
             (until_over (on_resumed (cond (is_within needs i.needs) (after_call (child (begun frame needs i.contents)) i) (breaks i)) (call_all code turns child [])) next)
             (bind_run (G code) M (λ n m. cond b
             (bind_run (G code) M (numbered_run (G code) M k (length vs ∷ p) ours 0 (x ours).frame [] [])
@@ -209,7 +211,7 @@ module _ (code : Code) (turns : ℕ) where
             (by_test needs ours e d (is_within needs i.needs) refl)
 
         by_slots : (b : Bool) →
-            RunsAlike code p i.frame.own before who n i.contents i.text
+            RunsAlike code p i.frame.own f.makings before who n i.contents i.text
             (until_over (on_resumed (cond b (call_within child frame (requirements_on code i.contents t.needs c.args) i) (breaks i)) (call_all code turns child [])) next)
             (go_run (G code) M (numbered_run (G code) M k) p N j vs f []
             (calls_out code (and_all code (cond b (option_map (opening_with code turns f.depth c.task t.slots args) (required_all code t.needs args)) None) (Some []))) n m)
@@ -218,16 +220,16 @@ module _ (code : Code) (turns : ℕ) where
         by_slots false = broken_off
 
       by_task : (o : Option TaskCode) →
-          RunsAlike code p i.frame.own before who n i.contents i.text (until_over (on_resumed (call_task code turns child c o i) (call_all code turns child [])) next)
+          RunsAlike code p i.frame.own f.makings before who n i.contents i.text (until_over (on_resumed (call_task code turns child c o i) (call_all code turns child [])) next)
           (go_run (G code) M (numbered_run (G code) M k) p N j vs f [] (calls_out code (and_all code (called_with code turns f.depth c.task args o) (Some []))) n m)
       by_task None = broken_off
       by_task (Some t) =
-          subst (λ q. RunsAlike code p i.frame.own before who n i.contents i.text
+          subst (λ q. RunsAlike code p i.frame.own f.makings before who n i.contents i.text
           (until_over (on_resumed (call_task code turns child c (Some t) i) (call_all code turns child [])) next)
           (go_run (G code) M (numbered_run (G code) M k) p N j vs f []
           (calls_out code (and_all code (cond (nat_le q t.slots) (option_map (opening_with code turns f.depth c.task t.slots args) (required_all code t.needs args)) None) (Some []))) n m))
           (sym (as_many_values code i.contents who n m a.stands s is c.args same)) (by_slots t (nat_le (length c.args) t.slots))
 
-      pub call_alike : RunsAlike code p i.frame.own before who n i.contents i.text (until_over (call_all code turns child (c ∷ []) i) next)
+      pub call_alike : RunsAlike code p i.frame.own f.makings before who n i.contents i.text (until_over (call_all code turns child (c ∷ []) i) next)
           (go_run (G code) M (numbered_run (G code) M k) p N j vs f [] (calls_out code (and_all code (called code turns f.depth (call_to (names s) c)) (Some []))) n m)
       call_alike = by_task (slice_get code.tasks c.task)

@@ -6,7 +6,7 @@ use Rattle.order_boards.specs.Example.{BothAreBroken, FirstRootHolds}
 
 pub first_root_holds : FirstRootHolds
 unfolding int_wrap digits
-first_root_holds = refl
+first_root_holds = (refl, refl)
 
 pub both_are_broken : BothAreBroken
 unfolding int_wrap digits

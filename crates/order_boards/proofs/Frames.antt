@@ -94,8 +94,8 @@ module _ (code : Code) where
   all_met c o [] = refl
   all_met c o (v ∷ vs) = λ i. met_in c o v i ∷ all_met c o vs i
 
-  pub met_seen : (c : ℕ) (o : Option ℤ) (f : board.Frame) → frame_in (met_frame (spaces_of code) f c o) ≡ awaited c (result_of o) (frame_in f)
-  met_seen c o f = λ i. record (frame_in f) { slots = all_met c o f.slots i }
+  pub met_seen : (c : ℕ) (a : board.Answer) (f : board.Frame) → frame_in (met_frame (spaces_of code) f c a) ≡ awaited c (result_of a.value) (frame_in f)
+  met_seen c a f = λ i. record (frame_in f) { slots = all_met c a.value f.slots i }
 
   -- ---- what was made
 
@@ -103,9 +103,9 @@ module _ (code : Code) where
   sets_seen root [] = refl
   sets_seen root (x ∷ sets) = ap (λ rs. region_with root x ∷ rs) (sets_seen root sets)
 
-  pub partition_seen : (n : ℕ) (r : board.Region) (sets : List (List ℕ)) (d : Bool) (f : board.Frame) →
-      frame_in (pushed_on (spaces_of code) n (board.new_partition r sets d) f) ≡ with_partition (region_in r) sets d (frame_in f)
-  partition_seen n r sets d f = λ i. record (frame_in f) {
+  pub partition_seen : (n j : ℕ) (r : board.Region) (sets : List (List ℕ)) (d : Bool) (f : board.Frame) →
+      frame_in (pushed_on (spaces_of code) n j (board.new_partition r sets d) f) ≡ with_partition (region_in r) sets d (frame_in f)
+  partition_seen n j r sets d f = λ i. record (frame_in f) {
     stack = value.Partition (record { root = record { 0 = r.root }; disjoint = d; children = sets_seen r.root sets i }) ∷ map value_in f.stack;
   }
 
@@ -186,10 +186,10 @@ module _ (code : Code) where
       chosen true = refl
       chosen false = refl
 
-  pub root_seen : (n space size : ℕ) (f : board.Frame) →
-      frame_in (pushed_on (spaces_of code) n (board.new_root space size) f)
+  pub root_seen : (n j space size : ℕ) (f : board.Frame) →
+      frame_in (pushed_on (spaces_of code) n j (board.new_root space size) f)
       ≡ with_root (root_of space size n) (points size) (fields_needed code size space) (frame_in f)
-  root_seen n space size f =
+  root_seen n j space size f =
       let root = root_of space size n in
       λ i. record (frame_in f) {
         stack = value.Region (region_with root (points size)) ∷ map value_in f.stack;

@@ -1,5 +1,5 @@
 -- The run in order of a job, as the machine's definition gives it, is the run by numbers.
-use Rattle.std.proofs.Common.{◌≡◌, ℕ, zero, suc, ◌+◌, ◌<◌, ℤ, pos, List, [], ◌∷◌, ◌++◌, true, cond, Option, None, refl, sym, ap, ◌∙◌, ⊎_elim, subst, map, arith, ◌==◌, eqb-true}
+use Rattle.std.proofs.Common.{◌≡◌, ℕ, zero, suc, ◌+◌, ◌<◌, ℤ, pos, List, [], ◌∷◌, ◌++◌, true, cond, None, refl, sym, ap, ◌∙◌, ⊎_elim, subst, map, arith, ◌==◌, eqb-true}
 use Rattle.std.specs.Prelude.{length, nat_le, replicate, ◌-◌}
 use Rattle.std.specs.List.Sorted.{IsStrictlyIncreasing}
 use Rattle.std.proofs.lemmas.Bool.{and_parts, false≢true}
@@ -26,15 +26,16 @@ use Rattle.board_rules.specs.NumberedRuns.{Making, numbered_run}
 use Rattle.board_rules.specs.Processes.{Result, done, fails, spent}
 use Rattle.regent_boards.specs.Frames as board
 use Rattle.regent_boards.specs.RegentMachine.{regent_ground, who_of}
-use Rattle.segment_renaming.specs.Renaming.{frame_to, value_to, need_to}
+use Rattle.segment_renaming.specs.Renaming.{frame_to, need_to, root_to, value_to}
 use Rattle.order_laws.specs.Bounds.{AreLarge, Bounds, runs_within, run_first_within}
 use Rattle.order_laws.proofs.Whole.{jobs_run_whole}
 use Rattle.code_boards.specs.Laws.{machine_of, main_frame, ordered, room}
-use Rattle.code_boards.specs.Views.{frame_in, spaces_of, value_in}
+use Rattle.code_boards.specs.Views.{frame_in, root_in, spaces_of, value_in}
 use Rattle.code_boards.proofs.Ends.{order_runs_end}
 use Rattle.order_boards.specs.Laws.{AreOfFirstTask, OrderRunsAgree}
 use Rattle.order_boards.specs.Outcomes.{AreMadeBy, IsMadeBy, IsOutcome}
-use Rattle.order_boards.proofs.Alike.{Alike, EndsAlike, IsFirstOrNew}
+use Rattle.order_boards.proofs.Alike.{Alike, EndsAlike}
+use Rattle.order_boards.proofs.OwnRoots.{AreNew, own_told}
 use Rattle.order_boards.proofs.Images.{images_same, roots_of}
 use Rattle.order_boards.proofs.Renumbering.{names}
 use Rattle.order_boards.proofs.Runs.{claim}
@@ -106,14 +107,20 @@ module _ (job : Job) (t : TaskCode) (may : may_start job t ≡ true) where
   own_live : (own : List RootId) (d : Contents) → numbers d ≡ map (λ (k : RootId). k.0) own → (r : ℕ) → has (map (λ (k : RootId). k.0) own) r ≡ true → has (numbers d) r ≡ true
   own_live own d e r h = subst (λ ns. has ns r ≡ true) (sym e) h
 
-  by_first : (xs : List Making) (now : ℕ → ℕ) (c : Contents) (own : List RootId) →
-      ((r : ℕ) → has (ids_of own) r ≡ true → IsFirstOrNew [] [] 0 xs now r) → AreMadeBy [] xs (map (λ (r : RootId). board_root c now r.0) own)
-  by_first xs now c [] h = tt
-  by_first xs now c (r ∷ own) h = (
-    ⊎_elim (λ e. absurd (false≢true e))
-        (λ k. subst (IsMadeBy [] xs) (omega (arith, k.1, root_who (image_of c r.0).space (image_of c r.0).count (now r.0))) k.2) (h r.0 (has_head r.0 (ids_of own))),
-    by_first xs now c own (λ q e. h q (has_tail q r.0 (ids_of own) e)),
-  )
+  by_first : (xs : List Making) (now : ℕ → ℕ) (c : Contents) (own : List RootId) (makings : List ℕ) →
+      AreNew [] 0 xs now own makings → AreMadeBy [] xs (map (λ (r : RootId). board_root c now r.0) own) makings
+  by_first xs now c [] [] h = tt
+  by_first xs now c [] (i ∷ makings) h = absurd h
+  by_first xs now c (r ∷ own) [] h = absurd h
+  by_first xs now c (r ∷ own) (i ∷ makings) h =
+      let k = h.0 in (
+        subst (IsMadeBy [] i xs) (omega (arith, k.1, root_who (image_of c r.0).space (image_of c r.0).count (now r.0))) k.2,
+        by_first xs now c own makings h.1,
+      )
+
+  roots_seen : (s : ℕ → ℕ) (own : List RootId) → map root_in (map (λ (r : RootId). s r.0) own) ≡ map (root_to (names s)) own
+  roots_seen s [] = refl
+  roots_seen s (r ∷ own) = ap (λ ks. root_in (s r.0) ∷ ks) (roots_seen s own)
 
   names_are : (now : ℕ → ℕ) (c : Contents) (own : List RootId) → map who_of (map (λ (r : RootId). board_root c now r.0) own) ≡ map now (ids_of own)
   names_are now c [] = refl
@@ -131,26 +138,34 @@ module _ (job : Job) (t : TaskCode) (may : may_start job t ≡ true) where
       of_map (x ∷ xs) y e = ⊎_elim (λ q. (x, sym q, has_head x xs)) (λ q. let z = of_map xs y q in (z.0, z.1, has_tail z.0 x xs z.2))
           (has-cons_cases y (now x) (map now xs) e)
 
-  by_end : (e : Ended) (xs : List Making) (r : Result (regent_ground (spaces_of job.code)) (Option ℤ)) → EndsAlike job.code [] [] [] (λ r. 0) 0 no_contents [] e xs r →
+  by_end : (e : Ended) (xs : List Making) (r : Result (regent_ground (spaces_of job.code)) board.Answer) → EndsAlike job.code [] [] [] [] (λ r. 0) 0 no_contents [] e xs r →
       (shown (regent_ground (spaces_of job.code)) (machine_of job 0) r ≡ unfinished → ⊥) →
-      (roots : List ℕ) × (IsStrictlyIncreasing (map who_of roots) × AreMadeBy [] xs roots) × IsOutcome (spaces_of job.code) roots (shown (regent_ground (spaces_of job.code)) (machine_of job 0) r) (outcome e)
-  by_end (CameBack v own d u) xs (done w y m) h n = (
-    roots_of job.code h.now (0 + length xs) d m h.stands own,
-    (
-      subst IsStrictlyIncreasing (sym (names_are h.now d own)) (in_turn d.made h.now h.stands.rising (ids_of own)
-          (subst IsStrictlyIncreasing h.own h.stands.numbered.rising)
-          (subst (Each (λ x. x < d.made)) h.own (each_below d.made (numbers d) h.stands.numbered.below))),
-      by_first xs h.now d own h.mine,
-    ),
-    λ i. record {
-      text = h.says i;
-      ending = Finished (sym (images_same job.code h.now (0 + length xs) d m h.stands own (own_live own d h.own)) i);
-    },
-  )
+      (roots : List ℕ) × (makings : List ℕ) × (IsStrictlyIncreasing (map who_of roots) × AreMadeBy [] xs roots makings)
+      × IsOutcome (spaces_of job.code) roots makings (shown (regent_ground (spaces_of job.code)) (machine_of job 0) r) (outcome e)
+  by_end (CameBack v own d u) xs (done w y m) h n =
+      let new : AreNew [] 0 xs h.now own h.makings =
+      subst (λ is. AreNew [] 0 xs h.now own is) (sym h.owns.makings_is) (subst (λ rs. AreNew [] 0 xs h.now rs h.owns.more_makings) (sym h.owns.own_is) h.owns.are_new) in (
+        roots_of job.code h.now (0 + length xs) d m h.stands own,
+        h.makings,
+        (
+          subst IsStrictlyIncreasing (sym (names_are h.now d own)) (in_turn d.made h.now h.stands.rising (ids_of own)
+              (subst IsStrictlyIncreasing h.own h.stands.numbered.rising)
+              (subst (Each (λ x. x < d.made)) h.own (each_below d.made (numbers d) h.stands.numbered.below))),
+          by_first xs h.now d own h.makings new,
+        ),
+        (
+          λ i. record {
+            text = h.says i;
+            ending = Finished (sym (images_same job.code h.now (0 + length xs) d m h.stands own (own_live own d h.own)) i);
+          },
+          h.tells ∙ sym (own_told d h.now (board_root d h.now) (map (λ (r : RootId). board_root d h.now r.0) own) own h.makings
+              (roots_seen (board_root d h.now) own) (λ r e. refl)),
+        ),
+      )
   by_end (CameBack v own d u) xs (fails x y) h n = absurd h
   by_end (CameBack v own d u) xs spent h n = absurd (n refl)
   by_end (Broke fault u) xs (done w y m) h n = absurd h
-  by_end (Broke fault u) xs (fails x y) h n = ([], (λ j l. absurd (omega (arith, l)), tt), λ i. record { text = h.0 i; ending = ending_of (h.1 i) })
+  by_end (Broke fault u) xs (fails x y) h n = ([], [], (λ j l. absurd (omega (arith, l)), tt), λ i. record { text = h.0 i; ending = ending_of (h.1 i) })
   by_end (Broke fault u) xs spent h n = absurd (n refl)
 
   -- bounds that are no less than those of both runs
@@ -172,7 +187,7 @@ order_runs_agree job t found may =
     let same : order_run job ≡ outcome e = sym (jobs_run_whole job (bounds job t may) (are_large job t may))
     ∙ ap (run_first_within (bounds job t may) job) found
     ∙ ap (λ b. cond b (outcome e) void_outcome) may in
-    subst (λ o. (roots : List ℕ) × AreOfFirstTask job t roots × IsOutcome (spaces_of job.code) roots (ordered (room job) job t) o) (sym same)
+    subst (λ o. (roots : List ℕ) × (makings : List ℕ) × AreOfFirstTask job t roots makings × IsOutcome (spaces_of job.code) roots makings (ordered (room job) job t) o) (sym same)
     (by_end job t may e r.made r.result
     (claim job.code job.turns (bounds job t may) (room job) (λ f. omega arith) (room job) [] (λ r. 0) 0 i [] (main_frame job t) [] [] (λ l. pos 0)
     [] 0 (room job + enough_segments job.code (first_frame job t)) (room job + 64) (first_alike job t may) (omega arith) (omega arith) (omega arith))

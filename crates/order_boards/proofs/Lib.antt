@@ -8,6 +8,7 @@ pub mod Closing
 pub mod Fetched
 pub mod Frames
 pub mod Calls
+pub mod OwnRoots
 pub mod Alike
 pub mod Behind
 pub mod Resumed
@@ -15,5 +16,6 @@ pub mod Called
 pub mod Runs
 pub mod Images
 pub mod Jobs
+pub mod FirstTask
 pub mod Finished
 pub mod Example

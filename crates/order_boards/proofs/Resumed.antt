@@ -1,5 +1,5 @@
 -- What an instance waited for, given to it and to its operation.
-use Rattle.std.proofs.Common.{◌≡◌, ℕ, zero, suc, ◌+◌, ◌<◌, ℤ, pos, List, [], ◌∷◌, ◌++◌, Bool, true, false, cond, Option, None, refl, sym, ap, ◌∙◌, subst, map, option_map, arith, get_or, ◌==◌, ◌&&◌, eq-eqb, leb, ltb, not, ◌||◌}
+use Rattle.std.proofs.Common.{◌≡◌, ℕ, zero, suc, ◌+◌, ◌<◌, ℤ, pos, List, [], ◌∷◌, ◌++◌, Bool, true, false, cond, None, refl, sym, ap, ◌∙◌, subst, map, option_map, arith, get_or, ◌==◌, ◌&&◌, eq-eqb, leb, ltb, not, ◌||◌}
 use Rattle.std.specs.List.{list_all}
 use Rattle.std.specs.Prelude.{length}
 use Rattle.std.proofs.lemmas.Bool.{and_from, ltb-true, and_parts}
@@ -21,7 +21,7 @@ use Rattle.machine_terms.specs.declared.value.RegionValue.{RegionValue}
 use Rattle.machine_terms.specs.Contents.{image_of, kind_of as kept_kind, kinds_of}
 use Rattle.machine_terms.specs.Copies.{part_from}
 use Rattle.machine_terms.specs.Makes.{are_apart, fields_needed, is_sound, make_partition, make_root, root_requirements}
-use Rattle.machine_terms.specs.Orders.{await, fetch_part, result_of}
+use Rattle.machine_terms.specs.Orders.{await, fetch_part}
 use Rattle.machine_terms.specs.Parts.{is_needed, part_of}
 use Rattle.machine_terms.proofs.FitParts.{PartsFit, PiecesFit}
 use Rattle.memory_laws.specs.Places.{column_of, numbers}
@@ -41,7 +41,7 @@ use Rattle.segment_renaming.proofs.Alike.{needed_alike, part_of_to, same_root}
 use Rattle.segment_renaming.proofs.Openings.{awaited_renamed, partitions_renamed, roots_renamed}
 use Rattle.code_boards.specs.Views.{board_segment, needs_in, part_with, parts_in, region_out, spaces_of}
 use Rattle.code_boards.proofs.Filled.{want_held}
-use Rattle.order_boards.proofs.Alike.{Alike, Grown, naming_back}
+use Rattle.order_boards.proofs.Alike.{number_in, Alike, Grown, naming_back}
 use Rattle.order_boards.proofs.Fetched.{fetched, fetched_fits, filled_held, piece, some_point}
 use Rattle.order_boards.proofs.Frames.{met_seen, partition_seen, requirements_made, root_seen}
 use Rattle.order_boards.proofs.Given.{AreAsHeld}
@@ -86,7 +86,7 @@ module _ (code : Code) (turns : ℕ) where
   M = by_number (spaces_of code) (board_segment code turns)
 
   module _ (before : List ℕ) (who : ℕ → ℕ) (n : ℕ) (i : Instance) (N : List Requirement) (f : board.Frame) (ps : List (Element G))
-      (vs : List (Option ℤ)) (m : Map G) (a : Alike code before who n i N f ps vs m) where
+      (vs : List board.Answer) (m : Map G) (a : Alike code before who n i N f ps vs m) where
     -- ---- a part that was wanted
 
     module _ (s : ℕ → ℕ) (is : Naming code i.contents who s) (root field : ℕ) (needed : is_needed i.frame.needs.items root field ≡ true)
@@ -175,7 +175,7 @@ module _ (code : Code) (turns : ℕ) where
       stands = a.stands;
       own = a.own;
       frame = λ s is. met_seen code c (answer_at G (M n) vs c) f
-          ∙ (λ j. awaited c (answer_same G (M n) result_of refl vs c j) (a.frame s is j))
+          ∙ (λ j. awaited c (answer_same G (M n) number_in refl vs c j) (a.frame s is j))
           ∙ ap (λ zs. awaited c (get_or zs c (pos 0)) (frame_to (names s) i.frame)) a.results
           ∙ awaited_renamed (names s) c (get_or i.results c (pos 0)) i.frame;
       board_needs = a.board_needs;
@@ -189,13 +189,13 @@ module _ (code : Code) (turns : ℕ) where
 
     -- ---- a partition
 
-    pub partition_alike : (s : ℕ → ℕ) → Naming code i.contents who s → (r : RegionValue) (sets : List (List ℕ)) (d : Bool) →
+    pub partition_alike : (h : ℕ) (s : ℕ → ℕ) → Naming code i.contents who s → (r : RegionValue) (sets : List (List ℕ)) (d : Bool) →
         ((t : ℕ → ℕ) → Naming code i.contents who t → region_to (names t) r ≡ region_to (names s) r) →
-        Alike code before who (suc n) (make_partition r sets d i) N (pushed_on (spaces_of code) n (board.new_partition (region_out (region_to (names s) r)) sets d) f) ps vs m
-    partition_alike s is r sets d same = record {
+        Alike code before who (suc n) (make_partition r sets d i) N (pushed_on (spaces_of code) n h (board.new_partition (region_out (region_to (names s) r)) sets d) f) ps vs m
+    partition_alike h s is r sets d same = record {
       stands = stands_on code who n (suc n) i.contents m (omega arith) a.stands;
       own = a.own;
-      frame = λ t names_of. partition_seen code n (region_out (region_to (names s) r)) sets d f
+      frame = λ t names_of. partition_seen code n h (region_out (region_to (names s) r)) sets d f
           ∙ (λ j. with_partition (sym (same t names_of) j) sets d (a.frame t names_of j))
           ∙ partitions_renamed (names t) refl r sets d i.frame;
       board_needs = a.board_needs;
@@ -264,14 +264,14 @@ module _ (code : Code) (turns : ℕ) where
           fewer true g l = absurd (omega (arith, l))
           fewer false g l = l
 
-      pub root_alike : Alike code before now (suc n) then (regent.grown_by (spaces_of code) n (board.new_root space size) N)
-          (pushed_on (spaces_of code) n (board.new_root space size) f) ps vs (run_all G (regent.zeros_for (spaces_of code) n (board.new_root space size)) m)
-      root_alike =
+      pub root_alike : (h : ℕ) → Alike code before now (suc n) then (regent.grown_by (spaces_of code) n (board.new_root space size) N)
+          (pushed_on (spaces_of code) n h (board.new_root space size) f) ps vs (run_all G (regent.zeros_for (spaces_of code) n (board.new_root space size)) m)
+      root_alike h =
           let root = root_of space size n in
           let back = λ (s : ℕ → ℕ) (is : Naming code then.contents now s). naming_back code i.contents then.contents who now n m a.stands made_grown s is in record {
             stands = new_stands;
             own = made_is_own code i size space before a.own;
-            frame = λ s is. root_seen code n space size f
+            frame = λ s is. root_seen code n h space size f
                 ∙ (λ j. with_root (sym (new_name s is) j) (points size) (fields_needed code size space) (a.frame s (back s is) j))
                 ∙ roots_renamed (names s) refl i.contents.made (points size) (fields_needed code size space) i.frame;
             board_needs = ap (λ rs. rs ++ needs_of_root (spaces_of code) root size (fields_of (spaces_of code) space)) a.board_needs;

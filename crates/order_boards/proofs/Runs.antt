@@ -1,10 +1,6 @@
 -- The run of an instance in order, and of its operation by numbers, come to the same.
-use Rattle.std.proofs.Common.{◌≡◌, ℕ, zero, suc, ◌+◌, ◌<◌, ◌≤◌, ℤ, List, [], ◌∷◌, ◌++◌, Bool, true, false, cond, Option, Some, None, refl, sym, ap, ◌∙◌, ⊎_elim, inl, inr, subst, option_map, arith, append-nil}
+use Rattle.std.proofs.Common.{◌≡◌, ℕ, zero, suc, ◌+◌, ◌<◌, ◌≤◌, List, [], ◌∷◌, ◌++◌, Bool, true, false, cond, Option, Some, None, refl, sym, ap, ◌∙◌, subst, option_map, arith, append-nil}
 use Rattle.std.specs.Prelude.{length}
-use Rattle.std.proofs.lemmas.Bool.{false≢true, or_cases}
-use Rattle.std.proofs.lemmas.List.{map-append}
-use Rattle.plain_values.specs.Points.{has}
-use Rattle.point_sets.proofs.Rising.{has-append, has-cons_cases}
 use Rattle.region_tree.specs.declared.tree.RootId.{RootId}
 use Rattle.region_tree.specs.Requirements.{Requirement}
 use Rattle.task_code.specs.declared.code.Code.{Code}
@@ -29,7 +25,6 @@ use Rattle.machine_terms.specs.Segments.{frame_after, opened, segment, stop_of}
 use Rattle.machine_terms.proofs.Kept.{stop_fixed}
 use Rattle.machine_terms.proofs.StepKinds.{Fixed}
 use Rattle.memory_laws.specs.Places.{numbers}
-use Rattle.memory_laws.proofs.Closing.{ids_of}
 use Rattle.memory_laws.proofs.Shapes.{alike_parts, length_of}
 use Rattle.board_rules.specs.Ground.{Ground}
 use Rattle.board_rules.specs.NumberedRuns.{Making, RestRun, Run, go_run, makes_then, faulty, numbered_run, says_run}
@@ -45,9 +40,10 @@ use Rattle.order_laws.specs.Bounds.{Bounds, runs_within, segments_within}
 use Rattle.order_laws.proofs.Resuming.{left_by}
 use Rattle.code_boards.specs.Views.{after_out, and_all, before_in, board_segment, called, calls_out, last_frame, region_out, spaces_of, yield_out}
 use Rattle.code_boards.proofs.Wanted.{IsAsked, segments_ask}
-use Rattle.order_boards.proofs.Alike.{Alike, EndsAlike, Grown, IsFirstOrNew, RunsAlike, ends_on, grown_self, naming_back, own_below}
+use Rattle.order_boards.proofs.Alike.{Alike, EndsAlike, Grown, RunsAlike, ends_on, grown_self, naming_back, own_below, own_live}
 use Rattle.order_boards.proofs.Behind.{LeftAlike, given_grown, given_names, given_stands, gone_alike, gone_on, left, other, other_names, seen}
 use Rattle.order_boards.proofs.Called.{any_spent, call_alike}
+use Rattle.order_boards.proofs.OwnRoots.{Owns, owns_same, own_told, told_same}
 use Rattle.order_boards.proofs.Making.{who_more, who_new}
 use Rattle.order_boards.proofs.Needs.{covered_still}
 use Rattle.order_boards.proofs.Renumbering.{names}
@@ -62,7 +58,7 @@ module _ (code : Code) (turns : ℕ) where
   M = by_number (spaces_of code) (board_segment code turns)
 
   -- parts go back before children run, if any child does
-  calls_given : (rest : RestRun G M) (p : List ℕ) (N : List Requirement) (j : ℕ) (vs : List (Option ℤ)) (f : board.Frame) (ps : List (Element G))
+  calls_given : (rest : RestRun G M) (p : List ℕ) (N : List Requirement) (j : ℕ) (vs : List board.Answer) (f : board.Frame) (ps : List (Element G))
       (o : Option (List (Call G))) (n : ℕ) (m : Map G) →
       go_run G M rest p N j vs f [] (calls_out code o) n (run_all G (puts G (M n) ps) m) ≡ go_run G M rest p N j vs f ps (calls_out code o) n m
   calls_given rest p N j vs f ps None n m = refl
@@ -79,12 +75,12 @@ module _ (code : Code) (turns : ℕ) where
   module _ (b : Bounds) (most : ℕ) (large : (f : Frame) → most ≤ b.segments f) where
     -- for at most so many segments, one within or behind another
     abbrev pub Claim : ℕ → Type 0
-    Claim k = (before : List ℕ) (who : ℕ → ℕ) (n : ℕ) (i : Instance) (N : List Requirement) (f : board.Frame) (ps : List (Element G)) (vs : List (Option ℤ))
+    Claim k = (before : List ℕ) (who : ℕ → ℕ) (n : ℕ) (i : Instance) (N : List Requirement) (f : board.Frame) (ps : List (Element G)) (vs : List board.Answer)
         (m : Map G) (p : List ℕ) (j q more : ℕ) → Alike code before who n i N f ps vs m → k ≤ q → k ≤ more → k ≤ most →
-        RunsAlike code p i.frame.own before who n i.contents i.text (segments_within code turns b (runs_within code turns b more) q i) (numbered_run G M k p N j f ps vs n m)
+        RunsAlike code p i.frame.own f.makings before who n i.contents i.text (segments_within code turns b (runs_within code turns b more) q i) (numbered_run G M k p N j f ps vs n m)
 
     module _ (k : ℕ) (less : Claim k) (before : List ℕ) (who : ℕ → ℕ) (n : ℕ) (i : Instance) (N : List Requirement) (f : board.Frame) (ps : List (Element G))
-        (vs : List (Option ℤ)) (m : Map G) (p : List ℕ) (j q more : ℕ) (a : Alike code before who n i N f ps vs m) (room : k ≤ q) (deep : k ≤ more)
+        (vs : List board.Answer) (m : Map G) (p : List ℕ) (j q more : ℕ) (a : Alike code before who n i N f ps vs m) (room : k ≤ q) (deep : k ≤ more)
         (bounded : k ≤ most) where
       abbrev child : Runner
       child = runs_within code turns b (suc more)
@@ -103,15 +99,15 @@ module _ (code : Code) (turns : ℕ) where
 
       -- a segment on, behind a text and with more makings
       goes_on : (t : List ℕ) (xs : List Making) (now : ℕ → ℕ) (l : ℕ) (x : Instance) (O : List Requirement) (g : board.Frame) (qs : List (Element G))
-          (ws : List (Option ℤ)) (u : Map G) (h : ℕ) → Grown i.contents who x.contents now → x.text ≡ i.text ++ t → l ≡ n + length xs →
-          ((r : ℕ) → has (ids_of x.frame.own) r ≡ true → IsFirstOrNew p i.frame.own n xs now r) → Alike code before now l x O g qs ws u →
-          EndsAlike code p i.frame.own before who n i.contents i.text (next x) (xs ++ (rest p O h g qs ws l u).made) (prefix G t (rest p O h g qs ws l u).result)
+          (ws : List board.Answer) (u : Map G) (h : ℕ) → Grown i.contents who x.contents now → x.text ≡ i.text ++ t → l ≡ n + length xs →
+          Owns p i.frame.own f.makings n xs now x.frame.own g.makings → Alike code before now l x O g qs ws u →
+          EndsAlike code p i.frame.own f.makings before who n i.contents i.text (next x) (xs ++ (rest p O h g qs ws l u).made) (prefix G t (rest p O h g qs ws l u).result)
       goes_on t xs now l x O g qs ws u h grown text count mine al =
           let r = rest p O h g qs ws l u in
-          ends_on code p i.frame.own x.frame.own before who now n i.contents x.contents i.text t xs grown
-          (λ r k. (own_below code before now l x O g qs ws u al r k, mine r k)) (next x) r.made r.result
-          (subst (λ c. EndsAlike code p x.frame.own before now c x.contents (i.text ++ t) (next x) r.made r.result) count
-          (subst (λ y. EndsAlike code p x.frame.own before now l x.contents y (next x) r.made r.result) text
+          ends_on code p i.frame.own x.frame.own f.makings g.makings before who now n i.contents x.contents i.text t xs grown
+          (own_below code before now l x O g qs ws u al) mine (next x) r.made r.result
+          (subst (λ c. EndsAlike code p x.frame.own g.makings before now c x.contents (i.text ++ t) (next x) r.made r.result) count
+          (subst (λ y. EndsAlike code p x.frame.own g.makings before now l x.contents y (next x) r.made r.result) text
           (less before now l x O g qs ws u p h q (suc more) al room (omega (arith, deep)) bounded)))
 
       module _ (x : Machine) (t : List ℕ) (fixed : Fixed (opened (before_of code i)) x) where
@@ -125,9 +121,9 @@ module _ (code : Code) (turns : ℕ) where
         qs = left code turns before who n i N f ps vs m a x t fixed
 
         abbrev Behind : Yield → Type 0
-        Behind y = RunsAlike code p i.frame.own before who n i.contents i.text (until_over (resume_in code turns child (frame_after y x.frame) y (left_by x t i)) next)
+        Behind y = RunsAlike code p i.frame.own f.makings before who n i.contents i.text (until_over (resume_in code turns child (frame_after y x.frame) y (left_by x t i)) next)
             (says_run G M t (go_run G M rest p N j vs (last_frame f (option_map (frame_to (names s)) (frame_after y x.frame))) qs
-            (yield_out code turns f.depth (yield_to (names s) y)) n m))
+            (yield_out code turns f (yield_to (names s) y)) n m))
 
         abbrev Left : Yield → Type 0
         Left y = LeftAlike code turns before who n i N f ps vs m a y x.frame
@@ -142,20 +138,19 @@ module _ (code : Code) (turns : ℕ) where
         count = omega arith
 
         -- no root was made
-        kept : (xs : List Making) (r : ℕ) → has (ids_of x.frame.own) r ≡ true → IsFirstOrNew p i.frame.own n xs who r
-        kept xs r h = inl (subst (λ (own : List RootId). has (ids_of own) r ≡ true) fixed.own h)
+        kept : (xs : List Making) → Owns p i.frame.own f.makings n xs who x.frame.own f.makings
+        kept xs = owns_same p i.frame.own x.frame.own f.makings n xs who fixed.own
 
         -- or this one was
-        one_more : (size space : ℕ) (frames : Frames) (r : ℕ) → has (ids_of (make_root code size space on).frame.own) r ≡ true →
-            IsFirstOrNew p i.frame.own n (record { maker = p; making = j } ∷ []) (who_more code i.contents who n) r
-        one_more size space frames r h = ⊎_elim (λ e. inl (subst (λ (own : List RootId). has (ids_of own) r ≡ true) fixed.own e))
-            (λ e. inr (0, ap (who_more code i.contents who n) (last r e) ∙ who_new code who n i.contents m a.stands space size ∙ count, refl))
-            (or_cases (has (ids_of x.frame.own) r) (has (i.contents.made ∷ []) r)
-            (sym (has-append (ids_of x.frame.own) (i.contents.made ∷ []) r)
-            ∙ ap (λ ns. has ns r) (sym (map-append (λ (k : RootId). k.0) x.frame.own (record { 0 = i.contents.made } ∷ []))) ∙ h))
-          where
-            last : (r : ℕ) → has (i.contents.made ∷ []) r ≡ true → r ≡ i.contents.made
-            last r e = ⊎_elim (λ q. q) (λ q. absurd (false≢true q)) (has-cons_cases r i.contents.made [] e)
+        one_more : (size space : ℕ) → Owns p i.frame.own f.makings n (record { maker = p; making = j } ∷ []) (who_more code i.contents who n)
+            (make_root code size space on).frame.own (f.makings ++ j ∷ [])
+        one_more size space = record {
+          more = record { 0 = i.contents.made } ∷ [];
+          more_makings = j ∷ [];
+          own_is = ap (λ (own : List RootId). own ++ record { 0 = i.contents.made } ∷ []) fixed.own;
+          makings_is = refl;
+          are_new = ((0, who_new code who n i.contents m a.stands space size ∙ count, (refl, refl)), tt);
+        }
 
         -- ---- by what the segment ends with
 
@@ -163,21 +158,21 @@ module _ (code : Code) (turns : ℕ) where
         made_behind (made.Root size space) same = goes_on t (record { maker = p; making = j } ∷ [])
             _ (suc n) _ _ _ qs vs _ (suc j)
             (made_grown code turns before who n on N g qs vs m (gone (λ r h. (same r h).0)) size space) refl (omega arith)
-            (one_more size space (λ r h. (same r h).0))
-            (root_alike code turns before who n on N g qs vs m (gone (λ r h. (same r h).0)) size space)
+            (one_more size space)
+            (root_alike code turns before who n on N g qs vs m (gone (λ r h. (same r h).0)) size space j)
         made_behind (made.Partition r sets d) same =
-            subst (λ c. RunsAlike code p i.frame.own before who n i.contents i.text (until_over (cond (is_sound r.points sets d) (GoesOn (make_partition r sets d on)) (breaks on)) next)
+            subst (λ c. RunsAlike code p i.frame.own f.makings before who n i.contents i.text (until_over (cond (is_sound r.points sets d) (GoesOn (make_partition r sets d on)) (breaks on)) next)
             (says_run G M t (cond c (makes_then G M (record { maker = p; making = j })
-            (rest p N (suc j) (regent.pushed_on (spaces_of code) n (board.new_partition (region_out (region_to (names s) r)) sets d) g) qs vs (suc n) m)) (faulty G M board.broken n m))))
+            (rest p N (suc j) (regent.pushed_on (spaces_of code) n j (board.new_partition (region_out (region_to (names s) r)) sets d) g) qs vs (suc n) m)) (faulty G M board.broken n m))))
             (sym (sound_same (spaces_of code) (region_to (names s) r) sets d)) (chosen (is_sound r.points sets d))
           where
-            chosen : (c : Bool) → RunsAlike code p i.frame.own before who n i.contents i.text (until_over (cond c (GoesOn (make_partition r sets d on)) (breaks on)) next)
+            chosen : (c : Bool) → RunsAlike code p i.frame.own f.makings before who n i.contents i.text (until_over (cond c (GoesOn (make_partition r sets d on)) (breaks on)) next)
                 (says_run G M t (cond c (makes_then G M (record { maker = p; making = j })
-                (rest p N (suc j) (regent.pushed_on (spaces_of code) n (board.new_partition (region_out (region_to (names s) r)) sets d) g) qs vs (suc n) m)) (faulty G M board.broken n m)))
+                (rest p N (suc j) (regent.pushed_on (spaces_of code) n j (board.new_partition (region_out (region_to (names s) r)) sets d) g) qs vs (suc n) m)) (faulty G M board.broken n m)))
             chosen true = goes_on t (record { maker = p; making = j } ∷ []) who (suc n) (make_partition r sets d on) N
-                (regent.pushed_on (spaces_of code) n (board.new_partition (region_out (region_to (names s) r)) sets d) g) qs vs m (suc j)
+                (regent.pushed_on (spaces_of code) n j (board.new_partition (region_out (region_to (names s) r)) sets d) g) qs vs m (suc j)
                 (grown_self i.contents who) refl (omega arith) (kept (record { maker = p; making = j } ∷ []))
-                (partition_alike code turns before who n on N g qs vs m (gone (λ r h. (same r h).0)) s is r sets d
+                (partition_alike code turns before who n on N g qs vs m (gone (λ r h. (same r h).0)) j s is r sets d
                 (λ r2 h. ap (region_in r) (same r2 h).1))
             chosen false = (ap (λ y. i.text ++ y) (sym (append-nil t)), refl)
 
@@ -210,14 +205,14 @@ module _ (code : Code) (turns : ℕ) where
             (λ now l y ws w al. less before now l y N g [] ws w p j q (suc more) al room (omega (arith, deep)) bounded)
             refl s (given_names code turns before who n i N f ps vs m a x t fixed s is) c
             (λ r h. ap args_in (same r (back r h)).1) in
-            let two = subst (λ d. RunsAlike code p held.frame.own before who n held.contents held.text e (go_run G M rest p N j vs g [] (calls_out code (issued d)) n u))
+            let two = subst (λ d. RunsAlike code p held.frame.own g.makings before who n held.contents held.text e (go_run G M rest p N j vs g [] (calls_out code (issued d)) n u))
             (fixed.depth ∙ ap (λ (h : Frame). h.depth) (sym (a.frame s is))) one in
             let r = go_run G M rest p N j vs g qs (calls_out code (issued f.depth)) n m in
-            let three : RunsAlike code p held.frame.own before who n held.contents held.text e r = subst (λ (r : Run G (Option ℤ)). RunsAlike code p held.frame.own before who n held.contents held.text e r)
+            let three : RunsAlike code p held.frame.own g.makings before who n held.contents held.text e r = subst (λ (r : Run G board.Answer). RunsAlike code p held.frame.own g.makings before who n held.contents held.text e r)
             (calls_given rest p N j vs g qs (issued f.depth) n m) two in
-            ends_on code p i.frame.own held.frame.own before who who n i.contents held.contents i.text t [] grown
-            (λ r k. (own_below code before who n held N g [] vs u given r k, kept [] r k)) e r.made r.result
-            (subst (λ l. EndsAlike code p held.frame.own before who l held.contents held.text e r.made r.result) count three)
+            ends_on code p i.frame.own held.frame.own f.makings g.makings before who who n i.contents held.contents i.text t [] grown
+            (own_below code before who n held N g [] vs u given) (kept []) e r.made r.result
+            (subst (λ l. EndsAlike code p held.frame.own g.makings before who l held.contents held.text e r.made r.result) count three)
 
         by_yield : (y : Yield) → IsAsked y x → Left y → Behind y
         by_yield (yield.Calls cs) asked same = subst (λ cs. Left (yield.Calls cs) → Behind (yield.Calls cs)) (sym asked.1) (call_behind asked.0) same
@@ -232,7 +227,11 @@ module _ (code : Code) (turns : ℕ) where
           now = who;
           stands = subst (λ l. Stands code who l (give_parts x.parts i.contents) (run_all G (puts G (M n) qs) m)) count
               (given_stands code turns before who n i N f ps vs m a x t fixed);
-          mine = λ r h. inl h;
+          makings = f.makings;
+          owns = owns_same p i.frame.own i.frame.own f.makings n [] who refl;
+          tells = own_told i.contents who s f.own i.frame.own f.makings (ap (λ (h : Frame). h.own) (a.frame s is))
+              (λ r h. is.live r (own_live code before who n i N f ps vs m a r h))
+              ∙ sym (told_same i.contents (give_parts x.parts i.contents) (alike_parts x.parts i.contents).2 i.frame.own f.makings);
           own = (alike_parts x.parts i.contents).0 ∙ a.own;
           grown = given_grown code turns before who n i N f ps vs m a x t fixed;
         }
@@ -246,10 +245,10 @@ module _ (code : Code) (turns : ℕ) where
           before_is : before_in code f ps ≡ before_to (names r) (before_of code i)
           before_is = λ l. record { code = code; frame = a.frame r h l; parts = a.parts r h l }
 
-      stepped : RunsAlike code p i.frame.own before who n i.contents i.text (segments_within code turns b child (suc q) i) (numbered_run G M (suc k) p N j f ps vs n m)
+      stepped : RunsAlike code p i.frame.own f.makings before who n i.contents i.text (segments_within code turns b child (suc q) i) (numbered_run G M (suc k) p N j f ps vs n m)
       stepped =
           let stop = stop_of (before_of code i) in
-          subst (λ (w : After). RunsAlike code p i.frame.own before who n i.contents i.text (segments_within code turns b child (suc q) i)
+          subst (λ (w : After). RunsAlike code p i.frame.own f.makings before who n i.contents i.text (segments_within code turns b child (suc q) i)
           (says_run G M (after_out code turns f ps w).text
           (go_run G M rest p N j vs (after_out code turns f ps w).frame (after_out code turns f ps w).parts (after_out code turns f ps w).yields n m)))
           (sym (segment_is s is))
@@ -259,7 +258,7 @@ module _ (code : Code) (turns : ℕ) where
           (ap (λ (w : After). w.frame) same, ap (λ (w : After). w.ends) same)))
 
     pub claim : (k : ℕ) → Claim k
-    claim zero before who n i N f ps vs m p j q more a room deep bounded = any_spent code p i.frame.own before who n i.contents i.text _ []
+    claim zero before who n i N f ps vs m p j q more a room deep bounded = any_spent code p i.frame.own f.makings before who n i.contents i.text _ []
     claim (suc k) before who n i N f ps vs m p j zero more a room deep bounded = absurd (omega (arith, room))
     claim (suc k) before who n i N f ps vs m p j (suc q) zero a room deep bounded = absurd (omega (arith, deep))
     claim (suc k) before who n i N f ps vs m p j (suc q) (suc more) a room deep bounded =

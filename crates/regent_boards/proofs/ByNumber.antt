@@ -35,7 +35,7 @@ module _ (maker : ℕ → List ℕ) (making : ℕ → ℕ) (differ : Differ make
   ]
 
 module _ (spaces : Spaces) (segment : Frame → List (Element (regent_ground spaces)) → After (regent_ground spaces)) (keeps : KeepsParts spaces segment) (runs : RunsRenamed spaces segment) where
-  can_rename : (job : Job (regent_ground spaces)) → IsMain spaces segment job → (twin : Job (regent_ground spaces))
+  pub can_rename : (job : Job (regent_ground spaces)) → IsMain spaces segment job → (twin : Job (regent_ground spaces))
       × Renamable base (regent_roots spaces) (regent_roots spaces) (by_number spaces segment) (by_maker spaces segment) (to_makers spaces segment) job twin
   can_rename job is = (
     record { frame = job.frame; needs = []; map = λ l. pos 0; needs_nothing = λ l. refl },

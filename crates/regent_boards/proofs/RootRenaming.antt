@@ -10,7 +10,7 @@ use Rattle.board_rules.specs.Processes.{Effect, put}
 use Rattle.board_rules.specs.Running.{After, Element, Spot}
 use Rattle.board_rules.specs.Renaming.{Renamed, after_to, effects_to, elements, spots_to}
 use Rattle.board_laws.proofs.Reaching.{by_test}
-use Rattle.regent_boards.specs.RegentMachine.{apart_all, as_held, base, fields_of, is_sound, kind_of, met_frame, met_value, name_of, needs_of_root, pushed_on, regent_ground, regent_machine, regent_roots, root_of, size_of, space_of, spots_of, who_of, zero_of, zeros_of}
+use Rattle.regent_boards.specs.RegentMachine.{apart_all, as_held, base, fields_of, is_sound, kind_of, met_frame, met_value, name_of, needs_of_root, own_roots, pushed_on, regent_ground, regent_machine, regent_roots, root_of, size_of, space_of, spots_of, who_of, zero_of, zeros_of}
 use Rattle.regent_boards.proofs.NeedRenaming.{filter_to, interfere_to, part_to, within_to}
 use Rattle.regent_boards.specs.RootRenaming.{region_to, renamed_frame, renamed_made, renamed_value, renaming, requirement_to, root_to}
 use Rattle.regent_boards.specs.Frames.{Frame, Made, Spaces, Value, a_number, a_partition, a_region, a_space, new_partition, new_root, pending}
@@ -85,6 +85,12 @@ module _ (spaces : Spaces) (name : ℕ → ℕ) (one : (a b : ℕ) → name a �
   append_to [] O = refl
   append_to (r ∷ N) O = ap (λ xs. requirement_to name r ∷ xs) (append_to N O)
 
+  -- what is told of own roots is the same under all numbers
+  pub own_roots_to : (rs is : List ℕ) → own_roots (map (root_to name) rs) is ≡ own_roots rs is
+  own_roots_to [] is = refl
+  own_roots_to (r ∷ rs) [] = refl
+  own_roots_to (r ∷ rs) (j ∷ is) = λ i. record { making = j; space = space_to r i; size = size_to r i } ∷ own_roots_to rs is i
+
   own_to : (xs : List ℕ) (r : ℕ) → map (root_to name) xs ++ root_to name r ∷ [] ≡ map (root_to name) (xs ++ r ∷ [])
   own_to [] r = refl
   own_to (x ∷ xs) r = ap (λ ys. root_to name x ∷ ys) (own_to xs r)
@@ -117,7 +123,7 @@ module _ (spaces : Spaces) (maker : ℕ → List ℕ) (making : ℕ → ℕ) (on
   sound_to (new_partition r sets disjoint) = refl
 
   pushed_to : (n i : ℕ) (p : List ℕ) (d : Made) (f : Frame) → maker n ≡ p → making n ≡ i →
-      pushed_on spaces (name_of p i) (renamed_made name d) (renamed_frame name f) ≡ renamed_frame name (pushed_on spaces n d f)
+      pushed_on spaces (name_of p i) i (renamed_made name d) (renamed_frame name f) ≡ renamed_frame name (pushed_on spaces n i d f)
   pushed_to n i p (new_partition r sets disjoint) f a b = ap (λ rs. record (renamed_frame name f) {
     stack = a_partition (record { root = root_to name r.root; disjoint = disjoint; children = rs }) ∷ map (renamed_value name) f.stack;
   }) (sets_to r.root sets)
@@ -136,6 +142,7 @@ module _ (spaces : Spaces) (maker : ℕ → List ℕ) (making : ℕ → ℕ) (on
         depth = f.depth;
         needs = (ap (λ xs. map (requirement_to name) f.needs ++ xs) (new_needs_to spaces name one (root_of space size n) size (fields_of spaces space)) ∙ append_to spaces name one f.needs (needs_of_root spaces (root_of space size n) size (fields_of spaces space))) j;
         own = own_to spaces name one f.own (root_of space size n) j;
+        makings = f.makings ++ i ∷ [];
         children = f.children;
         later = f.later;
       })
@@ -150,6 +157,7 @@ module _ (spaces : Spaces) (maker : ℕ → List ℕ) (making : ℕ → ℕ) (on
         depth = f.depth;
         needs = map (requirement_to name) f.needs ++ needs_of_root spaces r size (fields_of spaces space);
         own = map (root_to name) f.own ++ r ∷ [];
+        makings = f.makings ++ i ∷ [];
         children = f.children;
         later = f.later;
       }
@@ -177,12 +185,13 @@ module _ (spaces : Spaces) (maker : ℕ → List ℕ) (making : ℕ → ℕ) (on
     met = λ n f c v i. record {
       task = f.task;
       pc = f.pc;
-      slots = slots_to spaces name one c v f.slots i;
+      slots = slots_to spaces name one c v.value f.slots i;
       stack = map (renamed_value name) f.stack;
       turns = f.turns;
       depth = f.depth;
       needs = map (requirement_to name) f.needs;
       own = map (root_to name) f.own;
+      makings = f.makings;
       children = f.children;
       later = f.later;
     };

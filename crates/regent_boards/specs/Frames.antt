@@ -40,8 +40,21 @@ pub record Frame : Type 0 where
   pub depth : ℕ
   pub needs : List Requirement
   pub own : List ℕ
+  -- which of the task's makings each of its own roots is
+  pub makings : List ℕ
   pub children : ℕ
   pub later : Option Fault
+
+-- a root that a task made, whatever its number: which of the task's makings it is, its field space and its size
+pub record OwnRoot : Type 0 where
+  pub making : ℕ
+  pub space : ℕ
+  pub size : ℕ
+
+-- what a task that came to its end answers: its value, and the roots that it made, in order
+pub record Answer : Type 0 where
+  pub value : Option ℤ
+  pub roots : List OwnRoot
 
 pub data Made : Type 0 where
   new_root : ℕ → ℕ → Made

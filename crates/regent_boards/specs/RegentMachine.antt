@@ -15,7 +15,7 @@ use Rattle.board_rules.specs.Ground.{Ground, Mode, reads, reduces, writes}
 use Rattle.board_rules.specs.Processes.{Effect, put}
 use Rattle.board_rules.specs.Running.{After, Element, Machine, Spot}
 use Rattle.board_rules.specs.Renaming.{Base, Roots, ground_over}
-use Rattle.regent_boards.specs.Frames.{Frame, Key, Location, Made, OpAt, Spaces, Stop, Value, a_number, a_partition, a_region, broken, new_partition, new_root, pending}
+use Rattle.regent_boards.specs.Frames.{Answer, Frame, Key, Location, Made, OpAt, OwnRoot, Spaces, Stop, Value, a_number, a_partition, a_region, broken, new_partition, new_root, pending}
 
 abbrev pub base : Base
 base = record {
@@ -23,7 +23,7 @@ base = record {
   Op = OpAt;
   Byte = ℕ;
   Fault = Stop;
-  Answer = Option ℤ;
+  Answer = Answer;
   applied = λ o. folded o.op o.width;
   identity = λ o. identity_of o.op o.width;
   broken = broken;
@@ -57,6 +57,15 @@ making_of root = get_or (decoded_list (who_of root)) 0 0
 
 abbrev pub maker_of : ℕ → List ℕ
 maker_of root = behind_first (decoded_list (who_of root))
+
+-- the roots that a task made, with their numbers and makings
+abbrev pub own_roots : List ℕ → List ℕ → List OwnRoot
+own_roots (r ∷ rs) (i ∷ is) = record { making = i; space = space_of r; size = size_of r } ∷ own_roots rs is
+own_roots _ _ = []
+
+-- what a task answers behind a frame
+abbrev pub answer_with : Frame → Option ℤ → Answer
+answer_with f v = record { value = v; roots = own_roots f.own f.makings }
 
 module _ (spaces : Spaces) where
   abbrev pub kinds_of : ℕ → List FieldKind
@@ -97,8 +106,8 @@ module _ (spaces : Spaces) where
   met_value c None (pending d) = cond (nat_eq c d) (a_number (pos 0)) (pending d)
   met_value c o v = v
 
-  abbrev pub met_frame : Frame → ℕ → Option ℤ → Frame
-  met_frame f c o = record f { slots = map (met_value c o) f.slots }
+  abbrev pub met_frame : Frame → ℕ → Answer → Frame
+  met_frame f c a = record f { slots = map (met_value c a.value) f.slots }
 
   -- ---- what is made
 
@@ -125,13 +134,14 @@ module _ (spaces : Spaces) where
   is_sound (new_root space size) = true
   is_sound (new_partition r sets disjoint) = list_all (λ s. list_all (has r.points) s) sets && cond disjoint (apart_all sets) true
 
-  abbrev pub pushed_on : ℕ → Made → Frame → Frame
-  pushed_on who (new_root space size) f = record f {
+  abbrev pub pushed_on : ℕ → ℕ → Made → Frame → Frame
+  pushed_on who making (new_root space size) f = record f {
     stack = a_region (record { root = root_of space size who; points = points size }) ∷ f.stack;
     needs = f.needs ++ needs_of_root (root_of space size who) size (fields_of space);
     own = f.own ++ root_of space size who ∷ [];
+    makings = f.makings ++ making ∷ [];
   }
-  pushed_on who (new_partition r sets disjoint) f = record f {
+  pushed_on who making (new_partition r sets disjoint) f = record f {
     stack = a_partition (record { root = r.root; disjoint = disjoint; children = map (λ xs. record { root = r.root; points = xs }) sets }) ∷ f.stack;
   }
 
@@ -148,14 +158,14 @@ module _ (spaces : Spaces) where
   regent_machine who segment = record {
     segment = segment;
     met = met_frame;
-    no_answer = None;
+    no_answer = record { value = None; roots = [] };
     meets = interfere;
     inside = is_within;
     wanted = λ N k. spots_of k.root k.field (part_of N k.root k.field);
     narrowed = λ N k. filter (is_of k.root k.field) N;
     chunk = 4096;
     sound = is_sound;
-    pushed = λ p i d f. pushed_on (who p i) d f;
+    pushed = λ p i d f. pushed_on (who p i) i d f;
     grown = λ p i d N. grown_by (who p i) d N;
     zeros = λ p i d. zeros_for (who p i) d;
   }

@@ -35,6 +35,7 @@ module _ (name : ℕ → ℕ) where
     depth = f.depth;
     needs = map requirement_to f.needs;
     own = map root_to f.own;
+    makings = f.makings;
     children = f.children;
     later = f.later;
   }
