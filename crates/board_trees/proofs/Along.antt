@@ -141,6 +141,7 @@ module _ (job : Job) (s : State) (who : ℕ → ℕ) (ways : List (List ℕ)) (k
                 seen = kept.seen;
                 said_is = a.says 0 ∙ kept.said_is;
                 stands = kept.stands;
+                free = kept.free;
                 waits = subst (λ (o : Operation). WaitsWell job.code knots D N earlier (siblings job o.children a.left) (knot_at knots j).on st) (sym (change.others j other))
                     (subst (λ xs. WaitsWell job.code knots D N earlier xs (knot_at knots j).on st) (sym a.same)
                     (subst (λ (o : Operation). WaitsWell job.code knots D N earlier (siblings job o.children is) (knot_at knots j).on st) (change.others j other) kept.waits));

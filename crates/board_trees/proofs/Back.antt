@@ -28,7 +28,7 @@ use Rattle.board_terms.specs.Stages as table
 use Rattle.board_terms.specs.States.{State, no_operation, operation_at}
 use Rattle.board_trees.specs.Frames.{IsSeen}
 use Rattle.board_trees.specs.Shows.{Row, Shows, ShowsChildren, siblings}
-use Rattle.board_trees.specs.Stages.{AwaitsOn, MayIdle, Stands, WaitsWell}
+use Rattle.board_trees.specs.Stages.{AwaitsOn, HasWait, MayIdle, Stands, WaitsWell}
 use Rattle.board_trees.specs.Told.{all_clear}
 use Rattle.board_trees.specs.Waits.{Sibling, WaitsFor, WaitsForChild, has_ended}
 use Rattle.board_trees.proofs.Along.{Leaves, not_above}
@@ -159,8 +159,9 @@ module _ (job : Job) (s : State) (k : ℕ) where
         parts = h.parts;
         held = h.held;
         fitting = h.fitting;
+        once = h.once;
         placed = h.placed;
-        own = h.own;
+        there = h.there;
         fields = h.fields;
       }
 
@@ -168,7 +169,7 @@ module _ (job : Job) (s : State) (k : ℕ) where
       idle_row : (w : List ℕ) (earlier : List Sibling) (above : List RootId) (D N : List Requirement) (i : ℕ) (f : board.Frame) (ps : List (Element G)) (st : BoardStage G) (x : BoardWait G) (is : Items G) →
           v ≡ w → Shows job s who ways w k earlier above (op D N i f ps st is) →
           IsSeen job.code s.tree s.map s.roots who (above ++ (operation_at s k).frame.own) (operation_at s k) N f ps →
-          Rattle.board_trees.specs.Stages.IsWait job.code s.roots who (above ++ (operation_at s k).frame.own) (operation_at s k).frame.needs.items (operation_at s k).wait x →
+          HasWait job.code s.roots who (above ++ (operation_at s k).frame.own) (operation_at s k) x →
           AwaitsOn job.code s.waits.knots D N earlier (siblings job (operation_at s k).children is) x (knot_at s.waits.knots k).on →
           all_done s.waits.knots (knot_at s.waits.knots k).on ≡ true → Shows job u who ways w k earlier above (op D N i f ps (idle x) is)
       idle_row w earlier above D N i f ps st x is e h seen waits awaits done =
@@ -185,6 +186,7 @@ module _ (job : Job) (s : State) (k : ℕ) where
               said_is = row.said_is ∙ ap (λ (o : Operation). o.said) (sym row_is);
               stands = subst (λ (y : Knot). Stands job.code s.roots who roots u y.stage (operation_at u k) N (idle x)) (sym knot_is)
                   (subst (λ (o : Operation). Stands job.code s.roots who roots u knot.Parked o N (idle x)) (sym row_is) (may_idle who roots x, (refl, waits)));
+              free = λ p q. ap (λ (y : Knot). y.on) knot_is;
               waits = subst (λ (y : Knot). WaitsWell job.code knots D N earlier (siblings job (operation_at u k).children is) y.on (idle x)) (sym knot_is)
                   (subst (λ (o : Operation). WaitsWell job.code knots D N earlier (siblings job o.children is) [] (idle x)) (sym row_is)
                   (awaits_kept job s rows knots s.turns k changes D N earlier children x [] (awaits_no_more D N earlier children x (knot_at s.waits.knots k).on awaits done), refl));

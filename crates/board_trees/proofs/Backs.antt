@@ -5,6 +5,7 @@ use Rattle.std.proofs.lemmas.Bool.{cases_lt, ne_eqb}
 use Rattle.std.proofs.lemmas.List.{append-nil, get_or_past}
 use Rattle.std.proofs.lemmas.Option.{none-some}
 use Rattle.plain_values.specs.Points.{counted_from}
+use Rattle.region_finder.specs.Listings.{AreRising}
 use Rattle.region_tree.specs.declared.tree.OpNumber.{OpNumber}
 use Rattle.region_tree.specs.declared.tree.RootId.{RootId}
 use Rattle.dependence_graph.specs.Knots.{knot_at, number}
@@ -171,6 +172,7 @@ module _ (job : Job) where
           made = subst (λ n. AreMade (length s.roots) h.who n) (sym left.made) h.made;
           regions = h.regions;
           held = h.held;
+          rising = λ j. subst AreRising (sym (children_same j)) (h.rising j);
           own_made = λ j. subst (λ rs. All (λ (r : RootId). r.0 < length s.roots) rs) (sym (own_same j)) (h.own_made j);
           own_apart = λ i j n. subst (λ rs. All (λ (r : RootId). All (λ (q : RootId). ¬ (r ≡ q)) rs) (operation_at u i).frame.own) (sym (own_same j))
               (subst (λ rs. All (λ (r : RootId). All (λ (q : RootId). ¬ (r ≡ q)) (operation_at s j).frame.own) rs) (sym (own_same i)) (h.own_apart i j n));

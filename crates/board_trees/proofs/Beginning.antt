@@ -4,6 +4,7 @@ use Rattle.std.specs.Prelude.{All, length, nat_le, replicate, ◌-◌}
 use Rattle.std.proofs.lemmas.Bool.{and_parts, false≢true}
 use Rattle.std.proofs.lemmas.List.{length-map, map-append}
 use Rattle.std.proofs.lemmas.List.Elements.{All-cons, All-nil}
+use Rattle.region_finder.specs.Listings.{AreRising}
 use Rattle.region_tree.specs.Needs.{AreNeeds, IsNeed, requirements_of}
 use Rattle.region_tree.specs.Trees.{RegionTree, empty_tree}
 use Rattle.region_tree.specs.declared.needs.Need.{Need}
@@ -25,7 +26,7 @@ use Rattle.board_terms.specs.States.{opened_with, operation_at, void_state, with
 use Rattle.board_trees.specs.Laws.{NewBoardsShow}
 use Rattle.board_trees.specs.Names.{named, requirement_named}
 use Rattle.board_trees.specs.Shows.{Leads, ShowsBoard, is_claimed}
-use Rattle.board_trees.specs.Frames.{HasFitting, HasPlaces, IsHeld}
+use Rattle.board_trees.specs.Frames.{HasEachOnce, HasFitting, HasPlaces, IsHeld}
 
 no_needs : (ns : List NeedCode) → (length ns == 0) ≡ true → ns ≡ []
 no_needs [] e = refl
@@ -71,6 +72,7 @@ module _ (job : Job) (t : TaskCode) (may : may_start job t ≡ true) where
     extents = refl;
     made = record { below = λ r l. absurd (omega (arith, l)); rising = λ a b l k. absurd (omega (arith, k)) };
     regions = λ n l. absurd (omega (arith, l));
+    rising = λ k. subst AreRising (sym (none_called k)) (λ i l. absurd (omega (arith, l)));
     own_made = λ k. subst (λ rs. All (λ (r : RootId). r.0 < 0) rs) (sym (none_own k)) (All-nil (λ (r : RootId). r.0 < 0));
     own_apart = λ j k n. subst (λ rs. All (λ (r : RootId). All (λ (q : RootId). ¬ (r ≡ q)) (operation_at (with_main (first_frame job t)) k).frame.own) rs) (sym (none_own j))
         (All-nil (λ (r : RootId). All (λ (q : RootId). ¬ (r ≡ q)) (operation_at (with_main (first_frame job t)) k).frame.own));
@@ -93,12 +95,14 @@ module _ (job : Job) (t : TaskCode) (may : may_start job t ≡ true) where
             stack = All-nil (HasPlaces empty_tree);
             needs = subst (λ ns. AreNeeds empty_tree (needs_on ns (map Number job.inputs))) (sym none_needed) (All-nil (IsNeed empty_tree));
           };
-          own = All-nil (λ (r : RootId). is_live [] r.0 ≡ true);
+          once = All-nil HasEachOnce;
+          there = All-nil (λ (r : RootId). is_live [] r.0 ≡ true);
           fields = subst (λ ns. All (λ (n : Need). n.field < length (columns_of [] n.root.0)) (needs_on ns (map Number job.inputs))) (sym none_needed)
               (All-nil (λ (n : Need). n.field < length (columns_of [] n.root.0)));
         };
         said_is = refl;
-        stands = (inr refl, (refl, tt));
+        stands = (inr refl, (refl, refl));
+        free = λ p q. refl;
         waits = (refl, refl);
         children_are = tt;
       },
@@ -121,6 +125,11 @@ module _ (job : Job) (t : TaskCode) (may : may_start job t ≡ true) where
       none_own zero = refl
       none_own (suc zero) = refl
       none_own (suc (suc k)) = refl
+
+      none_called : (k : ℕ) → (operation_at (with_main (first_frame job t)) k).children ≡ []
+      none_called zero = refl
+      none_called (suc zero) = refl
+      none_called (suc (suc k)) = refl
 
       first_claims : (k seat : ℕ) → false ≡ is_claimed job seat (operation_at (with_main (first_frame job t)) k).activity
       first_claims zero seat = refl

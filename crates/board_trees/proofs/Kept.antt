@@ -9,6 +9,7 @@ use Rattle.logical_map.specs.Fills.{Filling}
 use Rattle.dependence_graph.specs.Entries.{Knot}
 use Rattle.dependence_graph.specs.Knots.{all_done, has_failed, is_done, knot_at, some_failed, stage_at}
 use Rattle.dependence_graph.specs.declared.stage.Stage.{Stage as Knotted}
+use Rattle.dependence_graph.specs.declared.stage.Stage.TheVariants as knot
 use Rattle.task_code.specs.declared.job.Job.{Job}
 use Rattle.machine_terms.specs.Orders.{settled}
 use Rattle.board_rules.specs.Boards.{Items, Operation as Node, Stage as BoardStage, Wait as BoardWait, child, child_op, closing, dropped, filling, first, idle, no_item, nothing, op, out, over, part, said}
@@ -151,6 +152,7 @@ module _ (job : Job) (s : State) (os : List Operation) (ks : List Knot) (turns k
           stands = subst (λ (x : Knot). Stands job.code s.roots who roots u x.stage (operation_at u j) N st) knot_same
               (subst (λ (o : Operation). Stands job.code s.roots who roots u (knot_at s.waits.knots j).stage o N st) same
               (stands_kept who roots (knot_at s.waits.knots j).stage (operation_at s j) N st h.stands));
+          free = subst (λ (x : Knot). x.stage ≡ knot.Parked → st ≡ idle first → x.on ≡ []) knot_same h.free;
           waits = subst (λ (x : Knot). WaitsWell job.code ks D N earlier (siblings job (operation_at u j).children is) x.on st) knot_same
               (subst (λ (o : Operation). WaitsWell job.code ks D N earlier (siblings job o.children is) (knot_at s.waits.knots j).on st) same
               (waits_well_kept D N earlier (siblings job (operation_at s j).children is) (knot_at s.waits.knots j).on st h.waits));

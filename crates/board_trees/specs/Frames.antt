@@ -1,9 +1,10 @@
 -- An operation's frame and parts, as the laws of boards see them.
 use Rattle.std.specs.Prelude.{◌≡◌, ◌<◌, ℕ, true, List, All, length, map}
+use Rattle.std.specs.List.Sorted.{IsStrictlyIncreasing}
 use Rattle.lane_kernels.specs.Numbers.{FitsWidth, width_of}
 use Rattle.region_tree.specs.Needs.{AreNeeds, requirements_of}
 use Rattle.region_tree.specs.Pieces.{Held}
-use Rattle.region_tree.specs.Requirements.{Requirement}
+use Rattle.region_tree.specs.Requirements.{PartsAreApart, Requirement}
 use Rattle.region_tree.specs.Trees.{RegionTree, node_at, root_at}
 use Rattle.region_tree.specs.declared.content.Content.TheVariants as content
 use Rattle.region_tree.specs.declared.needs.Need.{Need}
@@ -47,13 +48,18 @@ pub record FrameHasPlaces (t : RegionTree) (f : Frame) : Type 0 where
 abbrev pub HasFitting : Part → Type 0
 HasFitting q = All (λ (h : Held). All (FitsWidth (width_of q.kind)) h.values) q.pieces
 
+-- a part has no element twice
+pub record HasEachOnce (q : Part) : Type 0 where
+  pub apart : PartsAreApart (map (λ (h : Held). (h.points, h.mode)) q.pieces)
+  pub rising : All (λ (h : Held). IsStrictlyIncreasing h.points) q.pieces
+
 module _ (code : Code) where
   -- elements are held at the widths of their fields
   abbrev pub IsHeld : Element (regent_ground (spaces_of code)) → Type 0
   IsHeld x = x.mode ≡ as_held (spaces_of code) x.location.root x.location.field (mode_in code x.mode)
 
   -- The operation's frame and parts are these, with roots by their names; whatever names the roots have that it and its
-  -- callers didn't make, so it speaks of none of them. Its own roots are there, and so are the fields that it needs.
+  -- callers didn't make, so it speaks of none of them. These roots are there, and so are the fields that it needs.
   pub record IsSeen (t : RegionTree) (live : LogicalMap) (extents : List Extent) (who : ℕ → ℕ) (roots : List RootId) (o : Operation) (N : List Requirement) (f : board.Frame)
       (ps : List (Element (regent_ground (spaces_of code)))) : Type 0 where
     pub frame : (name : ℕ → ℕ) → IsNaming extents who roots name → frame_in f ≡ frame_to (named name) o.frame
@@ -62,6 +68,7 @@ module _ (code : Code) where
     pub parts : (name : ℕ → ℕ) → IsNaming extents who roots name → parts_in code ps ≡ map (part_to (named name)) o.parts
     pub held : All IsHeld ps
     pub fitting : All HasFitting o.parts
+    pub once : All HasEachOnce o.parts
     pub placed : FrameHasPlaces t o.frame
-    pub own : All (λ (r : RootId). is_live live r.0 ≡ true) o.frame.own
+    pub there : All (λ (r : RootId). is_live live r.0 ≡ true) roots
     pub fields : All (λ (n : Need). n.field < length (columns_of live n.root.0)) o.frame.needs.items

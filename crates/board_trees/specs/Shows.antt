@@ -3,17 +3,19 @@ use Rattle.std.specs.Prelude.{◌≡◌, ◌<◌, ◌++◌, ◌∷◌, ◌-◌, 
 use Rattle.std.specs.List.{Contains}
 use Rattle.lane_kernels.specs.Numbers.{FitsWidth, width_of}
 use Rattle.plain_values.specs.Points.{counted_from, points}
-use Rattle.region_finder.specs.Listings.{Listed, listed_ops, needs_in}
+use Rattle.region_finder.specs.Listings.{AreRising, Listed, listed_ops, needs_in}
 use Rattle.region_tree.specs.Needs.{requirements_of}
 use Rattle.region_tree.specs.Requirements.{Requirement}
 use Rattle.region_tree.specs.Trees.{RegionTree, root_at, set_at}
 use Rattle.region_tree.specs.declared.tree.OpNumber.{OpNumber}
 use Rattle.region_tree.specs.declared.tree.RootId.{RootId}
+use Rattle.logical_map.specs.Laws.{IsWhole}
 use Rattle.logical_map.specs.Maps.{Column, LogicalMap, column_of, columns_of, is_live, number_at}
 use Rattle.dependence_graph.specs.Knots.{knot_at, number}
+use Rattle.dependence_graph.specs.declared.stage.Stage.TheVariants.{Parked}
 use Rattle.task_code.specs.declared.job.Job.{Job}
 use Rattle.machine_terms.specs.Contents.{kinds_of}
-use Rattle.board_rules.specs.Boards.{Items, Operation as Node, Stage as BoardStage, child_op, closing, dropped, no_item, op, over, said}
+use Rattle.board_rules.specs.Boards.{Items, Operation as Node, Stage as BoardStage, child_op, closing, dropped, first, idle, no_item, op, over, said}
 use Rattle.board_rules.specs.NumberedBoards.{Board, holds_claim, way_of}
 use Rattle.board_rules.specs.Processes.{Map}
 use Rattle.board_rules.specs.RootNumbers.{made_in}
@@ -40,6 +42,7 @@ module _ (job : Job) where
     pub made : root < length extents
     pub kinds : map (λ (c : Column). c.kind) (columns_of live root) ≡ kinds_of job.code (get_or extents root no_extent).space
     pub points_are : All (λ (c : Column). c.points ≡ points (get_or extents root no_extent).count) (columns_of live root)
+    pub whole : All IsWhole (columns_of live root)
     pub numbers : (field point : ℕ) → field < length (columns_of live root) → point < (get_or extents root no_extent).count →
         number_at live root field point ≡ m (record { root = name_of extents who root; field = field; point = point })
     pub fit : (field point : ℕ) → FitsWidth (width_of (column_of live root field).kind) (number_at live root field point)
@@ -90,6 +93,8 @@ module _ (job : Job) where
       pub seen : IfRuns st (IsSeen job.code s.tree s.map s.roots who roots (operation_at s k) N f ps)
       pub said_is : said_in 0 is ≡ (operation_at s k).said
       pub stands : Stands job.code s.roots who roots s (knot_at s.waits.knots k).stage (operation_at s k) N st
+      -- one whose claim was taken back before it began waits for no sibling
+      pub free : (knot_at s.waits.knots k).stage ≡ Parked → st ≡ idle first → (knot_at s.waits.knots k).on ≡ []
       pub waits : WaitsWell job.code s.waits.knots D N earlier (siblings (operation_at s k).children is) (knot_at s.waits.knots k).on st
       pub children_are : ChildrenAre job.code s (operation_at s k).children st
 
@@ -140,6 +145,7 @@ module _ (job : Job) where
     pub made : AreMade (length s.roots) who (made_in (regent_ground (spaces_of job.code)) (machine_of job) b.state.tree)
     pub regions : (node : ℕ) → node < length s.tree.nodes → IsWithinRoot s.tree s.roots node
     pub held : (root : ℕ) → is_live s.map root ≡ true → HoldsMap s.map s.roots who b.state.map root
+    pub rising : (k : ℕ) → AreRising (operation_at s k).children
     -- no root was made by two
     pub own_made : (k : ℕ) → All (λ (r : RootId). r.0 < length s.roots) (operation_at s k).frame.own
     pub own_apart : (j k : ℕ) → ¬ (j ≡ k) →

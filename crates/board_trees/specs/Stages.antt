@@ -3,6 +3,7 @@ use Rattle.std.specs.Prelude.{◌≡◌, ◌≤◌, ◌⊎◌, ℕ, List, [], Al
 use Rattle.region_tree.specs.Pieces.{Held}
 use Rattle.region_tree.specs.Requirements.{Requirement, is_of, part_of}
 use Rattle.region_tree.specs.declared.needs.Need.{Need}
+use Rattle.region_tree.specs.declared.piece.Part.{Part}
 use Rattle.region_tree.specs.declared.tree.OpNumber.{OpNumber}
 use Rattle.region_tree.specs.declared.tree.RootId.{RootId}
 use Rattle.logical_map.specs.Fills.{Filling, elements_of}
@@ -11,7 +12,7 @@ use Rattle.dependence_graph.specs.Knots.{all_done, some_failed}
 use Rattle.dependence_graph.specs.declared.stage.Stage.{Stage as Knotted}
 use Rattle.dependence_graph.specs.declared.stage.Stage.TheVariants as knot
 use Rattle.task_code.specs.declared.code.Code.{Code}
-use Rattle.machine_terms.specs.Parts.{is_needed}
+use Rattle.machine_terms.specs.Parts.{is_needed, part_of as held_part}
 use Rattle.board_rules.specs.Boards.{Ending as BoardEnding, Stage as BoardStage, Wait as BoardWait, at_fault, by, child, closing, dropped, filling, first, idle, nothing, out, over, part, stopped}
 use Rattle.board_rules.specs.Running.{Element, Spot, spots}
 use Rattle.regent_boards.specs.Frames.{Key, broken, faults_at}
@@ -70,13 +71,17 @@ module _ (code : Code) where
     abbrev pub IsKey : ℕ → ℕ → Key → Type 0
     IsKey root field k = (field ≡ k.field) × ((name : ℕ → ℕ) → IsNaming extents who roots name → name root ≡ k.root)
 
-    -- what is wanted is needed
-    abbrev pub IsWait : List Need → Wait → BoardWait (regent_ground (spaces_of code)) → Type 0
-    IsWait needs wait.Beginning first = Unit {0}
-    IsWait needs wait.Nothing nothing = Unit {0}
-    IsWait needs (wait.Part root field) (part k) = (is_needed needs root.0 field ≡ true) × IsKey root.0 field k
-    IsWait needs (wait.Child n) (child c) = n ≡ c
-    IsWait _ _ _ = ⊥
+    -- One that waits for its beginning has no children. What is wanted is needed, and isn't held.
+    abbrev pub IsWait : List Need → List Part → List OpNumber → Wait → BoardWait (regent_ground (spaces_of code)) → Type 0
+    IsWait needs parts children wait.Beginning first = children ≡ []
+    IsWait needs parts children wait.Nothing nothing = Unit {0}
+    IsWait needs parts children (wait.Part root field) (part k) =
+        (is_needed needs root.0 field ≡ true) × (held_part parts root.0 field ≡ None) × IsKey root.0 field k
+    IsWait needs parts children (wait.Child n) (child c) = n ≡ c
+    IsWait _ _ _ _ _ = ⊥
+
+    abbrev pub HasWait : Operation → BoardWait (regent_ground (spaces_of code)) → Type 0
+    HasWait o w = IsWait o.frame.needs.items o.parts o.children o.wait w
 
     -- what is filled of a wanted part, and what is left
     pub record IsFilled (N : List Requirement) (k : Key) (f : Filling) (d : List (Element (regent_ground (spaces_of code))))
@@ -99,7 +104,7 @@ module _ (code : Code) where
 
     pub record IsFilling (N : List Requirement) (o : Operation) (w : BoardWait (regent_ground (spaces_of code)))
         (d : List (Element (regent_ground (spaces_of code)))) (l : List (Spot (regent_ground (spaces_of code)))) : Type 0 where
-      pub waits : IsWait o.frame.needs.items o.wait w
+      pub waits : HasWait o w
       pub claim : Claim
       pub fill : Option Filling
       pub activity_is : o.activity ≡ activity.Filling claim fill
@@ -108,7 +113,7 @@ module _ (code : Code) where
     -- nothing is left to be filled
     pub record IsOut (s : State) (N : List Requirement) (o : Operation) (w : BoardWait (regent_ground (spaces_of code)))
         (d : List (Element (regent_ground (spaces_of code)))) : Type 0 where
-      pub waits : IsWait o.frame.needs.items o.wait w
+      pub waits : HasWait o w
       pub claim : Claim
       pub fill : Option Filling
       pub activity_is : o.activity ≡ activity.Out claim (before_of code s o fill)
@@ -117,7 +122,7 @@ module _ (code : Code) where
     -- ---- stages
 
     abbrev pub IsIdle : Operation → BoardWait (regent_ground (spaces_of code)) → Type 0
-    IsIdle o w = (o.activity ≡ activity.Idle) × IsWait o.frame.needs.items o.wait w
+    IsIdle o w = (o.activity ≡ activity.Idle) × HasWait o w
 
     -- One that waits for its beginning is parked where its claim was taken back.
     abbrev pub MayIdle : Knotted → BoardWait (regent_ground (spaces_of code)) → Type 0
