@@ -8,6 +8,7 @@ use Rattle.plain_values.specs.Points.{counted_from}
 use Rattle.region_finder.specs.Listings.{AreRising}
 use Rattle.region_tree.specs.declared.tree.OpNumber.{OpNumber}
 use Rattle.region_tree.specs.declared.tree.RootId.{RootId}
+use Rattle.logical_map.specs.Maps.{is_live}
 use Rattle.dependence_graph.specs.Knots.{knot_at, number}
 use Rattle.dependence_graph.specs.declared.stage.Stage.TheVariants as knot
 use Rattle.task_code.specs.declared.job.Job.{Job}
@@ -173,6 +174,7 @@ module _ (job : Job) where
           regions = h.regions;
           held = h.held;
           rising = λ j. subst AreRising (sym (children_same j)) (h.rising j);
+          first = subst (λ rs. All (λ (r : RootId). is_live s.map r.0 ≡ true) rs) (sym (own_same 0)) h.first;
           own_made = λ j. subst (λ rs. All (λ (r : RootId). r.0 < length s.roots) rs) (sym (own_same j)) (h.own_made j);
           own_apart = λ i j n. subst (λ rs. All (λ (r : RootId). All (λ (q : RootId). ¬ (r ≡ q)) rs) (operation_at u i).frame.own) (sym (own_same j))
               (subst (λ rs. All (λ (r : RootId). All (λ (q : RootId). ¬ (r ≡ q)) (operation_at s j).frame.own) rs) (sym (own_same i)) (h.own_apart i j n));

@@ -73,6 +73,7 @@ module _ (job : Job) (t : TaskCode) (may : may_start job t ≡ true) where
     made = record { below = λ r l. absurd (omega (arith, l)); rising = λ a b l k. absurd (omega (arith, k)) };
     regions = λ n l. absurd (omega (arith, l));
     rising = λ k. subst AreRising (sym (none_called k)) (λ i l. absurd (omega (arith, l)));
+    first = subst (λ rs. All (λ (r : RootId). is_live [] r.0 ≡ true) rs) (sym (none_own 0)) (All-nil (λ (r : RootId). is_live [] r.0 ≡ true));
     own_made = λ k. subst (λ rs. All (λ (r : RootId). r.0 < 0) rs) (sym (none_own k)) (All-nil (λ (r : RootId). r.0 < 0));
     own_apart = λ j k n. subst (λ rs. All (λ (r : RootId). All (λ (q : RootId). ¬ (r ≡ q)) (operation_at (with_main (first_frame job t)) k).frame.own) rs) (sym (none_own j))
         (All-nil (λ (r : RootId). All (λ (q : RootId). ¬ (r ≡ q)) (operation_at (with_main (first_frame job t)) k).frame.own));

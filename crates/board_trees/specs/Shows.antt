@@ -146,6 +146,8 @@ module _ (job : Job) where
     pub regions : (node : ℕ) → node < length s.tree.nodes → IsWithinRoot s.tree s.roots node
     pub held : (root : ℕ) → is_live s.map root ≡ true → HoldsMap s.map s.roots who b.state.map root
     pub rising : (k : ℕ) → AreRising (operation_at s k).children
+    -- the first task's roots stay
+    pub first : All (λ (r : RootId). is_live s.map r.0 ≡ true) (operation_at s 0).frame.own
     -- no root was made by two
     pub own_made : (k : ℕ) → All (λ (r : RootId). r.0 < length s.roots) (operation_at s k).frame.own
     pub own_apart : (j k : ℕ) → ¬ (j ≡ k) →
