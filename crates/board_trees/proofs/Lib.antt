@@ -1,3 +1,4 @@
+pub mod Named
 pub mod Beginning
 pub mod Told
 pub mod Settled

@@ -450,16 +450,20 @@ module _ (G : Ground) (M : ℕ → Machine G) where
   none_stays [] = refl
   none_stays (e ∷ es) = none_stays es
 
-  journal_told : (es : List Entry) (s t : State G) → FailuresTold G s.tree → all_numbered G M (Some s) es ≡ Some t → FailuresTold G t.tree
-  journal_told [] s t h e = subst (λ (x : State G). FailuresTold G x.tree) (same_Some s t e) h
+  abbrev AreTold : State G → Type 0
+  AreTold s = FailuresTold G s.tree × ¬ IsDropped G (stage_of G s.tree)
+
+  journal_told : (es : List Entry) (s t : State G) → AreTold s → all_numbered G M (Some s) es ≡ Some t → AreTold t
+  journal_told [] s t h e = subst AreTold (same_Some s t e) h
   journal_told (x ∷ es) s t h e =
-      by_step (step_in G (M (made_in G M s.tree)) x.kind x.way [] true s.map s.tree) (step_told G (M (made_in G M s.tree)) x.kind x.way [] true s.map s.tree h) e
+      by_step (step_in G (M (made_in G M s.tree)) x.kind x.way [] true s.map s.tree) (step_told G (M (made_in G M s.tree)) x.kind x.way [] true s.map s.tree h.0) e
       (λ v g k. journal_told es v t g k)
     where
       by_step : (o : Option (Stepped G (Operation G))) → IfTold G (M (made_in G M s.tree)) o → all_numbered G M (stepped G (M (made_in G M s.tree)) s.map o) es ≡ Some t →
-          ((v : State G) → FailuresTold G v.tree → all_numbered G M (Some v) es ≡ Some t → FailuresTold G t.tree) → FailuresTold G t.tree
+          ((v : State G) → AreTold v → all_numbered G M (Some v) es ≡ Some t → AreTold t) → AreTold t
       by_step None g d more = absurd (none-some t (sym (none_stays es) ∙ d))
-      by_step (Some y) g d more = more _ g.0 d
+      by_step (Some y) g d more = more _ g d
 
   pub failures_are_told : FailuresAreTold G M
-  failures_are_told job steps b e = journal_told (entries G M (Some (start G M job)) steps) (start G M job).state b.state (tt, tt) (steps_reach G M steps (start G M job) b e)
+  failures_are_told job steps b e =
+      journal_told (entries G M (Some (start G M job)) steps) (start G M job).state b.state ((tt, tt), λ d. d) (steps_reach G M steps (start G M job) b e)

@@ -37,6 +37,8 @@ module _ (G : Ground) where
     ChildrenTold failed (child_op n is) =
         (IsDropped (stage_of G n) → failed ≡ true) × FailuresTold n × ChildrenTold (failed || has_failed G (stage_of G n)) is
 
--- of every board, over any machine, whatever steps its seats make
+-- Of every board, over any machine, whatever steps its seats make. The first task, which waits for nobody, is never
+-- dropped.
 abbrev pub FailuresAreTold : (G : Ground) → (ℕ → Machine G) → Type 0
-FailuresAreTold G M = (job : Job G) (steps : List Step) (b : Board G) → board_of G M job steps ≡ Some b → FailuresTold G b.state.tree
+FailuresAreTold G M = (job : Job G) (steps : List Step) (b : Board G) → board_of G M job steps ≡ Some b →
+    FailuresTold G b.state.tree × ¬ IsDropped G (stage_of G b.state.tree)

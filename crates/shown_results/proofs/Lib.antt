@@ -1,0 +1,4 @@
+pub mod Told
+pub mod Finished
+pub mod Images
+pub mod Results

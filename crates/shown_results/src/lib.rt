@@ -1,0 +1,12 @@
+//! What the table of a board comes to, where it shows a tree of operations.
+//!
+//! What is said stands under specs/. The function has an empty body; its contract is the law.
+#![tactic(auto)]
+
+ghost use Rattle.shown_results.specs.Results.{ResultsAreOrdered};
+
+/// Where a table shows a board, it has a result exactly where the board's first task is over, and that is the outcome of
+/// the run in order.
+pub fn results_are_ordered()
+    ensures { ResultsAreOrdered }
+{}
