@@ -1,5 +1,5 @@
 -- The numbers that a store's fields keep: where one is written, a root is made, and the roots of a call are dropped.
-use Rattle.std.proofs.Common.{◌≡◌, ⊎_elim, ℕ, zero, suc, ◌<◌, ◌≤◌, ℤ, pos, List, [], ◌∷◌, ◌++◌, true, false, refl, sym, ap, ◌∙◌, subst, arith}
+use Rattle.std.proofs.Common.{◌≡◌, ⊎_elim, ℕ, zero, suc, ◌≤◌, ℤ, pos, List, [], ◌∷◌, ◌++◌, true, false, refl, sym, ap, subst, arith}
 use Rattle.std.specs.Prelude.{get_or, length, take, ◌-◌}
 use Rattle.std.proofs.lemmas.Int.{ints}
 use Rattle.std.proofs.lemmas.Bool.{cases_lt}
@@ -12,9 +12,9 @@ use Rattle.lane_kernels.specs.declared.numbers.FieldKind.{FieldKind}
 use Rattle.lane_kernels.specs.declared.numbers.Width.{Width}
 use Rattle.regent_tree.specs.Laws.{shapes}
 use Rattle.regent_tree.specs.StaticTypes.{field_kinds, field_term, kind_said}
-use Rattle.regent_tree.specs.Store.{Store, new_root, no_root, read_at, write_all, write_at}
+use Rattle.regent_tree.specs.Store.{Store, new_root, no_root, write_all, write_at}
 use Rattle.regent_tree.specs.Syntax.{Tree}
-use Rattle.regent_tree.specs.Values.{Region, Value, kept_number, kept_target, meant, target_kept, target_of}
+use Rattle.regent_tree.specs.Values.{Value, kept_number, kept_target, meant, target_of}
 use Rattle.regent_tree.specs.declared.outcome.RootImage.{RootImage}
 use Rattle.regent_tree.specs.declared.types.TypeTerm.{TypeTerm}
 use Rattle.regent_tree.specs.declared.typing.StaticType.{StaticType}

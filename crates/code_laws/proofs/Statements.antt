@@ -1,10 +1,9 @@
 -- The code of a statement does what the statement means.
 use Rattle.code_laws.proofs.Behind.{folds_behind, sets_behind}
-use Rattle.code_laws.proofs.Counting.{into_runs}
 use Rattle.code_laws.proofs.Moving.{assigned_runs, assigns}
 use Rattle.code_laws.proofs.PointerForms.{begins_run, declares_run, itself_run, points_run}
 use Rattle.code_laws.proofs.Pointing.{region_pointed}
-use Rattle.code_laws.proofs.Wider.{any_field, assigned, beginning, begun, counting, going, keepable, loops_over, zeroed}
+use Rattle.code_laws.proofs.Wider.{any_field, assigned, beginning, begun, counting, keepable, loops_over, zeroed}
 use Rattle.code_laws.proofs.States.{ready_value}
 use Rattle.code_laws.proofs.Variables.{GoodInside, binds, fill_runs, region_runs}
 use Rattle.code_laws.proofs.Elements.{folds_element, sets_element}

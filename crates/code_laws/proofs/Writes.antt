@@ -9,7 +9,7 @@ use Rattle.lane_kernels.specs.declared.numbers.Mode.TheVariants as mode
 use Rattle.lane_kernels.specs.declared.numbers.Op.{Op}
 use Rattle.lane_kernels.specs.declared.numbers.Width.{Width}
 use Rattle.lane_kernels.proofs.Operators.{closed}
-use Rattle.lane_kernels.specs.Numbers.{FitsWidth, applied, std_width, width_of, wrapped}
+use Rattle.lane_kernels.specs.Numbers.{applied, std_width, width_of, wrapped}
 use Rattle.regent_tree.specs.declared.outcome.FaultKind.TheVariants.{NullPointer, OutOfRegion}
 use Rattle.regent_tree.specs.declared.statement.How.TheVariants as how
 use Rattle.regent_tree.specs.declared.typing.StaticType.{StaticType}
