@@ -13,15 +13,15 @@ use Rattle.lane_kernels.specs.declared.numbers.Width.TheVariants.{W32, W64}
 use Rattle.regent_tree.specs.declared.outcome.FaultKind.TheVariants.{NullPointer, OutOfRegion}
 use Rattle.regent_tree.specs.declared.typing.StaticType.{StaticType}
 use Rattle.regent_tree.specs.declared.typing.StaticType.TheVariants.{Region as region_type}
-use Rattle.regent_tree.specs.Accesses.{standing, take_element, read_field, aimed_in, space_in}
+use Rattle.regent_tree.specs.Accesses.{args_in, regions_reached, standing, take_element, read_field, aimed_in, space_in}
 use Rattle.regent_tree.specs.Evaluation.{value, stepped}
 use Rattle.regent_tree.specs.Laws.{Leaves, SameNames}
 use Rattle.regent_tree.specs.Running.{State, Here, Run, Result, gives, fails, given, and_then, if_true, fault}
-use Rattle.regent_tree.specs.StaticTypes.{field_kind, field_place, space_at}
+use Rattle.regent_tree.specs.StaticTypes.{field_kind, field_place, field_term, field_type, space_at}
 use Rattle.regent_tree.specs.Store.{read_at}
 use Rattle.regent_tree.specs.Syntax.{Name, Expression, no_step, field_step, at_step}
-use Rattle.regent_tree.specs.Typing.{type_of_element}
-use Rattle.regent_tree.specs.Values.{Value, a_number, a_pointer, a_region, Region, null_target, point_target, target_kept, kept_target, meant, number_of}
+use Rattle.regent_tree.specs.Typing.{reaches_of, type_of_element}
+use Rattle.regent_tree.specs.Values.{Value, a_number, a_pointer, a_region, Region, null_target, point_target, target_kept, kept_target, meant, number_of, target_of}
 use Rattle.task_code.specs.declared.instr.Instr.TheVariants as instr
 use Rattle.machine_terms.specs.declared.order.Contents.{Contents}
 use Rattle.machine_terms.specs.declared.order.Ended.TheVariants.{Broke}
@@ -43,10 +43,11 @@ use Rattle.memory_laws.specs.Places.{number_at}
 use Rattle.code_laws.specs.Steps.{Setting, machine_of, placed, on_step, Leads}
 use Rattle.code_laws.specs.Standing.{Stands, machine_value, IsInside, IsOf, of_index, of_integer, of_truth, of_pointer, of_region, nothing, blank, Aside, SlotsFit, where_of, Agrees, Comes}
 use Rattle.code_laws.specs.Taking.{MayDo}
-use Rattle.code_laws.specs.Pointers.{FieldKeeps, IsCounting, counts_number, counts_pointer, keeps_index, keeps_plain}
+use Rattle.value_laws.specs.Shapes.{IsKeptOf, IsPosition, regions_listed}
+use Rattle.code_laws.specs.Pointers.{FieldKeeps, IsCounting, KeepsAs, counts_number, counts_pointer, keeps_index, keeps_plain, keeps_pointer}
 use Rattle.code_laws.specs.Simple.{term_in, IsInteger, an_integer, number_index, number_integer, IsRegion, a_region_type, fits_32, fits_64, fits_truth}
 use Rattle.code_laws.proofs.Good.{valued, Good, Gives}
-use Rattle.code_laws.proofs.Reaching.{Reached, reached, rewritten}
+use Rattle.code_laws.proofs.Reaching.{Reached, kept_here, reached, rewritten}
 use Rattle.code_laws.proofs.Runs.{leads_by, ends_by, comes_before}
 use Rattle.code_laws.proofs.Touching.{parted, reads}
 
@@ -71,19 +72,21 @@ aims_first m s n r l there e = ap (aim m (s ∷ [])) (kept_round n 1 l)
 
 -- ---- the values of fields
 
-meant_typed : (kind : FieldKind) (t : StaticType) (rs : List Region) (z : ℤ) → FieldKeeps kind t → IsKept kind z →
-    IsOf t (meant kind rs z)
-meant_typed _ _ rs z (keeps_plain _ _ fits_32) k = of_integer W32 z k.0
-meant_typed _ _ rs z (keeps_plain _ _ fits_64) k = of_integer W64 z k.0
-meant_typed _ _ rs z (keeps_plain _ _ fits_truth) k = of_truth _
-meant_typed _ _ rs z (keeps_index j) k = of_index j z k.0
+meant_typed : (kind : FieldKind) (n : ℕ) (t : StaticType) (rs : List Region) (z : ℤ) → KeepsAs kind n t → IsKept kind z →
+    IsPosition n (target_of (meant kind [] z)) → IsOf t (meant kind rs z)
+meant_typed _ _ _ rs z (keeps_plain _ _ _ fits_32) k o = of_integer W32 z k.0
+meant_typed _ _ _ rs z (keeps_plain _ _ _ fits_64) k o = of_integer W64 z k.0
+meant_typed _ _ _ rs z (keeps_plain _ _ _ fits_truth) k o = of_truth _
+meant_typed _ _ _ rs z (keeps_index n j) k o = of_index j z k.0
+meant_typed _ _ _ rs z (keeps_pointer k sp args reaches names few) kept o = of_pointer k sp args reaches (target_kept z) rs o
 
-meant_kept : (c : Contents) (kind : FieldKind) (t : StaticType) (rs : List Region) (z : ℤ) → FieldKeeps kind t → IsKept kind z →
+meant_kept : (c : Contents) (kind : FieldKind) (n : ℕ) (t : StaticType) (rs : List Region) (z : ℤ) → KeepsAs kind n t → IsKept kind z →
     machine_value c (meant kind rs z) ≡ machine.Number z
-meant_kept c _ _ rs z (keeps_plain _ _ fits_32) k = refl
-meant_kept c _ _ rs z (keeps_plain _ _ fits_64) k = refl
-meant_kept c _ _ rs z (keeps_plain _ _ fits_truth) k = ap (λ z. machine.Number z) k.1
-meant_kept c _ _ rs z (keeps_index j) k = refl
+meant_kept c _ _ _ rs z (keeps_plain _ _ _ fits_32) k = refl
+meant_kept c _ _ _ rs z (keeps_plain _ _ _ fits_64) k = refl
+meant_kept c _ _ _ rs z (keeps_plain _ _ _ fits_truth) k = ap (λ z. machine.Number z) k.1
+meant_kept c _ _ _ rs z (keeps_index n j) k = refl
+meant_kept c _ _ _ rs z (keeps_pointer k sp args reaches names few) kept = ap (λ z. machine.Number z) kept.1
 
 -- what an expression leaves of a state is known where the run goes on
 pub then_kept : (x : Setting) {A B : Type 0} (R : State → State → Type 0) (shape2 : B → Instance → Instance)
@@ -104,7 +107,7 @@ module _ (x : Setting) (params slots : ℕ) (fit : SlotsFit x slots) (aside : As
   -- The field of a point at which a kept number aims.
   pub field_reads : (h : Here) (t : StaticType) (f : Name) (place n : ℕ) (z : ℤ) (rs : List ℕ) (q : Region) (out : StaticType)
       (s : State) (pc : ℕ) (st : List MachineValue) (i : Instance) →
-      FieldKeeps (field_kind h.tree (space_in t) (field_place h.tree (space_in t) f)) out →
+      FieldKeeps (field_term h.tree (space_in t) (field_place h.tree (space_in t) f)) out →
       aim_through i.frame.slots rs (target_kept z) ≡ aims (number_at i.contents q.root) n →
       has q.points n ≡ true → place ≡ field_place h.tree (space_in t) f →
       Reached x h.tree i s.store q (space_in t) (field_place h.tree (space_in t) f) n mode.Read →
@@ -118,13 +121,16 @@ module _ (x : Setting) (params slots : ℕ) (fit : SlotsFit x slots) (aside : As
       let d = reads x i pc h.line q.root p n z st rs s.store g.memory r.covers
       (subst (λ k. Stands x.body pc (op (instr.Read rs k) h.line)) same stands) to in
       let y = read_at s.store q.root p n in
-      let sound : IsKept kind y = subst (λ k. IsKept k y) r.kind_is (g.memory.stands.kept q.root p n r.there) in
+      let declared = field_term h.tree (space_in t) p in
+      let regions = regions_reached h.scope s.names (reaches_of (field_type h.tree (space_in t) (args_in t) f)) in
+      let is : IsKeptOf declared y = subst (λ n. IsKeptOf (field_term h.tree n p) y) r.of_space (kept_here x params slots aside h s i g q.root p n) in
+      let sound : IsKept kind y = (is.fits, is.same) in
       subst (λ b. Gives x params slots fit aside h out (op (instr.Read rs place) h.line) pc
       (machine.Number z ∷ st) st i (read_field h t f (aimed_in b q n) s)) (sym e) (
         parted d.0 i,
         subst (λ v. Leads x (placed pc (machine.Number z ∷ st) i) (placed (suc pc) (v ∷ st) (parted d.0 i)))
-            (sym (meant_kept i.contents kind out _ y fits sound)) d.1,
-        (meant_typed kind out _ y fits sound, rewritten x params slots aside h s i d.0 _ s.store refl g d.2),
+            (sym (meant_kept i.contents kind (regions_listed declared) out regions y fits sound)) d.1,
+        (meant_typed kind (regions_listed declared) out regions y fits sound is.position, rewritten x params slots aside h s i d.0 _ s.store refl (kept_here x params slots aside h s i g) g d.2),
       )
 
   -- what is to be shown where the index was evaluated
@@ -135,7 +141,7 @@ module _ (x : Setting) (params slots : ℕ) (fit : SlotsFit x slots) (aside : As
       MayDo x.forms.takes (term_in t) (field_place h.tree (space_in t) f) mode.Read →
       slots_of (where_of params h) sl (type_of_element h.scope t e) ≡ sl ∷ [] →
       field_place h.tree (space_in t) f < length (space_at h.tree (space_in t)).fields →
-      FieldKeeps (field_kind h.tree (space_in t) (field_place h.tree (space_in t) f)) out →
+      FieldKeeps (field_term h.tree (space_in t) (field_place h.tree (space_in t) f)) out →
       Agrees x params slots aside h s1 j → (a : ℕ) →
       Stands x.body a (standing_code (where_of params h) ty ⨟ element_code (where_of params h) t sl
       ⨟ kept_code (where_of params h) d t (field_step f no_step)
@@ -158,7 +164,7 @@ module _ (x : Setting) (params slots : ℕ) (fit : SlotsFit x slots) (aside : As
       MayDo x.forms.takes (term_in t) (field_place h.tree (space_in t) f) mode.Read →
       slots_of (where_of params h) sl (type_of_element h.scope t e) ≡ sl ∷ [] →
       field_place h.tree (space_in t) f < length (space_at h.tree (space_in t)).fields →
-      FieldKeeps (field_kind h.tree (space_in t) (field_place h.tree (space_in t) f)) out →
+      FieldKeeps (field_term h.tree (space_in t) (field_place h.tree (space_in t) f)) out →
       Stands x.body pc (steps_code (where_of params h) d t sl (at_step e (field_step f no_step))) →
       Gives x params slots fit aside h out (steps_code (where_of params h) d t sl (at_step e (field_step f no_step))) pc st st i
       (stepped h t (a_region q) (at_step e (field_step f no_step)) s)
@@ -244,7 +250,7 @@ module _ (x : Setting) (params slots : ℕ) (fit : SlotsFit x slots) (aside : As
       IsCounting (typed (where_of params h) e) → Leaves SameNames s (value h e s) →
       slots_of (where_of params h) (slot (where_of params h) p) (type_of_element h.scope t e) ≡ slot (where_of params h) p ∷ [] →
       field_place h.tree (space_in t) f < length (space_at h.tree (space_in t)).fields →
-      FieldKeeps (field_kind h.tree (space_in t) (field_place h.tree (space_in t) f)) out →
+      FieldKeeps (field_term h.tree (space_in t) (field_place h.tree (space_in t) f)) out →
       ((s1 : State) (j : Instance) → Agrees x params slots aside h s1 j → IsInside x s1.store t (get_or s1.names p nothing)) →
       MayDo x.forms.takes (term_in t) (field_place h.tree (space_in t) f) mode.Read →
       Stands x.body pc (load_code (where_of params h) t (slot (where_of params h) p) (at_step e (field_step f no_step))

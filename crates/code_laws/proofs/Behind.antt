@@ -1,5 +1,5 @@
 -- Fields of what a name's pointer goes to, and a variable that begins as a name's pointer.
-use Rattle.std.proofs.Common.{◌≡◌, ℕ, suc, ◌<◌, List, [], ◌∷◌, Some, refl, sym, ap, ◌∙◌, subst, arith}
+use Rattle.std.proofs.Common.{false, ◌≡◌, ℕ, suc, ◌<◌, List, [], ◌∷◌, Some, refl, sym, ap, ◌∙◌, subst, arith}
 use Rattle.std.specs.Prelude.{get_or, length}
 use Rattle.std.proofs.lemmas.Option.{slice_get-get_or}
 use Rattle.lane_kernels.specs.declared.numbers.Mode.TheVariants as mode
@@ -9,9 +9,9 @@ use Rattle.regent_tree.specs.Evaluation.{stepped, value}
 use Rattle.regent_tree.specs.Execution.{Going, write_field, write_to}
 use Rattle.regent_tree.specs.Running.{Here, Result, State, and_then, fails, given, gives}
 use Rattle.regent_tree.specs.Scopes.{bound_to}
-use Rattle.regent_tree.specs.StaticTypes.{field_kind, field_place, space_at}
+use Rattle.regent_tree.specs.StaticTypes.{field_place, field_term, space_at}
 use Rattle.regent_tree.specs.Syntax.{Name, access_expr, field_step, no_step}
-use Rattle.regent_tree.specs.Typing.{reaches_of}
+use Rattle.regent_tree.specs.Typing.{has_wild, reaches_of}
 use Rattle.regent_tree.specs.Values.{Value, a_number, a_pointer, kept_number}
 use Rattle.regent_tree.specs.declared.statement.How.TheVariants as how
 use Rattle.regent_tree.specs.declared.typing.StaticType.{StaticType}
@@ -60,23 +60,23 @@ module _ (x : Setting) (params slots : ℕ) (fit : SlotsFit x slots) (aside : As
   -- ---- reads
 
   through_reads : (h : Here) (d : ℕ) (t : StaticType) (p : ℕ) (v : Value) (f : Name) (out : StaticType) (s : State) (pc : ℕ)
-      (st : List MachineValue) (i : Instance) → IsPointer t → IsOf t v → IsPointed h.scope.names s.names t v →
+      (st : List MachineValue) (i : Instance) → IsPointer t → has_wild (reaches_of t) ≡ false → IsOf t v → IsPointed h.scope.names s.names t v →
       get_or s.names p nothing ≡ v → p < length s.names →
       field_place h.tree (space_in t) f < length (space_at h.tree (space_in t)).fields →
       MayReach x.forms (where_of params h) (reaches_of t) (field_place h.tree (space_in t) f) mode.Read →
-      FieldKeeps (field_kind h.tree (space_in t) (field_place h.tree (space_in t) f)) out → Agrees x params slots aside h s i →
+      FieldKeeps (field_term h.tree (space_in t) (field_place h.tree (space_in t) f)) out → Agrees x params slots aside h s i →
       Stands x.body pc (load_code (where_of params h) t (slot (where_of params h) p) (field_step f no_step)
       ⨟ steps_code (where_of params h) d t (own_slot (where_of params h) t p) (field_step f no_step)) →
       Gives x params slots fit aside h out
       (load_code (where_of params h) t (slot (where_of params h) p) (field_step f no_step)
       ⨟ steps_code (where_of params h) d t (own_slot (where_of params h) t p) (field_step f no_step)) pc st st i
       (stepped h t v (field_step f no_step) s)
-  through_reads h d _ p _ f out s pc st i (a_pointer_type k sp args rs names) (of_pointer _ _ _ _ tg qs o) pointed is low field may keeps g stands =
+  through_reads h d _ p _ f out s pc st i (a_pointer_type k sp args rs names) certain (of_pointer _ _ _ _ tg qs o) pointed is low field may keeps g stands =
       let t = pointer_type k sp args rs in
       comes_before x (valued (suc (suc pc)) st) (Good x params slots fit aside h out) _ _ _
       (loads h p (a_pointer tg qs) s pc st i is low g stands.0)
       (then_given (valued (suc (suc pc)) st) (Good x params slots fit aside h out) _ (read_field h t f (aimed_through qs tg) s)
-      (pointer_reads x params slots fit aside h k sp (own_slot (where_of params h) t p) args rs f tg qs out s (suc pc) st i names pointed o
+      (pointer_reads x params slots fit aside h k sp (own_slot (where_of params h) t p) args rs f tg qs out s (suc pc) st i names certain pointed o
       field may keeps g stands.1.0))
 
   -- `p.f`
@@ -88,30 +88,30 @@ module _ (x : Setting) (params slots : ℕ) (fit : SlotsFit x slots) (aside : As
   behind_reads h d n f out s pc st i b may g stands =
       let c = bound_to h.scope.names n in
       let m = named IsOf h.scope.names s.names n g.typed b.named in
-      through_reads h d c.static_type c.place (get_or s.names c.place nothing) f out s pc st i b.pointer m.holding
+      through_reads h d c.static_type c.place (get_or s.names c.place nothing) f out s pc st i b.pointer b.certain m.holding
       (named_pointed h.scope.next h.scope.names s.names n b.numbers g.pointed b.named) refl (omega (arith, m.below, g.count))
       b.field may b.keeps g stands
 
   -- ---- writes and reductions
 
   through_writes : (h : Here) (t : StaticType) (p : ℕ) (u : Value) (f : Name) (out : StaticType) (v : Value) (s : State) (pc : ℕ)
-      (i : Instance) → IsPointer t → IsOf t u → IsPointed h.scope.names s.names t u → get_or s.names p nothing ≡ u →
+      (i : Instance) → IsPointer t → has_wild (reaches_of t) ≡ false → IsOf t u → IsPointed h.scope.names s.names t u → get_or s.names p nothing ≡ u →
       p < length s.names → field_place h.tree (space_in t) f < length (space_at h.tree (space_in t)).fields →
       MayReach x.forms (where_of params h) (reaches_of t) (field_place h.tree (space_in t) f) mode.Write →
-      FieldKeeps (field_kind h.tree (space_in t) (field_place h.tree (space_in t) f)) out → IsOf out v →
+      FieldKeeps (field_term h.tree (space_in t) (field_place h.tree (space_in t) f)) out → IsOf out v →
       Agrees x params slots aside h s i → Stands x.body pc (op (instr.Load (slot (where_of params h) p)) h.line) →
       Stands x.body (suc pc) (put_code (where_of params h) t (own_slot (where_of params h) t p) f how.Set) →
       Does x params slots aside (valued pc [] v i) (suc (suc pc)) h (write_field h t f how.Set v (aimed u) s)
-  through_writes h _ p _ f out v s pc i (a_pointer_type k sp args rs names) (of_pointer _ _ _ _ tg qs o) pointed is low field may keeps ov g at put =
+  through_writes h _ p _ f out v s pc i (a_pointer_type k sp args rs names) certain (of_pointer _ _ _ _ tg qs o) pointed is low field may keeps ov g at put =
       let t = pointer_type k sp args rs in
       let r = write_field h t f how.Set v (aimed_through qs tg) s in
       let shape : Going → Instance → Instance = λ c j. placed (suc (suc pc)) [] j in
       does_come x params slots fit aside (suc (suc pc)) h _ r
       (subst (λ y. Comes x (placed pc (y ∷ []) i) shape (GoesOn x params slots fit aside h) r)
-      (sym (field_value i.contents (field_kind h.tree sp (field_place h.tree sp f)) out v keeps ov))
+      (sym (field_value i.contents (field_term h.tree sp (field_place h.tree sp f)) out v keeps ov))
       (comes_before x shape (GoesOn x params slots fit aside h) _ _ r
       (loads h p (a_pointer tg qs) s pc (machine.Number (kept_number v) ∷ []) i is low g at)
-      (pointer_writes x params slots fit aside h k sp (own_slot (where_of params h) t p) args rs f tg qs out v s (suc pc) [] i names pointed o
+      (pointer_writes x params slots fit aside h k sp (own_slot (where_of params h) t p) args rs f tg qs out v s (suc pc) [] i names certain pointed o
       field may keeps ov g put)))
 
   -- `p.f = v`, with the value on the stack
@@ -123,19 +123,19 @@ module _ (x : Setting) (params slots : ℕ) (fit : SlotsFit x slots) (aside : As
   sets_behind h n f out v s pc i b may ov g stands =
       let c = bound_to h.scope.names n in
       let m = named IsOf h.scope.names s.names n g.typed b.named in
-      through_writes h c.static_type c.place (get_or s.names c.place nothing) f out v s pc i b.pointer m.holding
+      through_writes h c.static_type c.place (get_or s.names c.place nothing) f out v s pc i b.pointer b.certain m.holding
       (named_pointed h.scope.next h.scope.names s.names n b.numbers g.pointed b.named) refl (omega (arith, m.below, g.count))
       b.field may b.keeps ov g stands.0.0 stands.1
 
   through_folds : (d : Op) (h : Here) (t : StaticType) (p : ℕ) (u : Value) (f : Name) (out from : StaticType) (v : Value) (s : State) (pc : ℕ)
-      (i : Instance) → IsPointer t → IsOf t u → IsPointed h.scope.names s.names t u → get_or s.names p nothing ≡ u →
+      (i : Instance) → IsPointer t → has_wild (reaches_of t) ≡ false → IsOf t u → IsPointed h.scope.names s.names t u → get_or s.names p nothing ≡ u →
       p < length s.names → field_place h.tree (space_in t) f < length (space_at h.tree (space_in t)).fields →
       MayReach x.forms (where_of params h) (reaches_of t) (field_place h.tree (space_in t) f) (mode.Reduce d) →
-      FieldKeeps (field_kind h.tree (space_in t) (field_place h.tree (space_in t) f)) out → IsInteger out → IsInteger from → IsOf from v →
+      FieldKeeps (field_term h.tree (space_in t) (field_place h.tree (space_in t) f)) out → IsInteger out → IsInteger from → IsOf from v →
       Agrees x params slots aside h s i → Stands x.body pc (op (instr.Load (slot (where_of params h) p)) h.line) →
       Stands x.body (suc pc) (put_code (where_of params h) t (own_slot (where_of params h) t p) f (how.Reduce d)) →
       Does x params slots aside (valued pc [] v i) (suc (suc pc)) h (write_field h t f (how.Reduce d) v (aimed u) s)
-  through_folds d h _ p _ f _ _ _ s pc i (a_pointer_type k sp args rs names) (of_pointer _ _ _ _ tg qs o) pointed is low field may keeps
+  through_folds d h _ p _ f _ _ _ s pc i (a_pointer_type k sp args rs names) certain (of_pointer _ _ _ _ tg qs o) pointed is low field may keeps
       (an_integer wd) (an_integer we) (of_integer _ y q) g at put =
       let t = pointer_type k sp args rs in
       let r = write_field h t f (how.Reduce d) (a_number we y) (aimed_through qs tg) s in
@@ -143,7 +143,7 @@ module _ (x : Setting) (params slots : ℕ) (fit : SlotsFit x slots) (aside : As
       does_come x params slots fit aside (suc (suc pc)) h _ r
       (comes_before x shape (GoesOn x params slots fit aside h) _ _ r
       (loads h p (a_pointer tg qs) s pc (machine.Number y ∷ []) i is low g at)
-      (pointer_folds x params slots fit aside d h k sp (own_slot (where_of params h) t p) args rs f tg qs wd we y s (suc pc) [] i names pointed o
+      (pointer_folds x params slots fit aside d h k sp (own_slot (where_of params h) t p) args rs f tg qs wd we y s (suc pc) [] i names certain pointed o
       field may keeps g put))
 
   -- `p.f o= v`
@@ -155,6 +155,6 @@ module _ (x : Setting) (params slots : ℕ) (fit : SlotsFit x slots) (aside : As
   folds_behind d h n f out from v s pc i b may io ifrom ov g stands =
       let c = bound_to h.scope.names n in
       let m = named IsOf h.scope.names s.names n g.typed b.named in
-      through_folds d h c.static_type c.place (get_or s.names c.place nothing) f out from v s pc i b.pointer m.holding
+      through_folds d h c.static_type c.place (get_or s.names c.place nothing) f out from v s pc i b.pointer b.certain m.holding
       (named_pointed h.scope.next h.scope.names s.names n b.numbers g.pointed b.named) refl (omega (arith, m.below, g.count))
       b.field may b.keeps io ifrom ov g stands.0.0 stands.1

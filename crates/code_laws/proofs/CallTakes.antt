@@ -44,7 +44,7 @@ use Rattle.code_laws.proofs.Arguments.{first_region, goes_other, named_typed, no
 use Rattle.code_laws.proofs.Calling.{given_number}
 use Rattle.code_laws.proofs.Handing.{AreGivenBy, IsGivenBy, IsHandedAs, IsPartAs}
 use Rattle.code_laws.proofs.Parts.{IsColoured, colour_seen, cut_of, parent_inside, part_at_colour, part_lies_in, part_within, point_of}
-use Rattle.code_laws.proofs.Reaching.{a_region_there, field_there, part_lies, region_covered, region_had, region_lies_in}
+use Rattle.code_laws.proofs.Reaching.{a_region_there, field_there, kept_here, part_lies, region_covered, region_had, region_lies_in}
 use Rattle.code_laws.proofs.Requiring.{covered_within, requirements_there}
 use Rattle.code_laws.proofs.Values.{named}
 use Rattle.code_laws.proofs.Wider.{into_simple}
@@ -357,7 +357,7 @@ module _ (x : Setting) (params slots : ℕ) (fit : SlotsFit x slots) (aside : As
       (parted_at x.forms.keeps y w es (pairs_in (scope_of h.tree (task_named h.tree task)).known) p
       (subst (λ o. AreParted x.forms.keeps o w es (pairs_in (scope_of h.tree (task_named h.tree task)).known)) e fine.2)
       (Has-from_Contains (pairs_in (scope_of h.tree (task_named h.tree task)).known) p k)) a g in record {
-        takes = record { there = fine.0; taken = taken_by h s i ps es vs a g; parts = parts; needs = there.0; required = there.1 };
+        takes = record { there = fine.0; taken = taken_by h s i ps es vs a g; parts = parts; kept = kept_here x params slots aside h s i g; needs = there.0; required = there.1 };
         within = covered_within x.code c args ns there.0 i.needs there.1 (λ root field point m k.
             let n = k.need in
             let o = on n k.among in

@@ -50,6 +50,7 @@ use Rattle.memory_laws.proofs.Closed.{closed_stands}
 use Rattle.memory_laws.proofs.Covering.{covered_stays}
 use Rattle.memory_laws.proofs.Given.{given_holds, given_keeps_numbers}
 use Rattle.memory_laws.proofs.Returning.{returned_holds}
+use Rattle.value_laws.specs.Shapes.{KeepsNumbers}
 use Rattle.code_laws.specs.Taking.{is_asked}
 use Rattle.code_laws.proofs.Shapes.{shaped_stays}
 use Rattle.code_laws.specs.Standing.{Agrees, Answering, Aside, Comes, IsTaken, Matches, Returns, SlotsFit, Stands, Takes, both_back, both_broke, called_with, is_own, machine_value}
@@ -57,6 +58,7 @@ use Rattle.code_laws.specs.Steps.{Setting, Taking, machine_of, placed, on_step, 
 use Rattle.code_laws.proofs.Making.{same_names}
 use Rattle.code_laws.proofs.Openings.{least_slots, params_length, taken_length, types_length}
 use Rattle.code_laws.proofs.Prints.{pushed_all, takes_all}
+use Rattle.code_laws.proofs.Kept.{numbers_taken}
 use Rattle.code_laws.proofs.Reaching.{all_inside}
 use Rattle.code_laws.proofs.Runs.{ends_by, leads_by}
 use Rattle.regent_tree.specs.Scopes.{scope_of}
@@ -157,14 +159,14 @@ module _ (x : Setting) (params slots : ℕ) (fit : SlotsFit x slots) (aside : As
   agrees_after : (h : Here) (s : State) (i : Instance) (n pc : ℕ) (st : List MachineValue)
       (after : Store) (text : List ℕ) (z : ℤ) (own : List RootId) (c : Contents) →
       Agrees x params slots aside h s i → i.frame.turns ≡ suc n → SameRoots s.store (take (length s.store) after) →
-      StandFor x.code c [] after → AreOwn (numbers (give_parts i.parts i.contents)) own c →
+      KeepsNumbers h.tree after → StandFor x.code c [] after → AreOwn (numbers (give_parts i.parts i.contents)) own c →
       Agrees x params slots aside h (record s { turns = n; store = take (length s.store) after; text = s.text ++ text })
       (record (give_all (calls_out n pc st i)) {
         contents = closed own c;
         results = i.results ++ z ∷ [];
         text = i.text ++ text;
       })
-  agrees_after h s i n pc st after text z own c g e same stands is =
+  agrees_after h s i n pc st after text z own c g e same kept_after stands is =
       let given = given_holds x.code s.store i g.memory in
       let kept = given_keeps_numbers i.parts i.contents in
       let numbers_stay : numbers (closed own c) ≡ numbers i.contents =
@@ -196,6 +198,7 @@ module _ (x : Setting) (params slots : ℕ) (fit : SlotsFit x slots) (aside : As
         result_is = g.result_is;
         answers = g.answers;
         spaces = g.spaces;
+        tree_is = g.tree_is;
         memory = holds;
         framed = record {
           own_are = numbers_stay ∙ g.framed.own_are;
@@ -206,18 +209,19 @@ module _ (x : Setting) (params slots : ℕ) (fit : SlotsFit x slots) (aside : As
           given = λ n e. covered_stays x.code s.store (take (length s.store) after) (memory_of i)
               (record (memory_of i) { contents = closed own c; parts = [] }) (is_asked x.args n) g.memory numbers_stay refl same (g.framed.given n e);
           parts = g.framed.parts;
+          kept = subst (λ t. KeepsNumbers t (take (length s.store) after)) g.tree_is (numbers_taken h.tree after kept_after (length s.store));
         };
       }
 
   -- a call that was paid for, by what it gives
   comes_back : (h : Here) (s : State) (i j0 : Instance) (n pc : ℕ) (st : List MachineValue) →
       Agrees x params slots aside h s i → i.frame.turns ≡ suc n → (task : Name) (d : Called) (e : Ended) →
-      Matches x.code (Returns h.tree task) s.store (numbers (give_parts i.parts i.contents)) d e →
+      Matches h.tree x.code (Returns h.tree task) s.store (numbers (give_parts i.parts i.contents)) d e →
       ((r : Resumed) → on_resumed (after_call e (give_all (calls_out n pc st i))) (λ k. resumes.GoesOn k) ≡ r →
       ((k : Instance) → r ≡ resumes.GoesOn k → Leads x j0 k) × ((b : Ended) → r ≡ resumes.IsOver b → Ends x j0 b)) →
       Comes x j0 (pending i.frame.children (suc pc) st) (HasResult i.frame.children h task)
       (answered d (record s { turns = n }))
-  comes_back h s i j0 n pc st g q task _ _ (both_back v after text result own c typed value same stands is) by =
+  comes_back h s i j0 n pc st g q task _ _ (both_back v after text result own c typed value same kept_after stands is) by =
       let k = record (give_all (calls_out n pc st i)) {
         contents = closed own c;
         results = i.results ++ result_of result ∷ [];
@@ -226,7 +230,7 @@ module _ (x : Setting) (params slots : ℕ) (fit : SlotsFit x slots) (aside : As
         k,
         (by (resumes.GoesOn k) refl).0 k refl,
         (
-          agrees_after h s i n pc st after text (result_of result) own c g q same stands is,
+          agrees_after h s i n pc st after text (result_of result) own c g q same kept_after stands is,
           ap (λ m. get_or (i.results ++ result_of result ∷ []) m (pos 0)) g.calls.children
               ∙ get_or-append_seam i.results (result_of result) [] (pos 0) ∙ value,
           typed,

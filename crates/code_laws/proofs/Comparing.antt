@@ -16,7 +16,8 @@ use Rattle.machine_terms.specs.declared.order.Resumed.TheVariants.{GoesOn}
 use Rattle.machine_terms.specs.declared.value.Value.{Value as MachineValue}
 use Rattle.machine_terms.specs.declared.value.Value.TheVariants as machine
 use Rattle.code_rules.specs.Instructions.{one, operand_code, operating}
-use Rattle.code_laws.specs.Pointers.{AreCompared, IsCounting, IsPointer, IsTarget, a_pointer_type, compared_different, compared_equal, compared_left, compared_plain, compared_right, counts_number, counts_pointer}
+use Rattle.value_laws.specs.Shapes.{IsPosition}
+use Rattle.code_laws.specs.Pointers.{AreCompared, IsCounting, IsPointer, a_pointer_type, compared_different, compared_equal, compared_left, compared_plain, compared_right, counts_number, counts_pointer}
 use Rattle.code_laws.specs.Simple.{compare_numbers, compare_truths, number_index, number_integer}
 use Rattle.code_laws.specs.Standing.{Agrees, Aside, IsOf, SlotsFit, Stands, machine_value, of_pointer, of_truth, where_of}
 use Rattle.code_laws.specs.Steps.{Setting, placed}
@@ -58,7 +59,7 @@ right_fits _ _ _ (compared_different _ _ (a_pointer_type k sp args rs n) (a_poin
 abbrev pub operand_type : Bool → StaticType → StaticType
 operand_type b t = cond b t (counting_as t)
 
-target_round : (n : ℕ) (tg : Target) → IsTarget n tg → target_kept (kept_target tg) ≡ tg
+target_round : (n : ℕ) (tg : Target) → IsPosition n tg → target_kept (kept_target tg) ≡ tg
 target_round n null_target o = refl
 target_round n (point_target p i) o = kept_round p i o.0
 
@@ -72,7 +73,7 @@ module _ (x : Setting) (params slots : ℕ) (fit : SlotsFit x slots) (aside : As
   operand_runs h _ _ v s pc st i (stays t p) o g f = (i, leads_none x _, (o, g))
 
   -- two pointers are compared by their points
-  same_points : (a b : Target) (n m : ℕ) → IsTarget n a → IsTarget m b →
+  same_points : (a b : Target) (n m : ℕ) → IsPosition n a → IsPosition m b →
       same_target (target_kept (kept_target a)) (target_kept (kept_target b)) ≡ same_target a b
   same_points a b n m p q = ap (λ t. same_target t (target_kept (kept_target b))) (target_round n a p) ∙ ap (same_target a) (target_round m b q)
 

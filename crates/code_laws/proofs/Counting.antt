@@ -26,7 +26,8 @@ use Rattle.machine_terms.specs.declared.value.Value.TheVariants as machine
 use Rattle.machine_terms.specs.Pointers.{point}
 use Rattle.code_rules.specs.Instructions.{as_number_code, converted_code, one, operating, standing_code}
 use Rattle.code_rules.specs.Pieces.{op, past}
-use Rattle.code_laws.specs.Pointers.{GoesInto, IsCounting, IsNumberTerm, IsTarget, counts_number, counts_pointer, fills_alike, fills_index, into_index, into_plain, term_index, term_integer}
+use Rattle.value_laws.specs.Shapes.{IsPosition}
+use Rattle.code_laws.specs.Pointers.{GoesInto, IsCounting, IsNumberTerm, counts_number, counts_pointer, fills_alike, fills_index, into_index, into_plain, term_index, term_integer}
 use Rattle.code_laws.specs.Simple.{number_index, number_integer}
 use Rattle.code_laws.specs.Standing.{Agrees, Aside, Comes, IsOf, SlotsFit, Stands, machine_value, of_index, of_integer, of_pointer, where_of}
 use Rattle.code_laws.specs.Steps.{Setting, machine_of, on_step, placed}
@@ -41,7 +42,7 @@ point_fits n l = omega (arith, ints, l)
 module _ (x : Setting) (params slots : ℕ) (fit : SlotsFit x slots) (aside : Aside) where
   -- a pointer's point
   point_runs : (h : Here) (k : Kind) (n : ℕ) (tg : Target) (rs : List Region) (s : State) (pc : ℕ) (st : List MachineValue)
-      (i : Instance) → IsTarget n tg → Agrees x params slots aside h s i → Stands x.body pc (op instr.Point h.line) →
+      (i : Instance) → IsPosition n tg → Agrees x params slots aside h s i → Stands x.body pc (op instr.Point h.line) →
       Gives x params slots fit aside h (index_type k) (op instr.Point h.line) pc (machine.Number (kept_target tg) ∷ st) st i
       (standing h (a_pointer tg rs) s)
   point_runs h k n null_target rs s pc st i o g f = ends_by x _ _ instr.Point h.line f

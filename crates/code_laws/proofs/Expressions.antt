@@ -148,7 +148,7 @@ module _ (x : Setting) (params slots : ℕ) (fit : SlotsFit x slots) (aside : As
     value_runs h d low (cast_expr t e) s pc st i fine g f =
         let w = where_of params h in
         then x (comes_said x _ _) _ _ _ (value h e s) _ (value_runs h d low e s pc st i fine.3 g f.0)
-        (λ v s1 j k. cast_runs x params slots fit aside h (typed w e) _ _ _ _ v s1 _ st j fine.2 k.0 fine.1.1 k.1 f.1)
+        (λ v s1 j k. cast_runs x params slots fit aside h (typed w e) _ _ _ _ v s1 _ st j fine.2 k.0 fine.1.1 fine.4 k.1 f.1)
     value_runs h d low (space_expr k e) s pc st i fine g f =
         let w = where_of params h in
         then x (comes_said x _ _) _ _ _ (value h e s) _ (value_runs h d low e s pc st i fine.0 g f.0)

@@ -39,7 +39,7 @@ use Rattle.code_laws.specs.Typed.{IsScanned}
 use Rattle.code_laws.proofs.Columns.{columns}
 use Rattle.code_laws.proofs.Cuts.{GoodCut, NamedRegion, coloured_runs, cut_is, made_runs, region_named_there, sound_by}
 use Rattle.code_laws.proofs.Good.{valued}
-use Rattle.code_laws.proofs.Reaching.{reached, rewritten}
+use Rattle.code_laws.proofs.Reaching.{kept_here, reached, rewritten}
 use Rattle.code_laws.proofs.Runs.{comes_before, leads_by}
 use Rattle.code_laws.proofs.Touching.{parted}
 
@@ -103,6 +103,6 @@ module _ (x : Setting) (params slots : ℕ) (fit : SlotsFit x slots) (aside : As
               q.lies.there,
               cut_is x params slots fit aside h r s i q sets by_field_flag scanned.parent parts (λ e. apart)
                   (omega (arith, few, length_made (λ c. points_where (λ z. is_point c (point_named false z)) q.region.points zs) n)) g,
-              rewritten x params slots aside h s i ps (s.touches ++ touch_all q.region.root place mode.Read q.region.points) s.store refl g holds,
+              rewritten x params slots aside h s i ps (s.touches ++ touch_all q.region.root place mode.Read q.region.points) s.store refl (kept_here x params slots aside h s i g) g holds,
             ),
           )

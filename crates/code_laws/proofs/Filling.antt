@@ -15,8 +15,8 @@ use Rattle.regent_tree.specs.Execution.{Going, fill_fields}
 use Rattle.regent_tree.specs.Laws.{SameRoots}
 use Rattle.regent_tree.specs.Running.{State, Here, and_then}
 use Rattle.regent_tree.specs.Scopes.{bound_to}
-use Rattle.regent_tree.specs.StaticTypes.{field_kind, field_place, field_type}
-use Rattle.regent_tree.specs.Store.{Store, touch_all, write_all, write_at}
+use Rattle.regent_tree.specs.StaticTypes.{field_kind, field_place, field_term, field_type}
+use Rattle.regent_tree.specs.Store.{no_root, Store, touch_all, write_all, write_at}
 use Rattle.regent_tree.specs.Syntax.{Name}
 use Rattle.regent_tree.specs.Values.{Region, Value, a_region, kept_number}
 use Rattle.regent_tree.proofs.Roots.{shapes_written}
@@ -48,12 +48,14 @@ use Rattle.code_laws.specs.Steps.{Setting, machine_of, placed, on_step, Leads}
 use Rattle.code_laws.specs.Standing.{Agrees, Aside, Comes, IsInside, IsOf, SlotsFit, Stands, blank, machine_value, nothing, where_of}
 use Rattle.code_laws.specs.Typed.{AreFilled, MayFill}
 use Rattle.code_laws.proofs.Accesses.{region_there}
-use Rattle.code_laws.proofs.Reaching.{reached, region_stays, rewritten}
+use Rattle.code_laws.proofs.Kept.{kept_as, numbers_at_all}
+use Rattle.code_laws.proofs.Moving.{filled_at}
+use Rattle.code_laws.proofs.Reaching.{kept_here, reached, region_lies_in, region_stays, rewritten}
 use Rattle.code_laws.proofs.Runs.{comes_before, leads_by, leads_none, leads_twice}
 use Rattle.code_laws.proofs.Touching.{parted, same_width-itself, touches}
 use Rattle.code_laws.proofs.Values.{load_value}
 use Rattle.code_laws.proofs.Wider.{any_field, filling}
-use Rattle.code_laws.proofs.Writes.{GoesOn, converted_at, field_kept, field_value}
+use Rattle.code_laws.proofs.Writes.{GoesOn, field_value}
 
 -- writes keep the shapes of roots
 pub all_written : (store : Store) (root field : ℕ) (xs : List ℕ) (z : ℤ) → SameRoots store (write_all store root field xs z)
@@ -195,11 +197,13 @@ module _ (x : Setting) (params slots : ℕ) (fit : SlotsFit x slots) (aside : As
       slice_get-get_or i.frame.slots k blank (omega (arith, fit pc _ stands.0, g.slots_are)) ∙ ap (λ u. Some u) kept_there in
       let shape : Going → Instance → Instance = λ g j. placed (past (fill_code w from t (slot_named w r) (f ∷ fs)) pc) [] j in
       let a = past (converted_code w from out) (suc pc) in
-      let c = converted_at x params slots fit aside h from out v s (suc pc) [] i (filling x.forms.keeps from out fine.0) o stands.1.0 in
+      let c = filled_at x params slots fit aside h from out v s (suc pc) [] i (filling x.forms.keeps from out fine.0) o stands.1.0 in
       let u = c.value in
       let field = any_field x.forms.keeps w r f out fine.1 in
       let wide = width_of kind in
-      let fk = field_kept kind out u field.keeps c.typed in
+      let declared = field_term h.tree (space_in t) place in
+      let sound = kept_as declared out u field.keeps c.typed in
+      let fk : IsKept kind (kept_number u) = (sound.fits, sound.same) in
       let stays : wrapped wide (kept_number u) ≡ kept_number u = int_wrap_fits (std_width wide) (kept_number u) fk.0 in
       let fill_at = stands.1.1.0 in
       let room : slot w p < slots = omega (arith, fit a _ fill_at) in
@@ -217,14 +221,16 @@ module _ (x : Setting) (params slots : ℕ) (fit : SlotsFit x slots) (aside : As
       subst (λ y. Holds x.code (write_all s.store q.root place q.points y) (memory_of (parted filled.0 i))) stays filled.2 in
       let ts = s.touches ++ touch_all q.root place mode.Write q.points in
       let roots = all_written s.store q.root place q.points (kept_number u) in
-      let g2 = rewritten x params slots aside h s i filled.0 ts store roots g holds in
+      let root_is : (get_or s.store q.root no_root).space ≡ space_in t = (region_lies_in x s.store t q kind_is lies).of_space in
+      let kept = numbers_at_all h.tree s.store (kept_here x params slots aside h s i g) q.root place (space_in t) q.points (kept_number u) root_is sound in
+      let g2 = rewritten x params slots aside h s i filled.0 ts store roots kept g holds in
       comes_before x shape (GoesOn x params slots fit aside h) (placed pc [] i) (placed (suc pc) (machine_value i.contents v ∷ []) i) _
       (leads_by x _ _ (instr.Load k) h.line stands.0
       (ap (λ u. on_step x (placed pc [] i) (load (machine_of (placed pc [] i)) u)) there
       ∙ ap (on_step x (placed pc [] i)) (load_value i.contents v (machine_of (placed pc [] i)))))
       (comes_before x shape (GoesOn x params slots fit aside h) _ (placed a (machine_value i.contents u ∷ []) i) _ c.leads
       (subst (λ y. Comes x (placed a (y ∷ []) i) shape (GoesOn x params slots fit aside h) (fill_fields h from v t q (f ∷ fs) s))
-      (sym (field_value i.contents kind out u field.keeps c.typed))
+      (sym (field_value i.contents declared out u field.keeps c.typed))
       (comes_before x shape (GoesOn x params slots fit aside h) (placed a (machine.Number (kept_number u) ∷ []) i)
       (placed (suc a) [] (parted filled.0 i)) _ filled.1
       (subst (λ y. Comes x (placed (suc a) [] (parted filled.0 i)) shape (GoesOn x params slots fit aside h) y)

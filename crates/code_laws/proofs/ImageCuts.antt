@@ -55,7 +55,7 @@ use Rattle.code_laws.proofs.Cuts.{GoodCut, NamedRegion, all_within, cut_is, made
 use Rattle.code_laws.proofs.Good.{valued}
 use Rattle.code_laws.proofs.PairCuts.{NamedPartition, partition_named_there, sets_there}
 use Rattle.code_laws.proofs.Parts.{parent_inside}
-use Rattle.code_laws.proofs.Reaching.{Reached, reached, region_had, rewritten}
+use Rattle.code_laws.proofs.Reaching.{kept_here, Reached, reached, region_had, rewritten}
 use Rattle.code_laws.proofs.Rows.{three_least}
 use Rattle.code_laws.proofs.Runs.{comes_before, leads_by}
 use Rattle.code_laws.proofs.Touching.{parted}
@@ -227,7 +227,7 @@ module _ (x : Setting) (params slots : ℕ) (fit : SlotsFit x slots) (aside : As
               a.lies.there,
               cut_is x params slots fit aside h n s i a new d parent parts apart
                   (omega (arith, q.cut.few, mapping.long a.region.points q.partition.sets b.region.points zs pointers)) g,
-              rewritten x params slots aside h s i ps (s.touches ++ touch_all b.region.root place mode.Read b.region.points) s.store refl g holds,
+              rewritten x params slots aside h s i ps (s.touches ++ touch_all b.region.root place mode.Read b.region.points) s.store refl (kept_here x params slots aside h s i g) g holds,
             ),
           )
 

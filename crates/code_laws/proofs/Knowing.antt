@@ -1,31 +1,39 @@
 -- What is known of the value that an expression gives: the regions of a pointer are those that its type names.
-use Rattle.std.proofs.Common.{◌≡◌, ℕ, List, [], ◌∷◌, Bool, true, false, ℤ, pos, negsuc, Some, refl, sym, subst}
+use Rattle.std.proofs.Common.{◌≡◌, ◌⊎◌, ⊎_elim, inl, inr, ℕ, List, [], ◌∷◌, Bool, true, false, ℤ, pos, negsuc, Some, refl, sym, ap, ◌∙◌, subst}
 use Rattle.std.specs.Prelude.{get_or, length}
 use Rattle.plain_values.specs.Points.{has}
-use Rattle.regent_tree.specs.Accesses.{converted, regions_reached, regions_written, space_in, standing, take_element}
+use Rattle.lane_kernels.specs.declared.numbers.FieldKind.{FieldKind}
+use Rattle.lane_kernels.specs.declared.numbers.FieldKind.TheVariants.{Index, Int32, Int64, Pointer, Truth}
+use Rattle.lane_kernels.specs.declared.numbers.Mode.TheVariants as mode
+use Rattle.regent_tree.specs.Accesses.{Aim, aimed_through, converted, hits, misses, read_field, regions_reached, regions_written, space_in, standing, take_element}
 use Rattle.regent_tree.specs.Evaluation.{stepped, value}
 use Rattle.regent_tree.specs.Laws.{Leaves, SameNames}
 use Rattle.regent_tree.specs.Operators.{cast_to}
 use Rattle.regent_tree.specs.Running.{Here, Result, Run, State, and_then, fails, fault, given, gives, if_true}
 use Rattle.regent_tree.specs.Scopes.{bound_to}
-use Rattle.regent_tree.specs.Syntax.{Expression, number_expr, truth_expr, chain_expr, prefix_expr, call_expr, access_expr, convert_expr, is_null_expr, null_expr, cast_expr, space_expr, no_step, field_step, at_step}
-use Rattle.regent_tree.specs.Typing.{reaches_of, taken_from, type_of_element}
-use Rattle.regent_tree.specs.Values.{Region, Value, a_number, a_partition, a_pointer, a_region, a_space, a_truth, an_index, null_target, number_of, point_target}
+use Rattle.regent_tree.specs.StaticTypes.{Reach, field_kind, field_place, field_type}
+use Rattle.regent_tree.specs.Syntax.{Expression, Name, number_expr, truth_expr, chain_expr, prefix_expr, call_expr, access_expr, convert_expr, is_null_expr, null_expr, cast_expr, space_expr, no_step, field_step, at_step}
+use Rattle.regent_tree.specs.Typing.{reaches_of, taken_from, type_of_element, type_of_field}
+use Rattle.regent_tree.specs.Values.{Region, Value, a_number, a_partition, a_pointer, a_region, a_space, a_truth, an_index, meant, null_target, number_of, point_target}
 use Rattle.regent_tree.specs.declared.outcome.FaultKind.TheVariants.{OutOfRegion}
+use Rattle.regent_tree.specs.declared.types.Kind.{Kind}
+use Rattle.regent_tree.specs.declared.typing.Bound.{Bound}
 use Rattle.regent_tree.specs.declared.typing.StaticType.{StaticType}
 use Rattle.regent_tree.specs.declared.typing.StaticType.TheVariants.{Pointer as pointer_type, Region as region_type}
 use Rattle.regent_tree.proofs.Laws.{expressions_keep_names}
 use Rattle.machine_terms.specs.declared.order.Instance.{Instance}
 use Rattle.code_rules.specs.Slots.{typed}
-use Rattle.code_laws.specs.Pointers.{ArePointed, AreReached, IsPointed, IsPointer, IsWritten, a_pointer_type}
-use Rattle.code_laws.specs.Simple.{IsRegion, a_region_type}
-use Rattle.code_laws.specs.Standing.{AreOf, Comes, IsOf, nothing, of_region, where_of}
+use Rattle.code_laws.specs.Arguments.{IsCutName}
+use Rattle.code_laws.specs.Pointers.{ArePointed, AreReached, AreThere, IsPointed, IsPointer, IsWritten, a_pointer_type}
+use Rattle.code_laws.specs.Simple.{IsPartition, IsRegion, a_partition_type, a_region_type}
+use Rattle.code_laws.specs.Standing.{AreOf, Comes, IsOf, nothing, of_partition, of_pointer, of_region, where_of}
 use Rattle.code_laws.specs.Steps.{Forms, Setting}
-use Rattle.code_laws.specs.Typed.{IsPointing, IsTyped}
+use Rattle.code_laws.specs.Typed.{IsBehind, IsPointing, IsTyped, MayGo, element_field, field_behind}
 use Rattle.code_laws.proofs.Pointing.{named_pointed, own_reached}
 use Rattle.code_laws.proofs.PointerValues.{there_reached}
 use Rattle.code_laws.proofs.Runs.{Said}
 use Rattle.code_laws.proofs.Values.{named}
+use Rattle.code_laws.proofs.Wider.{any_field}
 
 -- what a result gives, if anything
 abbrev pub GivesOnly : {A : Type 0} → (A → State → Type 0) → Result A → Type 0
@@ -41,19 +49,20 @@ then_known x T said P shape G i (fails f s) K p c more = said.failing i f s c
 
 -- ---- elements
 
-module _ (h : Here) (P : Value → State → Type 0) (q : Region) where
-  taken : (z : ℤ) (s : State) → ((n : ℕ) → P (a_pointer (point_target n 1) (q ∷ [])) s) →
-      GivesOnly P (and_then (take_element h z (a_region q) s) (λ v. given v))
+module _ (h : Here) (P : Value → State → Type 0) (q : Region) (K : Value → Run Value) where
+  taken : (z : ℤ) (s : State) → ((n : ℕ) → GivesOnly P (K (a_pointer (point_target n 1) (q ∷ [])) s)) →
+      GivesOnly P (and_then (take_element h z (a_region q) s) K)
   taken (negsuc n) s p = tt
   taken (pos n) s p = by (has q.points n)
     where
-      by : (b : Bool) → GivesOnly P (and_then (if_true b (given (a_pointer (point_target n 1) (q ∷ []))) (fault h OutOfRegion) s) (λ v. given v))
+      by : (b : Bool) → GivesOnly P (and_then (if_true b (given (a_pointer (point_target n 1) (q ∷ []))) (fault h OutOfRegion) s) K)
       by true = p n
       by false = tt
 
   -- whatever stands for the index
-  element_only : (r : Result Value) (s : State) → Leaves SameNames s r → ((s1 : State) (n : ℕ) → s1.names ≡ s.names → P (a_pointer (point_target n 1) (q ∷ [])) s1) →
-      GivesOnly P (and_then r (λ w s1. and_then (standing h w s1) (λ z. λ s2. and_then (take_element h (number_of z) (a_region q) s2) (λ v. given v))))
+  element_only : (r : Result Value) (s : State) → Leaves SameNames s r →
+      ((s1 : State) (n : ℕ) → s1.names ≡ s.names → GivesOnly P (K (a_pointer (point_target n 1) (q ∷ [])) s1)) →
+      GivesOnly P (and_then r (λ w s1. and_then (standing h w s1) (λ z. λ s2. and_then (take_element h (number_of z) (a_region q) s2) K)))
   element_only (fails f s1) s same p = tt
   element_only (gives (a_number w z) s1) s same p = taken z s1 (λ n. p s1 n same)
   element_only (gives (a_truth b) s1) s same p = taken (pos 0) s1 (λ n. p s1 n same)
@@ -69,9 +78,52 @@ element_pointed : (h : Here) (t : StaticType) (v : Value) (e : Expression) (s : 
     ((q : Region) → v ≡ a_region q → AreReached h.scope.names s.names (space_in t) (reaches_of (taken_from t)) (q ∷ [])) →
     GivesOnly (λ u s1. IsPointed h.scope.names s1.names (type_of_element h.scope t e) u) (stepped h t v (at_step e no_step) s)
 element_pointed h _ _ e s (a_region_type k sp args r) (of_region _ _ _ _ q) reach =
-    element_only h (λ u s1. IsPointed h.scope.names s1.names (type_of_element h.scope (region_type k sp args r) e) u) q (value h e s) s
+    element_only h (λ u s1. IsPointed h.scope.names s1.names (type_of_element h.scope (region_type k sp args r) e) u) q (λ v. given v) (value h e s) s
     (expressions_keep_names h e s)
     (λ s1 n names. subst (λ ns. AreReached h.scope.names ns sp (Some r ∷ []) (q ∷ [])) (sym names) (reach q refl))
+
+-- ---- fields
+
+-- a pointer that a field keeps goes to the regions that the field's type names
+meant_pointed : (bs : List Bound) (names : List Value) (t : StaticType) (kind : FieldKind) (rs : List Region) (z : ℤ) →
+    AreReached bs names (space_in t) (reaches_of t) rs → IsPointed bs names t (meant kind rs z)
+meant_pointed bs names t Int32 rs z a = tt
+meant_pointed bs names t Int64 rs z a = tt
+meant_pointed bs names t Truth rs z a = tt
+meant_pointed bs names t Index rs z a = tt
+meant_pointed bs names t Pointer rs z a = a
+
+-- where these are in scope
+abbrev AreInScope : Here → State → StaticType → Type 0
+AreInScope h s t = AreOf IsOf h.scope.names s.names × (length s.names ≡ length h.scope.names) × AreThere h.scope.names (space_in t) (reaches_of t)
+
+read_pointed : (h : Here) (k : Kind) (sp : ℕ) (args rs : List Reach) (f : Name) (aim : Aim) (s : State) → AreInScope h s (field_type h.tree sp args f) →
+    GivesOnly (λ u s1. IsPointed h.scope.names s1.names (field_type h.tree sp args f) u)
+    (and_then (read_field h (pointer_type k sp args rs) f aim s) (λ v. given v))
+read_pointed h k sp args rs f (misses fault) s a = tt
+read_pointed h k sp args rs f (hits root n) s a =
+    let t = field_type h.tree sp args f in
+    meant_pointed h.scope.names s.names t (field_kind h.tree sp (field_place h.tree sp f)) (regions_reached h.scope s.names (reaches_of t)) _
+    (there_reached h.scope s.names (space_in t) (reaches_of t) a.0 a.1 a.2)
+
+-- `p.f`, for a name that has a pointer or a partition
+behind_pointed : (h : Here) (t : StaticType) (f : Name) (v : Value) (s : State) → IsPointer t ⊎ IsPartition t → IsOf t v →
+    AreInScope h s (type_of_field h.tree t f) →
+    GivesOnly (λ u s1. IsPointed h.scope.names s1.names (type_of_field h.tree t f) u) (stepped h t v (field_step f no_step) s)
+behind_pointed h _ f _ s (inl (a_pointer_type k sp args rs ns)) (of_pointer _ _ _ _ tg qs o) a = read_pointed h k sp args rs f (aimed_through qs tg) s a
+behind_pointed h _ f _ s (inr (a_partition_type d r p)) (of_partition _ _ _ q) a = tt
+
+-- `r[e].f`, for a name that has a region
+field_pointed : (h : Here) (t : StaticType) (v : Value) (e : Expression) (f : Name) (s : State) → IsRegion t → IsOf t v →
+    AreInScope h s (type_of_field h.tree (type_of_element h.scope t e) f) →
+    GivesOnly (λ u s1. IsPointed h.scope.names s1.names (type_of_field h.tree (type_of_element h.scope t e) f) u)
+    (stepped h t v (at_step e (field_step f no_step)) s)
+field_pointed h _ _ e f s (a_region_type k sp args r) (of_region _ _ _ _ q) a =
+    element_only h (λ u s1. IsPointed h.scope.names s1.names (field_type h.tree sp args f) u) q
+    (λ v. stepped h (type_of_element h.scope (region_type k sp args r) e) v (field_step f no_step)) (value h e s) s
+    (expressions_keep_names h e s)
+    (λ s1 n names. read_pointed h k sp args (Some r ∷ []) f (aimed_through (q ∷ []) (point_target n 1)) s1
+    (subst (λ ns. AreOf IsOf h.scope.names ns) (sym names) a.0, ap length names ∙ a.1, a.2))
 
 -- ---- written types
 
@@ -116,8 +168,25 @@ pointing forms params h (cast_expr t e) s fine p a o long = by (value h e s) (ex
     by (gives v s1) same = cast_pointed h s1.names (typed (where_of params h) (cast_expr t e)) v _
         (written_reached h (typed (where_of params h) (cast_expr t e)) s s1 fine.1 o long same)
     by (fails f s1) same = tt
-pointing forms params h (access_expr n (field_step _ _)) s fine p a o long = absurd p
-pointing forms params h (access_expr n (at_step _ (field_step _ _))) s fine p a o long = absurd p
+pointing forms params h (access_expr n (field_step f no_step)) s fine p a o long =
+    let b = bound_to h.scope.names n in
+    ⊎_elim
+    (λ (c : IsBehind (where_of params h) n f (field_behind (where_of params h) n f) × MayGo forms (where_of params h) n f mode.Read).
+    behind_pointed h b.static_type f (get_or s.names b.place nothing) s (inl c.0.pointer)
+    (named IsOf h.scope.names s.names n o c.0.named).holding (o, long, p))
+    (λ (c : IsCutName (where_of params h) n).
+    behind_pointed h b.static_type f (get_or s.names b.place nothing) s (inr c.partition)
+    (named IsOf h.scope.names s.names n o c.named).holding (o, long, p))
+    fine.1
+pointing forms params h (access_expr n (at_step e (field_step f no_step))) s fine p a o long =
+    let b = bound_to h.scope.names n in
+    let field = any_field forms.keeps (where_of params h) n f (element_field (where_of params h) n e f) fine.3 in
+    let m = named IsOf h.scope.names s.names n o field.named in
+    field_pointed h b.static_type (get_or s.names b.place nothing) e f s field.region m.holding (o, long, p)
+pointing forms params h (access_expr n (field_step _ (field_step _ _))) s fine p a o long = absurd p
+pointing forms params h (access_expr n (field_step _ (at_step _ _))) s fine p a o long = absurd p
+pointing forms params h (access_expr n (at_step _ (field_step _ (field_step _ _)))) s fine p a o long = absurd p
+pointing forms params h (access_expr n (at_step _ (field_step _ (at_step _ _)))) s fine p a o long = absurd p
 pointing forms params h (access_expr n (at_step _ (at_step _ _))) s fine p a o long = absurd p
 pointing forms params h (number_expr _ _) s fine p a o long = absurd p
 pointing forms params h (truth_expr _) s fine p a o long = absurd p

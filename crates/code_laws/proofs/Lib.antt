@@ -7,6 +7,7 @@ pub mod States
 pub mod Places
 pub mod Counts
 pub mod Good
+pub mod Kept
 pub mod Touching
 pub mod Shapes
 pub mod Rooted

@@ -44,12 +44,13 @@ use Rattle.code_laws.proofs.LocalPoints.{at_point, behind_name, gone, is_behind,
 use Rattle.code_laws.proofs.LocalValues.{value_assigned, value_integer}
 use Rattle.code_laws.specs.Pointers.{CountsAs}
 use Rattle.code_laws.proofs.Privileges.{mode_in}
-use Rattle.code_laws.proofs.LocalFields.{IsHeld, held_goes, held_into, held_simple}
+use Rattle.code_laws.proofs.LocalFields.{IsHeld, held_assigned, held_simple}
 use Rattle.code_laws.proofs.LocalNames.{kept_integer, IsLocalTree, kept_as_value, named_kept, named_place, taking_told, value_kept}
 use Rattle.code_laws.proofs.LocalParts.{and_then}
 use Rattle.code_laws.proofs.LocalTypes.{either, simple_as_integer}
 use Rattle.code_laws.proofs.TypedStatements.{first_stands, told_later, told_privileges}
 use Rattle.code_laws.proofs.Typing.{AreKept, no_way}
+use Rattle.code_laws.proofs.Wider.{assigned}
 use Rattle.scalar_form.specs.ScalarForm.{is_scalar_if_said}
 use Rattle.code_laws.proofs.LocalVariables.{at, headed, stands_as}
 use Rattle.regent_tree.specs.declared.typing.StaticType.{StaticType}
@@ -159,7 +160,7 @@ module _ (handing keeping : Bool) (tree : Tree) (task : TaskTree) (sound : IsSou
       let spot = ap (λ b. typed_spot (cond b unknown_type u)) (told_later tree task s form none).0 ∙ ap typed_spot target.known in
       let fit = stands_as handing keeping tree task sound sound_task m local params result s y (typed_spot (element_field (here s line) n e f)) scope told (subst (λ p. may_stand s.known (stands (known_type tree s y) p) ≡ true) spot
       (first_stands s.known (stands (known_type tree s y) (spot_of_target (mistargets task s.names n steps how.Set u) how.Set u)) [] parts.4).0) in (
-        held_into keeping m.index_fields f s.names s.known (type_of tree s y) _ (element_field (here s line) n e f) a.value target.held fit,
+        held_assigned keeping m.index_fields f s.names s.known (type_of tree s y) _ (element_field (here s line) n e f) a.value target.held fit,
         a.is,
         target.index,
         target.number,
@@ -240,7 +241,7 @@ module _ (handing keeping : Bool) (tree : Tree) (task : TaskTree) (sound : IsSou
       let fit = stands_as handing keeping tree task sound sound_task m local params result s y (typed_spot out) scope told (subst (λ p. may_stand s.known (stands (known_type tree s y) p) ≡ true) spot
       (first_stands s.known (stands (known_type tree s y) (spot_of_target (mistargets task s.names n steps how.Set u) how.Set u)) [] parts.4).0) in (
         target.keeps,
-        held_goes keeping m.index_fields f s.names s.known (type_of tree s y) _ out a.value target.held fit,
+        assigned keeping (type_of tree s y) out (held_assigned keeping m.index_fields f s.names s.known (type_of tree s y) _ out a.value target.held fit),
         a.is,
         target.behind,
         target.may access.Write (told_privileges tree task s form none).0,

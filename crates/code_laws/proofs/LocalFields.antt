@@ -20,14 +20,13 @@ use Rattle.check_rules.specs.types.Fitting.{fits}
 use Rattle.code_rules.specs.Slots.{Where, bound}
 use Rattle.scalar_form.specs.ScalarForm.{is_scalar_term}
 use Rattle.local_form.specs.LocalForm.{is_among}
-use Rattle.code_laws.specs.Pointers.{FieldKeeps, FillsInto, FitsInto, GoesInto, fills_index, into_index, into_plain, keeps_index, keeps_plain}
+use Rattle.code_laws.specs.Pointers.{FillsInto, FitsInto, IsAssigned, KeepsAs, filled_plain, fills_index, into_index, into_plain, keeps_index, keeps_plain}
 use Rattle.code_laws.specs.Simple.{FieldFits, IsRegion, IsScalar, IsSimple, number_index, number_integer, simple_index, simple_integer, simple_space, simple_truth}
 use Rattle.code_laws.specs.Typed.{IsFieldOf}
 use Rattle.code_laws.proofs.LocalTypes.{simple_fitting, term_fits, term_scalar}
-use Rattle.code_laws.proofs.LocalValues.{IsValue, alike_filled, alike_fits, value_fitting, value_pointer, value_simple}
+use Rattle.code_laws.proofs.LocalValues.{IsValue, alike_filled, alike_fits, fitting_assigned, value_fitting, value_pointer, value_simple}
 use Rattle.code_laws.proofs.Typing.{no_way, no_way_back}
 use Rattle.code_laws.proofs.Values.{scalar_simple}
-use Rattle.code_laws.proofs.Wider.{going}
 
 -- a field's term is a number or truth, or an index, and then the field's name is marked
 pub data IsFieldTerm (keeping : Bool) (marked : List Name) (f : Name) : TypeTerm → Type 0 where
@@ -56,9 +55,9 @@ module _ (keeping : Bool) (marked : List Name) (f : Name) where
   held_unmarked k t (held_scalar _ _ s fit) e = s
   held_unmarked _ _ (held_index k q h) e = absurd (no_way (sym h ∙ e))
 
-  pub held_keeps : (k : FieldKind) (t : StaticType) → Held k t → FieldKeeps k t
-  held_keeps k t (held_scalar _ _ s fit) = keeps_plain k t fit
-  held_keeps _ _ (held_index k q h) = keeps_index k
+  pub held_keeps : (k : FieldKind) (n : ℕ) (t : StaticType) → Held k t → KeepsAs k n t
+  held_keeps k n t (held_scalar _ _ s fit) = keeps_plain k n t fit
+  held_keeps _ n _ (held_index k q h) = keeps_index n k
 
   -- what fits the field goes into it
   index_into : (b : Bool) (bs : List Bound) (known : List Known) (from : StaticType) (k : Kind) → b ≡ true → IsValue b bs from →
@@ -75,16 +74,16 @@ module _ (keeping : Bool) (marked : List Name) (f : Name) where
   held_into bs known from k t a (held_scalar _ _ s fit) e = alike_fits keeping from t (value_fitting keeping bs known from t a s e)
   held_into bs known from _ _ a (held_index k q h) e = index_into keeping bs known from k q a e
 
-  pub held_goes : (bs : List Bound) (known : List Known) (from : StaticType) (k : FieldKind) (t : StaticType) → IsValue keeping bs from → Held k t →
-      fits known from t ≡ true → GoesInto from t
-  held_goes bs known from k t a h e = going keeping from t (held_into bs known from k t a h e)
+  pub held_assigned : (bs : List Bound) (known : List Known) (from : StaticType) (k : FieldKind) (t : StaticType) → IsValue keeping bs from → Held k t →
+      fits known from t ≡ true → IsAssigned keeping from t
+  held_assigned bs known from k t a h e = fitting_assigned keeping from t (held_into bs known from k t a h e)
 
   -- so does what a fill brings, which is no pointer
   index_fills : (b : Bool) (known : List Known) (from : StaticType) (k : Kind) → b ≡ true → IsSimple from → fits known from (index_type k) ≡ true →
       FillsInto b from (index_type k)
   index_fills false known from k q a e = absurd (no_way_back q)
-  index_fills true known _ k q (simple_integer w) e = fills_index _ k (number_integer w)
-  index_fills true known _ k q (simple_index j) e = fills_index _ k (number_index j)
+  index_fills true known _ k q (simple_integer w) e = filled_plain _ _ (fills_index _ k (number_integer w))
+  index_fills true known _ k q (simple_index j) e = filled_plain _ _ (fills_index _ k (number_index j))
   index_fills true known _ k q simple_truth e = absurd (no_way_back e)
   index_fills true known _ k q (simple_space j) e = absurd (no_way_back e)
 
@@ -102,4 +101,4 @@ held_field false marked w n f t named region field held = record { named = named
     fitting : (k : FieldKind) (t : StaticType) → IsHeld false marked f k t → FieldFits k t
     fitting k t (held_scalar _ _ s fit) = fit
     fitting _ _ (held_index k q h) = absurd (no_way_back q)
-held_field true marked w n f t named region field held = record { named = named; region = region; field = field; keeps = held_keeps true marked f _ t held }
+held_field true marked w n f t named region field held = record { named = named; region = region; field = field; keeps = held_keeps true marked f _ _ t held }

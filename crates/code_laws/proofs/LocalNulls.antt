@@ -9,7 +9,7 @@ use Rattle.regent_tree.specs.Lookup.{has_space, is_bound, type_named}
 use Rattle.regent_tree.specs.Scopes.{Scope, bound_to, in_scope}
 use Rattle.regent_tree.specs.StaticTypes.{looked_up, place_of_space, type_said, written_pointer}
 use Rattle.regent_tree.specs.Syntax.{Expression, Name, TaskTree, Tree, cast_expr, is_null_expr, null_expr}
-use Rattle.regent_tree.specs.Typing.{is_pointer}
+use Rattle.regent_tree.specs.Typing.{has_wild, is_pointer, reaches_of}
 use Rattle.regent_tree.specs.declared.facts.Known.{Known}
 use Rattle.regent_tree.specs.declared.facts.Term.TheVariants as place
 use Rattle.regent_tree.specs.declared.types.Kind.{Kind}
@@ -51,7 +51,7 @@ use Rattle.code_laws.proofs.LocalElements.{region_among, region_found, region_ty
 use Rattle.code_laws.proofs.LocalNames.{AllKept, IsKept, IsLocalTree, kept_partition, kept_region, kept_scalar, kept_value, named_kept}
 use Rattle.code_laws.proofs.LocalPoints.{IsWell, local_known, scalar_well}
 use Rattle.code_laws.proofs.LocalTypes.{term_scalar}
-use Rattle.code_laws.proofs.LocalValues.{AreAmong, IsRegionAmong, IsValue, alike_begins, names_among, scalar_begins, value_counts, value_fitting, value_pointer, value_simple}
+use Rattle.code_laws.proofs.LocalValues.{AreAmong, IsRegionAmong, IsValue, alike_begins, names_among, none_wild, scalar_begins, value_counts, value_fitting, value_pointer, value_simple}
 use Rattle.code_laws.proofs.Typing.{no_way, no_way_back, stands_well}
 use Rattle.code_laws.proofs.Values.{scalar_simple}
 use Rattle.code_laws.proofs.Wider.{counting}
@@ -77,6 +77,7 @@ module _ (keeping : Bool) (m : Marked) (keeps : m.keeps ≡ true → keeping ≡
     pub keep : keeping ≡ true
     pub value : IsValue keeping s.names u
     pub written : IsWritten s.names u
+    pub certain : has_wild (reaches_of u) ≡ false
 
   -- a name in the type's list is bound to a region of the pointer's field space
   record IsNamed (p : PointerTerm) (n : Name) : Type 0 where
@@ -141,6 +142,7 @@ module _ (keeping : Bool) (m : Marked) (keeps : m.keeps ≡ true → keeping ≡
         keep = some.0;
         value = value_pointer p.kind _ _ reaches some.0 named.0;
         written = (a_pointer_type _ _ _ reaches (names_among s.names reaches named.0), named.1);
+        certain = none_wild s.names reaches named.0;
       }
 
   -- a type of which nothing is told is as it is written
@@ -245,7 +247,7 @@ module _ (handing keeping : Bool) (task : TaskTree) (w : Where) (sound : IsSound
       let may = stands_well [] (typed w e) number_spot (subst (λ u. first_of_standing [] (stands u number_spot) ≡ None) (known e told.0) more.0) in
       let counts = counting keeping (typed w e) (value_counts keeping w.scope.names (typed w e) a.value may) in
       let is = pointer_said keeping m local.keeps w.tree w.scope scope names p goes more.1 in
-      record { is = (is.keep, is.written, counts, a.is); value = is.value; scalar = λ q. absurd (no_way_back q); plain = λ q. absurd (no_way q) }
+      record { is = (is.keep, is.written, counts, a.is, is.certain); value = is.value; scalar = λ q. absurd (no_way_back q); plain = λ q. absurd (no_way q) }
 
   -- what may be a pointer is one, where pointers are kept
   pointer_value : (t : StaticType) → IsValue keeping w.scope.names t → may_be is_pointer t ≡ true → (keeping ≡ true) × IsPointer t

@@ -8,7 +8,7 @@ use Rattle.regent_tree.specs.Accesses.{space_in}
 use Rattle.regent_tree.specs.Lookup.{is_bound}
 use Rattle.regent_tree.specs.StaticTypes.{field_place}
 use Rattle.regent_tree.specs.Syntax.{Expression, Name, TaskTree}
-use Rattle.regent_tree.specs.Typing.{type_of_element}
+use Rattle.regent_tree.specs.Typing.{has_wild, reaches_of, type_of_element}
 use Rattle.regent_tree.specs.declared.rights.Access.{Access}
 use Rattle.regent_tree.specs.declared.typing.StaticType.{StaticType}
 use Rattle.check_laws.proofs.Blocks.{head_known}
@@ -36,7 +36,7 @@ use Rattle.code_laws.proofs.LocalNames.{AllKept, IsLocalTree, IsPlace, element_k
 use Rattle.code_laws.proofs.Privileges.{mode_in}
 use Rattle.code_laws.proofs.Typing.{stands_well}
 use Rattle.code_laws.proofs.Values.{scalar_simple}
-use Rattle.code_laws.proofs.LocalValues.{IsValue, counts_is, value_counts, value_simple}
+use Rattle.code_laws.proofs.LocalValues.{IsValue, counts_is, none_wild, value_counts, value_simple}
 use Rattle.code_laws.specs.Pointers.{CountsAs}
 
 module _ (handing keeping : Bool) (task : TaskTree) (w : Where) (sound : IsSound w.tree) (sound_task : IsSoundTask w.tree task) (m : Marked)
@@ -126,7 +126,7 @@ module _ (handing keeping : Bool) (task : TaskTree) (w : Where) (sound : IsSound
   cut_name n there p = record { named = there; numbers = scope.numbers; partition = p }
 
   pub is_behind : (n f : Name) → is_bound w.scope.names n ≡ true → IsAimed keeping m.index_fields w.tree w.scope.names (bound w n).static_type f → IsBehind w n f (field_behind w n f)
-  is_behind n f there p = record { named = there; numbers = scope.numbers; pointer = p.pointer; field = p.field; keeps = held_keeps keeping m.index_fields f _ _ p.held }
+  is_behind n f there p = record { named = there; numbers = scope.numbers; pointer = p.pointer; certain = ap (λ t. has_wild (reaches_of t)) p.is ∙ none_wild w.scope.names p.reaches p.among; field = p.field; keeps = held_keeps keeping m.index_fields f _ _ _ p.held }
 
   pub gone : (n f : Name) (a : Access) → IsAimed keeping m.index_fields w.tree w.scope.names (bound w n).static_type f →
       lacks w.tree task w.scope (wanted_of_step w.tree a (field_of (bound w n).static_type f)) ≡ false → MayGo forms w n f (mode_in a)

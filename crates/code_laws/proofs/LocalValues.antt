@@ -31,7 +31,7 @@ use Rattle.check_rules.specs.types.KnownTypes.{known_type_after_operator}
 use Rattle.check_rules.specs.types.Sorts.{is_collection, is_integer, is_number, is_partition, is_region, is_space, is_truth, is_unknown_type, may_be}
 use Rattle.check_rules.specs.types.TypedForms.{computing}
 use Rattle.code_rules.specs.Slots.{Where, typed}
-use Rattle.code_laws.specs.Pointers.{AreNames, Assigned, BeginsAs, BeginsWith, ConvertsTo, CountsAs, FillsInto, FitsInto, IsAssigned, IsCompared, IsRead, SignedAs, assigned_plain, assigned_pointer, begins_plain, compared_different, compared_equal, compared_left, compared_plain, compared_right, a_pointer_type, counts_number, counts_pointer, fills_alike, fills_index, into_index, into_plain, itself_plain, signs_plain, term_integer, zero_scalar}
+use Rattle.code_laws.specs.Pointers.{AreNames, Assigned, BeginsAs, BeginsWith, ConvertsTo, CountsAs, FillsInto, FitsInto, IsAssigned, IsCompared, IsRead, SignedAs, assigned_plain, assigned_pointer, begins_plain, compared_different, compared_equal, compared_left, compared_plain, compared_right, a_pointer_type, counts_number, counts_pointer, filled_plain, fills_alike, fills_index, into_index, into_plain, itself_plain, signs_plain, term_integer, zero_scalar}
 use Rattle.code_laws.specs.Simple.{AreAlike, AreComparable, IsInteger, IsIntegerTerm, IsNumber, IsRegion, IsScalar, IsSimple, IsSpace, IsTruth, SignsFit, a_region_type, number_index, number_integer, scalar_integer, scalar_truth, simple_index, simple_integer, simple_space, simple_truth, term_in, IsPartition, a_partition_type}
 use Rattle.code_laws.specs.Typed.{IsField, IsFieldOf, IsKeepable, LoopsOver}
 use Rattle.code_laws.proofs.LocalTypes.{either, number_is, operated_simple, owned_simple, param_fitting, simple_as_domain, simple_as_integer, simple_as_number, simple_as_space, simple_as_truth, simple_compared, simple_computed, simple_fitting, simple_for_region, simple_is_no_region, simple_known, simple_no_partition}
@@ -313,11 +313,15 @@ alike_fits true t u p = into_plain t u (fills_alike t u p)
 
 pub alike_filled : (b : Bool) (t u : StaticType) → AreAlike t u → FillsInto b t u
 alike_filled false t u p = p
-alike_filled true t u p = fills_alike t u p
+alike_filled true t u p = filled_plain t u (fills_alike t u p)
 
 pub alike_begins : (b : Bool) (bs : List Bound) (t u : StaticType) → AreAlike t u → BeginsWith b bs t u
 alike_begins false bs t u p = p
 alike_begins true bs t u p = begins_plain t u (into_plain t u (fills_alike t u p))
+
+pub fitting_assigned : (b : Bool) (t u : StaticType) → FitsInto b t u → IsAssigned b t u
+fitting_assigned false t u p = p
+fitting_assigned true t u p = assigned_plain t u p
 
 pub alike_assigned : (b : Bool) (t u : StaticType) → AreAlike t u → IsAssigned b t u
 alike_assigned false t u p = p

@@ -35,6 +35,7 @@ use Rattle.memory_laws.proofs.Made.{number_old, size_of}
 use Rattle.memory_laws.proofs.Making.{made_holds, made_is_numbered, made_is_own}
 use Rattle.region_tree.specs.declared.tree.RootId.{RootId}
 use Rattle.machine_terms.specs.declared.order.Root.{Root}
+use Rattle.value_laws.specs.Shapes.{KeepsNumbers}
 use Rattle.code_laws.specs.Standing.{Agrees, AreOf, Aside, IsInside, is_own, IsOf, LiesIn, Stands, machine_value, nothing, of_index, of_integer, of_partition, of_pointer, of_region, of_space, of_truth}
 use Rattle.code_laws.specs.Steps.{Setting, Taking, machine_of, placed, on_step, Leads}
 use Rattle.code_laws.specs.Taking.{IsFresh, IsHadBy, is_asked}
@@ -44,7 +45,8 @@ use Rattle.regent_tree.specs.declared.types.Kind.{Kind}
 use Rattle.regent_tree.specs.declared.typing.StaticType.TheVariants.{Region as region_type}
 use Rattle.task_code.specs.declared.code.Code.{Code}
 use Rattle.code_laws.specs.Typed.{IsMakable}
-use Rattle.code_laws.proofs.Reaching.{kinds_are}
+use Rattle.code_laws.proofs.Kept.{numbers_made}
+use Rattle.code_laws.proofs.Reaching.{kept_here, kinds_are}
 use Rattle.regent_tree.specs.StaticTypes.{spaces_of}
 use Rattle.code_rules.specs.Programs.{space_code}
 use Rattle.code_laws.proofs.Shapes.{new_shaped, shaped_more}
@@ -147,9 +149,10 @@ module _ (x : Setting) (params slots : ℕ) (aside : Aside) where
   space_there : (h : Here) (s : State) (i : Instance) (sp : ℕ) → IsMakable h.tree sp → Agrees x params slots aside h s i → sp < length x.code.spaces
   space_there h s i sp can g = subst (λ n. sp < n) (sym (ap length g.spaces ∙ length-map (spaces_of h.tree) space_code)) can.there
 
-  pub made_agrees : (h : Here) (s : State) (i : Instance) (sp size : ℕ) → x.forms.makes ≡ true → IsMakable h.tree sp → Agrees x params slots aside h s i →
+  pub made_agrees : (h : Here) (s : State) (i : Instance) (sp size : ℕ) → x.forms.makes ≡ true → IsMakable h.tree sp → size ≤ 4194304 →
+      Agrees x params slots aside h s i →
       Agrees x params slots aside h (with_new h sp size s) (make_root x.code size sp i)
-  made_agrees h s i sp size makes can g =
+  made_agrees h s i sp size makes can few g =
       let kinds = kinds_are x.code h.tree sp g.spaces in
       let j = make_root x.code size sp i in
       let image = new_root sp size (kinds_of x.code sp) in
@@ -173,6 +176,7 @@ module _ (x : Setting) (params slots : ℕ) (aside : Aside) where
         result_is = g.result_is;
         answers = g.answers;
         spaces = g.spaces;
+        tree_is = g.tree_is;
         memory = made_holds x.code s.store i size sp g.memory;
         framed = record {
           own_are = made_is_own x.code i size sp x.before g.framed.own_are;
@@ -181,6 +185,9 @@ module _ (x : Setting) (params slots : ℕ) (aside : Aside) where
           allows = made_covers x.code s.store i size sp (is_own x) g.memory g.framed.allows;
           given = λ n e. made_covers x.code s.store i size sp (is_asked x.args n) g.memory (g.framed.given n e);
           parts = g.framed.parts;
+          kept = subst (λ ks. KeepsNumbers x.tree (s.store ++ new_root sp size ks ∷ [])) (sym kinds)
+              (subst (λ t. KeepsNumbers t (s.store ++ new_root sp size (field_kinds h.tree sp) ∷ [])) g.tree_is
+              (numbers_made h.tree s.store (kept_here x params slots aside h s i g) sp size few));
         };
       })
     where

@@ -27,18 +27,21 @@ use Rattle.machine_terms.specs.Pointers.{move, moved_to}
 use Rattle.code_rules.specs.Instructions.{converted_code}
 use Rattle.code_rules.specs.Pieces.{op, past}
 use Rattle.code_rules.specs.Slots.{slot_named}
-use Rattle.code_laws.specs.Pointers.{Assigned, IsPointer, IsTarget, a_pointer_type, assigned_plain, assigned_pointer}
+use Rattle.value_laws.specs.Shapes.{IsPosition}
+use Rattle.code_laws.specs.Pointers.{Assigned, Filled, IsPointer, a_pointer_type, assigned_plain, assigned_pointer, filled_plain, filled_pointer}
 use Rattle.code_laws.specs.Standing.{Agrees, Aside, Comes, Does, IsInside, IsOf, SlotsFit, Stands, nothing, of_pointer, where_of}
-use Rattle.code_laws.specs.Steps.{Setting, machine_of, on_step, placed}
+use Rattle.code_laws.specs.Steps.{Leads, Setting, machine_of, on_step, placed}
 use Rattle.code_laws.specs.Typed.{CountsDown}
 use Rattle.code_laws.proofs.Accesses.{kept_round}
 use Rattle.code_laws.proofs.Counting.{into_runs}
-use Rattle.code_laws.proofs.Good.{Gives, Good, pushes, valued}
+use Rattle.code_laws.proofs.Good.{Gives, Good, valued}
 use Rattle.code_laws.proofs.Pointing.{GoAlike, IsNoRegion}
 use Rattle.code_laws.proofs.Rows.{writes_name}
 use Rattle.code_laws.proofs.States.{changed, stored, stores}
+use Rattle.code_laws.proofs.Runs.{leads_by}
 use Rattle.code_laws.proofs.Values.{named}
 use Rattle.code_laws.proofs.Wider.{into_simple}
+use Rattle.code_laws.proofs.Writes.{ConvertedAt, converted_at}
 
 -- ---- positions
 
@@ -69,30 +72,33 @@ positions_small known (a ∷ from) to (suc m) = positions_small known from to m
 positions_many : (known : List Known) (from to : List Reach) → length (positions known from to) ≡ length from
 positions_many known from to = length-map from (λ a. cond (has_wild to) 0 (position_of known to a))
 
+moved_small : (js : List ℕ) (m n : ℕ) (tg : Target) → ((c : ℕ) → get_or js c 0 ≤ n) → IsPosition m tg → IsPosition n (moved js tg)
+moved_small js m n null_target small o = tt
+moved_small js m n (point_target p zero) small o = (o.0, omega arith)
+moved_small js m n (point_target p (suc c)) small o = (o.0, small c)
+
 module _ (x : Setting) (params slots : ℕ) (fit : SlotsFit x slots) (aside : Aside) where
   -- a pointer's position is moved
+  moves : (js : List ℕ) (m line : ℕ) (tg : Target) (pc : ℕ) (st : List MachineValue) (i : Instance) → length js ≡ m → IsPosition m tg →
+      Stands x.body pc (op (instr.Move js) line) →
+      Leads x (placed pc (machine.Number (kept_target tg) ∷ st) i) (placed (suc pc) (machine.Number (kept_target (moved js tg)) ∷ st) i)
+  moves js m line null_target pc st i many o f = leads_by x _ _ (instr.Move js) line f refl
+  moves js m line (point_target n zero) pc st i many o f =
+      let j = placed pc (machine.Number (kept_target (point_target n 0)) ∷ st) i in
+      leads_by x _ _ (instr.Move js) line f (ap (λ t. on_step x j (move js t st (machine_of j))) (kept_round n 0 o.0))
+  moves js m line (point_target n (suc c)) pc st i many o f =
+      let j = placed pc (machine.Number (kept_target (point_target n (suc c))) ∷ st) i in
+      leads_by x _ _ (instr.Move js) line f
+      (ap (λ t. on_step x j (move js t st (machine_of j))) (kept_round n (suc c) o.0)
+      ∙ ap (λ u. on_step x j (moved_to n u st (machine_of j))) (slice_get-get_or js c 0 (omega (arith, many, o.1))))
+
   move_runs : (h : Here) (js : List ℕ) (m : ℕ) (k : Kind) (sp : ℕ) (args qs : List Reach) (tg : Target) (regions : List Region) (s : State)
-      (pc : ℕ) (st : List MachineValue) (i : Instance) → length js ≡ m → ((n : ℕ) → get_or js n 0 ≤ length qs) → IsTarget m tg →
+      (pc : ℕ) (st : List MachineValue) (i : Instance) → length js ≡ m → ((n : ℕ) → get_or js n 0 ≤ length qs) → IsPosition m tg →
       Agrees x params slots aside h s i → Stands x.body pc (op (instr.Move js) h.line) →
       Gives x params slots fit aside h (pointer_type k sp args qs) (op (instr.Move js) h.line) pc (machine.Number (kept_target tg) ∷ st) st i
       (gives (a_pointer (moved js tg) regions) s)
-  move_runs h js m k sp args qs null_target regions s pc st i many small o g f =
-      pushes x params slots fit aside h (pointer_type k sp args qs) (a_pointer null_target regions) s pc _ st i (instr.Move js) h.line f
-      (of_pointer k sp args qs null_target regions tt) g refl
-  move_runs h js m k sp args qs (point_target n zero) regions s pc st i many small o g f =
-      let z = kept_target (point_target n 0) in
-      let j = placed pc (machine.Number z ∷ st) i in
-      pushes x params slots fit aside h (pointer_type k sp args qs) (a_pointer (point_target n 0) regions) s pc (machine.Number z ∷ st) st i
-      (instr.Move js) h.line f (of_pointer k sp args qs (point_target n 0) regions (o.0, omega arith)) g
-      (ap (λ t. on_step x j (move js t st (machine_of j))) (kept_round n 0 o.0))
-  move_runs h js m k sp args qs (point_target n (suc c)) regions s pc st i many small o g f =
-      let z = kept_target (point_target n (suc c)) in
-      let j = placed pc (machine.Number z ∷ st) i in
-      pushes x params slots fit aside h (pointer_type k sp args qs) (a_pointer (point_target n (get_or js c 0)) regions) s pc
-      (machine.Number z ∷ st) st i (instr.Move js) h.line f
-      (of_pointer k sp args qs (point_target n (get_or js c 0)) regions (o.0, small c)) g
-      (ap (λ t. on_step x j (move js t st (machine_of j))) (kept_round n (suc c) o.0)
-      ∙ ap (λ u. on_step x j (moved_to n u st (machine_of j))) (slice_get-get_or js c 0 (omega (arith, many, o.1))))
+  move_runs h js m k sp args qs tg regions s pc st i many small o g f =
+      (i, moves js m h.line tg pc st i many o f, (of_pointer k sp args qs (moved js tg) regions (moved_small js m (length qs) tg small o), g))
 
   -- a pointer goes into a variable of a pointer's type
   pub pointer_into : (h : Here) (t u : StaticType) (regions : List Region) (v : Value) (s : State) (pc : ℕ) (st : List MachineValue)
@@ -103,6 +109,19 @@ module _ (x : Setting) (params slots : ℕ) (fit : SlotsFit x slots) (aside : As
   pointer_into h _ _ regions _ s pc st i (a_pointer_type k sp args rs ns) (a_pointer_type k2 sp2 args2 qs ms) (of_pointer _ _ _ _ tg us o) g f =
       move_runs h (positions h.scope.known rs qs) (length rs) k2 sp2 args2 qs tg regions s pc st i (positions_many h.scope.known rs qs)
       (positions_small h.scope.known rs qs) o g f
+
+  -- with what a field is filled
+  pub filled_at : (h : Here) (from t : StaticType) (v : Value) (s : State) (pc : ℕ) (st : List MachineValue) (i : Instance) →
+      Filled from t → IsOf from v → Stands x.body pc (converted_code (where_of params h) from t) →
+      ConvertedAt x params slots fit aside h from t v s pc st i
+  filled_at h from t v s pc st i (filled_plain _ _ p) o f = converted_at x params slots fit aside h from t v s pc st i p o f
+  filled_at h _ _ _ s pc st i (filled_pointer _ _ (a_pointer_type k sp args rs ns) (a_pointer_type k2 sp2 args2 qs ms)) (of_pointer _ _ _ _ tg us o) f =
+      let js = positions h.scope.known rs qs in record {
+        value = a_pointer (moved js tg) [];
+        gives_it = refl;
+        leads = moves js (length rs) h.line tg pc st i (positions_many h.scope.known rs qs) o f;
+        typed = of_pointer k2 sp2 args2 qs (moved js tg) [] (moved_small js (length rs) (length qs) tg (positions_small h.scope.known rs qs) o);
+      }
 
   -- what is assigned
   pub assigned_runs : (h : Here) (t u : StaticType) (regions : List Region) (v : Value) (s : State) (pc : ℕ) (st : List MachineValue)

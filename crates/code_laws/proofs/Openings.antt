@@ -25,6 +25,7 @@ use Rattle.machine_terms.specs.Orders.{begun}
 use Rattle.code_rules.specs.Programs.{code_of, task_code}
 use Rattle.code_rules.specs.Slots.{slot}
 use Rattle.code_rules.specs.Used.{greatest, slots_of_lines, slots_used}
+use Rattle.value_laws.specs.Shapes.{KeepsNumbers}
 use Rattle.code_laws.specs.Programs.{called_setting}
 use Rattle.code_laws.specs.Taking.{AreParts, is_asked, needs_taken, pairs_taken}
 use Rattle.memory_laws.specs.Covering.{AreCovered}
@@ -246,10 +247,10 @@ module _ (tree : Tree) (turns more depth : ℕ) (t : TaskTree) (place : ℕ) (vs
       AreTaken (IsInside (called_setting forms tree turns more depth (numbers c) args t) store) (param_types tree t) vs →
       AreTaken (λ u v. IsPlain v) (param_types tree t) vs → length vs ≤ (task_code tree t).slots → Holds (code_of tree) store (memory_of begins) →
       ((n : NeedCode) → Contains (needs_taken forms.takes) n → AreCovered (is_asked args n) store (memory_of begins)) →
-      AreParts args (pairs_taken forms.takes) →
+      AreParts args (pairs_taken forms.takes) → KeepsNumbers tree store →
       Agrees (called_setting forms tree turns more depth (numbers c) args t) (length t.params) (task_code tree t).slots
       (before_all turns) (body_of tree calls t) (opening tree turns t vs store) begins
-  opens forms calls answers takes inside plain room holds given parts =
+  opens forms calls answers takes inside plain room holds given parts kept =
       let x = called_setting forms tree turns more depth (numbers c) args t in
       let code = task_code tree t in
       let sc = scope_of tree t in
@@ -287,6 +288,7 @@ module _ (tree : Tree) (turns more depth : ℕ) (t : TaskTree) (place : ℕ) (vs
         result_is = refl;
         answers = answers;
         spaces = refl;
+        tree_is = refl;
         memory = holds;
         framed = record {
           own_are = sym (append-nil (numbers c));
@@ -301,5 +303,6 @@ module _ (tree : Tree) (turns more depth : ℕ) (t : TaskTree) (place : ℕ) (vs
           ));
           given = given;
           parts = parts;
+          kept = kept;
         };
       }

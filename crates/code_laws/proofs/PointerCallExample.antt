@@ -10,7 +10,7 @@ use Rattle.regent_tree.specs.StaticTypes.{entry_name, task_named}
 use Rattle.code_rules.specs.Programs.{place_of}
 use Rattle.code_laws.specs.Typed.{IsTypedBlock}
 use Rattle.code_laws.specs.PointerCallExample.{PointerCallExampleHolds, totals_program}
-use Rattle.code_laws.specs.Pointers.{a_pointer_type, counts_pointer, fills_alike, into_plain, keeps_plain, term_integer}
+use Rattle.code_laws.specs.Pointers.{a_pointer_type, counts_pointer, fills_alike, assigned_plain, into_plain, keeps_plain, term_integer}
 use Rattle.code_laws.specs.Programs.{AreTypedTasksOf, IsTypedRun, IsTypedTaskOf, all_forms, gives_nothing, gives_scalar}
 use Rattle.code_laws.specs.Simple.{a_region_type, a_space_type, an_integer, fits_32, scalar_integer, simple_integer, term_32, two_integers}
 use Rattle.code_laws.specs.Standing.{of_integer}
@@ -40,9 +40,9 @@ tasks zero t e = subst (IsTypedTaskOf all_forms totals_program) (same_Some _ t e
         (
           (
             refl,
-            into_plain _ _ (fills_alike _ _ (two_integers _ _)),
+            assigned_plain _ _ (into_plain _ _ (fills_alike _ _ (two_integers _ _))),
             ((refl, tt), counts_pointer _ _ _ _, term_integer _ term_32),
-            record { named = refl; numbers = (omega arith, (omega arith, (omega arith, tt))); pointer = a_pointer_type _ _ _ _ tt; field = omega arith; keeps = keeps_plain _ _ fits_32 },
+            record { named = refl; numbers = (omega arith, (omega arith, (omega arith, tt))); pointer = a_pointer_type _ _ _ _ tt; certain = refl; field = omega arith; keeps = keeps_plain _ _ _ fits_32 },
             (tt, tt),
           ),
           tt,
@@ -54,7 +54,7 @@ tasks zero t e = subst (IsTypedTaskOf all_forms totals_program) (same_Some _ t e
           (
             inr (a_region_type _ _ _ _, record { number = 1; numbered = refl; place = refl; typed = a_region_type _ _ _ _; space = refl; is = refl }),
             (refl, tt),
-            ((an_integer _, an_integer _, (refl, inl (record { named = refl; numbers = (omega arith, (omega arith, (omega arith, (omega arith, tt)))); pointer = a_pointer_type _ _ _ _ tt; field = omega arith; keeps = keeps_plain _ _ fits_32 }, (tt, tt))), refl), tt),
+            ((an_integer _, an_integer _, (refl, inl (record { named = refl; numbers = (omega arith, (omega arith, (omega arith, (omega arith, tt)))); pointer = a_pointer_type _ _ _ _ tt; certain = refl; field = omega arith; keeps = keeps_plain _ _ _ fits_32 }, (tt, tt))), refl), tt),
           ),
           ((two_integers _ _, (refl, tt)), tt),
         ),

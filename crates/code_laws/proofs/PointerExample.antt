@@ -33,20 +33,20 @@ runs z fits = record {
               (
                 (
                   refl,
-                  into_plain _ _ (fills_index _ _ (number_index _)),
+                  assigned_plain _ _ (into_plain _ _ (fills_index _ _ (number_index _))),
                   (
                     ((refl, tt), (counts_pointer _ _ _ _, counts_number _ (number_index _), (refl, tt), tt)),
                     (counts_number _ (number_index _), counts_number _ (number_integer _), omega (arith, ints), tt),
                   ),
-                  record { named = refl; numbers = (omega arith, (omega arith, (omega arith, (omega arith, (omega arith, tt))))); pointer = a_pointer_type _ _ _ _ tt; field = omega arith; keeps = keeps_index _ },
+                  record { named = refl; numbers = (omega arith, (omega arith, (omega arith, (omega arith, (omega arith, tt))))); pointer = a_pointer_type _ _ _ _ tt; certain = refl; field = omega arith; keeps = keeps_index _ _ },
                   (tt, tt),
                 ),
                 (
                   (
                     refl,
-                    into_plain _ _ (fills_alike _ _ (two_integers _ _)),
+                    assigned_plain _ _ (into_plain _ _ (fills_alike _ _ (two_integers _ _))),
                     ((refl, tt), counts_pointer _ _ _ _, term_integer _ term_32),
-                    record { named = refl; numbers = (omega arith, (omega arith, (omega arith, (omega arith, (omega arith, tt))))); pointer = a_pointer_type _ _ _ _ tt; field = omega arith; keeps = keeps_plain _ _ fits_32 },
+                    record { named = refl; numbers = (omega arith, (omega arith, (omega arith, (omega arith, (omega arith, tt))))); pointer = a_pointer_type _ _ _ _ tt; certain = refl; field = omega arith; keeps = keeps_plain _ _ _ fits_32 },
                     (tt, tt),
                   ),
                   tt,
@@ -63,11 +63,11 @@ runs z fits = record {
                 (
                   an_integer _,
                   an_integer _,
-                  (refl, inl (record { named = refl; numbers = (omega arith, (omega arith, (omega arith, (omega arith, tt)))); pointer = a_pointer_type _ _ _ _ tt; field = omega arith; keeps = keeps_plain _ _ fits_32 }, (tt, tt))),
-                  (refl, inl (record { named = refl; numbers = (omega arith, (omega arith, (omega arith, (omega arith, tt)))); pointer = a_pointer_type _ _ _ _ tt; field = omega arith; keeps = keeps_index _ }, (tt, tt))),
+                  (refl, inl (record { named = refl; numbers = (omega arith, (omega arith, (omega arith, (omega arith, tt)))); pointer = a_pointer_type _ _ _ _ tt; certain = refl; field = omega arith; keeps = keeps_plain _ _ _ fits_32 }, (tt, tt))),
+                  (refl, inl (record { named = refl; numbers = (omega arith, (omega arith, (omega arith, (omega arith, tt)))); pointer = a_pointer_type _ _ _ _ tt; certain = refl; field = omega arith; keeps = keeps_index _ _ }, (tt, tt))),
                   counts_number _ (number_index _),
                   refl,
-                  record { named = refl; region = a_region_type _ _ _ _; field = omega arith; keeps = keeps_plain _ _ fits_32 },
+                  record { named = refl; region = a_region_type _ _ _ _; field = omega arith; keeps = keeps_plain _ _ _ fits_32 },
                   tt,
                 ),
                 tt,
@@ -81,17 +81,17 @@ runs z fits = record {
                 inl (inr (a_pointer_type _ _ _ _ tt, tt), (refl, omega (arith, ints), counts_number _ (number_integer _), refl, a_region_type _ _ _ _, record { number = 1; numbered = refl; place = refl; typed = a_region_type _ _ _ _; space = refl; is = refl })),
                 -- a cast
                 (
-                  (assigned_pointer _ _ (a_pointer_type _ _ _ _ tt) (a_pointer_type _ _ _ _ tt), (refl, (a_pointer_type _ _ _ _ tt, (refl, a_region_type _ _ _ _, refl, tt)), counts_number _ (number_integer _), omega (arith, ints)), refl),
+                  (assigned_pointer _ _ (a_pointer_type _ _ _ _ tt) (a_pointer_type _ _ _ _ tt), (refl, (a_pointer_type _ _ _ _ tt, (refl, a_region_type _ _ _ _, refl, tt)), counts_number _ (number_integer _), omega (arith, ints), refl), refl),
                   -- two pointers
                   (
-                    ((a_truth_type, ((refl, tt), (compared_different _ _ (a_pointer_type _ _ _ _ tt) (a_pointer_type _ _ _ _ tt), (refl, tt), tt)), ((refl, into_plain _ _ (fills_alike _ _ (two_integers _ _)), omega (arith, ints), record { named = refl; numbers = (omega arith, (omega arith, (omega arith, (omega arith, (omega arith, tt))))); pointer = a_pointer_type _ _ _ _ tt; field = omega arith; keeps = keeps_plain _ _ fits_32 }, (tt, tt)), tt), tt), tt),
+                    ((a_truth_type, ((refl, tt), (compared_different _ _ (a_pointer_type _ _ _ _ tt) (a_pointer_type _ _ _ _ tt), (refl, tt), tt)), ((refl, assigned_plain _ _ (into_plain _ _ (fills_alike _ _ (two_integers _ _))), omega (arith, ints), record { named = refl; numbers = (omega arith, (omega arith, (omega arith, (omega arith, (omega arith, tt))))); pointer = a_pointer_type _ _ _ _ tt; certain = refl; field = omega arith; keeps = keeps_plain _ _ _ fits_32 }, (tt, tt)), tt), tt), tt),
                     -- whether one is null
                     (
-                      ((a_truth_type, (refl, a_pointer_type _ _ _ _ tt, (refl, tt)), ((refl, into_plain _ _ (fills_alike _ _ (two_integers _ _)), omega (arith, ints), record { named = refl; numbers = (omega arith, (omega arith, (omega arith, (omega arith, (omega arith, tt))))); pointer = a_pointer_type _ _ _ _ tt; field = omega arith; keeps = keeps_plain _ _ fits_32 }, (tt, tt)), tt), tt), tt),
+                      ((a_truth_type, (refl, a_pointer_type _ _ _ _ tt, (refl, tt)), ((refl, assigned_plain _ _ (into_plain _ _ (fills_alike _ _ (two_integers _ _))), omega (arith, ints), record { named = refl; numbers = (omega arith, (omega arith, (omega arith, (omega arith, (omega arith, tt))))); pointer = a_pointer_type _ _ _ _ tt; certain = refl; field = omega arith; keeps = keeps_plain _ _ _ fits_32 }, (tt, tt)), tt), tt), tt),
                       -- the print
                       (
                         (
-                          (an_integer _, (omega (arith, ints), counts_number _ (number_integer _), refl, record { named = refl; region = a_region_type _ _ _ _; field = omega arith; keeps = keeps_plain _ _ fits_32 }, tt), tt),
+                          (an_integer _, (omega (arith, ints), counts_number _ (number_integer _), refl, record { named = refl; region = a_region_type _ _ _ _; field = omega arith; keeps = keeps_plain _ _ _ fits_32 }, tt), tt),
                           refl,
                         ),
                         tt,

@@ -57,7 +57,7 @@ pointer_beside : (params : ℕ) (h : Here) (t : StaticType) (e : Expression) →
 pointer_beside params h _ (access_expr n no_step) (a_pointer_type k sp args [] names) = refl
 pointer_beside params h _ (access_expr n no_step) (a_pointer_type k sp args (Some (term.Name i) ∷ rs) names) = refl
 pointer_beside params h _ (access_expr n no_step) (a_pointer_type k sp args (Some (term.Child p c) ∷ rs) names) = absurd names
-pointer_beside params h _ (access_expr n no_step) (a_pointer_type k sp args (None ∷ rs) names) = absurd names
+pointer_beside params h _ (access_expr n no_step) (a_pointer_type k sp args (None ∷ rs) names) = refl
 pointer_beside params h _ e (a_pointer_type k sp args rs names) = refl
 
 pointer_past : (params : ℕ) (h : Here) (t : StaticType) (e : Expression) (pc n : ℕ) → IsPointer t →

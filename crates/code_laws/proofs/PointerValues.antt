@@ -11,7 +11,7 @@ use Rattle.regent_tree.specs.Running.{Here, Result, State, and_then, fails, give
 use Rattle.regent_tree.specs.Scopes.{Scope, bound_as}
 use Rattle.regent_tree.specs.StaticTypes.{Reach}
 use Rattle.regent_tree.specs.Syntax.{Expression, at_step, no_step}
-use Rattle.regent_tree.specs.Typing.{type_of_element}
+use Rattle.regent_tree.specs.Typing.{has_wild, type_of_element}
 use Rattle.regent_tree.specs.Values.{Region, Target, Value, a_pointer, a_region, a_truth, first_holding, holds, is_null_target, kept_target, kept_truth, no_region, null_target, point_target, region_of, target_kept, target_of}
 use Rattle.regent_tree.specs.declared.facts.Term.TheVariants as term
 use Rattle.regent_tree.specs.declared.types.Kind.{Kind}
@@ -29,7 +29,9 @@ use Rattle.code_rules.specs.Instructions.{cast_code, load_code}
 use Rattle.code_rules.specs.Pieces.{op, past, ◌⨟◌}
 use Rattle.code_rules.specs.Slots.{own_slot, slot, slots_of, typed}
 use Rattle.memory_laws.specs.Places.{number_at}
-use Rattle.code_laws.specs.Pointers.{AreNames, AreReached, AreThere, IsCounting, IsPointer, IsTarget, a_pointer_type, counts_number, counts_pointer}
+use Rattle.value_laws.specs.Shapes.{IsPosition}
+use Rattle.code_laws.proofs.Values.{not_true}
+use Rattle.code_laws.specs.Pointers.{AreNames, AreReached, AreThere, IsCounting, IsPointer, a_pointer_type, counts_number, counts_pointer}
 use Rattle.code_laws.specs.Simple.{IsRegion, a_region_type, number_index, number_integer}
 use Rattle.code_laws.specs.Standing.{AreOf, Agrees, Aside, Comes, IsInside, IsOf, SlotsFit, Stands, machine_value, nothing, of_index, of_integer, of_pointer, of_region, of_truth, where_of}
 use Rattle.code_laws.specs.Steps.{Setting, machine_of, on_step, placed}
@@ -46,7 +48,7 @@ pub there_names : (bs : List Bound) (sp : ℕ) (rs : List Reach) → AreThere bs
 there_names bs sp [] a = tt
 there_names bs sp (Some (term.Name i) ∷ rs) a = there_names bs sp rs a.3
 there_names bs sp (Some (term.Child p c) ∷ rs) a = absurd a
-there_names bs sp (None ∷ rs) a = absurd a
+there_names bs sp (None ∷ rs) a = there_names bs sp rs a
 
 region_value : (t : StaticType) (v : Value) → IsRegion t → IsOf t v → v ≡ a_region (region_of v)
 region_value _ _ (a_region_type k sp args r) (of_region _ _ _ _ q) = refl
@@ -69,7 +71,7 @@ there_reached s names sp (Some (term.Name i) ∷ rs) o long a =
       there_reached s names sp rs o long a.3,
     )
 there_reached s names sp (Some (term.Child p c) ∷ rs) o long a = absurd a
-there_reached s names sp (None ∷ rs) o long a = absurd a
+there_reached s names sp (None ∷ rs) o long a = there_reached s names sp rs o long a
 
 -- ---- casts
 
@@ -83,7 +85,7 @@ first_same f i (q ∷ qs) z = ap (λ t. cond (holds q.points z) (point_target (n
 
 -- the first one that holds a number is one of so many
 first_target : (i : ℕ) (qs : List Region) (z : ℤ) → ((q : ℕ) (n : ℕ) → has (get_or qs q no_region).points n ≡ true → n < 2 ^ 32) →
-    IsTarget (i + length qs) (first_holding i qs z)
+    IsPosition (i + length qs) (first_holding i qs z)
 first_target i [] z small = tt
 first_target i (q ∷ qs) z small = chosen (holds q.points z) refl (first_target (suc i) qs z (λ k n d. small (suc k) n d))
   where
@@ -91,41 +93,41 @@ first_target i (q ∷ qs) z small = chosen (holds q.points z) refl (first_target
     by_sign (pos n) e = small 0 n e
     by_sign (negsuc n) e = absurd cc
 
-    wider : (t : Target) (m n : ℕ) → m ≡ n → IsTarget m t → IsTarget n t
-    wider t m n e p = subst (λ k. IsTarget k t) e p
+    wider : (t : Target) (m n : ℕ) → m ≡ n → IsPosition m t → IsPosition n t
+    wider t m n e p = subst (λ k. IsPosition k t) e p
 
-    chosen : (b : Bool) → holds q.points z ≡ b → IsTarget (suc i + length qs) (first_holding (suc i) qs z) →
-        IsTarget (i + length (q ∷ qs)) (cond b (point_target (nat_abs z) (suc i)) (first_holding (suc i) qs z))
+    chosen : (b : Bool) → holds q.points z ≡ b → IsPosition (suc i + length qs) (first_holding (suc i) qs z) →
+        IsPosition (i + length (q ∷ qs)) (cond b (point_target (nat_abs z) (suc i)) (first_holding (suc i) qs z))
     chosen true e more = (by_sign z e, omega arith)
     chosen false e more = wider (first_holding (suc i) qs z) (suc i + length qs) (i + length (q ∷ qs)) (omega arith) more
 
 module _ (x : Setting) (params slots : ℕ) (fit : SlotsFit x slots) (aside : Aside) where
   -- each slot has its region, so the machine finds all
-  regions_there : (h : Here) (k : Kind) (own sp : ℕ) (args rs : List Reach) (qs : List Region) (s : State) (j : Instance) → AreNames rs →
+  regions_there : (h : Here) (k : Kind) (own sp : ℕ) (args rs : List Reach) (qs : List Region) (s : State) (j : Instance) → AreNames rs → has_wild rs ≡ false →
       AreReached h.scope.names s.names sp rs qs → Agrees x params slots aside h s j →
       regions_in j.frame.slots (slots_of (where_of params h) own (pointer_type k sp args rs)) ≡ Some (map (by_number (number_at j.contents)) qs)
-  regions_there h k own sp args [] [] s j n a g = refl
-  regions_there h k own sp args [] (q ∷ qs) s j n a g = absurd a
-  regions_there h k own sp args (Some (term.Name b) ∷ rs) (q ∷ qs) s j n a g =
+  regions_there h k own sp args [] [] s j n c a g = refl
+  regions_there h k own sp args [] (q ∷ qs) s j n c a g = absurd a
+  regions_there h k own sp args (Some (term.Name b) ∷ rs) (q ∷ qs) s j n c a g =
       ap (λ o. both_found (plain_of (region_in o)) (regions_in j.frame.slots (slots_of (where_of params h) own (pointer_type k sp args rs))))
       (name_there x params slots fit aside h b sp q s j a.0 g).0
-      ∙ ap (both_found (Some (by_number (number_at j.contents) q))) (regions_there h k own sp args rs qs s j n a.1 g)
-  regions_there h k own sp args (Some (term.Name b) ∷ rs) [] s j n a g = absurd a
-  regions_there h k own sp args (Some (term.Child p c) ∷ rs) qs s j n a g = absurd n
-  regions_there h k own sp args (None ∷ rs) qs s j n a g = absurd n
+      ∙ ap (both_found (Some (by_number (number_at j.contents) q))) (regions_there h k own sp args rs qs s j n c a.1 g)
+  regions_there h k own sp args (Some (term.Name b) ∷ rs) [] s j n c a g = absurd a
+  regions_there h k own sp args (Some (term.Child p d) ∷ rs) qs s j n c a g = absurd n
+  regions_there h k own sp args (None ∷ rs) qs s j n c a g = absurd (not_true (sym c))
 
   -- their points are numbers of 32 bits
-  names_small : (h : Here) (sp : ℕ) (rs : List Reach) (qs : List Region) (s : State) (j : Instance) → AreNames rs →
+  names_small : (h : Here) (sp : ℕ) (rs : List Reach) (qs : List Region) (s : State) (j : Instance) → AreNames rs → has_wild rs ≡ false →
       AreReached h.scope.names s.names sp rs qs → Agrees x params slots aside h s j → (i n : ℕ) →
       has (get_or qs i no_region).points n ≡ true → n < 2 ^ 32
-  names_small h sp [] [] s j n a g zero m e = absurd cc
-  names_small h sp [] [] s j n a g (suc i) m e = absurd cc
-  names_small h sp [] (q ∷ qs) s j n a g i m e = absurd a
-  names_small h sp (Some (term.Name b) ∷ rs) (q ∷ qs) s j n a g zero m e = (name_there x params slots fit aside h b sp q s j a.0 g).1.small m e
-  names_small h sp (Some (term.Name b) ∷ rs) (q ∷ qs) s j n a g (suc i) m e = names_small h sp rs qs s j n a.1 g i m e
-  names_small h sp (Some (term.Name b) ∷ rs) [] s j n a g i m e = absurd a
-  names_small h sp (Some (term.Child p c) ∷ rs) qs s j n a g i m e = absurd n
-  names_small h sp (None ∷ rs) qs s j n a g i m e = absurd n
+  names_small h sp [] [] s j n c a g zero m e = absurd cc
+  names_small h sp [] [] s j n c a g (suc i) m e = absurd cc
+  names_small h sp [] (q ∷ qs) s j n c a g i m e = absurd a
+  names_small h sp (Some (term.Name b) ∷ rs) (q ∷ qs) s j n c a g zero m e = (name_there x params slots fit aside h b sp q s j a.0 g).1.small m e
+  names_small h sp (Some (term.Name b) ∷ rs) (q ∷ qs) s j n c a g (suc i) m e = names_small h sp rs qs s j n c a.1 g i m e
+  names_small h sp (Some (term.Name b) ∷ rs) [] s j n c a g i m e = absurd a
+  names_small h sp (Some (term.Child p d) ∷ rs) qs s j n c a g i m e = absurd n
+  names_small h sp (None ∷ rs) qs s j n c a g i m e = absurd (not_true (sym c))
 
   reached_many : (bs : List Bound) (names : List Value) (sp : ℕ) (rs : List Reach) (qs : List Region) → AreNames rs →
       AreReached bs names sp rs qs → length qs ≡ length rs
@@ -134,21 +136,22 @@ module _ (x : Setting) (params slots : ℕ) (fit : SlotsFit x slots) (aside : As
   reached_many bs names sp (Some (term.Name b) ∷ rs) (q ∷ qs) n a = ap (λ k. suc k) (reached_many bs names sp rs qs n a.1)
   reached_many bs names sp (Some (term.Name b) ∷ rs) [] n a = absurd a
   reached_many bs names sp (Some (term.Child p c) ∷ rs) qs n a = absurd n
-  reached_many bs names sp (None ∷ rs) qs n a = absurd n
+  reached_many bs names sp (None ∷ rs) (q ∷ qs) n a = ap (λ k. suc k) (reached_many bs names sp rs qs n a)
+  reached_many bs names sp (None ∷ rs) [] n a = absurd a
 
   -- the pointer of the first region that holds a number
-  first_fits : (h : Here) (sp : ℕ) (rs : List Reach) (qs : List Region) (z : ℤ) (s : State) (j : Instance) → AreNames rs →
-      AreReached h.scope.names s.names sp rs qs → Agrees x params slots aside h s j → IsTarget (length rs) (first_holding 0 qs z)
-  first_fits h sp rs qs z s j n a g = subst (λ k. IsTarget k (first_holding 0 qs z)) (reached_many h.scope.names s.names sp rs qs n a)
-      (subst (λ k. IsTarget k (first_holding 0 qs z)) (omega arith) (first_target 0 qs z (names_small h sp rs qs s j n a g)))
+  first_fits : (h : Here) (sp : ℕ) (rs : List Reach) (qs : List Region) (z : ℤ) (s : State) (j : Instance) → AreNames rs → has_wild rs ≡ false →
+      AreReached h.scope.names s.names sp rs qs → Agrees x params slots aside h s j → IsPosition (length rs) (first_holding 0 qs z)
+  first_fits h sp rs qs z s j n c a g = subst (λ k. IsPosition k (first_holding 0 qs z)) (reached_many h.scope.names s.names sp rs qs n a)
+      (subst (λ k. IsPosition k (first_holding 0 qs z)) (omega arith) (first_target 0 qs z (names_small h sp rs qs s j n c a g)))
 
   -- a cast of what counts as a number, to a type whose regions are in scope
   pub cast_runs : (h : Here) (t : StaticType) (k : Kind) (sp : ℕ) (args rs : List Reach) (v : Value) (s : State) (pc : ℕ)
-      (st : List MachineValue) (i : Instance) → IsCounting t → IsOf t v → AreThere h.scope.names sp rs → Agrees x params slots aside h s i →
+      (st : List MachineValue) (i : Instance) → IsCounting t → IsOf t v → AreThere h.scope.names sp rs → has_wild rs ≡ false → Agrees x params slots aside h s i →
       Stands x.body pc (cast_code (where_of params h) t (pointer_type k sp args rs)) →
       Gives x params slots fit aside h (pointer_type k sp args rs) (cast_code (where_of params h) t (pointer_type k sp args rs)) pc
       (machine_value i.contents v ∷ st) st i (gives (cast_to (regions_reached h.scope s.names rs) v) s)
-  cast_runs h t k sp args rs v s pc st i counts o there g stands = by_value t v counts o stands
+  cast_runs h t k sp args rs v s pc st i counts o there certain g stands = by_value t v counts o stands
     where
       ns : AreNames rs
       ns = there_names h.scope.names sp rs there
@@ -158,10 +161,10 @@ module _ (x : Setting) (params slots : ℕ) (fit : SlotsFit x slots) (aside : As
 
       found : regions_in i.frame.slots (slots_of (where_of params h) 0 (pointer_type k sp args rs))
           ≡ Some (map (by_number (number_at i.contents)) (regions_reached h.scope s.names rs))
-      found = regions_there h k 0 sp args rs (regions_reached h.scope s.names rs) s i ns ours g
+      found = regions_there h k 0 sp args rs (regions_reached h.scope s.names rs) s i ns certain ours g
 
       fits : (z : ℤ) → IsOf (pointer_type k sp args rs) (a_pointer (first_holding 0 (regions_reached h.scope s.names rs) z) (regions_reached h.scope s.names rs))
-      fits z = of_pointer k sp args rs _ _ (first_fits h sp rs (regions_reached h.scope s.names rs) z s i ns ours g)
+      fits z = of_pointer k sp args rs _ _ (first_fits h sp rs (regions_reached h.scope s.names rs) z s i ns certain ours g)
 
       by_number_runs : (z : ℤ) → Stands x.body pc (op (instr.Cast (slots_of (where_of params h) 0 (pointer_type k sp args rs))) h.line) →
           Gives x params slots fit aside h (pointer_type k sp args rs)

@@ -102,6 +102,7 @@ module _ (x : Setting) (params slots : ℕ) (fit : SlotsFit x slots) (aside : As
           answers = g.answers;
           spaces = g.spaces;
           memory = g.memory;
+          tree_is = g.tree_is;
           framed = g.framed;
         },
       )

@@ -37,6 +37,7 @@ use Rattle.machine_terms.specs.declared.order.Instance.{Instance}
 use Rattle.machine_terms.specs.Contents.{kind_of, kinds_of, no_space}
 use Rattle.code_rules.specs.Programs.{space_code}
 use Rattle.memory_laws.specs.Memory.{Holds, Memory, memory_of}
+use Rattle.value_laws.specs.Shapes.{KeepsNumbers}
 use Rattle.memory_laws.specs.Places.{number_at}
 use Rattle.memory_laws.specs.Touches.{IsCovered}
 use Rattle.memory_laws.proofs.Covering.{covered_stays}
@@ -105,10 +106,10 @@ all_inside x store after (b ∷ bs) names same a l = (
 
 -- other numbers in the same roots, and other parts
 pub rewritten : (x : Setting) (params slots : ℕ) (aside : Aside) (h : Here) (s : State) (i : Instance) (ps : List Part)
-    (ts : List Touch) (store : Store) → SameRoots s.store store → Agrees x params slots aside h s i →
+    (ts : List Touch) (store : Store) → SameRoots s.store store → KeepsNumbers h.tree store → Agrees x params slots aside h s i →
     Holds x.code store (memory_of (parted ps i)) →
     Agrees x params slots aside h (record s { store = store; touches = ts }) (parted ps i)
-rewritten x params slots aside h s i ps ts store same g holds = record {
+rewritten x params slots aside h s i ps ts store same kept g holds = record {
   names = g.names;
   hidden = g.hidden;
   typed = g.typed;
@@ -126,6 +127,7 @@ rewritten x params slots aside h s i ps ts store same g holds = record {
   result_is = g.result_is;
   answers = g.answers;
   spaces = g.spaces;
+  tree_is = g.tree_is;
   memory = holds;
   framed = record {
     own_are = g.framed.own_are;
@@ -134,8 +136,14 @@ rewritten x params slots aside h s i ps ts store same g holds = record {
     allows = covered_stays x.code s.store store (memory_of i) (memory_of (parted ps i)) (is_own x) g.memory refl refl same g.framed.allows;
     given = λ n e. covered_stays x.code s.store store (memory_of i) (memory_of (parted ps i)) (is_asked x.args n) g.memory refl refl same (g.framed.given n e);
     parts = g.framed.parts;
+    kept = subst (λ t. KeepsNumbers t store) g.tree_is kept;
   };
 }
+
+-- the store that an instance agrees with keeps numbers of its fields' types
+pub kept_here : (x : Setting) (params slots : ℕ) (aside : Aside) (h : Here) (s : State) (i : Instance) → Agrees x params slots aside h s i →
+    KeepsNumbers h.tree s.store
+kept_here x params slots aside h s i g = subst (λ t. KeepsNumbers t s.store) (sym g.tree_is) g.framed.kept
 
 -- ---- a point that is reached
 
@@ -143,6 +151,7 @@ rewritten x params slots aside h s i ps ts store same g holds = record {
 pub record Reached (x : Setting) (tree : Tree) (i : Instance) (store : Store) (q : Region) (sp place n : ℕ) (a : Mode) : Type 0 where
   pub small : n < 2 ^ 32
   pub there : n < length (column store q.root place)
+  pub of_space : (get_or store q.root no_root).space ≡ sp
   pub covers : IsCovered i.contents i.needs (record { root = q.root; field = place; point = n; access = a })
   pub kind_is : kind_of x.code i.contents (number_at i.contents q.root) place ≡ field_kind tree sp place
 
@@ -227,6 +236,7 @@ reached x params slots aside h s i q t region place n a g l may field e =
     let low = field_there x.code h.tree sp place g.spaces field in record {
       small = lies.small n e;
       there = lies.points place n low e;
+      of_space = lies.of_space;
       covers = region_covered x s.store (memory_of i) i.frame.own t q place n a region l may g.framed e low;
       kind_is = ap (λ (s : Shape). get_or (kinds_of x.code s.space) place Truth) (g.memory.stands.shape q.root)
           ∙ ap (λ k. get_or (kinds_of x.code k) place Truth) lies.of_space

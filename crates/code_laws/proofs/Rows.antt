@@ -127,6 +127,7 @@ same_scope x params slots aside h h2 s i e g = record {
   result_is = sym (ap (λ (p : Tree × Calls × StaticType). p.2) (sym e.1)) ∙ g.result_is;
   answers = λ c. subst (λ (p : Tree × Calls × StaticType). Answering x p.0 p.1) (sym e.1) (g.answers c);
   spaces = g.spaces ∙ ap (λ (p : Tree × Calls × StaticType). map space_code (spaces_of p.0)) (sym e.1);
+  tree_is = ap (λ (p : Tree × Calls × StaticType). p.0) e.1 ∙ g.tree_is;
   memory = g.memory;
   framed = g.framed;
 }
@@ -242,6 +243,7 @@ module _ (x : Setting) (params slots : ℕ) (fit : SlotsFit x slots) (counts : C
     answers = g.answers;
     spaces = g.spaces;
     memory = g.memory;
+    tree_is = g.tree_is;
     framed = g.framed;
   }
 
@@ -266,6 +268,7 @@ module _ (x : Setting) (params slots : ℕ) (fit : SlotsFit x slots) (counts : C
     answers = g.answers;
     spaces = g.spaces;
     memory = g.memory;
+    tree_is = g.tree_is;
     framed = g.framed;
   }
 

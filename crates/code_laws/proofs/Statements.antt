@@ -1,10 +1,9 @@
 -- The code of a statement does what the statement means.
 use Rattle.code_laws.proofs.Behind.{folds_behind, sets_behind}
-use Rattle.code_laws.proofs.Counting.{into_runs}
 use Rattle.code_laws.proofs.Moving.{assigned_runs, assigns}
 use Rattle.code_laws.proofs.PointerForms.{begins_run, declares_run, itself_run, points_run}
 use Rattle.code_laws.proofs.Pointing.{region_pointed}
-use Rattle.code_laws.proofs.Wider.{any_field, assigned, beginning, begun, counting, going, keepable, loops_over, zeroed}
+use Rattle.code_laws.proofs.Wider.{any_field, assigned, beginning, begun, counting, keepable, loops_over, zeroed}
 use Rattle.code_laws.proofs.States.{ready_value}
 use Rattle.code_laws.proofs.Variables.{GoodInside, binds, fill_runs, region_runs}
 use Rattle.code_laws.proofs.Elements.{folds_element, sets_element}
@@ -267,7 +266,7 @@ module _ (x : Setting) (params slots : ℕ) (fit : SlotsFit x slots) (counts : C
         (valued (past (right_code w n steps how.Set e) pc) []) (Good x params slots fit aside h u) _ (right_side h n steps how.Set e s) _
         (then x (comes_said x _ _) _ _ _ (value h e s) _
         (value_runs x params slots fit aside h 0 low e s pc [] i fine.2 g f.0.0)
-        (λ v s1 j k. into_runs x params slots fit aside h t u [] v s1 _ [] j fine.1 k.0 k.1 f.0.1))
+        (λ v s1 j k. assigned_runs x params slots fit aside h t u [] v s1 _ [] j fine.1 k.0 k.1 f.0.1))
         (λ v s1 j k. sets_behind x params slots fit aside h n f2 u v s1 _ j fine.3 fine.4 k.0 k.1 f.1)
     form_runs aside h (assign_form n (field_step f2 no_step) (how.Reduce o) e) s pc i low fine g f =
         let w = where_of params h in
@@ -290,7 +289,7 @@ module _ (x : Setting) (params slots : ℕ) (fit : SlotsFit x slots) (counts : C
         (Good x params slots fit aside h u) _ (right_side h n (at_step y (field_step f2 no_step)) how.Set e s) _
         (then x (comes_said x _ _) _ _ _ (value h e s) _
         (value_runs x params slots fit aside h 0 low e s pc [] i fine.1 g f.0.0)
-        (λ v s1 j k. into_runs x params slots fit aside h t u [] v s1 _ [] j (going x.forms.keeps t u fine.0) k.0 k.1 f.0.1))
+        (λ v s1 j k. assigned_runs x params slots fit aside h t u [] v s1 _ [] j (assigned x.forms.keeps t u fine.0) k.0 k.1 f.0.1))
         (λ v s1 j k. sets_element x params slots fit aside h n y f2 u v s1 _ j low fine.2 (counting x.forms.keeps _ fine.3) fine.4
         (any_field x.forms.keeps w n f2 u fine.5) fine.6 k.0 k.1 f.1)
     form_runs aside h (assign_form n (at_step y (field_step f2 no_step)) (how.Reduce o) e) s pc i low fine g f =

@@ -129,6 +129,7 @@ module _ (x : Setting) (params slots : ℕ) (fit : SlotsFit x slots) where
         answers = g.answers;
         spaces = g.spaces;
         memory = g.memory;
+        tree_is = g.tree_is;
         framed = g.framed;
       }
 
@@ -185,6 +186,7 @@ module _ (x : Setting) (params slots : ℕ) (fit : SlotsFit x slots) where
         answers = g.answers;
         spaces = g.spaces;
         memory = g.memory;
+        tree_is = g.tree_is;
         framed = g.framed;
       }
 
@@ -223,6 +225,7 @@ module _ (x : Setting) (params slots : ℕ) (fit : SlotsFit x slots) where
         answers = λ c. subst (λ (p : Tree × Calls × StaticType). Answering x p.0 p.1) tree (g.answers c);
         spaces = g.spaces ∙ ap (λ (p : Tree × Calls × StaticType). map space_code (spaces_of p.0)) tree;
         memory = g.memory;
+        tree_is = sym (ap (λ (p : Tree × Calls × StaticType). p.0) tree) ∙ g.tree_is;
         framed = g.framed;
       }
 
@@ -257,6 +260,7 @@ module _ (x : Setting) (params slots : ℕ) (fit : SlotsFit x slots) where
         answers = g.answers;
         spaces = g.spaces;
         memory = g.memory;
+        tree_is = g.tree_is;
         framed = g.framed;
       }
 
@@ -283,6 +287,7 @@ module _ (x : Setting) (params slots : ℕ) (fit : SlotsFit x slots) where
     answers = g.answers;
     spaces = g.spaces;
     memory = g.memory;
+    tree_is = g.tree_is;
     framed = g.framed;
   }
 
@@ -331,5 +336,6 @@ module _ (x : Setting) (params slots : ℕ) (fit : SlotsFit x slots) where
         answers = λ c. subst (λ (p : Tree × Calls × StaticType). Answering x p.0 p.1) tree (g.answers c);
         spaces = g.spaces ∙ ap (λ (p : Tree × Calls × StaticType). map space_code (spaces_of p.0)) tree;
         memory = g.memory;
+        tree_is = sym (ap (λ (p : Tree × Calls × StaticType). p.0) tree) ∙ g.tree_is;
         framed = g.framed;
       }

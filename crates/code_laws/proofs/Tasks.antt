@@ -1,4 +1,5 @@
 -- What a call of a task means, its child comes to: by induction on how many more calls may nest.
+use Rattle.value_laws.specs.Shapes.{KeepsNumbers}
 use Rattle.code_laws.proofs.Variables.{zero_fits}
 use Rattle.std.proofs.Common.{inr, ◌≡◌, ℕ, zero, suc, ◌+◌, ◌^◌, ◌<◌, ◌≤◌, ℤ, pos, List, [], ◌∷◌, ◌++◌, Option, Some, None, refl, sym, ap, ◌∙◌, subst, arith}
 use Rattle.std.specs.Prelude.{Bool, get_or, length, map, take, true, false}
@@ -179,13 +180,14 @@ parts_are true tree u t vs h = h (record { params = length u.params; needs = (ta
 module _ (handing keeping : Bool) (tree : Tree) (turns : ℕ) (few : turns < 2 ^ 64) (are : AreTypedBy handing keeping tree) where
   -- a task's end, by the meaning and by the run
   matches_end : (x : Setting) (task : Name) (store : Store) (before : List ℕ) (v : Value) (s : State) (j : Instance) (result : Option ℤ) →
-      x.code ≡ code_of tree → x.before ≡ before → Returns tree task v → result_of result ≡ kept_number v → j.text ≡ s.text →
+      x.code ≡ code_of tree → x.tree ≡ tree → x.before ≡ before → Returns tree task v → result_of result ≡ kept_number v → j.text ≡ s.text →
       Holds x.code s.store (memory_of j) → IsFramed x s.store j.frame.own (memory_of j) →
       SameRoots store (take (length store) s.store) →
-      Matches x.code (Returns tree task) store before (came_back v (take (length store) s.store) s.text) (back result j)
-  matches_end x task store before v s j result ec eb typed value text holds framed same =
-      subst (λ t. Matches x.code (Returns tree task) store before (came_back v (take (length store) s.store) t) (back result j)) text
+      Matches tree x.code (Returns tree task) store before (came_back v (take (length store) s.store) s.text) (back result j)
+  matches_end x task store before v s j result ec et eb typed value text holds framed same =
+      subst (λ t. Matches tree x.code (Returns tree task) store before (came_back v (take (length store) s.store) t) (back result j)) text
       (both_back v s.store j.text result j.frame.own (give_parts j.parts j.contents) typed value same
+      (subst (λ t. KeepsNumbers t s.store) et framed.kept)
       (given_stands x.code s.store (memory_of j) holds)
       ((given_keeps_numbers j.parts j.contents).0 ∙ framed.own_are ∙ ap (λ ns. ns ++ map (λ (id : RootId). id.0) j.frame.own) eb))
 
@@ -209,7 +211,7 @@ module _ (handing keeping : Bool) (tree : Tree) (turns : ℕ) (few : turns < 2 ^
       (past (block_code (place_of tree (task_named tree task)) (task_named tree task).body) 0) (op instr.Return 0) →
       Answers SameRoots store (meant_by task store r) →
       (e : Ended) × Ends (setting more depth c task args) i e
-      × Matches (code_of tree) (Returns tree task) store (numbers c) (meant_by task store r) e
+      × Matches tree (code_of tree) (Returns tree task) store (numbers c) (meant_by task store r) e
   by_end more depth task args store c i (gives goes_on s) given d f same =
       let x = setting more depth c task args in
       let t = task_named tree task in
@@ -217,13 +219,13 @@ module _ (handing keeping : Bool) (tree : Tree) (turns : ℕ) (few : turns < 2 ^
       let k = placed (past (block_code (place_of tree t) t.body) 0) [] d.0 in (
         back None k,
         leads_end x d.1 (ends_by x k (back None k) instr.Return 0 f refl),
-        matches_end x task store (numbers c) (zero_of sc [] (result_type tree t.result)) s k None refl refl
+        matches_end x task store (numbers c) (zero_of sc [] (result_type tree t.result)) s k None refl refl refl
             (zero_typed sc (result_type tree t.result)) (sym (zero_given sc (result_type tree t.result) given)) d.2.text d.2.memory d.2.framed same,
       )
   by_end more depth task args store c i (gives (returned v) s) given d f same = (
     back d.0 d.1,
     d.2,
-    matches_end (setting more depth c task args) task store (numbers c) v s d.1 d.0 refl refl (d.7 refl) d.3 d.4 d.5 d.6 same,
+    matches_end (setting more depth c task args) task store (numbers c) v s d.1 d.0 refl refl refl (d.7 refl) d.3 d.4 d.5 d.6 same,
   )
   by_end more depth task args store c i (fails k s) given d f same = (Broke (Some k) s.text, d, both_broke k s.text)
 
@@ -233,7 +235,7 @@ module _ (handing keeping : Bool) (tree : Tree) (turns : ℕ) (few : turns < 2 ^
       Holds (code_of tree) store (memory_of (called_with tree turns depth task vs takes_it.needs c)) →
       Answering (setting more depth c task vs) tree (calls_at tree turns more) →
       Answers SameRoots store (meant_by task store (run_task tree turns (calls_at tree turns more) (task_named tree task) vs store)) →
-      Matches (code_of tree) (Returns tree task) store (numbers c)
+      Matches tree (code_of tree) (Returns tree task) store (numbers c)
       (meant_by task store (run_task tree turns (calls_at tree turns more) (task_named tree task) vs store))
       (runs (code_of tree) turns (suc more) (called_with tree turns depth task vs takes_it.needs c))
   body_matches more depth takes u task vs store c from takes_it holds answers same =
@@ -251,7 +253,7 @@ module _ (handing keeping : Bool) (tree : Tree) (turns : ℕ) (few : turns < 2 ^
       (λ y e. all_take handing tree u t y (sym from ∙ e)) (omega (arith, room.0)) (λ k. ap (λ j. get_or vs j (a_truth false)) (omega arith)) (params_own tree t.params 0 t.params) takes_it.taken)
       (taken_plain takes (code_of tree) store ts vs takes_it.taken) room.1 holds
       (λ n h. asked_covered (code_of tree) c vs code.needs store (memory_of i) refl takes_it.required n (needs_are handing tree t n h))
-      (parts_are handing tree u t vs (λ y e. takes_it.parts y (from ∙ e))) in
+      (parts_are handing tree u t vs (λ y e. takes_it.parts y (from ∙ e))) takes_it.kept in
       let low : length t.params ≤ length h.scope.names = omega (arith, params_length tree t.params 0 t.params) in
       let task_is = are (place_of_task tree task) t takes_it.there in
       let stands = stands_alone (body_piece tree t) task_is.small in
@@ -265,7 +267,7 @@ module _ (handing keeping : Bool) (tree : Tree) (turns : ℕ) (few : turns < 2 ^
         slots = eq-eqb (length i.frame.slots) code.slots g.slots_are;
         later = refl;
       }) done.1 in
-      subst (Matches (code_of tree) (Returns tree task) store (numbers c) (meant_by task store r)) (sym ran) done.2
+      subst (Matches tree (code_of tree) (Returns tree task) store (numbers c) (meant_by task store r)) (sym ran) done.2
 
   -- calls are answered at each depth
   pub answering : (more depth : ℕ) (before : List ℕ) (args : List Value) (t : TaskTree) → depth + more ≡ 64 →

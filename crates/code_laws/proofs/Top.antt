@@ -32,6 +32,7 @@ use Rattle.regent_tree.specs.Store.{Store}
 use Rattle.regent_tree.specs.declared.outcome.Ending.{Ending}
 use Rattle.regent_tree.specs.declared.outcome.RootImage.{RootImage}
 use Rattle.machine_terms.specs.declared.order.Instance.{Instance}
+use Rattle.code_laws.proofs.Kept.{none_kept}
 use Rattle.code_laws.proofs.Tasks.{answering}
 use Rattle.code_laws.proofs.Values.{not_true, number_inside}
 use Rattle.task_code.specs.declared.code.NeedCode.{NeedCode}
@@ -158,7 +159,7 @@ typed_run_ends forms tree inputs turns answers p =
     let few : length vs ≤ code.slots = omega (arith, taken_length IsOf ts vs p.taken, params, room) in
     let g = opens tree turns 63 1 t place vs [] no_contents [] [] forms (calls_at tree turns 63) answers p.taken (inputs_inside x [] ts inputs p.taken) (inputs_plain ts inputs p.taken) few
     (first_holds (code_of tree) i.frame) (λ n h u asked. absurd (nothing_asked n u asked))
-    (λ q h. (refl, λ root point is. absurd (not_true is.1))) in
+    (λ q h. (refl, λ root point is. absurd (not_true is.1))) (none_kept tree) in
     let low : length t.params ≤ length h.scope.names = omega (arith, params_length tree t.params 0 t.params) in
     let stands = stands_alone (body_piece tree t) p.small in
     let done = by_end forms tree turns t i _ (block_runs x (length t.params) code.slots (fits_slots x tree t refl) counts_down

@@ -104,7 +104,7 @@ module _ (x : Setting) (params slots : ℕ) (fit : SlotsFit x slots) (counts : C
       let sp = place_of_space h.tree u.name in (
         make_instance x.code size sp i,
         makes_root x params slots aside h s i sp size pc h.line near can g f,
-        (of_region k sp args r _, new_inside x params slots aside h s i sp size k args r fresh small g, made_agrees x params slots aside h s i sp size makes can g),
+        (of_region k sp args r _, new_inside x params slots aside h s i sp size k args r fresh small g, made_agrees x params slots aside h s i sp size makes can small g),
       )
 
   -- the value is put aside, and the fields are filled with it

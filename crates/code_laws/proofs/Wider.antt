@@ -8,7 +8,7 @@ use Rattle.regent_tree.specs.declared.typing.Bound.{Bound}
 use Rattle.regent_tree.specs.declared.types.NumberTerm.{NumberTerm}
 use Rattle.regent_tree.specs.declared.typing.StaticType.{StaticType}
 use Rattle.code_rules.specs.Slots.{Where}
-use Rattle.code_laws.specs.Pointers.{AreCompared, Assigned, Begins, BeginsAs, BeginsItself, BeginsWith, ConvertsTo, CountsAs, Fills, FillsInto, FitsInto, GoesInto, HasSigns, HasZero, SignedAs, signs_plain, IsAssigned, IsCompared, IsCounting, IsNumberTerm, IsPointer, assigned_plain, begins_plain, compared_plain, counts_number, counts_pointer, fills_alike, fills_index, into_index, into_plain, itself_plain, keeps_plain, term_integer, zero_index, zero_scalar}
+use Rattle.code_laws.specs.Pointers.{AreCompared, Assigned, Begins, BeginsAs, BeginsItself, BeginsWith, ConvertsTo, CountsAs, Filled, FillsInto, FitsInto, GoesInto, HasSigns, HasZero, SignedAs, signs_plain, IsAssigned, IsCompared, IsCounting, IsNumberTerm, IsPointer, assigned_plain, begins_plain, compared_plain, counts_number, counts_pointer, filled_plain, fills_alike, fills_index, into_index, into_plain, itself_plain, keeps_plain, term_integer, zero_index, zero_scalar}
 use Rattle.code_laws.specs.Simple.{IsNumber, IsSimple, IsSpace, number_index, number_integer, scalar_integer, scalar_truth, simple_index, simple_integer, simple_truth, two_integers, two_truths}
 use Rattle.regent_tree.specs.Syntax.{Expression}
 use Rattle.code_rules.specs.Slots.{typed}
@@ -19,8 +19,8 @@ pub counting : (b : Bool) (t : StaticType) → CountsAs b t → IsCounting t
 counting false t p = counts_number t p
 counting true t p = p
 
-pub filling : (b : Bool) (t u : StaticType) → FillsInto b t u → Fills t u
-filling false t u p = fills_alike t u p
+pub filling : (b : Bool) (t u : StaticType) → FillsInto b t u → Filled t u
+filling false t u p = filled_plain t u (fills_alike t u p)
 filling true t u p = p
 
 pub going : (b : Bool) (t u : StaticType) → FitsInto b t u → GoesInto t u
@@ -52,7 +52,7 @@ converting false t p = term_integer t p
 converting true t p = p
 
 pub any_field : (b : Bool) (w : Where) (n f : Name) (t : StaticType) → IsFieldOf b w n f t → IsAnyField w n f t
-any_field false w n f t p = record { named = p.named; region = p.region; field = p.field; keeps = keeps_plain _ _ p.keeps }
+any_field false w n f t p = record { named = p.named; region = p.region; field = p.field; keeps = keeps_plain _ _ _ p.keeps }
 any_field true w n f t p = p
 
 -- what counts as a number is one where it stands for it

@@ -9,7 +9,7 @@ use Rattle.lane_kernels.specs.declared.numbers.Mode.TheVariants as mode
 use Rattle.lane_kernels.specs.declared.numbers.Op.{Op}
 use Rattle.lane_kernels.specs.declared.numbers.Width.{Width}
 use Rattle.lane_kernels.proofs.Operators.{closed}
-use Rattle.lane_kernels.specs.Numbers.{FitsWidth, applied, std_width, width_of, wrapped}
+use Rattle.lane_kernels.specs.Numbers.{applied, std_width, width_of, wrapped}
 use Rattle.regent_tree.specs.declared.outcome.FaultKind.TheVariants.{NullPointer, OutOfRegion}
 use Rattle.regent_tree.specs.declared.statement.How.TheVariants as how
 use Rattle.regent_tree.specs.declared.typing.StaticType.{StaticType}
@@ -19,7 +19,8 @@ use Rattle.regent_tree.specs.Evaluation.{stepped, value}
 use Rattle.regent_tree.specs.Execution.{Going, goes_on, updated, write_field}
 use Rattle.regent_tree.specs.Laws.{Leaves, SameNames}
 use Rattle.regent_tree.specs.Running.{State, Here, Run, Result, gives, fails, given, and_then, if_true, fault}
-use Rattle.regent_tree.specs.StaticTypes.{field_kind, field_place, space_at}
+use Rattle.regent_tree.specs.StaticTypes.{field_kind, field_place, field_term, kind_said, space_at}
+use Rattle.regent_tree.specs.declared.types.TypeTerm.{TypeTerm}
 use Rattle.regent_tree.specs.Store.{read_at, write_at}
 use Rattle.regent_tree.specs.Syntax.{Name, Expression, at_step, no_step}
 use Rattle.regent_tree.specs.Typing.{type_of_element}
@@ -46,29 +47,28 @@ use Rattle.memory_laws.specs.Places.{number_at}
 use Rattle.code_laws.specs.Steps.{Setting, machine_of, placed, on_step, Leads}
 use Rattle.code_laws.specs.Standing.{Agrees, Aside, Comes, IsInside, IsOf, SlotsFit, Stands, machine_value, nothing, of_index, of_integer, of_pointer, of_region, of_truth, where_of}
 use Rattle.code_laws.specs.Taking.{MayDo}
-use Rattle.code_laws.specs.Pointers.{FieldKeeps, Fills, IsCounting, counts_number, counts_pointer, fills_alike, fills_index, keeps_index, keeps_plain}
+use Rattle.value_laws.specs.Shapes.{regions_listed}
+use Rattle.code_laws.specs.Pointers.{FieldKeeps, Fills, IsCounting, KeepsAs, counts_number, counts_pointer, fills_alike, fills_index, keeps_index, keeps_plain, keeps_pointer}
 use Rattle.code_laws.specs.Simple.{term_in, IsInteger, IsRegion, an_integer, number_index, number_integer, a_region_type, fits_32, fits_64, fits_truth, two_integers, two_truths}
 use Rattle.code_laws.proofs.Accesses.{HasRegion, aims_first, index_fits, kept_round, region_there}
 use Rattle.code_laws.proofs.Good.{valued, Gives}
-use Rattle.code_laws.proofs.Reaching.{Reached, reached, rewritten}
+use Rattle.code_laws.proofs.Kept.{integer_kept_as, kept_as, numbers_at}
+use Rattle.code_laws.proofs.Reaching.{Reached, kept_here, reached, rewritten}
 use Rattle.code_laws.proofs.Runs.{Said, comes_said, ends_by, leads_by, leads_none}
 use Rattle.code_laws.proofs.Touching.{parted, sets}
 
 -- ---- values that fields keep
 
-pub field_kept : (kind : FieldKind) (t : StaticType) (v : Value) → FieldKeeps kind t → IsOf t v → IsKept kind (kept_number v)
-field_kept _ _ _ (keeps_plain _ _ fits_32) (of_integer _ z f) = (f, refl)
-field_kept _ _ _ (keeps_plain _ _ fits_64) (of_integer _ z f) = (f, refl)
-field_kept _ _ _ (keeps_plain _ _ fits_truth) (of_truth true) = (omega (arith, ints), refl)
-field_kept _ _ _ (keeps_plain _ _ fits_truth) (of_truth false) = (omega (arith, ints), refl)
-field_kept _ _ _ (keeps_index j) (of_index _ z f) = (f, refl)
-
-pub field_value : (c : Contents) (kind : FieldKind) (t : StaticType) (v : Value) → FieldKeeps kind t → IsOf t v →
+pub field_value : (c : Contents) (declared : TypeTerm) (t : StaticType) (v : Value) → FieldKeeps declared t → IsOf t v →
     machine_value c v ≡ machine.Number (kept_number v)
-field_value c _ _ _ (keeps_plain _ _ fits_32) (of_integer _ z f) = refl
-field_value c _ _ _ (keeps_plain _ _ fits_64) (of_integer _ z f) = refl
-field_value c _ _ _ (keeps_plain _ _ fits_truth) (of_truth b) = refl
-field_value c _ _ _ (keeps_index j) (of_index _ z f) = refl
+field_value c declared t v fits o = by (kind_said declared) (regions_listed declared) t v fits o
+  where
+    by : (kind : FieldKind) (n : ℕ) (t : StaticType) (v : Value) → KeepsAs kind n t → IsOf t v → machine_value c v ≡ machine.Number (kept_number v)
+    by _ _ _ _ (keeps_plain _ _ _ fits_32) (of_integer _ z f) = refl
+    by _ _ _ _ (keeps_plain _ _ _ fits_64) (of_integer _ z f) = refl
+    by _ _ _ _ (keeps_plain _ _ _ fits_truth) (of_truth b) = refl
+    by _ _ _ _ (keeps_index n j) (of_index _ z f) = refl
+    by _ _ _ _ (keeps_pointer k sp args rs names few) (of_pointer _ _ _ _ tg qs f) = refl
 
 no_read : mode.Write ≢ mode.Read
 no_read e = absurd cc
@@ -87,7 +87,7 @@ module _ (x : Setting) (params slots : ℕ) (fit : SlotsFit x slots) (aside : As
 
   pub field_writes : (h : Here) (t : StaticType) (f : Name) (place n : ℕ) (z : ℤ) (rs : List ℕ) (q : Region) (out : StaticType) (v : Value)
       (s : State) (pc : ℕ) (st : List MachineValue) (i : Instance) →
-      FieldKeeps (field_kind h.tree (space_in t) (field_place h.tree (space_in t) f)) out → IsOf out v →
+      FieldKeeps (field_term h.tree (space_in t) (field_place h.tree (space_in t) f)) out → IsOf out v →
       aim_through i.frame.slots rs (target_kept z) ≡ aims (number_at i.contents q.root) n →
       has q.points n ≡ true → place ≡ field_place h.tree (space_in t) f →
       Reached x h.tree i s.store q (space_in t) (field_place h.tree (space_in t) f) n mode.Write →
@@ -99,7 +99,9 @@ module _ (x : Setting) (params slots : ℕ) (fit : SlotsFit x slots) (aside : As
       let p = field_place h.tree (space_in t) f in
       let kind = field_kind h.tree (space_in t) p in
       let w = width_of kind in
-      let c = field_kept kind out v fits o in
+      let declared = field_term h.tree (space_in t) p in
+      let is = kept_as declared out v fits o in
+      let c : IsKept kind (kept_number v) = (is.fits, is.same) in
       let stays : wrapped w (kept_number v) ≡ kept_number v = int_wrap_fits (std_width w) (kept_number v) c.0 in
       let d = sets x mode.Write no_read i pc h.line q.root p n z (kept_number v) st rs w
       (instr.Write rs p w) s.store (λ m. refl) (ap width_of (sym r.kind_is))
@@ -113,7 +115,7 @@ module _ (x : Setting) (params slots : ℕ) (fit : SlotsFit x slots) (aside : As
         (
           refl,
           rewritten x params slots aside h s i d.0 _ (write_at s.store q.root p n (kept_number v))
-              (shapes_written s.store q.root p n (kept_number v)) g
+              (shapes_written s.store q.root p n (kept_number v)) (numbers_at h.tree s.store (kept_here x params slots aside h s i g) q.root p n (space_in t) (kept_number v) r.of_space is) g
               (subst (λ y. Holds x.code (write_at s.store q.root p n y) (memory_of (parted d.0 i))) stays d.2),
         ),
       )
@@ -121,7 +123,7 @@ module _ (x : Setting) (params slots : ℕ) (fit : SlotsFit x slots) (aside : As
   -- a reduction, on a field of integers
   pub field_folds : (o : Op) (h : Here) (t : StaticType) (f : Name) (place n : ℕ) (z : ℤ) (rs : List ℕ) (q : Region) (wd we : Width) (y : ℤ)
       (s : State) (pc : ℕ) (st : List MachineValue) (i : Instance) →
-      FieldKeeps (field_kind h.tree (space_in t) (field_place h.tree (space_in t) f)) (integer_type wd) →
+      FieldKeeps (field_term h.tree (space_in t) (field_place h.tree (space_in t) f)) (integer_type wd) →
       aim_through i.frame.slots rs (target_kept z) ≡ aims (number_at i.contents q.root) n →
       has q.points n ≡ true → place ≡ field_place h.tree (space_in t) f →
       Reached x h.tree i s.store q (space_in t) (field_place h.tree (space_in t) f) n (mode.Reduce o) →
@@ -133,10 +135,12 @@ module _ (x : Setting) (params slots : ℕ) (fit : SlotsFit x slots) (aside : As
       let p = field_place h.tree (space_in t) f in
       let kind = field_kind h.tree (space_in t) p in
       let w = width_of kind in
+      let declared = field_term h.tree (space_in t) p in
       let new = applied o w (read_at s.store q.root p n) (wrapped w y) in
+      let is = integer_kept_as declared wd new fits (closed o w _ _) in
       let d = sets x (mode.Reduce o) (no_fold o) i pc h.line q.root p n z y st rs w
       (instr.Reduce rs p o w) s.store (λ m. refl) (ap width_of (sym r.kind_is))
-      (subst (λ k. IsKept k new) (sym r.kind_is) (integer_kept kind wd new fits (closed o w _ _)))
+      (subst (λ k. IsKept k new) (sym r.kind_is) (is.fits, is.same))
       g.memory r.covers
       (subst (λ k. Stands x.body pc (op (instr.Reduce rs k o (width_of (field_kind h.tree (space_in t) k))) h.line)) same stands) to in
       subst (λ b. Written pc h st (placed pc (machine.Number z ∷ machine.Number y ∷ st) i)
@@ -146,20 +150,17 @@ module _ (x : Setting) (params slots : ℕ) (fit : SlotsFit x slots) (aside : As
         (
           refl,
           subst (λ v. Agrees x params slots aside h (record s { store = write_at s.store q.root p n v; touches = s.touches ++ (record { root = q.root; field = p; point = n; access = mode.Reduce o }) ∷ [] }) (parted d.0 i))
-              (folded kind wd (read_at s.store q.root p n) fits)
+              (folded kind (regions_listed declared) wd (read_at s.store q.root p n) fits)
               (rewritten x params slots aside h s i d.0 (s.touches ++ (record { root = q.root; field = p; point = n; access = mode.Reduce o }) ∷ [])
-              (write_at s.store q.root p n new) (shapes_written s.store q.root p n new) g d.2),
+              (write_at s.store q.root p n new) (shapes_written s.store q.root p n new)
+              (numbers_at h.tree s.store (kept_here x params slots aside h s i g) q.root p n (space_in t) new r.of_space is) g d.2),
         ),
       )
     where
-      integer_kept : (kind : FieldKind) (wd : Width) (z : ℤ) → FieldKeeps kind (integer_type wd) → FitsWidth (width_of kind) z → IsKept kind z
-      integer_kept _ _ z (keeps_plain _ _ fits_32) f = (f, refl)
-      integer_kept _ _ z (keeps_plain _ _ fits_64) f = (f, refl)
-
-      folded : (kind : FieldKind) (wd : Width) (old : ℤ) → FieldKeeps kind (integer_type wd) →
+      folded : (kind : FieldKind) (m : ℕ) (wd : Width) (old : ℤ) → KeepsAs kind m (integer_type wd) →
           applied o (width_of kind) old (wrapped (width_of kind) y) ≡ kept_number (updated (how.Reduce o) (meant kind [] old) (a_number we y))
-      folded _ _ old (keeps_plain _ _ fits_32) = refl
-      folded _ _ old (keeps_plain _ _ fits_64) = refl
+      folded _ _ _ old (keeps_plain _ _ _ fits_32) = refl
+      folded _ _ _ old (keeps_plain _ _ _ fits_64) = refl
 
   -- what is to be shown where the index was evaluated
   abbrev PointsAt : {B : Type 0} → (Instance → Result B → Type 0) → (Value → Run B) → Here → ℕ → ℕ → Expression → Region → List MachineValue →
@@ -260,7 +261,7 @@ module _ (x : Setting) (params slots : ℕ) (fit : SlotsFit x slots) (aside : As
       IsCounting (typed (where_of params h) e) → Leaves SameNames s (value h e s) →
       slots_of (where_of params h) (slot (where_of params h) p) (type_of_element h.scope t e) ≡ slot (where_of params h) p ∷ [] →
       field_place h.tree (space_in t) f < length (space_at h.tree (space_in t)).fields →
-      FieldKeeps (field_kind h.tree (space_in t) (field_place h.tree (space_in t) f)) out → IsOf out v →
+      FieldKeeps (field_term h.tree (space_in t) (field_place h.tree (space_in t) f)) out → IsOf out v →
       ((s1 : State) (j : Instance) → Agrees x params slots aside h s1 j → IsInside x s1.store t (get_or s1.names p nothing)) →
       MayDo x.forms.takes (term_in t) (field_place h.tree (space_in t) f) mode.Write →
       Stands x.body pc ((load_code (where_of params h) t (slot (where_of params h) p) (at_step e no_step)
@@ -303,7 +304,7 @@ module _ (x : Setting) (params slots : ℕ) (fit : SlotsFit x slots) (aside : As
       IsCounting (typed (where_of params h) e) → Leaves SameNames s (value h e s) →
       slots_of (where_of params h) (slot (where_of params h) p) (type_of_element h.scope t e) ≡ slot (where_of params h) p ∷ [] →
       field_place h.tree (space_in t) f < length (space_at h.tree (space_in t)).fields →
-      FieldKeeps (field_kind h.tree (space_in t) (field_place h.tree (space_in t) f)) (integer_type wd) →
+      FieldKeeps (field_term h.tree (space_in t) (field_place h.tree (space_in t) f)) (integer_type wd) →
       ((s1 : State) (j : Instance) → Agrees x params slots aside h s1 j → IsInside x s1.store t (get_or s1.names p nothing)) →
       MayDo x.forms.takes (term_in t) (field_place h.tree (space_in t) f) (mode.Reduce o) →
       Stands x.body pc ((load_code (where_of params h) t (slot (where_of params h) p) (at_step e no_step)

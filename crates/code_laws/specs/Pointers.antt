@@ -1,7 +1,7 @@
 -- Pointers that are kept: the types that have them, and to which regions they go; and of which regions partitions are.
-use Rattle.std.specs.Prelude.{◌≡◌, ℕ, ◌<◌, ◌≤◌, ◌^◌, Bool, true, false, List, [], ◌∷◌, length, get_or, Some, None}
+use Rattle.std.specs.Prelude.{◌≡◌, ℕ, ◌<◌, ◌≤◌, Bool, true, false, List, [], ◌∷◌, length, get_or, Some, None}
 use Rattle.lane_kernels.specs.declared.numbers.FieldKind.{FieldKind}
-use Rattle.lane_kernels.specs.declared.numbers.FieldKind.TheVariants.{Index}
+use Rattle.lane_kernels.specs.declared.numbers.FieldKind.TheVariants.{Index, Pointer}
 use Rattle.regent_tree.specs.declared.expression.Comparison.{Comparison}
 use Rattle.regent_tree.specs.declared.expression.Comparison.TheVariants.{Equal, NotEqual}
 use Rattle.regent_tree.specs.declared.expression.Sign.{Sign}
@@ -16,21 +16,23 @@ use Rattle.regent_tree.specs.declared.typing.StaticType.TheVariants.{Index as in
 use Rattle.partitions.specs.Laws.{ArePartsOf, NoneShared}
 use Rattle.regent_tree.specs.Accesses.{space_in}
 use Rattle.regent_tree.specs.Scopes.{bound_as}
-use Rattle.regent_tree.specs.StaticTypes.{Reach}
+use Rattle.regent_tree.specs.StaticTypes.{Reach, kind_said}
 use Rattle.regent_tree.specs.Typing.{parent_of, reaches_of}
-use Rattle.regent_tree.specs.Values.{Partition, Region, Target, Value, a_partition, a_pointer, a_region, a_truth, null_target, point_target}
+use Rattle.regent_tree.specs.Values.{Partition, Region, Value, a_partition, a_pointer, a_region, a_truth}
+use Rattle.regent_tree.specs.declared.types.TypeTerm.{TypeTerm}
+use Rattle.value_laws.specs.Shapes.{regions_listed}
 use Rattle.code_laws.specs.Simple.{AreAlike, AreComparable, FieldFits, IsIntegerTerm, IsNumber, IsRegion, IsScalar, IsSimple, SignsFit}
 
 -- ---- types
 
--- each region of a list has a name
+-- each region of a list has a name, or may be any
 abbrev pub AreNames : List Reach → Type 0
 AreNames [] = Unit {0}
 AreNames (Some (term.Name i) ∷ rs) = AreNames rs
 AreNames (Some (term.Child p c) ∷ rs) = ⊥
-AreNames (None ∷ rs) = ⊥
+AreNames (None ∷ rs) = AreNames rs
 
--- a pointer to elements of regions that have names
+-- a pointer to elements of regions that have names, or to elements of any
 pub data IsPointer : StaticType → Type 0 where
   a_pointer_type : (k : Kind) (sp : ℕ) (args rs : List Reach) → AreNames rs → IsPointer (pointer_type k sp args rs)
 
@@ -54,10 +56,15 @@ pub data HasZero : StaticType → Type 0 where
   zero_scalar : (t : StaticType) → IsScalar t → HasZero t
   zero_index : (k : Kind) → HasZero (index_type k)
 
--- the numbers of a field of a kind are values of a type
-pub data FieldKeeps : FieldKind → StaticType → Type 0 where
-  keeps_plain : (k : FieldKind) (t : StaticType) → FieldFits k t → FieldKeeps k t
-  keeps_index : (k : Kind) → FieldKeeps Index (index_type k)
+-- the numbers of a field of a kind, whose pointers go into so many regions, are values of a type
+pub data KeepsAs : FieldKind → ℕ → StaticType → Type 0 where
+  keeps_plain : (k : FieldKind) (n : ℕ) (t : StaticType) → FieldFits k t → KeepsAs k n t
+  keeps_index : (n : ℕ) (k : Kind) → KeepsAs Index n (index_type k)
+  keeps_pointer : (k : Kind) (sp : ℕ) (args rs : List Reach) → AreNames rs → length rs ≤ 4 → KeepsAs Pointer (length rs) (pointer_type k sp args rs)
+
+-- so are those of a field that is declared so
+abbrev pub FieldKeeps : TypeTerm → StaticType → Type 0
+FieldKeeps declared t = KeepsAs (kind_said declared) (regions_listed declared) t
 
 -- a number type to which numbers are converted
 pub data IsNumberTerm : NumberTerm → Type 0 where
@@ -76,13 +83,13 @@ pub data HasSigns : StaticType → List Sign → Type 0 where
 
 -- ---- types that are written
 
--- the regions of a list are bound in scope, and of a field space
+-- the regions of a list are bound in scope, and of a field space, but those that may be any
 abbrev pub AreThere : List Bound → ℕ → List Reach → Type 0
 AreThere bs sp [] = Unit {0}
 AreThere bs sp (Some (term.Name i) ∷ rs) = ((bound_as bs i).number ≡ i) × IsRegion (bound_as bs i).static_type
     × (space_in (bound_as bs i).static_type ≡ sp) × AreThere bs sp rs
 AreThere bs sp (Some (term.Child p c) ∷ rs) = ⊥
-AreThere bs sp (None ∷ rs) = ⊥
+AreThere bs sp (None ∷ rs) = AreThere bs sp rs
 
 -- a pointer's type that is written in a scope
 abbrev pub IsWritten : List Bound → StaticType → Type 0
@@ -101,6 +108,11 @@ pub data BeginsItself (bs : List Bound) : StaticType → Type 0 where
 pub data Assigned : StaticType → StaticType → Type 0 where
   assigned_plain : (t u : StaticType) → GoesInto t u → Assigned t u
   assigned_pointer : (t u : StaticType) → IsPointer t → IsPointer u → Assigned t u
+
+-- with what fields of a type are filled, also where they are of pointers
+pub data Filled : StaticType → StaticType → Type 0 where
+  filled_plain : (t u : StaticType) → Fills t u → Filled t u
+  filled_pointer : (t u : StaticType) → IsPointer t → IsPointer u → Filled t u
 
 -- two values that are compared: pointers with each other, or with numbers by their points
 pub data AreCompared : Comparison → StaticType → StaticType → Type 0 where
@@ -128,7 +140,7 @@ FitsInto true t u = GoesInto t u
 
 abbrev pub FillsInto : Bool → StaticType → StaticType → Type 0
 FillsInto false t u = AreAlike t u
-FillsInto true t u = Fills t u
+FillsInto true t u = Filled t u
 
 abbrev pub BeginsAs : Bool → List Bound → StaticType → Type 0
 BeginsAs false bs t = IsScalar t
@@ -156,11 +168,6 @@ IsRead false t = IsSimple t
 IsRead true t = Unit {0}
 
 -- ---- where pointers go
-
--- null, or a point through one of so many regions
-abbrev pub IsTarget : ℕ → Target → Type 0
-IsTarget n null_target = Unit {0}
-IsTarget n (point_target p i) = (p < 2 ^ 32) × (i ≤ n)
 
 -- a region of a field space is the value of a name that has a number, at a place below another
 pub record IsOfName (b : Bound) (upto : ℕ) (names : List Value) (sp i : ℕ) (q : Region) : Type 0 where

@@ -45,6 +45,7 @@ all_forms = record { makes = true; calls = true; takes = None; keeps = true }
 -- a task at a depth, where so many more calls may nest, and these roots are there
 abbrev pub task_setting : Forms → Tree → ℕ → ℕ → ℕ → List ℕ → TaskTree → Setting
 task_setting forms tree turns more depth before t = record {
+  tree = tree;
   code = code_of tree;
   turns = turns;
   child = runs (code_of tree) turns more;

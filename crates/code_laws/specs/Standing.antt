@@ -31,7 +31,8 @@ use Rattle.machine_terms.specs.Copies.{give_parts}
 use Rattle.machine_terms.specs.Jumps.{fetch}
 use Rattle.machine_terms.specs.Makes.{region_with}
 use Rattle.machine_terms.specs.Orders.{begun, result_of}
-use Rattle.code_laws.specs.Pointers.{ArePointed, IsTarget}
+use Rattle.value_laws.specs.Shapes.{IsPosition, KeepsNumbers}
+use Rattle.code_laws.specs.Pointers.{ArePointed}
 use Rattle.code_laws.specs.Simple.{IsScalar, IsSimple}
 use Rattle.code_rules.specs.Instructions.{place_of_task, tasks_of}
 use Rattle.machine_terms.specs.Opening.{opening, requirements_on}
@@ -100,7 +101,7 @@ pub data IsOf : StaticType → Value → Type 0 where
   of_integer : (w : Width) (z : ℤ) → FitsWidth w z → IsOf (integer_type w) (a_number w z)
   of_truth : (b : Bool) → IsOf truth_type (a_truth b)
   of_index : (k : Kind) (z : ℤ) → FitsWidth W64 z → IsOf (index_type k) (an_index z)
-  of_pointer : (k : Kind) (sp : ℕ) (args rs : List Reach) (t : Target) (regions : List Region) → IsTarget (length rs) t →
+  of_pointer : (k : Kind) (sp : ℕ) (args rs : List Reach) (t : Target) (regions : List Region) → IsPosition (length rs) t →
       IsOf (pointer_type k sp args rs) (a_pointer t regions)
   of_space : (k : Kind) (n : ℕ) → n ≤ 4194304 → IsOf (ispace_type k) (a_space n)
   of_region : (k : Kind) (sp : ℕ) (args : List Reach) (r : Term) (q : Region) →
@@ -169,7 +170,8 @@ abbrev pub is_own : Setting → Touch → Bool
 is_own x t = nat_le (length x.before) t.root
 
 -- What stays while an instance runs: its own roots come behind those that were there before it, each is of one
--- of the field spaces, and its needs allow each touch of a point of these, and what is needed of parameters.
+-- of the field spaces, its needs allow each touch of a point of these, and what is needed of parameters, and the store
+-- keeps numbers of its fields' types.
 pub record IsFramed (x : Setting) (store : Store) (own : List RootId) (m : Memory) : Type 0 where
   pub own_are : AreOwn x.before own m.contents
   pub none : x.forms.makes ≡ false → own ≡ []
@@ -178,6 +180,7 @@ pub record IsFramed (x : Setting) (store : Store) (own : List RootId) (m : Memor
   pub allows : AreCovered (is_own x) store m
   pub given : (n : NeedCode) → Contains (needs_taken x.forms.takes) n → AreCovered (is_asked x.args n) store m
   pub parts : AreParts x.args (pairs_taken x.forms.takes)
+  pub kept : KeepsNumbers x.tree store
 
 -- ---- calls
 
@@ -188,12 +191,14 @@ pub data IsTaken (takes : Option Taking) (code : Code) (store : Store) : StaticT
   takes_region : (y : Taking) (k : Kind) (space : ℕ) (args : List Reach) (r : Term) (q : Region) → takes ≡ Some y →
       LiesIn code store space q → IsTaken takes code store (region_type k space args r) (a_region q)
 
--- a task of the program, what it takes, of which its constraints hold, and what it requires of that
+-- a task of the program, what it takes, of which its constraints hold, a store that keeps numbers of its fields' types, and
+-- what the task requires of what it takes
 pub record Takes (takes : Option Taking) (code : Code) (tree : Tree) (task : Name) (vs : List Value) (store : Store)
     (c : Contents) : Type 0 where
   pub there : slice_get (tasks_of tree) (place_of_task tree task) ≡ Some (task_named tree task)
   pub taken : AreTaken (IsTaken takes code store) (param_types tree (task_named tree task)) vs
   pub parts : (y : Taking) → takes ≡ Some y → AreParts vs (pairs_in (scope_of tree (task_named tree task)).known)
+  pub kept : KeepsNumbers tree store
   pub needs : List Requirement
   pub required : requirements_on code c (task_code tree (task_named tree task)).needs (map (machine_value c) vs) ≡ Some needs
 
@@ -202,14 +207,14 @@ abbrev pub Returns : Tree → Name → Value → Type 0
 Returns tree task v = IsScalar (result_type tree (task_named tree task).result) →
     IsOf (result_type tree (task_named tree task).result) v
 
--- Both come back, with a value and what stands for the store with the call's own roots behind; or both end
--- with a fault.
-pub data Matches (code : Code) (Returned : Value → Type 0) (store : Store) (before : List ℕ) : Called → Ended → Type 0 where
+-- Both come back, with a value and what stands for the store with the call's own roots behind, which keeps numbers of its
+-- fields' types; or both end with a fault.
+pub data Matches (tree : Tree) (code : Code) (Returned : Value → Type 0) (store : Store) (before : List ℕ) : Called → Ended → Type 0 where
   both_back : (v : Value) (after : Store) (text : List ℕ) (result : Option ℤ) (own : List RootId) (c : Contents) →
       Returned v → result_of result ≡ kept_number v → SameRoots store (take (length store) after) →
-      StandFor code c [] after → AreOwn before own c →
-      Matches code Returned store before (came_back v (take (length store) after) text) (CameBack result own c text)
-  both_broke : (f : Fault) (text : List ℕ) → Matches code Returned store before (broke f text) (Broke (Some f) text)
+      KeepsNumbers tree after → StandFor code c [] after → AreOwn before own c →
+      Matches tree code Returned store before (came_back v (take (length store) after) text) (CameBack result own c text)
+  both_broke : (f : Fault) (text : List ℕ) → Matches tree code Returned store before (broke f text) (Broke (Some f) text)
 
 -- a task that begins as a call of it
 abbrev pub called_with : Tree → ℕ → ℕ → Name → List Value → List Requirement → Contents → Instance
@@ -225,7 +230,7 @@ pub record Answering (x : Setting) (tree : Tree) (calls : Calls) : Type 0 where
   pub below : x.depth < 64 → (line : ℕ) (task : Name) (vs : List Value) (store : Store) (c : Contents) →
       (takes : Takes x.forms.takes x.code tree task vs store c) →
       Holds x.code store (memory_of (called_with tree x.turns (suc x.depth) task vs takes.needs c)) →
-      Matches x.code (Returns tree task) store (numbers c) (calls line task vs store)
+      Matches tree x.code (Returns tree task) store (numbers c) (calls line task vs store)
       (x.child (called_with tree x.turns (suc x.depth) task vs takes.needs c))
 
 -- a frame without its slots, stack and place
@@ -273,6 +278,7 @@ pub record Agrees (x : Setting) (params slots : ℕ) (o : Aside) (h : Here) (s :
   pub result_is : h.result ≡ x.result
   pub answers : x.forms.calls ≡ true → Answering x h.tree h.calls
   pub spaces : x.code.spaces ≡ map space_code (spaces_of h.tree)
+  pub tree_is : h.tree ≡ x.tree
   pub memory : Holds x.code s.store (memory_of i)
   pub framed : IsFramed x s.store i.frame.own (memory_of i)
 

@@ -2,6 +2,7 @@
 -- once, and the instance goes on.
 use Rattle.std.specs.Prelude.{◌≡◌, Bool, false, ℕ, zero, suc, ◌+◌, List, ◌++◌, None, Option}
 use Rattle.region_tree.specs.declared.tree.RootId.{RootId}
+use Rattle.regent_tree.specs.Syntax.{Tree}
 use Rattle.regent_tree.specs.Values.{Value as Meant}
 use Rattle.regent_tree.specs.declared.typing.StaticType.{StaticType}
 use Rattle.task_code.specs.declared.code.Code.{Code}
@@ -36,10 +37,11 @@ pub record Forms : Type 0 where
 abbrev pub without_pointers : Forms → Forms
 without_pointers forms = record forms { keeps = false }
 
--- The code of all tasks, the turns of each instance, what calls give, the code of the task, and its
+-- The program, the code of all tasks, the turns of each instance, what calls give, the code of the task, and its
 -- result's type; its depth, the numbers of the roots that were there when it began, its arguments, and the forms
 -- that its body may have.
 pub record Setting : Type 0 where
+  pub tree : Tree
   pub code : Code
   pub turns : ℕ
   pub child : Runner

@@ -13,15 +13,15 @@ use Rattle.regent_tree.specs.declared.typing.Bound.{Bound}
 use Rattle.regent_tree.specs.declared.typing.StaticType.{StaticType}
 use Rattle.regent_tree.specs.declared.typing.StaticType.TheVariants.{Truth as truth_type}
 use Rattle.regent_tree.specs.Accesses.{args_in, space_in}
-use Rattle.regent_tree.specs.StaticTypes.{Reach, field_kind, field_place, field_type, place_of_space, space_at, spaces_of, task_named}
+use Rattle.regent_tree.specs.StaticTypes.{Reach, field_kind, field_place, field_term, field_type, place_of_space, space_at, spaces_of, task_named}
 use Rattle.regent_tree.specs.Lookup.{is_bound}
 use Rattle.regent_tree.specs.Scopes.{scope_of}
 use Rattle.regent_tree.specs.Numbers.{distance}
 use Rattle.regent_tree.specs.Syntax.{a_statement, Form, var_form, if_form, while_form, for_in_form, for_to_form, do_form, assert_form, print_form, assign_form, return_form, Block, no_statement, then_statement, Arms, no_arm, an_arm, Otherwise, no_else, else_block, both_initializer, by_field_initializer, either_initializer, equal_initializer, image_initializer, preimage_initializer, plain_initializer, region_initializer, Name, Tree, fill_form, call_form, call_expr, Expression, number_expr, truth_expr, chain_expr, prefix_expr, access_expr, convert_expr, Expressions, no_expr, an_expr, Links, no_link, a_link, no_step, field_step, at_step, space_expr, is_null_expr, null_expr, cast_expr}
 use Rattle.regent_tree.specs.Scopes.{bound_as}
-use Rattle.regent_tree.specs.Typing.{arithmetic_type, operated, param_types, params_at, reaches_of, result_type, taken_from, type_of_element, type_of_field, var_type}
+use Rattle.regent_tree.specs.Typing.{arithmetic_type, has_wild, operated, param_types, params_at, reaches_of, result_type, taken_from, type_of_element, type_of_field, var_type}
 use Rattle.code_laws.specs.Arguments.{AreMet, ArePaired, AreParted, IsCutName, IsHanded, IsHandedPart, IsParent, LiesBelow, parent_bound}
-use Rattle.code_laws.specs.Pointers.{BeginsAs, BeginsWith, ConvertsTo, CountsAs, FieldKeeps, FillsInto, FitsInto, GoesInto, IsAssigned, IsCompared, IsCounting, IsPointer, IsRead, IsWritten, SignedAs}
+use Rattle.code_laws.specs.Pointers.{AreThere, Assigned, BeginsAs, BeginsWith, ConvertsTo, CountsAs, FieldKeeps, FillsInto, FitsInto, IsAssigned, IsCompared, IsCounting, IsPointer, IsRead, IsWritten, SignedAs}
 use Rattle.code_laws.specs.Simple.{IsInteger, IsTruth, IsScalar, IsSimple, IsSpace, IsRegion, AreAlike, FieldFits, term_in}
 use Rattle.code_rules.specs.Instructions.{place_of_task, tasks_of}
 use Rattle.code_rules.specs.Programs.{task_code}
@@ -42,13 +42,13 @@ pub record IsField (w : Where) (n f : Name) (t : StaticType) : Type 0 where
   pub keeps : FieldFits (field_kind w.tree (space_in (bound w n).static_type)
       (field_place w.tree (space_in (bound w n).static_type) f)) t
 
--- also a field of indices, where these are kept
+-- also a field of indices or pointers, where these are kept
 pub record IsAnyField (w : Where) (n f : Name) (t : StaticType) : Type 0 where
   pub named : is_bound w.scope.names n ≡ true
   pub region : IsRegion (bound w n).static_type
   pub field : field_place w.tree (space_in (bound w n).static_type) f
       < length (space_at w.tree (space_in (bound w n).static_type)).fields
-  pub keeps : FieldKeeps (field_kind w.tree (space_in (bound w n).static_type)
+  pub keeps : FieldKeeps (field_term w.tree (space_in (bound w n).static_type)
       (field_place w.tree (space_in (bound w n).static_type) f)) t
 
 abbrev pub IsFieldOf : Bool → Where → Name → Name → StaticType → Type 0
@@ -61,9 +61,10 @@ pub record IsBehind (w : Where) (n f : Name) (t : StaticType) : Type 0 where
   pub named : is_bound w.scope.names n ≡ true
   pub numbers : Falls w.scope.next w.scope.names
   pub pointer : IsPointer (bound w n).static_type
+  pub certain : has_wild (reaches_of (bound w n).static_type) ≡ false
   pub field : field_place w.tree (space_in (bound w n).static_type) f
       < length (space_at w.tree (space_in (bound w n).static_type)).fields
-  pub keeps : FieldKeeps (field_kind w.tree (space_in (bound w n).static_type)
+  pub keeps : FieldKeeps (field_term w.tree (space_in (bound w n).static_type)
       (field_place w.tree (space_in (bound w n).static_type) f)) t
 
 -- the type of a field of what a name's pointer goes to
@@ -88,10 +89,20 @@ abbrev pub LoopsOver : Bool → Where → Expression → Type 0
 LoopsOver false w e = IsSpace (typed w e)
 LoopsOver true w e = IsSpace (typed w e) ⊎ IsNamedRegion w e
 
--- an expression that gives a pointer of which the regions are known: a name, an element, null, or a cast
+-- the type of a field of an element
+abbrev pub element_field : Where → Name → Expression → Name → StaticType
+element_field w n e f = type_of_field w.tree (type_of_element w.scope (bound w n).static_type e) f
+
+-- the regions that a pointer's type names are in scope
+abbrev pub AreReachable : Where → StaticType → Type 0
+AreReachable w t = AreThere w.scope.names (space_in t) (reaches_of t)
+
+-- an expression that gives a pointer of which the regions are known: a name, an element, a field, null, or a cast
 abbrev pub IsPointing : Where → Expression → Type 0
 IsPointing w (access_expr n no_step) = Falls w.scope.next w.scope.names
 IsPointing w (access_expr n (at_step e no_step)) = Unit {0}
+IsPointing w (access_expr n (at_step e (field_step f no_step))) = AreReachable w (element_field w n e f)
+IsPointing w (access_expr n (field_step f no_step)) = AreReachable w (field_behind w n f)
 IsPointing w (null_expr t) = Unit {0}
 IsPointing w (cast_expr t e) = Unit {0}
 IsPointing w e = ⊥
@@ -116,10 +127,6 @@ IsBegun true w e Begins = Begins ⊎ IsDifference w e
 abbrev pub GoesThrough : Where → Name → Expression → Type 0
 GoesThrough w n e =
     slots_of w (slot_named w n) (type_of_element w.scope (bound w n).static_type e) ≡ slot_named w n ∷ []
-
--- the type of a field of an element
-abbrev pub element_field : Where → Name → Expression → Name → StaticType
-element_field w n e f = type_of_field w.tree (type_of_element w.scope (bound w n).static_type e) f
 
 -- ---- expressions
 
@@ -188,7 +195,7 @@ abbrev mutual
   IsTyped forms w (is_null_expr e) = (forms.keeps ≡ true) × IsPointer (typed w e) × IsTyped forms w e
   IsTyped forms w (null_expr t) = (forms.keeps ≡ true) × IsWritten w.scope.names (typed w (null_expr t))
   IsTyped forms w (cast_expr t e) = (forms.keeps ≡ true) × IsWritten w.scope.names (typed w (cast_expr t e))
-      × IsCounting (typed w e) × IsTyped forms w e
+      × IsCounting (typed w e) × IsTyped forms w e × (has_wild (reaches_of (typed w (cast_expr t e))) ≡ false)
   IsTyped forms w (access_expr n (at_step e (field_step f no_step))) = IsTyped forms w e × CountsAs forms.keeps (typed w e)
       × GoesThrough w n e × IsFieldOf forms.keeps w n f (element_field w n e f)
       × MayTouch forms w n (field_place w.tree (space_in (bound w n).static_type) f) mode.Read
@@ -280,11 +287,11 @@ abbrev mutual
   IsTypedForm forms w (assign_form n no_step (how.Reduce o) e) = IsInteger (typed w e)
       × IsInteger (bound w n).static_type × IsTyped forms w e × (is_bound w.scope.names n ≡ true)
   IsTypedForm forms w (assign_form n (at_step e (field_step f no_step)) how.Set y) =
-      FitsInto forms.keeps (typed w y) (element_field w n e f) × IsTyped forms w y × IsTyped forms w e
+      IsAssigned forms.keeps (typed w y) (element_field w n e f) × IsTyped forms w y × IsTyped forms w e
       × CountsAs forms.keeps (typed w e) × GoesThrough w n e × IsFieldOf forms.keeps w n f (element_field w n e f)
       × MayTouch forms w n (field_place w.tree (space_in (bound w n).static_type) f) mode.Write
   IsTypedForm forms w (assign_form n (field_step f no_step) how.Set y) = (forms.keeps ≡ true)
-      × GoesInto (typed w y) (field_behind w n f) × IsTyped forms w y × IsBehind w n f (field_behind w n f)
+      × Assigned (typed w y) (field_behind w n f) × IsTyped forms w y × IsBehind w n f (field_behind w n f)
       × MayGo forms w n f mode.Write
   IsTypedForm forms w (assign_form n (field_step f no_step) (how.Reduce o) y) = (forms.keeps ≡ true)
       × IsInteger (typed w y) × IsInteger (field_behind w n f) × IsTyped forms w y × IsBehind w n f (field_behind w n f)

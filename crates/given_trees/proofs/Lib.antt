@@ -1,0 +1,8 @@
+pub mod Naming
+pub mod Behind
+pub mod Values
+pub mod Resumed
+pub mod Maps
+pub mod PutBack
+pub mod Segments
+pub mod Parts

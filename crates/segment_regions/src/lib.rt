@@ -1,0 +1,18 @@
+//! What a segment of any code leaves of regions and needs.
+//!
+//! What is said stands under specs/. Each function has an empty body; its contract is a law.
+#![tactic(auto)]
+
+ghost use Rattle.segment_regions.specs.Values.{SegmentsKeepValues};
+ghost use Rattle.segment_regions.specs.Frames.{SegmentsKeepFrames};
+
+/// The values that a segment leaves in its frame and hands to calls come from those of the frame that it ran from, and so
+/// does the region that it divides.
+pub fn segments_keep_values()
+    ensures { SegmentsKeepValues }
+{}
+
+/// A segment leaves its frame's task, depth, needs and roots as they are.
+pub fn segments_keep_frames()
+    ensures { SegmentsKeepFrames }
+{}
