@@ -1,8 +1,9 @@
 -- A step of one operation that goes on, along the way to it: the tree is settled again, which changes nothing.
 use Rattle.std.proofs.Common.{◌≡◌, ◌+◌, ◌++◌, ◌∷◌, ◌∙◌, ℕ, zero, suc, Bool, List, None, Option, Some, [], ap, cond, false, refl, subst, sym, true, arith, append_assoc}
-use Rattle.std.specs.Prelude.{slice_get}
+use Rattle.std.specs.Prelude.{◌<◌, length, slice_get}
 use Rattle.std.proofs.lemmas.Bool.{and_parts, true≢false}
 use Rattle.std.proofs.lemmas.List.{append-nil, append_cancel_left}
+use Rattle.std.proofs.lemmas.List.Elements.{All-append}
 use Rattle.std.proofs.lemmas.Option.{none-some}
 use Rattle.region_tree.specs.Requirements.{Requirement}
 use Rattle.region_tree.specs.declared.tree.OpNumber.{OpNumber}
@@ -29,6 +30,7 @@ use Rattle.board_trees.specs.Shows.{IsChild, Leads, Row, Shows, ShowsChildren, n
 use Rattle.board_trees.specs.Stages.{WaitsWell}
 use Rattle.board_trees.specs.Waits.{Sibling}
 use Rattle.board_trees.proofs.Kept.{ChangesOne, children_kept, is_child_kept, row_kept, shows_kept, with_rows}
+use Rattle.board_trees.proofs.Open.{IsTold, IsToldOpen, WereMade, open_tells}
 use Rattle.board_trees.proofs.Settled.{node_told, settled}
 
 places_same : (w : List ℕ) (c d : ℕ) (u x : List ℕ) → (w ++ c ∷ []) ++ u ≡ (w ++ d ∷ []) ++ x → c ≡ d
@@ -113,19 +115,21 @@ module _ (job : Job) (s : State) (who : ℕ → ℕ) (ways : List (List ℕ)) (k
       children : children_among G (machine_of job) c way left ≡ children_among G (machine_of job) c way is
       made : made_among G (machine_of job) left ≡ made_among G (machine_of job) is
 
-    module _ (own : (w : List ℕ) (earlier : List Sibling) (above : List RootId) (p : List ℕ) (before : Bool) (n : Node G) → v ≡ w → Shows job s who ways w k earlier above n →
-        Leaves [] w k earlier above n (step_in G M kind [] p before m n)) where
+    module _ (own_made : (j : ℕ) → WereMade job s (operation_at s j).frame.own)
+        (own : (w : List ℕ) (earlier : List Sibling) (above : List RootId) (p : List ℕ) (before : Bool) (n : Node G) → v ≡ w → Shows job s who ways w k earlier above n →
+        IsTold job s earlier above before n → Leaves [] w k earlier above n (step_in G M kind [] p before m n)) where
       mutual
         pub along : (way w : List ℕ) (j : ℕ) (earlier : List Sibling) (above : List RootId) (p : List ℕ) (before : Bool) (n : Node G) → Shows job s who ways w j earlier above n → Leads job s j way k →
-            v ≡ w ++ way → Leaves way w j earlier above n (step_in G M kind way p before m n)
-        along [] w j earlier above p before n h l e =
+            v ≡ w ++ way → IsTold job s earlier above before n → Leaves way w j earlier above n (step_in G M kind way p before m n)
+        along [] w j earlier above p before n h l e t =
             subst (λ x. Shows job s who ways w x earlier above n → Leaves [] w x earlier above n (step_in G M kind [] p before m n)) (sym l)
-            (own w earlier above p before n (e ∙ append-nil w)) h
-        along (c ∷ way) w j earlier above p before (op D N i f ps st is) h l e =
+            (λ g. own w earlier above p before n (e ∙ append-nil w) g t) h
+        along (c ∷ way) w j earlier above p before (op D N i f ps st is) h l e t =
             let roots = above ++ (operation_at s j).frame.own in
             let from : c ≡ 0 + c = omega arith in
-            let a = among c way w j 0 [] roots (operation_at s j).children is p 0 [] l.0 h.1 l.1 l.2
-            (e ∙ sym (append_assoc w (c ∷ []) way) ∙ ap (λ z. (w ++ z ∷ []) ++ way) from) in
+            let a = among c way w j 0 [] roots (operation_at s j).children is p 0 [] l.0
+            (All-append (λ (r : RootId). r.0 < length s.roots) above (operation_at s j).frame.own t.made (own_made j)) h.1 l.1 l.2
+            (e ∙ sym (append_assoc w (c ∷ []) way) ∙ ap (λ z. (w ++ z ∷ []) ++ way) from) (λ Q. refl) in
             let goes : tree.is_over G st ≡ false =
             sym (node_told job s who ways w j earlier above (op D N i f ps st is) h).is_over ∙ open_above (c ∷ way) w j earlier above (op D N i f ps st is) h l in
             let other : ¬ (j ≡ k) = λ q. not_above w c way (way_same w v (sym h.0.way_is ∙ ap (way_of G (machine_of job) ways) q ∙ way_is) ∙ e) in
@@ -164,11 +168,11 @@ module _ (job : Job) (s : State) (who : ℕ → ℕ) (ways : List (List ℕ)) (k
             way_same x y q = cc
 
         among : (c : ℕ) (way w : List ℕ) (j d : ℕ) (earlier : List Sibling) (roots : List RootId) (ks : List OpNumber) (is : Items G) (p : List ℕ) (place : ℕ) (Ns : List (List Requirement)) (x : ℕ) →
-            ShowsChildren job s who ways w j d earlier roots ks is → slice_get ks c ≡ Some (number x) → Leads job s x way k → v ≡ (w ++ (d + c) ∷ []) ++ way →
-            LeavesAmong c way w j d earlier roots ks is (step_among G M kind c way p place Ns m is)
-        among c way w j d earlier roots ks no_item p place Ns x h e l q = absurd (none-some (number x) (ap (λ ks. slice_get ks c) (sym h) ∙ e))
-        among c way w j d earlier roots ks (said t is) p place Ns x h e l q =
-            let a = among c way w j d earlier roots ks is p place Ns x h e l q in
+            WereMade job s roots → ShowsChildren job s who ways w j d earlier roots ks is → slice_get ks c ≡ Some (number x) → Leads job s x way k → v ≡ (w ++ (d + c) ∷ []) ++ way →
+            ((Q : List Requirement) → IsToldOpen job makings s.waits.knots earlier Ns Q) → LeavesAmong c way w j d earlier roots ks is (step_among G M kind c way p place Ns m is)
+        among c way w j d earlier roots ks no_item p place Ns x g h e l q tells = absurd (none-some (number x) (ap (λ ks. slice_get ks c) (sym h) ∙ e))
+        among c way w j d earlier roots ks (said t is) p place Ns x g h e l q tells =
+            let a = among c way w j d earlier roots ks is p place Ns x g h e l q tells in
             record {
               left = said t a.left;
               steps = ap (behind G M (said t)) a.steps;
@@ -178,12 +182,12 @@ module _ (job : Job) (s : State) (who : ℕ → ℕ) (ways : List (List ℕ)) (k
               children = a.children;
               made = a.made;
             }
-        among c way w j d earlier roots [] (child_op n is) p place Ns x h e l q = absurd h
-        among zero way w j d earlier roots (y ∷ ys) (child_op n is) p place Ns x h e l q =
+        among c way w j d earlier roots [] (child_op n is) p place Ns x g h e l q tells = absurd h
+        among zero way w j d earlier roots (y ∷ ys) (child_op n is) p place Ns x g h e l q tells =
             let here : d + 0 ≡ d = omega arith in
             let at : v ≡ (w ++ d ∷ []) ++ way = q ∙ ap (λ z. (w ++ z ∷ []) ++ way) here in
             let a = along way (w ++ d ∷ []) y.0 earlier roots (place ∷ p) (Rattle.std.specs.Prelude.not (tree.meets_any G M Ns (tree.needs_of G n))) n h.1
-            (subst (λ (z : OpNumber). Leads job s z.0 way k) (sym (some_same y (number x) e)) l) at in
+            (subst (λ (z : OpNumber). Leads job s z.0 way k) (sym (some_same y (number x) e)) l) at (record { clear = tells (tree.needs_of G n); made = g }) in
             record {
               left = child_op a.left is;
               steps = ap (as_child G M is) a.steps;
@@ -199,10 +203,11 @@ module _ (job : Job) (s : State) (who : ℕ → ℕ) (ways : List (List ℕ)) (k
               children = a.children;
               made = ap (λ z. z + made_among G (machine_of job) is) a.made;
             }
-        among (suc c) way w j d earlier roots (y ∷ ys) (child_op n is) p place Ns x h e l q =
+        among (suc c) way w j d earlier roots (y ∷ ys) (child_op n is) p place Ns x g h e l q tells =
             let there : d + suc c ≡ suc d + c = omega arith in
             let at : v ≡ (w ++ (suc d + c) ∷ []) ++ way = q ∙ ap (λ z. (w ++ z ∷ []) ++ way) there in
-            let a = among c way w j (suc d) (earlier ++ record { op = y.0; needs = needs_issued job n } ∷ []) roots ys is p (suc place) (still_open G M n Ns) x h.2 e l at in
+            let a = among c way w j (suc d) (earlier ++ record { op = y.0; needs = needs_issued job n } ∷ []) roots ys is p (suc place) (still_open G M n Ns) x g h.2 e l at
+            (λ Q. open_tells job s who ways makings earlier Ns y.0 n (node_told job s who ways (w ++ d ∷ []) y.0 earlier roots n h.1) Q (tells Q)) in
             record {
               left = child_op n a.left;
               steps = ap (behind G M (child_op n)) a.steps;

@@ -60,7 +60,7 @@ module _ (job : Job) (s : State) (os : List Operation) (ks : List Knot) (turns k
 
   -- ---- what is waited for
 
-  all_done_kept : (on : List OpNumber) → all_done ks on ≡ all_done s.waits.knots on
+  pub all_done_kept : (on : List OpNumber) → all_done ks on ≡ all_done s.waits.knots on
   all_done_kept [] = refl
   all_done_kept (o ∷ on) = λ i. change.done o.0 i && all_done_kept on i
 

@@ -3,6 +3,7 @@ pub mod Beginning
 pub mod Told
 pub mod Settled
 pub mod Kept
+pub mod Open
 pub mod Along
-pub mod Back
-pub mod Backs
+pub mod Found
+pub mod Claims

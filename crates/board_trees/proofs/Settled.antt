@@ -125,7 +125,7 @@ module _ (job : Job) where
       abbrev M : Machine G
       M = machine_of job makings
 
-      meets_of : (n : Node G) (Q : List Requirement) → M.meets (tree.needs_of G n) Q ≡ interfere (needs_issued job n) Q
+      pub meets_of : (n : Node G) (Q : List Requirement) → M.meets (tree.needs_of G n) Q ≡ interfere (needs_issued job n) Q
       meets_of (op D N i f ps st is) Q = refl
 
       pub children_bad : (Q : List Requirement) (way : List ℕ) (j c : ℕ) (earlier : List Sibling) (roots : List RootId) (ks : List OpNumber) (is : Items G) →

@@ -1,14 +1,12 @@
--- The board's state and the boards of the laws, step by step.
-use Rattle.std.specs.Prelude.{◌≡◌, ℕ, None, Option, Some, slice_get, true}
+-- The board's state and the boards of the laws: the beginning, and what a step is to keep.
+use Rattle.std.specs.Prelude.{◌≡◌, None, Option, Some, slice_get, true}
 use Rattle.task_code.specs.declared.code.TaskCode.{TaskCode}
 use Rattle.task_code.specs.declared.job.Job.{Job}
 use Rattle.machine_terms.specs.Jobs.{may_start}
-use Rattle.board_rules.specs.Boards.{back}
-use Rattle.board_rules.specs.NumberedBoards.{Board, after_step, start}
+use Rattle.board_rules.specs.NumberedBoards.{Board, start}
 use Rattle.regent_boards.specs.RegentMachine.{regent_ground}
 use Rattle.code_boards.specs.Laws.{machine_of, main_of}
 use Rattle.code_boards.specs.Views.{spaces_of}
-use Rattle.board_terms.specs.Claims.{backed}
 use Rattle.board_terms.specs.States.{State, opened}
 use Rattle.board_trees.specs.Shows.{ShowsBoard}
 
@@ -22,9 +20,3 @@ abbrev pub BothShow : (job : Job) → Option State → Option (Board (regent_gro
 BothShow job None None = Unit {0}
 BothShow job (Some s) (Some b) = ShowsBoard job s b
 BothShow job _ _ = ⊥
-
--- a claim is taken back on both, or on neither
-abbrev pub BacksShow : Type 0
-BacksShow = (job : Job) (s : State) (b : Board (regent_ground (spaces_of job.code))) → ShowsBoard job s b → (k seat : ℕ) →
-    BothShow job (backed s k seat)
-    (after_step (regent_ground (spaces_of job.code)) (machine_of job) (Some b) (record { kind = back; number = k; seat = seat }))

@@ -3,7 +3,7 @@
 //! What is said stands under specs/. Each function has an empty body; its contract is a law.
 #![tactic(auto)]
 
-ghost use Rattle.board_trees.specs.Laws.{BacksShow, NewBoardsShow};
+ghost use Rattle.board_trees.specs.Laws.{NewBoardsShow};
 ghost use Rattle.board_trees.specs.Told.{ShownIsSettled, WaitsAreTold};
 
 /// The board of a job that isn't void shows the tree's beginning.
@@ -22,9 +22,4 @@ pub fn waits_are_told()
 /// that goes on.
 pub fn shown_is_settled()
     ensures { ShownIsSettled }
-{}
-
-/// Where a state shows a board, a claim can be taken back on both or on neither, and what results shows again.
-pub fn backs_show()
-    ensures { BacksShow }
 {}

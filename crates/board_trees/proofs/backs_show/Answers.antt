@@ -1,5 +1,0 @@
-use Rattle.board_trees.proofs.Backs.{backs_show}
-use Rattle.board_trees.proofs.backs_show.Goals as goal
-
-pub returns : goal.returns
-returns c = backs_show

@@ -1,0 +1,12 @@
+pub mod Changed
+pub mod Onward
+pub mod Wanted
+pub mod Moved
+pub mod Started
+pub mod Claim
+pub mod Claims
+pub mod Copy
+pub mod Copying
+pub mod Copies
+pub mod Back
+pub mod Backs
