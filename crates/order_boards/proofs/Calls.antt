@@ -42,7 +42,7 @@ root_in_value (Some (value.Region r)) = r.root.0
 root_in_value _ = 0
 
 module _ (code : Code) (s : ℕ → ℕ) (args : List Value) where
-  abbrev values : List Value
+  abbrev pub values : List Value
   values = map (value_to (names s)) args
 
   value_at : (k : ℕ) (o : Option Value) → slice_get args k ≡ o → slice_get values k ≡ option_map (value_to (names s)) o
