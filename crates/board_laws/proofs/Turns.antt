@@ -2,7 +2,7 @@
 use Rattle.std.proofs.Common.{◌≡◌, ◌++◌, ◌∷◌, ◌∙◌, ◌⊎◌, Bool, List, [], ap, cond, false, inl, inr, length, refl, subst, suc, true, zero, ℕ}
 use Rattle.board_rules.specs.Ground.{Ground}
 use Rattle.board_rules.specs.Processes.{Map, Process, Result, and_then, bind, done, fails, prefix, run_all, spent}
-use Rattle.board_rules.specs.Running.{Call, Element, Machine, Path, Rest, Yield, await, calls, children, ends, go_on, make, puts, run_on, stops, want}
+use Rattle.board_rules.specs.Running.{Call, Element, Machine, Path, Rest, Yield, await, calls, children, ends, go_on, make, no_call, puts, run_on, stops, want}
 
 module _ (G : Ground) where
   -- the first result is the second, unless its turns were spent
@@ -62,6 +62,7 @@ module _ (G : Ground) (M : Machine G) where
       (λ n. g p (M.grown p i d N) (suc i) (M.pushed p i d f) ps vs (run_all G (M.zeros p i d) n)) (λ n. inr refl) m
   go_on_grows a b g p N i vs f ps (ends v) m = inr refl
   go_on_grows a b g p N i vs f ps (stops x) m = inr refl
+  go_on_grows a b g p N i vs f ps no_call m = inr refl
 
   pub run_grows : (k : ℕ) → Grows (run_on G M k) (run_on G M (suc k))
   run_grows zero p N i f ps vs m = inl refl

@@ -29,6 +29,8 @@ pub data Yield (G : Ground) : Type 0 where
   make : G.Made → Yield G
   ends : G.Answer → Yield G
   stops : G.Fault → Yield G
+  -- a call that can't be made: the parts go back, and the operation is broken
+  no_call : Yield G
 
 pub record After (G : Ground) : Type 0 where
   pub text : List G.Byte
@@ -153,6 +155,7 @@ module _ (G : Ground) (M : Machine G) where
       cond (M.sound d) (after G (M.zeros p i d) (rest p (M.grown p i d N) (suc i) (M.pushed p i d f) ps vs)) (faults G G.broken)
   go_on rest p N i vs f ps (ends v) = after G (puts ps) (gives G v)
   go_on rest p N i vs f ps (stops x) = faults G x
+  go_on rest p N i vs f ps no_call = after G (puts ps) (faults G G.broken)
 
   -- an operation runs on, for at most so many segments one within or behind another
   abbrev pub run_on : ℕ → Rest

@@ -27,7 +27,7 @@ use Rattle.machine_terms.specs.declared.value.Value.TheVariants as value
 use Rattle.machine_terms.specs.Parts.{is_part_of}
 use Rattle.machine_terms.specs.Segments.{segment}
 use Rattle.board_rules.specs.Ground.{Mode, reads, reduces, writes}
-use Rattle.board_rules.specs.Running.{After as BoardAfter, Call, Element, Yield as BoardYield, await, calls, ends, make, stops, want}
+use Rattle.board_rules.specs.Running.{After as BoardAfter, Call, Element, Yield as BoardYield, await, calls, ends, make, no_call, stops, want}
 use Rattle.regent_boards.specs.RegentMachine.{answer_with, kind_of, kinds_of, regent_ground}
 use Rattle.regent_boards.specs.Frames.{Spaces}
 use Rattle.regent_boards.specs.Frames as board
@@ -222,7 +222,7 @@ module _ (code : Code) where
 
   abbrev pub calls_out : Option (List (Call (regent_ground (spaces_of code)))) → BoardYield (regent_ground (spaces_of code))
   calls_out (Some cs) = calls cs
-  calls_out None = stops board.broken
+  calls_out None = no_call
 
   -- behind the frame from which it ran
   abbrev pub yield_out : ℕ → board.Frame → Yield → BoardYield (regent_ground (spaces_of code))

@@ -5,7 +5,7 @@ use Rattle.std.proofs.lemmas.Bool.{and_parts, false≢true}
 use Rattle.std.proofs.lemmas.Option.{none-some, same_Some}
 use Rattle.board_rules.specs.Ground.{Ground}
 use Rattle.board_rules.specs.Processes.{Map}
-use Rattle.board_rules.specs.Running.{Call, Element, Machine, Path, Spot, Yield, await, calls, ends, filled, make, stops, want}
+use Rattle.board_rules.specs.Running.{Call, Element, Machine, Path, Spot, Yield, await, calls, ends, filled, make, no_call, stops, want}
 use Rattle.board_rules.specs.Boards.{◌+++◌, Items, Kind, Operation, Stage, Stepped, Wait, all_ended, all_issued, all_over, as_child, as_dropped, at_fault, awaited, back, behind, by, child, child_op, claim, close, closing, copied, copy, dropped, ending_with, failed_at, failed_on, filling, first, give, given, has_failed, idle, in_op, is_ended, is_over, is_ready, is_waiting, issued, meets_any, met_by, needs_of, no_item, nothing, op, out, over, own_step, part, said, settle, stage_of, step_among, step_in, still_open, stop, stopped, sweep, waits_for_failed, wants}
 use Rattle.board_rules.specs.Journals.{Entry, State, stepped}
 use Rattle.board_rules.specs.NumberedBoards.{entries, start}
@@ -236,6 +236,7 @@ module _ (G : Ground) (M : Machine G) where
       by_sound false = (tt, fresh_behind G false is (said t no_item) h tt)
   given_told p D N i is t f ps (ends v) h = (tt, fresh_behind G false is (said t no_item) h tt)
   given_told p D N i is t f ps (stops x) h = (tt, fresh_behind G false is (said t no_item) h tt)
+  given_told p D N i is t f ps no_call h = (tt, fresh_behind G false is (said t no_item) h tt)
 
   -- what a step leaves: failures are told, and it isn't dropped
   abbrev IfTold : Option (Stepped G (Operation G)) → Type 0
@@ -288,6 +289,7 @@ module _ (G : Ground) (M : Machine G) where
       by_sound false e = e
   given_undropped p D N i is t f ps (ends v) = λ d. d
   given_undropped p D N i is t f ps (stops x) = λ d. d
+  given_undropped p D N i is t f ps no_call = λ d. d
 
   own_told : (k : Kind) (p : Path G) (before : Bool) (m : Map G) (D N : G.Needs) (i : ℕ) (f : G.Frame) (ps : List (Element G)) (st : Stage G) (is : Items G) →
       ChildrenTold G false is → IfTold (own_step G M k p before m (op D N i f ps st is))

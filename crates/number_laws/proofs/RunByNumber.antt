@@ -2,7 +2,7 @@
 use Rattle.std.proofs.Common.{◌≡◌, ◌++◌, ◌+◌, ◌∷◌, ◌∙◌, Bool, List, [], ap, arith, cond, false, length, refl, subst, suc, sym, true, zero, ℕ}
 use Rattle.board_rules.specs.Ground.{Ground}
 use Rattle.board_rules.specs.Processes.{Map, Process, Result, after, and_then, bind, done, fails, faults, gives, prefix, run_all, spent}
-use Rattle.board_rules.specs.Running.{Call, Element, Machine, Path, Yield, answer_at, await, calls, children, ends, filled, go_on, make, puts, run_on, stops, want, Rest}
+use Rattle.board_rules.specs.Running.{Call, Element, Machine, Path, Yield, answer_at, await, calls, children, ends, filled, go_on, make, no_call, puts, run_on, stops, want, Rest}
 use Rattle.board_rules.specs.Renaming.{Base, Renamed, Renames, Roots, calls_to, elements, ground_over, yield_to}
 use Rattle.board_rules.specs.NumberedRuns.{Counting, Making, RestRun, Run, bind_run, children_run, faulty, go_run, go_then, just, numbered_run}
 use Rattle.number_laws.proofs.Renamed.{elems_append, filled_alike, puts_alike, run_all_alike}
@@ -125,6 +125,7 @@ module _ (B : Base) (X Y : Roots B) (M : ℕ → Machine (ground_over B X)) (K :
       by_sound false r = (refl, refl)
   go_same a b w p N i vs f ps (ends v) n m u e h = (refl, refl, subst (λ es. Maps (run_all G (puts G (M n) ps) m) (run_all H es u)) (sym (puts_alike B X Y M K R maker making W n ps)) (run_all_alike B X Y M K R maker making W n (puts G (M n) ps) m u e))
   go_same a b w p N i vs f ps (stops x) n m u e h = (refl, refl)
+  go_same a b w p N i vs f ps no_call n m u e h = (refl, refl)
 
   pub run_same : (k : ℕ) → AllSame (numbered_run G M k) (run_on H K k)
   run_same zero p N i f ps vs n m u e h = tt

@@ -2,7 +2,7 @@
 use Rattle.std.proofs.Common.{◌≡◌, ◌++◌, ◌+◌, ◌∷◌, ◌∙◌, ◌≤◌, ◌<◌, ◌⊎◌, Bool, List, [], ap, arith, cond, false, inl, inr, le_refl, length, refl, subst, suc, sym, true, zero, ℕ}
 use Rattle.board_rules.specs.Ground.{Ground}
 use Rattle.board_rules.specs.Processes.{Map, Result, done, fails, prefix, run_all, spent}
-use Rattle.board_rules.specs.Running.{Call, Element, Machine, Path, Yield, await, calls, ends, make, puts, stops, under, want}
+use Rattle.board_rules.specs.Running.{Call, Element, Machine, Path, Yield, await, calls, ends, make, no_call, puts, stops, under, want}
 use Rattle.board_rules.specs.NumberedRuns.{Counting, Making, RestRun, Run, bind_run, children_run, faulty, go_run, go_then, just, numbered_run}
 use Rattle.board_laws.proofs.Reaching.{under_child, under_self}
 use Rattle.board_laws.proofs.Good.{under_both, under_length}
@@ -166,6 +166,7 @@ module _ (G : Ground) (M : ℕ → Machine G) where
       by_sound false = no_names _
   go_names a w p N i vs f ps (ends v) n m = no_names _
   go_names a w p N i vs f ps (stops x) n m = no_names _
+  go_names a w p N i vs f ps no_call n m = no_names _
 
   pub run_names : (k : ℕ) → AllNames (numbered_run G M k)
   run_names zero p N i f ps vs n m = no_names _
