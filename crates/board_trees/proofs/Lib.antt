@@ -7,3 +7,4 @@ pub mod Open
 pub mod Along
 pub mod Found
 pub mod Claims
+pub mod Places

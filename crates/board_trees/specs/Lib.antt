@@ -5,3 +5,4 @@ pub mod Stages
 pub mod Shows
 pub mod Laws
 pub mod Told
+pub mod Places

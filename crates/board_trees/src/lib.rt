@@ -4,6 +4,7 @@
 #![tactic(auto)]
 
 ghost use Rattle.board_trees.specs.Laws.{NewBoardsShow};
+ghost use Rattle.board_trees.specs.Places.{PlacedIsHere, PlacesStay};
 ghost use Rattle.board_trees.specs.Told.{ShownIsSettled, WaitsAreTold};
 
 /// The board of a job that isn't void shows the tree's beginning.
@@ -22,4 +23,11 @@ pub fn waits_are_told()
 /// that goes on.
 pub fn shown_is_settled()
     ensures { ShownIsSettled }
+{}
+
+/// Where the regions of a frame are those of the tree of regions, so are those of what a segment leaves and hands over; such
+/// a region passes the table's test, and has the tree's points.
+pub fn places_stay()
+    ensures stay { PlacesStay }
+    ensures here { PlacedIsHere }
 {}

@@ -39,7 +39,7 @@ use Rattle.order_laws.proofs.Rounds.{ends_soon}
 use Rattle.machine_terms.proofs.Fuel.{anywhere}
 use Rattle.order_laws.proofs.Ends.{stop_sooner}
 use Rattle.code_boards.proofs.Filled.{want_held}
-use Rattle.code_boards.proofs.Wanted.{IsAsked, segments_ask}
+use Rattle.segment_regions.proofs.Asked.{IsAsked, segments_ask}
 
 -- ---- a frame that the board has seen asks for the same
 

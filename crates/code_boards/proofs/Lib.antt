@@ -6,4 +6,3 @@ pub mod Filled
 pub mod Lasting
 pub mod Regrouping
 pub mod Views
-pub mod Wanted

@@ -39,7 +39,7 @@ use Rattle.segment_renaming.proofs.Segments.{segment_same}
 use Rattle.order_laws.specs.Bounds.{Bounds, runs_within, segments_within}
 use Rattle.order_laws.proofs.Resuming.{left_by}
 use Rattle.code_boards.specs.Views.{after_out, and_all, before_in, board_segment, called, calls_out, last_frame, region_out, spaces_of, yield_out}
-use Rattle.code_boards.proofs.Wanted.{IsAsked, segments_ask}
+use Rattle.segment_regions.proofs.Asked.{IsAsked, segments_ask}
 use Rattle.order_boards.proofs.Alike.{Alike, EndsAlike, Grown, RunsAlike, ends_on, grown_self, naming_back, own_below, own_live}
 use Rattle.order_boards.proofs.Behind.{LeftAlike, given_grown, given_names, given_stands, gone_alike, gone_on, left, other, other_names, seen}
 use Rattle.order_boards.proofs.Called.{any_spent, call_alike}

@@ -1,4 +1,6 @@
 pub mod Words
 pub mod Instructions
 pub mod Values
+pub mod Asked
+pub mod Wants
 pub mod Frames
