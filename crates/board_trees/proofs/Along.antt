@@ -33,7 +33,7 @@ use Rattle.board_trees.proofs.Kept.{ChangesOne, children_kept, is_child_kept, ro
 use Rattle.board_trees.proofs.Open.{IsTold, IsToldOpen, WereMade, open_tells}
 use Rattle.board_trees.proofs.Settled.{node_told, settled}
 
-places_same : (w : List ℕ) (c d : ℕ) (u x : List ℕ) → (w ++ c ∷ []) ++ u ≡ (w ++ d ∷ []) ++ x → c ≡ d
+pub places_same : (w : List ℕ) (c d : ℕ) (u x : List ℕ) → (w ++ c ∷ []) ++ u ≡ (w ++ d ∷ []) ++ x → c ≡ d
 places_same w c d u x e =
     let same : w ++ c ∷ u ≡ w ++ d ∷ x = sym (append_assoc w (c ∷ []) u) ∙ e ∙ append_assoc w (d ∷ []) x in
     let rest : c ∷ u ≡ d ∷ x = append_cancel_left w (c ∷ u) (d ∷ x) same in
@@ -60,7 +60,7 @@ module _ (job : Job) (s : State) (who : ℕ → ℕ) (ways : List (List ℕ)) (k
   over_all (x ∷ xs) (suc c) o e h = over_all xs c o e (and_parts (is_over (table.stage_at s x.0)) (all_over s xs) h).1
 
   mutual
-    open_above : (way w : List ℕ) (j : ℕ) (earlier : List Sibling) (above : List RootId) (n : Node G) → Shows job s who ways w j earlier above n → Leads job s j way k →
+    pub open_above : (way w : List ℕ) (j : ℕ) (earlier : List Sibling) (above : List RootId) (n : Node G) → Shows job s who ways w j earlier above n → Leads job s j way k →
         is_over (table.stage_at s j) ≡ false
     open_above [] w j earlier above n h l = ap (λ x. is_over (table.stage_at s x)) l ∙ runs
     open_above (c ∷ way) w j earlier above (op D N i f ps st is) h l =

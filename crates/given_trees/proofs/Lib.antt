@@ -1,4 +1,3 @@
-pub mod Naming
 pub mod Behind
 pub mod Values
 pub mod Resumed

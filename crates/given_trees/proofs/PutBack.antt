@@ -4,7 +4,7 @@ use Rattle.std.specs.Prelude.{All, get_or}
 use Rattle.std.proofs.lemmas.Bool.{and_parts, cases_Bool, cases_lt}
 use Rattle.std.proofs.Math.ListN.{get_or-map}
 use Rattle.std.proofs.lemmas.List.{length-map}
-use Rattle.std.proofs.lemmas.List.Elements.{All-cons, All-get_or, All-map, All-nil}
+use Rattle.std.proofs.lemmas.List.Elements.{All-cons, All-get_or, All-head, All-map, All-nil}
 use Rattle.plain_values.specs.Points.{has, points}
 use Rattle.lane_kernels.specs.Numbers.{FitsWidth, width_of}
 use Rattle.lane_kernels.specs.declared.numbers.FieldKind.TheVariants.{Truth}
@@ -28,8 +28,8 @@ use Rattle.board_terms.specs.States.{no_extent}
 use Rattle.board_trees.specs.Frames.{HasEachOnce, HasFitting, IsHeld}
 use Rattle.board_trees.specs.Names.{AreMade, IsNaming, name_of, named}
 use Rattle.board_trees.specs.Shows.{HoldsMap}
+use Rattle.board_trees.proofs.Named.{is_naming, named_all}
 use Rattle.given_trees.proofs.Maps.{HasKind, IsPlace, Shape, all_same, fields_same, given_renamed, kind_same, kinds_same, parts_beside, parts_past, parts_read, parts_shapes}
-use Rattle.given_trees.proofs.Naming.{made_named, some_name, some_naming}
 use Rattle.given_trees.proofs.Values.{AreKinds, acts, acts_given, are_kinds, parts_given, puts_act}
 
 module _ (job : Job) (extents : List Extent) (who : ℕ → ℕ) (makings : ℕ) (made : AreMade (length extents) who makings) (live : LogicalMap) (m : Map (regent_ground (spaces_of job.code)))
@@ -42,16 +42,17 @@ module _ (job : Job) (extents : List Extent) (who : ℕ → ℕ) (makings : ℕ)
   G = regent_ground (spaces_of job.code)
 
   abbrev name : ℕ → ℕ
-  name = some_name extents who makings made 0
+  name = named_all extents who makings made 0
 
   is : IsNaming extents who roots name
-  is = some_naming extents who makings made 0 roots below
+  is = is_naming extents who makings made 0 roots below
 
   abbrev R : ℕ
   R = name root
 
   named_root : R ≡ name_of extents who root
-  named_root = made_named extents who makings made 0 root H.made
+  named_root = All-head (λ (r : RootId). name r.0 ≡ name_of extents who r.0) (record { 0 = root }) []
+      (is_naming extents who makings made 0 (record { 0 = root } ∷ []) (All-cons (λ (r : RootId). r.0 < length extents) (record { 0 = root }) [] H.made (All-nil (λ (r : RootId). r.0 < length extents)))).known
 
   abbrev space : ℕ
   space = (get_or extents root no_extent).space

@@ -45,8 +45,8 @@ use Rattle.board_trees.specs.Names.{IsNaming}
 use Rattle.board_trees.specs.Shows.{Shows, ShowsBoard, siblings}
 use Rattle.board_trees.specs.Stages.{IsOut, WaitsWell}
 use Rattle.board_trees.specs.Waits.{Sibling}
+use Rattle.board_trees.proofs.Named.{is_naming, named_all}
 use Rattle.given_trees.proofs.Behind.{Left, segment_left}
-use Rattle.given_trees.proofs.Naming.{some_name, some_naming}
 use Rattle.given_trees.proofs.Resumed.{Holds, answered, holds_out, met_alike}
 use Rattle.given_trees.proofs.Values.{held_as}
 use Rattle.given_trees.specs.Segments.{AreLeft, SegmentsShow}
@@ -171,10 +171,10 @@ module _ (job : Job) (s : State) (b : Board (regent_ground (spaces_of job.code))
   first_makings = made_in G (machine_of job) b.state.tree
 
   abbrev other : ℕ → ℕ
-  other = some_name s.roots h.who first_makings h.made 0
+  other = named_all s.roots h.who first_makings h.made 0
 
   naming : IsNaming s.roots h.who roots other
-  naming = some_naming s.roots h.who first_makings h.made 0 roots roots_below
+  naming = is_naming s.roots h.who first_makings h.made 0 roots roots_below
 
   abbrev met : board.Frame
   met = tree.met_by G M w f (tree.awaited G M w is)
