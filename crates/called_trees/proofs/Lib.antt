@@ -1,2 +1,5 @@
 pub mod Opens
 pub mod Child
+pub mod Swept
+pub mod Issued
+pub mod Within

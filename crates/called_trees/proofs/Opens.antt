@@ -39,6 +39,7 @@ use Rattle.board_trees.specs.Frames.{HasPlaces, IsPlaced}
 use Rattle.board_trees.specs.Names.{AreMade, IsNaming, name_of, named, pointed, requirement_named}
 use Rattle.board_trees.specs.Shows.{HoldsMap}
 use Rattle.board_trees.proofs.Named.{one_name, one_there}
+use Rattle.board_trees.proofs.Places.{placed_is_here}
 
 pub found_all : {A : Type 0} (P : A → Type 0) (xs : List A) (k : ℕ) (x : A) → slice_get xs k ≡ Some x → All P xs → P x
 found_all P [] k x e h = absurd (none-some x e)
@@ -113,11 +114,6 @@ module _ (job : Job) (t : RegionTree) (live : LogicalMap) (extents : List Extent
   region_placed : (k : ℕ) (r : RegionValue) → slice_get args k ≡ Some (value.Region r) → IsPlaced t r
   region_placed k r e = found_all (HasPlaces t) args k (value.Region r) e placed
 
-  -- each is a region of the tree
-  region_here : (r : RegionValue) → IsPlaced t r → is_here t r ≡ true
-  region_here r h =
-      (λ i. lt-ltb r.node.0 (length t.nodes) h.there i && (is_region (h.points i) && (h.root i == r.root.0))) ∙ eq-eqb r.root.0 r.root.0 refl
-
   -- ---- one need
 
   required_region : (d : NeedCode) (k : ℕ) (r : RegionValue) → slice_get args k ≡ Some (value.Region r) →
@@ -131,7 +127,7 @@ module _ (job : Job) (t : RegionTree) (live : LogicalMap) (extents : List Extent
       ∙ ap (λ s. length (get_or (spaces_of job.code) s [])) (root_space extent.space extent.count (who r.root.0))
       ∙ ap length (kinds_same job.code extent.space) ∙ sym (ap length h.kinds) ∙ length-map (columns_of live r.root.0) (λ (c : Column). c.kind) in
       ap (λ n. cond (nat_lt d.field n) (Some (requirement_named name (require d r))) None) many
-      ∙ ap (λ b. cond (b && is_there live r.root.0 d.field) (Some (requirement_named name (require d r))) None) (sym (region_here r (region_placed k r e)))
+      ∙ ap (λ b. cond (b && is_there live r.root.0 d.field) (Some (requirement_named name (require d r))) None) (sym (placed_is_here t r (region_placed k r e)).0)
 
   abbrev wanted_of : NeedCode → Option RegionValue → Option Requirement
   wanted_of d None = None
@@ -188,7 +184,7 @@ module _ (job : Job) (t : RegionTree) (live : LogicalMap) (extents : List Extent
           need = record { root = r.root; node = r.node; field = d.field; mode = d.mode }
 
           set_is : set_at t r.node.0 ≡ r.points
-          set_is = ap points_of_content (region_placed d.param r e).points
+          set_is = (placed_is_here t r (region_placed d.param r e)).1
 
           by_points : (xs : List ℕ) → r.points ≡ xs →
               requirements_of t (with_points xs (record { root = r.root; node = r.node; field = d.field; mode = d.mode }) (needs_on ds args))
