@@ -34,10 +34,9 @@ use Rattle.check_rules.specs.types.TypedForms.{computing}
 use Rattle.code_rules.specs.Slots.{Where, typed}
 use Rattle.code_laws.specs.Pointers.{AreNames, AreThere, Assigned, BeginsAs, BeginsWith, ConvertsTo, CountsAs, FillsInto, FitsInto, IsAssigned, IsCompared, IsPointer, IsRead, SignedAs, assigned_plain, assigned_pointer, begins_plain, compared_different, compared_equal, compared_left, compared_plain, compared_right, a_pointer_type, counts_number, counts_pointer, filled_plain, fills_alike, fills_index, into_index, into_plain, itself_plain, signs_plain, term_integer, zero_scalar}
 use Rattle.code_laws.specs.Simple.{AreAlike, AreComparable, IsInteger, IsIntegerTerm, IsNumber, IsRegion, IsScalar, IsSimple, IsSpace, IsTruth, SignsFit, a_region_type, number_index, number_integer, scalar_integer, scalar_truth, simple_index, simple_integer, simple_space, simple_truth, term_in, IsPartition, a_partition_type}
-use Rattle.code_laws.specs.Typed.{IsField, IsFieldOf, IsKeepable, LoopsOver}
+use Rattle.code_laws.specs.Typed.{IsKeepable, LoopsOver}
 use Rattle.code_laws.proofs.LocalTypes.{either, number_is, operated_simple, owned_simple, param_fitting, simple_as_domain, simple_as_integer, simple_as_number, simple_as_space, simple_as_truth, simple_compared, simple_computed, simple_fitting, simple_for_region, simple_is_no_region, simple_known, simple_no_partition}
 use Rattle.code_laws.proofs.Typing.{no_way, no_way_back}
-use Rattle.code_laws.proofs.Wider.{any_field}
 
 -- ---- regions that are bound
 
@@ -386,10 +385,6 @@ pub value_read : (b : Bool) (bs : List Bound) (t : StaticType) → IsValue b bs 
 value_read b bs t (value_simple _ p) = simple_read b t p
 value_read false bs _ (value_pointer k sp args i q r) = absurd (no_way_back q)
 value_read true bs _ (value_pointer k sp args i q r) = tt
-
-pub field_kept : (b : Bool) (w : Where) (n f : Name) (t : StaticType) → IsField w n f t → IsFieldOf b w n f t
-field_kept false w n f t p = p
-field_kept true w n f t p = any_field false w n f t p
 
 pub simple_keepable : (b : Bool) (w : Where) (e : Expression) → IsSimple (typed w e) → IsKeepable b w e
 simple_keepable false w e p = p
