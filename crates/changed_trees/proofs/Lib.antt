@@ -1,3 +1,5 @@
 pub mod Kept
 pub mod Below
 pub mod Edited
+pub mod Interfere
+pub mod Listed

@@ -1,3 +1,4 @@
 pub mod Changes
 pub mod Edits
 pub mod Open
+pub mod Listed

@@ -1,6 +1,6 @@
 -- A board that is shown but for one operation that may be over: its own work has ended, and its children may all be over.
 -- What follows then closes it, and maybe its callers.
-use Rattle.std.specs.Prelude.{◌≡◌, ◌<◌, ◌++◌, ◌∷◌, ◌-◌, ℕ, zero, suc, List, [], All, filter, length, map, not, true}
+use Rattle.std.specs.Prelude.{◌≡◌, ◌<◌, ◌++◌, ◌∷◌, ◌-◌, ℕ, zero, suc, List, [], All, false, filter, length, map, not, true}
 use Rattle.plain_values.specs.Points.{counted_from}
 use Rattle.region_finder.specs.Listings.{AreRising, listed_ops}
 use Rattle.region_tree.specs.Requirements.{Requirement}
@@ -10,7 +10,7 @@ use Rattle.logical_map.specs.Maps.{is_live}
 use Rattle.dependence_graph.specs.Knots.{knot_at, number}
 use Rattle.dependence_graph.specs.declared.stage.Stage.TheVariants.{Parked}
 use Rattle.task_code.specs.declared.job.Job.{Job}
-use Rattle.board_rules.specs.Boards.{Items, Operation as Node, Stage as BoardStage, child_op, first, idle, no_item, op, said}
+use Rattle.board_rules.specs.Boards.{Items, Operation as Node, Stage as BoardStage, child_op, first, idle, is_over, no_item, op, said}
 use Rattle.board_rules.specs.NumberedBoards.{Board, holds_claim}
 use Rattle.board_rules.specs.RootNumbers.{made_in}
 use Rattle.board_rules.specs.Running.{Element}
@@ -29,13 +29,14 @@ use Rattle.changed_trees.specs.Changes.{IsAt}
 use Rattle.changed_trees.specs.Edits.{up}
 
 module _ (job : Job) (s : State) (who : ℕ → ℕ) (ways : List (List ℕ)) where
-  -- a row, but for whether all children are over
+  -- a row of one that isn't over, but for whether all children are
   pub record OpenRow (way : List ℕ) (k : ℕ) (earlier : List Sibling) (roots : List RootId) (D N : List Requirement) (f : board.Frame)
       (ps : List (Element (regent_ground (spaces_of job.code)))) (st : BoardStage (regent_ground (spaces_of job.code)))
       (is : Items (regent_ground (spaces_of job.code))) : Type 0 where
     pub within : k < length s.operations
     pub knot : k < length s.waits.knots
     pub way_is : IsAt job ways k way
+    pub going : is_over (regent_ground (spaces_of job.code)) st ≡ false
     pub own : (name : ℕ → ℕ) → IsNaming s.roots who roots name → f.own ≡ map (λ (r : RootId). name r.0) (operation_at s k).frame.own
     pub seen : IfRuns job st (IsSeen job.code s.tree s.map s.roots who roots (operation_at s k) N f ps)
     pub said_is : said_in job 0 is ≡ (operation_at s k).said

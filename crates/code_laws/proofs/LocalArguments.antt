@@ -40,7 +40,8 @@ use Rattle.expression_laws.proofs.Calls.{IsFlawless, call_parts}
 use Rattle.code_laws.proofs.KnownHeads.{KnowsHead}
 use Rattle.code_laws.proofs.LocalCalls.{may_call}
 use Rattle.code_laws.proofs.LocalParts.{and_then, named_alone, put_region, put_scalar}
-use Rattle.code_laws.proofs.LocalNames.{AllKept, IsKept, IsLocalTree, kept_partition, kept_region, kept_scalar, named_kept, kept_value, region_of_number, taking_told, value_kept, value_no_region, kept_plain}
+use Rattle.code_laws.proofs.LocalNames.{AllKept, IsKept, IsLocalTree, kept_partition, kept_region, kept_scalar, named_kept, kept_value, region_of_number, value_kept, value_no_region, kept_plain}
+use Rattle.code_laws.proofs.LocalPlaces.{taking_told}
 use Rattle.code_laws.proofs.LocalTypes.{IsTakable, either, region_for_index, region_for_scalar, regions_alike, simple_other, takable_index, takable_region, takable_scalar}
 use Rattle.code_laws.proofs.Openings.{params_length, types_length}
 use Rattle.code_laws.proofs.Typing.{no_way, no_way_back, stands_well}

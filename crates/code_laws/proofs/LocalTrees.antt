@@ -30,6 +30,8 @@ use Rattle.check_rules.specs.rules.Repeats.{Given, given_by, repeats, repeats_af
 use Rattle.check_rules.specs.scopes.Sound.{StandsIn}
 use Rattle.code_rules.specs.Instructions.{tasks_of}
 use Rattle.local_form.specs.LocalForm.{Marked, are_local_params, are_scalar_params, is_among, is_index_term, is_local_param, is_local_block, is_local_item, is_local_program, is_local_task, gives_pointer, gives_scalar, is_difference, is_region_name, is_region_term, marked_by, marked_by_arms, marked_by_else, marked_by_items, marked_by_task, marked_by_term, marked_in, marked_param, marked_params, unmarked, with_either, with_index, with_partition, with_region}
+use Rattle.state_laws.proofs.Texts.{declarations_are}
+use Rattle.code_laws.proofs.LocalFields.{fields_of}
 use Rattle.code_laws.specs.Simple.{IsScalar, a_region_type, scalar_integer, scalar_truth, simple_index}
 use Rattle.code_laws.proofs.LocalMarks.{HasFieldTerms, among_added, among_left, space_terms}
 use Rattle.code_laws.proofs.LocalNames.{AllKept, AreScalars, AreTakable, IsAlone, IsKept, IsLocalTree, kept_before, kept_region, kept_scalar, kept_value}
@@ -346,15 +348,16 @@ place_named all (p ∷ ps) (suc k) j low own = inr (place_named all ps k j (omeg
 
 -- ---- the program
 
-pub local_tree : (handing keeping : Bool) (tree : Tree) (task : TaskTree) (m : Marked) → m.index_fields ≡ (marked_by_task tree task).index_fields →
+pub local_tree : (handing keeping : Bool) (tree : Tree) (task : TaskTree) (m : Marked) → fields_of m ≡ fields_of (marked_by_task tree task) →
     (m.keeps ≡ true → keeping ≡ true) → WithinLimits tree → breaches tree ≡ [] → is_local_program tree ≡ true →
     (handing ≡ false → (i : ItemTree) → Has tree i → (t : TaskTree) → i.form ≡ task_item t → TakesScalars t) →
     (keeping ≡ false → (i : ItemTree) → Has tree i → (s : FieldSpace) → i.form ≡ space_item s → are_scalar_params s.fields ≡ true) →
     ((i : ItemTree) → Has tree i → (t : TaskTree) → i.form ≡ task_item t → IsHead keeping t) → IsLocalTree handing keeping m tree
 local_tree handing keeping tree task m fields keeps within none e alone plain heads = record {
-  fields = space_has (HasFieldTerms keeping m.index_fields) (λ f has. absurd (no_way_back has)) tree
+  fields = space_has (HasFieldTerms keeping (fields_of m)) (λ f has. absurd (no_way_back has)) tree
       (λ i h s same. subst (λ ns. HasFieldTerms keeping ns s) (sym fields) (space_terms keeping tree task i h s same
       (subst (λ form. is_local_item tree form ≡ true) same (all_of (λ i. is_local_item tree i.form) tree e i h)) (λ q. plain q i h s same)));
+  declared = declarations_are tree none within;
   keeps = keeps;
   few = space_has (λ (s : FieldSpace). length s.fields ≤ 256) (omega (arith)) tree few_in;
   named = λ sp i low.

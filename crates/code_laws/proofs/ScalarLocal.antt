@@ -28,7 +28,7 @@ or_true false = refl
 module _ (keeping : Bool) where
   -- no marks, where indices and pointers may be assigned or may not
   abbrev bare : Marked
-  bare = record { regions = []; partitions = []; indices = []; pointers = []; index_fields = []; keeps = keeping }
+  bare = record { regions = []; partitions = []; indices = []; pointers = []; index_fields = []; pointer_fields = []; keeps = keeping }
 
   takes : (n : Name) → takes_value bare n ≡ true
   takes n = ap (λ k. k && true) (or_true keeping)
@@ -96,7 +96,7 @@ module _ (keeping : Bool) where
   none_points (access_expr n no_step) sc = refl
   none_points (chain_expr first no_link) sc = none_points first (and_parts (is_scalar_expression first) true sc).0
   none_points (chain_expr first (a_link _ _ _)) sc = refl
-  none_points (access_expr n (field_step _ _)) sc = refl
+  none_points (access_expr n (field_step _ _)) sc = absurd (no_way_back sc)
   none_points (access_expr n (at_step _ _)) sc = absurd (no_way_back sc)
   none_points (number_expr _ _) sc = refl
   none_points (truth_expr _) sc = refl
