@@ -3,3 +3,4 @@ pub mod Child
 pub mod Swept
 pub mod Issued
 pub mod Within
+pub mod Changes
