@@ -4,3 +4,4 @@ pub mod Swept
 pub mod Issued
 pub mod Within
 pub mod Changes
+pub mod Table
