@@ -3,3 +3,5 @@ pub mod Below
 pub mod Edited
 pub mod Interfere
 pub mod Listed
+pub mod Walks
+pub mod One
