@@ -4,7 +4,7 @@ use Rattle.std.specs.Prelude.{All, set}
 use Rattle.std.specs.List.{Contains}
 use Rattle.std.proofs.lemmas.Bool.{cases_eq, cases_lt, false≢true, le-ltb}
 use Rattle.std.proofs.lemmas.List.{get_or_append_left, get_or-append-add, get_or-set_other, get_or-set_same, length-append, length-set}
-use Rattle.std.proofs.lemmas.List.Elements.{All-head, All-nil, All-tail, Contains-append_left}
+use Rattle.std.proofs.lemmas.List.Elements.{All-head, All-nil, All-tail, Contains-append_left, Contains-append_right}
 use Rattle.std.proofs.lemmas.Option.{none-some, same_Some}
 use Rattle.region_finder.specs.Listings.{Listed, inserted}
 use Rattle.region_tree.specs.declared.tree.OpNumber.{OpNumber}
@@ -54,7 +54,7 @@ module _ (job : Job) (s : State) (b : Board (regent_ground (spaces_of job.code))
   pub there : k < length s.waits.knots
   there = omega (arith, way_below job b.ways k v at, h.ways, h.knots)
 
-  within : k < length s.operations
+  pub within : k < length s.operations
   within = omega (arith, there, h.knots)
 
   -- the caller is another, the child comes behind all, and so do its knot and what the graph lists
@@ -136,6 +136,9 @@ module _ (job : Job) (s : State) (b : Board (regent_ground (spaces_of job.code))
     listed_before : All (λ (l : Listed). l.op.0 < e.op.0) s.waits.listing
     listed_before = subst (λ (o : OpNumber). All (λ (l : Listed). l.op.0 < o.0) s.waits.listing) (sym op_is)
         (listed_below (λ j. not (has_ended s.waits.knots j)) (length s.operations) s.waits.listing (omega (arith, within)) h.listed)
+
+    pub entry_there : Contains called_to.waits.listing e
+    entry_there = subst (λ ls. Contains ls e) (sym (inserted_last e s.waits.listing listed_before)) (Contains-append_right s.waits.listing (e ∷ []) e (0, omega arith, refl))
 
     -- one that has ended was issued
     ended_issued : (j : ℕ) → has_ended s.waits.knots j ≡ true → j < length s.operations

@@ -5,3 +5,8 @@ pub mod Issued
 pub mod Within
 pub mod Changes
 pub mod Table
+pub mod Grown
+pub mod Node
+pub mod Rows
+pub mod Reached
+pub mod Called

@@ -4,7 +4,7 @@ use Rattle.region_tree.specs.Requirements.{Requirement}
 use Rattle.region_tree.specs.declared.tree.OpNumber.{OpNumber}
 use Rattle.region_tree.specs.declared.tree.RootId.{RootId}
 use Rattle.task_code.specs.declared.job.Job.{Job}
-use Rattle.board_rules.specs.Boards.{◌+++◌, Items, Operation as Node, child_op, no_item, said}
+use Rattle.board_rules.specs.Boards.{◌+++◌, Items, Operation as Node, child_op, no_item, op, said}
 use Rattle.board_rules.specs.Boards as tree
 use Rattle.board_rules.specs.Ground.{Ground}
 use Rattle.board_rules.specs.Running.{Machine}
@@ -16,6 +16,10 @@ use Rattle.board_trees.specs.Shows.{ShowsChildren, needs_issued, siblings}
 use Rattle.board_trees.specs.Told.{some_bad}
 use Rattle.board_trees.specs.Waits.{Sibling}
 use Rattle.board_trees.proofs.Settled.{node_told, swept_child, unmet, worse, worse_tells}
+
+-- its children are swept
+abbrev pub swept : (job : Job) → ℕ → Node (regent_ground (spaces_of job.code)) → Node (regent_ground (spaces_of job.code))
+swept job makings (op D N i f ps st is) = op D N i f ps st (tree.sweep (regent_ground (spaces_of job.code)) (machine_of job makings) [] is)
 
 module _ (job : Job) (s : State) (who : ℕ → ℕ) (ways : List (List ℕ)) (makings : ℕ) where
   abbrev G : Ground

@@ -27,18 +27,18 @@ module _ (job : Job) (s : State) (who : ℕ → ℕ) (ways : List (List ℕ)) wh
   abbrev G : Ground
   G = regent_ground (spaces_of job.code)
 
-  abbrev WasIssued : ℕ → Type 0
+  abbrev pub WasIssued : ℕ → Type 0
   WasIssued j = j < length s.operations
 
-  abbrev Ops : List OpNumber → Type 0
+  abbrev pub Ops : List OpNumber → Type 0
   Ops ks = All (λ (o : OpNumber). WasIssued o.0) ks
 
-  abbrev Siblings : List Sibling → Type 0
+  abbrev pub Siblings : List Sibling → Type 0
   Siblings xs = All (λ (x : Sibling). WasIssued x.op) xs
 
   -- ---- what is waited for
 
-  waits_within : (Q : List Requirement) (xs : List Sibling) (on : List OpNumber) → Siblings xs → WaitsFor s.waits.knots Q xs on → Ops on
+  pub waits_within : (Q : List Requirement) (xs : List Sibling) (on : List OpNumber) → Siblings xs → WaitsFor s.waits.knots Q xs on → Ops on
   waits_within Q [] on h w = subst Ops (sym w) (All-nil (λ (o : OpNumber). WasIssued o.0))
   waits_within Q (x ∷ xs) on h (inl w) = waits_within Q xs on (All-tail (λ (x : Sibling). WasIssued x.op) x xs h) w.1
   waits_within Q (x ∷ xs) on h (inr w) = subst Ops (sym w.1) (All-cons (λ (o : OpNumber). WasIssued o.0) (number x.op) w.0
@@ -77,7 +77,7 @@ module _ (job : Job) (s : State) (who : ℕ → ℕ) (ways : List (List ℕ)) wh
   node_within : (way : List ℕ) (k : ℕ) (earlier : List Sibling) (above : List RootId) (n : Node G) → Shows job s who ways way k earlier above n → WasIssued k
   node_within way k earlier above (op D N i f ps st is) h = h.0.within
 
-  siblings_within : (way : List ℕ) (j c : ℕ) (earlier : List Sibling) (roots : List RootId) (ks : List OpNumber) (is : Items G) → ShowsChildren job s who ways way j c earlier roots ks is →
+  pub siblings_within : (way : List ℕ) (j c : ℕ) (earlier : List Sibling) (roots : List RootId) (ks : List OpNumber) (is : Items G) → ShowsChildren job s who ways way j c earlier roots ks is →
       Siblings (siblings job ks is)
   siblings_within way j c earlier roots ks no_item h = All-nil (λ (x : Sibling). WasIssued x.op)
   siblings_within way j c earlier roots ks (said t is) h = siblings_within way j c earlier roots ks is h

@@ -1,0 +1,4 @@
+pub mod Found
+pub mod Builder
+pub mod Trees
+pub mod Paused
