@@ -160,7 +160,7 @@ module _ (job : Job) (s : State) (b : Board (regent_ground (spaces_of job.code))
   fresh : operation_at u n ≡ child
   fresh = row_new job s b h k v at begun caller child new_knot caller_knot entry live
 
-  knot_there : k < length s.waits.knots
+  pub knot_there : k < length s.waits.knots
   knot_there = Rattle.called_trees.proofs.Changes.there job s b h k v at begun caller child new_knot caller_knot entry live
 
   here_knot : knot_at u.waits.knots k ≡ caller_knot
@@ -255,7 +255,7 @@ module _ (job : Job) (s : State) (b : Board (regent_ground (spaces_of job.code))
     abbrev stage_by : Bool → BoardStage G
     stage_by q = cond q dropped (idle first)
 
-    abbrev child_by : Bool → Node G
+    abbrev pub child_by : Bool → Node G
     child_by q = op Q Q 0 F [] (stage_by q) no_item
 
     child_runs : (q : Bool) → {A : Type 0} → A → IfRuns job (stage_by q) A
@@ -341,7 +341,7 @@ module _ (job : Job) (s : State) (b : Board (regent_ground (spaces_of job.code))
     swept_last : (x : Node G) → tree.sweep G (node.M job s b h k v at within claim before act c calls earlier above D N i f ps wt d is below shown) [] (with_last x) ≡ with_last (dropped_if job s h.who b.ways (node.makings job s b h k v at within claim before act c calls earlier above D N i f ps wt d is below shown) (some_bad s.waits.knots (tree.needs_of G x) xs) x)
     swept_last x = more_swept job s h.who b.ways (node.makings job s b h k v at within claim before act c calls earlier above D N i f ps wt d is below shown) [] v k 0 [] roots o.children is shown.1 (λ R. refl) y.text x
 
-    items_swept : tree.sweep G (node.M job s b h k v at within claim before act c calls earlier above D N i f ps wt d is below shown) [] (with_last (node.child_of job s b h k v at within claim before act c calls earlier above D N i f ps wt d is below shown task)) ≡ js
+    pub items_swept : tree.sweep G (node.M job s b h k v at within claim before act c calls earlier above D N i f ps wt d is below shown) [] (with_last (node.child_of job s b h k v at within claim before act c calls earlier above D N i f ps wt d is below shown task)) ≡ js
     items_swept = swept_last (node.child_of job s b h k v at within claim before act c calls earlier above D N i f ps wt d is below shown task) ∙ ap with_last (ap (λ q. dropped_if job s h.who b.ways (node.makings job s b h k v at within claim before act c calls earlier above D N i f ps wt d is below shown) q (node.child_of job s b h k v at within claim before act c calls earlier above D N i f ps wt d is below shown task)) (sym fails_bad) ∙ child_made fails)
 
     -- swept again, it stays

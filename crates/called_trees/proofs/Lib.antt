@@ -10,3 +10,6 @@ pub mod Node
 pub mod Rows
 pub mod Reached
 pub mod Called
+pub mod Opened
+pub mod Refused
+pub mod Calls
