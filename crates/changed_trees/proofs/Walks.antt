@@ -26,7 +26,7 @@ module _ (job : Job) (s : State) (who : ℕ → ℕ) (ways : List (List ℕ)) (B
   K = machine_of job
 
   -- so of each that has what is asked
-  abbrev OfAll : (Node G → Type 0) → Type 0
+  abbrev pub OfAll : (Node G → Type 0) → Type 0
   OfAll P = (w : List ℕ) (k : ℕ) (earlier : List Sibling) (above : List RootId) (n : Node G) → B w k earlier above n → P n
 
   module _ (g : Node G → Node G) (d : ℕ) where
