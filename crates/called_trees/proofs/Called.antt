@@ -1,17 +1,16 @@
 -- A call that is issued: the caller goes on, and behind its children comes one more, which begins, or is dropped at once.
-use Rattle.std.proofs.Common.{◌≡◌, ◌<◌, ◌+◌, ◌++◌, ◌∷◌, ◌∙◌, ⊎_elim, inl, inr, ℕ, suc, zero, Bool, List, Option, Some, [], ap, append-nil, append_assoc, cond, false, length, map, refl, subst, sym, true}
+use Rattle.std.proofs.Common.{◌≡◌, ◌<◌, ◌+◌, ◌++◌, ◌∷◌, ◌∙◌, ⊎_elim, inl, ℕ, suc, Bool, List, None, Some, [], ap, append-nil, append_assoc, arith, cond, false, length, map, refl, subst, sym, true}
 use Rattle.std.specs.Prelude.{All, slice_get}
-use Rattle.std.proofs.lemmas.Bool.{cases_Bool}
-use Rattle.std.proofs.lemmas.List.Elements.{All-contains, All-head, All-nil, All-weaker, Contains-append_right, Contains-get_or}
+use Rattle.std.proofs.lemmas.List.Elements.{All-contains, All-weaker}
 use Rattle.std.proofs.lemmas.Option.{same_Some}
-use Rattle.region_finder.specs.Listings.{Listed, PlacedNeed, inserted, needs_in, placed}
+use Rattle.region_finder.specs.Listings.{Listed}
 use Rattle.region_tree.specs.Needs.{requirements_of}
 use Rattle.region_tree.specs.Requirements.{Requirement}
 use Rattle.region_tree.specs.declared.tree.OpNumber.{OpNumber}
 use Rattle.region_tree.specs.declared.tree.RootId.{RootId}
 use Rattle.logical_map.specs.Maps.{LogicalMap, columns_of, is_live}
 use Rattle.dependence_graph.specs.Entries.{Knot}
-use Rattle.dependence_graph.specs.Knots.{knot_at, number, some_failed}
+use Rattle.dependence_graph.specs.Knots.{is_done, knot_at, number, some_failed}
 use Rattle.dependence_graph.specs.declared.stage.Stage.TheVariants as knot
 use Rattle.task_code.specs.declared.code.TaskCode.{TaskCode}
 use Rattle.task_code.specs.declared.job.Job.{Job}
@@ -21,16 +20,14 @@ use Rattle.machine_terms.specs.declared.outcome.After.{After}
 use Rattle.machine_terms.specs.declared.outcome.CallOut.{CallOut}
 use Rattle.machine_terms.specs.declared.outcome.Yield.TheVariants as yield
 use Rattle.machine_terms.specs.Opening.{opening}
-use Rattle.machine_terms.specs.Segments.{segment}
+use Rattle.machine_terms.specs.Segments.{segment, stop_of}
 use Rattle.board_rules.specs.Boards.{Items, Operation as Node, Stage as BoardStage, Stepped, Wait, ◌+++◌, child_count, child_op, dropped, first, idle, no_item, nothing, op, out, said}
 use Rattle.board_rules.specs.Boards as tree
 use Rattle.board_rules.specs.Ground.{Ground}
 use Rattle.board_rules.specs.NumberedBoards.{Board}
-use Rattle.board_rules.specs.Running.{After as BoardAfter, Element, Machine, puts}
+use Rattle.board_rules.specs.Running.{After as BoardAfter, Element, puts}
 use Rattle.regent_boards.specs.Frames as board
 use Rattle.regent_boards.specs.RegentMachine.{regent_ground}
-use Rattle.segment_renaming.specs.Renaming.{value_to}
-use Rattle.code_boards.specs.Laws.{machine_of}
 use Rattle.code_boards.specs.Views.{required_all, spaces_of, value_out}
 use Rattle.order_boards.proofs.Calls.{values}
 use Rattle.board_terms.specs.declared.claim.Claim.{Claim}
@@ -41,8 +38,8 @@ use Rattle.board_terms.specs.Stages as stages
 use Rattle.board_terms.specs.Gives.{also_said, behind_segment, frame_left, with_parts}
 use Rattle.board_terms.specs.States.{State, operation_at}
 use Rattle.board_trees.specs.Frames.{IsSeen}
-use Rattle.board_trees.specs.Names.{IsNaming, named, pointed, requirement_named}
-use Rattle.board_trees.specs.Shows.{IfRuns, IsChild, IsListed, Row, Shows, ShowsBoard, ShowsChildren, said_in, siblings}
+use Rattle.board_trees.specs.Names.{IsNaming, requirement_named}
+use Rattle.board_trees.specs.Shows.{IfRuns, IsChild, IsListed, Row, Shows, ShowsBoard, ShowsChildren, siblings}
 use Rattle.board_trees.specs.Stages.{ChildrenAre, Stands, WaitsWell}
 use Rattle.board_trees.specs.Told.{some_bad}
 use Rattle.board_trees.specs.Waits.{Sibling, WaitsFor}
@@ -56,38 +53,23 @@ use Rattle.board_trees.proofs.Along.{not_above}
 use Rattle.changed_trees.proofs.Below.{children_kept}
 use Rattle.changed_trees.proofs.Kept.{back, seen_kept, shown_match, waits_for_kept, wider_on}
 use Rattle.changed_trees.proofs.Listed.{waits_are_listed}
+use Rattle.yielded_trees.proofs.Paused.{seen_as}
 use Rattle.yielded_trees.proofs.Trees.{text_said}
-use Rattle.called_trees.proofs.Changes.{called_to, change, entry_there, row_here, row_new, some_failed_same, way_last, way_still}
+use Rattle.called_trees.proofs.Changes.{called_to, change, entry_there, row_here, row_new, size_more, some_failed_same, there, way_last}
 use Rattle.called_trees.proofs.Child.{child_seen}
 use Rattle.called_trees.proofs.Grown.{count_matches, need_listed, said_more, shows_more}
-use Rattle.called_trees.proofs.Issued.{inserted_last, knot_here, knot_new, length_more}
+use Rattle.called_trees.proofs.Issued.{knot_here, knot_new, length_more}
 use Rattle.called_trees.proofs.Node as node
-use Rattle.called_trees.proofs.Opens.{all_required, requires}
+use Rattle.called_trees.proofs.Opens.{all_required}
 use Rattle.called_trees.proofs.Swept.{dropped_if, more_swept, swept}
 use Rattle.called_trees.proofs.Table as table
 use Rattle.called_trees.proofs.Within.{siblings_within, waits_within}
 
--- what is seen of one is seen of another with its frame and parts
-seen_of : (job : Job) (s : State) (live : LogicalMap) (who : ℕ → ℕ) (roots : List RootId) (o q : Operation) (N : List Requirement) (f : board.Frame) (ps : List (Element (regent_ground (spaces_of job.code)))) →
-    IsSeen job.code s.tree live s.roots who roots o N f ps → IsSeen job.code s.tree live s.roots who roots (record q { frame = o.frame; parts = o.parts }) N f ps
-seen_of job s live who roots o q N f ps h = record {
-  frame = h.frame;
-  needs = h.needs;
-  required = h.required;
-  parts = h.parts;
-  held = h.held;
-  fitting = h.fitting;
-  once = h.once;
-  placed = h.placed;
-  there = h.there;
-  fields = h.fields;
-}
-
 module _ (job : Job) (s : State) (b : Board (regent_ground (spaces_of job.code))) (h : ShowsBoard job s b) (k : ℕ) (v : List ℕ) (at : IsAt job b.ways k v)
     (within : k < length s.operations) (claim : Claim) (before : Before) (act : (operation_at s k).activity ≡ activity.Out claim before)
     (c : CallOut) (calls : (segment before).ends ≡ yield.Calls (c ∷ [])) (begun : (knot_at s.waits.knots k).stage ≡ knot.Begun)
-    (task : TaskCode) (found : slice_get job.code.tasks c.task ≡ Some task) (goes : (segment before).frame ≡ Some (Rattle.machine_terms.specs.Segments.stop_of before).machine.frame)
-    (own_kept : (Rattle.machine_terms.specs.Segments.stop_of before).machine.frame.own ≡ (operation_at s k).frame.own) where
+    (task : TaskCode) (found : slice_get job.code.tasks c.task ≡ Some task) (goes : (segment before).frame ≡ Some (stop_of before).machine.frame)
+    (own_kept : (stop_of before).machine.frame.own ≡ (operation_at s k).frame.own) where
   abbrev pub G : Ground
   G = regent_ground (spaces_of job.code)
 
@@ -98,7 +80,7 @@ module _ (job : Job) (s : State) (b : Board (regent_ground (spaces_of job.code))
   a = segment before
 
   abbrev pub g : Frame
-  g = (Rattle.machine_terms.specs.Segments.stop_of before).machine.frame
+  g = (stop_of before).machine.frame
 
   abbrev pub n : ℕ
   n = length s.operations
@@ -138,7 +120,7 @@ module _ (job : Job) (s : State) (b : Board (regent_ground (spaces_of job.code))
   abbrev pub ways : List (List ℕ)
   ways = b.ways ++ last ∷ []
 
-  new_ongoing : (q : Bool) → Rattle.dependence_graph.specs.Knots.is_done (Some (cond q knot.Dropped knot.Waiting)) ≡ false
+  new_ongoing : (q : Bool) → is_done (Some (cond q knot.Dropped knot.Waiting)) ≡ false
   new_ongoing true = refl
   new_ongoing false = refl
 
@@ -161,7 +143,7 @@ module _ (job : Job) (s : State) (b : Board (regent_ground (spaces_of job.code))
   fresh = row_new job s b h k v at begun caller child new_knot caller_knot entry live
 
   pub knot_there : k < length s.waits.knots
-  knot_there = Rattle.called_trees.proofs.Changes.there job s b h k v at begun caller child new_knot caller_knot entry live
+  knot_there = there job s b h k v at begun caller child new_knot caller_knot entry live
 
   here_knot : knot_at u.waits.knots k ≡ caller_knot
   here_knot = knot_here s.waits.knots new_knot caller_knot k knot_there
@@ -228,7 +210,7 @@ module _ (job : Job) (s : State) (b : Board (regent_ground (spaces_of job.code))
 
     needs_are : required_all job.code task.needs args ≡ Some Q
     needs_are = all_required job s.tree live s.roots h.who (node.makings job s b h k v at within claim before act c calls earlier above D N i f ps wt d is below shown) h.made (node.now job s b h k v at within claim before act c calls earlier above D N i f ps wt d is below shown) (node.held job s b h k v at within claim before act c calls earlier above D N i f ps wt d is below shown) roots under (node.there job s b h k v at within claim before act c calls earlier above D N i f ps wt d is below shown) c.args (node.placed job s b h k v at within claim before act c calls earlier above D N i f ps wt d is below shown) (node.name job s b h k v at within claim before act c calls earlier above D N i f ps wt d is below shown) (node.naming job s b h k v at within claim before act c calls earlier above D N i f ps wt d is below shown)
-        (node.same job s b h k v at within claim before act c calls earlier above D N i f ps wt d is below shown (node.name job s b h k v at within claim before act c calls earlier above D N i f ps wt d is below shown) (node.naming job s b h k v at within claim before act c calls earlier above D N i f ps wt d is below shown)) task.needs ∙ ap (λ q. cond q (Some Q) Rattle.std.proofs.Common.None) declared
+        (node.same job s b h k v at within claim before act c calls earlier above D N i f ps wt d is below shown (node.name job s b h k v at within claim before act c calls earlier above D N i f ps wt d is below shown) (node.naming job s b h k v at within claim before act c calls earlier above D N i f ps wt d is below shown)) task.needs ∙ ap (λ q. cond q (Some Q) None) declared
 
     begins : IsSeen job.code s.tree live s.roots h.who wide child Q F []
     begins = child_seen job s.tree live s.roots h.who (node.makings job s b h k v at within claim before act c calls earlier above D N i f ps wt d is below shown) h.made (node.now job s b h k v at within claim before act c calls earlier above D N i f ps wt d is below shown) (node.held job s b h k v at within claim before act c calls earlier above D N i f ps wt d is below shown) wide wide_below wide_there c.args (node.placed job s b h k v at within claim before act c calls earlier above D N i f ps wt d is below shown) job.turns g.depth c.task task declared args args_are Q needs_are
@@ -283,8 +265,8 @@ module _ (job : Job) (s : State) (b : Board (regent_ground (spaces_of job.code))
 
     child_row : (q : Bool) → some_failed s.waits.knots child_on ≡ q → Row job u h.who ways last n xs wide Q Q F [] (stage_by q) no_item
     child_row q e = record {
-      within = let l = Rattle.called_trees.proofs.Changes.size_more job s b h k v at begun caller child new_knot caller_knot entry live in omega (Rattle.std.proofs.Common.arith, l);
-      knot = let l = length_more s.waits.knots new_knot caller_knot k knot_there in omega (Rattle.std.proofs.Common.arith, l, h.knots);
+      within = let l = size_more job s b h k v at begun caller child new_knot caller_knot entry live in omega (arith, l);
+      knot = let l = length_more s.waits.knots new_knot caller_knot k knot_there in omega (arith, l, h.knots);
       way_is = subst (λ x. IsAt job ways x last) h.ways (way_last job b.ways last);
       own = λ name z. ap (λ (x : Operation). map (λ (r : RootId). name r.0) x.frame.own) (sym fresh);
       seen = subst (λ (x : Operation). IfRuns job (stage_by q) (IsSeen job.code u.tree u.map u.roots h.who wide x Q F [])) (sym fresh) (child_runs q begins);
@@ -366,14 +348,14 @@ module _ (job : Job) (s : State) (b : Board (regent_ground (spaces_of job.code))
     many = count_matches job o.children is (shown_match job s h.who b.ways v k 0 [] roots o.children is shown.1)
 
     from_none : 0 + child_count G is ≡ length o.children
-    from_none = omega (Rattle.std.proofs.Common.arith, many)
+    from_none = omega (arith, many)
 
     frame_is : caller.frame ≡ g
     frame_is = ap (frame_left o.frame) goes
 
     caller_seen : IsSeen job.code s.tree s.map s.roots h.who roots caller N y.frame []
     caller_seen = subst (λ (e : Frame). IsSeen job.code s.tree s.map s.roots h.who roots (record caller { frame = e }) N y.frame []) (sym frame_is)
-        (seen_of job s s.map h.who roots (record (behind_segment o a) { frame = g; parts = [] }) caller N y.frame []
+        (seen_as job s h.who roots (record (behind_segment o a) { frame = g; parts = [] }) caller N y.frame []
         (left_seen job s h.who roots o N f (node.met job s b h k v at within claim before act c calls earlier above D N i f ps wt d is below shown) ps (node.seen job s b h k v at within claim before act c calls earlier above D N i f ps wt d is below shown) a y (node.left job s b h k v at within claim before act c calls earlier above D N i f ps wt d is below shown) (node.places job s b h k v at within claim before act c calls earlier above D N i f ps wt d is below shown) g goes [] []
         (none_held job s h.who roots o N f (node.met job s b h k v at within claim before act c calls earlier above D N i f ps wt d is below shown) ps (node.seen job s b h k v at within claim before act c calls earlier above D N i f ps wt d is below shown) a y (node.left job s b h k v at within claim before act c calls earlier above D N i f ps wt d is below shown) (node.places job s b h k v at within claim before act c calls earlier above D N i f ps wt d is below shown) g goes) s.map (λ r l. l) (λ r field l. l)))
 

@@ -1,9 +1,6 @@
 -- What a yield of a call leaves, be the call issued or refused.
-use Rattle.std.proofs.Common.{◌≡◌, ◌<◌, ◌∷◌, ◌∙◌, ℕ, suc, List, None, Option, Some, [], ap, length, refl, subst, sym}
-use Rattle.std.specs.Prelude.{All, slice_get}
-use Rattle.region_tree.specs.Requirements.{Requirement}
-use Rattle.region_tree.specs.declared.tree.OpNumber.{OpNumber}
-use Rattle.region_tree.specs.declared.tree.RootId.{RootId}
+use Rattle.std.proofs.Common.{◌≡◌, ◌<◌, ◌∷◌, ◌∙◌, ℕ, suc, List, None, Option, Some, [], ap, length, refl, subst}
+use Rattle.std.specs.Prelude.{slice_get}
 use Rattle.dependence_graph.specs.Knots.{knot_at}
 use Rattle.dependence_graph.specs.declared.stage.Stage.TheVariants as knot
 use Rattle.task_code.specs.declared.code.TaskCode.{TaskCode}
@@ -11,22 +8,17 @@ use Rattle.task_code.specs.declared.job.Job.{Job}
 use Rattle.machine_terms.specs.declared.frame.Before.{Before}
 use Rattle.machine_terms.specs.declared.frame.Frame.{Frame}
 use Rattle.machine_terms.specs.declared.outcome.CallOut.{CallOut}
-use Rattle.machine_terms.specs.declared.outcome.Yield.{Yield}
 use Rattle.machine_terms.specs.declared.outcome.Yield.TheVariants as yield
 use Rattle.machine_terms.specs.Opening.{opening}
 use Rattle.machine_terms.specs.Segments.{frame_after, segment, stop_of}
-use Rattle.board_rules.specs.Boards.{Items, Operation as Node, Wait, op, out}
 use Rattle.board_rules.specs.NumberedBoards.{Board}
-use Rattle.board_rules.specs.Running.{Element}
-use Rattle.regent_boards.specs.Frames as board
 use Rattle.regent_boards.specs.RegentMachine.{regent_ground}
 use Rattle.code_boards.specs.Views.{spaces_of}
 use Rattle.segment_regions.proofs.Asked.{IsAsked, segments_ask}
 use Rattle.board_terms.specs.declared.claim.Claim.{Claim}
 use Rattle.board_terms.specs.declared.operation.Activity.TheVariants as activity
 use Rattle.board_terms.specs.States.{State, operation_at}
-use Rattle.board_trees.specs.Shows.{Shows, ShowsBoard}
-use Rattle.board_trees.specs.Waits.{Sibling}
+use Rattle.board_trees.specs.Shows.{ShowsBoard}
 use Rattle.given_trees.proofs.Segments.{segments_show}
 use Rattle.changed_trees.specs.Changes.{IsAt}
 use Rattle.changed_trees.specs.Given.{Opens, makings_before}

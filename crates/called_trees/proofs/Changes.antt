@@ -1,5 +1,5 @@
 -- One operation calls: what others see of the board stays.
-use Rattle.std.proofs.Common.{◌≡◌, ◌<◌, ◌≤◌, ◌⊎◌, ◌+◌, ◌++◌, ◌∷◌, ◌∙◌, ◌&&◌, ◌||◌, inl, inr, ℕ, zero, suc, Bool, List, None, Option, Some, [], ap, arith, cond, false, length, map, not, refl, subst, sym, true}
+use Rattle.std.proofs.Common.{◌≡◌, ◌<◌, ◌≤◌, ◌⊎◌, ◌+◌, ◌++◌, ◌∷◌, ◌∙◌, ◌&&◌, ◌||◌, inl, inr, ℕ, zero, suc, List, None, Some, [], ap, arith, cond, false, length, not, refl, subst, sym, true}
 use Rattle.std.specs.Prelude.{All, set}
 use Rattle.std.specs.List.{Contains}
 use Rattle.std.proofs.lemmas.Bool.{cases_eq, cases_lt, false≢true, le-ltb}
@@ -10,14 +10,13 @@ use Rattle.region_finder.specs.Listings.{Listed, inserted}
 use Rattle.region_tree.specs.declared.tree.OpNumber.{OpNumber}
 use Rattle.logical_map.specs.Maps.{LogicalMap, columns_of, is_live}
 use Rattle.dependence_graph.specs.Entries.{Knot}
-use Rattle.dependence_graph.specs.Knots.{has_failed, is_done, is_idle, knot_at, number, some_failed, stage_at}
+use Rattle.dependence_graph.specs.Knots.{has_failed, is_done, knot_at, number, some_failed, stage_at}
 use Rattle.dependence_graph.specs.declared.stage.Stage.TheVariants as knot
 use Rattle.task_code.specs.declared.job.Job.{Job}
 use Rattle.board_rules.specs.NumberedBoards.{Board, way_of}
 use Rattle.regent_boards.specs.RegentMachine.{regent_ground}
 use Rattle.code_boards.specs.Laws.{machine_of}
 use Rattle.code_boards.specs.Views.{spaces_of}
-use Rattle.board_terms.specs.declared.operation.Activity.TheVariants as activity
 use Rattle.board_terms.specs.declared.operation.Operation.{Operation}
 use Rattle.board_terms.specs.declared.operation.Wait.TheVariants as wait
 use Rattle.board_terms.specs.Closings.{all_over}

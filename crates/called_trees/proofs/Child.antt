@@ -1,11 +1,11 @@
 -- A child that is called begins in a frame of the table and in one of the tree that are one.
-use Rattle.std.proofs.Common.{◌≡◌, ◌<◌, ◌-◌, ◌++◌, ◌∷◌, ◌∙◌, ◌&&◌, ◌==◌, ℕ, suc, zero, Bool, List, None, Option, Some, [], ap, append-nil, cond, eqb-true, false, length, map, refl, replicate, subst, sym, true, pos}
+use Rattle.std.proofs.Common.{◌≡◌, ◌<◌, ◌-◌, ◌∷◌, ◌∙◌, ℕ, suc, zero, List, None, Option, Some, [], ap, cond, length, map, refl, replicate, sym, true, pos}
 use Rattle.std.specs.Prelude.{All, nat_lt, slice_get}
 use Rattle.std.proofs.lemmas.Bool.{and_parts, false≢true, ltb-true}
 use Rattle.std.proofs.lemmas.List.Elements.{All-append, All-cons, All-nil}
-use Rattle.region_tree.specs.Needs.{AreNeeds, IsNeed, requirements_of}
+use Rattle.region_tree.specs.Needs.{AreNeeds, IsNeed}
 use Rattle.region_tree.specs.Requirements.{Requirement}
-use Rattle.region_tree.specs.Trees.{RegionTree, is_region, root_at}
+use Rattle.region_tree.specs.Trees.{RegionTree, is_region}
 use Rattle.region_tree.specs.declared.needs.Need.{Need}
 use Rattle.region_tree.specs.declared.tree.OpNumber.{OpNumber}
 use Rattle.region_tree.specs.declared.tree.RootId.{RootId}
@@ -18,7 +18,6 @@ use Rattle.machine_terms.specs.declared.value.Value.{Value}
 use Rattle.machine_terms.specs.declared.value.Value.TheVariants as value
 use Rattle.machine_terms.specs.Opening.{need_on, needs_on, opening, with_points}
 use Rattle.machine_terms.specs.Pointers.{region_in as region_of}
-use Rattle.board_rules.specs.Running.{Element}
 use Rattle.board_rules.specs.Processes.{Map}
 use Rattle.regent_boards.specs.Frames as board
 use Rattle.regent_boards.specs.RegentMachine.{regent_ground}
@@ -29,7 +28,7 @@ use Rattle.order_boards.proofs.Calls.{opening_seen, values}
 use Rattle.board_terms.specs.declared.extent.Extent.{Extent}
 use Rattle.board_terms.specs.declared.operation.Operation.{Operation}
 use Rattle.board_terms.specs.States.{called_by}
-use Rattle.board_trees.specs.Frames.{FrameHasPlaces, HasEachOnce, HasFitting, HasPlaces, IsHeld, IsPlaced, IsSeen}
+use Rattle.board_trees.specs.Frames.{HasEachOnce, HasFitting, HasPlaces, IsHeld, IsPlaced, IsSeen}
 use Rattle.board_trees.specs.Names.{AreMade, IsNaming, named, pointed, requirement_named}
 use Rattle.board_trees.specs.Shows.{HoldsMap}
 use Rattle.called_trees.proofs.Opens.{all_declared, all_required, declared_on, found_all, needs_required, pointed_named, requires}

@@ -1,5 +1,5 @@
 -- Items with more behind them: what they say, and that they show.
-use Rattle.std.proofs.Common.{◌≡◌, ◌<◌, ◌+◌, ◌++◌, ◌∷◌, ◌∙◌, ℕ, suc, zero, List, [], ap, append_assoc, append-nil, arith, length, map, refl, subst, sym}
+use Rattle.std.proofs.Common.{◌≡◌, ◌+◌, ◌++◌, ◌∷◌, ◌∙◌, ℕ, suc, List, [], ap, append_assoc, append-nil, arith, length, map, refl, subst, sym}
 use Rattle.region_finder.specs.Listings.{PlacedNeed, placed}
 use Rattle.region_tree.specs.Trees.{RegionTree}
 use Rattle.region_tree.specs.declared.needs.Need.{Need}

@@ -1,7 +1,6 @@
 -- One operation more is issued: what the graph tells of it and of the others.
-use Rattle.std.proofs.Common.{◌≡◌, ◌<◌, ◌≤◌, ◌+◌, ◌-◌, inl, inr, ◌++◌, ◌∷◌, ◌∙◌, ℕ, zero, suc, Bool, List, None, Option, Some, [], ap, arith, cond, false, length, map, not, refl, subst, sym, true}
-use Rattle.std.specs.Prelude.{All, filter, nat_lt, set}
-use Rattle.std.specs.List.{Contains}
+use Rattle.std.proofs.Common.{◌≡◌, ◌<◌, ◌≤◌, ◌+◌, ◌-◌, inl, inr, ◌++◌, ◌∷◌, ◌∙◌, ℕ, zero, suc, Bool, List, None, Some, [], ap, arith, cond, false, length, map, not, refl, subst, sym, true}
+use Rattle.std.specs.Prelude.{All, filter, set}
 use Rattle.std.proofs.lemmas.Bool.{cases_eq, le-ltb, lt-ltb}
 use Rattle.std.proofs.lemmas.List.{get_or_append_left, get_or-append-add, get_or-set_other, get_or-set_same, length-append, length-set, map-append}
 use Rattle.std.proofs.lemmas.List.Elements.{All-cons, All-head, All-nil, All-tail, filter-append}
@@ -10,7 +9,6 @@ use Rattle.region_finder.specs.Listings.{Listed, inserted, listed_ops}
 use Rattle.region_tree.specs.declared.tree.OpNumber.{OpNumber}
 use Rattle.dependence_graph.specs.Entries.{Knot}
 use Rattle.dependence_graph.specs.Knots.{is_done, knot_at, no_knot, number, stage_at}
-use Rattle.dependence_graph.specs.declared.stage.Stage.{Stage}
 use Rattle.board_trees.specs.Waits.{has_ended}
 
 -- ---- knots

@@ -1,5 +1,5 @@
 -- What a give that yields a call makes of the operation in the tree: a child more, or a broken operation, as on the table.
-use Rattle.std.proofs.Common.{◌≡◌, ◌<◌, ◌++◌, ◌∷◌, ◌∙◌, ◌&&◌, ℕ, suc, zero, Bool, List, None, Option, Some, [], ap, cond, false, length, map, option_map, refl, subst, sym, true}
+use Rattle.std.proofs.Common.{◌≡◌, ◌<◌, ◌++◌, ◌∷◌, ◌∙◌, ◌&&◌, ℕ, suc, Bool, List, None, Option, Some, [], ap, cond, false, length, map, option_map, refl, subst, sym, true}
 use Rattle.std.specs.Prelude.{All, nat_le, slice_get}
 use Rattle.std.proofs.lemmas.List.Elements.{All-append, All-head, All-weaker}
 use Rattle.std.proofs.lemmas.Option.{none-some, same_Some}
@@ -24,27 +24,27 @@ use Rattle.machine_terms.specs.Segments.{frame_after, segment, stop_of}
 use Rattle.board_rules.specs.Boards.{◌+++◌, Items, Operation as Node, Stepped, Wait, at_fault, awaited, child, child_op, closing, first, given, idle, met_by, no_item, nothing, op, out, part, said}
 use Rattle.board_rules.specs.Ground.{Ground}
 use Rattle.board_rules.specs.NumberedBoards.{Board}
-use Rattle.board_rules.specs.Processes.{Effect, Map, run_all}
-use Rattle.board_rules.specs.Running.{After as BoardAfter, Call, Element, Machine, Yield as BoardYield, calls as called_by_tree, no_call, puts}
+use Rattle.board_rules.specs.Processes.{Map, run_all}
+use Rattle.board_rules.specs.Running.{After as BoardAfter, Call, Element, Machine, Yield as BoardYield, calls as called_by_tree, puts}
 use Rattle.regent_boards.specs.Frames as board
 use Rattle.regent_boards.specs.RegentMachine.{regent_ground}
 use Rattle.segment_renaming.specs.Renaming.{value_to, yield_to}
 use Rattle.segment_regions.proofs.Frames.{segments_keep_frames}
 use Rattle.code_boards.specs.Laws.{machine_of}
-use Rattle.code_boards.specs.Views.{and_all, called_with, calls_out, opening_with, required_all, spaces_of, value_out, yield_out}
+use Rattle.code_boards.specs.Views.{and_all, called_with, calls_out, opening_with, spaces_of, value_out, yield_out}
 use Rattle.order_boards.proofs.Calls.{as_many_values, values}
 use Rattle.board_terms.specs.declared.claim.Claim.{Claim}
 use Rattle.board_terms.specs.declared.operation.Activity.{Activity}
 use Rattle.board_terms.specs.declared.operation.Activity.TheVariants as activity
 use Rattle.board_terms.specs.declared.operation.Operation.{Operation}
-use Rattle.board_terms.specs.Calls.{opening_of, opens}
-use Rattle.board_terms.specs.Claims.{before_of}
+use Rattle.board_terms.specs.Calls.{opens}
+use Rattle.board_terms.specs.Claims.{before_of, frame_behind}
 use Rattle.board_terms.specs.Gives.{frame_left, with_parts}
 use Rattle.board_terms.specs.States.{State, operation_at}
 use Rattle.board_trees.specs.Frames.{HasPlaces, IsSeen}
 use Rattle.board_trees.specs.Names.{IsNaming, named, requirement_named}
 use Rattle.board_trees.specs.Places.{LeavesPlaces}
-use Rattle.board_trees.specs.Shows.{Row, Shows, ShowsBoard}
+use Rattle.board_trees.specs.Shows.{Shows, ShowsBoard}
 use Rattle.board_trees.specs.Waits.{Sibling}
 use Rattle.board_trees.proofs.Named.{is_naming, named_all}
 use Rattle.given_trees.specs.Parts.{MapShows}
@@ -57,6 +57,8 @@ use Rattle.changed_trees.specs.Changes.{IsAt}
 use Rattle.changed_trees.specs.Given.{given_of, makings_before}
 use Rattle.called_trees.proofs.Opens.{all_declared, all_required, requires, within_same}
 use Rattle.called_trees.proofs.Table as table
+use Rattle.segment_regions.specs.Values.{YieldHas}
+use Rattle.board_terms.specs.declared.operation.Wait.TheVariants as waits
 
 module _ (job : Job) (s : State) (b : Board (regent_ground (spaces_of job.code))) (h : ShowsBoard job s b) (k : ℕ) (v : List ℕ) (at : IsAt job b.ways k v)
     (within : k < length s.operations) (claim : Claim) (before : Before) (act : (operation_at s k).activity ≡ activity.Out claim before)
@@ -118,8 +120,8 @@ module _ (job : Job) (s : State) (b : Board (regent_ground (spaces_of job.code))
   pub places : LeavesPlaces s.tree a
   places = subst (λ z. LeavesPlaces s.tree (segment z)) (sym before_is) (left_places job s o shown.0.stands.1.fill seen.placed)
 
-  args_placed : (y : Yield) → y ≡ yield.Calls (c ∷ []) → Rattle.segment_regions.specs.Values.YieldHas (HasPlaces s.tree) y → All (HasPlaces s.tree) c.args
-  args_placed y e p = All-head (λ (x : CallOut). All (HasPlaces s.tree) x.args) c [] (subst (Rattle.segment_regions.specs.Values.YieldHas (HasPlaces s.tree)) e p)
+  args_placed : (y : Yield) → y ≡ yield.Calls (c ∷ []) → YieldHas (HasPlaces s.tree) y → All (HasPlaces s.tree) c.args
+  args_placed y e p = All-head (λ (x : CallOut). All (HasPlaces s.tree) x.args) c [] (subst (YieldHas (HasPlaces s.tree)) e p)
 
   pub placed : All (HasPlaces s.tree) c.args
   placed = args_placed a.ends calls places.yields
@@ -167,11 +169,11 @@ module _ (job : Job) (s : State) (b : Board (regent_ground (spaces_of job.code))
   met_depth (part q) = refl
   met_depth (child q) = refl
 
-  behind_depth : (w : _) → (Rattle.board_terms.specs.Claims.frame_behind s o w).depth ≡ o.frame.depth
-  behind_depth Rattle.board_terms.specs.declared.operation.Wait.TheVariants.Beginning = refl
-  behind_depth Rattle.board_terms.specs.declared.operation.Wait.TheVariants.Nothing = refl
-  behind_depth (Rattle.board_terms.specs.declared.operation.Wait.TheVariants.Part root field) = refl
-  behind_depth (Rattle.board_terms.specs.declared.operation.Wait.TheVariants.Child n) = refl
+  behind_depth : (w : _) → (frame_behind s o w).depth ≡ o.frame.depth
+  behind_depth waits.Beginning = refl
+  behind_depth waits.Nothing = refl
+  behind_depth (waits.Part root field) = refl
+  behind_depth (waits.Child n) = refl
 
   pub depth_is : met.depth ≡ g.depth
   depth_is = met_depth wt ∙ ap (λ (x : Frame). x.depth) (seen.frame name naming)

@@ -1,11 +1,10 @@
 -- A call that is issued leaves an open board.
-use Rattle.std.proofs.Common.{◌≡◌, ◌<◌, ◌+◌, ◌-◌, ◌++◌, ◌∷◌, ◌∙◌, ℕ, suc, zero, Bool, List, Option, Some, [], ap, append-nil, arith, false, length, map, not, refl, subst, sym, true}
+use Rattle.std.proofs.Common.{◌≡◌, ◌<◌, ◌+◌, ◌-◌, ◌++◌, ◌∷◌, ◌∙◌, ℕ, suc, Bool, List, Some, [], ap, append-nil, arith, cond, false, length, map, not, refl, subst, sym, true}
 use Rattle.std.specs.Prelude.{All, filter, slice_get}
 use Rattle.std.proofs.lemmas.List.{length-append}
 use Rattle.std.proofs.lemmas.List.Elements.{All-nil, All-weaker}
 use Rattle.plain_values.specs.Points.{counted_from}
 use Rattle.region_finder.specs.Listings.{Listed, listed_ops}
-use Rattle.region_tree.specs.Requirements.{Requirement}
 use Rattle.region_tree.specs.declared.tree.RootId.{RootId}
 use Rattle.logical_map.specs.Maps.{LogicalMap, is_live}
 use Rattle.dependence_graph.specs.Entries.{Knot}
@@ -14,7 +13,6 @@ use Rattle.dependence_graph.specs.declared.stage.Stage.TheVariants as knot
 use Rattle.task_code.specs.declared.code.TaskCode.{TaskCode}
 use Rattle.task_code.specs.declared.job.Job.{Job}
 use Rattle.machine_terms.specs.declared.frame.Before.{Before}
-use Rattle.machine_terms.specs.declared.frame.Frame.{Frame}
 use Rattle.machine_terms.specs.declared.outcome.CallOut.{CallOut}
 use Rattle.machine_terms.specs.declared.outcome.Yield.TheVariants as yield
 use Rattle.machine_terms.specs.Opening.{opening}
@@ -23,10 +21,9 @@ use Rattle.board_rules.specs.Boards.{◌+++◌, Items, Operation as Node, Wait, 
 use Rattle.board_rules.specs.Boards as tree
 use Rattle.board_rules.specs.Ground.{Ground}
 use Rattle.board_rules.specs.NumberedBoards.{Board, children_at, more_ways}
-use Rattle.board_rules.specs.Processes.{Effect, run_all}
+use Rattle.board_rules.specs.Processes.{run_all}
 use Rattle.board_rules.specs.RootNumbers.{made_among, made_in}
-use Rattle.board_rules.specs.Running.{Element, Machine, puts}
-use Rattle.regent_boards.specs.Frames as board
+use Rattle.board_rules.specs.Running.{Machine}
 use Rattle.regent_boards.specs.RegentMachine.{regent_ground}
 use Rattle.code_boards.specs.Laws.{machine_of}
 use Rattle.code_boards.specs.Views.{spaces_of}
@@ -35,7 +32,7 @@ use Rattle.board_terms.specs.declared.operation.Activity.TheVariants as activity
 use Rattle.board_terms.specs.declared.operation.Operation.{Operation}
 use Rattle.board_terms.specs.States.{State, operation_at}
 use Rattle.board_trees.specs.Names.{AreMade}
-use Rattle.board_trees.specs.Shows.{HoldsMap, Shows, ShowsBoard, needs_issued}
+use Rattle.board_trees.specs.Shows.{ShowsBoard, needs_issued}
 use Rattle.board_trees.specs.Waits.{Sibling, has_ended}
 use Rattle.given_trees.specs.Parts.{MapShows}
 use Rattle.changed_trees.specs.Changes.{IsAt, IsWider}
@@ -188,7 +185,7 @@ module _ (job : Job) (s : State) (b : Board (regent_ground (spaces_of job.code))
   long : length u.operations ≡ suc (length s.operations)
   long = size_more job s b h k v at begun caller child new_knot caller_knot entry live
 
-  starts : (q : Bool) → is_done (Some (Rattle.std.proofs.Common.cond q knot.Dropped knot.Waiting)) ≡ false
+  starts : (q : Bool) → is_done (Some (cond q knot.Dropped knot.Waiting)) ≡ false
   starts true = refl
   starts false = refl
 

@@ -1,15 +1,14 @@
 -- A call may be issued on the table exactly where it may be in the tree, and the child begins in one frame on both.
-use Rattle.std.proofs.Common.{◌≡◌, ◌<◌, ◌∷◌, ◌∙◌, ◌==◌, ◌&&◌, ◌||◌, ⊎_elim, ℕ, zero, suc, Bool, List, None, Option, Some, [], ap, cond, eq-eqb, eqb-true, false, get_or, length, map, option_map, refl, subst, sym, true, pos}
+use Rattle.std.proofs.Common.{◌≡◌, ◌<◌, ◌∷◌, ◌∙◌, ◌==◌, ◌&&◌, ⊎_elim, ℕ, zero, suc, Bool, List, None, Option, Some, [], ap, cond, eqb-true, false, get_or, length, map, option_map, refl, subst, sym, true, pos}
 use Rattle.std.specs.Prelude.{All, nat_lt, slice_get}
 use Rattle.std.specs.List.{list_all, list_any}
-use Rattle.std.proofs.lemmas.Bool.{lt-ltb, or_cases}
+use Rattle.std.proofs.lemmas.Bool.{or_cases}
 use Rattle.std.proofs.lemmas.List.{length-map}
 use Rattle.std.proofs.lemmas.List.Elements.{All-head, All-tail}
 use Rattle.std.proofs.lemmas.Option.{none-some, same_Some}
-use Rattle.region_tree.specs.Needs.{requirement_of, requirements_of}
+use Rattle.region_tree.specs.Needs.{requirements_of}
 use Rattle.region_tree.specs.Requirements.{Requirement, is_within}
-use Rattle.region_tree.specs.Entries.{TreeNode}
-use Rattle.region_tree.specs.Trees.{RegionTree, is_region, points_of_content, set_at}
+use Rattle.region_tree.specs.Trees.{RegionTree, set_at}
 use Rattle.region_tree.specs.declared.needs.Need.{Need}
 use Rattle.region_tree.specs.declared.tree.RootId.{RootId}
 use Rattle.logical_map.specs.Maps.{Column, LogicalMap, columns_of, is_live}
@@ -18,7 +17,6 @@ use Rattle.task_code.specs.declared.job.Job.{Job}
 use Rattle.machine_terms.specs.declared.value.RegionValue.{RegionValue}
 use Rattle.machine_terms.specs.declared.value.Value.{Value}
 use Rattle.machine_terms.specs.declared.value.Value.TheVariants as value
-use Rattle.machine_terms.specs.Contents.{kinds_of as root_kinds}
 use Rattle.machine_terms.specs.Opening.{need_on, needs_on, with_points}
 use Rattle.machine_terms.specs.Pointers.{region_in as region_of}
 use Rattle.board_rules.specs.Processes.{Map}

@@ -1,10 +1,9 @@
 -- A call that may not be issued breaks its operation: no child comes, and nothing else changes.
 use Rattle.board_trees.proofs.Settled.{stage_there}
-use Rattle.std.proofs.Common.{◌≡◌, ◌<◌, ◌+◌, ◌++◌, ◌∷◌, ◌∙◌, inl, ℕ, suc, zero, List, None, Option, Some, [], append-nil, ap, arith, false, length, map, refl, subst, sym, true}
+use Rattle.std.proofs.Common.{◌≡◌, ◌<◌, ◌+◌, ◌++◌, ◌∷◌, ◌∙◌, inl, ℕ, List, None, Some, [], append-nil, append_assoc, ap, arith, length, map, refl, subst, sym, true}
 use Rattle.std.specs.Prelude.{All}
 use Rattle.std.proofs.lemmas.List.Elements.{All-weaker}
 use Rattle.region_tree.specs.Requirements.{Requirement}
-use Rattle.region_tree.specs.declared.tree.OpNumber.{OpNumber}
 use Rattle.region_tree.specs.declared.tree.RootId.{RootId}
 use Rattle.logical_map.specs.Maps.{LogicalMap, columns_of, is_live}
 use Rattle.dependence_graph.specs.Entries.{Knot}
@@ -16,7 +15,7 @@ use Rattle.machine_terms.specs.declared.outcome.After.{After}
 use Rattle.machine_terms.specs.declared.outcome.CallOut.{CallOut}
 use Rattle.machine_terms.specs.declared.outcome.Yield.TheVariants as yield
 use Rattle.machine_terms.specs.Segments.{segment, stop_of}
-use Rattle.board_rules.specs.Boards.{Items, Operation as Node, Stepped, Wait, at_fault, closing, op, out}
+use Rattle.board_rules.specs.Boards.{Items, Operation as Node, Stepped, Wait, at_fault, child_count, closing, op, out}
 use Rattle.board_rules.specs.Ground.{Ground}
 use Rattle.board_rules.specs.NumberedBoards.{Board, children_at}
 use Rattle.board_rules.specs.Processes.{run_all}
@@ -32,11 +31,9 @@ use Rattle.board_terms.specs.declared.operation.Ending.TheVariants.{Broken}
 use Rattle.board_terms.specs.declared.operation.Operation.{Operation}
 use Rattle.board_terms.specs.Gives.{also_said, frame_left, with_parts}
 use Rattle.board_terms.specs.Stages.{is_over, stage_of}
-use Rattle.board_terms.specs.Stages as stages
 use Rattle.board_terms.specs.States.{State, operation_at}
-use Rattle.board_trees.specs.Names.{AreMade, IsNaming}
+use Rattle.board_trees.specs.Names.{AreMade}
 use Rattle.board_trees.specs.Shows.{Shows, ShowsBoard, ShowsChildren, needs_issued}
-use Rattle.board_trees.specs.Stages.{Stands}
 use Rattle.board_trees.specs.Waits.{Sibling}
 use Rattle.given_trees.specs.Parts.{MapShows}
 use Rattle.given_trees.proofs.Maps.{fields_same, parts_live, parts_shapes}
@@ -162,7 +159,7 @@ module _ (job : Job) (s : State) (b : Board (regent_ground (spaces_of job.code))
     effects_are : effects_of job makings (op D N i f ps (out wt d) is) ≡ puts G (K makings) y.parts
     effects_are = ap (λ (z : Stepped G (Node G)). z.effects) (node.refuses job s b h k v at within claim before act c calls earlier above D N i f ps wt d is below shown refused)
 
-    from_none : 0 + Rattle.board_rules.specs.Boards.child_count G is ≡ length o.children
+    from_none : 0 + child_count G is ≡ length o.children
     from_none = let e = many_children job o.children is (shown_match job s h.who b.ways v k 0 [] (above ++ o.frame.own) o.children is shown.1) in omega (arith, e)
 
     row : OpenRow job u h.who b.ways v k earlier wide D N y.frame [] (closing (at_fault board.broken)) js
@@ -183,7 +180,7 @@ module _ (job : Job) (s : State) (b : Board (regent_ground (spaces_of job.code))
     kids : ShowsChildren job u h.who b.ways v k 0 [] wide o.children js
     kids = text_shows job u h.who b.ways v k 0 [] wide o.children is y.text
         (children_kept job s u h.who h.who b.ways b.ways (λ w. v ≡ w) changes makings h.made h.own_made v k 0 [] (above ++ o.frame.own) wide o.children is wide_roots (node.under job s b h k v at within claim before act c calls earlier above D N i f ps wt d is below shown)
-        (λ x l z e. not_above v x z (e ∙ Rattle.std.proofs.Common.append_assoc v (x ∷ []) z)) shown.1)
+        (λ x l z e. not_above v x z (e ∙ append_assoc v (x ∷ []) z)) shown.1)
 
     opens_broken : IsOpen job u h.who b.ways v k earlier more (op D N i y.frame [] (closing (at_fault board.broken)) js)
     opens_broken = subst (λ rs. OpenRow job u h.who b.ways v k earlier rs D N y.frame [] (closing (at_fault board.broken)) js × ShowsChildren job u h.who b.ways v k 0 [] rs (operation_at u k).children js)

@@ -1,9 +1,9 @@
 -- The rows that a call leaves, and what they tell of the board.
-use Rattle.std.proofs.Common.{◌≡◌, ◌<◌, ◌≤◌, ◌+◌, ◌++◌, ◌∷◌, ◌∙◌, inl, inr, ⊎_elim, ◌⊎◌, ℕ, zero, suc, Bool, List, None, Option, Some, [], ap, arith, false, length, map, refl, subst, sym}
+use Rattle.std.proofs.Common.{◌≡◌, ◌<◌, ◌≤◌, ◌+◌, ◌++◌, ◌∷◌, ◌∙◌, inl, inr, ⊎_elim, ◌⊎◌, ℕ, zero, suc, List, Some, [], ap, arith, length, map, refl, subst, sym}
 use Rattle.std.specs.Prelude.{All, slice_get, slice_index}
 use Rattle.std.proofs.lemmas.Bool.{cases_eq, cases_lt}
 use Rattle.std.proofs.lemmas.List.{get_or_past}
-use Rattle.std.proofs.lemmas.List.Elements.{All-head, All-nil, All-tail}
+use Rattle.std.proofs.lemmas.List.Elements.{All-head, All-tail}
 use Rattle.std.proofs.lemmas.Option.{none-some}
 use Rattle.region_finder.specs.Listings.{AreRising, Listed}
 use Rattle.region_tree.specs.declared.tree.OpNumber.{OpNumber}
@@ -13,8 +13,7 @@ use Rattle.dependence_graph.specs.Entries.{Knot}
 use Rattle.dependence_graph.specs.Knots.{knot_at, number}
 use Rattle.dependence_graph.specs.declared.stage.Stage.TheVariants as knot
 use Rattle.task_code.specs.declared.job.Job.{Job}
-use Rattle.board_rules.specs.Ground.{Ground}
-use Rattle.board_rules.specs.NumberedBoards.{Board, holds_claim, way_of, without}
+use Rattle.board_rules.specs.NumberedBoards.{Board, holds_claim, without}
 use Rattle.regent_boards.specs.RegentMachine.{regent_ground}
 use Rattle.code_boards.specs.Laws.{machine_of}
 use Rattle.code_boards.specs.Views.{spaces_of}
@@ -24,8 +23,7 @@ use Rattle.board_terms.specs.States.{State, no_operation, operation_at}
 use Rattle.board_trees.specs.Shows.{Leads, ShowsBoard, is_claimed}
 use Rattle.board_trees.proofs.Claims.{claim_elsewhere, claim_gone}
 use Rattle.changed_trees.specs.Changes.{IsAt}
-use Rattle.called_trees.proofs.Changes.{called_to, row_here, row_new, row_old, speaks_of, way_below, within}
-use Rattle.called_trees.proofs.Within.{SpeaksOfIssued}
+use Rattle.called_trees.proofs.Changes.{called_to, row_here, row_new, row_old, size_more, speaks_of, within}
 
 -- ---- rising numbers, and one more behind them
 
@@ -86,7 +84,7 @@ module _ (job : Job) (s : State) (b : Board (regent_ground (spaces_of job.code))
 
   row_else : (j : ℕ) → ¬ (j ≡ k) → ¬ (j ≡ n) → operation_at u j ≡ operation_at s j
   row_else j a c = ⊎_elim (λ l. row_old job s b h k v at begun caller child new kx e live j l a)
-      (λ l. get_or_past u.operations j no_operation (omega (arith, l, c, Rattle.called_trees.proofs.Changes.size_more job s b h k v at begun caller child new kx e live)) ∙ sym (past j l)) (cases_lt j n)
+      (λ l. get_or_past u.operations j no_operation (omega (arith, l, c, size_more job s b h k v at begun caller child new kx e live)) ∙ sym (past j l)) (cases_lt j n)
 
   pub by_row : (P : ℕ → Type 0) → P k → P n → ((j : ℕ) → ¬ (j ≡ k) → ¬ (j ≡ n) → P j) → (j : ℕ) → P j
   by_row P one two others j = elim (cases_eq j k) [

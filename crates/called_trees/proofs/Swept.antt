@@ -1,5 +1,5 @@
 -- A child that is issued is dropped at once where a sibling that it would wait for has failed.
-use Rattle.std.proofs.Common.{◌≡◌, ◌++◌, ◌∷◌, ◌∙◌, ◌&&◌, ◌||◌, ℕ, zero, suc, Bool, List, [], ap, append-nil, append_assoc, cond, false, refl, sym, true}
+use Rattle.std.proofs.Common.{◌≡◌, ◌++◌, ◌∷◌, ◌∙◌, ◌&&◌, ℕ, suc, Bool, List, [], ap, append-nil, append_assoc, cond, false, refl, sym, true}
 use Rattle.region_tree.specs.Requirements.{Requirement}
 use Rattle.region_tree.specs.declared.tree.OpNumber.{OpNumber}
 use Rattle.region_tree.specs.declared.tree.RootId.{RootId}

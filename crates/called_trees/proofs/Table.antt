@@ -1,16 +1,14 @@
 -- What a give that yields a call makes of the table.
-use Rattle.std.proofs.Common.{◌≡◌, ◌<◌, ◌+◌, ◌++◌, ◌∷◌, ◌∙◌, ◌==◌, ◌&&◌, ℕ, suc, zero, Bool, List, None, Option, Some, [], ap, append-nil, cond, false, length, refl, subst, sym, true}
-use Rattle.std.specs.Prelude.{nat_le, set, slice_get}
-use Rattle.std.specs.List.{list_all}
-use Rattle.std.proofs.lemmas.List.{get_or-set_same, length-set}
+use Rattle.std.proofs.Common.{◌≡◌, ◌<◌, ◌++◌, ◌∷◌, ◌∙◌, ◌==◌, ◌&&◌, ℕ, List, None, Option, Some, [], ap, append-nil, length, refl, sym}
+use Rattle.std.specs.Prelude.{set, slice_get}
+use Rattle.std.proofs.lemmas.List.{get_or-set_same, length-set, set-get_or}
 use Rattle.region_tree.specs.declared.tree.OpNumber.{OpNumber}
 use Rattle.region_finder.specs.Listings.{Listed, earlier, listed}
 use Rattle.dependence_graph.specs.Entries.{Knot}
 use Rattle.dependence_graph.specs.Graphs.{knot_on}
-use Rattle.dependence_graph.specs.Knots.{knot_at, number}
+use Rattle.dependence_graph.specs.Knots.{knot_at, no_knot, number}
 use Rattle.dependence_graph.specs.declared.stage.Stage.TheVariants as knot
 use Rattle.task_code.specs.declared.code.NeedCode.{NeedCode}
-use Rattle.task_code.specs.declared.code.TaskCode.{TaskCode}
 use Rattle.task_code.specs.declared.job.Job.{Job}
 use Rattle.machine_terms.specs.declared.frame.Before.{Before}
 use Rattle.machine_terms.specs.declared.frame.Frame.{Frame}
@@ -20,16 +18,15 @@ use Rattle.machine_terms.specs.declared.outcome.Yield.TheVariants as yield
 use Rattle.machine_terms.specs.declared.value.RegionValue.{RegionValue}
 use Rattle.machine_terms.specs.declared.value.Value.{Value}
 use Rattle.machine_terms.specs.Pointers.{region_in as region_of}
-use Rattle.machine_terms.specs.Segments.{frame_after, segment, stop_of}
+use Rattle.machine_terms.specs.Segments.{segment}
 use Rattle.board_rules.specs.NumberedBoards.{Board}
 use Rattle.regent_boards.specs.RegentMachine.{regent_ground}
 use Rattle.code_boards.specs.Views.{spaces_of}
-use Rattle.board_terms.specs.declared.operation.Activity.{Activity}
 use Rattle.board_terms.specs.declared.operation.Activity.TheVariants as activity
 use Rattle.board_terms.specs.declared.operation.Ending.TheVariants.{Broken}
 use Rattle.board_terms.specs.declared.operation.Operation.{Operation}
 use Rattle.board_terms.specs.declared.operation.Wait.TheVariants as wait
-use Rattle.board_terms.specs.Calls.{are_declared, called_in, first_opens, frames_before, has_field, opening_of, opens}
+use Rattle.board_terms.specs.Calls.{are_declared, called, called_in, first_opens, has_field, opens}
 use Rattle.board_terms.specs.Gives.{behind_segment, parts_given, with_parts, yielded}
 use Rattle.board_terms.specs.States.{State, called_by, no_operation, operation_at, with_operation}
 use Rattle.board_facts.proofs.Lists.{set_twice}
@@ -83,7 +80,7 @@ module _ (job : Job) (s : State) (k : ℕ) (within : k < length s.operations) (b
   yielded_is : yielded_by job s k before ≡ by_opening opened
   yielded_is =
       ap (yielded job.code job.turns (with_operation s k (behind_segment o a)) k) calls
-      ∙ ap (λ t. Rattle.board_terms.specs.Calls.called job.code job.turns t k (c ∷ [])) given_is
+      ∙ ap (λ t. called job.code job.turns t k (c ∷ [])) given_is
       ∙ ap (λ r. called_in given k (first_opens (opens job.code job.turns given r c (slice_get job.code.tasks c.task)) [])
       (length (first_opens (opens job.code job.turns given r c (slice_get job.code.tasks c.task)) []) == 1)) given_row
 
@@ -104,7 +101,7 @@ module _ (job : Job) (s : State) (k : ℕ) (within : k < length s.operations) (b
         operations = set s.operations k broken;
         map = with_parts a.parts s.map;
         waits = record { knots = ks; listing = s.waits.listing };
-      }) (sym (Rattle.std.proofs.lemmas.List.set-get_or s.waits.knots k Rattle.dependence_graph.specs.Knots.no_knot))
+      }) (sym (set-get_or s.waits.knots k no_knot))
 
   -- ---- the call is issued
 

@@ -323,6 +323,13 @@ abbrev pub is_index_term : TypeTerm → Bool
 is_index_term (term.Number (number.Index k)) = true
 is_index_term t = false
 
+abbrev pub is_space_term : TypeTerm → Bool
+is_space_term (term.Ispace k) = true
+is_space_term t = false
+
+abbrev pub is_index_or_space : TypeTerm → Bool
+is_index_or_space t = is_index_term t || is_space_term t
+
 abbrev pub is_pointer_term : TypeTerm → Bool
 is_pointer_term (term.Pointer p) = true
 is_pointer_term t = false
@@ -338,10 +345,10 @@ is_local_field p = is_scalar_term p.term || (is_index_term p.term || is_pointer_
 abbrev pub are_local_fields : List Param → Bool
 are_local_fields ps = list_all is_local_field ps
 
--- parameters that are numbers, truths and regions, or indices of whose names this is known
+-- parameters that are numbers, truths and regions, or indices and index spaces of whose names this is known
 abbrev pub is_local_param : Marked → Param → Bool
 is_local_param m p =
-    is_scalar_term p.term || (is_region_term p.term || (is_index_term p.term && (m.keeps && is_among m.indices p.name)))
+    is_scalar_term p.term || (is_region_term p.term || (is_index_or_space p.term && (m.keeps && is_among m.indices p.name)))
 
 abbrev pub are_local_params : Marked → List Param → Bool
 are_local_params m ps = list_all (is_local_param m) ps
@@ -363,9 +370,9 @@ abbrev pub marked_by_items : Tree → Marked → Marked
 marked_by_items [] m = m
 marked_by_items (i ∷ is) m = marked_by_items is (marked_by_item i.form m)
 
--- the names of parameters that are regions and indices, beside those that are marked before them
+-- the names of parameters that are regions, indices and index spaces, beside those that are marked before them
 abbrev pub marked_param : Param → Marked → Marked
-marked_param p m = cond (is_region_term p.term) (with_region p.name m) (cond (is_index_term p.term) (with_index p.name m) m)
+marked_param p m = cond (is_region_term p.term) (with_region p.name m) (cond (is_index_or_space p.term) (with_index p.name m) m)
 
 abbrev pub marked_params : List Param → Marked → Marked
 marked_params [] m = m

@@ -11,7 +11,7 @@ use scalar_form::is_scalar_term;
 use std::alloc::AllocError;
 
 /// Whether a type is an index's.
-pub fn is_index_term(term: &TypeTerm) -> bool
+fn is_index_term(term: &TypeTerm) -> bool
     ensures { result ≡ is_index_term term.now }
 {
     match term {

@@ -1,12 +1,11 @@
 -- An open board, where one row changed and no child came.
-use Rattle.std.proofs.Common.{◌≡◌, ◌<◌, ◌+◌, ◌-◌, ◌++◌, ◌∷◌, ◌∙◌, ℕ, suc, zero, Bool, List, Option, Some, [], ap, append-nil, arith, false, length, map, not, refl, set, subst, sym, true}
+use Rattle.std.proofs.Common.{◌≡◌, ◌<◌, ◌+◌, ◌-◌, ◌++◌, ◌∷◌, ◌∙◌, ℕ, List, [], ap, append-nil, arith, false, length, map, not, refl, subst, sym, true}
 use Rattle.std.specs.Prelude.{All, filter, slice_get}
 use Rattle.std.proofs.lemmas.List.{length-set}
 use Rattle.std.proofs.lemmas.List.Elements.{All-nil}
 use Rattle.plain_values.specs.Points.{counted_from}
 use Rattle.region_finder.specs.Listings.{AreRising}
 use Rattle.region_tree.specs.Trees.{RegionTree, node_at}
-use Rattle.region_tree.specs.declared.tree.OpNumber.{OpNumber}
 use Rattle.region_tree.specs.declared.tree.RootId.{RootId}
 use Rattle.logical_map.specs.Maps.{LogicalMap, columns_of, is_live}
 use Rattle.dependence_graph.specs.Entries.{Knot}

@@ -1,5 +1,5 @@
 -- The operation that is out stands at its way, and what is asked of it is asked of one that is out.
-use Rattle.std.proofs.Common.{◌≡◌, ◌<◌, ◌++◌, ◌∷◌, ◌∙◌, ⊎_elim, ℕ, suc, zero, List, Option, [], ap, length, refl, subst, sym}
+use Rattle.std.proofs.Common.{◌≡◌, ◌<◌, ◌++◌, ◌∷◌, ⊎_elim, ℕ, suc, zero, List, [], length, refl, subst, sym}
 use Rattle.std.specs.Prelude.{All}
 use Rattle.std.proofs.lemmas.List.Elements.{All-nil}
 use Rattle.region_tree.specs.Requirements.{Requirement}

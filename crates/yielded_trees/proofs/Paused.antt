@@ -1,12 +1,11 @@
 -- An operation that goes on waiting, behind its segment: for a part, for a child, or for nothing.
-use Rattle.std.proofs.Common.{◌≡◌, ◌<◌, ◌+◌, ◌-◌, ◌++◌, ◌∷◌, ◌∙◌, ℕ, suc, zero, Bool, List, None, Option, Some, [], ap, append-nil, append_assoc, arith, cond, false, inr, length, map, not, refl, set, subst, sym, true}
-use Rattle.std.specs.Prelude.{All, filter}
+use Rattle.std.proofs.Common.{◌≡◌, ◌<◌, ◌+◌, ◌++◌, ◌∷◌, ◌∙◌, ℕ, Bool, List, Some, [], ap, append_assoc, arith, cond, false, inr, length, map, refl, subst, sym, true}
+use Rattle.std.specs.Prelude.{All}
 use Rattle.std.proofs.lemmas.List.Elements.{All-append}
 use Rattle.region_tree.specs.Requirements.{Requirement}
-use Rattle.region_tree.specs.declared.piece.Part.{Part}
 use Rattle.region_tree.specs.declared.tree.OpNumber.{OpNumber}
 use Rattle.region_tree.specs.declared.tree.RootId.{RootId}
-use Rattle.logical_map.specs.Maps.{LogicalMap, columns_of, is_live}
+use Rattle.logical_map.specs.Maps.{is_live}
 use Rattle.dependence_graph.specs.Entries.{Knot}
 use Rattle.dependence_graph.specs.Graphs.{knot_on}
 use Rattle.dependence_graph.specs.Knots.{has_failed, is_done, knot_at, some_failed, stage_at}
@@ -20,7 +19,7 @@ use Rattle.board_rules.specs.Boards.{Items, Operation as Node, Stage as BoardSta
 use Rattle.board_rules.specs.Boards as tree
 use Rattle.board_rules.specs.Ground.{Ground}
 use Rattle.board_rules.specs.NumberedBoards.{Board, children_at}
-use Rattle.board_rules.specs.Processes.{Effect, run_all}
+use Rattle.board_rules.specs.Processes.{run_all}
 use Rattle.board_rules.specs.RootNumbers.{made_in}
 use Rattle.board_rules.specs.Running.{After as BoardAfter, Element, Machine}
 use Rattle.regent_boards.specs.Frames as board
@@ -34,12 +33,11 @@ use Rattle.board_terms.specs.declared.operation.Operation.{Operation}
 use Rattle.board_terms.specs.declared.operation.Wait.{Wait}
 use Rattle.board_terms.specs.Gives.{also_said, behind_segment, frame_left}
 use Rattle.board_terms.specs.Stages.{is_over, stage_of}
-use Rattle.board_terms.specs.Stages as table
 use Rattle.board_terms.specs.States.{State, operation_at}
 use Rattle.board_trees.specs.Frames.{IsSeen}
 use Rattle.board_trees.specs.Names.{AreMade, IsNaming}
 use Rattle.board_trees.specs.Places.{LeavesPlaces}
-use Rattle.board_trees.specs.Shows.{HoldsMap, IfRuns, Shows, ShowsBoard, ShowsChildren, is_claimed, needs_issued, said_in, siblings}
+use Rattle.board_trees.specs.Shows.{HoldsMap, IfRuns, Shows, ShowsBoard, ShowsChildren, siblings}
 use Rattle.board_trees.specs.Stages.{AwaitsOn, HasWait, IsWait, MayIdle, Stands, WaitsWell}
 use Rattle.board_trees.specs.Waits.{Sibling}
 use Rattle.board_trees.proofs.Along.{not_above}
@@ -48,20 +46,20 @@ use Rattle.given_trees.specs.Segments.{AreLeft}
 use Rattle.given_trees.proofs.Left.{left_held, left_places, left_seen}
 use Rattle.given_trees.proofs.Segments.{segments_show}
 use Rattle.changed_trees.specs.Changes.{Change, IsAt, IsWider}
-use Rattle.changed_trees.specs.Edits.{edited, told_at, up}
+use Rattle.changed_trees.specs.Edits.{edited, told_at}
 use Rattle.changed_trees.specs.Given.{Opens, effects_of, given_board, left_of, makings_before, yielded_by}
 use Rattle.changed_trees.specs.Open.{Asked, IsOpen, OpenBoard, OpenRow}
 use Rattle.changed_trees.proofs.Below.{children_kept}
 use Rattle.changed_trees.proofs.Kept.{awaits_kept, back, has_wait_kept, seen_kept, shown_match, wider_itself, wider_on}
 use Rattle.changed_trees.proofs.One.{IsOngoing, knot_is, knot_within, one_changed, row_is, some_failed_same}
 use Rattle.changed_trees.proofs.Walks.{OfAll, told_is, up_alike}
-use Rattle.yielded_trees.proofs.Builder.{OpenHere, change, left, opens, own_apart_same, own_made_same, own_same}
+use Rattle.yielded_trees.proofs.Builder.{change, opens, own_apart_same, own_made_same, own_same}
 use Rattle.yielded_trees.proofs.Found.{Here, by_out, found_at, here_at}
 use Rattle.yielded_trees.proofs.Trees.{many_children, paused_needs, paused_of, restop, settle_restop, shown_swept, text_count, text_made, text_said, text_shows, text_siblings, text_swept, text_waits, with_text}
 
 -- ---- what is seen of one is seen of another with its frame and parts
 
-seen_as : (job : Job) (s : State) (who : ℕ → ℕ) (roots : List RootId) (o q : Operation) (N : List Requirement) (f : board.Frame) (ps : List (Element (regent_ground (spaces_of job.code)))) →
+pub seen_as : (job : Job) (s : State) (who : ℕ → ℕ) (roots : List RootId) (o q : Operation) (N : List Requirement) (f : board.Frame) (ps : List (Element (regent_ground (spaces_of job.code)))) →
     IsSeen job.code s.tree s.map s.roots who roots o N f ps → IsSeen job.code s.tree s.map s.roots who roots (record q { frame = o.frame; parts = o.parts }) N f ps
 seen_as job s who roots o q N f ps h = record {
   frame = h.frame;
@@ -129,7 +127,7 @@ module _ (job : Job) (s : State) (b : Board (regent_ground (spaces_of job.code))
       pub there : k < length s.waits.knots
       pub stage : (knot_at s.waits.knots k).stage ≡ knot.Begun
 
-    begun : Begun
+    pub begun : Begun
     begun =
         let f = found_at job s h.who b.ways (Here job s b h k v at claim before act) v [] 0 [] [] b.state.tree (here_at job s b h k v at claim before act) in
         by_out job s b h k v at claim before act (λ w j earlier above n. Begun)

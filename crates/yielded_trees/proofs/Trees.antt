@@ -1,5 +1,5 @@
 -- What a segment makes of its operation in the tree, and how that is settled.
-use Rattle.std.proofs.Common.{◌≡◌, ◌+◌, ◌++◌, ◌∷◌, ◌∙◌, ◌||◌, ◌&&◌, ℕ, suc, zero, Bool, List, None, Option, Some, [], ap, arith, cond, false, length, refl, sym, true}
+use Rattle.std.proofs.Common.{◌≡◌, ◌+◌, ◌++◌, ◌∷◌, ◌∙◌, ◌||◌, ◌&&◌, ℕ, suc, zero, Bool, List, [], ap, arith, cond, false, length, refl, sym, true}
 use Rattle.region_tree.specs.Requirements.{Requirement}
 use Rattle.region_tree.specs.declared.tree.OpNumber.{OpNumber}
 use Rattle.region_tree.specs.declared.tree.RootId.{RootId}
@@ -7,9 +7,8 @@ use Rattle.task_code.specs.declared.job.Job.{Job}
 use Rattle.board_rules.specs.Boards.{Items, Operation as Node, Stage as BoardStage, Wait as BoardWait, ◌+++◌, child, child_count, child_op, closing, dropped, filling, first, idle, no_item, nothing, op, out, over, part, said, stopped}
 use Rattle.board_rules.specs.Boards as tree
 use Rattle.board_rules.specs.Ground.{Ground}
-use Rattle.board_rules.specs.NumberedBoards.{children_at}
 use Rattle.board_rules.specs.RootNumbers.{made_among, made_in}
-use Rattle.board_rules.specs.Running.{After, Element, Machine, Yield, await, calls, ends, make, no_call, stops, want}
+use Rattle.board_rules.specs.Running.{Element, Machine, Yield, await, calls, ends, make, no_call, stops, want}
 use Rattle.regent_boards.specs.Frames as board
 use Rattle.regent_boards.specs.RegentMachine.{regent_ground}
 use Rattle.code_boards.specs.Laws.{machine_of}
@@ -20,7 +19,7 @@ use Rattle.board_terms.specs.States.{State}
 use Rattle.board_trees.specs.Shows.{Shows, ShowsChildren, needs_issued, printed, said_in, siblings}
 use Rattle.board_trees.specs.Waits.{Sibling}
 use Rattle.board_trees.proofs.Settled.{settled}
-use Rattle.changed_trees.specs.Given.{given_of, left_of}
+use Rattle.changed_trees.specs.Given.{left_of}
 use Rattle.changed_trees.proofs.Kept.{Matches}
 
 module _ (job : Job) where

@@ -1,7 +1,6 @@
 -- What a yield leaves: a want, a wait for a child, a root or a partition that is made.
 use Rattle.std.specs.Prelude.{◌≡◌, ℕ}
 use Rattle.region_tree.specs.declared.tree.RootId.{RootId}
-use Rattle.machine_terms.specs.declared.outcome.Made.{Made}
 use Rattle.machine_terms.specs.declared.outcome.Yield.{Yield}
 use Rattle.machine_terms.specs.declared.outcome.Yield.TheVariants as yield
 use Rattle.changed_trees.specs.Given.{YieldsOpen}
