@@ -73,7 +73,7 @@ module _ (job : Job) (s : State) (b : Board (regent_ground (spaces_of job.code))
     call_opens = by_opening (table.opened job s k known.within before c calls) refl
       where
         by_opening : (q : Option Frame) → table.opened job s k known.within before c calls ≡ q → Opens job b k v s before
-        by_opening None e = refused_opens job s b h k v at known.within claim before act c calls known.begun goes (known.own goes) e
+        by_opening None e = refused_opens job s b h k v at known.within claim before act c calls goes (known.own goes) e
         by_opening (Some x) e =
             let z = called x e in
             issued_opens job s b h k v at known.within claim before act c calls known.begun z.task z.found goes (known.own goes) (e ∙ ap Some z.frame_is)

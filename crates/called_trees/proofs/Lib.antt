@@ -8,7 +8,6 @@ pub mod Table
 pub mod Grown
 pub mod Node
 pub mod Rows
-pub mod Reached
 pub mod Called
 pub mod Opened
 pub mod Refused

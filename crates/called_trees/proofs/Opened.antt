@@ -50,7 +50,7 @@ use Rattle.called_trees.proofs.Changes.{size_more}
 use Rattle.called_trees.proofs.Grown.{count_more}
 use Rattle.called_trees.proofs.Issued.{length_more, listed_more}
 use Rattle.called_trees.proofs.Node as node
-use Rattle.called_trees.proofs.Reached.{children_are, told_holds}
+use Rattle.ended_trees.proofs.Reached.{children_are, told_holds}
 use Rattle.called_trees.proofs.Rows.{claims, leads, own_apart, own_made, own_same, rising}
 use Rattle.called_trees.proofs.Swept.{swept}
 use Rattle.called_trees.proofs.Table as table
