@@ -115,13 +115,16 @@ module _ (extents : List Extent) (who : ℕ → ℕ) (makings : ℕ) (made : Are
             ap name (sym same) ∙ All-head (λ (r : RootId). name r.0 ≡ name_of extents who r.0) r roots h ∙ ap (name_of extents who) same
         chosen false q more e = more e
 
-    pub one_name : (R : ℕ) (roots : List RootId) → WereMade roots → ((name : ℕ → ℕ) → IsNaming extents who roots name → name one ≡ R) → R ≡ name_of extents who one
-    one_name R roots h says = chosen (list_any (λ (r : RootId). r.0 == one) roots) refl
+    -- the operation or its callers made it
+    pub one_there : (R : ℕ) (roots : List RootId) → WereMade roots → ((name : ℕ → ℕ) → IsNaming extents who roots name → name one ≡ R) →
+        list_any (λ (r : RootId). r.0 == one) roots ≡ true
+    one_there R roots h says = chosen (list_any (λ (r : RootId). r.0 == one) roots) refl
       where
-        plain : named_all 1 one ≡ R
-        plain = says (named_all 1) (is_naming 1 roots h)
-
-        chosen : (b : Bool) → list_any (λ (r : RootId). r.0 == one) roots ≡ b → R ≡ name_of extents who one
-        chosen true e = sym plain ∙ known_there (named_all 1) roots (is_naming 1 roots h).known e
-        chosen false e = absurd (other_who one (sym (who_is 1 one) ∙ ap who_of (plain ∙ sym (says named_but (but_naming roots h e)))
+        chosen : (b : Bool) → list_any (λ (r : RootId). r.0 == one) roots ≡ b → list_any (λ (r : RootId). r.0 == one) roots ≡ true
+        chosen true e = e
+        chosen false e = absurd (other_who one (sym (who_is 1 one) ∙ ap who_of (says (named_all 1) (is_naming 1 roots h) ∙ sym (says named_but (but_naming roots h e)))
             ∙ but_is one ∙ ap (λ b. cond b makings (who_named 1 one)) (eq-eqb one one refl)))
+
+    pub one_name : (R : ℕ) (roots : List RootId) → WereMade roots → ((name : ℕ → ℕ) → IsNaming extents who roots name → name one ≡ R) → R ≡ name_of extents who one
+    one_name R roots h says =
+        sym (says (named_all 1) (is_naming 1 roots h)) ∙ known_there (named_all 1) roots (is_naming 1 roots h).known (one_there R roots h says)

@@ -159,7 +159,7 @@ module _ (job : Job) where
       off true b h = h refl
       off false b h = refl
 
-      unmet : (bad : List (List Requirement)) (way : List ℕ) (k : ℕ) (earlier : List Sibling) (above : List RootId) (n : Node G) → Shows job s who ways way k earlier above n →
+      pub unmet : (bad : List (List Requirement)) (way : List ℕ) (k : ℕ) (earlier : List Sibling) (above : List RootId) (n : Node G) → Shows job s who ways way k earlier above n →
           ((Q : List Requirement) → tree.meets_any G M bad Q ≡ some_bad s.waits.knots Q earlier) →
           tree.is_waiting G (tree.stage_of G n) ≡ true → tree.meets_any G M bad (tree.needs_of G n) ≡ false
       unmet bad way k earlier above (op D N i f ps (idle first) is) h tells e =
@@ -173,10 +173,10 @@ module _ (job : Job) where
       unmet bad way k earlier above (op D N i f ps (over x) is) h tells e = absurd cc
       unmet bad way k earlier above (op D N i f ps dropped is) h tells e = absurd cc
 
-      abbrev worse : Node G → List (List Requirement) → List (List Requirement)
+      abbrev pub worse : Node G → List (List Requirement) → List (List Requirement)
       worse n bad = cond (tree.has_failed G (tree.stage_of G n)) (tree.needs_of G n ∷ bad) bad
 
-      worse_tells : (bad : List (List Requirement)) (earlier : List Sibling) (k : ℕ) (n : Node G) → NodeTold k n → (Q : List Requirement) →
+      pub worse_tells : (bad : List (List Requirement)) (earlier : List Sibling) (k : ℕ) (n : Node G) → NodeTold k n → (Q : List Requirement) →
           tree.meets_any G M bad Q ≡ some_bad s.waits.knots Q earlier →
           tree.meets_any G M (worse n bad) Q ≡ some_bad s.waits.knots Q (earlier ++ record { op = k; needs = needs_issued job n } ∷ [])
       worse_tells bad earlier k n t Q e =
@@ -190,9 +190,9 @@ module _ (job : Job) where
           by_failed true = refl
           by_failed false = refl
 
-      swept_child : (bad : List (List Requirement)) (n : Node G) (is : Items G) → (tree.is_waiting G (tree.stage_of G n) ≡ true → tree.meets_any G M bad (tree.needs_of G n) ≡ false) →
-          tree.sweep G M (worse n bad) is ≡ is → tree.sweep G M bad (child_op n is) ≡ child_op n is
-      swept_child bad n is h e =
+      pub swept_child : (bad : List (List Requirement)) (n : Node G) (is js : Items G) → (tree.is_waiting G (tree.stage_of G n) ≡ true → tree.meets_any G M bad (tree.needs_of G n) ≡ false) →
+          tree.sweep G M (worse n bad) is ≡ js → tree.sweep G M bad (child_op n is) ≡ child_op n js
+      swept_child bad n is js h e =
           ap (λ b. cond b (child_op (tree.as_dropped G M n) (tree.sweep G M (tree.needs_of G n ∷ bad) is)) (child_op n (tree.sweep G M (worse n bad) is)))
           (off (tree.is_waiting G (tree.stage_of G n)) (tree.meets_any G M bad (tree.needs_of G n)) h)
           ∙ ap (λ y. child_op n y) e
@@ -204,7 +204,7 @@ module _ (job : Job) where
       nothing_dropped bad way j c earlier roots ks (said t is) h tells = ap (λ y. said t y) (nothing_dropped bad way j c earlier roots ks is h tells)
       nothing_dropped bad way j c earlier roots [] (child_op n is) h tells = absurd h
       nothing_dropped bad way j c earlier roots (k ∷ ks) (child_op n is) h tells =
-          swept_child bad n is (unmet bad (way ++ c ∷ []) k.0 earlier roots n h.1 tells)
+          swept_child bad n is is (unmet bad (way ++ c ∷ []) k.0 earlier roots n h.1 tells)
           (nothing_dropped (worse n bad) way j (suc c) (earlier ++ record { op = k.0; needs = needs_issued job n } ∷ []) roots ks is h.2
           (λ Q. worse_tells bad earlier k.0 n (node_told (way ++ c ∷ []) k.0 earlier roots n h.1) Q (tells Q)))
 

@@ -4,8 +4,14 @@
 #![tactic(auto)]
 
 ghost use Rattle.changed_trees.specs.Changes.{ChangesKeep};
+ghost use Rattle.changed_trees.specs.Listed.{WaitsAreListed};
 
 /// An operation that shows, and all below it, show again where nothing changes there.
 pub fn changes_keep()
     ensures { ChangesKeep }
+{}
+
+/// The listed operations of an operation's context that interfere with needs are its children that do and haven't ended.
+pub fn waits_are_listed()
+    ensures { WaitsAreListed }
 {}

@@ -16,7 +16,7 @@ use Rattle.regent_tree.specs.declared.typing.StaticType.TheVariants.{Index as in
 use Rattle.code_rules.specs.Instructions.{converted_code}
 use Rattle.code_rules.specs.Pieces.{empty}
 use Rattle.code_rules.specs.Slots.{Where, bound, typed}
-use Rattle.code_laws.specs.Pointers.{FitsInto, GoesInto, fills_alike, fills_index, into_index, into_plain}
+use Rattle.code_laws.specs.Pointers.{FitsInto, GoesInto, fills_alike, fills_index, into_index, into_plain, into_space}
 use Rattle.code_laws.specs.Simple.{AreAlike, AreRegions, IsPartition, IsRegion, a_partition_type, a_region_type, two_integers, two_regions, two_truths, number_index, number_integer}
 use Rattle.code_laws.specs.Steps.{Taking}
 use Rattle.code_laws.specs.Arguments.{IsCutName, IsHanded, IsHandedPart, name_of, parent_bound, part_of}
@@ -89,12 +89,13 @@ no_both (null_expr _) n p a b = absurd (none-some n a)
 no_both (cast_expr _ _) n p a b = absurd (none-some n a)
 no_both (space_expr _ _) n p a b = absurd (none-some n a)
 
--- what goes into something is a number, a truth, an index or a pointer
+-- what goes into something is a number, a truth, an index, a pointer or an index space
 abbrev IsGoing : StaticType → Type 0
 IsGoing (integer_type w) = Unit {0}
 IsGoing truth_type = Unit {0}
 IsGoing (index_type k) = Unit {0}
 IsGoing (pointer_type k sp args rs) = Unit {0}
+IsGoing (ispace_type k) = Unit {0}
 IsGoing t = ⊥
 
 goes_as : (t u : StaticType) → GoesInto t u → IsGoing t
@@ -103,6 +104,7 @@ goes_as _ _ (into_plain _ _ (fills_alike _ _ two_truths)) = tt
 goes_as _ _ (into_plain _ _ (fills_index _ k (number_integer w))) = tt
 goes_as _ _ (into_plain _ _ (fills_index _ k (number_index j))) = tt
 goes_as _ _ (into_index k sp args rs j) = tt
+goes_as _ _ (into_space j k) = tt
 
 -- so a part of a partition goes into nothing
 child_other : (t u : StaticType) (r : Term) → GoesInto (child_type t r) u → ⊥
@@ -182,6 +184,7 @@ goes_other _ _ (into_plain t u (fills_alike _ _ a)) = alike_other t u a
 goes_other _ _ (into_plain _ _ (fills_index _ k (number_integer w))) = tt
 goes_other _ _ (into_plain _ _ (fills_index _ k (number_index j))) = tt
 goes_other _ _ (into_index k sp args rs j) = tt
+goes_other _ _ (into_space j k) = tt
 
 pub region_other : (t : StaticType) → IsRegion t → IsNoRegion t → ⊥
 region_other _ (a_region_type k sp args r) h = absurd h

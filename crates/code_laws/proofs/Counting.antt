@@ -27,9 +27,9 @@ use Rattle.machine_terms.specs.Pointers.{point}
 use Rattle.code_rules.specs.Instructions.{as_number_code, converted_code, one, operating, standing_code}
 use Rattle.code_rules.specs.Pieces.{op, past}
 use Rattle.value_laws.specs.Shapes.{IsPosition}
-use Rattle.code_laws.specs.Pointers.{GoesInto, IsCounting, IsNumberTerm, counts_number, counts_pointer, fills_alike, fills_index, into_index, into_plain, term_index, term_integer}
+use Rattle.code_laws.specs.Pointers.{GoesInto, IsCounting, IsNumberTerm, counts_number, counts_pointer, fills_alike, fills_index, into_index, into_plain, into_space, term_index, term_integer}
 use Rattle.code_laws.specs.Simple.{number_index, number_integer}
-use Rattle.code_laws.specs.Standing.{Agrees, Aside, Comes, IsOf, SlotsFit, Stands, machine_value, of_index, of_integer, of_pointer, where_of}
+use Rattle.code_laws.specs.Standing.{Agrees, Aside, Comes, IsOf, SlotsFit, Stands, machine_value, of_index, of_integer, of_pointer, of_space, where_of}
 use Rattle.code_laws.specs.Steps.{Setting, machine_of, on_step, placed}
 use Rattle.code_laws.proofs.Accesses.{index_fits, kept_round}
 use Rattle.code_laws.proofs.Good.{Gives, Good, pushes, valued}
@@ -124,3 +124,4 @@ module _ (x : Setting) (params slots : ℕ) (fit : SlotsFit x slots) (aside : As
       point_runs h j 0 null_target regions s pc st i tt g f
   into_runs h _ _ rs _ s pc st i (into_index k sp args qs j) (of_pointer _ _ _ _ (point_target n m) regions p) g f =
       point_runs h j _ (point_target n m) regions s pc st i p g f
+  into_runs h _ _ rs _ s pc st i (into_space j k) (of_space _ n p) g f = (i, leads_none x _, (of_space k n p, g))

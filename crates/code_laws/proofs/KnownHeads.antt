@@ -35,10 +35,14 @@ use Rattle.code_laws.specs.Simple.{IsRegion, a_region_type, term_in}
 use Rattle.code_laws.specs.Typed.{MayGo, MayReach}
 use Rattle.regent_tree.specs.declared.typing.Bound.{Bound}
 use Rattle.regent_tree.specs.declared.typing.StaticType.TheVariants.{Partition as partition_type}
-use Rattle.code_laws.proofs.LocalValues.{AreAmong, found_among, none_wild, value_other}
+use Rattle.statement_laws.specs.Steady.{ArePlaced}
+use Rattle.value_laws.specs.Spaces.{AreSpaced}
+use Rattle.code_laws.proofs.LocalFields.{FieldMarks}
+use Rattle.code_laws.proofs.LocalValues.{AreAmong, found_among, value_other}
 use Rattle.code_laws.specs.Taking.{MayDo, pairs_in}
 use Rattle.code_laws.proofs.DeclaredNeeds.{none_made, none_within, pair_listed, region_param}
-use Rattle.code_laws.proofs.LocalNames.{AllKept, IsAimed, IsKept, kept_partition, kept_region, kept_scalar, kept_value, region_of_number}
+use Rattle.code_laws.proofs.LocalNames.{AllKept, IsKept, kept_partition, kept_region, kept_scalar, kept_value, region_of_number}
+use Rattle.code_laws.proofs.LocalPlaces.{IsAimed}
 use Rattle.code_laws.proofs.Privileges.{allowed_is_needed, mode_in}
 use Rattle.code_laws.proofs.LocalTypes.{simple_other}
 use Rattle.code_laws.proofs.Values.{scalar_simple}
@@ -66,11 +70,17 @@ IsToldHere s (Made i) = Unit {0}
 
 -- At a place of a task's body nothing is known but what its head tells of its parameters, which regions were made behind
 -- them, and of which regions partitions are. Names that are bound there are behind them too.
-pub record KnowsHead (tree : Tree) (task : TaskTree) (s : Scope) : Type 0 where
+pub record KnowsFacts (tree : Tree) (task : TaskTree) (s : Scope) : Type 0 where
   pub within : (a b : Term) → Contains s.known (Within a b) → IsPair tree task a b
   pub made : (i : ℕ) → Contains s.known (Made i) → length task.params ≤ i
   pub parts : (k : Known) → Has s.known k → IsToldHere s k
   pub next : length task.params ≤ s.next
+
+-- Also the types of all names there have arguments as their field spaces declare, and each name has its place.
+pub record KnowsHead (tree : Tree) (task : TaskTree) (s : Scope) : Type 0 where
+  pub facts : KnowsFacts tree task s
+  pub spaced : AreSpaced tree s.names
+  pub placed : ArePlaced s.names
 
 abbrev number_in : Term → ℕ
 number_in (place.Name i) = i
@@ -79,10 +89,10 @@ number_in (place.Child p c) = 0
 pub known_behind : (tree : Tree) (task : TaskTree) (s : Scope) → KnowsHead tree task s → IsKnownBehind tree task s.known
 known_behind tree task s h = record {
   within = λ i b low c.
-      let p = h.within (place.Name i) b c in
+      let p = h.facts.within (place.Name i) b c in
       let same : p.lower ≡ i = sym (ap number_in p.is_lower) in
       (p.upper, p.is_upper, p.high, subst (λ k. Contains (pairs_in (scope_of tree task).known) (k, p.upper)) same p.among);
-  made = h.made;
+  made = h.facts.made;
 }
 
 -- what the rules allow of a region with a number may be done with it
@@ -113,21 +123,21 @@ granted_at tree task s _ e f a (a_region_type k sp args r) there lacking =
 
 -- so of each region that a pointer may go to
 reach_may : (handing keeping : Bool) (task : TaskTree) (w : Where) → IsSoundTask w.tree task → KnowsHead w.tree task w.scope → Falls w.scope.next w.scope.names →
-    (field : ℕ) (a : Access) (rs : List Reach) → AreAmong w.scope.names rs →
+    (field sp : ℕ) (a : Access) (rs : List Reach) → AreAmong w.scope.names sp rs →
     list_all (may_do (rights_declared w.tree task) w.scope.known) (map (wanting field a) (regions_named rs)) ≡ true →
     MayReach (forms_by handing keeping w.tree task) w rs field (mode_in a)
-reach_may handing keeping task w sound h falls field a [] among e = tt
-reach_may handing keeping task w sound h falls field a (Some (place.Name i) ∷ rs) among e =
+reach_may handing keeping task w sound h falls field sp a [] among e = tt
+reach_may handing keeping task w sound h falls field sp a (Some (place.Name i) ∷ rs) among e =
     let both = and_parts (may_do (rights_declared w.tree task) w.scope.known (wanting field a (place.Name i))) _ e in
     let own = (region_of_number w.scope.next w.scope.names i falls among.0).1 in (
       subst (λ u. MayDo (takes_by handing w.tree task) u field (mode_in a)) (sym own) (may_touch handing w.tree task w.scope sound h i field a both.0),
-      reach_may handing keeping task w sound h falls field a rs among.1 both.1,
+      reach_may handing keeping task w sound h falls field sp a rs among.2 both.1,
     )
-reach_may handing keeping task w sound h falls field a (Some (place.Child p c) ∷ rs) among e = absurd among
-reach_may handing keeping task w sound h falls field a (None ∷ rs) among e = absurd among
+reach_may handing keeping task w sound h falls field sp a (Some (place.Child p c) ∷ rs) among e = absurd among
+reach_may handing keeping task w sound h falls field sp a (None ∷ rs) among e = reach_may handing keeping task w sound h falls field sp a rs among e
 
 -- so of a field of what a name's pointer goes to
-pub aimed_may : (handing keeping : Bool) (marked : List Name) (task : TaskTree) (w : Where) → IsSoundTask w.tree task → KnowsHead w.tree task w.scope → Falls w.scope.next w.scope.names →
+pub aimed_may : (handing keeping : Bool) (marked : FieldMarks) (task : TaskTree) (w : Where) → IsSoundTask w.tree task → KnowsHead w.tree task w.scope → Falls w.scope.next w.scope.names →
     (n f : Name) (a : Access) → (p : IsAimed keeping marked w.tree w.scope.names (bound w n).static_type f) →
     lacks w.tree task w.scope (wanted_of_step w.tree a (field_of (bound w n).static_type f)) ≡ false → MayGo (forms_by handing keeping w.tree task) w n f (mode_in a)
 aimed_may handing keeping marked task w sound h falls n f a p lacking =
@@ -137,10 +147,10 @@ aimed_may handing keeping marked task w sound h falls n f a p lacking =
     let allowed : lacks w.tree task w.scope (cond (has_field w.tree (space_in t) f && not (has_wild p.reaches)) wants []) ≡ false =
     subst (λ u. lacks w.tree task w.scope (wanted_of_step w.tree a (field_of u f)) ≡ false) p.is lacking in
     let some : (has_field w.tree (space_in t) f && not (has_wild p.reaches)) ≡ true =
-    ap (λ b. b && not (has_wild p.reaches)) p.there ∙ ap not (none_wild w.scope.names p.reaches p.among) in
+    ap (λ b. b && not (has_wild p.reaches)) p.there ∙ ap not p.certain in
     let all : lacks w.tree task w.scope wants ≡ false = ap (λ b. lacks w.tree task w.scope (cond b wants [])) (sym some) ∙ allowed in
     subst (λ rs. MayReach (forms_by handing keeping w.tree task) w rs field (mode_in a)) (sym (ap reaches_of p.is))
-    (reach_may handing keeping task w sound h falls field a p.reaches p.among (not-false _ all))
+    (reach_may handing keeping task w sound h falls field (space_in t) a p.reaches p.among (not-false _ all))
 
 abbrev IsMade : Known → Type 0
 IsMade (Made i) = Unit {0}
@@ -180,7 +190,7 @@ upper_term (PartOf p r d) = place.Name r
 
 -- where a body begins, of a task that takes no partitions
 pub head_begins : (tree : Tree) (t : TaskTree) → IsSoundTask tree t → ((b : Bound) → Has (scope_of tree t).names b → known_of_type b.static_type ≡ []) →
-    KnowsHead tree t (scope_of tree t)
+    KnowsFacts tree t (scope_of tree t)
 head_begins tree t sound plain = record {
   within = λ a b c. ⊎_elim
       (λ p. let d = known_param (scope_of tree t).names (Within a b) p in absurd (none_within d.0.static_type (Within a b) d.2 a b refl))
@@ -255,9 +265,9 @@ told_behind s u less names (PartOf p r d) told =
     }
 
 -- behind a place nothing more is known but that a region was made there
-pub head_behind : (tree : Tree) (task : TaskTree) (s u : Scope) → KnowsHead tree task s → s.next ≤ u.next →
+pub head_behind : (tree : Tree) (task : TaskTree) (s u : Scope) → KnowsFacts tree task s → s.next ≤ u.next →
     ((b : Bound) → Has u.names b → Has s.names b ⊎ (b.number ≡ s.next)) →
-    ((k : Known) → Has u.known k → Has s.known k ⊎ (k ≡ Made s.next)) → KnowsHead tree task u
+    ((k : Known) → Has u.known k → Has s.known k ⊎ (k ≡ Made s.next)) → KnowsFacts tree task u
 head_behind tree task s u h less names known = record {
   within = λ a b c. ⊎_elim
       (λ old. h.within a b (Contains-from_Has s.known (Within a b) old))
@@ -276,8 +286,8 @@ told_past s inner names (Apart a b) told = tt
 told_past s inner names (Made i) told = tt
 told_past s inner names (PartOf p r d) told = record { low = told.low; one = λ b h e. told.one b (names b h) e }
 
-pub head_past : (tree : Tree) (task : TaskTree) (s inner : Scope) → ((b : Bound) → Has s.names b → Has inner.names b) → KnowsHead tree task inner →
-    KnowsHead tree task (past s inner)
+pub head_past : (tree : Tree) (task : TaskTree) (s inner : Scope) → ((b : Bound) → Has s.names b → Has inner.names b) → KnowsFacts tree task inner →
+    KnowsFacts tree task (past s inner)
 head_past tree task s inner names h =
     record { within = h.within; made = h.made; parts = λ k c. told_past s inner names k (h.parts k c); next = h.next }
 
@@ -286,23 +296,23 @@ one_more : (s : Scope) (n : Name) (t : StaticType) (by_loop : Bool) (b : Bound) 
 one_more s n t by_loop b (inl same) = inr (sym (ap (λ (c : Bound). c.number) same))
 one_more s n t by_loop b (inr h) = inl h
 
-pub head_looping : (tree : Tree) (task : TaskTree) (s : Scope) (n : Name) (t : StaticType) → KnowsHead tree task s → KnowsHead tree task (with_name s n t true)
+pub head_looping : (tree : Tree) (task : TaskTree) (s : Scope) (n : Name) (t : StaticType) → KnowsFacts tree task s → KnowsFacts tree task (with_name s n t true)
 head_looping tree task s n t h = head_behind tree task s (with_name s n t true) h (omega (arith)) (one_more s n t true) (λ k a. inl a)
 
 -- one more name, with which nothing is known, or that a region was made
-pub head_named : (tree : Tree) (task : TaskTree) (s : Scope) (n : Name) (t : StaticType) (more : List Known) → KnowsHead tree task s → more ≡ [] →
-    KnowsHead tree task (knowing (with_name s n t false) more)
+pub head_named : (tree : Tree) (task : TaskTree) (s : Scope) (n : Name) (t : StaticType) (more : List Known) → KnowsFacts tree task s → more ≡ [] →
+    KnowsFacts tree task (knowing (with_name s n t false) more)
 head_named tree task s n t more h none = head_behind tree task s (knowing (with_name s n t false) more) h (omega (arith)) (one_more s n t false)
     (λ k a. ⊎_elim (λ old. inl old) (λ new. absurd (subst (λ ks. Has ks k) none new)) (Has-append_cases s.known more k a))
 
-pub head_made : (tree : Tree) (task : TaskTree) (s : Scope) (n : Name) (t : StaticType) → KnowsHead tree task s →
-    KnowsHead tree task (knowing (with_name s n t false) (Made s.next ∷ []))
+pub head_made : (tree : Tree) (task : TaskTree) (s : Scope) (n : Name) (t : StaticType) → KnowsFacts tree task s →
+    KnowsFacts tree task (knowing (with_name s n t false) (Made s.next ∷ []))
 head_made tree task s n t h = head_behind tree task s (knowing (with_name s n t false) (Made s.next ∷ [])) h (omega (arith)) (one_more s n t false)
     (λ k a. ⊎_elim (λ old. inl old) (λ new. ⊎_elim (λ same. inr (sym same)) (λ none. absurd none) new) (Has-append_cases s.known (Made s.next ∷ []) k a))
 
 -- or one of a partition, of which is known of which region it is
-pub head_cut : (tree : Tree) (task : TaskTree) (s : Scope) (n : Name) (d : Bool) (r : ℕ) → Falls s.next s.names → KnowsHead tree task s →
-    KnowsHead tree task (knowing (with_name s n (partition_type d r s.next) false) (PartOf s.next r d ∷ []))
+pub head_cut : (tree : Tree) (task : TaskTree) (s : Scope) (n : Name) (d : Bool) (r : ℕ) → Falls s.next s.names → KnowsFacts tree task s →
+    KnowsFacts tree task (knowing (with_name s n (partition_type d r s.next) false) (PartOf s.next r d ∷ []))
 head_cut tree task s n d r falls h = record {
   within = λ a b c. ⊎_elim
       (λ old. h.within a b (Contains-from_Has s.known (Within a b) old))

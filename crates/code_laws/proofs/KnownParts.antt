@@ -49,22 +49,22 @@ module _ (tree : Tree) (task : TaskTree) (s : Scope) (head : KnowsHead tree task
   -- within names lie names alone
   pub names_below : (a b : Term) → IsBelow s.known a b → (i : ℕ) → a ≡ place.Name i → (j : ℕ) × (b ≡ place.Name j)
   names_below a _ same i e = (i, e)
-  names_below a b (told_within c) i e = let p = head.within a b c in (p.upper, p.is_upper)
+  names_below a b (told_within c) i e = let p = head.facts.within a b c in (p.upper, p.is_upper)
   names_below a b (through p q) i e = let m = names_below a _ p i e in names_below _ b q m.0 m.1
   names_below _ b (child c) i e = absurd (subst IsName (sym e) tt)
-  names_below a b (variable c) i e = absurd (subst IsName (sym (head.within a b c).is_upper) tt)
+  names_below a b (variable c) i e = absurd (subst IsName (sym (head.facts.within a b c).is_upper) tt)
 
   -- nothing is known of a region that was made behind the parameters
   below_made : (a b : Term) → IsBelow s.known a b → (i : ℕ) → a ≡ place.Name i → length task.params ≤ i → b ≡ place.Name i
   below_made a _ same i e l = e
   below_made a b (told_within c) i e l =
-      let p = head.within a b c in
+      let p = head.facts.within a b c in
       let low = p.low in
       let number : p.lower ≡ i = ap number_in (sym p.is_lower ∙ e) in
       absurd (omega (arith, l, low, number))
   below_made a b (through p q) i e l = below_made _ b q i (below_made a _ p i e l) l
   below_made _ b (child c) i e l = absurd (subst IsName (sym e) tt)
-  below_made a b (variable c) i e l = absurd (subst IsName (sym (head.within a b c).is_upper) tt)
+  below_made a b (variable c) i e l = absurd (subst IsName (sym (head.facts.within a b c).is_upper) tt)
 
   -- a region lies within itself, or both are parameters' of which it follows
   pub name_within : IsSoundTask tree task → (i j : ℕ) → is_subregion s.known (place.Name i) (place.Name j) ≡ true →
@@ -87,7 +87,7 @@ module _ (tree : Tree) (task : TaskTree) (s : Scope) (head : KnowsHead tree task
 
   pub part_below : (a b : Term) → IsBelow s.known a b → (p : ℕ) (c : Colour) → a ≡ place.Child p c → IsAbove p c b
   part_below a _ same p c e = is_same e
-  part_below a b (told_within k) p c e = absurd (subst IsName (sym (head.within a b k).is_lower ∙ e) tt)
+  part_below a b (told_within k) p c e = absurd (subst IsName (sym (head.facts.within a b k).is_lower ∙ e) tt)
   part_below a b (through x y) p c e = onward (part_below a _ x p c e) y (λ d. part_below _ b y p c d)
     where
       onward : {m : Term} → IsAbove p c m → IsBelow s.known m b → (m ≡ place.Child p c → IsAbove p c b) → IsAbove p c b
@@ -101,7 +101,7 @@ module _ (tree : Tree) (task : TaskTree) (s : Scope) (head : KnowsHead tree task
     pub part_over : (u : Term) → IsAbove p c u → (u ≡ place.Child p c) ⊎ IsBelow s.known (place.Name r) u
     part_over u (is_same e) = inl e
     part_over u (is_over q f k below) =
-        let told = (head.parts (PartOf p q f) (Has-from_Contains s.known (PartOf p q f) k)).one b there number in
+        let told = (head.facts.parts (PartOf p q f) (Has-from_Contains s.known (PartOf p q f) k)).one b there number in
         inr (subst (λ n. IsBelow s.known (place.Name n) u) (ap parent_of (sym told ∙ is)) below)
 
     pub whole_within : (j : ℕ) → is_subregion s.known (place.Child p c) (place.Name j) ≡ true → is_subregion s.known (place.Name r) (place.Name j) ≡ true

@@ -65,6 +65,8 @@ pub mod Privileges
 pub mod DeclaredNeeds
 pub mod LocalFields
 pub mod LocalNames
+pub mod LocalPlaces
+pub mod LocalSpaced
 pub mod KnownHeads
 pub mod KnownParts
 pub mod LocalGiven

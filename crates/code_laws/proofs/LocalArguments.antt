@@ -13,7 +13,7 @@ use Rattle.regent_tree.specs.declared.facts.Term.{Term}
 use Rattle.regent_tree.specs.declared.facts.Term.TheVariants as term
 use Rattle.regent_tree.specs.declared.types.Kind.{Kind}
 use Rattle.regent_tree.specs.declared.typing.StaticType.{StaticType}
-use Rattle.regent_tree.specs.declared.typing.StaticType.TheVariants.{Index as index_type, Partition as partition_type, Pointer as pointer_type, Region as region_type}
+use Rattle.regent_tree.specs.declared.typing.StaticType.TheVariants.{Index as index_type, Ispace as ispace_type, Partition as partition_type, Pointer as pointer_type, Region as region_type}
 use Rattle.check_laws.specs.SoundScopes.{IsSoundScope}
 use Rattle.check_rules.specs.first.FirstInExpressions.{first_in_args, first_in_expression, first_of_call, first_of_standing, first_of_step, first_of_taking}
 use Rattle.check_rules.specs.first.Rules.{rule_if}
@@ -31,7 +31,7 @@ use Rattle.check_rules.proofs.Untold.{rule_none}
 use Rattle.code_rules.specs.Slots.{Where, bound, typed}
 use Rattle.local_form.specs.LocalForm.{Marked, is_local_expression, is_name, is_part}
 use Rattle.code_laws.specs.Handing.{forms_by, takes_by}
-use Rattle.code_laws.specs.Pointers.{CountsAs, FitsInto, IsCounting, fills_index, into_index, into_plain}
+use Rattle.code_laws.specs.Pointers.{CountsAs, FitsInto, IsCounting, fills_index, into_index, into_plain, into_space}
 use Rattle.code_laws.specs.Simple.{AreRegions, IsPartition, IsRegion, IsScalar, a_partition_type, a_region_type, number_index, number_integer, scalar_integer, scalar_truth, simple_index, simple_integer, simple_space, simple_truth}
 use Rattle.code_laws.specs.Steps.{Forms}
 use Rattle.code_laws.specs.Arguments.{IsCutName, IsHanded, IsHandedPart}
@@ -40,8 +40,9 @@ use Rattle.expression_laws.proofs.Calls.{IsFlawless, call_parts}
 use Rattle.code_laws.proofs.KnownHeads.{KnowsHead}
 use Rattle.code_laws.proofs.LocalCalls.{may_call}
 use Rattle.code_laws.proofs.LocalParts.{and_then, named_alone, put_region, put_scalar}
-use Rattle.code_laws.proofs.LocalNames.{AllKept, IsKept, IsLocalTree, kept_partition, kept_region, kept_scalar, named_kept, kept_value, region_of_number, taking_told, value_kept, value_no_region, kept_plain}
-use Rattle.code_laws.proofs.LocalTypes.{IsTakable, either, region_for_index, region_for_scalar, regions_alike, simple_other, takable_index, takable_region, takable_scalar}
+use Rattle.code_laws.proofs.LocalNames.{AllKept, IsKept, IsLocalTree, kept_partition, kept_region, kept_scalar, named_kept, kept_value, region_of_number, value_kept, value_no_region, kept_plain}
+use Rattle.code_laws.proofs.LocalPlaces.{taking_told}
+use Rattle.code_laws.proofs.LocalTypes.{IsTakable, either, region_for_index, region_for_scalar, region_for_space, regions_alike, simple_other, takable_index, takable_region, takable_scalar, takable_space}
 use Rattle.code_laws.proofs.Openings.{params_length, types_length}
 use Rattle.code_laws.proofs.Typing.{no_way, no_way_back, stands_well}
 use Rattle.code_laws.proofs.Values.{scalar_simple}
@@ -154,6 +155,20 @@ module _ (handing keeping : Bool) (task : TaskTree) (w : Where) (sound : IsSound
   index_param true _ k q (value_simple _ (simple_space j)) e = absurd (no_way_back e)
   index_param true _ k q (value_pointer j sp args rs h r) e = into_index j sp args rs k
 
+  -- and what an index space takes
+  space_param : (b : Bool) (t : StaticType) (k : Kind) → b ≡ true → IsValue b w.scope.names t →
+      may_stand w.scope.known (stands t (param_spot (ispace_type k))) ≡ true → FitsInto b t (ispace_type k)
+  space_param false t k q a e = absurd (no_way_back q)
+  space_param true _ k q (value_simple _ (simple_space j)) e = into_space j k
+  space_param true _ k q (value_simple _ (simple_integer v)) e = absurd (no_way_back e)
+  space_param true _ k q (value_simple _ (simple_index j)) e = absurd (no_way_back e)
+  space_param true _ k q (value_simple _ simple_truth) e = absurd (no_way_back e)
+  space_param true _ k q (value_pointer j sp args rs h r) e = absurd (no_way_back e)
+
+  none_space : (t : StaticType) (k : Kind) → IsOther t → may_stand w.scope.known (stands t (param_spot (ispace_type k))) ≡ true → ⊥
+  none_space _ k (other_partition d r q) e = no_way_back e
+  none_space _ k (other_pointer j sp args rs) e = no_way_back e
+
   name_argument : (n : Name) → is_bound w.scope.names n ≡ true → (t : StaticType) → (bound w n).static_type ≡ t → IsKept keeping m w.scope.names n (bound w n).number t →
       IsArgument (access_expr n no_step)
   name_argument n there t same (kept_scalar _ a) = inl (name_well n there (subst (IsValue keeping w.scope.names) (sym same) (value_simple t (scalar_simple t a))))
@@ -242,6 +257,16 @@ module _ (handing keeping : Bool) (task : TaskTree) (w : Where) (sound : IsSound
   given_one all types e p (inr (inl r)) (takable_index k q) alone told may fits =
       absurd (region_for_index w.scope.known (bound w r.name).static_type k r.region
       (subst (λ y. may_stand w.scope.known (stands (known_type w.tree w.scope y) (param_spot (index_type k))) ≡ true) r.is may))
+  given_one all types e p (inl a) (takable_space k q) alone told may fits =
+      inl (space_param keeping (typed w e) k q a.value (subst (λ u. may_stand w.scope.known (stands u (param_spot (ispace_type k))) ≡ true) (known e told) may), refl, a.is)
+  given_one all types e p (inr (inr (inr other))) (takable_space k q) alone told may fits =
+      absurd (none_space (typed w e) k other.0 (subst (λ u. may_stand w.scope.known (stands u (param_spot (ispace_type k))) ≡ true) (known e told) may))
+  given_one all types e p (inr (inr (inl r))) (takable_space k q) alone told may fits =
+      absurd (region_for_space w.scope.known (typed w (access_expr r.name (at_step r.index no_step))) k r.region
+      (subst (λ u. may_stand w.scope.known (stands u (param_spot (ispace_type k))) ≡ true) (known e told ∙ ap (typed w) r.is) may))
+  given_one all types e p (inr (inl r)) (takable_space k q) alone told may fits =
+      absurd (region_for_space w.scope.known (bound w r.name).static_type k r.region
+      (subst (λ y. may_stand w.scope.known (stands (known_type w.tree w.scope y) (param_spot (ispace_type k))) ≡ true) r.is may))
   given_one all types e p (inr (inr (inl r))) (takable_scalar _ s) alone told may fits =
       let stood = subst (λ q. may_stand w.scope.known (stands (known_type w.tree w.scope e) (param_spot q)) ≡ true) (put_scalar all p s) may in
       absurd (region_for_scalar w.scope.known (typed w (access_expr r.name (at_step r.index no_step))) p r.region s

@@ -8,7 +8,7 @@ use Rattle.regent_tree.specs.Accesses.{space_in}
 use Rattle.regent_tree.specs.Limits.{parts_of_expression}
 use Rattle.regent_tree.specs.Lookup.{is_bound}
 use Rattle.regent_tree.specs.Scopes.{Scope, bound_to}
-use Rattle.regent_tree.specs.StaticTypes.{field_kind, field_place}
+use Rattle.regent_tree.specs.StaticTypes.{field_place, field_term}
 use Rattle.regent_tree.specs.Syntax.{Expression, Name, TaskTree, Tree, access_expr, assign_form, at_step, field_step, no_step}
 use Rattle.regent_tree.specs.Typing.{type_of, type_of_element, type_of_field}
 use Rattle.regent_tree.specs.declared.rights.Access.{Access}
@@ -44,10 +44,11 @@ use Rattle.code_laws.proofs.LocalPoints.{at_point, behind_name, gone, is_behind,
 use Rattle.code_laws.proofs.LocalValues.{value_assigned, value_integer}
 use Rattle.code_laws.specs.Pointers.{CountsAs}
 use Rattle.code_laws.proofs.Privileges.{mode_in}
-use Rattle.code_laws.proofs.LocalFields.{IsHeld, held_assigned, held_simple}
-use Rattle.code_laws.proofs.LocalNames.{kept_integer, IsLocalTree, kept_as_value, named_kept, named_place, taking_told, value_kept}
+use Rattle.code_laws.proofs.LocalFields.{IsHeld, fields_of, held_assigned, held_integer}
+use Rattle.code_laws.proofs.LocalNames.{kept_integer, IsLocalTree, kept_as_value, named_kept, value_kept}
+use Rattle.code_laws.proofs.LocalPlaces.{named_place, taking_told}
 use Rattle.code_laws.proofs.LocalParts.{and_then}
-use Rattle.code_laws.proofs.LocalTypes.{either, simple_as_integer}
+use Rattle.code_laws.proofs.LocalTypes.{either}
 use Rattle.code_laws.proofs.TypedStatements.{first_stands, told_later, told_privileges}
 use Rattle.code_laws.proofs.Typing.{AreKept, no_way}
 use Rattle.code_laws.proofs.Wider.{assigned}
@@ -117,7 +118,7 @@ module _ (handing keeping : Bool) (tree : Tree) (task : TaskTree) (sound : IsSou
     number : CountsAs keeping (type_of tree s e)
     through : GoesThrough (here s line) n e
     field : IsFieldOf keeping (here s line) n f (element_field (here s line) n e f)
-    held : IsHeld keeping m.index_fields f (field_kind tree (space_in (bound_to s.names n).static_type) (field_place tree (space_in (bound_to s.names n).static_type) f))
+    held : IsHeld keeping (fields_of m) f (field_term tree (space_in (bound_to s.names n).static_type) (field_place tree (space_in (bound_to s.names n).static_type) f))
         (element_field (here s line) n e f)
     known : known_type tree s (access_expr n (at_step e (field_step f no_step))) ≡ element_field (here s line) n e f
     may : (a : Access) → lacks tree task s (wanted_of_step tree a (field_of (known_type_after_step tree (element_of (bound_to s.names n).static_type (known_type tree s e)) (type_of_element s (bound_to s.names n).static_type e)) f)) ≡ false →
@@ -160,7 +161,7 @@ module _ (handing keeping : Bool) (tree : Tree) (task : TaskTree) (sound : IsSou
       let spot = ap (λ b. typed_spot (cond b unknown_type u)) (told_later tree task s form none).0 ∙ ap typed_spot target.known in
       let fit = stands_as handing keeping tree task sound sound_task m local params result s y (typed_spot (element_field (here s line) n e f)) scope told (subst (λ p. may_stand s.known (stands (known_type tree s y) p) ≡ true) spot
       (first_stands s.known (stands (known_type tree s y) (spot_of_target (mistargets task s.names n steps how.Set u) how.Set u)) [] parts.4).0) in (
-        held_assigned keeping m.index_fields f s.names s.known (type_of tree s y) _ (element_field (here s line) n e f) a.value target.held fit,
+        held_assigned keeping (fields_of m) f s.names s.known (type_of tree s y) _ (element_field (here s line) n e f) a.value target.held fit,
         a.is,
         target.index,
         target.number,
@@ -185,7 +186,7 @@ module _ (handing keeping : Bool) (tree : Tree) (task : TaskTree) (sound : IsSou
       (not-false (may_be is_integer u) (or_parts (is_no_target task s.names n steps u) (not (may_be is_integer u)) (told_later tree task s form none).0).1) in
       let may = stands_as handing keeping tree task sound sound_task m local params result s y integer_spot scope told (first_stands s.known (stands (known_type tree s y) integer_spot) [] parts.4).0 in (
         value_integer keeping s.names (type_of tree s y) a.value may,
-        simple_as_integer (element_field (here s line) n e f) (held_simple keeping m.index_fields f _ _ target.held) whole,
+        held_integer keeping (fields_of m) f _ (element_field (here s line) n e f) target.held whole,
         a.is,
         target.index,
         target.number,
@@ -198,7 +199,7 @@ module _ (handing keeping : Bool) (tree : Tree) (task : TaskTree) (sound : IsSou
   record IsTargetBehind (s : Scope) (line : ℕ) (n f : Name) : Type 0 where
     keeps : keeping ≡ true
     behind : IsBehind (here s line) n f (field_behind (here s line) n f)
-    held : IsHeld keeping m.index_fields f (field_kind tree (space_in (bound_to s.names n).static_type) (field_place tree (space_in (bound_to s.names n).static_type) f))
+    held : IsHeld keeping (fields_of m) f (field_term tree (space_in (bound_to s.names n).static_type) (field_place tree (space_in (bound_to s.names n).static_type) f))
         (field_behind (here s line) n f)
     known : known_type tree s (access_expr n (field_step f no_step)) ≡ field_behind (here s line) n f
     may : (a : Access) → lacks tree task s (wanted_of_step tree a (field_of (bound_to s.names n).static_type f)) ≡ false → MayGo forms (here s line) n f (mode_in a)
@@ -241,7 +242,7 @@ module _ (handing keeping : Bool) (tree : Tree) (task : TaskTree) (sound : IsSou
       let fit = stands_as handing keeping tree task sound sound_task m local params result s y (typed_spot out) scope told (subst (λ p. may_stand s.known (stands (known_type tree s y) p) ≡ true) spot
       (first_stands s.known (stands (known_type tree s y) (spot_of_target (mistargets task s.names n steps how.Set u) how.Set u)) [] parts.4).0) in (
         target.keeps,
-        assigned keeping (type_of tree s y) out (held_assigned keeping m.index_fields f s.names s.known (type_of tree s y) _ out a.value target.held fit),
+        assigned keeping (type_of tree s y) out (held_assigned keeping (fields_of m) f s.names s.known (type_of tree s y) _ out a.value target.held fit),
         a.is,
         target.behind,
         target.may access.Write (told_privileges tree task s form none).0,
@@ -265,7 +266,7 @@ module _ (handing keeping : Bool) (tree : Tree) (task : TaskTree) (sound : IsSou
       let may = stands_as handing keeping tree task sound sound_task m local params result s y integer_spot scope told (first_stands s.known (stands (known_type tree s y) integer_spot) [] parts.4).0 in (
         target.keeps,
         value_integer keeping s.names (type_of tree s y) a.value may,
-        simple_as_integer out (held_simple keeping m.index_fields f _ _ target.held) whole,
+        held_integer keeping (fields_of m) f _ out target.held whole,
         a.is,
         target.behind,
         target.may (access.Reduce o) (told_privileges tree task s form none).1,

@@ -25,17 +25,20 @@ use Rattle.check_rules.specs.scopes.Sound.{IsSound, IsSoundTask}
 use Rattle.check_rules.specs.types.KnownTypes.{known_type}
 use Rattle.check_rules.specs.types.Parts.{tests_of}
 use Rattle.local_form.specs.LocalForm.{Marked, are_local_arms, is_among, is_local_block, is_local_domain, is_local_else, is_local_expression, is_local_form}
+use Rattle.statement_laws.specs.Steady.{ArePlaced}
+use Rattle.value_laws.specs.Spaces.{AreSpaced}
 use Rattle.code_laws.specs.Handing.{forms_by}
 use Rattle.code_laws.specs.Steps.{Forms}
 use Rattle.code_laws.specs.Typed.{AreTypedArms, IsTypedBlock, IsTypedElse, IsTypedForm}
-use Rattle.code_laws.proofs.KnownHeads.{IsReady, KnowsHead, head_looping, head_past}
+use Rattle.code_laws.proofs.KnownHeads.{IsReady, KnowsFacts, head_looping, head_past}
 use Rattle.code_laws.proofs.LocalNames.{AllKept, IsLocalTree, kept_scalar}
 use Rattle.code_laws.proofs.LocalAssignments.{reduce_behind_local, reduce_field_local, reduce_local, set_behind_local, set_field_local, set_local}
 use Rattle.code_laws.proofs.LocalStatements.{bound_local, call_local, domain_local, fill_local, print_local, return_local, test_local}
 use Rattle.code_laws.proofs.LocalDifferences.{begun_local}
 use Rattle.code_laws.proofs.LocalCuts.{both_local, by_field_local, either_local, equal_local}
 use Rattle.code_laws.proofs.LocalImages.{image_local, preimage_local}
-use Rattle.code_laws.proofs.LocalVariables.{at, region_local, said_local, unset_local}
+use Rattle.code_laws.proofs.LocalSpaced.{head_after, head_in_count, head_in_loop}
+use Rattle.code_laws.proofs.LocalVariables.{VarTyped, at, region_local, said_local, unset_local}
 use Rattle.code_laws.proofs.Names.{Grown, arms_names, block_grown, else_names}
 use Rattle.regent_tree.proofs.Members.{Has, Has-append_right}
 use Rattle.regent_tree.specs.declared.typing.Bound.{Bound}
@@ -66,52 +69,66 @@ module _ (handing keeping : Bool) (tree : Tree) (task : TaskTree) (sound : IsSou
 
   -- a block is typed, and what is known behind it
   abbrev BlockTyped : Scope → ℕ → Block → Type 0
-  BlockTyped s line body = IsTypedBlock forms (here s line) body × KnowsHead tree task (scope_after_block tree s body)
+  BlockTyped s line body = IsTypedBlock forms (here s line) body × KnowsFacts tree task (scope_after_block tree s body)
 
   -- behind a block the names are those before it
-  behind : (s inner : Scope) → Grown s.names inner.names → Ready s → KnowsHead tree task inner → Ready (past s inner)
-  behind s inner grown ready head = record { names = ready.names; head = head_past tree task s inner (grown_has grown) head }
+  behind : (s inner : Scope) → Grown s.names inner.names → Ready s → KnowsFacts tree task inner → Ready (past s inner)
+  behind s inner grown ready facts = record {
+    names = ready.names;
+    head = record { facts = head_past tree task s inner (grown_has grown) facts; spaced = ready.head.spaced; placed = ready.head.placed };
+  }
 
   -- so behind the block of a loop, which began with one name more
-  behind_loop : (s : Scope) (n : Name) (t : StaticType) (body : Block) → Ready s → KnowsHead tree task (scope_after_block tree (with_name s n t true) body) →
+  behind_loop : (s : Scope) (n : Name) (t : StaticType) (body : Block) → Ready s → KnowsFacts tree task (scope_after_block tree (with_name s n t true) body) →
       Ready (past s (scope_after_block tree (with_name s n t true) body))
-  behind_loop s n t body ready head = record {
+  behind_loop s n t body ready facts = record {
     names = ready.names;
-    head = head_past tree task s (scope_after_block tree (with_name s n t true) body)
-        (λ b h. grown_has (block_grown tree (with_name s n t true) body) b (inr h)) head;
+    head = record {
+      facts = head_past tree task s (scope_after_block tree (with_name s n t true) body)
+          (λ b h. grown_has (block_grown tree (with_name s n t true) body) b (inr h)) facts;
+      spaced = ready.head.spaced;
+      placed = ready.head.placed;
+    };
   }
+
+  -- behind a variable that is typed and stands for what its mark says
+  var_ready : (s : Scope) (line : ℕ) (n : Name) (t : Option TypeTerm) (i : Option Initializer) → AreKept (parts_of_form (var_form n t i)) → IsSoundScope s → Ready s →
+      first_of_form tree task s (var_form n t i) ≡ None → VarTyped handing keeping tree task sound sound_task m local params result s line n t i →
+      FormTyped s line (var_form n t i)
+  var_ready s line n t i k scope names e v =
+      (v.0, record { names = (v.1, names.names); head = head_after tree task sound sound_task local.declared s n t i scope names.head e k v.2 })
 
   var_local : (s : Scope) (line : ℕ) (n : Name) (t : Option TypeTerm) (i : Option Initializer) → is_local_form m (var_form n t i) ≡ true →
       AreKept (parts_of_form (var_form n t i)) → IsSoundScope s → Ready s → first_of_form tree task s (var_form n t i) ≡ None →
       FormTyped s line (var_form n t i)
   var_local s line n None (Some (plain_initializer y)) lo k scope names e =
       let v = begun_local handing keeping tree task sound sound_task m local params result (λ q h. keeps q (inr h)) s line n y lo k scope names e in
-      (v.0, record { names = (v.1, names.names); head = v.2 })
+      var_ready s line n None (Some (plain_initializer y)) k scope names e v
   var_local s line n None (Some (region_initializer y u)) lo k scope names e =
-      let v = region_local handing keeping tree task sound sound_task m local params result s line n y u lo k scope names e in (v.0, record { names = (v.1, names.names); head = v.2 })
+      let v = region_local handing keeping tree task sound sound_task m local params result s line n y u lo k scope names e in var_ready s line n None (Some (region_initializer y u)) k scope names e v
   var_local s line n (Some t) (Some (plain_initializer y)) lo k scope names e =
-      let v = said_local handing keeping tree task sound sound_task m local params result s line n t y lo k scope names e in (v.0, record { names = (v.1, names.names); head = v.2 })
+      let v = said_local handing keeping tree task sound sound_task m local params result s line n t y lo k scope names e in var_ready s line n (Some t) (Some (plain_initializer y)) k scope names e v
   var_local s line n (Some t) None lo k scope names e =
-      let v = unset_local handing keeping tree task sound sound_task m local params result s line n t lo scope names e in (v.0, record { names = (v.1, names.names); head = v.2 })
+      let v = unset_local handing keeping tree task sound sound_task m local params result s line n t lo scope names e in var_ready s line n (Some t) None k scope names e v
   var_local s line n None None lo k scope names e = absurd (no_way (told_of_form tree task s sound scope (var_form n None None) e).1)
   var_local s line n None (Some (equal_initializer r y)) lo k scope names e =
       let v = equal_local handing keeping tree task sound sound_task m local params result (λ q h. keeps q (inr h)) s line n r y lo k scope names e in
-      (v.0, record { names = (v.1, names.names); head = v.2 })
+      var_ready s line n None (Some (equal_initializer r y)) k scope names e v
   var_local s line n None (Some (by_field_initializer r f y)) lo k scope names e =
       let v = by_field_local handing keeping tree task sound sound_task m local params result (λ q h. keeps q (inr h)) s line n r f y lo k scope names e in
-      (v.0, record { names = (v.1, names.names); head = v.2 })
+      var_ready s line n None (Some (by_field_initializer r f y)) k scope names e v
   var_local s line n None (Some (both_initializer p q)) lo k scope names e =
       let v = both_local handing keeping tree task sound sound_task m local params result (λ q h. keeps q (inr h)) s line n p q lo scope names e in
-      (v.0, record { names = (v.1, names.names); head = v.2 })
+      var_ready s line n None (Some (both_initializer p q)) k scope names e v
   var_local s line n None (Some (either_initializer p q)) lo k scope names e =
       let v = either_local handing keeping tree task sound sound_task m local params result (λ q h. keeps q (inr h)) s line n p q lo scope names e in
-      (v.0, record { names = (v.1, names.names); head = v.2 })
+      var_ready s line n None (Some (either_initializer p q)) k scope names e v
   var_local s line n None (Some (image_initializer r p q f)) lo k scope names e =
       let v = image_local handing keeping tree task sound sound_task m local params result (λ q h. keeps q (inr h)) hands s line n r p q f lo scope names e in
-      (v.0, record { names = (v.1, names.names); head = v.2 })
+      var_ready s line n None (Some (image_initializer r p q f)) k scope names e v
   var_local s line n None (Some (preimage_initializer r p q f)) lo k scope names e =
       let v = preimage_local handing keeping tree task sound sound_task m local params result (λ q h. keeps q (inr h)) hands s line n r p q f lo scope names e in
-      (v.0, record { names = (v.1, names.names); head = v.2 })
+      var_ready s line n None (Some (preimage_initializer r p q f)) k scope names e v
   var_local s line n (Some t) (Some (region_initializer _ _)) lo k scope names e = absurd (no_way_back lo)
   var_local s line n (Some t) (Some (equal_initializer _ _)) lo k scope names e = absurd (no_way_back lo)
   var_local s line n (Some t) (Some (by_field_initializer _ _ _)) lo k scope names e = absurd (no_way_back lo)
@@ -197,7 +214,11 @@ module _ (handing keeping : Bool) (tree : Tree) (task : TaskTree) (sound : IsSou
         let first = with_name s n ty true in
         let block = block_local first line body two.1 (kept_right (parts_of_expression domain) (parts_of_block body) k)
         (subst IsSoundScope inner.0 inner.1)
-        (record { names = (d.taken, names.names); head = head_looping tree task s n ty names.head })
+        (record {
+          names = (d.taken, names.names);
+          head = head_in_loop tree task sound sound_task local.declared s n domain scope names.head told (kept_left (parts_of_expression domain) (parts_of_block body) k)
+              (head_looping tree task s n ty names.head.facts);
+        })
         (subst (λ u. first_in_block tree task u body ≡ None) inner.0 w) in
         ((d.over, d.is, block.0), behind_loop s n ty body names block.1)
     form_local s line (for_to_form demanded n from to body) lo k scope names e w =
@@ -217,7 +238,10 @@ module _ (handing keeping : Bool) (tree : Tree) (task : TaskTree) (sound : IsSou
         let loop = with_name s n ty true in
         let block = block_local loop line body two.1 (kept_right (parts_of_expression to) (parts_of_block body) k2)
         (subst IsSoundScope inner.0 inner.1)
-        (record { names = (kept_scalar ty (sum_scalar (type_of tree s from) (type_of tree s to) a.0 b.0), names.names); head = head_looping tree task s n ty names.head })
+        (let number = sum_scalar (type_of tree s from) (type_of tree s to) a.0 b.0 in record {
+          names = (kept_scalar ty number, names.names);
+          head = head_in_count tree task sound sound_task local.declared s n ty scope names.head number (head_looping tree task s n ty names.head.facts);
+        })
         (subst (λ u. first_in_block tree task u body ≡ None) inner.0 w) in
         ((a.0, b.0, a.1, b.1, block.0), behind_loop s n ty body names block.1)
     form_local s line (if_form arms other) lo k scope names e w =
@@ -230,7 +254,11 @@ module _ (handing keeping : Bool) (tree : Tree) (task : TaskTree) (sound : IsSou
           (a.0, o.0),
           record {
             names = subst (AllKept keeping m) (sym (else_names tree (scope_after_arms tree s arms) other ∙ arms_names tree s arms)) names.names;
-            head = o.1;
+            head = record {
+              facts = o.1;
+              spaced = subst (AreSpaced tree) (sym (else_names tree (scope_after_arms tree s arms) other ∙ arms_names tree s arms)) names.head.spaced;
+              placed = subst ArePlaced (sym (else_names tree (scope_after_arms tree s arms) other ∙ arms_names tree s arms)) names.head.placed;
+            };
           },
         )
 
@@ -255,14 +283,14 @@ module _ (handing keeping : Bool) (tree : Tree) (task : TaskTree) (sound : IsSou
         ((t.0, t.1, b.0, r.0), r.1)
 
     else_local : (s : Scope) (line : ℕ) (other : Otherwise) → is_local_else m other ≡ true → AreKept (parts_of_otherwise other) → IsSoundScope s →
-        Ready s → first_in_else tree task s other ≡ None → IsTypedElse forms (here s line) other × KnowsHead tree task (scope_after_else tree s other)
-    else_local s line no_else lo k scope names e = (tt, names.head)
+        Ready s → first_in_else tree task s other ≡ None → IsTypedElse forms (here s line) other × KnowsFacts tree task (scope_after_else tree s other)
+    else_local s line no_else lo k scope names e = (tt, names.head.facts)
     else_local s line (else_block body) lo k scope names e =
         let b = block_local s line body lo k scope names e in (b.0, head_past tree task s (scope_after_block tree s body) (grown_has (block_grown tree s body)) b.1)
 
     pub block_local : (s : Scope) (line : ℕ) (body : Block) → is_local_block m body ≡ true → AreKept (parts_of_block body) → IsSoundScope s →
         Ready s → first_in_block tree task s body ≡ None → BlockTyped s line body
-    block_local s line no_statement lo k scope names e = (tt, names.head)
+    block_local s line no_statement lo k scope names e = (tt, names.head.facts)
     block_local s line (then_statement (a_statement at_line form) rest) lo k scope names e =
         let both = and_parts (is_local_form m form) (is_local_block m rest) lo in
         let k2 = kept_behind node (parts_of_form form ++ parts_of_block rest) k in

@@ -41,7 +41,8 @@ use Rattle.code_laws.specs.Typed.{IsScanned, IsTyped}
 use Rattle.code_rules.specs.Slots.{Where}
 use Rattle.code_laws.proofs.KnownHeads.{IsReady, head_cut, kept_may}
 use Rattle.code_laws.proofs.LocalCalls.{kept_term}
-use Rattle.code_laws.proofs.LocalNames.{IsKept, IsLocalTree, field_is, kept_partition, named_kept, parent_among, partition_is, region_is}
+use Rattle.code_laws.proofs.LocalNames.{IsKept, IsLocalTree, kept_partition, named_kept, parent_among, partition_is}
+use Rattle.code_laws.proofs.LocalPlaces.{field_is, region_is, spaced_name}
 use Rattle.code_laws.proofs.LocalParts.{region_wants}
 use Rattle.code_laws.proofs.LocalValues.{bound_among, value_space}
 use Rattle.code_laws.proofs.LocalVariables.{VarTyped, at, headed, stands_as}
@@ -100,7 +101,7 @@ module _ (handing keeping : Bool) (tree : Tree) (task : TaskTree) (sound : IsSou
       let there = and_parts (is_bound s.names r) (may_be is_region (type_named s.names r)) e in
       let b = bound_to s.names r in
       let kept = named_kept keeping m s.names r names.names there.0 in
-      record { there = there.0; may = there.1; kept = kept; region = region_is handing keeping tree sound m local s.names r b.number b.static_type kept there.1 }
+      record { there = there.0; may = there.1; kept = kept; region = region_is handing keeping tree sound m local s.names names.names r b.number b.static_type kept there.1 }
 
   -- of which a partition is kept
   pub cut_kept : (s : Scope) (n r : Name) (d : Bool) → HasRegion s r → is_among m.partitions n ≡ true →
@@ -134,7 +135,7 @@ module _ (handing keeping : Bool) (tree : Tree) (task : TaskTree) (sound : IsSou
   scanned s line r f scope names h has lacking =
       let b = bound_to s.names r in
       let t = b.static_type in
-      let field = field_is handing keeping tree sound m local s.names r b.number t f h.kept h.may has in record {
+      let field = field_is handing keeping tree sound m local s.names names.names r b.number t f (spaced_name tree s.next s.names r scope.numbers h.there names.head.spaced) h.kept h.may has in record {
         parent = record { named = h.there; numbers = scope.numbers; region = h.region };
         field = field.field;
         may = kept_may handing keeping tree task s sound_task names.head m s.names r b.number t h.kept h.region (field_place tree (space_in t) f) access.Read
@@ -168,7 +169,7 @@ module _ (handing keeping : Bool) (tree : Tree) (task : TaskTree) (sound : IsSou
       let h = has_region s r names (not-false (names_a is_region s.names r) u.names) in (
         (keeps n both.0, c.space, c.is, record { named = h.there; numbers = scope.numbers; region = h.region }),
         cut_kept s n r equal_flag h both.0,
-        head_cut tree task s n equal_flag (bound_to s.names r).number scope.numbers names.head,
+        head_cut tree task s n equal_flag (bound_to s.names r).number scope.numbers names.head.facts,
       )
 
   -- by a field of it
@@ -186,7 +187,7 @@ module _ (handing keeping : Bool) (tree : Tree) (task : TaskTree) (sound : IsSou
       let h = has_region s r names (not-false (names_a is_region s.names r) known.0) in (
         (keeps n both.0, c.space, c.is, scanned s line r f scope names h (not-false (region_has tree (type_named s.names r) f) known.1) u.reads),
         cut_kept s n r by_field_flag h both.0,
-        head_cut tree task s n by_field_flag (bound_to s.names r).number scope.numbers names.head,
+        head_cut tree task s n by_field_flag (bound_to s.names r).number scope.numbers names.head.facts,
       )
 
   -- ---- partitions of two others
@@ -229,7 +230,7 @@ module _ (handing keeping : Bool) (tree : Tree) (task : TaskTree) (sound : IsSou
       let d = both_flag (is_disjoint (bound_to s.names p).static_type) (is_disjoint (bound_to s.names q).static_type) in (
         (keeps n lo, pair.are),
         pair_kept s n p d pair.first lo,
-        head_cut tree task s n d (parent_of (bound_to s.names p).static_type) scope.numbers names.head,
+        head_cut tree task s n d (parent_of (bound_to s.names p).static_type) scope.numbers names.head.facts,
       )
 
   pub either_local : (s : Scope) (line : ℕ) (n p q : Name) → is_local_form m (var_form n None (Some (either_initializer p q))) ≡ true →
@@ -242,5 +243,5 @@ module _ (handing keeping : Bool) (tree : Tree) (task : TaskTree) (sound : IsSou
       let pair = paired s line p q scope names u.names u.partitions in (
         (keeps n lo, pair.are),
         pair_kept s n p either_flag pair.first lo,
-        head_cut tree task s n either_flag (parent_of (bound_to s.names p).static_type) scope.numbers names.head,
+        head_cut tree task s n either_flag (parent_of (bound_to s.names p).static_type) scope.numbers names.head.facts,
       )

@@ -37,7 +37,7 @@ use Rattle.code_laws.specs.Simple.{IsPartition, a_partition_type, simple_index, 
 use Rattle.code_laws.specs.Steps.{Forms}
 use Rattle.code_laws.specs.Typed.{IsKeepable, IsTyped}
 use Rattle.code_rules.specs.Slots.{Where}
-use Rattle.code_laws.proofs.KnownHeads.{IsReady, KnowsHead, head_cut}
+use Rattle.code_laws.proofs.KnownHeads.{IsReady, KnowsFacts, head_cut}
 use Rattle.code_laws.proofs.LocalArguments.{name_well}
 use Rattle.code_laws.proofs.LocalCuts.{Begins, parents_same, untold}
 use Rattle.code_laws.proofs.LocalExpressions.{computed_well, operands}
@@ -154,10 +154,10 @@ module _ (handing keeping : Bool) (tree : Tree) (task : TaskTree) (sound : IsSou
   cut_begun : (s : Scope) (n : Name) (t u : StaticType) → IsPartition t → IsRegionAmong s.names (parent_of t) → is_among m.partitions n ≡ true →
       IsSoundScope s → Ready s →
       IsKept keeping m s.names n s.next (owned s.next (operated (Compute Subtract) t u))
-      × KnowsHead tree task (knowing (with_name s n (owned s.next (operated (Compute Subtract) t u)) false)
+      × KnowsFacts tree task (knowing (with_name s n (owned s.next (operated (Compute Subtract) t u)) false)
       (known_of_child s.next (operated (Compute Subtract) t u) ++ known_of_type (owned s.next (operated (Compute Subtract) t u))))
   cut_begun s n _ u (a_partition_type d r p) among marked scope names =
-      (kept_partition d r (keeps n marked) among marked, head_cut tree task s n d r scope.numbers names.head)
+      (kept_partition d r (keeps n marked) among marked, head_cut tree task s n d r scope.numbers names.head.facts)
 
   module _ (s : Scope) (line : ℕ) (n p q : Name) (marked : is_among m.partitions n ≡ true) (scope : IsSoundScope s) (names : Ready s) where
     abbrev difference : Expression

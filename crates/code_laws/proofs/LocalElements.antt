@@ -27,34 +27,41 @@ use Rattle.code_rules.specs.Slots.{Where, bound, typed}
 use Rattle.local_form.specs.LocalForm.{Marked, is_among, is_pointing, takes_element}
 use Rattle.code_laws.specs.Handing.{forms_by}
 use Rattle.code_laws.specs.Pointers.{IsCounting}
+use Rattle.code_laws.specs.Pointers.{AreThere}
 use Rattle.code_laws.specs.Simple.{IsRegion, a_region_type, term_in}
 use Rattle.code_laws.specs.Steps.{Forms}
 use Rattle.code_laws.specs.Typed.{IsOwnRegion, IsPointing, IsTyped}
 use Rattle.code_laws.proofs.KnownHeads.{KnowsHead}
-use Rattle.code_laws.proofs.LocalNames.{AllKept, IsKept, IsLocalTree, kept_partition, kept_region, kept_scalar, kept_value, named_kept, taking_told, value_no_region}
+use Rattle.code_laws.proofs.LocalNames.{AllKept, IsKept, IsLocalTree, kept_partition, kept_region, kept_scalar, kept_value, named_kept, value_no_region}
+use Rattle.code_laws.proofs.LocalPlaces.{taking_told}
 use Rattle.code_laws.proofs.LocalPoints.{IsWell, local_known, name_there}
 use Rattle.code_laws.proofs.LocalValues.{IsRegionAmong, IsValue, bound_among, value_counts, value_pointer, value_simple}
 use Rattle.code_laws.proofs.Typing.{no_way, no_way_back, stands_well}
 use Rattle.code_laws.proofs.Values.{scalar_simple}
 use Rattle.code_laws.proofs.Wider.{counting}
 
--- a name that stands alone, an element, null and a cast are pointers of which the regions are known
-pub points_by_form : (w : Where) (e : Expression) → Falls w.scope.next w.scope.names → is_pointing e ≡ true → IsPointing w e
-points_by_form w (access_expr n no_step) falls h = falls
-points_by_form w (access_expr n (at_step e no_step)) falls h = tt
-points_by_form w (access_expr n (at_step e (field_step _ _))) falls h = absurd (no_way_back h)
-points_by_form w (access_expr n (at_step e (at_step _ _))) falls h = absurd (no_way_back h)
-points_by_form w (access_expr n (field_step _ _)) falls h = absurd (no_way_back h)
-points_by_form w (number_expr _ _) falls h = absurd (no_way_back h)
-points_by_form w (truth_expr _) falls h = absurd (no_way_back h)
-points_by_form w (chain_expr _ _) falls h = absurd (no_way_back h)
-points_by_form w (prefix_expr _ _) falls h = absurd (no_way_back h)
-points_by_form w (call_expr _ _) falls h = absurd (no_way_back h)
-points_by_form w (convert_expr _ _) falls h = absurd (no_way_back h)
-points_by_form w (is_null_expr _) falls h = absurd (no_way_back h)
-points_by_form w (null_expr _) falls h = tt
-points_by_form w (cast_expr _ _) falls h = tt
-points_by_form w (space_expr _ _) falls h = absurd (no_way_back h)
+-- a name that stands alone, an element, a field, null and a cast are pointers of which the regions are known
+pub points_by_form : (w : Where) (e : Expression) → Falls w.scope.next w.scope.names → AreThere w.scope.names (space_in (typed w e)) (reaches_of (typed w e)) →
+    is_pointing e ≡ true → IsPointing w e
+points_by_form w (access_expr n no_step) falls there h = falls
+points_by_form w (access_expr n (at_step e no_step)) falls there h = tt
+points_by_form w (access_expr n (at_step e (field_step f no_step))) falls there h = there
+points_by_form w (access_expr n (field_step f no_step)) falls there h = there
+points_by_form w (access_expr n (at_step e (field_step _ (field_step _ _)))) falls there h = absurd (no_way_back h)
+points_by_form w (access_expr n (at_step e (field_step _ (at_step _ _)))) falls there h = absurd (no_way_back h)
+points_by_form w (access_expr n (at_step e (at_step _ _))) falls there h = absurd (no_way_back h)
+points_by_form w (access_expr n (field_step _ (field_step _ _))) falls there h = absurd (no_way_back h)
+points_by_form w (access_expr n (field_step _ (at_step _ _))) falls there h = absurd (no_way_back h)
+points_by_form w (number_expr _ _) falls there h = absurd (no_way_back h)
+points_by_form w (truth_expr _) falls there h = absurd (no_way_back h)
+points_by_form w (chain_expr _ _) falls there h = absurd (no_way_back h)
+points_by_form w (prefix_expr _ _) falls there h = absurd (no_way_back h)
+points_by_form w (call_expr _ _) falls there h = absurd (no_way_back h)
+points_by_form w (convert_expr _ _) falls there h = absurd (no_way_back h)
+points_by_form w (is_null_expr _) falls there h = absurd (no_way_back h)
+points_by_form w (null_expr _) falls there h = tt
+points_by_form w (cast_expr _ _) falls there h = tt
+points_by_form w (space_expr _ _) falls there h = absurd (no_way_back h)
 
 -- ---- a name that is bound to a region under its own number
 
@@ -71,6 +78,10 @@ module _ (next : ℕ) (bs : List Bound) (falls : Falls next bs) (n : Name) (ther
 
   pub region_among : IsRegionAmong bs (bound_to bs n).number
   region_among = record { named = bound_to bs n; among = bound_among bs n there; number = refl; region = region_bound; term = ap term_in same }
+
+  pub region_of_space : space_in region_among.named.static_type ≡ sp
+  unfolding region_among
+  region_of_space = ap space_in same
 
 pub own_region : (w : Where) → Falls w.scope.next w.scope.names → (n : Name) → is_bound w.scope.names n ≡ true → (k : Kind) (sp : ℕ) (args : List Reach) →
     (bound w n).static_type ≡ region_type k sp args (place.Name (bound w n).number) → IsOwnRegion w (bound w n) (bound w n).static_type
@@ -103,7 +114,11 @@ module _ (handing keeping : Bool) (task : TaskTree) (w : Where) (sound : IsSound
   of_region n e there keeps k sp args same is counts = record {
     is = (keeps, is, counts, there, region_bound w.scope.next w.scope.names scope.numbers n there k sp args same, own_region w scope.numbers n there k sp args same);
     value = subst (λ t. IsValue keeping w.scope.names (type_of_element w.scope t e)) (sym same)
-        (value_pointer k sp args _ keeps (region_among w.scope.next w.scope.names scope.numbers n there k sp args same, tt));
+        (value_pointer k sp args _ keeps (
+          region_among w.scope.next w.scope.names scope.numbers n there k sp args same,
+          region_of_space w.scope.next w.scope.names scope.numbers n there k sp args same,
+          tt,
+        ));
     scalar = λ q. absurd (no_way_back q);
     plain = λ q. absurd (no_way q);
   }

@@ -31,7 +31,7 @@ use Rattle.check_rules.specs.types.TypedForms.{calling, computing, element_of, f
 use Rattle.check_rules.specs.declared.rule.Rule.TheVariants as rule
 use Rattle.check_rules.proofs.Untold.{rule_none}
 use Rattle.code_rules.specs.Slots.{Where, bound, typed}
-use Rattle.local_form.specs.LocalForm.{Marked, are_local_arguments, are_local_expressions, are_local_links, gives_scalar, is_among, is_local_expression, is_name, is_part, links_give, converts_to, gives_pointer, goes_to_names, takes_element}
+use Rattle.local_form.specs.LocalForm.{Marked, are_local_arguments, are_local_expressions, are_local_links, gives_scalar, is_among, is_kept_field, is_local_expression, is_name, is_part, links_give, converts_to, gives_pointer, goes_to_names, takes_element}
 use Rattle.code_laws.specs.Handing.{forms_by}
 use Rattle.code_laws.specs.Pointers.{ConvertsTo, CountsAs, term_index}
 use Rattle.code_laws.specs.Simple.{IsPartition, IsScalar, IsSimple, a_partition_type, scalar_integer, scalar_truth, simple_index, simple_space, simple_truth, term_32, term_64}
@@ -41,7 +41,8 @@ use Rattle.code_laws.proofs.KnownHeads.{KnowsHead}
 use Rattle.code_laws.proofs.LocalElements.{element_well}
 use Rattle.code_laws.proofs.LocalNulls.{cast_well, is_null_well, null_well}
 use Rattle.code_laws.proofs.LocalParts.{and_then, given_result}
-use Rattle.code_laws.proofs.LocalNames.{AllKept, AreScalars, AreTakable, IsLocalTree, named_kept, named_place, no_partition_kept, kept_as_value, partition_keeps, partition_or}
+use Rattle.code_laws.proofs.LocalNames.{AllKept, AreScalars, AreTakable, IsLocalTree, named_kept, no_partition_kept, kept_as_value, partition_keeps, partition_or}
+use Rattle.code_laws.proofs.LocalPlaces.{named_place}
 use Rattle.code_laws.proofs.LocalTypes.{left_alone, operated_number, simple_computed}
 use Rattle.code_laws.proofs.TypedStatements.{first_stands}
 use Rattle.check_laws.proofs.Widths.{literal_fits}
@@ -123,7 +124,7 @@ module _ (handing keeping : Bool) (task : TaskTree) (w : Where) (sound : IsSound
       subst IsSimple (sym (colours_typed w.tree (bound w n).static_type f cut)) (simple_space Int1d) in record {
         is = (keeps, inr (cut_name handing keeping task w sound sound_task m local scope names head n there cut));
         value = value_simple _ space;
-        scalar = λ q. absurd (no_way (sym marked ∙ not-true (is_among m.partitions n) (and_parts (not (is_among m.partitions n)) (not (is_among m.index_fields f)) q).0));
+        scalar = λ q. absurd (no_way (sym marked ∙ not-true (is_among m.partitions n) (and_parts (not (is_among m.partitions n)) (not (is_kept_field m f)) q).0));
         plain = λ q. space;
       }
 
@@ -179,8 +180,8 @@ module _ (handing keeping : Bool) (task : TaskTree) (w : Where) (sound : IsSound
         let p = behind_name handing keeping task w sound sound_task m local scope names head n f there other reading.0 in
         let may = gone handing keeping task w sound sound_task m local scope names head n f access.Read p (rule_none _ rule.Read reading.1) in
         held_well handing keeping task w sound sound_task m local scope names head (access_expr n (field_step f no_step)) f _
-        (p.keeps, inl (is_behind handing keeping task w sound sound_task m local scope names head n f there p, may)) p.held
-        (λ q. not-true (is_among m.index_fields f) (and_parts (not (is_among m.partitions n)) (not (is_among m.index_fields f)) q).1))
+        (p.keeps, inl (is_behind handing keeping task w sound sound_task m local scope names head n f there p, may)) p.held p.holds
+        (λ q. not-true (is_kept_field m f) (and_parts (not (is_among m.partitions n)) (not (is_kept_field m f)) q).1) (λ q. q))
         (partition_or keeping m w.scope.names n (bound w n).number t kept)
     local_well (access_expr n (at_step e (field_step f no_step))) lo k none =
         let t = (bound w n).static_type in
@@ -197,7 +198,7 @@ module _ (handing keeping : Bool) (task : TaskTree) (w : Where) (sound : IsSound
         let is = named_place handing keeping w sound m local n e f scope there p.place in
         let may = touched handing keeping task w sound sound_task m local scope names head n e f access.Read there p (rule_none _ rule.Read reading.1) in
         held_well handing keeping task w sound sound_task m local scope names head (access_expr n (at_step e (field_step f no_step))) f _
-        (a.is, p.number, is.0, is.1, may) p.place.held (λ q. not-true (is_among m.index_fields f) q)
+        (a.is, p.number, is.0, is.1, may) p.place.held p.place.among (λ q. not-true (is_kept_field m f) q) (λ q. q)
     local_well (convert_expr t e) lo k none =
         let s = and_parts (converts_to m t) (is_local_expression m e) lo in
         let told = option_or_parts (first_in_expression w.tree task w.scope e) _ none in

@@ -142,7 +142,7 @@ module _ (handing keeping : Bool) (tree : Tree) (task : TaskTree) (sound : IsSou
           below,
         ),
         cut_kept handing keeping tree task sound sound_task m local params result keeps s n a image_flag are.parent lo,
-        head_cut tree task s n image_flag (bound_to s.names a).number scope.numbers names.head,
+        head_cut tree task s n image_flag (bound_to s.names a).number scope.numbers names.head.facts,
       )
 
   -- the points at which a field names those of a partition
@@ -173,5 +173,5 @@ module _ (handing keeping : Bool) (tree : Tree) (task : TaskTree) (sound : IsSou
           below,
         ),
         cut_kept handing keeping tree task sound sound_task m local params result keeps s n a d are.parent lo,
-        head_cut tree task s n d b.number scope.numbers names.head,
+        head_cut tree task s n d b.number scope.numbers names.head.facts,
       )

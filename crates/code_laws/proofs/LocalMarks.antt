@@ -1,5 +1,5 @@
--- The fields of a text of the form: each is a number, a truth or an index, and the names of those that hold indices are
--- marked in each task, as no statement marks a field.
+-- The fields of a text of the form: each is a number, a truth, an index or a pointer, and the names of those that hold indices
+-- or pointers are marked in each task, as no statement marks a field.
 use Rattle.std.proofs.Common.{◌≡◌, inl, inr, Bool, List, [], ◌∷◌, ◌++◌, None, Some, false, true, refl, ap, sym, subst, suc, ◌∙◌, arith, cond}
 use Rattle.std.specs.Prelude.{bytes_eq, get_or, map, ◌||◌, ◌+◌}
 use Rattle.std.proofs.lemmas.Bool.{and_parts}
@@ -14,8 +14,8 @@ use Rattle.regent_tree.specs.declared.types.Param.{Param}
 use Rattle.regent_tree.specs.declared.types.TypeTerm.{TypeTerm}
 use Rattle.regent_tree.specs.declared.types.TypeTerm.TheVariants as term
 use Rattle.check_laws.proofs.Parameters.{place_step}
-use Rattle.local_form.specs.LocalForm.{Marked, are_local_fields, are_scalar_params, gives_pointer, gives_scalar, is_among, is_difference, is_index_term, is_region_name, is_region_term, marked_by, marked_by_arms, marked_by_else, marked_by_item, marked_by_items, marked_by_task, marked_by_term, marked_fields, marked_in, marked_param, marked_params, unmarked, with_either, with_index, with_index_field, with_partition, with_region}
-use Rattle.code_laws.proofs.LocalFields.{IsFieldTerm, field_index, field_scalar}
+use Rattle.local_form.specs.LocalForm.{Marked, are_local_fields, are_scalar_params, gives_pointer, gives_scalar, is_among, is_difference, is_index_or_space, is_index_term, is_local_field, is_pointer_term, is_region_name, is_region_term, marked_by, marked_by_arms, marked_by_else, marked_by_item, marked_by_items, marked_by_task, marked_by_term, marked_field, marked_fields, marked_in, marked_param, marked_params, unmarked, with_either, with_index, with_index_field, with_partition, with_pointer_field, with_region}
+use Rattle.code_laws.proofs.LocalFields.{FieldMarks, field_pointer, fields_of, IsFieldTerm, field_index, field_scalar}
 use Rattle.code_laws.proofs.Typing.{no_way_back}
 use Rattle.scalar_form.specs.ScalarForm.{is_scalar_term}
 
@@ -33,8 +33,8 @@ among_added ns p n same =
 -- ---- no statement marks a field
 
 -- what is marked of fields
-abbrev Fields : Marked → List Name
-Fields m = m.index_fields
+abbrev Fields : Marked → FieldMarks
+Fields m = fields_of m
 
 either_fields : (b : Bool) (n : Name) (m : Marked) → Fields (with_either b n m) ≡ Fields m
 either_fields true n m = refl
@@ -91,7 +91,7 @@ mutual
 
 params_fields : (ps : List Param) (m : Marked) → Fields (marked_params ps m) ≡ Fields m
 params_fields [] m = refl
-params_fields (p ∷ ps) m = params_fields ps (marked_param p m) ∙ one (is_region_term p.term) (is_index_term p.term)
+params_fields (p ∷ ps) m = params_fields ps (marked_param p m) ∙ one (is_region_term p.term) (is_index_or_space p.term)
   where
     one : (b c : Bool) → Fields (cond b (with_region p.name m) (cond c (with_index p.name m) m)) ≡ Fields m
     one true c = refl
@@ -103,74 +103,123 @@ task_fields : (tree : Tree) (t : TaskTree) → Fields (marked_by_task tree t) �
 task_fields tree t =
     block_fields t.body (marked_params t.params (marked_by_items tree unmarked)) ∙ params_fields t.params (marked_by_items tree unmarked)
 
--- ---- the program marks each field that holds indices
+-- ---- the program marks each field that holds indices or pointers
 
 module _ (n : Name) where
   abbrev IsMarked : Marked → Type 0
   IsMarked m = is_among m.index_fields n ≡ true
 
-  one_stays : (b : Bool) (k : Name) (m : Marked) → IsMarked m → IsMarked (cond b (with_index_field k m) m)
-  one_stays true k m h = among_left m.index_fields (k ∷ []) n h
-  one_stays false k m h = h
+  abbrev IsPointerMarked : Marked → Type 0
+  IsPointerMarked m = is_among m.pointer_fields n ≡ true
 
-  stays_marked : (ps : List Param) (m : Marked) → IsMarked m → IsMarked (marked_fields ps m)
-  stays_marked [] m h = h
-  stays_marked (p ∷ ps) m h = stays_marked ps (cond (is_index_term p.term) (with_index_field p.name m) m) (one_stays (is_index_term p.term) p.name m h)
+  -- what is marked stays so
+  both_stay : (b c : Bool) (k : Name) (m : Marked) → IsMarked m → IsMarked (cond b (with_index_field k m) (cond c (with_pointer_field k m) m))
+  both_stay true c k m h = among_left m.index_fields (k ∷ []) n h
+  both_stay false true k m h = h
+  both_stay false false k m h = h
 
-  field_marked : (ps : List Param) (m : Marked) (p : Param) → Has ps p → is_index_term p.term ≡ true → p.name ≡ n → IsMarked (marked_fields ps m)
-  field_marked [] m p h e same = absurd h
-  field_marked (q ∷ ps) m p (inr h) e same = field_marked ps (cond (is_index_term q.term) (with_index_field q.name m) m) p h e same
-  field_marked (q ∷ ps) m p (inl here) e same =
-      stays_marked ps (cond (is_index_term q.term) (with_index_field q.name m) m)
-      (subst (λ b. IsMarked (cond b (with_index_field q.name m) m)) (sym (ap (λ (x : Param). is_index_term x.term) here ∙ e))
-      (among_added m.index_fields q.name n (ap (λ (x : Param). x.name) here ∙ same)))
+  pointers_stay : (b c : Bool) (k : Name) (m : Marked) → IsPointerMarked m → IsPointerMarked (cond b (with_index_field k m) (cond c (with_pointer_field k m) m))
+  pointers_stay true c k m h = h
+  pointers_stay false true k m h = among_left m.pointer_fields (k ∷ []) n h
+  pointers_stay false false k m h = h
 
-  item_stays : (i : ItemForm) (m : Marked) → IsMarked m → IsMarked (marked_by_item i m)
-  item_stays import_item m h = h
-  item_stays (alias_item k) m h = h
-  item_stays (start_item k) m h = h
-  item_stays (space_item s) m h = stays_marked s.fields m h
-  item_stays (task_item t) m h = h
+  -- of either kind: a claim on marks that a field space's field makes, and that stays
+  module _ (Is : Marked → Type 0) (holds : Param → Bool) (stays : (p : Param) (m : Marked) → Is m → Is (marked_field p m))
+      (marks : (p : Param) (m : Marked) → holds p ≡ true → p.name ≡ n → Is (marked_field p m)) where
+    fields_keep : (ps : List Param) (m : Marked) → Is m → Is (marked_fields ps m)
+    fields_keep [] m h = h
+    fields_keep (p ∷ ps) m h = fields_keep ps (marked_field p m) (stays p m h)
 
-  items_stay : (items : Tree) (m : Marked) → IsMarked m → IsMarked (marked_by_items items m)
-  items_stay [] m h = h
-  items_stay (i ∷ items) m h = items_stay items (marked_by_item i.form m) (item_stays i.form m h)
+    field_makes : (ps : List Param) (m : Marked) (p : Param) → Has ps p → holds p ≡ true → p.name ≡ n → Is (marked_fields ps m)
+    field_makes [] m p h e same = absurd h
+    field_makes (q ∷ ps) m p (inr h) e same = field_makes ps (marked_field q m) p h e same
+    field_makes (q ∷ ps) m p (inl here) e same =
+        fields_keep ps (marked_field q m) (marks q m (ap holds here ∙ e) (ap (λ (x : Param). x.name) here ∙ same))
 
-  items_mark : (items : Tree) (m : Marked) (i : ItemTree) → Has items i → (s : FieldSpace) → i.form ≡ space_item s → (p : Param) → Has s.fields p →
+    item_keeps : (i : ItemForm) (m : Marked) → Is m → Is (marked_by_item i m)
+    item_keeps import_item m h = h
+    item_keeps (alias_item k) m h = h
+    item_keeps (start_item k) m h = h
+    item_keeps (space_item s) m h = fields_keep s.fields m h
+    item_keeps (task_item t) m h = h
+
+    items_keep : (items : Tree) (m : Marked) → Is m → Is (marked_by_items items m)
+    items_keep [] m h = h
+    items_keep (i ∷ items) m h = items_keep items (marked_by_item i.form m) (item_keeps i.form m h)
+
+    items_make : (items : Tree) (m : Marked) (i : ItemTree) → Has items i → (s : FieldSpace) → i.form ≡ space_item s → (p : Param) → Has s.fields p →
+        holds p ≡ true → p.name ≡ n → Is (marked_by_items items m)
+    items_make [] m i h s is p has e same = absurd h
+    items_make (j ∷ items) m i (inr h) s is p has e same = items_make items (marked_by_item j.form m) i h s is p has e same
+    items_make (j ∷ items) m i (inl here) s is p has e same =
+        items_keep items (marked_by_item j.form m)
+        (subst (λ form. Is (marked_by_item form m)) (sym (ap (λ (x : ItemTree). x.form) here ∙ is)) (field_makes s.fields m p has e same))
+
+  abbrev HoldsIndices : Param → Bool
+  HoldsIndices p = is_index_term p.term
+
+  abbrev HoldsPointers : Param → Bool
+  HoldsPointers p = is_pointer_term p.term
+
+  index_made : (p : Param) (m : Marked) → is_index_term p.term ≡ true → p.name ≡ n → IsMarked (marked_field p m)
+  index_made p m e same = subst (λ b. IsMarked (cond b (with_index_field p.name m) (cond (is_pointer_term p.term) (with_pointer_field p.name m) m))) (sym e)
+      (among_added m.index_fields p.name n same)
+
+  -- a pointer is no index
+  apart : (t : TypeTerm) → is_pointer_term t ≡ true → is_index_term t ≡ false
+  apart (term.Pointer p) e = refl
+  apart (term.Number number.Int32) e = absurd (no_way_back e)
+  apart (term.Number number.Int64) e = absurd (no_way_back e)
+  apart (term.Number (number.Index k)) e = absurd (no_way_back e)
+  apart term.Truth e = absurd (no_way_back e)
+  apart (term.Ispace k) e = absurd (no_way_back e)
+  apart (term.Region k u) e = absurd (no_way_back e)
+  apart (term.Partition d r c) e = absurd (no_way_back e)
+
+  pointer_made : (p : Param) (m : Marked) → is_pointer_term p.term ≡ true → p.name ≡ n → IsPointerMarked (marked_field p m)
+  pointer_made p m e same =
+      subst (λ b. IsPointerMarked (cond b (with_index_field p.name m) (cond (is_pointer_term p.term) (with_pointer_field p.name m) m))) (sym (apart p.term e))
+      (subst (λ c. IsPointerMarked (cond c (with_pointer_field p.name m) m)) (sym e) (among_added m.pointer_fields p.name n same))
+
+  indices_marked : (items : Tree) (m : Marked) (i : ItemTree) → Has items i → (s : FieldSpace) → i.form ≡ space_item s → (p : Param) → Has s.fields p →
       is_index_term p.term ≡ true → p.name ≡ n → IsMarked (marked_by_items items m)
-  items_mark [] m i h s is p has e same = absurd h
-  items_mark (j ∷ items) m i (inr h) s is p has e same = items_mark items (marked_by_item j.form m) i h s is p has e same
-  items_mark (j ∷ items) m i (inl here) s is p has e same =
-      items_stay items (marked_by_item j.form m)
-      (subst (λ form. IsMarked (marked_by_item form m)) (sym (ap (λ (x : ItemTree). x.form) here ∙ is)) (field_marked s.fields m p has e same))
+  indices_marked = items_make IsMarked HoldsIndices (λ p m. both_stay (is_index_term p.term) (is_pointer_term p.term) p.name m) index_made
+
+  pointers_marked : (items : Tree) (m : Marked) (i : ItemTree) → Has items i → (s : FieldSpace) → i.form ≡ space_item s → (p : Param) → Has s.fields p →
+      is_pointer_term p.term ≡ true → p.name ≡ n → IsPointerMarked (marked_by_items items m)
+  pointers_marked = items_make IsPointerMarked HoldsPointers (λ p m. pointers_stay (is_index_term p.term) (is_pointer_term p.term) p.name m) pointer_made
 
 -- ---- the term of a field
 
 -- that of the field of a name, in a field space that holds such fields
-abbrev pub HasFieldTerms : Bool → List Name → FieldSpace → Type 0
+abbrev pub HasFieldTerms : Bool → FieldMarks → FieldSpace → Type 0
 HasFieldTerms keeping marked s = (f : Name) → has_param s.fields f ≡ true →
     IsFieldTerm keeping marked f (get_or (map (λ (p : Param). p.term) s.fields) (place_in s.fields f) term.Truth)
 
-module _ (keeping : Bool) (marked : List Name) (f : Name) where
-  one_term : (t : TypeTerm) → (is_scalar_term t || is_index_term t) ≡ true → (is_index_term t ≡ true → (keeping ≡ true) × (is_among marked f ≡ true)) →
-      IsFieldTerm keeping marked f t
-  one_term (term.Number number.Int32) e index = field_scalar _ refl
-  one_term (term.Number number.Int64) e index = field_scalar _ refl
-  one_term (term.Number (number.Index k)) e index = let h = index refl in field_index k h.0 h.1
-  one_term term.Truth e index = field_scalar _ refl
-  one_term (term.Pointer p) e index = absurd (no_way_back e)
-  one_term (term.Ispace k) e index = absurd (no_way_back e)
-  one_term (term.Region k u) e index = absurd (no_way_back e)
-  one_term (term.Partition d r c) e index = absurd (no_way_back e)
+module _ (keeping : Bool) (marked : FieldMarks) (f : Name) where
+  -- what is known of a field that holds indices or pointers
+  record IsTold (t : TypeTerm) : Type 0 where
+    indices : is_index_term t ≡ true → (keeping ≡ true) × (is_among marked.0 f ≡ true)
+    pointers : is_pointer_term t ≡ true → (keeping ≡ true) × (is_among marked.1 f ≡ true)
+
+  one_term : (t : TypeTerm) → (is_scalar_term t || (is_index_term t || is_pointer_term t)) ≡ true → IsTold t → IsFieldTerm keeping marked f t
+  one_term (term.Number number.Int32) e told = field_scalar _ refl
+  one_term (term.Number number.Int64) e told = field_scalar _ refl
+  one_term (term.Number (number.Index k)) e told = let h = told.indices refl in field_index k h.0 h.1
+  one_term term.Truth e told = field_scalar _ refl
+  one_term (term.Pointer p) e told = let h = told.pointers refl in field_pointer p h.0 h.1
+  one_term (term.Ispace k) e told = absurd (no_way_back e)
+  one_term (term.Region k u) e told = absurd (no_way_back e)
+  one_term (term.Partition d r c) e told = absurd (no_way_back e)
 
   term_at_place : (ps : List Param) → are_local_fields ps ≡ true → has_param ps f ≡ true →
-      ((p : Param) → Has ps p → is_index_term p.term ≡ true → p.name ≡ f → (keeping ≡ true) × (is_among marked f ≡ true)) →
+      ((p : Param) → Has ps p → p.name ≡ f → IsTold p.term) →
       IsFieldTerm keeping marked f (get_or (map (λ (p : Param). p.term) ps) (place_in ps f) term.Truth)
-  term_at_place [] e has index = absurd (no_way_back has)
-  term_at_place (p ∷ ps) e has index = chosen (bytes_eq p.name f) refl (λ h. term_at_place ps both.1 h (λ q g. index q (inr g))) has
+  term_at_place [] e has told = absurd (no_way_back has)
+  term_at_place (p ∷ ps) e has told = chosen (bytes_eq p.name f) refl (λ h. term_at_place ps both.1 h (λ q g. told q (inr g))) has
     where
-      both : ((is_scalar_term p.term || is_index_term p.term) ≡ true) × (are_local_fields ps ≡ true)
-      both = and_parts (is_scalar_term p.term || is_index_term p.term) (are_local_fields ps) e
+      both : (is_local_field p ≡ true) × (are_local_fields ps ≡ true)
+      both = and_parts (is_local_field p) (are_local_fields ps) e
 
       next : 1 + place_in ps f ≡ suc (place_in ps f)
       next = omega (arith)
@@ -181,16 +230,25 @@ module _ (keeping : Bool) (marked : List Name) (f : Name) where
           IsFieldTerm keeping marked f (get_or (map (λ (p : Param). p.term) (p ∷ ps)) (place_in (p ∷ ps) f) term.Truth)
       chosen true q more h =
           subst (λ k. IsFieldTerm keeping marked f (get_or (map (λ (p : Param). p.term) (p ∷ ps)) k term.Truth)) (sym (place_step p ps f true q))
-          (one_term p.term both.0 (λ i. index p (inl refl) i ((bytes_eq-Decides p.name f).0 q)))
+          (one_term p.term both.0 (told p (inl refl) ((bytes_eq-Decides p.name f).0 q)))
       chosen false q more h =
           subst (λ k. IsFieldTerm keeping marked f (get_or (map (λ (p : Param). p.term) (p ∷ ps)) k term.Truth)) (sym (place_step p ps f false q ∙ next))
           (more h)
 
--- so of each field space of a program of the form; where pointers aren't kept, no field holds indices
+-- so of each field space of a program of the form; where pointers aren't kept, no field holds indices or pointers
 pub space_terms : (keeping : Bool) (tree : Tree) (t : TaskTree) (i : ItemTree) → Has tree i → (s : FieldSpace) → i.form ≡ space_item s → are_local_fields s.fields ≡ true →
-    (keeping ≡ false → are_scalar_params s.fields ≡ true) → HasFieldTerms keeping (marked_by_task tree t).index_fields s
-space_terms keeping tree t i h s is local plain f has = term_at_place keeping (marked_by_task tree t).index_fields f s.fields local has
-    (λ p g e same. (kept keeping plain p g e, subst (λ ns. is_among ns f ≡ true) (sym (task_fields tree t)) (items_mark f tree unmarked i h s is p g e same)))
+    (keeping ≡ false → are_scalar_params s.fields ≡ true) → HasFieldTerms keeping (fields_of (marked_by_task tree t)) s
+space_terms keeping tree t i h s is local plain f has = term_at_place keeping (fields_of (marked_by_task tree t)) f s.fields local has
+    (λ p g same. record {
+      indices = λ e. (
+        kept keeping plain p g (λ x. no_index p.term x e),
+        subst (λ (ns : FieldMarks). is_among ns.0 f ≡ true) (sym (task_fields tree t)) (indices_marked f tree unmarked i h s is p g e same),
+      );
+      pointers = λ e. (
+        kept keeping plain p g (λ x. no_pointer p.term x e),
+        subst (λ (ns : FieldMarks). is_among ns.1 f ≡ true) (sym (task_fields tree t)) (pointers_marked f tree unmarked i h s is p g e same),
+      );
+    })
   where
     no_index : (t : TypeTerm) → is_scalar_term t ≡ true → is_index_term t ≡ true → ⊥
     no_index (term.Number (number.Index k)) e x = no_way_back e
@@ -202,11 +260,21 @@ space_terms keeping tree t i h s is local plain f has = term_at_place keeping (m
     no_index (term.Region k u) e x = no_way_back x
     no_index (term.Partition d r c) e x = no_way_back x
 
+    no_pointer : (t : TypeTerm) → is_scalar_term t ≡ true → is_pointer_term t ≡ true → ⊥
+    no_pointer (term.Pointer p) e x = no_way_back e
+    no_pointer (term.Number number.Int32) e x = no_way_back x
+    no_pointer (term.Number number.Int64) e x = no_way_back x
+    no_pointer (term.Number (number.Index k)) e x = no_way_back x
+    no_pointer term.Truth e x = no_way_back x
+    no_pointer (term.Ispace k) e x = no_way_back x
+    no_pointer (term.Region k u) e x = no_way_back x
+    no_pointer (term.Partition d r c) e x = no_way_back x
+
     scalar_one : (ps : List Param) → are_scalar_params ps ≡ true → (p : Param) → Has ps p → is_scalar_term p.term ≡ true
     scalar_one [] e p h = absurd h
     scalar_one (q ∷ ps) e p (inl same) = subst (λ (x : Param). is_scalar_term x.term ≡ true) same (and_parts (is_scalar_term q.term) (are_scalar_params ps) e).0
     scalar_one (q ∷ ps) e p (inr h) = scalar_one ps (and_parts (is_scalar_term q.term) (are_scalar_params ps) e).1 p h
 
-    kept : (b : Bool) → (b ≡ false → are_scalar_params s.fields ≡ true) → (p : Param) → Has s.fields p → is_index_term p.term ≡ true → b ≡ true
-    kept true plain p h e = refl
-    kept false plain p h e = absurd (no_index p.term (scalar_one s.fields (plain refl) p h) e)
+    kept : (b : Bool) → (b ≡ false → are_scalar_params s.fields ≡ true) → (p : Param) → Has s.fields p → (is_scalar_term p.term ≡ true → ⊥) → b ≡ true
+    kept true plain p h other = refl
+    kept false plain p h other = absurd (other (scalar_one s.fields (plain refl) p h))

@@ -47,11 +47,11 @@ use Rattle.code_laws.specs.Pointers.{AreThere, BeginsAs, BeginsWith, GoesInto, I
 use Rattle.code_laws.specs.Simple.{IsScalar, number_index, number_integer, scalar_truth, simple_index, simple_integer, simple_space, simple_truth}
 use Rattle.code_laws.specs.Steps.{Forms}
 use Rattle.code_laws.proofs.KnownHeads.{KnowsHead}
-use Rattle.code_laws.proofs.LocalElements.{region_among, region_found, region_typed}
+use Rattle.code_laws.proofs.LocalElements.{region_among, region_found, region_of_space, region_typed}
 use Rattle.code_laws.proofs.LocalNames.{AllKept, IsKept, IsLocalTree, kept_partition, kept_region, kept_scalar, kept_value, named_kept}
 use Rattle.code_laws.proofs.LocalPoints.{IsWell, local_known, scalar_well}
 use Rattle.code_laws.proofs.LocalTypes.{term_scalar}
-use Rattle.code_laws.proofs.LocalValues.{AreAmong, IsRegionAmong, IsValue, alike_begins, names_among, none_wild, scalar_begins, value_counts, value_fitting, value_pointer, value_simple}
+use Rattle.code_laws.proofs.LocalValues.{AreAmong, IsRegionAmong, IsValue, alike_begins, names_among, pointer_fitting, scalar_begins, value_counts, value_fitting, value_pointer, value_simple}
 use Rattle.code_laws.proofs.Typing.{no_way, no_way_back, stands_well}
 use Rattle.code_laws.proofs.Values.{scalar_simple}
 use Rattle.code_laws.proofs.Wider.{counting}
@@ -82,6 +82,7 @@ module _ (keeping : Bool) (m : Marked) (keeps : m.keeps ≡ true → keeping ≡
   -- a name in the type's list is bound to a region of the pointer's field space
   record IsNamed (p : PointerTerm) (n : Name) : Type 0 where
     among : IsRegionAmong s.names (bound_to s.names n).number
+    in_space : space_in among.named.static_type ≡ place_of_space tree p.space.name
     there : AreThere s.names (place_of_space tree p.space.name) (Some (place.Name (bound_to s.names n).number) ∷ [])
 
   named_of : (p : PointerTerm) (n : Name) → is_bound s.names n ≡ true → has_space tree p.space.name ≡ true →
@@ -96,6 +97,7 @@ module _ (keeping : Bool) (m : Marked) (keeps : m.keeps ≡ true → keeping ≡
       let place_same : place_of_space tree p.space.name ≡ sp =
       eqb-true (place_of_space tree p.space.name) sp (space_same (has_space tree p.space.name) (same_kind p.kind k) _ space e) in record {
         among = region_among s.next s.names scope.numbers n there k sp args same;
+        in_space = region_of_space s.next s.names scope.numbers n there k sp args same ∙ sym place_same;
         there = (
           ap (λ (c : Bound). c.number) found,
           region_typed s.next s.names scope.numbers n there k sp args same,
@@ -107,8 +109,10 @@ module _ (keeping : Bool) (m : Marked) (keeps : m.keeps ≡ true → keeping ≡
   -- so each name of a list
   named_all : (p : PointerTerm) (rs : List Ref) → list_all (goes_to_name m) rs ≡ true → has_space tree p.space.name ≡ true →
       list_any (is_wrong_region_of_pointer tree s.names p) rs ≡ false →
-      AreAmong s.names (map (looked_up (in_scope s)) rs) × AreThere s.names (place_of_space tree p.space.name) (map (looked_up (in_scope s)) rs)
-  named_all p [] goes space right = (tt, tt)
+      AreAmong s.names (place_of_space tree p.space.name) (map (looked_up (in_scope s)) rs)
+      × AreThere s.names (place_of_space tree p.space.name) (map (looked_up (in_scope s)) rs)
+      × (has_wild (map (looked_up (in_scope s)) rs) ≡ false)
+  named_all p [] goes space right = (tt, tt, refl)
   named_all p (Named n ∷ rs) goes space right =
       let both = and_parts (takes_element m n) (list_all (goes_to_name m) rs) goes in
       let apart = or_parts (not (names_a (is_region_in tree p) s.names n)) (list_any (is_wrong_region_of_pointer tree s.names p) rs) right in
@@ -116,7 +120,7 @@ module _ (keeping : Bool) (m : Marked) (keeps : m.keeps ≡ true → keeping ≡
       (not-false (names_a (is_region_in tree p) s.names n) apart.0) in
       let is = named_of p n named.0 space (type_named s.names n) refl (named_kept keeping m s.names n names named.0) named.1 in
       let more = named_all p rs both.1 space apart.1 in
-      ((is.among, more.0), (is.there.0, is.there.1, is.there.2, more.1))
+      ((is.among, is.in_space, more.0), (is.there.0, is.there.1, is.there.2, more.1), more.2)
   named_all p (Wild ∷ rs) goes space right = absurd (no_way_back goes)
 
   -- there is a name in the list, so pointers are kept
@@ -141,8 +145,8 @@ module _ (keeping : Bool) (m : Marked) (keeps : m.keeps ≡ true → keeping ≡
       let reaches = map (looked_up (in_scope s)) p.regions in record {
         keep = some.0;
         value = value_pointer p.kind _ _ reaches some.0 named.0;
-        written = (a_pointer_type _ _ _ reaches (names_among s.names reaches named.0), named.1);
-        certain = none_wild s.names reaches named.0;
+        written = (a_pointer_type _ _ _ reaches (names_among s.names (place_of_space tree p.space.name) reaches named.0), named.1);
+        certain = named.2;
       }
 
   -- a type of which nothing is told is as it is written
@@ -167,13 +171,6 @@ index_goes b bs known _ k (value_simple _ (simple_index j)) e = into_plain _ _ (
 index_goes b bs known _ k (value_simple _ simple_truth) e = absurd (no_way_back e)
 index_goes b bs known _ k (value_simple _ (simple_space j)) e = absurd (no_way_back e)
 index_goes b bs known _ k (value_pointer j sp args i h r) e = into_index j sp args _ k
-
-pointer_goes : (b : Bool) (bs : List Bound) (known : List Known) (from u : StaticType) → IsValue b bs from → IsPointer u → fits known from u ≡ true → IsPointer from
-pointer_goes b bs known _ _ (value_simple _ (simple_integer w)) (a_pointer_type k sp args rs ns) e = absurd (no_way_back e)
-pointer_goes b bs known _ _ (value_simple _ (simple_index j)) (a_pointer_type k sp args rs ns) e = absurd (no_way_back e)
-pointer_goes b bs known _ _ (value_simple _ simple_truth) (a_pointer_type k sp args rs ns) e = absurd (no_way_back e)
-pointer_goes b bs known _ _ (value_simple _ (simple_space j)) (a_pointer_type k sp args rs ns) e = absurd (no_way_back e)
-pointer_goes b bs known _ _ (value_pointer j sq brgs i h r) u e = a_pointer_type j sq brgs i (names_among bs i r)
 
 module _ (keeping : Bool) (m : Marked) (keeps : m.keeps ≡ true → keeping ≡ true) (tree : Tree) (s : Scope) (scope : IsSoundScope s) (names : AllKept keeping m s.names) where
   -- a variable of a written type: what it is, and how it begins, by itself or with what fits
@@ -214,7 +211,7 @@ module _ (keeping : Bool) (m : Marked) (keeps : m.keeps ≡ true → keeping ≡
         kept = kept_value u is.value two.0 (λ q. two.1);
         itself = subst (λ b. BeginsAs b s.names u) (sym is.keep) (itself_null u is.written);
         begins = λ from v fit. subst (λ b. BeginsWith b s.names from u) (sym is.keep)
-            (begins_pointer from u (pointer_goes keeping s.names s.known from u v is.written.0 fit) is.written);
+            (begins_pointer from u (pointer_fitting keeping s.names s.known from u v is.written.0 fit) is.written);
       }
   variable_said n (term.Ispace k) lo e = absurd (no_way_back lo)
   variable_said n (term.Region k u) lo e = absurd (no_way_back lo)
@@ -255,7 +252,7 @@ module _ (handing keeping : Bool) (task : TaskTree) (w : Where) (sound : IsSound
   pointer_value _ (value_simple _ simple_truth) e = absurd (no_way_back e)
   pointer_value _ (value_simple _ (simple_space k)) e = absurd (no_way_back e)
   pointer_value _ (value_simple _ (simple_index k)) e = absurd (no_way_back e)
-  pointer_value _ (value_pointer k sp args i q r) e = (q, a_pointer_type k sp args i (names_among w.scope.names i r))
+  pointer_value _ (value_pointer k sp args i q r) e = (q, a_pointer_type k sp args i (names_among w.scope.names sp i r))
 
   pub is_null_well : (e : Expression) → first_in_expression w.tree task w.scope (is_null_expr e) ≡ None →
       (first_in_expression w.tree task w.scope e ≡ None → Well e) → Well (is_null_expr e)

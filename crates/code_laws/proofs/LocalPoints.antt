@@ -3,7 +3,6 @@
 use Rattle.std.proofs.Common.{◌≡◌, Bool, [], None, false, true, ap, subst, ◌∙◌, not}
 use Rattle.std.proofs.lemmas.Bool.{not-false}
 use Rattle.plain_values.proofs.Plain.{option_or_parts}
-use Rattle.lane_kernels.specs.declared.numbers.FieldKind.{FieldKind}
 use Rattle.regent_tree.specs.Accesses.{space_in}
 use Rattle.regent_tree.specs.Lookup.{is_bound}
 use Rattle.regent_tree.specs.StaticTypes.{field_place}
@@ -23,20 +22,22 @@ use Rattle.check_rules.specs.types.Sorts.{is_number, may_be}
 use Rattle.check_rules.specs.types.TypedForms.{element_of, field_of}
 use Rattle.check_rules.specs.declared.rule.Rule.TheVariants as rule
 use Rattle.check_rules.proofs.Untold.{rule_none}
+use Rattle.regent_tree.specs.declared.types.TypeTerm.{TypeTerm}
 use Rattle.code_rules.specs.Slots.{Where, bound, typed}
-use Rattle.local_form.specs.LocalForm.{Marked, gives_scalar, gives_pointer, is_among}
+use Rattle.local_form.specs.LocalForm.{Marked, gives_scalar, gives_pointer, is_among, is_kept_field}
 use Rattle.code_laws.specs.Handing.{forms_by}
 use Rattle.code_laws.specs.Arguments.{IsCutName}
 use Rattle.code_laws.specs.Simple.{IsPartition, IsScalar, IsSimple}
 use Rattle.code_laws.specs.Steps.{Forms}
 use Rattle.code_laws.specs.Typed.{IsTyped, MayTouch, IsBehind, MayGo, field_behind}
 use Rattle.code_laws.proofs.KnownHeads.{KnowsHead, granted_at, kept_may, aimed_may}
-use Rattle.code_laws.proofs.LocalFields.{IsHeld, held_keeps, held_simple, held_unmarked}
-use Rattle.code_laws.proofs.LocalNames.{AllKept, IsLocalTree, IsPlace, element_known, named_kept, place_is, taking_told, IsAimed, aimed_at}
+use Rattle.code_laws.proofs.LocalFields.{IsHeld, fields_of, held_keeps, held_simple, held_unmarked, held_value}
+use Rattle.code_laws.proofs.LocalNames.{AllKept, IsLocalTree, named_kept}
+use Rattle.code_laws.proofs.LocalPlaces.{spaced_name, IsPlace, element_known, place_is, taking_told, IsAimed, aimed_at}
 use Rattle.code_laws.proofs.Privileges.{mode_in}
 use Rattle.code_laws.proofs.Typing.{stands_well}
 use Rattle.code_laws.proofs.Values.{scalar_simple}
-use Rattle.code_laws.proofs.LocalValues.{IsValue, counts_is, none_wild, value_counts, value_simple}
+use Rattle.code_laws.proofs.LocalValues.{AreAmong, IsValue, counts_is, value_counts, value_simple}
 use Rattle.code_laws.specs.Pointers.{CountsAs}
 
 module _ (handing keeping : Bool) (task : TaskTree) (w : Where) (sound : IsSound w.tree) (sound_task : IsSoundTask w.tree task) (m : Marked)
@@ -61,15 +62,15 @@ module _ (handing keeping : Bool) (task : TaskTree) (w : Where) (sound : IsSound
       record { is = is; value = value_simple (typed w e) simple; scalar = λ q. scalar; plain = λ q. simple }
 
   -- of what a field holds
-  pub held_well : (e : Expression) (f : Name) (k : FieldKind) → IsTyped forms w e → IsHeld keeping m.index_fields f k (typed w e) →
-      (gives_scalar m e ≡ true → is_among m.index_fields f ≡ false) → IsWell e
-  held_well e f k is held other =
-      let simple = held_simple keeping m.index_fields f k (typed w e) held in record {
-        is = is;
-        value = value_simple (typed w e) simple;
-        scalar = λ q. held_unmarked keeping m.index_fields f k (typed w e) held (other q);
-        plain = λ q. simple;
-      }
+  pub held_well : (e : Expression) (f : Name) (d : TypeTerm) → IsTyped forms w e → IsHeld keeping (fields_of m) f d (typed w e) →
+      AreAmong w.scope.names (space_in (typed w e)) (reaches_of (typed w e)) →
+      (gives_scalar m e ≡ true → is_kept_field m f ≡ false) → (gives_pointer m e ≡ false → is_among m.pointer_fields f ≡ false) → IsWell e
+  held_well e f d is held among other apart = record {
+    is = is;
+    value = held_value keeping (fields_of m) f w.scope.names d (typed w e) held among;
+    scalar = λ q. held_unmarked keeping (fields_of m) f d (typed w e) held (other q);
+    plain = λ q. held_simple keeping (fields_of m) f d (typed w e) held (apart q);
+  }
 
   -- the checker's type is the meaning's
   pub local_known : (e : Expression) → first_in_expression w.tree task w.scope e ≡ None → known_type w.tree w.scope e ≡ typed w e
@@ -82,7 +83,7 @@ module _ (handing keeping : Bool) (task : TaskTree) (w : Where) (sound : IsSound
   -- an index at which a field is taken, and what is taken there
   pub record IsAt (n : Name) (e : Expression) (f : Name) : Type 0 where
     pub number : CountsAs keeping (typed w e)
-    pub place : IsPlace keeping m.index_fields w (bound w n).number (bound w n).static_type e f
+    pub place : IsPlace keeping (fields_of m) w (bound w n).number (bound w n).static_type e f
     pub element : known_type_after_step w.tree (element_of (bound w n).static_type (known_type w.tree w.scope e)) (type_of_element w.scope (bound w n).static_type e)
         ≡ type_of_element w.scope (bound w n).static_type e
 
@@ -100,7 +101,7 @@ module _ (handing keeping : Bool) (task : TaskTree) (w : Where) (sound : IsSound
       (subst (λ u. may_be is_number u ≡ true) (local_known e told) (stands_well [] at number_spot stood)) in
       let element = element_known handing keeping w sound m local n i t at e kept (ap is_number (local_known e told) ∙ counts_is keeping (typed w e) number) first in record {
         number = number;
-        place = place_is handing keeping w sound m local scope.numbers n i t at e f kept first (subst (λ u. first_of_taking w.tree (field_of u f) ≡ None) element field);
+        place = place_is handing keeping w sound m local names scope.numbers n i t at e f (spaced_name w.tree w.scope.next w.scope.names n scope.numbers b head.spaced) kept first (subst (λ u. first_of_taking w.tree (field_of u f) ≡ None) element field);
         element = element;
       }
 
@@ -117,17 +118,17 @@ module _ (handing keeping : Bool) (task : TaskTree) (w : Where) (sound : IsSound
 
   -- a field of what a name's pointer goes to
   pub behind_name : (n f : Name) → is_bound w.scope.names n ≡ true → (IsPartition (bound w n).static_type → ⊥) →
-      first_of_taking w.tree (field_of (bound w n).static_type f) ≡ None → IsAimed keeping m.index_fields w.tree w.scope.names (bound w n).static_type f
-  behind_name n f there other told = aimed_at handing keeping w.tree sound m local w.scope.names n (bound w n).number (bound w n).static_type f
-      (named_kept keeping m w.scope.names n names there) other told
+      first_of_taking w.tree (field_of (bound w n).static_type f) ≡ None → IsAimed keeping (fields_of m) w.tree w.scope.names (bound w n).static_type f
+  behind_name n f there other told = aimed_at handing keeping w.tree sound m local w.scope.names names n (bound w n).number (bound w n).static_type f
+      (spaced_name w.tree w.scope.next w.scope.names n scope.numbers there head.spaced) (named_kept keeping m w.scope.names n names there) other told
 
   -- or the colours of its partition
   pub cut_name : (n : Name) → is_bound w.scope.names n ≡ true → IsPartition (bound w n).static_type → IsCutName w n
   cut_name n there p = record { named = there; numbers = scope.numbers; partition = p }
 
-  pub is_behind : (n f : Name) → is_bound w.scope.names n ≡ true → IsAimed keeping m.index_fields w.tree w.scope.names (bound w n).static_type f → IsBehind w n f (field_behind w n f)
-  is_behind n f there p = record { named = there; numbers = scope.numbers; pointer = p.pointer; certain = ap (λ t. has_wild (reaches_of t)) p.is ∙ none_wild w.scope.names p.reaches p.among; field = p.field; keeps = held_keeps keeping m.index_fields f _ _ _ p.held }
+  pub is_behind : (n f : Name) → is_bound w.scope.names n ≡ true → IsAimed keeping (fields_of m) w.tree w.scope.names (bound w n).static_type f → IsBehind w n f (field_behind w n f)
+  is_behind n f there p = record { named = there; numbers = scope.numbers; pointer = p.pointer; certain = ap (λ t. has_wild (reaches_of t)) p.is ∙ p.certain; field = p.field; keeps = held_keeps keeping (fields_of m) f _ _ p.held }
 
-  pub gone : (n f : Name) (a : Access) → IsAimed keeping m.index_fields w.tree w.scope.names (bound w n).static_type f →
+  pub gone : (n f : Name) (a : Access) → IsAimed keeping (fields_of m) w.tree w.scope.names (bound w n).static_type f →
       lacks w.tree task w.scope (wanted_of_step w.tree a (field_of (bound w n).static_type f)) ≡ false → MayGo forms w n f (mode_in a)
-  gone n f a p lacking = aimed_may handing keeping m.index_fields task w sound_task head scope.numbers n f a p lacking
+  gone n f a p lacking = aimed_may handing keeping (fields_of m) task w sound_task head scope.numbers n f a p lacking

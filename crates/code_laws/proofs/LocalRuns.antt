@@ -19,6 +19,9 @@ use Rattle.check_rules.specs.Acceptance.{input_widths}
 use Rattle.check_rules.specs.types.Sorts.{is_region, type_at}
 use Rattle.code_rules.specs.Instructions.{place_of_task, tasks_of}
 use Rattle.code_rules.specs.Programs.{task_code}
+use Rattle.state_laws.proofs.Texts.{body_begins}
+use Rattle.code_laws.proofs.LocalFields.{fields_of}
+use Rattle.code_laws.proofs.LocalSpaced.{params_placed}
 use Rattle.code_laws.specs.Handing.{AreTypedBy, forms_by}
 use Rattle.local_form.specs.LocalForm.{Marked, are_local_params, are_scalar_params, is_among, is_local_block, is_local_with, marked_by_task}
 use Rattle.code_laws.specs.Simple.{IsInteger, an_integer}
@@ -66,7 +69,7 @@ none_among (k ∷ ns) e n h = no_way_back e
 record AreMarks (keeping : Bool) (tree : Tree) (t : TaskTree) : Type 0 where
   marks : Marked
   regions : marks.regions ≡ (marked_by_task tree t).regions
-  fields : marks.index_fields ≡ (marked_by_task tree t).index_fields
+  fields : fields_of marks ≡ fields_of (marked_by_task tree t)
   assigns : marks.keeps ≡ true → keeping ≡ true
   keeps : (n : Name) → (is_among marks.pointers n ≡ true) ⊎ (is_among marks.partitions n ≡ true) → keeping ≡ true
   params : are_local_params marks t.params ≡ true
@@ -118,7 +121,14 @@ module _ (handing keeping : Bool) (tree : Tree) (inputs : List ℤ) (p : IsLocal
       let k = marks_here item s.1 t s.2 in
       let local = local_tree handing keeping tree t k.marks k.fields k.assigns p.within p.accepted p.local alone no_index heads in
       let ready : IsReady keeping tree t k.marks (scope_of tree t) =
-      record { names = begins_kept keeping tree t k.marks k.regions k.params; head = head_begins tree t told.sound_task (params_tell keeping tree t (heads item s.1 t s.2)) } in record {
+      record {
+        names = begins_kept keeping tree t k.marks k.regions k.params;
+        head = record {
+          facts = head_begins tree t told.sound_task (params_tell keeping tree t (heads item s.1 t s.2));
+          spaced = body_begins tree p.accepted p.within t (item_stands tree item s.1 t s.2);
+          placed = params_placed tree t;
+        };
+      } in record {
         given = given_scalar tree t.result is.result;
         typed = (block_local handing keeping tree t told.sound told.sound_task k.marks local k.keeps hands (length t.params) is.result (scope_of tree t) 0 t.body k.body body
             told.scope ready told.told).0;

@@ -1,7 +1,8 @@
 -- Statements without blocks, of a text with marked names, of which no breach is told, are typed, and the heads of loops.
-use Rattle.std.proofs.Common.{inr, ◌≡◌, Bool, List, [], ◌∷◌, None, Option, Some, false, true, ap, sym, subst, ℕ, ◌∙◌, not, refl, ⊎_elim}
+use Rattle.std.proofs.Common.{inr, ◌≡◌, Bool, List, [], ◌∷◌, None, Option, Some, false, true, ap, sym, subst, ℕ, ◌∙◌, not, refl, ⊎_elim, ◌||◌}
 use Rattle.std.specs.Prelude.{flat_map, length, map, ◌&&◌}
 use Rattle.std.specs.List.{list_all, list_any}
+use Rattle.std.proofs.Math.Bool.{or-true}
 use Rattle.std.proofs.lemmas.Bool.{and_parts, not-false, not-true, or_parts}
 use Rattle.plain_values.proofs.Plain.{option_or_parts}
 use Rattle.regent_tree.proofs.Members.{Has-append_left}
@@ -37,7 +38,7 @@ use Rattle.check_rules.specs.types.Lookup.{names_a, region_has}
 use Rattle.check_rules.specs.types.Sorts.{is_region, may_be}
 use Rattle.check_rules.specs.types.TypedForms.{calling}
 use Rattle.code_rules.specs.Slots.{Where}
-use Rattle.local_form.specs.LocalForm.{Marked, are_local_arguments, are_local_expressions, gives_pointer, is_among, is_local_expression, is_local_form, is_local_domain, is_region_name}
+use Rattle.local_form.specs.LocalForm.{Marked, are_local_arguments, are_local_expressions, fills_apart, gives_pointer, is_among, is_local_expression, is_local_form, is_local_domain, is_region_name}
 use Rattle.code_laws.specs.Handing.{forms_by}
 use Rattle.code_laws.specs.Simple.{IsInteger, IsRegion, IsSimple, IsSpace, IsTruth, term_in, a_space_type, simple_index}
 use Rattle.code_laws.specs.Steps.{Forms}
@@ -46,18 +47,19 @@ use Rattle.expression_laws.proofs.Steps.{all_has}
 use Rattle.code_laws.proofs.KnownHeads.{IsReady, KnowsHead, kept_may}
 use Rattle.code_laws.proofs.LocalParts.{all_behind, none_given, region_wants, region_named}
 use Rattle.code_laws.proofs.LocalExpressions.{local_call, local_numbers}
-use Rattle.code_laws.proofs.LocalFields.{held_field, held_fills}
-use Rattle.code_laws.proofs.LocalNames.{field_is, region_is, IsKept, IsLocalTree, kept_region, kept_scalar, named_kept, kept_value, kept_partition}
+use Rattle.code_laws.proofs.LocalFields.{fields_of, held_field, held_fills}
+use Rattle.code_laws.proofs.LocalNames.{IsKept, IsLocalTree, kept_region, kept_scalar, named_kept, kept_value, kept_partition}
+use Rattle.code_laws.proofs.LocalPlaces.{field_is, region_is, spaced_name}
 use Rattle.code_laws.proofs.LocalTypes.{either}
 use Rattle.code_laws.proofs.TypedStatements.{count_types, counted, first_stands, listed_told, result_fits, told_later, told_names, told_privileges}
-use Rattle.code_laws.proofs.Typing.{AreKept, no_way_back}
+use Rattle.code_laws.proofs.Typing.{no_way, AreKept, no_way_back}
 use Rattle.code_laws.proofs.Values.{scalar_simple}
 use Rattle.scalar_form.specs.ScalarForm.{is_scalar_if_said}
 use Rattle.code_laws.proofs.LocalValues.{IsValue, space_looped, value_domain, value_integer, value_pointer, value_read, value_simple, value_truth}
 use Rattle.code_laws.specs.Pointers.{IsRead}
 use Rattle.regent_tree.specs.declared.types.Kind.{Kind}
 use Rattle.regent_tree.specs.declared.typing.StaticType.TheVariants.{Index as index_type, Region as region_type}
-use Rattle.code_laws.proofs.LocalElements.{own_region, region_among, region_bound}
+use Rattle.code_laws.proofs.LocalElements.{own_region, region_among, region_bound, region_of_space}
 use Rattle.code_laws.proofs.LocalVariables.{at, headed, stands_as}
 
 module _ (handing keeping : Bool) (tree : Tree) (task : TaskTree) (sound : IsSound tree) (sound_task : IsSoundTask tree task) (m : Marked)
@@ -73,23 +75,26 @@ module _ (handing keeping : Bool) (tree : Tree) (task : TaskTree) (sound : IsSou
 
   -- ---- fields
 
-  filled_with : (s : Scope) (line : ℕ) (r : Name) (from known : StaticType) → known ≡ from → is_bound s.names r ≡ true → Ready s →
-      may_be is_region (type_named s.names r) ≡ true → IsSimple from → (fs : List Name) → list_any (is_unknown_region_field tree s.names r) fs ≡ false →
+  filled_with : (s : Scope) (line : ℕ) (r : Name) (from known : StaticType) → known ≡ from → is_bound s.names r ≡ true → IsSoundScope s → Ready s →
+      may_be is_region (type_named s.names r) ≡ true → IsValue keeping s.names from → (fs : List Name) →
+      (list_any (is_among m.index_fields) fs ≡ true → IsSimple from) → list_any (is_unknown_region_field tree s.names r) fs ≡ false →
       list_any (is_ill_typed_at_place s.known) (map (λ f. stands known (typed_spot (known_field tree (type_named s.names r) f))) fs) ≡ false →
       AreFilled keeping (here s line) r from fs
-  filled_with s line r from known same there names region simple [] unknown ill = tt
-  filled_with s line r from known same there names region simple (f ∷ fs) unknown ill =
+  filled_with s line r from known same there scope names region value [] plain unknown ill = tt
+  filled_with s line r from known same there scope names region value (f ∷ fs) plain unknown ill =
       let t = type_named s.names r in
       let a = or_parts (is_unknown_region_field tree s.names r f) _ unknown in
       let has = not-false (region_has tree t f) (or_parts (not (names_a is_region s.names r)) (not (region_has tree t f)) a.0).1 in
-      let d = field_is handing keeping tree sound m local s.names r (bound_to s.names r).number t f (named_kept keeping m s.names r names.names there) region has in
+      let d = field_is handing keeping tree sound m local s.names names.names r (bound_to s.names r).number t f
+      (spaced_name tree s.next s.names r scope.numbers there names.head.spaced) (named_kept keeping m s.names r names.names there) region has in
       let stood = first_stands s.known (stands known (typed_spot (known_field tree t f)))
       (map (λ g. stands known (typed_spot (known_field tree t g))) fs) ill in
       let fit = subst (λ u. fits s.known u (field_type tree (space_in t) (args_in t) f) ≡ true) same
       (subst (λ u. fits s.known known u ≡ true) d.known stood.0) in (
-        held_fills keeping m.index_fields f s.known from _ (field_type tree (space_in t) (args_in t) f) simple d.held fit,
-        held_field keeping m.index_fields (here s line) r f (field_type tree (space_in t) (args_in t) f) there d.region d.field d.held,
-        filled_with s line r from known same there names region simple fs a.1 stood.1,
+        held_fills keeping (fields_of m) f s.names s.known from _ (field_type tree (space_in t) (args_in t) f) value
+            (λ h. plain (ap (λ b. b || list_any (is_among m.index_fields) fs) h)) d.held fit,
+        held_field keeping (fields_of m) (here s line) r f (field_type tree (space_in t) (args_in t) f) there d.region d.field d.held,
+        filled_with s line r from known same there scope names region value fs (λ h. plain (ap (λ b. is_among m.index_fields f || b) h ∙ or-true (is_among m.index_fields f))) a.1 stood.1,
       )
 
   -- each field that is filled may be written
@@ -111,10 +116,18 @@ module _ (handing keeping : Bool) (tree : Tree) (task : TaskTree) (sound : IsSou
         may_fill s line r kept is head fs a.1 rest,
       )
 
+  -- what fills a field of indices is no pointer
+  no_pointer_brought : (fields : List Name) (y : Expression) → fills_apart m fields y ≡ true → list_any (is_among m.index_fields) fields ≡ true →
+      gives_pointer m y ≡ false
+  no_pointer_brought fields y e h = ⊎_elim
+      (λ q. not-true (gives_pointer m y) q)
+      (λ q. absurd (no_way (sym h ∙ not-true (list_any (is_among m.index_fields) fields) q)))
+      (either (not (gives_pointer m y)) (not (list_any (is_among m.index_fields) fields)) e)
+
   pub fill_local : (s : Scope) (line : ℕ) (r : Name) (fields : List Name) (y : Expression) → is_local_form m (fill_form r fields y) ≡ true → AreKept (parts_of_expression y) →
       IsSoundScope s → Ready s → first_of_form tree task s (fill_form r fields y) ≡ None → IsTypedForm forms (here s line) (fill_form r fields y)
   fill_local s line r fields y lo k scope names e =
-      let both = and_parts (not (gives_pointer m y)) (is_local_expression m y) lo in
+      let both = and_parts (fills_apart m fields y) (is_local_expression m y) lo in
       let parts = told_of_form tree task s sound scope (fill_form r fields y) e in
       let told = (option_or_parts (first_in_expression tree task s y) _ parts.2).0 in
       let a = headed handing keeping tree task sound sound_task m local params result s line y both.1 k scope names told in
@@ -124,9 +137,10 @@ module _ (handing keeping : Bool) (tree : Tree) (task : TaskTree) (sound : IsSou
       let kept = named_kept keeping m s.names r names.names region.0 in (
         a.is,
         region.0,
-        region_is handing keeping tree sound m local s.names r (bound_to s.names r).number (type_named s.names r) kept region.1,
-        filled_with s line r (type_of tree s y) (known_type tree s y) (head_known tree task sound s scope y told).1 region.0 names region.1 (a.plain (not-true (gives_pointer m y) both.0)) fields named.1 parts.4,
-        may_fill s line r kept (region_is handing keeping tree sound m local s.names r (bound_to s.names r).number (type_named s.names r) kept region.1) names.head fields named.1
+        region_is handing keeping tree sound m local s.names names.names r (bound_to s.names r).number (type_named s.names r) kept region.1,
+        filled_with s line r (type_of tree s y) (known_type tree s y) (head_known tree task sound s scope y told).1 region.0 scope names region.1 a.value fields
+            (λ h. a.plain (no_pointer_brought fields y both.0 h)) named.1 parts.4,
+        may_fill s line r kept (region_is handing keeping tree sound m local s.names names.names r (bound_to s.names r).number (type_named s.names r) kept region.1) names.head fields named.1
             (not-false _ (told_privileges tree task s (fill_form r fields y) e).0),
       )
 
@@ -202,7 +216,11 @@ module _ (handing keeping : Bool) (tree : Tree) (task : TaskTree) (sound : IsSou
         over = subst (λ c. LoopsOver c (here s line) (access_expr r no_step)) (sym keeps) (inr (region_bound s.next s.names scope.numbers r there k sp args same, own));
         is = (there, subst (λ c. IsRead c b.static_type) (sym keeps) tt);
         taken = subst (λ t. IsKept keeping m s.names n s.next (taken_from t)) (sym same)
-            (kept_value _ (value_pointer k sp args _ keeps (region_among s.next s.names scope.numbers r there k sp args same, tt)) marked (λ p. points));
+            (kept_value _ (value_pointer k sp args _ keeps (
+              region_among s.next s.names scope.numbers r there k sp args same,
+              region_of_space s.next s.names scope.numbers r there k sp args same,
+              tt,
+            )) marked (λ p. points));
       }
 
   named_domain : (s : Scope) (line : ℕ) (n r : Name) → IsSoundScope s → is_bound s.names r ≡ true → is_among m.indices n ≡ true → is_among m.pointers n ≡ true →

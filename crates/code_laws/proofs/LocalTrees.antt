@@ -19,7 +19,7 @@ use Rattle.regent_tree.specs.declared.types.NumberTerm.TheVariants as number
 use Rattle.regent_tree.specs.declared.types.TypeTerm.TheVariants as term
 use Rattle.regent_tree.specs.declared.typing.Bound.{Bound}
 use Rattle.regent_tree.specs.declared.typing.StaticType.{StaticType}
-use Rattle.regent_tree.specs.declared.typing.StaticType.TheVariants.{Index as index_type}
+use Rattle.regent_tree.specs.declared.typing.StaticType.TheVariants.{Index as index_type, Ispace as ispace_type}
 use Rattle.check_laws.proofs.Entries.{no_line, none_left}
 use Rattle.check_laws.proofs.Parameters.{place_step}
 use Rattle.check_laws.proofs.Trees.{declared_none, none_of}
@@ -29,11 +29,13 @@ use Rattle.check_rules.specs.first.FirstInItems.{first_declared, first_line}
 use Rattle.check_rules.specs.rules.Repeats.{Given, given_by, repeats, repeats_after, repeats_within, was_given}
 use Rattle.check_rules.specs.scopes.Sound.{StandsIn}
 use Rattle.code_rules.specs.Instructions.{tasks_of}
-use Rattle.local_form.specs.LocalForm.{Marked, are_local_params, are_scalar_params, is_among, is_index_term, is_local_param, is_local_block, is_local_item, is_local_program, is_local_task, gives_pointer, gives_scalar, is_difference, is_region_name, is_region_term, marked_by, marked_by_arms, marked_by_else, marked_by_items, marked_by_task, marked_by_term, marked_in, marked_param, marked_params, unmarked, with_either, with_index, with_partition, with_region}
-use Rattle.code_laws.specs.Simple.{IsScalar, a_region_type, scalar_integer, scalar_truth, simple_index}
+use Rattle.local_form.specs.LocalForm.{Marked, are_local_params, are_scalar_params, is_among, is_index_or_space, is_local_param, is_local_block, is_local_item, is_local_program, is_local_task, gives_pointer, gives_scalar, is_difference, is_region_name, is_region_term, marked_by, marked_by_arms, marked_by_else, marked_by_items, marked_by_task, marked_by_term, marked_in, marked_param, marked_params, unmarked, with_either, with_index, with_partition, with_region}
+use Rattle.state_laws.proofs.Texts.{declarations_are}
+use Rattle.code_laws.proofs.LocalFields.{fields_of}
+use Rattle.code_laws.specs.Simple.{IsScalar, a_region_type, scalar_integer, scalar_truth, simple_index, simple_space}
 use Rattle.code_laws.proofs.LocalMarks.{HasFieldTerms, among_added, among_left, space_terms}
 use Rattle.code_laws.proofs.LocalNames.{AllKept, AreScalars, AreTakable, IsAlone, IsKept, IsLocalTree, kept_before, kept_region, kept_scalar, kept_value}
-use Rattle.code_laws.proofs.LocalTypes.{IsTakable, takable_index, takable_region, takable_scalar, term_scalar}
+use Rattle.code_laws.proofs.LocalTypes.{IsTakable, takable_index, takable_region, takable_scalar, takable_space, term_scalar}
 use Rattle.code_laws.proofs.LocalValues.{value_simple}
 use Rattle.code_laws.proofs.Openings.{types_cons, types_in}
 use Rattle.code_laws.proofs.Entries.{all_of, found, kept_all, kept_item, no_clauses}
@@ -110,7 +112,7 @@ item_of_form tree e i h t same =
 -- ---- parameters
 
 -- what a parameter takes, by its type
-term_takable : (keeping x : Bool) (t : TypeTerm) → (is_scalar_term t || (is_region_term t || (is_index_term t && x))) ≡ true → (x ≡ true → keeping ≡ true) →
+term_takable : (keeping x : Bool) (t : TypeTerm) → (is_scalar_term t || (is_region_term t || (is_index_or_space t && x))) ≡ true → (x ≡ true → keeping ≡ true) →
     (tree : Tree) (look : Looking) (own : ℕ) → IsTakable keeping (type_said tree look own t)
 term_takable keeping x (term.Region k u) e keeps tree look own = takable_region _ (a_region_type k _ _ _)
 term_takable keeping x (term.Number number.Int32) e keeps tree look own = takable_scalar _ (term_scalar (term.Number number.Int32) refl tree look own)
@@ -118,13 +120,13 @@ term_takable keeping x (term.Number number.Int64) e keeps tree look own = takabl
 term_takable keeping x (term.Number (number.Index k)) e keeps tree look own = takable_index k (keeps e)
 term_takable keeping x term.Truth e keeps tree look own = takable_scalar _ scalar_truth
 term_takable keeping x (term.Pointer p) e keeps tree look own = absurd (no_way_back e)
-term_takable keeping x (term.Ispace k) e keeps tree look own = absurd (no_way_back e)
+term_takable keeping x (term.Ispace k) e keeps tree look own = takable_space k (keeps e)
 term_takable keeping x (term.Partition d r c) e keeps tree look own = absurd (no_way_back e)
 
 -- the marks of parameters
 marked_later : (ps : List Param) (m : Marked) (n : Name) → is_among m.regions n ≡ true → is_among (marked_params ps m).regions n ≡ true
 marked_later [] m n h = h
-marked_later (p ∷ ps) m n h = marked_later ps (marked_param p m) n (chosen (is_region_term p.term) (is_index_term p.term))
+marked_later (p ∷ ps) m n h = marked_later ps (marked_param p m) n (chosen (is_region_term p.term) (is_index_or_space p.term))
   where
     chosen : (b c : Bool) → is_among (cond b (with_region p.name m) (cond c (with_index p.name m) m)).regions n ≡ true
     chosen true c = among_left m.regions (p.name ∷ []) n h
@@ -137,13 +139,13 @@ marked_region (q ∷ ps) m p (inr h) e = marked_region ps (marked_param q m) p h
 marked_region (q ∷ ps) m p (inl same) e =
     let here : is_region_term q.term ≡ true = ap (λ (x : Param). is_region_term x.term) same ∙ e in
     marked_later ps (marked_param q m) p.name
-    (subst (λ b. is_among (cond b (with_region q.name m) (cond (is_index_term q.term) (with_index q.name m) m)).regions p.name ≡ true) (sym here)
+    (subst (λ b. is_among (cond b (with_region q.name m) (cond (is_index_or_space q.term) (with_index q.name m) m)).regions p.name ≡ true) (sym here)
     (among_added m.regions q.name p.name (ap (λ (x : Param). x.name) same)))
 
 module _ (keeping : Bool) (tree : Tree) (all : List Param) (m : Marked) where
   -- a parameter is kept as what its mark says
   param_kept : (bs : List Bound) (p : Param) (i : ℕ) (t : TypeTerm) → p.term ≡ t →
-      (is_scalar_term t || (is_region_term t || (is_index_term t && (m.keeps && is_among m.indices p.name)))) ≡ true →
+      (is_scalar_term t || (is_region_term t || (is_index_or_space t && (m.keeps && is_among m.indices p.name)))) ≡ true →
       (is_region_term p.term ≡ true → is_among m.regions p.name ≡ true) → IsKept keeping m bs p.name i (type_said tree (among_params all) i t)
   param_kept bs p i (term.Region k u) same e marked =
       kept_region k (place_of_space tree u.name) (map (looked_up (among_params all)) u.args) (marked (ap is_region_term same))
@@ -153,7 +155,8 @@ module _ (keeping : Bool) (tree : Tree) (all : List Param) (m : Marked) where
       kept_value (index_type k) (value_simple (index_type k) (simple_index k)) (and_parts m.keeps (is_among m.indices p.name) e).1 (λ q. absurd (no_way_back q))
   param_kept bs p i term.Truth same e marked = kept_scalar _ scalar_truth
   param_kept bs p i (term.Pointer q) same e marked = absurd (no_way_back e)
-  param_kept bs p i (term.Ispace k) same e marked = absurd (no_way_back e)
+  param_kept bs p i (term.Ispace k) same e marked =
+      kept_value (ispace_type k) (value_simple (ispace_type k) (simple_space k)) (and_parts m.keeps (is_among m.indices p.name) e).1 (λ q. absurd (no_way_back q))
   param_kept bs p i (term.Partition d r c) same e marked = absurd (no_way_back e)
 
   kept_behind_all : (bs : List Bound) (b : Bound) → AllKept keeping m bs → IsKept keeping m [] b.name b.number b.static_type → AllKept keeping m (bs ++ b ∷ [])
@@ -260,6 +263,7 @@ module _ (keeping : Bool) where
   takable_tells _ (takable_scalar _ scalar_truth) = refl
   takable_tells _ (takable_region _ (a_region_type k sp args r)) = refl
   takable_tells _ (takable_index k q) = refl
+  takable_tells _ (takable_space k q) = refl
 
   all_tell : (bs : List Bound) → AllTakable bs → (b : Bound) → Has bs b → known_of_type b.static_type ≡ []
   all_tell [] a b h = absurd h
@@ -346,15 +350,16 @@ place_named all (p ∷ ps) (suc k) j low own = inr (place_named all ps k j (omeg
 
 -- ---- the program
 
-pub local_tree : (handing keeping : Bool) (tree : Tree) (task : TaskTree) (m : Marked) → m.index_fields ≡ (marked_by_task tree task).index_fields →
+pub local_tree : (handing keeping : Bool) (tree : Tree) (task : TaskTree) (m : Marked) → fields_of m ≡ fields_of (marked_by_task tree task) →
     (m.keeps ≡ true → keeping ≡ true) → WithinLimits tree → breaches tree ≡ [] → is_local_program tree ≡ true →
     (handing ≡ false → (i : ItemTree) → Has tree i → (t : TaskTree) → i.form ≡ task_item t → TakesScalars t) →
     (keeping ≡ false → (i : ItemTree) → Has tree i → (s : FieldSpace) → i.form ≡ space_item s → are_scalar_params s.fields ≡ true) →
     ((i : ItemTree) → Has tree i → (t : TaskTree) → i.form ≡ task_item t → IsHead keeping t) → IsLocalTree handing keeping m tree
 local_tree handing keeping tree task m fields keeps within none e alone plain heads = record {
-  fields = space_has (HasFieldTerms keeping m.index_fields) (λ f has. absurd (no_way_back has)) tree
+  fields = space_has (HasFieldTerms keeping (fields_of m)) (λ f has. absurd (no_way_back has)) tree
       (λ i h s same. subst (λ ns. HasFieldTerms keeping ns s) (sym fields) (space_terms keeping tree task i h s same
       (subst (λ form. is_local_item tree form ≡ true) same (all_of (λ i. is_local_item tree i.form) tree e i h)) (λ q. plain q i h s same)));
+  declared = declarations_are tree none within;
   keeps = keeps;
   few = space_has (λ (s : FieldSpace). length s.fields ≤ 256) (omega (arith)) tree few_in;
   named = λ sp i low.

@@ -1,6 +1,6 @@
 -- What expressions give where nothing is told of their types: numbers, truths, indices and index spaces, and where they
 -- are kept also pointers into regions that have names.
-use Rattle.std.proofs.Common.{◌≡◌, Bool, List, [], ◌∷◌, ◌++◌, None, Some, false, true, refl, ap, sym, ℕ, ◌<◌, ◌∙◌, ◌||◌, cond, not, inl, inr, arith, ⊎_elim, ◌&&◌, ◌⊎◌}
+use Rattle.std.proofs.Common.{◌≡◌, Bool, List, [], ◌∷◌, ◌++◌, None, Some, false, true, refl, ap, subst, sym, ℕ, ◌<◌, ◌∙◌, ◌||◌, cond, not, inl, inr, arith, ⊎_elim, ◌&&◌, ◌⊎◌}
 use Rattle.std.specs.Prelude.{bytes_eq, ◌==◌}
 use Rattle.std.proofs.lemmas.Bool.{and_parts}
 use Rattle.regent_tree.proofs.Members.{Has, Has-append_left}
@@ -8,7 +8,8 @@ use Rattle.regent_tree.specs.Lookup.{is_bound}
 use Rattle.regent_tree.specs.Scopes.{bound_as, bound_to, known_of_type}
 use Rattle.regent_tree.specs.StaticTypes.{Reach}
 use Rattle.regent_tree.specs.Syntax.{Name, Expression}
-use Rattle.regent_tree.specs.Typing.{are_pointers, counting_as, has_wild, is_pointer, known_of_child, operated, owned}
+use Rattle.regent_tree.specs.Accesses.{space_in}
+use Rattle.regent_tree.specs.Typing.{are_pointers, counting_as, is_pointer, known_of_child, operated, owned}
 use Rattle.regent_tree.specs.declared.expression.Arithmetic.{Arithmetic}
 use Rattle.regent_tree.specs.declared.expression.Comparison.{Comparison}
 use Rattle.regent_tree.specs.declared.expression.Comparison.TheVariants as comparison
@@ -31,12 +32,11 @@ use Rattle.check_rules.specs.types.KnownTypes.{known_type_after_operator}
 use Rattle.check_rules.specs.types.Sorts.{is_collection, is_integer, is_number, is_partition, is_region, is_space, is_truth, is_unknown_type, may_be}
 use Rattle.check_rules.specs.types.TypedForms.{computing}
 use Rattle.code_rules.specs.Slots.{Where, typed}
-use Rattle.code_laws.specs.Pointers.{AreNames, Assigned, BeginsAs, BeginsWith, ConvertsTo, CountsAs, FillsInto, FitsInto, IsAssigned, IsCompared, IsRead, SignedAs, assigned_plain, assigned_pointer, begins_plain, compared_different, compared_equal, compared_left, compared_plain, compared_right, a_pointer_type, counts_number, counts_pointer, filled_plain, fills_alike, fills_index, into_index, into_plain, itself_plain, signs_plain, term_integer, zero_scalar}
+use Rattle.code_laws.specs.Pointers.{AreNames, AreThere, Assigned, BeginsAs, BeginsWith, ConvertsTo, CountsAs, FillsInto, FitsInto, IsAssigned, IsCompared, IsPointer, IsRead, SignedAs, assigned_plain, assigned_pointer, begins_plain, compared_different, compared_equal, compared_left, compared_plain, compared_right, a_pointer_type, counts_number, counts_pointer, filled_plain, fills_alike, fills_index, into_index, into_plain, itself_plain, signs_plain, term_integer, zero_scalar}
 use Rattle.code_laws.specs.Simple.{AreAlike, AreComparable, IsInteger, IsIntegerTerm, IsNumber, IsRegion, IsScalar, IsSimple, IsSpace, IsTruth, SignsFit, a_region_type, number_index, number_integer, scalar_integer, scalar_truth, simple_index, simple_integer, simple_space, simple_truth, term_in, IsPartition, a_partition_type}
-use Rattle.code_laws.specs.Typed.{IsField, IsFieldOf, IsKeepable, LoopsOver}
+use Rattle.code_laws.specs.Typed.{IsKeepable, LoopsOver}
 use Rattle.code_laws.proofs.LocalTypes.{either, number_is, operated_simple, owned_simple, param_fitting, simple_as_domain, simple_as_integer, simple_as_number, simple_as_space, simple_as_truth, simple_compared, simple_computed, simple_fitting, simple_for_region, simple_is_no_region, simple_known, simple_no_partition}
 use Rattle.code_laws.proofs.Typing.{no_way, no_way_back}
-use Rattle.code_laws.proofs.Wider.{any_field}
 
 -- ---- regions that are bound
 
@@ -55,37 +55,33 @@ pub region_before : (bs more : List Bound) (i : ℕ) → IsRegionAmong bs i → 
 region_before bs more i r =
     record { named = r.named; among = Has-append_left bs more r.named r.among; number = r.number; region = r.region; term = r.term }
 
--- so is each region of a list
-abbrev pub AreAmong : List Bound → List Reach → Type 0
-AreAmong bs [] = Unit {0}
-AreAmong bs (Some (place.Name i) ∷ rs) = IsRegionAmong bs i × AreAmong bs rs
-AreAmong bs (Some (place.Child p c) ∷ rs) = ⊥
-AreAmong bs (None ∷ rs) = ⊥
+-- so is each region of a list, of a field space, but those that may be any
+abbrev pub AreAmong : List Bound → ℕ → List Reach → Type 0
+AreAmong bs sp [] = Unit {0}
+AreAmong bs sp (Some (place.Name i) ∷ rs) = (r : IsRegionAmong bs i) × (space_in r.named.static_type ≡ sp) × AreAmong bs sp rs
+AreAmong bs sp (Some (place.Child p c) ∷ rs) = ⊥
+AreAmong bs sp (None ∷ rs) = AreAmong bs sp rs
 
-among_behind : (b : Bound) (bs : List Bound) (rs : List Reach) → AreAmong bs rs → AreAmong (b ∷ bs) rs
-among_behind b bs [] a = tt
-among_behind b bs (Some (place.Name i) ∷ rs) a = (region_behind b bs i a.0, among_behind b bs rs a.1)
-among_behind b bs (Some (place.Child p c) ∷ rs) a = absurd a
-among_behind b bs (None ∷ rs) a = absurd a
+among_behind : (b : Bound) (bs : List Bound) (sp : ℕ) (rs : List Reach) → AreAmong bs sp rs → AreAmong (b ∷ bs) sp rs
+unfolding region_behind
+among_behind b bs sp [] a = tt
+among_behind b bs sp (Some (place.Name i) ∷ rs) a = (region_behind b bs i a.0, a.1, among_behind b bs sp rs a.2)
+among_behind b bs sp (Some (place.Child p c) ∷ rs) a = absurd a
+among_behind b bs sp (None ∷ rs) a = among_behind b bs sp rs a
 
-among_before : (bs more : List Bound) (rs : List Reach) → AreAmong bs rs → AreAmong (bs ++ more) rs
-among_before bs more [] a = tt
-among_before bs more (Some (place.Name i) ∷ rs) a = (region_before bs more i a.0, among_before bs more rs a.1)
-among_before bs more (Some (place.Child p c) ∷ rs) a = absurd a
-among_before bs more (None ∷ rs) a = absurd a
+among_before : (bs more : List Bound) (sp : ℕ) (rs : List Reach) → AreAmong bs sp rs → AreAmong (bs ++ more) sp rs
+unfolding region_before
+among_before bs more sp [] a = tt
+among_before bs more sp (Some (place.Name i) ∷ rs) a = (region_before bs more i a.0, a.1, among_before bs more sp rs a.2)
+among_before bs more sp (Some (place.Child p c) ∷ rs) a = absurd a
+among_before bs more sp (None ∷ rs) a = among_before bs more sp rs a
 
--- they have names, and `wild` isn't one
-pub names_among : (bs : List Bound) (rs : List Reach) → AreAmong bs rs → AreNames rs
-names_among bs [] a = tt
-names_among bs (Some (place.Name i) ∷ rs) a = names_among bs rs a.1
-names_among bs (Some (place.Child p c) ∷ rs) a = absurd a
-names_among bs (None ∷ rs) a = absurd a
-
-pub none_wild : (bs : List Bound) (rs : List Reach) → AreAmong bs rs → has_wild rs ≡ false
-none_wild bs [] a = refl
-none_wild bs (Some (place.Name i) ∷ rs) a = none_wild bs rs a.1
-none_wild bs (Some (place.Child p c) ∷ rs) a = absurd a
-none_wild bs (None ∷ rs) a = absurd a
+-- they have names
+pub names_among : (bs : List Bound) (sp : ℕ) (rs : List Reach) → AreAmong bs sp rs → AreNames rs
+names_among bs sp [] a = tt
+names_among bs sp (Some (place.Name i) ∷ rs) a = names_among bs sp rs a.2
+names_among bs sp (Some (place.Child p c) ∷ rs) a = absurd a
+names_among bs sp (None ∷ rs) a = names_among bs sp rs a
 
 -- what a name is bound to is among what is bound
 pub bound_among : (bs : List Bound) (n : Name) → is_bound bs n ≡ true → Has bs (bound_to bs n)
@@ -112,12 +108,26 @@ found_among next (c ∷ bs) b falls (inr h) =
     let l = falls.0 in
     (ap (λ x. cond x c (bound_as bs b.number)) (differ c.number b.number less) ∙ r.0, omega (arith, l, less))
 
+-- so is each region of such a list
+pub among_there : (next : ℕ) (bs : List Bound) (sp : ℕ) (rs : List Reach) → Falls next bs → AreAmong bs sp rs → AreThere bs sp rs
+among_there next bs sp [] falls a = tt
+among_there next bs sp (Some (place.Name i) ∷ rs) falls a =
+    let r = a.0 in
+    let found : bound_as bs i ≡ r.named = subst (λ j. bound_as bs j ≡ r.named) r.number (found_among next bs r.named falls r.among).0 in (
+      ap (λ (b : Bound). b.number) found ∙ r.number,
+      subst (λ (b : Bound). IsRegion b.static_type) (sym found) r.region,
+      ap (λ (b : Bound). space_in b.static_type) found ∙ a.1,
+      among_there next bs sp rs falls a.2,
+    )
+among_there next bs sp (Some (place.Child p c) ∷ rs) falls a = absurd a
+among_there next bs sp (None ∷ rs) falls a = among_there next bs sp rs falls a
+
 -- ---- values
 
 -- the type of what an expression gives
 pub data IsValue (keeping : Bool) (bs : List Bound) : StaticType → Type 0 where
   value_simple : (t : StaticType) → IsSimple t → IsValue keeping bs t
-  value_pointer : (k : Kind) (sp : ℕ) (args rs : List Reach) → keeping ≡ true → AreAmong bs rs → IsValue keeping bs (pointer_type k sp args rs)
+  value_pointer : (k : Kind) (sp : ℕ) (args rs : List Reach) → keeping ≡ true → AreAmong bs sp rs → IsValue keeping bs (pointer_type k sp args rs)
 
 pub counts_is : (keeping : Bool) (t : StaticType) → CountsAs keeping t → is_number t ≡ true
 counts_is false t c = number_is t c
@@ -134,11 +144,11 @@ module _ (keeping : Bool) (bs : List Bound) where
 
   pub value_behind : (b : Bound) (t : StaticType) → Value t → IsValue keeping (b ∷ bs) t
   value_behind b t (value_simple _ a) = value_simple t a
-  value_behind b _ (value_pointer k sp args i q r) = value_pointer k sp args i q (among_behind b bs i r)
+  value_behind b _ (value_pointer k sp args i q r) = value_pointer k sp args i q (among_behind b bs sp i r)
 
   pub value_before : (more : List Bound) (t : StaticType) → Value t → IsValue keeping (bs ++ more) t
   value_before more t (value_simple _ a) = value_simple t a
-  value_before more _ (value_pointer k sp args i q r) = value_pointer k sp args i q (among_before bs more i r)
+  value_before more _ (value_pointer k sp args i q r) = value_pointer k sp args i q (among_before bs more sp i r)
 
   -- ---- what may be of a sort is of it
 
@@ -293,9 +303,9 @@ value_compared true bs c t _ (value_simple _ a) (value_pointer k sp args i q r) 
 value_compared true bs c _ u (value_pointer k sp args i q r) (value_simple _ b) e =
     compared_left c k sp args _ u (simple_as_number u b (compared_numbers c (pointer_type k sp args i) u refl e).1)
 value_compared true bs comparison.Equal _ _ (value_pointer k sp args i q r) (value_pointer j s brgs h p u) e =
-    compared_equal _ _ (a_pointer_type k sp args i (names_among bs i r)) (a_pointer_type j s brgs h (names_among bs h u))
+    compared_equal _ _ (a_pointer_type k sp args i (names_among bs sp i r)) (a_pointer_type j s brgs h (names_among bs s h u))
 value_compared true bs comparison.NotEqual _ _ (value_pointer k sp args i q r) (value_pointer j s brgs h p u) e =
-    compared_different _ _ (a_pointer_type k sp args i (names_among bs i r)) (a_pointer_type j s brgs h (names_among bs h u))
+    compared_different _ _ (a_pointer_type k sp args i (names_among bs sp i r)) (a_pointer_type j s brgs h (names_among bs s h u))
 value_compared true bs comparison.Less _ _ (value_pointer k sp args i q r) (value_pointer j s brgs h p u) e = absurd (no_way_back e)
 value_compared true bs comparison.AtMost _ _ (value_pointer k sp args i q r) (value_pointer j s brgs h p u) e = absurd (no_way_back e)
 value_compared true bs comparison.Greater _ _ (value_pointer k sp args i q r) (value_pointer j s brgs h p u) e = absurd (no_way_back e)
@@ -319,10 +329,6 @@ pub alike_begins : (b : Bool) (bs : List Bound) (t u : StaticType) → AreAlike 
 alike_begins false bs t u p = p
 alike_begins true bs t u p = begins_plain t u (into_plain t u (fills_alike t u p))
 
-pub fitting_assigned : (b : Bool) (t u : StaticType) → FitsInto b t u → IsAssigned b t u
-fitting_assigned false t u p = p
-fitting_assigned true t u p = assigned_plain t u p
-
 pub alike_assigned : (b : Bool) (t u : StaticType) → AreAlike t u → IsAssigned b t u
 alike_assigned false t u p = p
 alike_assigned true t u p = assigned_plain t u (into_plain t u (fills_alike t u p))
@@ -342,7 +348,7 @@ kept_assigned bs known _ _ (value_pointer j sp args i q r) (value_simple _ (simp
 kept_assigned bs known _ _ (value_simple _ simple_truth) (value_simple _ (simple_index k)) c e = absurd (no_way_back e)
 kept_assigned bs known _ _ (value_simple _ (simple_space j)) (value_simple _ (simple_index k)) c e = absurd (no_way_back e)
 kept_assigned bs known _ _ (value_pointer j s brgs h p u) (value_pointer k sp args i q r) c e =
-    assigned_pointer _ _ (a_pointer_type j s brgs h (names_among bs h u)) (a_pointer_type k sp args i (names_among bs i r))
+    assigned_pointer _ _ (a_pointer_type j s brgs h (names_among bs s h u)) (a_pointer_type k sp args i (names_among bs sp i r))
 kept_assigned bs known _ _ (value_simple _ (simple_integer w)) (value_pointer k sp args i q r) c e = absurd (no_way_back e)
 kept_assigned bs known _ _ (value_simple _ (simple_index j)) (value_pointer k sp args i q r) c e = absurd (no_way_back e)
 kept_assigned bs known _ _ (value_simple _ simple_truth) (value_pointer k sp args i q r) c e = absurd (no_way_back e)
@@ -354,6 +360,14 @@ pub value_assigned : (keeping : Bool) (bs : List Bound) (known : List Known) (t 
 value_assigned keeping bs known t u a b (inr s) c e = alike_assigned keeping t u (value_fitting keeping bs known t u a s e)
 value_assigned false bs known t u a b (inl q) c e = absurd (no_way_back q)
 value_assigned true bs known t u a b (inl q) c e = kept_assigned bs known t u a b c e
+
+-- what fits a pointer is one
+pub pointer_fitting : (b : Bool) (bs : List Bound) (known : List Known) (from u : StaticType) → IsValue b bs from → IsPointer u → fits known from u ≡ true → IsPointer from
+pointer_fitting b bs known _ _ (value_simple _ (simple_integer w)) (a_pointer_type k sp args rs ns) e = absurd (no_way_back e)
+pointer_fitting b bs known _ _ (value_simple _ (simple_index j)) (a_pointer_type k sp args rs ns) e = absurd (no_way_back e)
+pointer_fitting b bs known _ _ (value_simple _ simple_truth) (a_pointer_type k sp args rs ns) e = absurd (no_way_back e)
+pointer_fitting b bs known _ _ (value_simple _ (simple_space j)) (a_pointer_type k sp args rs ns) e = absurd (no_way_back e)
+pointer_fitting b bs known _ _ (value_pointer j sq brgs i h r) u e = a_pointer_type j sq brgs i (names_among bs sq i r)
 
 pub scalar_begins : (b : Bool) (bs : List Bound) (t : StaticType) → IsScalar t → BeginsAs b bs t
 scalar_begins false bs t p = p
@@ -371,10 +385,6 @@ pub value_read : (b : Bool) (bs : List Bound) (t : StaticType) → IsValue b bs 
 value_read b bs t (value_simple _ p) = simple_read b t p
 value_read false bs _ (value_pointer k sp args i q r) = absurd (no_way_back q)
 value_read true bs _ (value_pointer k sp args i q r) = tt
-
-pub field_kept : (b : Bool) (w : Where) (n f : Name) (t : StaticType) → IsField w n f t → IsFieldOf b w n f t
-field_kept false w n f t p = p
-field_kept true w n f t p = any_field false w n f t p
 
 pub simple_keepable : (b : Bool) (w : Where) (e : Expression) → IsSimple (typed w e) → IsKeepable b w e
 simple_keepable false w e p = p

@@ -8,7 +8,8 @@ use Rattle.regent_tree.specs.Lookup.{has_space, type_named}
 use Rattle.regent_tree.specs.Scopes.{Scope, bound_to, in_scope, known_of_type}
 use Rattle.regent_tree.specs.StaticTypes.{looked_up, place_of_space, spaces_of}
 use Rattle.regent_tree.specs.Syntax.{Expression, Initializer, Name, TaskTree, Tree, access_expr, at_step, call_expr, cast_expr, chain_expr, convert_expr, field_step, is_null_expr, no_step, null_expr, number_expr, plain_initializer, prefix_expr, region_initializer, space_expr, truth_expr, var_form}
-use Rattle.regent_tree.specs.Typing.{kind_of_ispace, known_of_child, owned, result_type, scope_after, type_of, var_type}
+use Rattle.regent_tree.specs.Accesses.{space_in}
+use Rattle.regent_tree.specs.Typing.{kind_of_ispace, known_of_child, owned, reaches_of, result_type, scope_after, type_of, var_type}
 use Rattle.regent_tree.specs.declared.facts.Term.TheVariants as place
 use Rattle.regent_tree.specs.declared.program.FieldSpace.{FieldSpace}
 use Rattle.regent_tree.specs.declared.types.Kind.TheVariants.{Int1d}
@@ -40,15 +41,15 @@ use Rattle.code_laws.specs.Steps.{Forms}
 use Rattle.code_laws.specs.Taking.{IsFresh}
 use Rattle.code_laws.specs.Typed.{IsTyped, IsTypedForm, IsKeepable}
 use Rattle.code_laws.proofs.Wider.{begun_so}
-use Rattle.code_laws.proofs.KnownHeads.{IsReady, KnowsHead, head_made, head_named}
+use Rattle.code_laws.proofs.KnownHeads.{IsReady, KnowsFacts, KnowsHead, head_made, head_named}
 use Rattle.code_laws.proofs.LocalPoints.{IsWell}
 use Rattle.code_laws.proofs.LocalExpressions.{local_well}
 use Rattle.code_laws.proofs.LocalNames.{IsKept, IsLocalTree, first_below, kept_region, kept_scalar, named_kept, no_kept_partition, kept_value}
 use Rattle.code_laws.proofs.TypedStatements.{HasNoPartition, first_stands, initial_told}
 use Rattle.code_laws.proofs.Typing.{AreKept, kept_right, no_way, no_way_back}
 use Rattle.scalar_form.specs.ScalarForm.{is_scalar_if_said}
-use Rattle.code_laws.proofs.LocalValues.{IsValue, names_among, owned_value, simple_keepable, simple_no_pointer, value_pointer, value_simple, value_space, value_tells}
-use Rattle.code_laws.specs.Pointers.{IsPointer, a_pointer_type}
+use Rattle.code_laws.proofs.LocalValues.{IsValue, among_there, names_among, owned_value, simple_keepable, simple_no_pointer, value_pointer, value_simple, value_space, value_tells}
+use Rattle.code_laws.specs.Pointers.{AreThere, IsPointer, a_pointer_type}
 use Rattle.code_laws.proofs.LocalElements.{points_by_form}
 use Rattle.code_laws.proofs.LocalNulls.{type_flawless, variable_said}
 
@@ -59,7 +60,10 @@ value_keepable : (b : Bool) (w : Where) (e : Expression) (t : StaticType) → ty
 value_keepable b w e t same falls h (value_simple _ a) = simple_keepable b w e (subst IsSimple (sym same) a)
 value_keepable false w e _ same falls h (value_pointer k sp args i q r) = absurd (no_way_back q)
 value_keepable true w e _ same falls h (value_pointer k sp args i q r) =
-    inr (subst IsPointer (sym same) (a_pointer_type k sp args i (names_among w.scope.names i r)), points_by_form w e falls h)
+    inr (
+      subst IsPointer (sym same) (a_pointer_type k sp args i (names_among w.scope.names sp i r)),
+      points_by_form w e falls (subst (λ t. AreThere w.scope.names (space_in t) (reaches_of t)) (sym same) (among_there w.scope.next w.scope.names sp i falls r)) h,
+    )
 
 module _ (handing keeping : Bool) (tree : Tree) (task : TaskTree) (sound : IsSound tree) (sound_task : IsSoundTask tree task) (m : Marked)
     (local : IsLocalTree handing keeping m tree) (params : ℕ) (result : is_scalar_if_said task.result ≡ true) where
@@ -117,7 +121,7 @@ module _ (handing keeping : Bool) (tree : Tree) (task : TaskTree) (sound : IsSou
   -- a variable, and what its name stands for
   abbrev pub VarTyped : Scope → ℕ → Name → Option TypeTerm → Option Initializer → Type 0
   VarTyped s line n t i = IsTypedForm forms (at s line) (var_form n t i) × IsKept keeping m s.names n s.next (var_type tree s t i)
-      × KnowsHead tree task (scope_after tree s (var_form n t i))
+      × KnowsFacts tree task (scope_after tree s (var_form n t i))
 
   -- a variable begins with no pointer, or with a name's or an element
   begins_plainly : (s : Scope) (line : ℕ) (n : Name) (y : Expression) (points : Bool) → gives_pointer m y ≡ points → (gives_scalar m y ≡ true) ⊎ (is_among m.indices n ≡ true) →
@@ -146,7 +150,7 @@ module _ (handing keeping : Bool) (tree : Tree) (task : TaskTree) (sound : IsSou
       let none = value_tells keeping s.names s.next from a.value in (
         begun_so keeping (at s line) y (IsKeepable keeping (at s line) y × IsTyped forms (at s line) y) (begun.0, a.is),
         subst (IsKept keeping m s.names n s.next) (sym (owned_value keeping s.names s.next from a.value)) begun.1,
-        head_named tree task s n (owned s.next from) (known_of_child s.next from ++ known_of_type (owned s.next from)) names.head
+        head_named tree task s n (owned s.next from) (known_of_child s.next from ++ known_of_type (owned s.next from)) names.head.facts
             (ap (λ ks. ks ++ known_of_type (owned s.next from)) none.0 ∙ none.1),
       )
 
@@ -177,7 +181,7 @@ module _ (handing keeping : Bool) (tree : Tree) (task : TaskTree) (sound : IsSou
       (ap (λ u. fits s.known u (declared_type tree s t)) (sym begun) ∙ fit) in (
         (is.begins from a.value fits_wanted, a.is),
         is.kept,
-        head_named tree task s n wanted (known_of_child s.next from ++ known_of_type wanted) names.head
+        head_named tree task s n wanted (known_of_child s.next from ++ known_of_type wanted) names.head.facts
             (ap (λ ks. ks ++ known_of_type wanted) (value_tells keeping s.names s.next from a.value).0 ∙ (value_tells keeping s.names s.next wanted is.value).2),
       )
 
@@ -188,12 +192,12 @@ module _ (handing keeping : Bool) (tree : Tree) (task : TaskTree) (sound : IsSou
       let none = (option_or_parts (first_in_type tree s.names t) _ (told_of_form tree task s sound scope (var_form n (Some t) None) e).0).0 in
       let wanted = var_type tree s (Some t) None in
       let is = variable_said keeping m local.keeps tree s scope names.names n t lo none in
-      (is.itself, is.kept, head_named tree task s n wanted (known_of_type wanted) names.head (value_tells keeping s.names s.next wanted is.value).2)
+      (is.itself, is.kept, head_named tree task s n wanted (known_of_type wanted) names.head.facts (value_tells keeping s.names s.next wanted is.value).2)
 
   -- what is made is named behind the parameters
   fresh : (b : Bool) (s : Scope) → KnowsHead tree task s → IsFresh (takes_by b tree task) (place.Name s.next)
   fresh false s h = tt
-  fresh true s h = h.next
+  fresh true s h = h.facts.next
 
   pub region_local : (s : Scope) (line : ℕ) (n : Name) (y : Expression) (u : SpaceUse) → is_local_form m (var_form n None (Some (region_initializer y u))) ≡ true →
       AreKept (parts_of_expression y) → IsSoundScope s → Ready s →
@@ -218,5 +222,5 @@ module _ (handing keeping : Bool) (tree : Tree) (task : TaskTree) (sound : IsSou
           fresh handing s names.head,
         ),
         kept_region (kind_of_ispace (type_of tree s y)) (place_of_space tree u.name) (map (looked_up (in_scope s)) u.args) both.0,
-        head_made tree task s n (var_type tree s None (Some (region_initializer y u))) names.head,
+        head_made tree task s n (var_type tree s None (Some (region_initializer y u))) names.head.facts,
       )

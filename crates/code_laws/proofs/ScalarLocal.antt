@@ -13,7 +13,7 @@ use Rattle.regent_tree.specs.declared.types.TypeTerm.{TypeTerm}
 use Rattle.regent_tree.specs.declared.types.NumberTerm.{NumberTerm}
 use Rattle.regent_tree.specs.declared.types.NumberTerm.TheVariants as number
 use Rattle.regent_tree.specs.declared.types.TypeTerm.TheVariants as term
-use Rattle.local_form.specs.LocalForm.{Marked, converts_to, gives_pointer, is_difference, is_partition_name, keeps_pointer, is_kept_term, is_pointing, marked_by_term, takes_partition_off, takes_value, with_either, with_partition, are_local_arms, are_local_expressions, are_local_links, are_local_params, are_scalar_params, gives_scalar, is_local_block, is_local_else, is_local_expression, is_local_form, is_local_item, is_local_program, is_local_task, is_index_term, is_local_param, is_local_with, is_among, is_region_term, links_give, marked_by, marked_by_arms, marked_by_else, marked_by_item, marked_by_items, marked_by_task, marked_in, marked_params, unmarked, with_index, with_region}
+use Rattle.local_form.specs.LocalForm.{Marked, converts_to, gives_pointer, is_difference, is_partition_name, keeps_pointer, is_kept_term, is_pointing, marked_by_term, takes_partition_off, takes_value, with_either, with_partition, are_local_arms, are_local_expressions, are_local_links, are_local_params, are_scalar_params, gives_scalar, is_local_block, is_local_else, is_local_expression, is_local_form, is_local_item, is_local_program, is_local_task, is_index_or_space, is_local_param, is_local_with, is_among, is_region_term, links_give, marked_by, marked_by_arms, marked_by_else, marked_by_item, marked_by_items, marked_by_task, marked_in, marked_params, unmarked, with_index, with_region}
 use Rattle.code_laws.specs.LocalPrograms.{has_no_pointer, keeps_nothing, takes_scalars}
 use Rattle.code_laws.proofs.Typing.{no_way_back}
 use Rattle.scalar_form.specs.ScalarForm.{are_scalar_arms, are_scalar_expressions, are_scalar_links, is_empty, is_scalar_block, is_scalar_else, is_scalar_expression, is_scalar_form, is_scalar_if_said, is_scalar_item, is_scalar_number, is_scalar_program, is_scalar_task, is_scalar_term}
@@ -28,7 +28,7 @@ or_true false = refl
 module _ (keeping : Bool) where
   -- no marks, where indices and pointers may be assigned or may not
   abbrev bare : Marked
-  bare = record { regions = []; partitions = []; indices = []; pointers = []; index_fields = []; keeps = keeping }
+  bare = record { regions = []; partitions = []; indices = []; pointers = []; index_fields = []; pointer_fields = []; keeps = keeping }
 
   takes : (n : Name) → takes_value bare n ≡ true
   takes n = ap (λ k. k && true) (or_true keeping)
@@ -96,7 +96,7 @@ module _ (keeping : Bool) where
   none_points (access_expr n no_step) sc = refl
   none_points (chain_expr first no_link) sc = none_points first (and_parts (is_scalar_expression first) true sc).0
   none_points (chain_expr first (a_link _ _ _)) sc = refl
-  none_points (access_expr n (field_step _ _)) sc = refl
+  none_points (access_expr n (field_step _ _)) sc = absurd (no_way_back sc)
   none_points (access_expr n (at_step _ _)) sc = absurd (no_way_back sc)
   none_points (number_expr _ _) sc = refl
   none_points (truth_expr _) sc = refl
@@ -261,13 +261,13 @@ scalar_no_region (term.Ispace k) e = refl
 scalar_no_region (term.Region k u) e = absurd (no_way_back e)
 scalar_no_region (term.Partition d r c) e = refl
 
-scalar_no_index : (t : TypeTerm) → is_scalar_term t ≡ true → is_index_term t ≡ false
+scalar_no_index : (t : TypeTerm) → is_scalar_term t ≡ true → is_index_or_space t ≡ false
 scalar_no_index (term.Number number.Int32) e = refl
 scalar_no_index (term.Number number.Int64) e = refl
 scalar_no_index (term.Number (number.Index k)) e = absurd (no_way_back e)
 scalar_no_index term.Truth e = refl
 scalar_no_index (term.Pointer p) e = refl
-scalar_no_index (term.Ispace k) e = refl
+scalar_no_index (term.Ispace k) e = absurd (no_way_back e)
 scalar_no_index (term.Region k u) e = refl
 scalar_no_index (term.Partition d r c) e = refl
 
@@ -275,7 +275,7 @@ none_marked : (ps : List Param) (m : Marked) → are_scalar_params ps ≡ true �
 none_marked [] m e = refl
 none_marked (p ∷ ps) m e =
     let both = and_parts (is_scalar_term p.term) (are_scalar_params ps) e in
-    ap (λ b. marked_params ps (cond b (with_region p.name m) (cond (is_index_term p.term) (with_index p.name m) m))) (scalar_no_region p.term both.0)
+    ap (λ b. marked_params ps (cond b (with_region p.name m) (cond (is_index_or_space p.term) (with_index p.name m) m))) (scalar_no_region p.term both.0)
     ∙ ap (λ b. marked_params ps (cond b (with_index p.name m) m)) (scalar_no_index p.term both.0) ∙ none_marked ps m both.1
 
 params_local : (m : Marked) (ps : List Param) → are_scalar_params ps ≡ true → are_local_params m ps ≡ true
@@ -283,7 +283,7 @@ params_local m [] e = refl
 params_local m (p ∷ ps) e =
     let both = and_parts (is_scalar_term p.term) (are_scalar_params ps) e in
     both_true (is_local_param m p) (are_local_params m ps)
-    (ap (λ b. b || (is_region_term p.term || (is_index_term p.term && (m.keeps && is_among m.indices p.name)))) both.0) (params_local m ps both.1)
+    (ap (λ b. b || (is_region_term p.term || (is_index_or_space p.term && (m.keeps && is_among m.indices p.name)))) both.0) (params_local m ps both.1)
 
 -- a task is of the form without marks
 task_bare : (k : Bool) (t : TaskTree) → IsScalarTask t → is_local_with (bare k) t ≡ true

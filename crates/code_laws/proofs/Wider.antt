@@ -8,8 +8,8 @@ use Rattle.regent_tree.specs.declared.typing.Bound.{Bound}
 use Rattle.regent_tree.specs.declared.types.NumberTerm.{NumberTerm}
 use Rattle.regent_tree.specs.declared.typing.StaticType.{StaticType}
 use Rattle.code_rules.specs.Slots.{Where}
-use Rattle.code_laws.specs.Pointers.{AreCompared, Assigned, Begins, BeginsAs, BeginsItself, BeginsWith, ConvertsTo, CountsAs, Filled, FillsInto, FitsInto, GoesInto, HasSigns, HasZero, SignedAs, signs_plain, IsAssigned, IsCompared, IsCounting, IsNumberTerm, IsPointer, assigned_plain, begins_plain, compared_plain, counts_number, counts_pointer, filled_plain, fills_alike, fills_index, into_index, into_plain, itself_plain, keeps_plain, term_integer, zero_index, zero_scalar}
-use Rattle.code_laws.specs.Simple.{IsNumber, IsSimple, IsSpace, number_index, number_integer, scalar_integer, scalar_truth, simple_index, simple_integer, simple_truth, two_integers, two_truths}
+use Rattle.code_laws.specs.Pointers.{AreCompared, Assigned, Begins, BeginsAs, BeginsItself, BeginsWith, ConvertsTo, CountsAs, Filled, FillsInto, FitsInto, GoesInto, HasSigns, HasZero, SignedAs, signs_plain, IsAssigned, IsCompared, IsCounting, IsNumberTerm, IsPointer, assigned_plain, begins_plain, compared_plain, counts_number, counts_pointer, filled_plain, fills_alike, fills_index, into_index, into_plain, into_space, itself_plain, keeps_plain, term_integer, zero_index, zero_scalar}
+use Rattle.code_laws.specs.Simple.{IsNumber, IsSimple, IsSpace, number_index, number_integer, scalar_integer, scalar_truth, simple_index, simple_integer, simple_space, simple_truth, two_integers, two_truths}
 use Rattle.regent_tree.specs.Syntax.{Expression}
 use Rattle.code_rules.specs.Slots.{typed}
 use Rattle.code_laws.specs.Typed.{IsAnyField, IsBegun, IsDifference, IsFieldOf, IsKeepable, IsNamedRegion, IsPointing, LoopsOver}
@@ -88,6 +88,7 @@ into_simple _ _ (into_plain _ _ (fills_alike _ _ (two_integers v w))) = simple_i
 into_simple _ _ (into_plain _ _ (fills_alike _ _ two_truths)) = simple_truth
 into_simple _ _ (into_plain _ _ (fills_index _ k n)) = simple_index k
 into_simple _ _ (into_index k sp args rs j) = simple_index j
+into_simple _ _ (into_space j k) = simple_space k
 
 pub zero_simple : (t : StaticType) → HasZero t → IsSimple t
 zero_simple _ (zero_scalar _ (scalar_integer w)) = simple_integer w

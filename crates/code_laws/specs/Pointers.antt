@@ -12,7 +12,7 @@ use Rattle.regent_tree.specs.declared.types.NumberTerm.{NumberTerm}
 use Rattle.regent_tree.specs.declared.types.NumberTerm.TheVariants as number
 use Rattle.regent_tree.specs.declared.typing.Bound.{Bound}
 use Rattle.regent_tree.specs.declared.typing.StaticType.{StaticType}
-use Rattle.regent_tree.specs.declared.typing.StaticType.TheVariants.{Index as index_type, Pointer as pointer_type}
+use Rattle.regent_tree.specs.declared.typing.StaticType.TheVariants.{Index as index_type, Pointer as pointer_type, Ispace as ispace_type}
 use Rattle.partitions.specs.Laws.{ArePartsOf, NoneShared}
 use Rattle.regent_tree.specs.Accesses.{space_in}
 use Rattle.regent_tree.specs.Scopes.{bound_as}
@@ -46,10 +46,11 @@ pub data Fills : StaticType → StaticType → Type 0 where
   fills_alike : (t u : StaticType) → AreAlike t u → Fills t u
   fills_index : (t : StaticType) (k : Kind) → IsNumber t → Fills t (index_type k)
 
--- what goes into a variable or a field of a type
+-- what goes into a variable, a parameter or a field of a type
 pub data GoesInto : StaticType → StaticType → Type 0 where
   into_plain : (t u : StaticType) → Fills t u → GoesInto t u
   into_index : (k : Kind) (sp : ℕ) (args rs : List Reach) (j : Kind) → GoesInto (pointer_type k sp args rs) (index_type j)
+  into_space : (j k : Kind) → GoesInto (ispace_type j) (ispace_type k)
 
 -- a variable's type that has a value by itself: 0, or false
 pub data HasZero : StaticType → Type 0 where

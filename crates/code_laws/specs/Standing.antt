@@ -184,7 +184,7 @@ pub record IsFramed (x : Setting) (store : Store) (own : List RootId) (m : Memor
 
 -- ---- calls
 
--- A value that is given to a parameter: a number, a truth or an index; or, where regions are handed over, one that lies in
+-- A value that is given to a parameter: a number, a truth, an index or an index space; or, where regions are handed over, one that lies in
 -- the store.
 pub data IsTaken (takes : Option Taking) (code : Code) (store : Store) : StaticType → Value → Type 0 where
   takes_value : (t : StaticType) (v : Value) → IsSimple t → IsOf t v → IsTaken takes code store t v

@@ -80,6 +80,7 @@ module _ (code : Code) where
       pub parts : (s : ℕ → ℕ) → Naming s → parts_in code a.parts ≡ map (part_to (named s)) (segment before).parts
       pub held : All (IsHeld code) ps → All (IsHeld code) a.parts
       pub yields : (s : ℕ → ℕ) → Naming s → a.yields ≡ yield_out code turns f (yield_to (named s) (segment before).ends)
+      pub ends_alike : (s t : ℕ → ℕ) → Naming s → Naming t → yield_to (named s) (segment before).ends ≡ yield_to (named t) (segment before).ends
 
     own_kept : (o : Option Frame) → (last_frame f o).own ≡ f.own
     own_kept None = refl
@@ -123,6 +124,7 @@ module _ (code : Code) where
       parts = parts_left;
       held = held_again ps (numbers_in_parts code (map (part_to (named other)) x.parts));
       yields = λ s h. ap (λ (a : After). yield_out code turns f a.ends) (sym (same s h));
+      ends_alike = λ s t h k. ap (λ (a : After). a.ends) (same s h ∙ sym (same t k));
     }
 
     pub segment_left : Left (board_segment code turns f ps)

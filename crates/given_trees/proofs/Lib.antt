@@ -5,3 +5,4 @@ pub mod Maps
 pub mod PutBack
 pub mod Segments
 pub mod Parts
+pub mod Left

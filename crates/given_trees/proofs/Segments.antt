@@ -238,6 +238,7 @@ module _ (job : Job) (s : State) (b : Board (regent_ground (spaces_of job.code))
       fitting = left_fitting Start holds.fitting;
       once = left_once Start holds.once;
       yields = left.yields;
+      alike = left.ends_alike;
     }
 
 pub segments_show : SegmentsShow

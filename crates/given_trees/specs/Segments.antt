@@ -38,6 +38,7 @@ module _ (job : Job) (s : State) (who : ℕ → ℕ) (roots : List RootId) where
     pub fitting : All HasFitting a.parts
     pub once : All HasEachOnce a.parts
     pub yields : (name : ℕ → ℕ) → IsNaming s.roots who roots name → b.yields ≡ yield_out job.code job.turns from (yield_to (named name) a.ends)
+    pub alike : (name other : ℕ → ℕ) → IsNaming s.roots who roots name → IsNaming s.roots who roots other → yield_to (named name) a.ends ≡ yield_to (named other) a.ends
 
 -- The segment of one that is out is run, on the table from what was handed out, in the tree from its frame with what it
 -- waited for, its parts and what was filled: they leave the same.

@@ -99,20 +99,44 @@ two_part m n (At e ∷ []) many = absurd (omega (arith, many))
 two_part m n (At e ∷ Field g ∷ rest) many = refl
 two_part m n (At e ∷ At d ∷ rest) many = refl
 
--- no pointer has more steps than one
-pub two_points : (m : Marked) (n : Name) (steps : List Step) → 2 ≤ length steps → false ≡ gives_pointer m (access_expr n (steps_in steps))
-two_points m n [] many = absurd (omega (arith, many))
-two_points m n (Field f ∷ rest) many = refl
-two_points m n (At e ∷ []) many = absurd (omega (arith, many))
-two_points m n (At e ∷ Field g ∷ rest) many = refl
-two_points m n (At e ∷ At d ∷ rest) many = refl
+-- no pointer has more steps than an element and its field
+pub two_points : (m : Marked) (n : Name) (steps : List Step) (d : Step) (f : Name) → 2 ≤ length steps → get_or steps 0 d ≡ Field f →
+    false ≡ gives_pointer m (access_expr n (steps_in steps))
+two_points m n [] d f many is = absurd (omega (arith, many))
+two_points m n (At e ∷ rest) d f many is = absurd cc
+two_points m n (Field g ∷ []) d f many is = absurd (omega (arith, many))
+two_points m n (Field g ∷ Field h ∷ rest) d f many is = refl
+two_points m n (Field g ∷ At e ∷ rest) d f many is = refl
 
-pub two_pointing : (n : Name) (steps : List Step) → 2 ≤ length steps → false ≡ is_pointing (access_expr n (steps_in steps))
-two_pointing n [] many = absurd (omega (arith, many))
-two_pointing n (Field f ∷ rest) many = refl
-two_pointing n (At e ∷ []) many = absurd (omega (arith, many))
-two_pointing n (At e ∷ Field g ∷ rest) many = refl
-two_pointing n (At e ∷ At d ∷ rest) many = refl
+pub three_points : (m : Marked) (n : Name) (steps : List Step) → 3 ≤ length steps → false ≡ gives_pointer m (access_expr n (steps_in steps))
+three_points m n [] many = absurd (omega (arith, many))
+three_points m n (Field f ∷ []) many = absurd (omega (arith, many))
+three_points m n (Field f ∷ Field g ∷ rest) many = refl
+three_points m n (Field f ∷ At e ∷ rest) many = refl
+three_points m n (At e ∷ []) many = absurd (omega (arith, many))
+three_points m n (At e ∷ At d ∷ rest) many = refl
+three_points m n (At e ∷ Field g ∷ []) many = absurd (omega (arith, many))
+three_points m n (At e ∷ Field g ∷ Field h ∷ rest) many = refl
+three_points m n (At e ∷ Field g ∷ At d ∷ rest) many = refl
+
+pub two_pointing : (n : Name) (steps : List Step) (d : Step) (f : Name) → 2 ≤ length steps → get_or steps 0 d ≡ Field f →
+    false ≡ is_pointing (access_expr n (steps_in steps))
+two_pointing n [] d f many is = absurd (omega (arith, many))
+two_pointing n (At e ∷ rest) d f many is = absurd cc
+two_pointing n (Field g ∷ []) d f many is = absurd (omega (arith, many))
+two_pointing n (Field g ∷ Field h ∷ rest) d f many is = refl
+two_pointing n (Field g ∷ At e ∷ rest) d f many is = refl
+
+pub three_pointing : (n : Name) (steps : List Step) → 3 ≤ length steps → false ≡ is_pointing (access_expr n (steps_in steps))
+three_pointing n [] many = absurd (omega (arith, many))
+three_pointing n (Field f ∷ []) many = absurd (omega (arith, many))
+three_pointing n (Field f ∷ Field g ∷ rest) many = refl
+three_pointing n (Field f ∷ At e ∷ rest) many = refl
+three_pointing n (At e ∷ []) many = absurd (omega (arith, many))
+three_pointing n (At e ∷ At d ∷ rest) many = refl
+three_pointing n (At e ∷ Field g ∷ []) many = absurd (omega (arith, many))
+three_pointing n (At e ∷ Field g ∷ Field h ∷ rest) many = refl
+three_pointing n (At e ∷ Field g ∷ At d ∷ rest) many = refl
 
 -- an access is behind a pointer or a partition, or beside them
 pub either_access : (m : Marked) (n : Name) (steps : Steps) →

@@ -1,7 +1,8 @@
 -- Programs whose tasks know each region by a local name, that of a parameter or of a variable that begins with
 -- region(..), and hand it over by that name, or by parts of partitions: each task takes numbers, truths, indices and regions,
 -- and gives a number or truth, or nothing. Which names stand for regions and partitions, and which may stand for
--- an index, an index space or a pointer, is read from the text of a task; which fields hold indices, from the field spaces.
+-- an index, an index space or a pointer, is read from the text of a task; which fields hold indices or pointers, from the
+-- field spaces.
 use Rattle.std.specs.Prelude.{Bool, true, false, List, [], ◌∷◌, ◌++◌, Some, None, bytes_eq, not, cond, ◌&&◌, ◌||◌}
 use Rattle.std.specs.List.{list_all, list_any}
 use Rattle.regent_tree.specs.Syntax.{Arms, Block, Expression, Expressions, Form, ItemForm, ItemTree, Links, Name, Otherwise, TaskTree, Tree, a_link, a_statement, access_expr, alias_item, an_arm, an_expr, assert_form, assign_form, at_step, both_initializer, by_field_initializer, call_expr, call_form, cast_expr, chain_expr, convert_expr, do_form, either_initializer, else_block, equal_initializer, field_step, fill_form, for_in_form, for_to_form, if_form, image_initializer, import_item, is_null_expr, no_arm, no_else, no_expr, no_link, no_statement, no_step, null_expr, number_expr, plain_initializer, prefix_expr, preimage_initializer, print_form, region_initializer, return_form, space_expr, space_item, start_item, task_item, then_statement, truth_expr, var_form, while_form}
@@ -20,18 +21,24 @@ use Rattle.scalar_form.specs.ScalarForm.{is_scalar_if_said, is_scalar_number, is
 -- ---- names
 
 -- the names of regions in a task, those of partitions, those that may stand for an index, an index space or a pointer,
--- and those among them that may stand for a pointer; the names of fields that hold indices; and whether such indices,
--- index spaces and pointers may be assigned, elements be taken as pointers, and numbers be converted to indices
+-- and those among them that may stand for a pointer; the names of fields that hold indices, and those of fields that hold
+-- pointers; and whether such indices, index spaces and pointers may be assigned, elements be taken as pointers, and numbers
+-- be converted to indices
 pub record Marked : Type 0 where
   pub regions : List Name
   pub partitions : List Name
   pub indices : List Name
   pub pointers : List Name
   pub index_fields : List Name
+  pub pointer_fields : List Name
   pub keeps : Bool
 
 abbrev pub is_among : List Name → Name → Bool
 is_among names n = list_any (λ m. bytes_eq m n) names
+
+-- whether a field of a name holds indices or pointers, in some field space
+abbrev pub is_kept_field : Marked → Name → Bool
+is_kept_field m f = is_among m.index_fields f || is_among m.pointer_fields f
 
 -- ---- expressions
 
@@ -43,9 +50,9 @@ abbrev mutual
   gives_scalar m (chain_expr first rest) = links_give m (gives_scalar m first) rest
   gives_scalar m (prefix_expr signs e) = true
   gives_scalar m (access_expr n no_step) = not (is_among m.indices n)
-  gives_scalar m (access_expr n (at_step e (field_step f rest))) = not (is_among m.index_fields f)
+  gives_scalar m (access_expr n (at_step e (field_step f rest))) = not (is_kept_field m f)
   gives_scalar m (access_expr n (at_step e rest)) = false
-  gives_scalar m (access_expr n (field_step f rest)) = not (is_among m.partitions n) && not (is_among m.index_fields f)
+  gives_scalar m (access_expr n (field_step f rest)) = not (is_among m.partitions n) && not (is_kept_field m f)
   gives_scalar m (call_expr task args) = true
   gives_scalar m (convert_expr t e) = is_scalar_number t
   gives_scalar m (is_null_expr e) = true
@@ -67,20 +74,24 @@ abbrev pub is_region_name : Marked → Expression → Bool
 is_region_name m (access_expr n no_step) = is_among m.regions n
 is_region_name m e = false
 
--- whether an expression may give a pointer: a name that may stand for one, an element, null or what is cast, which may be
--- all of a chain
+-- whether an expression may give a pointer: a name that may stand for one, an element, a field that may hold one, null or
+-- what is cast, which may be all of a chain
 abbrev pub gives_pointer : Marked → Expression → Bool
 gives_pointer m (access_expr n no_step) = is_among m.pointers n
 gives_pointer m (access_expr n (at_step e no_step)) = true
+gives_pointer m (access_expr n (at_step e (field_step f no_step))) = is_among m.pointer_fields f
+gives_pointer m (access_expr n (field_step f no_step)) = is_among m.pointer_fields f
 gives_pointer m (null_expr t) = true
 gives_pointer m (cast_expr t e) = true
 gives_pointer m (chain_expr first no_link) = gives_pointer m first
 gives_pointer m e = false
 
--- a name that stands alone, an element, null, or what is cast
+-- a name that stands alone, an element, a field, null, or what is cast
 abbrev pub is_pointing : Expression → Bool
 is_pointing (access_expr n no_step) = true
 is_pointing (access_expr n (at_step e no_step)) = true
+is_pointing (access_expr n (at_step e (field_step f no_step))) = true
+is_pointing (access_expr n (field_step f no_step)) = true
 is_pointing (null_expr t) = true
 is_pointing (cast_expr t e) = true
 is_pointing e = false
@@ -179,9 +190,13 @@ is_kept_term m n t = is_scalar_term t
 abbrev pub is_local_domain : Marked → Name → Expression → Bool
 is_local_domain m n domain = (is_region_name m domain && is_among m.pointers n) || is_local_expression m domain
 
+-- whether what is filled in may be a pointer only where no field holds indices
+abbrev pub fills_apart : Marked → List Name → Expression → Bool
+fills_apart m fields e = not (gives_pointer m e) || not (list_any (is_among m.index_fields) fields)
+
 -- A variable of a written type is such. One without it begins with region(..), and its name is a region's; or with a partition that is equal or by a field, is the image or preimage of another, or has the points of both
 -- of two others, of either, or of the first alone, and its name is a partition's; or with an expression, and where that may
--- give an index, an index space or a pointer, so may the name. No region or partition is assigned. A fill takes no pointer.
+-- give an index, an index space or a pointer, so may the name. No region or partition is assigned. A fill of indices takes no pointer.
 abbrev mutual
   pub is_local_form : Marked → Form → Bool
   is_local_form m (var_form n None None) = true
@@ -204,7 +219,7 @@ abbrev mutual
   is_local_form m (for_to_form demanded n from to body) =
       is_local_expression m from && (is_local_expression m to && is_local_block m body)
   is_local_form m (do_form body) = is_local_block m body
-  is_local_form m (fill_form r fields e) = not (gives_pointer m e) && is_local_expression m e
+  is_local_form m (fill_form r fields e) = fills_apart m fields e && is_local_expression m e
   is_local_form m (assert_form e) = is_local_expression m e
   is_local_form m (print_form alias format args) = are_local_expressions m args
   is_local_form m (call_form task args) = are_local_arguments m args
@@ -233,7 +248,7 @@ abbrev mutual
 -- ---- which names are marked
 
 abbrev pub unmarked : Marked
-unmarked = record { regions = []; partitions = []; indices = []; pointers = []; index_fields = []; keeps = true }
+unmarked = record { regions = []; partitions = []; indices = []; pointers = []; index_fields = []; pointer_fields = []; keeps = true }
 
 abbrev pub with_region : Name → Marked → Marked
 with_region n m = record m { regions = m.regions ++ n ∷ [] }
@@ -250,6 +265,9 @@ with_pointer n m = record m { indices = m.indices ++ n ∷ []; pointers = m.poin
 
 abbrev pub with_index_field : Name → Marked → Marked
 with_index_field n m = record m { index_fields = m.index_fields ++ n ∷ [] }
+
+abbrev pub with_pointer_field : Name → Marked → Marked
+with_pointer_field n m = record m { pointer_fields = m.pointer_fields ++ n ∷ [] }
 
 abbrev pub with_either : Bool → Name → Marked → Marked
 with_either points n m = cond points (with_pointer n m) (with_index n m)
@@ -305,26 +323,43 @@ abbrev pub is_index_term : TypeTerm → Bool
 is_index_term (term.Number (number.Index k)) = true
 is_index_term t = false
 
+abbrev pub is_space_term : TypeTerm → Bool
+is_space_term (term.Ispace k) = true
+is_space_term t = false
+
+abbrev pub is_index_or_space : TypeTerm → Bool
+is_index_or_space t = is_index_term t || is_space_term t
+
+abbrev pub is_pointer_term : TypeTerm → Bool
+is_pointer_term (term.Pointer p) = true
+is_pointer_term t = false
+
 -- parameters that are numbers and truths
 abbrev pub are_scalar_params : List Param → Bool
 are_scalar_params ps = list_all (λ (p : Param). is_scalar_term p.term) ps
 
--- fields that are numbers, truths and indices
-abbrev pub are_local_fields : List Param → Bool
-are_local_fields ps = list_all (λ (p : Param). is_scalar_term p.term || is_index_term p.term) ps
+-- fields that are numbers, truths, indices and pointers
+abbrev pub is_local_field : Param → Bool
+is_local_field p = is_scalar_term p.term || (is_index_term p.term || is_pointer_term p.term)
 
--- parameters that are numbers, truths and regions, or indices of whose names this is known
+abbrev pub are_local_fields : List Param → Bool
+are_local_fields ps = list_all is_local_field ps
+
+-- parameters that are numbers, truths and regions, or indices and index spaces of whose names this is known
 abbrev pub is_local_param : Marked → Param → Bool
 is_local_param m p =
-    is_scalar_term p.term || (is_region_term p.term || (is_index_term p.term && (m.keeps && is_among m.indices p.name)))
+    is_scalar_term p.term || (is_region_term p.term || (is_index_or_space p.term && (m.keeps && is_among m.indices p.name)))
 
 abbrev pub are_local_params : Marked → List Param → Bool
 are_local_params m ps = list_all (is_local_param m) ps
 
--- the names of fields that hold indices, beside those that are marked before them
+-- the names of fields that hold indices and pointers, beside those that are marked before them
+abbrev pub marked_field : Param → Marked → Marked
+marked_field p m = cond (is_index_term p.term) (with_index_field p.name m) (cond (is_pointer_term p.term) (with_pointer_field p.name m) m)
+
 abbrev pub marked_fields : List Param → Marked → Marked
 marked_fields [] m = m
-marked_fields (p ∷ ps) m = marked_fields ps (cond (is_index_term p.term) (with_index_field p.name m) m)
+marked_fields (p ∷ ps) m = marked_fields ps (marked_field p m)
 
 -- so of a program's field spaces
 abbrev pub marked_by_item : ItemForm → Marked → Marked
@@ -335,9 +370,9 @@ abbrev pub marked_by_items : Tree → Marked → Marked
 marked_by_items [] m = m
 marked_by_items (i ∷ is) m = marked_by_items is (marked_by_item i.form m)
 
--- the names of parameters that are regions and indices, beside those that are marked before them
+-- the names of parameters that are regions, indices and index spaces, beside those that are marked before them
 abbrev pub marked_param : Param → Marked → Marked
-marked_param p m = cond (is_region_term p.term) (with_region p.name m) (cond (is_index_term p.term) (with_index p.name m) m)
+marked_param p m = cond (is_region_term p.term) (with_region p.name m) (cond (is_index_or_space p.term) (with_index p.name m) m)
 
 abbrev pub marked_params : List Param → Marked → Marked
 marked_params [] m = m

@@ -1,14 +1,12 @@
 -- The parts of what stands in lists, as the code sees them.
-use Rattle.std.specs.Prelude.{Bool, cond, false, not, ◌&&◌, ◌||◌}
+use Rattle.std.specs.Prelude.{Bool, List, false, not, ◌&&◌, ◌||◌}
 use Rattle.regent_tree.specs.declared.statement.Arm.{Arm, out-Arm}
 use Rattle.regent_tree.specs.declared.statement.How.{How}
 use Rattle.regent_tree.specs.declared.statement.How.TheVariants as how
-use Rattle.regent_tree.specs.declared.types.Param.{Param}
 use Rattle.regent_tree.specs.Plain.{expression_of}
 use Rattle.regent_tree.specs.PlainProgram.{block_in}
 use Rattle.regent_tree.specs.Syntax.{Expression, Name, Steps, at_step, field_step, no_step}
-use Rattle.scalar_form.specs.ScalarForm.{is_scalar_term}
-use Rattle.local_form.specs.LocalForm.{Marked, gives_pointer, is_among, is_kept_apart, is_local_block, is_local_expression, is_name, is_part, is_region_name, is_index_term, takes_element, takes_value, with_either, with_index_field}
+use Rattle.local_form.specs.LocalForm.{Marked, fills_apart, is_among, is_kept_apart, is_local_block, is_local_expression, is_name, is_part, is_region_name, takes_element, takes_value, with_either}
 
 abbrev pub is_local_arm : Marked → Arm → Bool
 is_local_arm m a =
@@ -22,14 +20,8 @@ abbrev pub marked_by_loop : Name → Expression → Marked → Marked
 marked_by_loop n domain m = with_either (is_region_name m domain) n m
 
 -- with what fields are filled
-abbrev pub is_local_filling : Marked → Expression → Bool
-is_local_filling m e = not (gives_pointer m e) && is_local_expression m e
-
-abbrev pub marked_field : Param → Marked → Marked
-marked_field p m = cond (is_index_term p.term) (with_index_field p.name m) m
-
-abbrev pub is_local_field : Param → Bool
-is_local_field p = is_scalar_term p.term || is_index_term p.term
+abbrev pub is_local_filling : Marked → List Name → Expression → Bool
+is_local_filling m fields e = fills_apart m fields e && is_local_expression m e
 
 -- ---- accesses
 

@@ -1,10 +1,9 @@
-//! Fields that hold indices.
+//! Fields that hold indices and pointers.
 
 ghost use Rattle.std.specs.Prelude.{◌≡◌, OnOk, map};
 ghost use Rattle.regent_tree.specs.PlainProgram.{item_of, item_tree_of};
-ghost use Rattle.local_form.specs.LocalForm.{are_local_fields, is_index_term};
-ghost use Rattle.local_form.specs.LocalForm.{marked_by_item, marked_by_items, marked_fields};
-ghost use Rattle.local_form.specs.Seen.{is_local_field, marked_field};
+ghost use Rattle.local_form.specs.LocalForm.{are_local_fields, is_index_term, is_local_field, is_pointer_term};
+ghost use Rattle.local_form.specs.LocalForm.{marked_by_item, marked_by_items, marked_field, marked_fields};
 
 use crate::marked::Marked;
 use regent_tree::{Item, ItemKind, NumberTerm, Param, TypeTerm};
@@ -12,7 +11,7 @@ use scalar_form::is_scalar_term;
 use std::alloc::AllocError;
 
 /// Whether a type is an index's.
-pub fn is_index_term(term: &TypeTerm) -> bool
+fn is_index_term(term: &TypeTerm) -> bool
     ensures { result ≡ is_index_term term.now }
 {
     match term {
@@ -21,11 +20,21 @@ pub fn is_index_term(term: &TypeTerm) -> bool
     }
 }
 
-/// Whether a field is a number, a truth or an index.
+/// Whether a type is a pointer's.
+fn is_pointer_term(term: &TypeTerm) -> bool
+    ensures { result ≡ is_pointer_term term.now }
+{
+    match term {
+        TypeTerm::Pointer(_) => true,
+        _ => false,
+    }
+}
+
+/// Whether a field is a number, a truth, an index or a pointer.
 fn is_local_field(field: &Param) -> bool
     ensures { result ≡ is_local_field field.now }
 {
-    is_scalar_term(&field.term) || is_index_term(&field.term)
+    is_scalar_term(&field.term) || is_index_term(&field.term) || is_pointer_term(&field.term)
 }
 
 /// Whether all fields are such.
@@ -35,12 +44,14 @@ pub fn are_local_fields(fields: &[Param]) -> bool
     fields.iter().all(is_local_field)
 }
 
-/// Marks the name of a field that holds indices.
+/// Marks the name of a field that holds indices or pointers.
 fn mark_field<'t>(marked: &mut Marked<'t>, field: &'t Param) -> Result<(), AllocError>
     ensures { OnOk result (marked.new ≡ marked_field field.now marked.old) }
 {
     if is_index_term(&field.term) {
         marked.add_index_field(&field.name)
+    } else if is_pointer_term(&field.term) {
+        marked.add_pointer_field(&field.name)
     } else {
         Ok(())
     }
@@ -67,7 +78,7 @@ fn mark_item<'t>(marked: &mut Marked<'t>, item: &'t ItemKind) -> Result<(), Allo
     }
 }
 
-/// Marks the names of all fields of a program that hold indices.
+/// Marks the names of all fields of a program that hold indices or pointers.
 pub fn mark_items<'t>(marked: &mut Marked<'t>, items: &'t [Item]) -> Result<(), AllocError>
     ensures { OnOk result
         (marked.new ≡ marked_by_items (map item_tree_of items.now) marked.old) }

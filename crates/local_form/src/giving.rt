@@ -9,16 +9,16 @@ use crate::marked::Marked;
 use regent_tree::{Expr, Link, Name, Operator, Step};
 use scalar_form::is_scalar_number;
 
-/// Whether an access gives a number or truth: a name that isn't marked, or a field that holds no indices. The colours of a
-/// partition are none, nor are elements.
+/// Whether an access gives a number or truth: a name that isn't marked, or a field that holds no indices and no pointers.
+/// The colours of a partition are none, nor are elements.
 fn access_gives(marked: &Marked<'_>, name: &Name, steps: &[Step]) -> bool
     ensures { result ≡ gives_scalar marked.now (access_expr name.now (steps_in steps.now)) }
 {
     match steps {
         [] => !marked.is_index(name),
-        [Step::At(_), Step::Field(field), ..] => !marked.is_index_field(field),
+        [Step::At(_), Step::Field(field), ..] => !marked.is_kept_field(field),
         [Step::At(_), ..] => false,
-        [Step::Field(field), ..] => !marked.is_partition(name) && !marked.is_index_field(field),
+        [Step::Field(field), ..] => !marked.is_partition(name) && !marked.is_kept_field(field),
     }
 }
 
@@ -57,19 +57,20 @@ fn links_give(marked: &Marked<'_>, left: bool, links: &[Link]) -> bool
     gives
 }
 
-/// Whether an access may give a pointer: a name alone that may stand for one, or an element.
+/// Whether an access may give a pointer: a name alone that may stand for one, an element, or a field that may hold one.
 fn access_points(marked: &Marked<'_>, name: &Name, steps: &[Step]) -> bool
     ensures { result ≡ gives_pointer marked.now (access_expr name.now (steps_in steps.now)) }
 {
     match steps {
         [] => marked.is_pointer(name),
         [Step::At(_)] => true,
+        [Step::At(_), Step::Field(field)] | [Step::Field(field)] => marked.is_pointer_field(field),
         _ => false,
     }
 }
 
-/// Whether an expression may give a pointer: a name that may stand for one, an element, null or what is cast, alone or as
-/// all of a chain.
+/// Whether an expression may give a pointer: a name that may stand for one, an element, a field that may hold one, null or
+/// what is cast, alone or as all of a chain.
 #[cycle(pointing)]
 pub fn gives_pointer(marked: &Marked<'_>, e: &Expr) -> bool
     ensures { result ≡ gives_pointer marked.now (expression_of e.now) }
@@ -93,12 +94,12 @@ fn chain_points(marked: &Marked<'_>, first: &Expr, links: &[Link]) -> bool
     }
 }
 
-/// Whether an access is a name alone, or an element.
+/// Whether an access is a name alone, an element, or a field.
 fn access_is_pointing(name: &Name, steps: &[Step]) -> bool
     ensures { result ≡ is_pointing (access_expr name.now (steps_in steps.now)) }
 {
     match steps {
-        [] | [Step::At(_)] => true,
+        [] | [Step::At(_)] | [Step::At(_), Step::Field(_)] | [Step::Field(_)] => true,
         _ => false,
     }
 }

@@ -1,10 +1,11 @@
 //! The names that a task marks.
 
 ghost use Rattle.std.specs.Prelude.{◌≡◌, ◌&&◌, List, OnOk, bytes_eq, map, ℕ};
-ghost use Rattle.local_form.specs.LocalForm.{converts_to, is_among, is_kept_apart, takes_element, takes_value};
+ghost use Rattle.local_form.specs.LocalForm.{converts_to, is_among, is_kept_apart, is_kept_field};
+ghost use Rattle.local_form.specs.LocalForm.{takes_element, takes_value};
 ghost use Rattle.local_form.specs.LocalForm.{unmarked};
 ghost use Rattle.local_form.specs.LocalForm.{with_either, with_index, with_index_field, with_partition};
-ghost use Rattle.local_form.specs.LocalForm.{with_pointer, with_region};
+ghost use Rattle.local_form.specs.LocalForm.{with_pointer, with_pointer_field, with_region};
 
 use regent_tree::{Name, NumberTerm};
 use scalar_form::is_scalar_number;
@@ -12,8 +13,8 @@ use std::alloc::{AllocError, Global};
 use std::marker::Model;
 
 /// The names of regions in a task, those of partitions, those that may stand for an index, an index space or a pointer,
-/// and those among them that may stand for a pointer; the names of fields that hold indices; and whether such indices and
-/// pointers are kept: assigned, taken of elements, and converted from numbers.
+/// and those among them that may stand for a pointer; the names of fields that hold indices, and those of fields that hold
+/// pointers; and whether such indices and pointers are kept: assigned, taken of elements, and converted from numbers.
 #[derive(Drop)]
 pub struct Marked<'t> {
     regions: Vec<&'t Name>,
@@ -21,6 +22,7 @@ pub struct Marked<'t> {
     indices: Vec<&'t Name>,
     pointers: Vec<&'t Name>,
     index_fields: Vec<&'t Name>,
+    pointer_fields: Vec<&'t Name>,
     keeps: bool,
 }
 
@@ -36,6 +38,7 @@ impl<'t> Model for Marked<'t> {
       indices = map (λ n. n.now) s.indices.items;
       pointers = map (λ n. n.now) s.pointers.items;
       index_fields = map (λ n. n.now) s.index_fields.items;
+      pointer_fields = map (λ n. n.now) s.pointer_fields.items;
       keeps = s.keeps;
     } };
 }
@@ -57,6 +60,7 @@ impl<'t> Marked<'t> {
             indices: Vec::new(alloc),
             pointers: Vec::new(alloc),
             index_fields: Vec::new(alloc),
+            pointer_fields: Vec::new(alloc),
             keeps: true,
         }
     }
@@ -128,6 +132,20 @@ impl<'t> Marked<'t> {
         is_among(self.index_fields.as_slice(), name)
     }
 
+    /// Whether one holds pointers.
+    pub fn is_pointer_field(&self, name: &Name) -> bool
+        ensures { result ≡ is_among self.now.pointer_fields name.now }
+    {
+        is_among(self.pointer_fields.as_slice(), name)
+    }
+
+    /// Whether one holds either.
+    pub fn is_kept_field(&self, name: &Name) -> bool
+        ensures { result ≡ is_kept_field self.now name.now }
+    {
+        self.is_index_field(name) || self.is_pointer_field(name)
+    }
+
     pub fn add_region(&mut self, name: &'t Name) -> Result<(), AllocError>
         ensures { OnOk result (self.new ≡ with_region name.now self.old) }
     {
@@ -162,6 +180,13 @@ impl<'t> Marked<'t> {
         ensures { OnOk result (self.new ≡ with_index_field name.now self.old) }
     {
         self.index_fields.push(name)?;
+        Ok(())
+    }
+
+    pub fn add_pointer_field(&mut self, name: &'t Name) -> Result<(), AllocError>
+        ensures { OnOk result (self.new ≡ with_pointer_field name.now self.old) }
+    {
+        self.pointer_fields.push(name)?;
         Ok(())
     }
 

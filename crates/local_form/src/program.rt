@@ -2,15 +2,15 @@
 
 ghost use Rattle.std.specs.Prelude.{◌≡◌, IfOk, OnOk, map};
 ghost use Rattle.regent_tree.specs.PlainProgram.{item_of, item_tree_of, task_of, tree_of};
-ghost use Rattle.local_form.specs.LocalForm.{are_local_params, is_local_item, is_local_param};
+ghost use Rattle.local_form.specs.LocalForm.{are_local_params, is_index_or_space, is_local_item, is_local_param};
 ghost use Rattle.local_form.specs.LocalForm.{is_local_program, is_local_task, is_local_with};
 ghost use Rattle.local_form.specs.LocalForm.{is_region_term, marked_by_task, marked_param, marked_params};
 
-use crate::fields::{are_local_fields, is_index_term, mark_items};
+use crate::fields::{are_local_fields, mark_items};
 use crate::marked::Marked;
 use crate::marking::mark_block;
 use crate::statements::is_local_block;
-use regent_tree::{Item, ItemKind, Param, Program, Task, TypeTerm};
+use regent_tree::{Item, ItemKind, NumberTerm, Param, Program, Task, TypeTerm};
 use scalar_form::{is_scalar_if_said, is_scalar_term};
 use std::alloc::{AllocError, Global};
 
@@ -23,13 +23,23 @@ fn is_region_term(term: &TypeTerm) -> bool
     }
 }
 
-/// Whether a parameter is a number, a truth or a region, or an index, and known as such.
+/// Whether a type is that of an index or an index space.
+fn is_index_or_space(term: &TypeTerm) -> bool
+    ensures { result ≡ is_index_or_space term.now }
+{
+    match term {
+        TypeTerm::Number(NumberTerm::Index(_)) | TypeTerm::Ispace(_) => true,
+        _ => false,
+    }
+}
+
+/// Whether a parameter is a number, a truth or a region, or an index or an index space, and known as such.
 fn is_local_param(marked: &Marked<'_>, param: &Param) -> bool
     ensures { result ≡ is_local_param marked.now param.now }
 {
     is_scalar_term(&param.term)
         || is_region_term(&param.term)
-        || (is_index_term(&param.term) && marked.keeps_index(&param.name))
+        || (is_index_or_space(&param.term) && marked.keeps_index(&param.name))
 }
 
 /// Whether all parameters are such.
@@ -44,20 +54,20 @@ fn are_local_params(marked: &Marked<'_>, params: &[Param]) -> bool
     true
 }
 
-/// Marks a parameter that is a region or an index.
+/// Marks a parameter that is a region, an index or an index space.
 fn mark_param<'t>(marked: &mut Marked<'t>, param: &'t Param) -> Result<(), AllocError>
     ensures { OnOk result (marked.new ≡ marked_param param.now marked.old) }
 {
     if is_region_term(&param.term) {
         marked.add_region(&param.name)
-    } else if is_index_term(&param.term) {
+    } else if is_index_or_space(&param.term) {
         marked.add_index(&param.name)
     } else {
         Ok(())
     }
 }
 
-/// Marks the parameters that are regions and indices.
+/// Marks the parameters that are regions, indices and index spaces.
 fn mark_params<'t>(marked: &mut Marked<'t>, params: &'t [Param]) -> Result<(), AllocError>
     ensures { OnOk result (marked.new ≡ marked_params params.now marked.old) }
 {

@@ -1,12 +1,13 @@
 //! Statements of such tasks.
 
 ghost use Rattle.std.specs.Prelude.{◌≡◌};
+ghost use Rattle.std.specs.List.{list_any};
 ghost use Rattle.std.specs.Option.{option_map};
 ghost use Rattle.regent_tree.specs.Plain.{expression_of, initializer_of, steps_in};
 ghost use Rattle.regent_tree.specs.PlainProgram.{arms_in, block_in, form_of};
 ghost use Rattle.regent_tree.specs.Syntax.{assign_form, return_form, var_form};
 ghost use Rattle.local_form.specs.LocalForm.{are_local_arms, is_local_block, is_local_domain, is_local_form};
-ghost use Rattle.local_form.specs.LocalForm.{keeps_pointer};
+ghost use Rattle.local_form.specs.LocalForm.{is_among, keeps_pointer};
 ghost use Rattle.local_form.specs.Seen.{assigns_beside, is_local_arm, is_local_filling};
 
 use crate::differences::is_difference;
@@ -104,11 +105,19 @@ fn is_local_assignment(
         || (is_behind(marked, target, steps) && is_local_expression(marked, value))
 }
 
-/// Whether fields may be filled with a value, which is no pointer.
-fn is_local_filling(marked: &Marked<'_>, value: &Expr) -> bool
-    ensures { result ≡ is_local_filling marked.now (expression_of value.now) }
+/// Whether one of these fields may hold indices.
+fn hold_indices(marked: &Marked<'_>, fields: &[Name]) -> bool
+    ensures { result ≡ list_any (is_among marked.now.index_fields) fields.now }
 {
-    !gives_pointer(marked, value) && is_local_expression(marked, value)
+    fields.iter().any(|field| marked.is_index_field(field))
+}
+
+/// Whether fields may be filled with a value, which is no pointer where they may hold indices.
+fn is_local_filling(marked: &Marked<'_>, fields: &[Name], value: &Expr) -> bool
+    ensures { result ≡ is_local_filling marked.now fields.now (expression_of value.now) }
+{
+    (!gives_pointer(marked, value) || !hold_indices(marked, fields))
+        && is_local_expression(marked, value)
 }
 
 /// Whether a value that may be left out is such an expression.
@@ -154,7 +163,7 @@ fn is_local_form(marked: &Marked<'_>, what: &What) -> bool
                 && is_local_block(marked, body.as_slice())
         }
         What::Do { body } => is_local_block(marked, body.as_slice()),
-        What::Fill { value, .. } => is_local_filling(marked, value),
+        What::Fill { fields, value, .. } => is_local_filling(marked, fields.as_slice(), value),
         What::Assert { test } => is_local_expression(marked, test),
         What::Print { args, .. } => are_local_expressions(marked, args.as_slice()),
         What::Call { args, .. } => are_local_arguments(marked, args.as_slice()),

@@ -163,7 +163,7 @@ module _ (code : Code) (turns : ℕ) where
         opened_alike needs ours e d l = record {
           stands = a.stands;
           own = sym (append-nil (numbers i.contents));
-          frame = λ r names_of. opening_seen code i.contents who n m a.stands s is c.args same turns f.depth c.task t ours e
+          frame = λ r names_of. opening_seen code s c.args turns f.depth c.task t ours e
               ∙ (λ b. opening turns (suc (ap (λ (g : Frame). g.depth) (a.frame s is) b)) c.task t (sym (same r names_of) b))
               ∙ openings_renamed (names r) turns (suc i.frame.depth) c.task t c.args;
           board_needs = refl;
@@ -228,7 +228,7 @@ module _ (code : Code) (turns : ℕ) where
           (until_over (on_resumed (call_task code turns child c (Some t) i) (call_all code turns child [])) next)
           (go_run (G code) M (numbered_run (G code) M k) p N j vs f []
           (calls_out code (and_all code (cond (nat_le q t.slots) (option_map (opening_with code turns f.depth c.task t.slots args) (required_all code t.needs args)) None) (Some []))) n m))
-          (sym (as_many_values code i.contents who n m a.stands s is c.args same)) (by_slots t (nat_le (length c.args) t.slots))
+          (sym (as_many_values code s c.args)) (by_slots t (nat_le (length c.args) t.slots))
 
       pub call_alike : RunsAlike code p i.frame.own f.makings before who n i.contents i.text (until_over (call_all code turns child (c ∷ []) i) next)
           (go_run (G code) M (numbered_run (G code) M k) p N j vs f [] (calls_out code (and_all code (called code turns f.depth (call_to (names s) c)) (Some []))) n m)

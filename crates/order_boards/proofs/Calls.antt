@@ -28,7 +28,7 @@ use Rattle.order_boards.proofs.Stands.{IsLive, Naming, Stands, kinds_same, named
 
 -- ---- arguments
 
-abbrev value_or : Option Value → board.Value
+abbrev pub value_or : Option Value → board.Value
 value_or None = board.a_number (pos 0)
 value_or (Some v) = value_out v
 
@@ -41,73 +41,15 @@ abbrev root_in_value : Option Value → ℕ
 root_in_value (Some (value.Region r)) = r.root.0
 root_in_value _ = 0
 
-module _ (code : Code) (c : Contents) (who : ℕ → ℕ) (n : ℕ) (m : Map (regent_ground (spaces_of code))) (st : Stands code who n c m)
-    (s : ℕ → ℕ) (is : Naming code c who s) (args : List Value)
-    (same : (t : ℕ → ℕ) → Naming code c who t → map (value_to (names t)) args ≡ map (value_to (names s)) args) where
-  abbrev values : List Value
+module _ (code : Code) (s : ℕ → ℕ) (args : List Value) where
+  abbrev pub values : List Value
   values = map (value_to (names s)) args
 
   value_at : (k : ℕ) (o : Option Value) → slice_get args k ≡ o → slice_get values k ≡ option_map (value_to (names s)) o
   value_at k o e = slice_get-map (value_to (names s)) args k ∙ ap (option_map (value_to (names s))) e
 
-  -- a region among the arguments is of a root that is there
-  argument_live : (k : ℕ) (r : RegionValue) → slice_get args k ≡ Some (value.Region r) → IsLive c r.root.0
-  argument_live k r e = named_live code who n c m st r.root.0 (s r.root.0) (λ t names_of. ap root_in_value (
-      sym (slice_get-map (value_to (names t)) args k ∙ ap (option_map (value_to (names t))) e)
-      ∙ ap (λ vs. slice_get vs k) (same t names_of) ∙ value_at k (Some (value.Region r)) e))
-
-  -- ---- what is needed of the arguments
-
-  required_region : (d : NeedCode) (r : RegionValue) → IsLive c r.root.0 →
-      required code d (value_out (value.Region (region_to (names s) r))) ≡ option_map (moved s) (required_on code c d (Some r))
-  required_region d r l =
-      ap (λ ks. cond (nat_lt d.field (length ks)) (Some (moved s need)) None)
-      (ap (λ R. get_or (spaces_of code) (space_of R) []) (is.live r.root.0 l)
-      ∙ ap (λ k. get_or (spaces_of code) k []) (root_space (image_of c r.root.0).space (image_of c r.root.0).count (who r.root.0))
-      ∙ kinds_same code (image_of c r.root.0).space)
-      ∙ chosen (nat_lt d.field (length (root_kinds code (image_of c r.root.0).space)))
-    where
-      need : Requirement
-      need = record { root = r.root.0; points = r.points; field = d.field; mode = d.mode }
-
-      chosen : (b : Bool) → cond b (Some (moved s need)) None ≡ option_map (moved s) (cond b (Some need) None)
-      chosen true = refl
-      chosen false = refl
-
-  required_same : (d : NeedCode) → required code d (get_or (map value_out values) d.param (board.a_number (pos 0)))
-      ≡ option_map (moved s) (required_on code c d (region_of (slice_get args d.param)))
-  required_same d = ap (required code d) (argument values d.param) ∙ by_value (slice_get args d.param) refl
-    where
-      by_value : (o : Option Value) → slice_get args d.param ≡ o →
-          required code d (value_or (slice_get values d.param)) ≡ option_map (moved s) (required_on code c d (region_of o))
-      by_value None e = ap (λ v. required code d (value_or v)) (value_at d.param None e)
-      by_value (Some (value.Number z)) e = ap (λ v. required code d (value_or v)) (value_at d.param _ e)
-      by_value (Some (value.Space k)) e = ap (λ v. required code d (value_or v)) (value_at d.param _ e)
-      by_value (Some (value.Partition p)) e = ap (λ v. required code d (value_or v)) (value_at d.param _ e)
-      by_value (Some (value.Pending i)) e = ap (λ v. required code d (value_or v)) (value_at d.param _ e)
-      by_value (Some (value.Region r)) e = ap (λ v. required code d (value_or v)) (value_at d.param _ e)
-          ∙ required_region d r (argument_live d.param r e)
-
-  more_points : (q : Requirement) (xs : List ℕ) (rs : List Requirement) → with_points xs (moved s q) (map (moved s) rs) ≡ map (moved s) (with_points xs q rs)
-  more_points q [] rs = refl
-  more_points q (x ∷ xs) rs = refl
-
-  both_same : (a : Option Requirement) (b : Option (List Requirement)) (e : Option (List Requirement)) → option_map pointed b ≡ option_map (map (moved s)) e →
-      option_map pointed (and_all code (option_map (moved s) a) b) ≡ option_map (map (moved s)) (required_before a e)
-  both_same None b e h = refl
-  both_same (Some q) None None h = refl
-  both_same (Some q) (Some rs) None h = absurd cc
-  both_same (Some q) None (Some ss) h = absurd cc
-  both_same (Some q) (Some rs) (Some ss) h =
-      ap (λ ts. Some (with_points q.points (moved s q) ts)) (same_Some _ _ h) ∙ ap (λ ts. Some ts) (more_points q q.points ss)
-
-  pub requirements_same : (ds : List NeedCode) →
-      option_map pointed (required_all code ds (map value_out values)) ≡ option_map (map (moved s)) (requirements_on code c ds args)
-  requirements_same [] = refl
-  requirements_same (d ∷ ds) =
-      ap (λ a. option_map pointed (and_all code a (required_all code ds (map value_out values)))) (required_same d)
-      ∙ both_same (required_on code c d (region_of (slice_get args d.param))) (required_all code ds (map value_out values)) (requirements_on code c ds args)
-      (requirements_same ds)
+  pub argument_at : (k : ℕ) (o : Option Value) → slice_get args k ≡ o → get_or (map value_out values) k (board.a_number (pos 0)) ≡ value_or (option_map (value_to (names s)) o)
+  argument_at k o e = argument values k ∙ ap value_or (value_at k o e)
 
   -- ---- the frame
 
@@ -173,3 +115,64 @@ module _ (code : Code) (c : Contents) (who : ℕ → ℕ) (n : ℕ) (m : Map (re
 
   pub as_many_values : length (map value_out values) ≡ length args
   as_many_values = length-map values value_out ∙ length-map args (value_to (names s))
+
+module _ (code : Code) (c : Contents) (who : ℕ → ℕ) (n : ℕ) (m : Map (regent_ground (spaces_of code))) (st : Stands code who n c m)
+    (s : ℕ → ℕ) (is : Naming code c who s) (args : List Value)
+    (same : (t : ℕ → ℕ) → Naming code c who t → map (value_to (names t)) args ≡ map (value_to (names s)) args) where
+  -- a region among the arguments is of a root that is there
+  argument_live : (k : ℕ) (r : RegionValue) → slice_get args k ≡ Some (value.Region r) → IsLive c r.root.0
+  argument_live k r e = named_live code who n c m st r.root.0 (s r.root.0) (λ t names_of. ap root_in_value (
+      sym (slice_get-map (value_to (names t)) args k ∙ ap (option_map (value_to (names t))) e)
+      ∙ ap (λ vs. slice_get vs k) (same t names_of) ∙ value_at code s args k (Some (value.Region r)) e))
+
+  -- ---- what is needed of the arguments
+
+  required_region : (d : NeedCode) (r : RegionValue) → IsLive c r.root.0 →
+      required code d (value_out (value.Region (region_to (names s) r))) ≡ option_map (moved s) (required_on code c d (Some r))
+  required_region d r l =
+      ap (λ ks. cond (nat_lt d.field (length ks)) (Some (moved s need)) None)
+      (ap (λ R. get_or (spaces_of code) (space_of R) []) (is.live r.root.0 l)
+      ∙ ap (λ k. get_or (spaces_of code) k []) (root_space (image_of c r.root.0).space (image_of c r.root.0).count (who r.root.0))
+      ∙ kinds_same code (image_of c r.root.0).space)
+      ∙ chosen (nat_lt d.field (length (root_kinds code (image_of c r.root.0).space)))
+    where
+      need : Requirement
+      need = record { root = r.root.0; points = r.points; field = d.field; mode = d.mode }
+
+      chosen : (b : Bool) → cond b (Some (moved s need)) None ≡ option_map (moved s) (cond b (Some need) None)
+      chosen true = refl
+      chosen false = refl
+
+  required_same : (d : NeedCode) → required code d (get_or (map value_out (values code s args)) d.param (board.a_number (pos 0)))
+      ≡ option_map (moved s) (required_on code c d (region_of (slice_get args d.param)))
+  required_same d = ap (required code d) (argument_at code s args d.param (slice_get args d.param) refl) ∙ by_value (slice_get args d.param) refl
+    where
+      by_value : (o : Option Value) → slice_get args d.param ≡ o →
+          required code d (value_or (option_map (value_to (names s)) o)) ≡ option_map (moved s) (required_on code c d (region_of o))
+      by_value None e = refl
+      by_value (Some (value.Number z)) e = refl
+      by_value (Some (value.Space k)) e = refl
+      by_value (Some (value.Partition p)) e = refl
+      by_value (Some (value.Pending i)) e = refl
+      by_value (Some (value.Region r)) e = required_region d r (argument_live d.param r e)
+
+  more_points : (q : Requirement) (xs : List ℕ) (rs : List Requirement) → with_points xs (moved s q) (map (moved s) rs) ≡ map (moved s) (with_points xs q rs)
+  more_points q [] rs = refl
+  more_points q (x ∷ xs) rs = refl
+
+  both_same : (a : Option Requirement) (b : Option (List Requirement)) (e : Option (List Requirement)) → option_map pointed b ≡ option_map (map (moved s)) e →
+      option_map pointed (and_all code (option_map (moved s) a) b) ≡ option_map (map (moved s)) (required_before a e)
+  both_same None b e h = refl
+  both_same (Some q) None None h = refl
+  both_same (Some q) (Some rs) None h = absurd cc
+  both_same (Some q) None (Some ss) h = absurd cc
+  both_same (Some q) (Some rs) (Some ss) h =
+      ap (λ ts. Some (with_points q.points (moved s q) ts)) (same_Some _ _ h) ∙ ap (λ ts. Some ts) (more_points q q.points ss)
+
+  pub requirements_same : (ds : List NeedCode) →
+      option_map pointed (required_all code ds (map value_out (values code s args))) ≡ option_map (map (moved s)) (requirements_on code c ds args)
+  requirements_same [] = refl
+  requirements_same (d ∷ ds) =
+      ap (λ a. option_map pointed (and_all code a (required_all code ds (map value_out (values code s args))))) (required_same d)
+      ∙ both_same (required_on code c d (region_of (slice_get args d.param))) (required_all code ds (map value_out (values code s args))) (requirements_on code c ds args)
+      (requirements_same ds)

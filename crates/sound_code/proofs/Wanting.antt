@@ -40,7 +40,7 @@ use Rattle.expression_laws.proofs.Calls.{flat_has}
 use Rattle.expression_laws.proofs.Steps.{all_has}
 use Rattle.code_rules.specs.Slots.{Where, bound, typed}
 use Rattle.code_laws.specs.Simple.{IsNumber, IsRegion, a_region_type}
-use Rattle.code_laws.proofs.LocalNames.{taking_told}
+use Rattle.code_laws.proofs.LocalPlaces.{taking_told}
 use Rattle.code_laws.proofs.LocalTypes.{number_is}
 use Rattle.lane_kernels.specs.declared.numbers.Op.{Op}
 use Rattle.regent_tree.specs.declared.types.Param.{Param}

@@ -4,7 +4,7 @@ use Rattle.std.proofs.lemmas.Bool.{or_parts}
 use Rattle.std.proofs.lemmas.List.{append-nil}
 use Rattle.std.proofs.lemmas.List.Elements.{All-nil}
 use Rattle.std.specs.List.{All}
-use Rattle.regent_tree.proofs.Members.{Contains-from_Has}
+use Rattle.regent_tree.proofs.Members.{Contains-from_Has, Has, Has-from_Contains}
 use Rattle.regent_tree.specs.Limits.{KeepsLimit, WithinLimits, counted, parts_of_block, parts_of_params, parts_of_term, parts_of_type}
 use Rattle.regent_tree.specs.Lookup.{has_field, space_used}
 use Rattle.regent_tree.specs.Scopes.{Scope, bound_as, bound_params, scope_of}
@@ -22,7 +22,7 @@ use Rattle.check_rules.specs.Breaches.{breaches}
 use Rattle.check_rules.specs.first.FirstInItems.{first_declared, first_of_said, first_of_saying}
 use Rattle.check_rules.specs.first.Rules.{first_in}
 use Rattle.check_rules.specs.rules.Repeats.{given_by, repeats, repeats_within}
-use Rattle.check_rules.specs.scopes.Sound.{IsSound}
+use Rattle.check_rules.specs.scopes.Sound.{IsSound, StandsIn}
 use Rattle.check_rules.specs.scopes.Visits.{declarations_in}
 use Rattle.check_rules.specs.types.Declarations.{is_flawed_type, is_no_field_type}
 use Rattle.check_rules.specs.types.Params.{params_beside}
@@ -39,7 +39,7 @@ use Rattle.state_laws.proofs.Declared.{AreSoundParams, HasRegions, field_said, n
 use Rattle.state_laws.proofs.Standing.{form_limits, form_untold, forms, space_stands, task_stands}
 use Rattle.value_laws.proofs.Limits.{all_behind, all_left, all_right}
 use Rattle.value_laws.proofs.Spaced.{no_arguments}
-use Rattle.value_laws.specs.Spaces.{AreParamsSaid, IsSpacedField}
+use Rattle.value_laws.specs.Spaces.{AreParamsSaid, AreSpaced, HasSpacedDeclarations, IsSpacedField}
 
 -- a type is placed where the parent that it may have is
 placed_type : (s : Scope) (t : StaticType) →
@@ -113,19 +113,22 @@ module _ (tree : Tree) (none : breaches tree ≡ []) (within : WithinLimits tree
     pub limits : All KeepsLimit (parts_of_params t.params)
     pub body : All KeepsLimit (parts_of_block t.body)
 
+  standing_fine : (t : TaskTree) → Has (forms tree) (task_item t) → IsFineTask t
+  standing_fine t h =
+      let of = (form_untold tree (task_item t) none h).1 in
+      let same = sym (append-nil t.params) in
+      let inner = parts_of_type t.result ++ parts_of_block t.body in
+      let limits = all_behind KeepsLimit (counted Parameters (length t.params)) (parts_of_params t.params ++ inner) (form_limits tree (task_item t) within h) in record {
+        params = sound_params tree t.params [] declared (no_line rule.Twice (repeats (given_by t.params)) of.twice)
+            (subst (λ all. first_in (first_of_saying tree) (declarations_in tree t.params all) ≡ None) same of.saying)
+            (subst (λ all. first_in (first_of_said tree) (declarations_in tree t.params all) ≡ None) same of.said);
+        limits = all_left KeepsLimit (parts_of_params t.params) inner limits;
+        body = all_right KeepsLimit (parts_of_type t.result) (parts_of_block t.body) (all_right KeepsLimit (parts_of_params t.params) inner limits);
+      }
+
   task_fine : (n : Name) → IsFineTask (task_named tree n)
   task_fine n = elim (task_stands tree n) [
-    | inl h ↦ let t = task_named tree n in
-        let of = (form_untold tree (task_item t) none h).1 in
-        let same = sym (append-nil t.params) in
-        let inner = parts_of_type t.result ++ parts_of_block t.body in
-        let limits = all_behind KeepsLimit (counted Parameters (length t.params)) (parts_of_params t.params ++ inner) (form_limits tree (task_item t) within h) in record {
-          params = sound_params tree t.params [] declared (no_line rule.Twice (repeats (given_by t.params)) of.twice)
-              (subst (λ all. first_in (first_of_saying tree) (declarations_in tree t.params all) ≡ None) same of.saying)
-              (subst (λ all. first_in (first_of_said tree) (declarations_in tree t.params all) ≡ None) same of.said);
-          limits = all_left KeepsLimit (parts_of_params t.params) inner limits;
-          body = all_right KeepsLimit (parts_of_type t.result) (parts_of_block t.body) (all_right KeepsLimit (parts_of_params t.params) inner limits);
-        }
+    | inl h ↦ standing_fine (task_named tree n) h
     | inr e ↦ subst IsFineTask (sym e) (record { params = no_params tree; limits = All-nil KeepsLimit; body = All-nil KeepsLimit })
   ]
 
@@ -133,6 +136,16 @@ module _ (tree : Tree) (none : breaches tree ≡ []) (within : WithinLimits tree
   tasks_are n i =
       let t = task_named tree n in
       placed_type (scope_of tree t) (type_at (param_types tree t) i) (λ d r p e. parent_region tree t.params (task_fine n).params.written i d r p (param_type tree t i ∙ e))
+
+  -- the declarations are as the laws on places suppose
+  pub declarations_are : HasSpacedDeclarations tree
+  declarations_are = record { fields = fields_are; params = params_are; tasks = tasks_are }
+
+  -- and so are the scopes in which the bodies of tasks begin
+  pub body_begins : (t : TaskTree) → StandsIn tree t → AreSpaced tree (scope_of tree t).names
+  body_begins t stands i =
+      let fine = standing_fine t (Has-from_Contains (forms tree) (task_item t) stands) in
+      (names_fine tree t.params fine.params params_are fine.limits i).0
 
   body_fits : AreWrittenTasks tree → (n : Name) → IsBodyOfFit tree (task_named tree n)
   body_fits written n = elim (task_stands tree n) [
@@ -155,6 +168,6 @@ module _ (tree : Tree) (none : breaches tree ≡ []) (within : WithinLimits tree
 pub texts_fit : TextsFit
 texts_fit tree none within written = record {
   sound = sound tree none within;
-  declared = record { fields = fields_are tree none within; params = params_are tree none within; tasks = tasks_are tree none within };
+  declared = declarations_are tree none within;
   bodies = body_fits tree none within written;
 }

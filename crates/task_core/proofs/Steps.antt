@@ -22,7 +22,7 @@ use Rattle.board_state.specs.Owed.{copies_left, owed_by, owed_of}
 use Rattle.board_state.specs.Steps.{copied_activity, copy_made, is_filled_by, is_filling, is_out_by, same_claim}
 use Rattle.board_state.proofs.OwedSteps.{back_owed, claim_owed, copy_owed}
 use Rattle.task_core.proofs.Finished.{back_open, claim_open, claimed_open, copy_open, ready_open}
-use Rattle.task_core.specs.Boards.{IsBoard, step_by}
+use Rattle.task_core.specs.Boards.{HasMade, IsBoard, Standing, step_by}
 
 -- ---- one step more
 
@@ -164,3 +164,40 @@ back_board job es new s t outcome owed less c b kept h l m n =
           (subst (λ (u : State). IsBoard job (es ++ step_by step.Back c.op c.seat ∷ []) u outcome (owed - less)) (sym m) behind),
       (omega (arith, l, owes_some a claimed), omega (arith, b.owes, left, l)),
     )
+
+-- ---- what was made
+
+abbrev standing : Job → List Entry → State → Standing
+standing job journal s = record { job = job; journal = journal; state = s }
+
+pub claim_has_made : (job : Job) (es new : List Entry) (s t : State) (op : OpNumber) (seat : ℕ) → IsKept s → may_be_claimed s op.0 ≡ true →
+    t ≡ claim_made s op.0 seat → new ≡ es ++ step_by step.Claim op seat ∷ [] →
+    HasMade (standing job es s) (step_by step.Claim op seat) (standing job new t)
+claim_has_made job es new s t op seat kept r m n = record {
+  job = refl;
+  journal = n;
+  state = claim_stepped job s op seat r ∙ ap (λ (x : State). Some x) (sym m);
+  unfinished = ready_open s op.0 kept r;
+}
+
+pub copy_has_made : (job : Job) (es new : List Entry) (s t : State) (c : Claim) → IsKept s → is_filled_by c (operation_at s c.op.0).activity ≡ true →
+    t ≡ copy_made job.code s c.op.0 → new ≡ es ++ step_by step.Copy c.op c.seat ∷ [] →
+    HasMade (standing job es s) (step_by step.Copy c.op c.seat) (standing job new t)
+copy_has_made job es new s t c kept h m n = record {
+  job = refl;
+  journal = n;
+  state = copy_stepped job s c h ∙ ap (λ (x : State). Some x) (sym m);
+  unfinished = claimed_open s c.op.0 kept
+      (held_owes c (operation_at s c.op.0).activity (filled_filling c (operation_at s c.op.0).activity h));
+}
+
+pub back_has_made : (job : Job) (es new : List Entry) (s t : State) (c : Claim) → IsKept s →
+    (is_filled_by c (operation_at s c.op.0).activity || is_out_by c (operation_at s c.op.0).activity) ≡ true →
+    t ≡ taken_back s c.op.0 → new ≡ es ++ step_by step.Back c.op c.seat ∷ [] →
+    HasMade (standing job es s) (step_by step.Back c.op c.seat) (standing job new t)
+back_has_made job es new s t c kept h m n = record {
+  job = refl;
+  journal = n;
+  state = back_stepped job s c h ∙ ap (λ (x : State). Some x) (sym m);
+  unfinished = claimed_open s c.op.0 kept (held_claimed c (operation_at s c.op.0).activity h);
+}

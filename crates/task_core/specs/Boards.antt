@@ -1,5 +1,5 @@
 -- Boards: a job, the steps that were made, and the state that they lead to.
-use Rattle.std.specs.Prelude.{◌≡◌, ◌+◌, ◌≤◌, ℕ, Bool, true, false, List, [], ◌∷◌, ◌++◌, Option, Some}
+use Rattle.std.specs.Prelude.{◌≡◌, ◌+◌, ◌≤◌, ℕ, Bool, true, false, List, [], ◌∷◌, ◌++◌, None, Option, Some}
 use Rattle.region_tree.specs.declared.tree.OpNumber.{OpNumber}
 use Rattle.regent_tree.specs.declared.outcome.Outcome.{Outcome}
 use Rattle.task_code.specs.declared.job.Job.{Job}
@@ -29,11 +29,12 @@ new_standing job = record { job = job; journal = []; state = opened job }
 abbrev pub step_by : StepKind → OpNumber → ℕ → Entry
 step_by kind op seat = record { kind = kind; op = op; seat = seat }
 
--- one step was made, which the journal tells, and nothing else
+-- one step was made, which the journal tells, and nothing else; there was no outcome yet
 pub record HasMade (before : Standing) (e : Entry) (after : Standing) : Type 0 where
   pub job : after.job ≡ before.job
   pub journal : after.journal ≡ before.journal ++ e ∷ []
   pub state : stepped before.job before.state e ≡ Some after.state
+  pub unfinished : result before.state ≡ None
 
 -- what an operation does
 abbrev pub activity_of : Standing → OpNumber → Activity

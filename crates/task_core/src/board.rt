@@ -1,9 +1,9 @@
 //! Boards.
 
-ghost use Rattle.std.specs.Prelude.{◌≡◌, Some, IfOk};
+ghost use Rattle.std.specs.Prelude.{◌≡◌, ◌↔◌, ℕ, false, Some, IfOk};
 ghost use Rattle.board_terms.specs.Outcomes.{result as result_of};
 ghost use Rattle.board_terms.specs.Replays.{replay};
-ghost use Rattle.board_terms.specs.Stages.{all_in_progress};
+ghost use Rattle.board_terms.specs.Stages.{all_in_progress, may_be_claimed};
 ghost use Rattle.std.specs.Option.{option_copied};
 
 use board_state::BoardState;
@@ -64,6 +64,13 @@ impl Board {
         ensures { option_copied result ≡ result_of self.now.state }
     {
         self.outcome.as_ref()
+    }
+
+    /// Whether some operation is ready.
+    pub fn has_ready(&self) -> bool
+        ensures { (result ≡ false) ↔ ((k : ℕ) → may_be_claimed self.now.state k ≡ false) }
+    {
+        self.state.first_ready().is_some()
     }
 
     /// The operations that have begun and aren't over, in rising order.

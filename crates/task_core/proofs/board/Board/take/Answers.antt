@@ -113,6 +113,7 @@ returns-clause-made c =
     let s = b.state in
     let own : before_by c.args.claim (operation_at s c.args.claim.op.0).activity ≡ Some c.args.ran =
     ap (λ (x : Standing). before_by c.args.claim (operation_at x.state c.args.claim.op.0).activity) c.self.view_is ∙ c.requires.own in
+    let kept : IsKept s = subst (λ (x : Standing). IsKept x.state) (sym c.self.view_is) c.requires.kept in
     let behind : c.give.new.self ≡ given_after b.job.code b.job.turns s c.args.claim.op.0 (segment c.args.ran) =
     c.in_ok-give.ensures.given ∙ ap (λ (x : Code). given_after x b.job.turns s c.args.claim.op.0 (segment c.args.ran)) c.get-2.ensures in
     subst (λ (x : Standing). HasMade x (step_by step.Give c.args.claim.op c.args.claim.seat) (record {
@@ -123,4 +124,5 @@ returns-clause-made c =
       job = refl;
       journal = c.push_reserved.ensures.items;
       state = give_stepped b.job s c.args.claim c.args.ran own ∙ ap (λ (x : State). Some x) (sym behind);
+      unfinished = given_open s c.args.claim c.args.ran kept own;
     })

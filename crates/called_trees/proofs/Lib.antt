@@ -1,0 +1,15 @@
+pub mod Opens
+pub mod Child
+pub mod Swept
+pub mod Issued
+pub mod Within
+pub mod Changes
+pub mod Table
+pub mod Grown
+pub mod Node
+pub mod Rows
+pub mod Reached
+pub mod Called
+pub mod Opened
+pub mod Refused
+pub mod Calls

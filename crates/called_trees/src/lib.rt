@@ -1,0 +1,11 @@
+//! Calls on a board's state and on the tree of the boards' laws: both are changed alike.
+//!
+//! What is said stands under specs/. The function has an empty body; its contract is a law.
+#![tactic(auto)]
+
+ghost use Rattle.called_trees.specs.Laws.{CallsOpen};
+
+/// Behind a segment that calls a task the child is issued on both, or the caller is broken on both.
+pub fn calls_open()
+    ensures { CallsOpen }
+{}

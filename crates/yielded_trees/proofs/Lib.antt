@@ -1,0 +1,6 @@
+pub mod Found
+pub mod Builder
+pub mod Trees
+pub mod Paused
+pub mod Wanted
+pub mod Awaited
