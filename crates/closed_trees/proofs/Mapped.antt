@@ -6,7 +6,6 @@ use Rattle.std.proofs.lemmas.List.Elements.{All-append}
 use Rattle.lane_kernels.specs.Numbers.{FitsWidth, width_of}
 use Rattle.plain_values.specs.Points.{points}
 use Rattle.region_tree.specs.Requirements.{Requirement}
-use Rattle.region_tree.specs.Trees.{root_at}
 use Rattle.region_tree.specs.declared.tree.OpNumber.{OpNumber}
 use Rattle.region_tree.specs.declared.tree.RootId.{RootId}
 use Rattle.logical_map.specs.Laws.{IsWhole}
@@ -188,8 +187,7 @@ module _ (job : Job) where
 
     -- ---- beside it
 
-    module _ (makings : ℕ) (made : AreMade (length s.roots) who makings) (within : (node : ℕ) → node < length s.tree.nodes → root_at s.tree node < length s.roots)
-        (own_made : (j : ℕ) → All (λ (r : RootId). r.0 < length s.roots) (operation_at s j).frame.own)
+    module _ (makings : ℕ) (made : AreMade (length s.roots) who makings) (own_made : (j : ℕ) → All (λ (r : RootId). r.0 < length s.roots) (operation_at s j).frame.own)
         (k : ℕ) (v : List ℕ) (at : IsAt job ways k v) (own_apart : (j : ℕ) → ¬ (j ≡ k) → All (IsFree gone) (operation_at s j).frame.own) where
       abbrev Free : List RootId → Type 0
       Free roots = All (IsFree gone) roots
@@ -209,7 +207,7 @@ module _ (job : Job) where
         once = h.once;
         placed = h.placed;
         there = all_live gone s.map roots free h.there;
-        fields = fields_still s.roots who makings made s.tree within roots below gone free s.map (pointed N) o.frame.needs.items h.required h.placed.needs h.fields;
+        fields = fields_still s.roots who makings made s.tree roots below gone free s.map (pointed N) o.frame.needs.items h.required h.placed.needs h.fields;
       }
 
       if_runs : {A B : Type 0} (st : BoardStage G) → (A → B) → IfRuns job st A → IfRuns job st B

@@ -31,6 +31,7 @@ use Rattle.board_trees.specs.Shows.{Leads}
 use Rattle.board_trees.specs.Waits.{Sibling, has_ended}
 use Rattle.board_trees.proofs.Settled.{wait_open}
 use Rattle.changed_trees.specs.Changes.{Change, IsAt}
+use Rattle.changed_trees.proofs.Listed.{way_found}
 use Rattle.closed_trees.proofs.Graph.{Ends, ended_as, ends, entries_stay}
 use Rattle.closed_trees.proofs.Known.{Called, IsIn, Known, View, contains_first, contains_later, known_at}
 
@@ -70,11 +71,6 @@ module _ (job : Job) where
       some_way : (v w : List ℕ) → Some v ≡ Some w → v ≡ w
       some_way v w e = cc
 
-  way_there : (ways : List (List ℕ)) (x : ℕ) → x < length ways → (w : List ℕ) × IsAt job ways x w
-  way_there [] x l = absurd (omega (arith, l))
-  way_there (w ∷ ways) zero l = (w, refl)
-  way_there (w ∷ ways) (suc x) l = way_there ways x (omega (arith, l))
-
   -- what is known of all operations
   pub record Standing (s : State) (who : ℕ → ℕ) (ways : List (List ℕ)) (tree : Node G) : Type 0 where
     pub rising : (j : ℕ) → AreRising (operation_at s j).children
@@ -98,7 +94,7 @@ module _ (job : Job) where
 
     idle_view : (x : ℕ) → is_idle (knot_at s.waits.knots x).stage ≡ true → (w : List ℕ) × View job s who ways x w
     idle_view x e =
-        let w = way_there ways x (subst (λ n. x < n) (stand.knots ∙ sym stand.sized) (idle_there s.waits.knots x e)) in
+        let w = way_found job ways x (subst (λ n. x < n) (stand.knots ∙ sym stand.sized) (idle_there s.waits.knots x e)) in
         (w.0, view x w.0 w.1)
 
     pub unvain : NoneWaitsInVain s.waits.knots

@@ -1,23 +1,20 @@
 -- What is known of roots that are closed: others stay as they were, and frames that speak of none of them stay so.
-use Rattle.std.proofs.Common.{◌≡◌, ◌<◌, ◌∷◌, ◌∙◌, ◌==◌, ◌||◌, ℕ, suc, Bool, List, [], ap, arith, cond, eqb-true, false, get_or, length, map, not, refl, set, subst, sym, true, ⊎_elim}
+use Rattle.std.proofs.Common.{◌≡◌, ◌<◌, ◌∷◌, ◌∙◌, ◌==◌, ◌||◌, ℕ, Bool, List, [], ap, cond, eqb-true, false, length, map, not, refl, subst, sym, true, ⊎_elim}
 use Rattle.std.specs.Prelude.{All}
 use Rattle.std.specs.List.{list_any}
-use Rattle.std.proofs.lemmas.Bool.{cases_Bool, cases_eq, eqb-false, false≢true, ne_eqb, or_parts}
-use Rattle.std.proofs.lemmas.List.{get_or-set_other, get_or-set_same, length-set}
+use Rattle.std.proofs.lemmas.Bool.{cases_eq, false≢true, ne_eqb}
 use Rattle.std.proofs.lemmas.List.Elements.{All-cons, All-head, All-nil, All-tail}
 use Rattle.region_tree.specs.Needs.{AreNeeds, IsNeed, requirement_of, requirements_of}
 use Rattle.region_tree.specs.Requirements.{Requirement}
-use Rattle.region_tree.specs.Trees.{RegionTree, root_at}
+use Rattle.region_tree.specs.Trees.{RegionTree}
 use Rattle.region_tree.specs.declared.needs.Need.{Need}
 use Rattle.region_tree.specs.declared.tree.RootId.{RootId}
 use Rattle.logical_map.specs.Maps.{LogicalMap, closed, columns_of, is_live}
 use Rattle.logical_map.proofs.Deciding.{closed_is_gone, closed_keeps_others}
-use Rattle.regent_boards.specs.RegentMachine.{root_of, space_of}
 use Rattle.board_terms.specs.declared.extent.Extent.{Extent}
 use Rattle.board_terms.specs.Closings.{closed_all}
-use Rattle.board_terms.specs.States.{no_extent}
-use Rattle.board_trees.specs.Names.{AreMade, IsNaming, name_of, requirement_named}
-use Rattle.board_trees.proofs.Named.{is_naming, named_all, one_name, root_space}
+use Rattle.board_trees.specs.Names.{AreMade, IsNaming, requirement_named}
+use Rattle.board_trees.proofs.Named.{is_naming, named_all, one_there}
 
 -- ---- roots that are closed
 
@@ -71,46 +68,6 @@ columns_still (q ∷ gone) m r h =
 
 -- ---- what has one name under all namings is one of the roots
 
-module _ (extents : List Extent) (who : ℕ → ℕ) (makings : ℕ) (made : AreMade (length extents) who makings) (one : ℕ) (there : one < length extents) where
-  abbrev WereMade : List Extent → List RootId → Type 0
-  WereMade es roots = All (λ (r : RootId). r.0 < length es) roots
-
-  abbrev old : Extent
-  old = get_or extents one no_extent
-
-  abbrev changed : Extent
-  changed = record { space = suc old.space; count = old.count }
-
-  abbrev others : List Extent
-  others = set extents one changed
-
-  sized : length others ≡ length extents
-  sized = length-set extents one changed
-
-  known_so : (name : ℕ → ℕ) (roots : List RootId) → list_any (λ (r : RootId). r.0 == one) roots ≡ false → All (λ (r : RootId). name r.0 ≡ name_of others who r.0) roots →
-      All (λ (r : RootId). name r.0 ≡ name_of extents who r.0) roots
-  known_so name [] e h = All-nil (λ (r : RootId). name r.0 ≡ name_of extents who r.0)
-  known_so name (r ∷ roots) e h =
-      let parts = or_parts (r.0 == one) (list_any (λ (r : RootId). r.0 == one) roots) e in
-      All-cons (λ (r : RootId). name r.0 ≡ name_of extents who r.0) r roots
-      (All-head (λ (r : RootId). name r.0 ≡ name_of others who r.0) r roots h
-      ∙ ap (λ (x : Extent). root_of x.space x.count (who r.0)) (get_or-set_other extents one r.0 changed no_extent (eqb-false r.0 one parts.0)))
-      (known_so name roots parts.1 (All-tail (λ (r : RootId). name r.0 ≡ name_of others who r.0) r roots h))
-
-  pub one_there : (R : ℕ) (roots : List RootId) → WereMade extents roots → ((name : ℕ → ℕ) → IsNaming extents who roots name → name one ≡ R) →
-      list_any (λ (r : RootId). r.0 == one) roots ≡ true
-  one_there R roots were says = ⊎_elim (λ e. e) (λ e. absurd (apart e)) (cases_Bool (list_any (λ (r : RootId). r.0 == one) roots))
-    where
-      apart : list_any (λ (r : RootId). r.0 == one) roots ≡ false → ⊥
-      apart e =
-          let first = one_name extents who makings made one R roots were says in
-          let second = one_name others who makings (subst (λ n. AreMade n who makings) (sym sized) made) one R roots (subst (λ n. All (λ (r : RootId). r.0 < n) roots) (sym sized) were)
-          (λ name is. says name (record { one = is.one; known = known_so name roots e is.known })) in
-          let same : old.space ≡ suc old.space = sym (root_space old.space old.count (who one)) ∙ ap space_of (sym first ∙ second)
-          ∙ ap (λ (x : Extent). space_of (root_of x.space x.count (who one))) (get_or-set_same extents one changed no_extent there)
-          ∙ root_space (suc old.space) old.count (who one) in
-          omega (arith, same)
-
 pub free_one : (gone : List RootId) (roots : List RootId) (r : RootId) → All (IsFree gone) roots → list_any (λ (x : RootId). x.0 == r.0) roots ≡ true → IsFree gone r
 free_one gone [] r h e = absurd (false≢true e)
 free_one gone (x ∷ xs) r h e = chosen (x.0 == r.0) refl e (free_one gone xs r (All-tail (IsFree gone) x xs h))
@@ -121,8 +78,7 @@ free_one gone (x ∷ xs) r h e = chosen (x.0 == r.0) refl e (free_one gone xs r 
 
 -- ---- what is needed
 
-module _ (extents : List Extent) (who : ℕ → ℕ) (makings : ℕ) (made : AreMade (length extents) who makings) (t : RegionTree)
-    (within : (node : ℕ) → node < length t.nodes → root_at t node < length extents) (roots : List RootId) (were : All (λ (r : RootId). r.0 < length extents) roots) (gone : List RootId)
+module _ (extents : List Extent) (who : ℕ → ℕ) (makings : ℕ) (made : AreMade (length extents) who makings) (t : RegionTree) (roots : List RootId) (were : All (λ (r : RootId). r.0 < length extents) roots) (gone : List RootId)
     (free : All (IsFree gone) roots) (m : LogicalMap) where
   abbrev HasField : LogicalMap → Need → Type 0
   HasField m n = n.field < length (columns_of m n.root.0)
@@ -132,9 +88,7 @@ module _ (extents : List Extent) (who : ℕ → ℕ) (makings : ℕ) (made : Are
   fields_still X [] says are h = All-nil (HasField (closed_all gone m))
   fields_still [] (n ∷ ns) says are h = let e = says (named_all extents who makings made 0) (is_naming extents who makings made 0 roots were) in absurd cc
   fields_still (x ∷ xs) (n ∷ ns) says are h =
-      let need = All-head (IsNeed t) n ns are in
-      let there : n.root.0 < length extents = subst (λ r. r < length extents) (sym need.root) (within n.node.0 need.region.there) in
-      let in_roots = one_there extents who makings made n.root.0 there x.root roots were (λ name is. root_named name (says name is)) in
+      let in_roots = one_there extents who makings made n.root.0 x.root roots were (λ name is. root_named name (says name is)) in
       All-cons (HasField (closed_all gone m)) n ns
       (subst (λ cs. n.field < length cs) (sym (columns_still gone m n.root (free_one gone roots n.root free in_roots))) (All-head (HasField m) n ns h))
       (fields_still xs ns (λ name is. rest_named name (says name is)) (All-tail (IsNeed t) n ns are) (All-tail (HasField m) n ns h))

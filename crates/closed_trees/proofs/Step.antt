@@ -107,7 +107,7 @@ module _ (job : Job) (s : State) (b : Board (regent_ground (spaces_of job.code))
   -- ---- the roots are closed
 
   shows_m : HasAt job m o.who b.ways (IsIt job m o.who b.ways k) v [] 0 [] [] T
-  shows_m = has_still job s o.who b.ways gone (made_in G (machine_of job) T) o.made (λ node l. (o.regions node l).made) o.own_made k v leaving.at apart
+  shows_m = has_still job s o.who b.ways gone (made_in G (machine_of job) T) o.made o.own_made k v leaving.at apart
       (IsIt job s o.who b.ways k) (IsIt job m o.who b.ways k) own v [] 0 [] [] T refl (All-nil (IsFree gone)) (All-nil (λ (r : RootId). r.0 < length s.roots)) o.shows
     where
       own : (w : List ℕ) (j : ℕ) (earlier : List Sibling) (above : List RootId) (n : Node G) → IsIt job s o.who b.ways k w j earlier above n → IsIt job m o.who b.ways k w j earlier above n

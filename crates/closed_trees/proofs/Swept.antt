@@ -1,17 +1,15 @@
 -- Children behind one that is over: those that wait for one that failed are dropped, and all others go on to show.
-use Rattle.std.proofs.Common.{◌≡◌, ◌<◌, ◌+◌, ◌⊎◌, ◌++◌, ◌∷◌, ◌∙◌, ◌&&◌, ◌||◌, ℕ, zero, suc, Bool, List, [], ap, arith, cond, false, inl, inr, length, refl, subst, sym, true, ⊎_elim, append-nil}
+use Rattle.std.proofs.Common.{◌≡◌, ◌<◌, ◌+◌, ◌⊎◌, ◌++◌, ◌∷◌, ◌∙◌, ◌&&◌, ℕ, zero, suc, Bool, List, [], ap, arith, cond, false, inl, inr, length, refl, subst, sym, true, ⊎_elim, append-nil}
 use Rattle.std.specs.Prelude.{All}
-use Rattle.std.proofs.Math.Bool.{or_comm}
 use Rattle.std.proofs.lemmas.Bool.{false≢true, true≢false}
 use Rattle.std.proofs.lemmas.List.Elements.{All-append}
-use Rattle.std.proofs.lemmas.List.Folds.{list_any-append}
-use Rattle.region_tree.specs.Requirements.{Requirement, interfere}
+use Rattle.region_tree.specs.Requirements.{Requirement}
 use Rattle.region_tree.specs.declared.needs.Need.{Need}
 use Rattle.region_tree.specs.declared.piece.Part.{Part}
 use Rattle.region_tree.specs.declared.tree.OpNumber.{OpNumber}
 use Rattle.region_tree.specs.declared.tree.RootId.{RootId}
 use Rattle.dependence_graph.specs.Entries.{Knot}
-use Rattle.dependence_graph.specs.Knots.{has_failed, knot_at, number, some_failed, stage_at}
+use Rattle.dependence_graph.specs.Knots.{knot_at, number, some_failed}
 use Rattle.dependence_graph.specs.Laws.{GaveUp}
 use Rattle.dependence_graph.specs.declared.stage.Stage.TheVariants as knot
 use Rattle.task_code.specs.declared.job.Job.{Job}
@@ -35,8 +33,8 @@ use Rattle.board_trees.specs.Stages.{IsWait}
 use Rattle.board_trees.specs.Told.{some_bad}
 use Rattle.board_trees.specs.Waits.{Sibling}
 use Rattle.board_trees.proofs.Along.{not_above, places_same}
-use Rattle.board_trees.proofs.Settled.{node_told}
-use Rattle.board_trees.proofs.Told.{or_off, waits_are_told}
+use Rattle.board_trees.proofs.Settled.{node_told, unmet, worse_tells}
+use Rattle.board_trees.proofs.Told.{waits_are_told}
 use Rattle.changed_trees.specs.Changes.{Change, IsAt, IsWider}
 use Rattle.changed_trees.specs.Open.{Asked, HasAmong, IsOpen}
 use Rattle.changed_trees.specs.Edits.{up_among}
@@ -79,18 +77,9 @@ module _ (job : Job) (makings : ℕ) where
   abbrev pub Tells : List Knot → List Sibling → List (List Requirement) → Type 0
   Tells knots earlier bad = (Q : List Requirement) → tree.meets_any G M bad Q ≡ some_bad knots Q earlier
 
-  tells_more : (knots : List Knot) (earlier : List Sibling) (bad : List (List Requirement)) (x : ℕ) (D : List Requirement) (b : Bool) → has_failed (stage_at knots x) ≡ b →
-      Tells knots earlier bad → Tells knots (earlier ++ record { op = x; needs = D } ∷ []) (cond b (D ∷ bad) bad)
-  tells_more knots earlier bad x D b f e Q =
-      chosen b
-      ∙ (λ i. (sym f i && interfere D Q) || e Q i)
-      ∙ or_comm (has_failed (stage_at knots x) && interfere D Q) (some_bad knots Q earlier)
-      ∙ ap (λ a. some_bad knots Q earlier || a) (sym (or_off (has_failed (stage_at knots x) && interfere D Q)))
-      ∙ sym (list_any-append (λ (y : Sibling). has_failed (stage_at knots y.op) && interfere y.needs Q) earlier (record { op = x; needs = D } ∷ []))
-    where
-      chosen : (b : Bool) → tree.meets_any G M (cond b (D ∷ bad) bad) Q ≡ (b && interfere D Q || tree.meets_any G M bad Q)
-      chosen true = refl
-      chosen false = refl
+  off : (a b : Bool) → (a ≡ true → b ≡ false) → (a && b) ≡ false
+  off true b h = h refl
+  off false b h = refl
 
   module _ (s : State) (who : ℕ → ℕ) (ways : List (List ℕ)) (root : Node G) (stand : Standing job s who ways root) (k : ℕ) (v : List ℕ) (it : Leaving job s ways k v)
       (closing_k : is_closing (table.stage_at s k) ≡ true) (over_k : all_over s (operation_at s k).children ≡ true)
@@ -129,18 +118,9 @@ module _ (job : Job) (makings : ℕ) where
     IsGivenUp bad n = tree.is_waiting G (tree.stage_of G n) && tree.meets_any G M bad (tree.needs_of G n)
 
     -- it goes on to show
-    unmet : (bad : List (List Requirement)) (way : List ℕ) (x : ℕ) (earlier : List Sibling) (above : List RootId) (n : Node G) → Shows job u who ways way x earlier above n → Tells us earlier bad →
+    goes_on : (bad : List (List Requirement)) (way : List ℕ) (x : ℕ) (earlier : List Sibling) (above : List RootId) (n : Node G) → Shows job u who ways way x earlier above n → Tells us earlier bad →
         IsGivenUp bad n ≡ false
-    unmet bad way x earlier above (op D N i f ps (idle first) is) h tells =
-        tells D ∙ sym (waits_are_told us D earlier (knot_at us x).on h.0.waits.0).failed ∙ h.0.waits.1
-    unmet bad way x earlier above (op D N i f ps (idle nothing) is) h tells = refl
-    unmet bad way x earlier above (op D N i f ps (idle (part y)) is) h tells = refl
-    unmet bad way x earlier above (op D N i f ps (idle (child y)) is) h tells = refl
-    unmet bad way x earlier above (op D N i f ps (filling y d l) is) h tells = refl
-    unmet bad way x earlier above (op D N i f ps (out y d) is) h tells = refl
-    unmet bad way x earlier above (op D N i f ps (closing y) is) h tells = refl
-    unmet bad way x earlier above (op D N i f ps (over y) is) h tells = refl
-    unmet bad way x earlier above (op D N i f ps dropped is) h tells = refl
+    goes_on bad way x earlier above n h tells = off (tree.is_waiting G (tree.stage_of G n)) (tree.meets_any G M bad (tree.needs_of G n)) (unmet job u who ways makings bad way x earlier above n h tells)
 
     -- or it gave up before it began
     record IsDropped (bad : List (List Requirement)) (way : List ℕ) (x : ℕ) (earlier : List Sibling) (above : List RootId) (n : Node G) : Type 0 where
@@ -199,7 +179,7 @@ module _ (job : Job) (makings : ℕ) where
           (λ same.
           let shown = shows_kept job s u who who ways ways Here change stand.makings stand.made stand.own_made (w ++ d ∷ []) x earlier roots more (op D N i f ps st is) wider below
           (here_apart job s who ways root stand k v it (how_closed s k) j w c v_is at_j parent_is d x n h.0.way_is same) h in
-          inl (shown, unmet bad (w ++ d ∷ []) x earlier more (op D N i f ps st is) shown tells))
+          inl (shown, goes_on bad (w ++ d ∷ []) x earlier more (op D N i f ps st is) shown tells))
           (λ g. ⊎_elim
           (λ b. inr (drops D N i f ps st is h g b.0 b.1))
           (λ b. absurd (unparked g b.0)) g.stages)
@@ -231,12 +211,12 @@ module _ (job : Job) (makings : ℕ) where
           let told = node_told job u who ways (w ++ d ∷ []) x.0 earlier more (op D N i f ps st js) a.0 in
           subst (λ b. Left d earlier (x ∷ xs) (cond b (child_op (op D N i f ps dropped js) (tree.sweep G M (D ∷ bad) is)) (child_op (op D N i f ps st js) (tree.sweep G M (cond (tree.has_failed G st) (D ∷ bad) bad) is))))
           (sym a.1)
-          (kept, a.0, rest (cond (tree.has_failed G st) (D ∷ bad) bad) (tells_more us earlier bad x.0 D (tree.has_failed G st) told.failed tells)))
+          (kept, a.0, rest (cond (tree.has_failed G st) (D ∷ bad) bad) (λ Q. worse_tells job u who ways makings bad earlier x.0 (op D N i f ps st js) told Q (tells Q))))
           (λ a.
           let told = node_told job u who ways (w ++ d ∷ []) x.0 earlier more (op D N i f ps dropped js) a.shows in
           subst (λ b. Left d earlier (x ∷ xs) (cond b (child_op (op D N i f ps dropped js) (tree.sweep G M (D ∷ bad) is)) (child_op (op D N i f ps st js) (tree.sweep G M (cond (tree.has_failed G st) (D ∷ bad) bad) is))))
           (sym a.given_up)
-          (kept, a.shows, rest (D ∷ bad) (tells_more us earlier bad x.0 D true told.failed tells)))
+          (kept, a.shows, rest (D ∷ bad) (λ Q. worse_tells job u who ways makings bad earlier x.0 (op D N i f ps dropped js) told Q (tells Q))))
           (child_left roots more wider below earlier bad tells d x.0 n (op D N i f ps st js) h)
         where
           kept : IsChild job u who ways j x.0 more D
@@ -268,7 +248,7 @@ module _ (job : Job) (makings : ℕ) where
             child_kept x.0 D h.1.0.within called,
             there,
             rest_swept (cond (tree.has_failed G now) (D ∷ bad) bad) (suc d) (earlier ++ record { op = x.0; needs = D } ∷ []) xs is l
-                (tells_more us earlier bad x.0 D (tree.has_failed G now) told.failed tells) rest,
+                (λ Q. worse_tells job u who ways makings bad earlier x.0 (tree.settle G M n) told Q (tells Q)) rest,
           )
 
       pub among_swept : (c1 : ℕ) (bad : List (List Requirement)) (d : ℕ) (earlier : List Sibling) (xs : List OpNumber) (is : Items G) → d + c1 ≡ c → Tells us earlier bad →
