@@ -45,7 +45,7 @@ module _ (code : Code) where
     points_other l ne f (p ∷ ps) es h m = points_other l ne f ps es h _
         ∙ ap (λ b. cond (b && ((f == l.field) && (p == l.point))) (zero_of (spaces_of code) (kind_of (spaces_of code) root f)) (m l)) (ne_eqb root l.root ne)
 
-    zeros_other : (l : Location) → (root ≡ l.root → ⊥) → (fs : List ℕ) (m : Map G) → run_all G (zeros_of (spaces_of code) root size fs) m l ≡ m l
+    pub zeros_other : (l : Location) → (root ≡ l.root → ⊥) → (fs : List ℕ) (m : Map G) → run_all G (zeros_of (spaces_of code) root size fs) m l ≡ m l
     zeros_other l ne [] m = refl
     zeros_other l ne (f ∷ fs) m = points_other l ne f (points size) (zeros_of (spaces_of code) root size fs) (zeros_other l ne fs) m
 
@@ -70,7 +70,7 @@ module _ (code : Code) where
               (λ d. absurd (false≢true (sym e ∙ and_from _ _ (eq-eqb root root refl) (and_from _ _ (eq-eqb f g (sym a.0)) (eq-eqb p q (sym d))))))
               (λ d. inr (inl (a.0, d))) (has-cons_cases q p ps a.1)) (λ b. inr (inr b)) j) k
 
-      zeros_done : (fs : List ℕ) (m : Map G) → (m (at root g q) ≡ z) ⊎ ((has fs g ≡ true) × (has (points size) q ≡ true)) →
+      pub zeros_done : (fs : List ℕ) (m : Map G) → (m (at root g q) ≡ z) ⊎ ((has fs g ≡ true) × (has (points size) q ≡ true)) →
           run_all G (zeros_of (spaces_of code) root size fs) m (at root g q) ≡ z
       zeros_done [] m h = ⊎_elim (λ e. e) (λ k. absurd (false≢true k.0)) h
       zeros_done (f ∷ fs) m h = points_done f (points size) (zeros_of (spaces_of code) root size fs) ((has fs g ≡ true) × (has (points size) q ≡ true))

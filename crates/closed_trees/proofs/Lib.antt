@@ -1,0 +1,13 @@
+pub mod Known
+pub mod Graph
+pub mod Reached
+pub mod Roots
+pub mod Mapped
+pub mod Trees
+pub mod Over
+pub mod Places
+pub mod Swept
+pub mod Caller
+pub mod Found
+pub mod Step
+pub mod Followed
