@@ -4,10 +4,10 @@ import "regent"
 fspace node(r : region(ispace(ptr), node(wild))) { value : int64, next : ptr(node(wild), r) }
 
 -- the sum and the count of what is behind an element, itself included
-task add_up(nodes : region(ispace(ptr), node(wild)), first : ptr) : int64
+task add_up(nodes : region(ispace(ptr), node(wild)), first : ptr(node(wild), nodes)) : int64
 where reads(nodes) do
   var sum : int64 = 0
-  var at = dynamic_cast(ptr(node(wild), nodes), first)
+  var at = first
   while not isnull(at) do
     sum += at.value
     at = dynamic_cast(ptr(node(wild), nodes), at.next)

@@ -16,7 +16,7 @@ use Rattle.regent_tree.specs.declared.typing.StaticType.TheVariants.{Index as in
 use Rattle.code_rules.specs.Instructions.{converted_code}
 use Rattle.code_rules.specs.Pieces.{empty}
 use Rattle.code_rules.specs.Slots.{Where, bound, typed}
-use Rattle.code_laws.specs.Pointers.{FitsInto, GoesInto, fills_alike, fills_index, into_index, into_plain, into_space}
+use Rattle.code_laws.specs.Pointers.{Passes, PassesInto, a_pointer_type, passes_plain, passes_pointer, GoesInto, fills_alike, fills_index, into_index, into_plain, into_space}
 use Rattle.code_laws.specs.Simple.{AreAlike, AreRegions, IsPartition, IsRegion, a_partition_type, a_region_type, two_integers, two_regions, two_truths, number_index, number_integer}
 use Rattle.code_laws.specs.Steps.{Taking}
 use Rattle.code_laws.specs.Arguments.{IsCutName, IsHanded, IsHandedPart, name_of, parent_bound, part_of}
@@ -106,20 +106,24 @@ goes_as _ _ (into_plain _ _ (fills_index _ k (number_index j))) = tt
 goes_as _ _ (into_index k sp args rs j) = tt
 goes_as _ _ (into_space j k) = tt
 
--- so a part of a partition goes into nothing
-child_other : (t u : StaticType) (r : Term) → GoesInto (child_type t r) u → ⊥
-child_other (region_type k sp args q) u r a = goes_as _ u a
-child_other (integer_type _) u r a = goes_as _ u a
-child_other truth_type u r a = goes_as _ u a
-child_other (index_type _) u r a = goes_as _ u a
-child_other (pointer_type _ _ _ _) u r a = goes_as _ u a
-child_other (ispace_type _) u r a = goes_as _ u a
-child_other (partition_type _ _ _) u r a = goes_as _ u a
-child_other no_type u r a = goes_as _ u a
-child_other unknown_type u r a = goes_as _ u a
+passes_as : (t u p : StaticType) → Passes t u p → IsGoing t
+passes_as t _ _ (passes_plain _ u g) = goes_as t u g
+passes_as _ _ _ (passes_pointer _ k sp args brgs rs qs (a_pointer_type j sq crgs us n) e) = tt
 
-cut_other : (s : Scope) (t u : StaticType) (e : Expression) → IsPartition t → GoesInto (type_of_element s t e) u → ⊥
-cut_other s _ u e (a_partition_type d r own) a = child_other (bound_as s.names r).static_type u (term.Child own (colour_of s e)) a
+-- so a part of a partition goes into nothing
+child_other : (t u p : StaticType) (r : Term) → Passes (child_type t r) u p → ⊥
+child_other (region_type k sp args q) u p r a = passes_as _ u p a
+child_other (integer_type _) u p r a = passes_as _ u p a
+child_other truth_type u p r a = passes_as _ u p a
+child_other (index_type _) u p r a = passes_as _ u p a
+child_other (pointer_type _ _ _ _) u p r a = passes_as _ u p a
+child_other (ispace_type _) u p r a = passes_as _ u p a
+child_other (partition_type _ _ _) u p r a = passes_as _ u p a
+child_other no_type u p r a = passes_as _ u p a
+child_other unknown_type u p r a = passes_as _ u p a
+
+cut_other : (s : Scope) (t u p : StaticType) (e : Expression) → IsPartition t → Passes (type_of_element s t e) u p → ⊥
+cut_other s _ u p e (a_partition_type d r own) a = child_other (bound_as s.names r).static_type u p (term.Child own (colour_of s e)) a
 
 child_space : (t : StaticType) (r : Term) → IsRegion t → space_in (child_type t r) ≡ space_in t
 child_space _ r (a_region_type k sp args q) = refl
@@ -146,8 +150,8 @@ part_is (null_expr _) p is = absurd (none-some p is)
 part_is (cast_expr _ _) p is = absurd (none-some p is)
 part_is (space_expr _ _) p is = absurd (none-some p is)
 
-pub part_other : (w : Where) (e : Expression) (u : StaticType) (p : Name × Expression) → part_of e ≡ Some p → IsCutName w p.0 → GoesInto (typed w e) u → ⊥
-part_other w e u p is cut a = cut_other w.scope (bound w p.0).static_type u p.1 cut.partition (subst (λ e. GoesInto (typed w e) u) (part_is e p is) a)
+pub part_other : (w : Where) (e : Expression) (t u : StaticType) (p : Name × Expression) → part_of e ≡ Some p → IsCutName w p.0 → Passes (typed w e) t u → ⊥
+part_other w e t u p is cut a = cut_other w.scope (bound w p.0).static_type t u p.1 cut.partition (subst (λ e. Passes (typed w e) t u) (part_is e p is) a)
 
 pub part_space : (w : Where) (e : Expression) (p : Name × Expression) → part_of e ≡ Some p → IsCutName w p.0 → IsRegion (parent_bound w p.0).static_type →
     space_in (typed w e) ≡ space_in (parent_bound w p.0).static_type
@@ -186,6 +190,10 @@ goes_other _ _ (into_plain _ _ (fills_index _ k (number_index j))) = tt
 goes_other _ _ (into_index k sp args rs j) = tt
 goes_other _ _ (into_space j k) = tt
 
+pub passes_other : (t u p : StaticType) → Passes t u p → IsNoRegion t
+passes_other t _ _ (passes_plain _ u g) = goes_other t u g
+passes_other _ _ _ (passes_pointer _ k sp args brgs rs qs (a_pointer_type j sq crgs us n) e) = tt
+
 pub region_other : (t : StaticType) → IsRegion t → IsNoRegion t → ⊥
 region_other _ (a_region_type k sp args r) h = absurd h
 
@@ -202,10 +210,10 @@ unchanged h w from _ _ (two_regions k l sp args brgs r u) = record { code = refl
 
 -- what is passed is a number, a truth or an index, a region that has a name, or a part
 pub given_by : (keeps : Bool) (o : Option Taking) (w : Where) (t p : StaticType) (e : Expression) (Typed Part Goal : Type 0) →
-    (FitsInto keeps (typed w e) t → t ≡ p → Typed → Goal) → ((y : Taking) → o ≡ Some y → IsHanded (Some y) w t p e → Goal) →
+    (PassesInto keeps (typed w e) t p → Typed → Goal) → ((y : Taking) → o ≡ Some y → IsHanded (Some y) w t p e → Goal) →
     (IsPartArgument o w t p e Part → Goal) →
-    (FitsInto keeps (typed w e) t × (t ≡ p) × Typed) ⊎ (IsHanded o w t p e ⊎ IsHandedPart keeps o w t p e Part) → Goal
-given_by keeps o w t p e Typed Part Goal this that other (inl a) = this a.0 a.1 a.2
+    (PassesInto keeps (typed w e) t p × Typed) ⊎ (IsHanded o w t p e ⊎ IsHandedPart keeps o w t p e Part) → Goal
+given_by keeps o w t p e Typed Part Goal this that other (inl a) = this a.0 a.1
 given_by keeps None w t p e Typed Part Goal this that other (inr (inl h)) = absurd h
 given_by keeps (Some y) w t p e Typed Part Goal this that other (inr (inl h)) = that y refl h
 given_by keeps o w t p e Typed Part Goal this that other (inr (inr h)) = other (handed_part keeps o w t p e Part h)
@@ -213,5 +221,5 @@ given_by keeps o w t p e Typed Part Goal this that other (inr (inr h)) = other (
 -- where no partitions are kept, it is no part
 pub given_either : (o : Option Taking) (w : Where) (t p : StaticType) (e : Expression) (Typed Goal : Type 0) →
     (AreAlike (typed w e) t → t ≡ p → Typed → Goal) → ((y : Taking) → o ≡ Some y → IsHanded (Some y) w t p e → Goal) →
-    (AreAlike (typed w e) t × (t ≡ p) × Typed) ⊎ (IsHanded o w t p e ⊎ ⊥) → Goal
-given_either o w t p e Typed Goal this that g = given_by false o w t p e Typed ⊥ Goal this that (λ a. absurd a.part) g
+    ((AreAlike (typed w e) t × (t ≡ p)) × Typed) ⊎ (IsHanded o w t p e ⊎ ⊥) → Goal
+given_either o w t p e Typed Goal this that g = given_by false o w t p e Typed ⊥ Goal (λ a. this a.0 a.1) that (λ a. absurd a.part) g

@@ -35,12 +35,13 @@ use Rattle.fact_laws.specs.Regions.{LiesWithin}
 use Rattle.code_rules.specs.Programs.{task_code}
 use Rattle.code_rules.specs.Slots.{Where, typed}
 use Rattle.code_laws.specs.Arguments.{AreMet, AreOneColour, AreParted, IsPartBelow, IsCutName, IsMet, IsMetAt, IsMetPart, IsPart, IsParted, IsPartedAt, name_at, one_name, one_number, parent_bound, part_at}
+use Rattle.code_laws.specs.Pointers.{Passes, passes_plain, passes_pointer}
 use Rattle.code_laws.specs.Simple.{AreRegions, IsRegion, term_in, two_regions}
-use Rattle.code_laws.specs.Standing.{Agrees, AreTaken, Aside, IsInside, IsOf, IsTaken, LiesIn, SlotsFit, Takes, machine_value, nothing, takes_region, takes_value, where_of}
+use Rattle.code_laws.specs.Standing.{Agrees, AreTaken, Aside, IsInside, IsOf, IsTaken, LiesIn, SlotsFit, Takes, machine_value, nothing, of_pointer, takes_pointer, takes_region, takes_value, where_of}
 use Rattle.code_laws.specs.Steps.{Setting, Taking}
 use Rattle.code_laws.specs.Taking.{AreParts, IsHad, IsHadBy, MayDo, given_region, pairs_in, pairs_taken, IsSubregion}
 use Rattle.code_laws.specs.Typed.{IsCallable}
-use Rattle.code_laws.proofs.Arguments.{first_region, goes_other, named_typed, no_both, part_other, part_space, region_other}
+use Rattle.code_laws.proofs.Arguments.{first_region, passes_other, named_typed, no_both, part_other, part_space, region_other}
 use Rattle.code_laws.proofs.Calling.{given_number}
 use Rattle.code_laws.proofs.Handing.{AreGivenBy, IsGivenBy, IsHandedAs, IsPartAs}
 use Rattle.code_laws.proofs.Parts.{IsColoured, colour_seen, cut_of, parent_inside, part_at_colour, part_lies_in, part_within, point_of}
@@ -64,7 +65,7 @@ module _ (x : Setting) (params slots : ℕ) (fit : SlotsFit x slots) (aside : As
   value_at h (p ∷ ps) (an_expr e es) (v ∷ vs) names zero n a at r =
       ⊎_elim
       (λ scalar. absurd (region_other (typed (where_of params h) e)
-      (subst IsRegion (sym (named_typed (where_of params h) e n at)) r) (goes_other (typed (where_of params h) e) p scalar.0)))
+      (subst IsRegion (sym (named_typed (where_of params h) e n at)) r) (passes_other (typed (where_of params h) e) scalar.0 p scalar.1)))
       (λ given. ⊎_elim
       (λ (is : IsHandedAs x params slots fit aside h p e v names).
       let same : is.name ≡ n = same_Some is.name n (sym is.stands ∙ at) in
@@ -86,7 +87,7 @@ module _ (x : Setting) (params slots : ℕ) (fit : SlotsFit x slots) (aside : As
       let r = by_part h ps es vs names k q a.1 at cut in record { value = r.value; at = r.at; coloured = r.coloured }
   by_part h (p ∷ ps) (an_expr e es) (v ∷ vs) names zero q a at cut =
       ⊎_elim
-      (λ scalar. absurd (part_other (where_of params h) e p q at cut scalar.0))
+      (λ scalar. absurd (part_other (where_of params h) e scalar.0 p q at cut scalar.1))
       (λ given. ⊎_elim
       (λ (is : IsHandedAs x params slots fit aside h p e v names). absurd (no_both e is.name q is.stands at))
       (λ (is : IsPartAs x params slots fit aside h p e v names). record {
@@ -172,12 +173,16 @@ module _ (x : Setting) (params slots : ℕ) (fit : SlotsFit x slots) (aside : As
   taken_by h s i [] no_expr [] a g = tt
   taken_by h s i (p ∷ ps) (an_expr e es) (v ∷ vs) a g = (one a.0, taken_by h s i ps es vs a.1 g)
     where
+      passed_is : (t u p : StaticType) (v : Value) → Passes t u p → IsOf p v → IsTaken x.forms.takes x.code s.store p v
+      passed_is t _ _ v (passes_plain _ u goes) o = takes_value u v (into_simple t u goes) o
+      passed_is _ _ _ _ (passes_pointer _ k sp args brgs rs qs n e) (of_pointer _ _ _ _ tg regions o) = takes_pointer k sp args rs tg regions o
+
       region : (b p : StaticType) (q : Region) (y : Taking) → x.forms.takes ≡ Some y → AreRegions b p → LiesIn x.code s.store (space_in b) q →
           IsTaken x.forms.takes x.code s.store p (a_region q)
       region _ _ q y takes (two_regions k l sp args brgs r u) lies = takes_region y l sp brgs u q takes lies
 
       one : IsGivenBy x params slots fit aside h p e v s.names → IsTaken x.forms.takes x.code s.store p v
-      one (inl c) = takes_value p v (into_simple (typed (where_of params h) e) p c.0) c.1
+      one (inl c) = passed_is (typed (where_of params h) e) c.0 p v c.1 c.2
       one (inr (inr is)) =
           let w = where_of params h in
           let k = is.coloured in
@@ -357,7 +362,7 @@ module _ (x : Setting) (params slots : ℕ) (fit : SlotsFit x slots) (aside : As
       (parted_at x.forms.keeps y w es (pairs_in (scope_of h.tree (task_named h.tree task)).known) p
       (subst (λ o. AreParted x.forms.keeps o w es (pairs_in (scope_of h.tree (task_named h.tree task)).known)) e fine.2)
       (Has-from_Contains (pairs_in (scope_of h.tree (task_named h.tree task)).known) p k)) a g in record {
-        takes = record { there = fine.0; taken = taken_by h s i ps es vs a g; parts = parts; kept = kept_here x params slots aside h s i g; needs = there.0; required = there.1 };
+        takes = record { there = fine.0; taken = taken_by h s i ps es vs a g; parts = parts; back = fine.3; kept = kept_here x params slots aside h s i g; needs = there.0; required = there.1 };
         within = covered_within x.code c args ns there.0 i.needs there.1 (λ root field point m k.
             let n = k.need in
             let o = on n k.among in

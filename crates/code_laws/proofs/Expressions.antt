@@ -16,8 +16,9 @@ use Rattle.code_laws.proofs.Behind.{behind_reads}
 use Rattle.code_laws.proofs.Comparing.{compared_runs, left_fits, operand_runs, right_fits}
 use Rattle.code_laws.proofs.Signs.{prefixed_runs}
 use Rattle.code_laws.proofs.PointerValues.{cast_runs, element_runs, null_runs}
-use Rattle.code_laws.proofs.Counting.{counted_runs, into_runs, number_runs, stands_runs}
-use Rattle.code_laws.proofs.Wider.{any_field, compared, converting, counting, going, into_simple, signed_as}
+use Rattle.code_laws.proofs.Counting.{counted_runs, number_runs, stands_runs}
+use Rattle.code_laws.proofs.Passing.{passed_inside, passed_runs, passed_typed}
+use Rattle.code_laws.proofs.Wider.{any_field, compared, converting, counting, passing, signed_as}
 use Rattle.regent_tree.proofs.Laws.{expressions_keep_names}
 use Rattle.std.proofs.Common.{◌≡◌, ℕ, suc, ◌<◌, ◌≤◌, negsuc, List, [], ◌∷◌, false, inl, inr, refl, sym, ap, subst, arith, ⊎_elim}
 use Rattle.std.specs.Prelude.{get_or, length}
@@ -41,12 +42,11 @@ use Rattle.code_rules.specs.Expressions.{count, expr_code, exprs_code, links_cod
 use Rattle.code_rules.specs.Instructions.{converted_code, operand_code, place_of_task}
 use Rattle.code_laws.specs.Steps.{Leads, Setting, placed}
 use Rattle.code_laws.specs.Standing.{Comes, Stands, machine_value, IsInside, IsOf, of_integer, of_pointer, of_truth, nothing, Aside, SlotsFit, where_of, Agrees}
-use Rattle.code_laws.specs.Pointers.{GoesInto}
 use Rattle.regent_tree.specs.StaticTypes.{task_named}
 use Rattle.code_laws.specs.Typed.{ArePassed, IsIndexed, IsTyped, AreTypedLinks, element_field}
 use Rattle.code_laws.proofs.Runs.{comes_on, leads_none, then, then_led, comes_said}
 use Rattle.code_laws.proofs.Good.{valued, Good, Gives, pushes}
-use Rattle.code_laws.proofs.Values.{past_later, named, simple_inside}
+use Rattle.code_laws.proofs.Values.{past_later, named}
 
 module _ (x : Setting) (params slots : ℕ) (fit : SlotsFit x slots) (aside : Aside) where
   -- so many values, each that of its argument
@@ -199,13 +199,13 @@ module _ (x : Setting) (params slots : ℕ) (fit : SlotsFit x slots) (aside : As
           ((subst (IsGivenBy x params slots fit aside h p e u) (sym names) is, k.0), ap suc k.1, k.2),
         )) in
         given_by x.forms.keeps x.forms.takes w t p e (IsTyped x.forms w e) (IsIndexed x.forms w e) (Comes x (placed pc st i) shape (AreGiven h (p ∷ ps) (an_expr e es)) (values h (t ∷ ts) (an_expr e es) s))
-        (λ goes same typed_e. then x said _ _ _ (value h e s) _ (value_runs h d low e s pc st i typed_e g f.0)
-        (λ v s1 j k. then x said (valued a st) (Good x params slots fit aside h t) _ (converted h (typed w e) t [] v s1) _
-        (into_runs x params slots fit aside h (typed w e) t [] v s1 _ st j (going x.forms.keeps (typed w e) t goes) k.0 k.1 f.1.0)
+        (λ goes typed_e. then x said _ _ _ (value h e s) _ (value_runs h d low e s pc st i typed_e g f.0)
+        (λ v s1 j k. let passes = passing x.forms.keeps (typed w e) t p goes in
+        then x said (valued a st) (Good x params slots fit aside h t) _ (converted h (typed w e) t [] v s1) _
+        (passed_runs x params slots fit aside h (typed w e) t p v s1 _ st j passes k.0 k.1 f.1.0)
         (λ u s2 j2 k2. rest u s2 j2
-        (inl (subst (λ q. GoesInto (typed w e) q × IsOf q u) same (going x.forms.keeps (typed w e) t goes, k2.0)))
-        (value_stays x params slots fit aside h s2 j2 k2.1 t u k2.0
-        (simple_inside x s2.store t u (into_simple (typed w e) t (going x.forms.keeps (typed w e) t goes)))) k2.1)))
+        (inl (t, passes, passed_typed (typed w e) t p u passes k2.0))
+        (value_stays x params slots fit aside h s2 j2 k2.1 t u k2.0 (passed_inside x s2.store (typed w e) t p u passes k2.0)) k2.1)))
         (λ y takes handed. handed_run x params slots fit aside said h d y t p e s pc st i _ takes handed g f.0
         (λ v j is stays g2. rest v s j (inr (inl is)) stays g2))
         (λ part. part_passed x params slots fit aside said h d t p e (IsIndexed x.forms w e) s pc st i _ part g

@@ -29,7 +29,7 @@ use Rattle.code_rules.specs.Slots.{typed}
 use Rattle.memory_laws.specs.Places.{number_at, numbers}
 use Rattle.code_laws.specs.Arguments.{IsCutName, IsHanded, name_of, part_of}
 use Rattle.code_laws.specs.Pointers.{IsCounting}
-use Rattle.code_laws.specs.Pointers.{GoesInto}
+use Rattle.code_laws.specs.Pointers.{Passes}
 use Rattle.code_laws.specs.Simple.{AreRegions}
 use Rattle.code_laws.specs.Standing.{Agrees, Aside, IsInside, IsOf, SlotsFit, Stands, machine_value, nothing, where_of}
 use Rattle.code_laws.specs.Steps.{HasMore, Setting, Taking, placed}
@@ -70,10 +70,10 @@ module _ (x : Setting) (params slots : ℕ) (fit : SlotsFit x slots) (aside : As
     pub regions : AreRegions (typed (where_of params h) e) p
     pub coloured : IsColoured h name index v names
 
-  -- the value of an argument: what goes into a parameter of its type, such a region, or such a part
+  -- the value of an argument: what is given to a parameter of its type, such a region, or such a part
   abbrev pub IsGivenBy : Here → StaticType → Expression → Value → List Value → Type 0
   IsGivenBy h p e v names =
-      (GoesInto (typed (where_of params h) e) p × IsOf p v) ⊎ (IsHandedAs h p e v names ⊎ IsPartAs h p e v names)
+      ((t : StaticType) × Passes (typed (where_of params h) e) t p × IsOf p v) ⊎ (IsHandedAs h p e v names ⊎ IsPartAs h p e v names)
 
   abbrev pub AreGivenBy : Here → List StaticType → Expressions → List Value → List Value → Type 0
   AreGivenBy h [] no_expr [] names = Unit {0}

@@ -18,6 +18,7 @@ pub mod Wider
 pub mod Filling
 pub mod Making
 pub mod Prints
+pub mod Entering
 pub mod Openings
 pub mod Calling
 pub mod Results
@@ -50,6 +51,7 @@ pub mod Elements
 pub mod Folds
 pub mod Variables
 pub mod Moving
+pub mod Passing
 pub mod PointerForms
 pub mod Differences
 pub mod Statements
@@ -85,6 +87,7 @@ pub mod LocalStatements
 pub mod LocalAssignments
 pub mod LocalBlocks
 pub mod LocalMarks
+pub mod LocalParams
 pub mod LocalTrees
 pub mod LocalRuns
 pub mod ScalarLocal

@@ -1,6 +1,7 @@
 -- Arguments of calls in a text with marked names, of which no breach is told, are typed, and the calls may be made.
 use Rattle.std.proofs.Common.{◌≡◌, ℕ, Bool, List, [], ◌∷◌, None, Some, false, true, refl, ap, sym, subst, ◌∙◌, ◌⊎◌, inl, inr, not, ⊎_elim}
-use Rattle.std.specs.Prelude.{length, ◌&&◌, ◌==◌, ◌||◌}
+use Rattle.std.proofs.lemmas.List.{length-map}
+use Rattle.std.specs.Prelude.{length, map, ◌&&◌, ◌==◌, ◌||◌}
 use Rattle.std.specs.List.{list_any}
 use Rattle.std.proofs.lemmas.Bool.{eqb-true, not-false}
 use Rattle.plain_values.proofs.Plain.{option_or_parts}
@@ -8,7 +9,7 @@ use Rattle.regent_tree.specs.Lookup.{has_task, is_bound}
 use Rattle.regent_tree.specs.Scopes.{bound_as, scope_of}
 use Rattle.regent_tree.specs.StaticTypes.{Reach, task_named}
 use Rattle.regent_tree.specs.Syntax.{Expression, Expressions, Name, TaskTree, access_expr, at_step, no_step}
-use Rattle.regent_tree.specs.Typing.{child_type, colour_of, param_types, params_at, put_in, type_of_element}
+use Rattle.regent_tree.specs.Typing.{child_type, colour_of, is_pointer, param_types, params_at, put, put_in, type_of_element}
 use Rattle.regent_tree.specs.declared.facts.Term.{Term}
 use Rattle.regent_tree.specs.declared.facts.Term.TheVariants as term
 use Rattle.regent_tree.specs.declared.types.Kind.{Kind}
@@ -31,8 +32,8 @@ use Rattle.check_rules.proofs.Untold.{rule_none}
 use Rattle.code_rules.specs.Slots.{Where, bound, typed}
 use Rattle.local_form.specs.LocalForm.{Marked, is_local_expression, is_name, is_part}
 use Rattle.code_laws.specs.Handing.{forms_by, takes_by}
-use Rattle.code_laws.specs.Pointers.{CountsAs, FitsInto, IsCounting, fills_index, into_index, into_plain, into_space}
-use Rattle.code_laws.specs.Simple.{AreRegions, IsPartition, IsRegion, IsScalar, a_partition_type, a_region_type, number_index, number_integer, scalar_integer, scalar_truth, simple_index, simple_integer, simple_space, simple_truth}
+use Rattle.code_laws.specs.Pointers.{CountsAs, GoesInto, IsCounting, IsPointer, Passes, PassesInto, a_pointer_type, passes_plain, passes_pointer, fills_index, into_index, into_plain, into_space}
+use Rattle.code_laws.specs.Simple.{AreAlike, AreRegions, IsPartition, IsRegion, IsScalar, a_partition_type, a_region_type, number_index, number_integer, scalar_integer, scalar_truth, simple_index, simple_integer, simple_space, simple_truth}
 use Rattle.code_laws.specs.Steps.{Forms}
 use Rattle.code_laws.specs.Arguments.{IsCutName, IsHanded, IsHandedPart}
 use Rattle.code_laws.specs.Typed.{ArePassed, IsCallable, IsIndexed, IsPassed, IsTyped}
@@ -42,11 +43,11 @@ use Rattle.code_laws.proofs.LocalCalls.{may_call}
 use Rattle.code_laws.proofs.LocalParts.{and_then, named_alone, put_region, put_scalar}
 use Rattle.code_laws.proofs.LocalNames.{AllKept, IsKept, IsLocalTree, kept_partition, kept_region, kept_scalar, named_kept, kept_value, region_of_number, value_kept, value_no_region, kept_plain}
 use Rattle.code_laws.proofs.LocalPlaces.{taking_told}
-use Rattle.code_laws.proofs.LocalTypes.{IsTakable, either, region_for_index, region_for_scalar, region_for_space, regions_alike, simple_other, takable_index, takable_region, takable_scalar, takable_space}
+use Rattle.code_laws.proofs.LocalTypes.{IsTakable, either, region_for_index, region_for_pointer, region_for_scalar, region_for_space, regions_alike, simple_other, takable_index, takable_pointer, takable_region, takable_scalar, takable_space}
 use Rattle.code_laws.proofs.Openings.{params_length, types_length}
 use Rattle.code_laws.proofs.Typing.{no_way, no_way_back, stands_well}
 use Rattle.code_laws.proofs.Values.{scalar_simple}
-use Rattle.code_laws.proofs.LocalValues.{IsValue, alike_fits, value_counts, value_for_region, value_param, value_pointer, value_read, value_simple}
+use Rattle.code_laws.proofs.LocalValues.{IsValue, alike_passes, names_among, value_counts, value_for_region, value_param, value_pointer, value_read, value_simple}
 use Rattle.code_laws.proofs.LocalElements.{of_region}
 use Rattle.code_laws.proofs.LocalPoints.{IsWell, local_known}
 
@@ -127,9 +128,9 @@ module _ (handing keeping : Bool) (task : TaskTree) (w : Where) (sound : IsSound
     other_partition : (d : Bool) (r p : ℕ) → IsOther (partition_type d r p)
     other_pointer : (k : Kind) (sp : ℕ) (args rs : List Reach) → IsOther (pointer_type k sp args rs)
 
-  -- which an index takes where pointers are kept
+  -- which is given where pointers are kept
   abbrev Goes : Expression → Type 0
-  Goes e = (k : Kind) → keeping ≡ true → may_stand w.scope.known (stands (typed w e) (param_spot (index_type k))) ≡ true → Well e
+  Goes e = keeping ≡ true → is_pointer (typed w e) ≡ true → Well e
 
   abbrev pub IsArgument : Expression → Type 0
   IsArgument e = Well e ⊎ (IsRegionName e ⊎ (IsPartName e ⊎ (IsOther (typed w e) × Goes e)))
@@ -145,9 +146,14 @@ module _ (handing keeping : Bool) (task : TaskTree) (w : Where) (sound : IsSound
   none_region _ _ (other_partition d r q) (a_region_type k sp args u) e = no_way_back e
   none_region _ _ (other_pointer k sp args rs) (a_region_type j sq brgs u) e = no_way_back e
 
+  -- what goes into a parameter where pointers are kept
+  abbrev FitsParam : Bool → StaticType → StaticType → Type 0
+  FitsParam false t p = ⊥
+  FitsParam true t p = GoesInto t p
+
   -- what an index takes
   index_param : (b : Bool) (t : StaticType) (k : Kind) → b ≡ true → IsValue b w.scope.names t →
-      may_stand w.scope.known (stands t (param_spot (index_type k))) ≡ true → FitsInto b t (index_type k)
+      may_stand w.scope.known (stands t (param_spot (index_type k))) ≡ true → FitsParam b t (index_type k)
   index_param false t k q a e = absurd (no_way_back q)
   index_param true _ k q (value_simple _ (simple_integer v)) e = into_plain _ _ (fills_index _ k (number_integer v))
   index_param true _ k q (value_simple _ (simple_index j)) e = into_plain _ _ (fills_index _ k (number_index j))
@@ -157,13 +163,50 @@ module _ (handing keeping : Bool) (task : TaskTree) (w : Where) (sound : IsSound
 
   -- and what an index space takes
   space_param : (b : Bool) (t : StaticType) (k : Kind) → b ≡ true → IsValue b w.scope.names t →
-      may_stand w.scope.known (stands t (param_spot (ispace_type k))) ≡ true → FitsInto b t (ispace_type k)
+      may_stand w.scope.known (stands t (param_spot (ispace_type k))) ≡ true → FitsParam b t (ispace_type k)
   space_param false t k q a e = absurd (no_way_back q)
   space_param true _ k q (value_simple _ (simple_space j)) e = into_space j k
   space_param true _ k q (value_simple _ (simple_integer v)) e = absurd (no_way_back e)
   space_param true _ k q (value_simple _ (simple_index j)) e = absurd (no_way_back e)
   space_param true _ k q (value_simple _ simple_truth) e = absurd (no_way_back e)
   space_param true _ k q (value_pointer j sp args rs h r) e = absurd (no_way_back e)
+
+  -- and what a pointer takes
+  pointer_param : (b : Bool) (t : StaticType) (k : Kind) (sp : ℕ) (args rs : List Reach) → b ≡ true → IsValue b w.scope.names t →
+      may_stand w.scope.known (stands t (param_spot (pointer_type k sp args rs))) ≡ true → IsPointer t
+  pointer_param false t k sp args rs q a e = absurd (no_way_back q)
+  pointer_param true _ k sp args rs q (value_pointer j sq brgs us h r) e = a_pointer_type j sq brgs us (names_among w.scope.names sq us r)
+  pointer_param true _ k sp args rs q (value_simple _ (simple_integer v)) e = absurd (no_way_back e)
+  pointer_param true _ k sp args rs q (value_simple _ (simple_index j)) e = absurd (no_way_back e)
+  pointer_param true _ k sp args rs q (value_simple _ simple_truth) e = absurd (no_way_back e)
+  pointer_param true _ k sp args rs q (value_simple _ (simple_space j)) e = absurd (no_way_back e)
+
+  passes_into : (b : Bool) (t u p : StaticType) → b ≡ true → Passes t u p → PassesInto b t u p
+  passes_into false t u p q a = absurd (no_way_back q)
+  passes_into true t u p q a = a
+
+  goes_passes : (b : Bool) (t p : StaticType) → b ≡ true → FitsParam b t p → PassesInto b t p p
+  goes_passes false t p q a = absurd (no_way_back q)
+  goes_passes true t p q a = passes_plain t p a
+
+  -- a pointer where one is taken, by its type at the call
+  pointer_given : (all types : List StaticType) (e : Expression) (k : Kind) (sp : ℕ) (args rs : List Reach) → keeping ≡ true → Well e →
+      may_stand w.scope.known (stands (typed w e) (param_spot (put_in all (pointer_type k sp args rs)))) ≡ true →
+      PassesInto keeping (typed w e) (put_in types (pointer_type k sp args rs)) (pointer_type k sp args rs)
+  pointer_given all types e k sp args rs q a may =
+      passes_into keeping (typed w e) (put_in types (pointer_type k sp args rs)) (pointer_type k sp args rs) q
+      (passes_pointer (typed w e) k sp args (map (put types) args) rs (map (put types) rs) (pointer_param keeping (typed w e) k sp (map (put all) args) (map (put all) rs) q a.value may)
+      (length-map rs (put types)))
+
+  -- what isn't a value of its own may be a pointer there, and an index
+  index_other : (t : StaticType) (k : Kind) → IsOther t → may_stand w.scope.known (stands t (param_spot (index_type k))) ≡ true → is_pointer t ≡ true
+  index_other _ k (other_partition d r q) e = absurd (no_way_back e)
+  index_other _ k (other_pointer j sp args rs) e = refl
+
+  pointer_other : (t : StaticType) (k : Kind) (sp : ℕ) (args rs : List Reach) → IsOther t →
+      may_stand w.scope.known (stands t (param_spot (pointer_type k sp args rs))) ≡ true → is_pointer t ≡ true
+  pointer_other _ k sp args rs (other_partition d r q) e = absurd (no_way_back e)
+  pointer_other _ k sp args rs (other_pointer j sq brgs us) e = refl
 
   none_space : (t : StaticType) (k : Kind) → IsOther t → may_stand w.scope.known (stands t (param_spot (ispace_type k))) ≡ true → ⊥
   none_space _ k (other_partition d r q) e = no_way_back e
@@ -177,7 +220,7 @@ module _ (handing keeping : Bool) (task : TaskTree) (w : Where) (sound : IsSound
       inr (inl (record { name = n; is = refl; there = there; region = subst IsRegion (sym same) (a_region_type k sp args (term.Name (bound w n).number)) }))
   name_argument n there _ same (kept_partition d r q among h) = inr (inr (inr (
     subst IsOther (sym same) (other_partition d r (bound w n).number),
-    λ k q may. absurd (no_way_back (subst (λ t. may_stand w.scope.known (stands t (param_spot (index_type k))) ≡ true) same may)),
+    λ q points. absurd (no_way_back (subst (λ t. is_pointer t ≡ true) same points)),
   )))
 
   child_region : (t : StaticType) (r : Term) → IsRegion t → IsRegion (child_type t r)
@@ -204,7 +247,7 @@ module _ (handing keeping : Bool) (task : TaskTree) (w : Where) (sound : IsSound
       let number = value_counts keeping w.scope.names (typed w e) well.value (subst (λ u. may_be is_number u ≡ true) (known e told) (stands_well [] at number_spot stood)) in
       inr (inr (inr (
         subst IsOther (sym (ap (λ t. type_of_element w.scope t e) same)) (other_pointer k sp args (Some (term.Name (bound w n).number) ∷ [])),
-        λ j q may. of_region handing keeping task w sound sound_task m local scope names head n e there q k sp args same well.is (counts_kept keeping (typed w e) q number),
+        λ q points. of_region handing keeping task w sound sound_task m local scope names head n e there q k sp args same well.is (counts_kept keeping (typed w e) q number),
       )))
   part_argument n e there _ same (kept_partition d r keeps among h) taking told well =
       let at = known_type w.tree w.scope e in
@@ -234,13 +277,17 @@ module _ (handing keeping : Bool) (task : TaskTree) (w : Where) (sound : IsSound
       let stood = subst (λ q. may_stand w.scope.known (stands (known_type w.tree w.scope e) (param_spot q)) ≡ true) (put_scalar all p s) may in
       let alike = value_param keeping w.scope.names w.scope.known (typed w e) p a.value s
       (subst (λ u. may_stand w.scope.known (stands u (param_spot p)) ≡ true) (known e told) stood) in
-      inl (subst (FitsInto keeping (typed w e)) (sym same) (alike_fits keeping (typed w e) p alike), same, a.is)
+      inl (alike_passes keeping (typed w e) (put_in types p) p (subst (AreAlike (typed w e)) (sym same) alike) same, a.is)
   given_one all types e p (inl a) (takable_region _ r) alone told may fits =
       let stood = subst (λ q. may_stand w.scope.known (stands (known_type w.tree w.scope e) (param_spot q)) ≡ true) (put_region all p r) may in
       absurd (value_for_region keeping w.scope.names w.scope.known (typed w e) p a.value r
       (subst (λ u. may_stand w.scope.known (stands u (param_spot p)) ≡ true) (known e told) stood))
   given_one all types e p (inl a) (takable_index k q) alone told may fits =
-      inl (index_param keeping (typed w e) k q a.value (subst (λ u. may_stand w.scope.known (stands u (param_spot (index_type k))) ≡ true) (known e told) may), refl, a.is)
+      inl (
+        goes_passes keeping (typed w e) (index_type k) q (index_param keeping (typed w e) k q a.value
+            (subst (λ u. may_stand w.scope.known (stands u (param_spot (index_type k))) ≡ true) (known e told) may)),
+        a.is,
+      )
   given_one all types e p (inr (inr (inr other))) (takable_scalar _ s) alone told may fits =
       let stood = subst (λ q. may_stand w.scope.known (stands (known_type w.tree w.scope e) (param_spot q)) ≡ true) (put_scalar all p s) may in
       absurd (none_scalar (typed w e) p other.0 s (subst (λ u. may_stand w.scope.known (stands u (param_spot p)) ≡ true) (known e told) stood))
@@ -249,16 +296,36 @@ module _ (handing keeping : Bool) (task : TaskTree) (w : Where) (sound : IsSound
       absurd (none_region (typed w e) p other.0 r (subst (λ u. may_stand w.scope.known (stands u (param_spot p)) ≡ true) (known e told) stood))
   given_one all types e p (inr (inr (inr other))) (takable_index k q) alone told may fits =
       let stood = subst (λ u. may_stand w.scope.known (stands u (param_spot (index_type k))) ≡ true) (known e told) may in
-      let a = other.1 k q stood in
-      inl (index_param keeping (typed w e) k q a.value stood, refl, a.is)
+      let a = other.1 q (index_other (typed w e) k other.0 stood) in
+      inl (goes_passes keeping (typed w e) (index_type k) q (index_param keeping (typed w e) k q a.value stood), a.is)
   given_one all types e p (inr (inr (inl r))) (takable_index k q) alone told may fits =
       absurd (region_for_index w.scope.known (typed w (access_expr r.name (at_step r.index no_step))) k r.region
       (subst (λ u. may_stand w.scope.known (stands u (param_spot (index_type k))) ≡ true) (known e told ∙ ap (typed w) r.is) may))
   given_one all types e p (inr (inl r)) (takable_index k q) alone told may fits =
       absurd (region_for_index w.scope.known (bound w r.name).static_type k r.region
       (subst (λ y. may_stand w.scope.known (stands (known_type w.tree w.scope y) (param_spot (index_type k))) ≡ true) r.is may))
+  given_one all types e p (inl a) (takable_pointer k sp args rs q) alone told may fits =
+      inl (
+        pointer_given all types e k sp args rs q a
+            (subst (λ u. may_stand w.scope.known (stands u (param_spot (put_in all (pointer_type k sp args rs)))) ≡ true) (known e told) may),
+        a.is,
+      )
+  given_one all types e p (inr (inr (inr other))) (takable_pointer k sp args rs q) alone told may fits =
+      let stood = subst (λ u. may_stand w.scope.known (stands u (param_spot (put_in all (pointer_type k sp args rs)))) ≡ true) (known e told) may in
+      let a = other.1 q (pointer_other (typed w e) k sp (map (put all) args) (map (put all) rs) other.0 stood) in
+      inl (pointer_given all types e k sp args rs q a stood, a.is)
+  given_one all types e p (inr (inr (inl r))) (takable_pointer k sp args rs q) alone told may fits =
+      absurd (region_for_pointer w.scope.known (typed w (access_expr r.name (at_step r.index no_step))) k sp (map (put all) args) (map (put all) rs) r.region
+      (subst (λ u. may_stand w.scope.known (stands u (param_spot (put_in all (pointer_type k sp args rs)))) ≡ true) (known e told ∙ ap (typed w) r.is) may))
+  given_one all types e p (inr (inl r)) (takable_pointer k sp args rs q) alone told may fits =
+      absurd (region_for_pointer w.scope.known (bound w r.name).static_type k sp (map (put all) args) (map (put all) rs) r.region
+      (subst (λ y. may_stand w.scope.known (stands (known_type w.tree w.scope y) (param_spot (put_in all (pointer_type k sp args rs)))) ≡ true) r.is may))
   given_one all types e p (inl a) (takable_space k q) alone told may fits =
-      inl (space_param keeping (typed w e) k q a.value (subst (λ u. may_stand w.scope.known (stands u (param_spot (ispace_type k))) ≡ true) (known e told) may), refl, a.is)
+      inl (
+        goes_passes keeping (typed w e) (ispace_type k) q (space_param keeping (typed w e) k q a.value
+            (subst (λ u. may_stand w.scope.known (stands u (param_spot (ispace_type k))) ≡ true) (known e told) may)),
+        a.is,
+      )
   given_one all types e p (inr (inr (inr other))) (takable_space k q) alone told may fits =
       absurd (none_space (typed w e) k other.0 (subst (λ u. may_stand w.scope.known (stands u (param_spot (ispace_type k))) ≡ true) (known e told) may))
   given_one all types e p (inr (inr (inl r))) (takable_space k q) alone told may fits =

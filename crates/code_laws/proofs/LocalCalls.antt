@@ -45,6 +45,7 @@ use Rattle.code_rules.specs.Programs.{task_code}
 use Rattle.code_rules.specs.Slots.{Where, bound, typed}
 use Rattle.local_form.specs.LocalForm.{Marked}
 use Rattle.code_laws.specs.Handing.{forms_by}
+use Rattle.code_laws.specs.Pointers.{AllGoBack}
 use Rattle.code_laws.specs.Simple.{AreRegions, IsRegion, a_region_type, term_in, two_regions}
 use Rattle.code_laws.specs.Steps.{Forms, Taking}
 use Rattle.code_laws.specs.Taking.{MayDo, known_of_pairs, pairs_in}
@@ -353,8 +354,9 @@ module _ (keeping : Bool) (task : TaskTree) (w : Where) (sound : IsSound w.tree)
         let c = pair_constrained w.tree t callee_sound p h in
         parted_as p c.lower c.upper c.told c.are.0 c.are.1 (region_at (place_in t.params c.lower) c.low.region) (region_at (place_in t.params c.upper) c.high.region)
 
-    pub calls_handed : slice_get (tasks_of w.tree) (place_of_task w.tree n) ≡ Some t → IsCallable (forms_by true keeping w.tree task) w n args
-    calls_handed at = (at, all_met keeping (Some y) w args (task_code w.tree t).needs met, all_parted keeping y w args (pairs_in (scope_of w.tree t).known) parted)
+    pub calls_handed : slice_get (tasks_of w.tree) (place_of_task w.tree n) ≡ Some t → AllGoBack (scope_of w.tree t).names → IsCallable (forms_by true keeping w.tree task) w n args
+    calls_handed at back =
+        (at, all_met keeping (Some y) w args (task_code w.tree t).needs met, all_parted keeping y w args (pairs_in (scope_of w.tree t).known) parted, back)
 
 -- with regions that are handed over, or without
 pub may_call : (handing keeping : Bool) (task : TaskTree) (w : Where) → IsSound w.tree → IsSoundTask w.tree task → (m : Marked) → IsLocalTree handing keeping m w.tree →
@@ -363,6 +365,6 @@ pub may_call : (handing keeping : Bool) (task : TaskTree) (w : Where) → IsSoun
     ArePassed (forms_by handing keeping w.tree task) w (params_at w.tree w.scope (task_named w.tree n) args) (param_types w.tree (task_named w.tree n)) args →
     IsCallable (forms_by handing keeping w.tree task) w n args
 may_call false keeping task w sound sound_task m local scope names head n args l told parts passed =
-    (l.called, subst (AreMet keeping None w args) (sym (l.alone refl).needs) tt, tt)
+    (l.called, subst (AreMet keeping None w args) (sym (l.alone refl).needs) tt, tt, l.back)
 may_call true keeping task w sound sound_task m local scope names head n args l told parts passed =
-    calls_handed keeping task w sound sound_task m scope names head n args told parts (sound.tasks (task_named w.tree n) l.stands) local.named passed l.called
+    calls_handed keeping task w sound sound_task m scope names head n args told parts (sound.tasks (task_named w.tree n) l.stands) local.named passed l.called l.back

@@ -20,18 +20,24 @@ use Rattle.check_laws.specs.SoundScopes.{Falls}
 use Rattle.check_rules.specs.types.Sorts.{is_region, type_at}
 use Rattle.code_rules.specs.Slots.{Where, bound, typed}
 use Rattle.code_laws.specs.Arguments.{AreOneColour, IsCutName, IsHanded, IsHandedPart, name_at, name_of, one_name, one_number, part_at, part_of, parent_bound}
+use Rattle.code_laws.specs.Pointers.{Passes, passes_plain, passes_pointer}
 use Rattle.code_laws.specs.Simple.{AreRegions, IsSimple, IsRegion, a_region_type, simple_index, simple_integer, simple_space, simple_truth, term_in}
 use Rattle.code_laws.specs.Steps.{Forms, Taking}
 use Rattle.code_laws.specs.Typed.{ArePassed, IsIndexed, IsPassed, IsTyped}
 use Rattle.code_laws.proofs.Arguments.{handed_name, handed_part}
 use Rattle.code_laws.proofs.Typing.{no_way_back}
-use Rattle.code_laws.proofs.Wider.{going, into_simple}
+use Rattle.code_laws.proofs.Wider.{into_simple, passing}
 
 simple_sort : (t : StaticType) → IsSimple t → is_region t ≡ true → ⊥
 simple_sort _ (simple_integer w) e = no_way_back e
 simple_sort _ simple_truth e = no_way_back e
 simple_sort _ (simple_space k) e = no_way_back e
 simple_sort _ (simple_index k) e = no_way_back e
+
+-- what is given so is no region
+passed_sort : (t u p : StaticType) → Passes t u p → is_region p ≡ true → ⊥
+passed_sort t _ _ (passes_plain _ u goes) e = simple_sort u (into_simple t u goes) e
+passed_sort _ _ _ (passes_pointer _ k sp args brgs rs qs n same) e = no_way_back e
 
 -- a name is that of what it is bound to
 bound_name : (bs : List Bound) (n : Name) → is_bound bs n ≡ true → (bound_to bs n).name ≡ n
@@ -72,7 +78,7 @@ module _ (forms : Forms) (y : Taking) (takes : forms.takes ≡ Some y) (w : Wher
 
   handed_first : (t p : StaticType) (e : Expression) (es : Expressions) → is_region p ≡ true →
       IsPassed forms w t p e (IsTyped forms w e) (IsIndexed forms w e) → IsGivenAt (an_expr e es) 0 p
-  handed_first t p e es region (inl c) = absurd (simple_sort p (subst IsSimple c.1 (into_simple (typed w e) t (going forms.keeps (typed w e) t c.0))) region)
+  handed_first t p e es region (inl c) = absurd (passed_sort (typed w e) t p (passing forms.keeps (typed w e) t p c.0) region)
   handed_first t p e es region (inr (inl h)) =
       let n = handed_name y w t p e (subst (λ o. IsHanded o w t p e) takes h) in
       inl (record { name = n.0; at = ap name_of n.1; there = n.2; regions = n.4 })

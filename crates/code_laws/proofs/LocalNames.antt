@@ -4,7 +4,8 @@ use Rattle.std.specs.Prelude.{Some, bytes_eq, length, slice_get, ◌||◌, ◌++
 use Rattle.std.proofs.lemmas.Bool.{not-true, or_parts}
 use Rattle.std.proofs.lemmas.Slice.Eq.{bytes_eq-Decides}
 use Rattle.regent_tree.specs.Lookup.{has_field, has_task, is_bound}
-use Rattle.regent_tree.specs.Scopes.{bound_as, bound_to}
+use Rattle.regent_tree.specs.Scopes.{bound_as, bound_to, scope_of}
+use Rattle.code_laws.specs.Pointers.{AllGoBack}
 use Rattle.regent_tree.proofs.Members.{Has}
 use Rattle.regent_tree.specs.StaticTypes.{Reach, field_place, field_term, space_at, task_named}
 use Rattle.regent_tree.specs.Syntax.{Name, TaskTree, Tree}
@@ -46,12 +47,14 @@ pub record IsAlone (tree : Tree) (t : TaskTree) : Type 0 where
   pub needs : (task_code tree t).needs ≡ []
   pub params : AreScalars (param_types tree t)
 
--- a task that is called takes numbers, truths, regions and indices, and gives numbers and truths
+-- a task that is called takes numbers, truths, regions, indices, index spaces and pointers, which go to parameters before them, and gives
+-- numbers and truths
 pub record IsLocalTask (handing keeping : Bool) (tree : Tree) (n : Name) : Type 0 where
   pub stands : StandsIn tree (task_named tree n)
   pub called : slice_get (tasks_of tree) (place_of_task tree n) ≡ Some (task_named tree n)
   pub params : AreTakable keeping (param_types tree (task_named tree n))
   pub result : is_scalar_if_said (task_named tree n).result ≡ true
+  pub back : AllGoBack (scope_of tree (task_named tree n)).names
   pub alone : handing ≡ false → IsAlone tree (task_named tree n)
 
 -- Fields are numbers and truths, or indices or pointers and marked so, few, and each has a name of its own; their pointers go

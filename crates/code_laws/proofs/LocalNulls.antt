@@ -48,6 +48,7 @@ use Rattle.code_laws.specs.Simple.{IsScalar, number_index, number_integer, scala
 use Rattle.code_laws.specs.Steps.{Forms}
 use Rattle.code_laws.proofs.KnownHeads.{KnowsHead}
 use Rattle.code_laws.proofs.LocalElements.{region_among, region_found, region_of_space, region_typed}
+use Rattle.code_laws.proofs.LocalParams.{names_keep}
 use Rattle.code_laws.proofs.LocalNames.{AllKept, IsKept, IsLocalTree, kept_partition, kept_region, kept_scalar, kept_value, named_kept}
 use Rattle.code_laws.proofs.LocalPoints.{IsWell, local_known, scalar_well}
 use Rattle.code_laws.proofs.LocalTypes.{term_scalar}
@@ -123,14 +124,6 @@ module _ (keeping : Bool) (m : Marked) (keeps : m.keeps ≡ true → keeping ≡
       ((is.among, is.in_space, more.0), (is.there.0, is.there.1, is.there.2, more.1), more.2)
   named_all p (Wild ∷ rs) goes space right = absurd (no_way_back goes)
 
-  -- there is a name in the list, so pointers are kept
-  keeps_some : (rs : List Ref) → goes_to_names m rs ≡ true → (keeping ≡ true) × (list_all (goes_to_name m) rs ≡ true)
-  keeps_some (Named n ∷ rs) goes =
-      let one = (and_parts (takes_element m n) (list_all (goes_to_name m) rs) goes).0 in
-      (keeps (and_parts m.keeps (is_among m.regions n && not (is_among m.partitions n)) one).0, goes)
-  keeps_some (Wild ∷ rs) goes = absurd (no_way_back goes)
-  keeps_some [] goes = absurd (no_way_back goes)
-
   pub pointer_said : (p : PointerTerm) → goes_to_names m p.regions ≡ true → first_in_type tree s.names (term.Pointer p) ≡ None →
       IsSaid (written_pointer tree (in_scope s) p)
   pointer_said p goes e =
@@ -140,7 +133,8 @@ module _ (keeping : Bool) (m : Marked) (keeps : m.keeps ≡ true → keeping ≡
       let bound = or_parts (not (has_space tree p.space.name) || list_any (misses_region s.names) p.space.args) (list_any (misses_region s.names) p.regions)
       (rule_none (unbound_name_in_type tree s.names (term.Pointer p)) rule.Name a.0) in
       let space = not-false (has_space tree p.space.name) (or_parts (not (has_space tree p.space.name)) (list_any (misses_region s.names) p.space.args) bound.0).0 in
-      let some = keeps_some p.regions goes in
+      let named = names_keep m p.regions goes in
+      let some : (keeping ≡ true) × (list_all (goes_to_name m) p.regions ≡ true) = (keeps named.0, named.1) in
       let named = named_all p p.regions some.1 space (rule_none (wrong_region_in_type tree s.names (term.Pointer p)) rule.Pointer c.0) in
       let reaches = map (looked_up (in_scope s)) p.regions in record {
         keep = some.0;

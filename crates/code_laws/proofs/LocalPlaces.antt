@@ -60,7 +60,7 @@ use Rattle.code_laws.proofs.LocalNames.{AllKept, IsKept, IsLocalTree, kept_parti
 -- ---- the regions of fields' pointers
 
 -- a region that is bound with a number
-region_numbered : (bs : List Bound) (i : ℕ) → is_region (bound_as bs i).static_type ≡ true → Has bs (bound_as bs i) × ((bound_as bs i).number ≡ i)
+pub region_numbered : (bs : List Bound) (i : ℕ) → is_region (bound_as bs i).static_type ≡ true → Has bs (bound_as bs i) × ((bound_as bs i).number ≡ i)
 region_numbered [] i e = absurd (no_way_back e)
 region_numbered (b ∷ bs) i e = chosen (b.number == i) refl (region_numbered bs i) e
   where
@@ -93,7 +93,7 @@ module _ (keeping : Bool) (m : Marked) (bs : List Bound) (names : AllKept keepin
   own_among (d ∷ c) b a (inr h) e = own_among c b a.1 h e
 
   -- regions that are named by their numbers, of a field space
-  named_among : (sp : ℕ) (rs : List Reach) → All (NamesRegionOf bs sp) rs → AreAmong bs sp rs
+  pub named_among : (sp : ℕ) (rs : List Reach) → All (NamesRegionOf bs sp) rs → AreAmong bs sp rs
   named_among sp [] a = tt
   named_among sp (None ∷ rs) a = named_among sp rs (All-tail (NamesRegionOf bs sp) None rs a)
   named_among sp (Some (place.Child p c) ∷ rs) a = absurd (All-head (NamesRegionOf bs sp) (Some (place.Child p c)) rs a)

@@ -30,6 +30,7 @@ use Rattle.code_laws.specs.Programs.{AreTypedTasks, IsGiven, IsTypedRun, call_fo
 use Rattle.code_laws.proofs.LocalBlocks.{block_local}
 use Rattle.code_laws.proofs.DeclaredNeeds.{needs_none}
 use Rattle.code_laws.proofs.KnownHeads.{IsReady, head_begins}
+use Rattle.code_laws.proofs.LocalParams.{behind_all}
 use Rattle.code_laws.proofs.LocalTrees.{IsHead, IsOfForm, TakesScalars, begins_kept, local_tree, item_of_form, item_stands, params_tell, task_stands}
 use Rattle.code_laws.proofs.LocalTypes.{term_scalar}
 use Rattle.code_laws.proofs.Openings.{params_length, types_length}
@@ -122,7 +123,8 @@ module _ (handing keeping : Bool) (tree : Tree) (inputs : List ℤ) (p : IsLocal
       let local = local_tree handing keeping tree t k.marks k.fields k.assigns p.within p.accepted p.local alone no_index heads in
       let ready : IsReady keeping tree t k.marks (scope_of tree t) =
       record {
-        names = begins_kept keeping tree t k.marks k.regions k.params;
+        names = begins_kept keeping tree t k.marks k.regions k.params k.assigns
+            (behind_all tree t p.accepted p.within (item_stands tree item s.1 t s.2) is.back);
         head = record {
           facts = head_begins tree t told.sound_task (params_tell keeping tree t (heads item s.1 t s.2));
           spaced = body_begins tree p.accepted p.within t (item_stands tree item s.1 t s.2);

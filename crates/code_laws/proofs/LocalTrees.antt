@@ -1,6 +1,6 @@
 -- What an accepted program has whose tasks hand regions over by name: its field spaces and its tasks.
 use Rattle.std.proofs.Common.{◌≡◌, Bool, List, [], ◌∷◌, ◌++◌, None, Some, true, false, refl, ap, sym, subst, ◌∙◌, ℕ, zero, suc, ◌≤◌, ◌<◌, ◌+◌, inl, inr, arith, cond}
-use Rattle.std.specs.Prelude.{bytes_eq, get_or, length, map, slice_get, ◌||◌, ◌&&◌}
+use Rattle.std.specs.Prelude.{bytes_eq, get_or, length, map, slice_get}
 use Rattle.std.specs.List.{list_any}
 use Rattle.std.proofs.lemmas.Bool.{and_parts, or_parts}
 use Rattle.std.proofs.lemmas.Option.{none-some, same_Some}
@@ -9,7 +9,7 @@ use Rattle.plain_values.proofs.Plain.{option_or_parts}
 use Rattle.regent_tree.proofs.Members.{Contains-from_Has, Has, Has-map}
 use Rattle.regent_tree.specs.Limits.{WithinLimits, counted, parts_of_item, parts_of_program}
 use Rattle.regent_tree.specs.Scopes.{bound_params, known_of_type, scope_of}
-use Rattle.regent_tree.specs.StaticTypes.{Looking, among_params, looked_up, place_in, place_of_space, space_at, spaces_of, task_named, type_said}
+use Rattle.regent_tree.specs.StaticTypes.{place_in, space_at, spaces_of, task_named}
 use Rattle.regent_tree.specs.Syntax.{Arms, Block, Expression, Form, ItemForm, ItemTree, Name, Otherwise, TaskTree, Tree, a_statement, alias_item, an_arm, both_initializer, by_field_initializer, do_form, either_initializer, else_block, equal_initializer, for_in_form, for_to_form, if_form, image_initializer, import_item, no_arm, no_else, no_statement, plain_initializer, preimage_initializer, region_initializer, space_item, start_item, task_item, then_statement, var_form, while_form}
 use Rattle.regent_tree.specs.declared.limits.Counted.TheVariants.{Fields}
 use Rattle.regent_tree.specs.declared.program.FieldSpace.{FieldSpace}
@@ -19,7 +19,6 @@ use Rattle.regent_tree.specs.declared.types.NumberTerm.TheVariants as number
 use Rattle.regent_tree.specs.declared.types.TypeTerm.TheVariants as term
 use Rattle.regent_tree.specs.declared.typing.Bound.{Bound}
 use Rattle.regent_tree.specs.declared.typing.StaticType.{StaticType}
-use Rattle.regent_tree.specs.declared.typing.StaticType.TheVariants.{Index as index_type, Ispace as ispace_type}
 use Rattle.check_laws.proofs.Entries.{no_line, none_left}
 use Rattle.check_laws.proofs.Parameters.{place_step}
 use Rattle.check_laws.proofs.Trees.{declared_none, none_of}
@@ -29,14 +28,14 @@ use Rattle.check_rules.specs.first.FirstInItems.{first_declared, first_line}
 use Rattle.check_rules.specs.rules.Repeats.{Given, given_by, repeats, repeats_after, repeats_within, was_given}
 use Rattle.check_rules.specs.scopes.Sound.{StandsIn}
 use Rattle.code_rules.specs.Instructions.{tasks_of}
-use Rattle.local_form.specs.LocalForm.{Marked, are_local_params, are_scalar_params, is_among, is_index_or_space, is_local_param, is_local_block, is_local_item, is_local_program, is_local_task, gives_pointer, gives_scalar, is_difference, is_region_name, is_region_term, marked_by, marked_by_arms, marked_by_else, marked_by_items, marked_by_task, marked_by_term, marked_in, marked_param, marked_params, unmarked, with_either, with_index, with_partition, with_region}
+use Rattle.local_form.specs.LocalForm.{Marked, all_go_back, are_local_params, are_scalar_params, is_among, is_local_param, is_local_block, is_local_item, is_local_program, is_local_task, gives_pointer, gives_scalar, is_difference, is_region_name, marked_by, marked_by_arms, marked_by_else, marked_by_items, marked_by_task, marked_by_term, marked_in, marked_params, unmarked, with_either, with_partition}
 use Rattle.state_laws.proofs.Texts.{declarations_are}
 use Rattle.code_laws.proofs.LocalFields.{fields_of}
-use Rattle.code_laws.specs.Simple.{IsScalar, a_region_type, scalar_integer, scalar_truth, simple_index, simple_space}
-use Rattle.code_laws.proofs.LocalMarks.{HasFieldTerms, among_added, among_left, space_terms}
-use Rattle.code_laws.proofs.LocalNames.{AllKept, AreScalars, AreTakable, IsAlone, IsKept, IsLocalTree, kept_before, kept_region, kept_scalar, kept_value}
-use Rattle.code_laws.proofs.LocalTypes.{IsTakable, takable_index, takable_region, takable_scalar, takable_space, term_scalar}
-use Rattle.code_laws.proofs.LocalValues.{value_simple}
+use Rattle.code_laws.specs.Simple.{IsScalar, a_region_type, scalar_integer, scalar_truth}
+use Rattle.code_laws.proofs.LocalMarks.{HasFieldTerms, among_left, space_terms}
+use Rattle.code_laws.proofs.LocalNames.{AllKept, AreScalars, AreTakable, IsAlone, IsLocalTree}
+use Rattle.code_laws.proofs.LocalParams.{AllBehind, all_back, all_kept, behind_all, marked_region, term_takable}
+use Rattle.code_laws.proofs.LocalTypes.{IsTakable, takable_index, takable_pointer, takable_region, takable_scalar, takable_space, term_scalar}
 use Rattle.code_laws.proofs.Openings.{types_cons, types_in}
 use Rattle.code_laws.proofs.Entries.{all_of, found, kept_all, kept_item, no_clauses}
 use Rattle.code_laws.proofs.Typing.{AllScalar, AreKept, no_way_back}
@@ -89,6 +88,7 @@ item_stands tree i h t same = Contains-from_Has (map (λ (i : ItemTree). i.form)
 
 -- the parts of a task of the form
 pub record IsOfForm (tree : Tree) (t : TaskTree) : Type 0 where
+  pub back : all_go_back unmarked t.params ≡ true
   pub params : are_local_params (marked_by_task tree t) t.params ≡ true
   pub result : is_scalar_if_said t.result ≡ true
   pub body : is_local_block (marked_by_task tree t) t.body ≡ true
@@ -101,75 +101,14 @@ pub record IsHead (keeping : Bool) (t : TaskTree) : Type 0 where
 
 task_of_form : (tree : Tree) (t : TaskTree) → is_local_task tree t ≡ true → IsOfForm tree t
 task_of_form tree t e =
-    let one = and_parts (are_local_params (marked_by_task tree t) t.params) _ e in
+    let first = and_parts (all_go_back unmarked t.params) _ e in
+    let one = and_parts (are_local_params (marked_by_task tree t) t.params) _ first.1 in
     let two = and_parts (is_scalar_if_said t.result) (is_local_block (marked_by_task tree t) t.body) one.1 in
-    record { params = one.0; result = two.0; body = two.1 }
+    record { back = first.0; params = one.0; result = two.0; body = two.1 }
 
 pub item_of_form : (tree : Tree) → is_local_program tree ≡ true → (i : ItemTree) → Has tree i → (t : TaskTree) → i.form ≡ task_item t → IsOfForm tree t
 item_of_form tree e i h t same =
     task_of_form tree t (subst (λ form. is_local_item tree form ≡ true) same (all_of (λ i. is_local_item tree i.form) tree e i h))
-
--- ---- parameters
-
--- what a parameter takes, by its type
-term_takable : (keeping x : Bool) (t : TypeTerm) → (is_scalar_term t || (is_region_term t || (is_index_or_space t && x))) ≡ true → (x ≡ true → keeping ≡ true) →
-    (tree : Tree) (look : Looking) (own : ℕ) → IsTakable keeping (type_said tree look own t)
-term_takable keeping x (term.Region k u) e keeps tree look own = takable_region _ (a_region_type k _ _ _)
-term_takable keeping x (term.Number number.Int32) e keeps tree look own = takable_scalar _ (term_scalar (term.Number number.Int32) refl tree look own)
-term_takable keeping x (term.Number number.Int64) e keeps tree look own = takable_scalar _ (term_scalar (term.Number number.Int64) refl tree look own)
-term_takable keeping x (term.Number (number.Index k)) e keeps tree look own = takable_index k (keeps e)
-term_takable keeping x term.Truth e keeps tree look own = takable_scalar _ scalar_truth
-term_takable keeping x (term.Pointer p) e keeps tree look own = absurd (no_way_back e)
-term_takable keeping x (term.Ispace k) e keeps tree look own = takable_space k (keeps e)
-term_takable keeping x (term.Partition d r c) e keeps tree look own = absurd (no_way_back e)
-
--- the marks of parameters
-marked_later : (ps : List Param) (m : Marked) (n : Name) → is_among m.regions n ≡ true → is_among (marked_params ps m).regions n ≡ true
-marked_later [] m n h = h
-marked_later (p ∷ ps) m n h = marked_later ps (marked_param p m) n (chosen (is_region_term p.term) (is_index_or_space p.term))
-  where
-    chosen : (b c : Bool) → is_among (cond b (with_region p.name m) (cond c (with_index p.name m) m)).regions n ≡ true
-    chosen true c = among_left m.regions (p.name ∷ []) n h
-    chosen false true = h
-    chosen false false = h
-
-marked_region : (ps : List Param) (m : Marked) (p : Param) → Has ps p → is_region_term p.term ≡ true → is_among (marked_params ps m).regions p.name ≡ true
-marked_region [] m p h e = absurd h
-marked_region (q ∷ ps) m p (inr h) e = marked_region ps (marked_param q m) p h e
-marked_region (q ∷ ps) m p (inl same) e =
-    let here : is_region_term q.term ≡ true = ap (λ (x : Param). is_region_term x.term) same ∙ e in
-    marked_later ps (marked_param q m) p.name
-    (subst (λ b. is_among (cond b (with_region q.name m) (cond (is_index_or_space q.term) (with_index q.name m) m)).regions p.name ≡ true) (sym here)
-    (among_added m.regions q.name p.name (ap (λ (x : Param). x.name) same)))
-
-module _ (keeping : Bool) (tree : Tree) (all : List Param) (m : Marked) where
-  -- a parameter is kept as what its mark says
-  param_kept : (bs : List Bound) (p : Param) (i : ℕ) (t : TypeTerm) → p.term ≡ t →
-      (is_scalar_term t || (is_region_term t || (is_index_or_space t && (m.keeps && is_among m.indices p.name)))) ≡ true →
-      (is_region_term p.term ≡ true → is_among m.regions p.name ≡ true) → IsKept keeping m bs p.name i (type_said tree (among_params all) i t)
-  param_kept bs p i (term.Region k u) same e marked =
-      kept_region k (place_of_space tree u.name) (map (looked_up (among_params all)) u.args) (marked (ap is_region_term same))
-  param_kept bs p i (term.Number number.Int32) same e marked = kept_scalar _ (term_scalar (term.Number number.Int32) refl tree (among_params all) i)
-  param_kept bs p i (term.Number number.Int64) same e marked = kept_scalar _ (term_scalar (term.Number number.Int64) refl tree (among_params all) i)
-  param_kept bs p i (term.Number (number.Index k)) same e marked =
-      kept_value (index_type k) (value_simple (index_type k) (simple_index k)) (and_parts m.keeps (is_among m.indices p.name) e).1 (λ q. absurd (no_way_back q))
-  param_kept bs p i term.Truth same e marked = kept_scalar _ scalar_truth
-  param_kept bs p i (term.Pointer q) same e marked = absurd (no_way_back e)
-  param_kept bs p i (term.Ispace k) same e marked =
-      kept_value (ispace_type k) (value_simple (ispace_type k) (simple_space k)) (and_parts m.keeps (is_among m.indices p.name) e).1 (λ q. absurd (no_way_back q))
-  param_kept bs p i (term.Partition d r c) same e marked = absurd (no_way_back e)
-
-  kept_behind_all : (bs : List Bound) (b : Bound) → AllKept keeping m bs → IsKept keeping m [] b.name b.number b.static_type → AllKept keeping m (bs ++ b ∷ [])
-  kept_behind_all [] b a k = (k, tt)
-  kept_behind_all (c ∷ bs) b a k = (kept_before keeping m bs (b ∷ []) c.name c.number c.static_type a.0, kept_behind_all bs b a.1 k)
-
-  pub params_kept : (i : ℕ) (ps : List Param) → are_local_params m ps ≡ true →
-      ((p : Param) → Has ps p → is_region_term p.term ≡ true → is_among m.regions p.name ≡ true) → AllKept keeping m (bound_params tree all i ps)
-  params_kept i [] e marked = tt
-  params_kept i (p ∷ ps) e marked =
-      let both = and_parts (is_local_param m p) (are_local_params m ps) e in
-      kept_behind_all (bound_params tree all (suc i) ps) _ (params_kept (suc i) ps both.1 (λ q h. marked q (inr h)))
-      (param_kept [] p i p.term refl both.0 (marked p (inl refl)))
 
 -- a variable of a written type marks no region
 term_regions : (k : Name) (t : TypeTerm) (m : Marked) → (marked_by_term k t m).regions ≡ m.regions
@@ -235,10 +174,10 @@ module _ (n : Name) where
 
 -- so where a task begins
 pub begins_kept : (keeping : Bool) (tree : Tree) (t : TaskTree) (m : Marked) → m.regions ≡ (marked_by_task tree t).regions → are_local_params m t.params ≡ true →
-    AllKept keeping m (scope_of tree t).names
-begins_kept keeping tree t m same e = params_kept keeping tree t.params m 0 t.params e
+    (m.keeps ≡ true → keeping ≡ true) → AllBehind tree t.params 0 t.params → AllKept keeping m (scope_of tree t).names
+begins_kept keeping tree t m same e keeps behind = all_kept keeping tree t.params m keeps e
     (λ p h r. subst (λ rs. is_among rs p.name ≡ true) (sym same)
-    (marks_stay_in p.name t.body (marked_params t.params (marked_by_items tree unmarked)) (marked_region t.params (marked_by_items tree unmarked) p h r)))
+    (marks_stay_in p.name t.body (marked_params t.params (marked_by_items tree unmarked)) (marked_region t.params (marked_by_items tree unmarked) p h r))) behind
 
 module _ (keeping : Bool) where
   abbrev AllTakable : List Bound → Type 0
@@ -255,7 +194,7 @@ module _ (keeping : Bool) where
   params_takable m keeps tree all i (p ∷ ps) e =
       let both = and_parts (is_local_param m p) (are_local_params m ps) e in
       takable_behind (bound_params tree all (suc i) ps) _ (params_takable m keeps tree all (suc i) ps both.1)
-      (term_takable keeping (m.keeps && is_among m.indices p.name) p.term both.0 (λ q. keeps (and_parts m.keeps (is_among m.indices p.name) q).0) tree (among_params all) i)
+      (term_takable keeping tree all m p.name p.term both.0 keeps i)
 
   -- what such a parameter is tells nothing of regions
   takable_tells : (t : StaticType) → IsTakable keeping t → known_of_type t ≡ []
@@ -264,6 +203,7 @@ module _ (keeping : Bool) where
   takable_tells _ (takable_region _ (a_region_type k sp args r)) = refl
   takable_tells _ (takable_index k q) = refl
   takable_tells _ (takable_space k q) = refl
+  takable_tells _ (takable_pointer k sp args rs q) = refl
 
   all_tell : (bs : List Bound) → AllTakable bs → (b : Bound) → Has bs b → known_of_type b.static_type ≡ []
   all_tell [] a b h = absurd h
@@ -374,6 +314,8 @@ local_tree handing keeping tree task m fields keeps within none e alone plain he
             types_takable keeping (scope_of tree (task_named tree n)).names
             (params_takable keeping h.marks h.keeps tree (task_named tree n).params 0 (task_named tree n).params h.params);
         result = t.result;
+        back = let own = task_named tree n in
+            all_back tree own.params (behind_all tree own none within (item_stands tree f.stands.0 f.stands.1 own f.stands.2) t.back);
         alone = λ q. task_alone tree (task_named tree n) (alone q f.stands.0 f.stands.1 (task_named tree n) f.stands.2);
       };
 }

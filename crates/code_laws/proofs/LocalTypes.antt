@@ -2,7 +2,7 @@
 use Rattle.std.proofs.Common.{◌≡◌, Bool, List, false, true, refl, sym, subst, map, ℕ, not, inl, inr, ◌⊎◌, ⊎_elim}
 use Rattle.std.specs.Prelude.{◌||◌, ◌&&◌, ◌==◌}
 use Rattle.std.proofs.lemmas.Bool.{and_parts, eqb-true, not-false}
-use Rattle.regent_tree.specs.StaticTypes.{Looking, kind_said, type_said}
+use Rattle.regent_tree.specs.StaticTypes.{Reach, Looking, kind_said, type_said}
 use Rattle.regent_tree.specs.Syntax.{Tree}
 use Rattle.regent_tree.specs.Typing.{are_pointers, counting_as, operated, owned, put}
 use Rattle.regent_tree.specs.declared.expression.Arithmetic.{Arithmetic}
@@ -15,7 +15,7 @@ use Rattle.regent_tree.specs.declared.types.NumberTerm.TheVariants as number
 use Rattle.regent_tree.specs.declared.types.TypeTerm.{TypeTerm}
 use Rattle.regent_tree.specs.declared.types.TypeTerm.TheVariants as term
 use Rattle.regent_tree.specs.declared.typing.StaticType.{StaticType}
-use Rattle.regent_tree.specs.declared.typing.StaticType.TheVariants.{Index as index_type, Region as region_type, Truth as truth_type, Ispace as ispace_type}
+use Rattle.regent_tree.specs.declared.typing.StaticType.TheVariants.{Index as index_type, Region as region_type, Truth as truth_type, Ispace as ispace_type, Pointer as pointer_type}
 use Rattle.check_rules.specs.rules.Standing.{param_spot, stands}
 use Rattle.check_rules.specs.rules.Types.{compares_with, computes_with, has_equality_with, has_order_with, may_stand}
 use Rattle.check_rules.specs.rules.Spaces.{differs}
@@ -115,12 +115,13 @@ param_fitting known _ _ (simple_space k) scalar_truth e = absurd (no_way_back e)
 param_fitting known _ _ (simple_index k) (scalar_integer w) e = absurd (no_way_back e)
 param_fitting known _ _ (simple_index k) scalar_truth e = absurd (no_way_back e)
 
--- a number or truth, or a region, is taken by a parameter, and an index or an index space where these are kept
+-- a number or truth, or a region, is taken by a parameter, and an index, an index space or a pointer where these are kept
 pub data IsTakable (keeping : Bool) : StaticType → Type 0 where
   takable_scalar : (t : StaticType) → IsScalar t → IsTakable keeping t
   takable_region : (t : StaticType) → IsRegion t → IsTakable keeping t
   takable_index : (k : Kind) → keeping ≡ true → IsTakable keeping (index_type k)
   takable_space : (k : Kind) → keeping ≡ true → IsTakable keeping (ispace_type k)
+  takable_pointer : (k : Kind) (sp : ℕ) (args rs : List Reach) → keeping ≡ true → IsTakable keeping (pointer_type k sp args rs)
 
 -- neither fits where the other is wanted
 pub simple_for_region : (known : List Known) (t wanted : StaticType) → IsSimple t → IsRegion wanted →
@@ -135,6 +136,10 @@ region_for_index known _ k (a_region_type j sp args r) e = no_way_back e
 
 pub region_for_space : (known : List Known) (t : StaticType) (k : Kind) → IsRegion t → may_stand known (stands t (param_spot (ispace_type k))) ≡ true → ⊥
 region_for_space known _ k (a_region_type j sp args r) e = no_way_back e
+
+pub region_for_pointer : (known : List Known) (t : StaticType) (k : Kind) (sp : ℕ) (args rs : List Reach) → IsRegion t →
+    may_stand known (stands t (param_spot (pointer_type k sp args rs))) ≡ true → ⊥
+region_for_pointer known _ k sp args rs (a_region_type j sq brgs r) e = no_way_back e
 
 pub region_for_scalar : (known : List Known) (t wanted : StaticType) → IsRegion t → IsScalar wanted →
     may_stand known (stands t (param_spot wanted)) ≡ true → ⊥

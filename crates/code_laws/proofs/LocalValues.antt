@@ -32,7 +32,7 @@ use Rattle.check_rules.specs.types.KnownTypes.{known_type_after_operator}
 use Rattle.check_rules.specs.types.Sorts.{is_collection, is_integer, is_number, is_partition, is_region, is_space, is_truth, is_unknown_type, may_be}
 use Rattle.check_rules.specs.types.TypedForms.{computing}
 use Rattle.code_rules.specs.Slots.{Where, typed}
-use Rattle.code_laws.specs.Pointers.{AreNames, AreThere, Assigned, BeginsAs, BeginsWith, ConvertsTo, CountsAs, FillsInto, FitsInto, IsAssigned, IsCompared, IsPointer, IsRead, SignedAs, assigned_plain, assigned_pointer, begins_plain, compared_different, compared_equal, compared_left, compared_plain, compared_right, a_pointer_type, counts_number, counts_pointer, filled_plain, fills_alike, fills_index, into_index, into_plain, itself_plain, signs_plain, term_integer, zero_scalar}
+use Rattle.code_laws.specs.Pointers.{AreNames, AreThere, Assigned, BeginsAs, BeginsWith, ConvertsTo, CountsAs, FillsInto, IsAssigned, IsCompared, IsPointer, IsRead, Passes, PassesInto, SignedAs, passes_plain, assigned_plain, assigned_pointer, begins_plain, compared_different, compared_equal, compared_left, compared_plain, compared_right, a_pointer_type, counts_number, counts_pointer, filled_plain, fills_alike, fills_index, into_index, into_plain, itself_plain, signs_plain, term_integer, zero_scalar}
 use Rattle.code_laws.specs.Simple.{AreAlike, AreComparable, IsInteger, IsIntegerTerm, IsNumber, IsRegion, IsScalar, IsSimple, IsSpace, IsTruth, SignsFit, a_region_type, number_index, number_integer, scalar_integer, scalar_truth, simple_index, simple_integer, simple_space, simple_truth, term_in, IsPartition, a_partition_type}
 use Rattle.code_laws.specs.Typed.{IsKeepable, LoopsOver}
 use Rattle.code_laws.proofs.LocalTypes.{either, number_is, operated_simple, owned_simple, param_fitting, simple_as_domain, simple_as_integer, simple_as_number, simple_as_space, simple_as_truth, simple_compared, simple_computed, simple_fitting, simple_for_region, simple_is_no_region, simple_known, simple_no_partition}
@@ -317,9 +317,9 @@ pub signs_as : (b : Bool) (t : StaticType) (ss : List Sign) → SignsFit t ss �
 signs_as false t ss p = p
 signs_as true t ss p = signs_plain t ss p
 
-pub alike_fits : (b : Bool) (t u : StaticType) → AreAlike t u → FitsInto b t u
-alike_fits false t u p = p
-alike_fits true t u p = into_plain t u (fills_alike t u p)
+pub alike_passes : (b : Bool) (t u p : StaticType) → AreAlike t u → u ≡ p → PassesInto b t u p
+alike_passes false t u p a e = (a, e)
+alike_passes true t u p a e = subst (Passes t u) e (passes_plain t u (into_plain t u (fills_alike t u a)))
 
 pub alike_filled : (b : Bool) (t u : StaticType) → AreAlike t u → FillsInto b t u
 alike_filled false t u p = p

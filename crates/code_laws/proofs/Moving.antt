@@ -63,13 +63,13 @@ position_small known to a = by (has_wild to) a
     by false None = omega arith
     by false (Some a) = omega (arith, least_small known a 0 to)
 
-positions_small : (known : List Known) (from to : List Reach) (m : ℕ) → get_or (positions known from to) m 0 ≤ length to
+pub positions_small : (known : List Known) (from to : List Reach) (m : ℕ) → get_or (positions known from to) m 0 ≤ length to
 positions_small known [] to zero = omega arith
 positions_small known [] to (suc m) = omega arith
 positions_small known (a ∷ from) to zero = position_small known to a
 positions_small known (a ∷ from) to (suc m) = positions_small known from to m
 
-positions_many : (known : List Known) (from to : List Reach) → length (positions known from to) ≡ length from
+pub positions_many : (known : List Known) (from to : List Reach) → length (positions known from to) ≡ length from
 positions_many known from to = length-map from (λ a. cond (has_wild to) 0 (position_of known to a))
 
 moved_small : (js : List ℕ) (m n : ℕ) (tg : Target) → ((c : ℕ) → get_or js c 0 ≤ n) → IsPosition m tg → IsPosition n (moved js tg)
@@ -92,7 +92,7 @@ module _ (x : Setting) (params slots : ℕ) (fit : SlotsFit x slots) (aside : As
       (ap (λ t. on_step x j (move js t st (machine_of j))) (kept_round n (suc c) o.0)
       ∙ ap (λ u. on_step x j (moved_to n u st (machine_of j))) (slice_get-get_or js c 0 (omega (arith, many, o.1))))
 
-  move_runs : (h : Here) (js : List ℕ) (m : ℕ) (k : Kind) (sp : ℕ) (args qs : List Reach) (tg : Target) (regions : List Region) (s : State)
+  pub move_runs : (h : Here) (js : List ℕ) (m : ℕ) (k : Kind) (sp : ℕ) (args qs : List Reach) (tg : Target) (regions : List Region) (s : State)
       (pc : ℕ) (st : List MachineValue) (i : Instance) → length js ≡ m → ((n : ℕ) → get_or js n 0 ≤ length qs) → IsPosition m tg →
       Agrees x params slots aside h s i → Stands x.body pc (op (instr.Move js) h.line) →
       Gives x params slots fit aside h (pointer_type k sp args qs) (op (instr.Move js) h.line) pc (machine.Number (kept_target tg) ∷ st) st i

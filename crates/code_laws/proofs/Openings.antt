@@ -41,7 +41,7 @@ use Rattle.code_laws.specs.Standing.{Answering, AreTaken, Agrees, AreOf, AreRead
 use Rattle.code_laws.specs.Steps.{Forms, Setting}
 use Rattle.code_laws.proofs.States.{ready_value}
 use Rattle.code_laws.proofs.Names.{typed_more}
-use Rattle.code_laws.proofs.Pointing.{IsPlain, all_plain}
+use Rattle.code_laws.specs.Pointers.{ArePointed}
 
 -- ---- arguments as a task has them
 
@@ -84,31 +84,6 @@ entered_inside x store s vs (t ∷ ts) (u ∷ us) a b =
     one _ _ (of_partition d r p q) b = b
 entered_inside x store s vs [] (u ∷ us) a b = absurd a
 entered_inside x store s vs (t ∷ ts) [] a b = absurd a
-
--- values that are no pointers go as they are too
-entered_plain : (s : Scope) (vs : List Value) (ts : List StaticType) (us : List Value) → AreTaken IsOf ts us →
-    AreTaken (λ u v. IsPlain v) ts us → AreTaken (λ u v. IsPlain v) ts (entered s vs ts us)
-entered_plain s vs [] [] a b = tt
-entered_plain s vs (t ∷ ts) (u ∷ us) a b = (one t u a.0 b.0, entered_plain s vs ts us a.1 b.1)
-  where
-    one : (t : StaticType) (v : Value) → IsOf t v → IsPlain v → IsPlain (entered_as s vs t v)
-    one _ _ (of_integer w z p) b = tt
-    one _ _ (of_truth v) b = tt
-    one _ _ (of_index k z p) b = tt
-    one _ _ (of_pointer k sp args rs t regions p) b = absurd b
-    one _ _ (of_space k n l) b = tt
-    one _ _ (of_region k sp args r q) b = tt
-    one _ _ (of_partition d r p q) b = absurd b
-entered_plain s vs [] (u ∷ us) a b = absurd a
-entered_plain s vs (t ∷ ts) [] a b = absurd a
-
-plain_at : (ts : List StaticType) (vs : List Value) → AreTaken (λ u v. IsPlain v) ts vs → (k : ℕ) → IsPlain (get_or vs k nothing)
-plain_at [] [] a zero = tt
-plain_at [] [] a (suc k) = tt
-plain_at (t ∷ ts) (v ∷ vs) a zero = a.0
-plain_at (t ∷ ts) (v ∷ vs) a (suc k) = plain_at ts vs a.1 k
-plain_at [] (v ∷ vs) a k = absurd a
-plain_at (t ∷ ts) [] a k = absurd a
 
 -- names in the places of their order
 abbrev pub AreFrom : ℕ → List Bound → Type 0
@@ -170,7 +145,7 @@ types_length [] = refl
 types_length (b ∷ bs) = ap length (types_cons b bs)
     ∙ length-append (types_in bs) (b.static_type ∷ []) ∙ omega (arith, types_length bs)
 
-names_typed : (Holding : StaticType → Value → Type 0) (bs : List Bound) (vs : List Value) → AreFrom 0 bs → AreTaken Holding (types_in bs) vs → AreOf Holding bs vs
+pub names_typed : (Holding : StaticType → Value → Type 0) (bs : List Bound) (vs : List Value) → AreFrom 0 bs → AreTaken Holding (types_in bs) vs → AreOf Holding bs vs
 names_typed Holding [] vs from a = tt
 names_typed Holding (b ∷ bs) vs from a =
     let m = taken_last Holding (types_in bs) b.static_type vs (subst (λ ts. AreTaken Holding ts vs) (types_cons b bs) a) in
@@ -245,12 +220,12 @@ module _ (tree : Tree) (turns more depth : ℕ) (t : TaskTree) (place : ℕ) (vs
   pub opens : (forms : Forms) (calls : Calls) →
       (forms.calls ≡ true → Answering (called_setting forms tree turns more depth (numbers c) args t) tree calls) → AreTaken IsOf (param_types tree t) vs →
       AreTaken (IsInside (called_setting forms tree turns more depth (numbers c) args t) store) (param_types tree t) vs →
-      AreTaken (λ u v. IsPlain v) (param_types tree t) vs → length vs ≤ (task_code tree t).slots → Holds (code_of tree) store (memory_of begins) →
+      ArePointed (scope_of tree t).names (entered (scope_of tree t) vs (param_types tree t) vs) → length vs ≤ (task_code tree t).slots → Holds (code_of tree) store (memory_of begins) →
       ((n : NeedCode) → Contains (needs_taken forms.takes) n → AreCovered (is_asked args n) store (memory_of begins)) →
       AreParts args (pairs_taken forms.takes) → KeepsNumbers tree store →
       Agrees (called_setting forms tree turns more depth (numbers c) args t) (length t.params) (task_code tree t).slots
       (before_all turns) (body_of tree calls t) (opening tree turns t vs store) begins
-  opens forms calls answers takes inside plain room holds given parts kept =
+  opens forms calls answers takes inside pointed room holds given parts kept =
       let x = called_setting forms tree turns more depth (numbers c) args t in
       let code = task_code tree t in
       let sc = scope_of tree t in
@@ -274,7 +249,7 @@ module _ (tree : Tree) (turns more depth : ℕ) (t : TaskTree) (place : ℕ) (vs
         inside_store = names_typed (IsInside x store) sc.names us (params_from tree t.params 0 t.params)
             (entered_inside x store sc vs (param_types tree t) vs takes inside);
         steady = λ k q l e. absurd (omega (arith, l));
-        pointed = all_plain sc.names us (plain_at (param_types tree t) us (entered_plain sc vs (param_types tree t) vs takes plain));
+        pointed = pointed;
         count = taken_length IsOf (param_types tree t) us e.0 ∙ types_length sc.names;
         inside = omega arith;
         slots_are = length-append ms blanks

@@ -55,9 +55,9 @@ simple_pointed bs names t v s o = plain_pointed bs names t v (simple_plain t v s
 pub region_pointed : (bs : List Bound) (names : List Value) (t : StaticType) (v : Value) → IsRegion t → IsOf t v → IsPointed bs names t v
 region_pointed bs names _ _ (a_region_type k sp args r) (of_region _ _ _ _ q) = tt
 
-pub all_plain : (bs : List Bound) (names : List Value) → ((k : ℕ) → IsPlain (get_or names k nothing)) → ArePointed bs names
-all_plain [] names p = tt
-all_plain (b ∷ bs) names p = (plain_pointed bs names b.static_type (get_or names b.place nothing) (p b.place), all_plain bs names p)
+pub all_plain : (bs : List Bound) (names : List Value) → AreOf (λ t v. IsPlain v) bs names → ArePointed bs names
+all_plain [] names a = tt
+all_plain (b ∷ bs) names a = (plain_pointed bs names b.static_type (get_or names b.place nothing) a.1, all_plain bs names a.2)
 
 -- ---- other values
 

@@ -13,7 +13,7 @@ use Rattle.regent_tree.specs.declared.types.TypeTerm.{TypeTerm}
 use Rattle.regent_tree.specs.declared.types.NumberTerm.{NumberTerm}
 use Rattle.regent_tree.specs.declared.types.NumberTerm.TheVariants as number
 use Rattle.regent_tree.specs.declared.types.TypeTerm.TheVariants as term
-use Rattle.local_form.specs.LocalForm.{Marked, converts_to, gives_pointer, is_difference, is_partition_name, keeps_pointer, is_kept_term, is_pointing, marked_by_term, takes_partition_off, takes_value, with_either, with_partition, are_local_arms, are_local_expressions, are_local_links, are_local_params, are_scalar_params, gives_scalar, is_local_block, is_local_else, is_local_expression, is_local_form, is_local_item, is_local_program, is_local_task, is_index_or_space, is_local_param, is_local_with, is_among, is_region_term, links_give, marked_by, marked_by_arms, marked_by_else, marked_by_item, marked_by_items, marked_by_task, marked_in, marked_params, unmarked, with_index, with_region}
+use Rattle.local_form.specs.LocalForm.{Marked, all_go_back, goes_back, is_pointer_term, is_taken_term, marked_param, with_pointer, converts_to, gives_pointer, is_difference, is_partition_name, keeps_pointer, is_kept_term, is_pointing, marked_by_term, takes_partition_off, takes_value, with_either, with_partition, are_local_arms, are_local_expressions, are_local_links, are_local_params, are_scalar_params, gives_scalar, is_local_block, is_local_else, is_local_expression, is_local_form, is_local_item, is_local_program, is_local_task, is_index_or_space, is_local_param, is_local_with, is_region_term, links_give, marked_by, marked_by_arms, marked_by_else, marked_by_item, marked_by_items, marked_by_task, marked_in, marked_params, unmarked, with_index, with_region}
 use Rattle.code_laws.specs.LocalPrograms.{has_no_pointer, keeps_nothing, takes_scalars}
 use Rattle.code_laws.proofs.Typing.{no_way_back}
 use Rattle.scalar_form.specs.ScalarForm.{are_scalar_arms, are_scalar_expressions, are_scalar_links, is_empty, is_scalar_block, is_scalar_else, is_scalar_expression, is_scalar_form, is_scalar_if_said, is_scalar_item, is_scalar_number, is_scalar_program, is_scalar_task, is_scalar_term}
@@ -253,37 +253,59 @@ scalar_task t e =
     record { params = one.0; result = two.0; clauses = three.0; body = three.1 }
 
 -- scalar parameters are of the form, and mark nothing
-scalar_no_region : (t : TypeTerm) → is_scalar_term t ≡ true → is_region_term t ≡ false
-scalar_no_region (term.Number n) e = refl
-scalar_no_region term.Truth e = refl
-scalar_no_region (term.Pointer p) e = refl
-scalar_no_region (term.Ispace k) e = refl
-scalar_no_region (term.Region k u) e = absurd (no_way_back e)
-scalar_no_region (term.Partition d r c) e = refl
+scalar_marks_none : (t : TypeTerm) → is_scalar_term t ≡ true →
+    (is_region_term t ≡ false) × (is_index_or_space t ≡ false) × (is_pointer_term t ≡ false)
+scalar_marks_none (term.Number number.Int32) e = (refl, refl, refl)
+scalar_marks_none (term.Number number.Int64) e = (refl, refl, refl)
+scalar_marks_none (term.Number (number.Index k)) e = absurd (no_way_back e)
+scalar_marks_none term.Truth e = (refl, refl, refl)
+scalar_marks_none (term.Pointer p) e = absurd (no_way_back e)
+scalar_marks_none (term.Ispace k) e = absurd (no_way_back e)
+scalar_marks_none (term.Region k u) e = absurd (no_way_back e)
+scalar_marks_none (term.Partition d r c) e = absurd (no_way_back e)
 
-scalar_no_index : (t : TypeTerm) → is_scalar_term t ≡ true → is_index_or_space t ≡ false
-scalar_no_index (term.Number number.Int32) e = refl
-scalar_no_index (term.Number number.Int64) e = refl
-scalar_no_index (term.Number (number.Index k)) e = absurd (no_way_back e)
-scalar_no_index term.Truth e = refl
-scalar_no_index (term.Pointer p) e = refl
-scalar_no_index (term.Ispace k) e = absurd (no_way_back e)
-scalar_no_index (term.Region k u) e = refl
-scalar_no_index (term.Partition d r c) e = refl
+none_marked_one : (p : Param) (m : Marked) → is_scalar_term p.term ≡ true → marked_param p m ≡ m
+none_marked_one p m e =
+    let is = scalar_marks_none p.term e in
+    ap (λ b. cond b (with_region p.name m) (cond (is_index_or_space p.term) (with_index p.name m) (cond (is_pointer_term p.term) (with_pointer p.name m) m))) is.0
+    ∙ ap (λ b. cond b (with_index p.name m) (cond (is_pointer_term p.term) (with_pointer p.name m) m)) is.1
+    ∙ ap (λ b. cond b (with_pointer p.name m) m) is.2
 
 none_marked : (ps : List Param) (m : Marked) → are_scalar_params ps ≡ true → marked_params ps m ≡ m
 none_marked [] m e = refl
 none_marked (p ∷ ps) m e =
     let both = and_parts (is_scalar_term p.term) (are_scalar_params ps) e in
-    ap (λ b. marked_params ps (cond b (with_region p.name m) (cond (is_index_or_space p.term) (with_index p.name m) m))) (scalar_no_region p.term both.0)
-    ∙ ap (λ b. marked_params ps (cond b (with_index p.name m) m)) (scalar_no_index p.term both.0) ∙ none_marked ps m both.1
+    ap (marked_params ps) (none_marked_one p m both.0) ∙ none_marked ps m both.1
+
+scalar_taken : (m : Marked) (n : Name) (t : TypeTerm) → is_scalar_term t ≡ true → is_taken_term m n t ≡ true
+scalar_taken m n (term.Number number.Int32) e = refl
+scalar_taken m n (term.Number number.Int64) e = refl
+scalar_taken m n (term.Number (number.Index k)) e = absurd (no_way_back e)
+scalar_taken m n term.Truth e = refl
+scalar_taken m n (term.Pointer p) e = absurd (no_way_back e)
+scalar_taken m n (term.Ispace k) e = absurd (no_way_back e)
+scalar_taken m n (term.Region k u) e = refl
+scalar_taken m n (term.Partition d r c) e = absurd (no_way_back e)
 
 params_local : (m : Marked) (ps : List Param) → are_scalar_params ps ≡ true → are_local_params m ps ≡ true
 params_local m [] e = refl
 params_local m (p ∷ ps) e =
     let both = and_parts (is_scalar_term p.term) (are_scalar_params ps) e in
-    both_true (is_local_param m p) (are_local_params m ps)
-    (ap (λ b. b || (is_region_term p.term || (is_index_or_space p.term && (m.keeps && is_among m.indices p.name)))) both.0) (params_local m ps both.1)
+    both_true (is_local_param m p) (are_local_params m ps) (scalar_taken m p.name p.term both.0) (params_local m ps both.1)
+
+scalar_back : (m : Marked) (t : TypeTerm) → is_scalar_term t ≡ true → goes_back m t ≡ true
+scalar_back m (term.Number n) e = refl
+scalar_back m term.Truth e = refl
+scalar_back m (term.Pointer p) e = absurd (no_way_back e)
+scalar_back m (term.Ispace k) e = refl
+scalar_back m (term.Region k u) e = refl
+scalar_back m (term.Partition d r c) e = refl
+
+params_back : (m : Marked) (ps : List Param) → are_scalar_params ps ≡ true → all_go_back m ps ≡ true
+params_back m [] e = refl
+params_back m (p ∷ ps) e =
+    let both = and_parts (is_scalar_term p.term) (are_scalar_params ps) e in
+    both_true (goes_back m p.term) (all_go_back (marked_param p m) ps) (scalar_back m p.term both.0) (params_back (marked_param p m) ps both.1)
 
 -- a task is of the form without marks
 task_bare : (k : Bool) (t : TaskTree) → IsScalarTask t → is_local_with (bare k) t ≡ true
@@ -313,7 +335,9 @@ scalar_marks tree t all s =
 
 task_is_local : (tree : Tree) (t : TaskTree) → AreScalar tree → is_scalar_task t ≡ true → is_local_task tree t ≡ true
 task_is_local tree t all e =
-    let s = scalar_task t e in subst (λ m. is_local_with m t ≡ true) (sym (scalar_marks tree t all s)) (task_bare true t s)
+    let s = scalar_task t e in
+    both_true (all_go_back unmarked t.params) _ (params_back unmarked t.params s.params)
+    (subst (λ m. is_local_with m t ≡ true) (sym (scalar_marks tree t all s)) (task_bare true t s))
 
 item_is_local : (tree : Tree) (i : ItemForm) → AreScalar tree → is_scalar_item i ≡ true → is_local_item tree i ≡ true
 item_is_local tree import_item all e = refl

@@ -11,7 +11,7 @@ use Rattle.region_tree.specs.declared.tree.RootId.{RootId}
 use Rattle.regent_tree.specs.Execution.{Going, goes_on, returned}
 use Rattle.regent_tree.specs.Initializers.{zero_of}
 use Rattle.regent_tree.specs.Laws.{Answers, SameRoots}
-use Rattle.regent_tree.specs.Meaning.{body_of, calls_at, ended, opening, run_task}
+use Rattle.regent_tree.specs.Meaning.{body_of, calls_at, ended, entered, opening, run_task}
 use Rattle.regent_tree.specs.Running.{Called, Result, State, came_back, fails, gives}
 use Rattle.regent_tree.proofs.Members.{Has, Has-from_Contains}
 use Rattle.regent_tree.specs.Scopes.{Scope, bound_params, scope_of}
@@ -49,15 +49,15 @@ use Rattle.memory_laws.proofs.Given.{given_keeps_numbers, given_stands}
 use Rattle.code_laws.specs.Handing.{AreTypedBy, forms_by, takes_by}
 use Rattle.code_laws.specs.Programs.{IsGiven, called_setting, gives_nothing, gives_scalar}
 use Rattle.code_laws.specs.Simple.{IsScalar, scalar_integer, scalar_truth}
-use Rattle.code_laws.specs.Standing.{Answering, AreTaken, Does, IsFramed, IsInside, IsOf, IsTaken, LiesIn, Matches, Returns, Stands, Takes, back, both_back, both_broke, called_with, of_integer, of_region, of_truth, takes_region, takes_value}
+use Rattle.code_laws.specs.Standing.{Answering, AreTaken, Does, IsFramed, IsInside, IsOf, IsTaken, LiesIn, Matches, Returns, Stands, Takes, back, both_back, both_broke, called_with, of_integer, of_pointer, of_region, of_truth, takes_pointer, takes_region, takes_value}
 use Rattle.code_laws.specs.Steps.{Ends, Setting, Taking, placed}
 use Rattle.code_laws.specs.Taking.{AreParts, IsGivenAs, IsHadBy, needs_taken, pairs_in, pairs_taken}
 use Rattle.code_laws.proofs.Calling.{code_there, room_for}
 use Rattle.code_laws.proofs.Counts.{counts_down}
-use Rattle.code_laws.proofs.Openings.{before_all, fits_slots, opens, params_length, types_in}
+use Rattle.code_laws.proofs.Entering.{Enters, entered_pointed, params_placed_by, taken_enters}
+use Rattle.code_laws.proofs.Openings.{before_all, fits_slots, names_typed, opens, params_from, params_length, taken_length, types_in, types_length}
 use Rattle.code_laws.proofs.Requiring.{asked_covered}
 use Rattle.code_laws.proofs.Places.{stands_alone}
-use Rattle.code_laws.proofs.Pointing.{IsPlain, simple_plain}
 use Rattle.code_laws.proofs.Runs.{ends_by, leads_end}
 use Rattle.code_laws.proofs.Segments.{segments_give}
 use Rattle.code_laws.proofs.Statements.{block_runs}
@@ -72,6 +72,7 @@ taken_typed takes code store (t ∷ ts) (v ∷ vs) a = (one t v a.0, taken_typed
   where
     one : (t : StaticType) (v : Value) → IsTaken takes code store t v → IsOf t v
     one _ _ (takes_value t v s o) = o
+    one _ _ (takes_pointer k sp args rs tg qs o) = of_pointer k sp args rs tg qs o
     one _ _ (takes_region y k sp args r q e l) = of_region k sp args r q
 taken_typed takes code store [] (v ∷ vs) a = absurd a
 taken_typed takes code store (t ∷ ts) [] a = absurd a
@@ -122,6 +123,7 @@ taken_inside x all takes code store i n (t ∷ ts) (v ∷ vs) ec ea has long at 
 
     one : (t : StaticType) (v : Value) → IsOwnTerm i t → get_or all i (a_truth false) ≡ v → IsTaken takes code store t v → IsInside x store t v
     one _ _ own here (takes_value t v s o) = simple_inside x store t v s
+    one _ _ own here (takes_pointer k sp args rs tg qs o) = tt
     one _ _ own here (takes_region y k sp args r q e l) =
         let z = has y e in (
           subst (λ c. LiesIn c store sp q) (sym ec) l,
@@ -134,17 +136,6 @@ taken_inside x all takes code store i n (t ∷ ts) (v ∷ vs) ec ea has long at 
         )
 taken_inside x all takes code store i n [] (v ∷ vs) ec ea has long at own a = absurd a
 taken_inside x all takes code store i n (t ∷ ts) [] ec ea has long at own a = absurd a
-
-taken_plain : (takes : Option Taking) (code : Code) (store : Store) (ts : List StaticType) (vs : List Value) →
-    AreTaken (IsTaken takes code store) ts vs → AreTaken (λ u v. IsPlain v) ts vs
-taken_plain takes code store [] [] a = tt
-taken_plain takes code store (t ∷ ts) (v ∷ vs) a = (one t v a.0, taken_plain takes code store ts vs a.1)
-  where
-    one : (t : StaticType) (v : Value) → IsTaken takes code store t v → IsPlain v
-    one _ _ (takes_value t v s o) = simple_plain t v s o
-    one _ _ (takes_region y k sp args r q e l) = tt
-taken_plain takes code store [] (v ∷ vs) a = absurd a
-taken_plain takes code store (t ∷ ts) [] a = absurd a
 
 zero_typed : (sc : Scope) (t : StaticType) → IsScalar t → IsOf t (zero_of sc [] t)
 zero_typed sc _ (scalar_integer w) = of_integer w (pos 0) (zero_fits w)
@@ -246,12 +237,17 @@ module _ (handing keeping : Bool) (tree : Tree) (turns : ℕ) (few : turns < 2 ^
       let i = called_with tree turns depth task vs takes_it.needs c in
       let r = run_task tree turns (calls_at tree turns more) t vs store in
       let ts = param_types tree t in
+      let sc = scope_of tree t in
+      let placed = params_placed_by tree t.params in
+      let from_first = params_from tree t.params 0 t.params in
+      let many : length vs ≡ length sc.names = taken_length (IsTaken takes (code_of tree) store) ts vs takes_it.taken ∙ types_length sc.names in
       let room = room_for h task vs takes (code_of tree) store c takes_it in
       let g = opens tree turns more depth t (place_of_task tree task) vs store c takes_it.needs vs (forms_by handing keeping tree t) (calls_at tree turns more) (λ e. answers)
       (taken_typed takes (code_of tree) store ts vs takes_it.taken)
       (taken_inside x vs takes (code_of tree) store 0 (length t.params) ts vs refl refl
       (λ y e. all_take handing tree u t y (sym from ∙ e)) (omega (arith, room.0)) (λ k. ap (λ j. get_or vs j (a_truth false)) (omega arith)) (params_own tree t.params 0 t.params) takes_it.taken)
-      (taken_plain takes (code_of tree) store ts vs takes_it.taken) room.1 holds
+      (entered_pointed sc ts vs many sc.names placed (omega arith) (λ i low. refl) (names_typed IsOf sc.names vs from_first (taken_typed takes (code_of tree) store ts vs takes_it.taken))
+      (names_typed (Enters sc vs) sc.names (entered sc vs ts vs) from_first (taken_enters sc vs takes (code_of tree) store ts vs takes_it.taken)) takes_it.back) room.1 holds
       (λ n h. asked_covered (code_of tree) c vs code.needs store (memory_of i) refl takes_it.required n (needs_are handing tree t n h))
       (parts_are handing tree u t vs (λ y e. takes_it.parts y (from ∙ e))) takes_it.kept in
       let low : length t.params ≤ length h.scope.names = omega (arith, params_length tree t.params 0 t.params) in

@@ -1,11 +1,12 @@
 -- The run in order of a program over scalars is what the program means.
-use Rattle.std.proofs.Common.{◌≡◌, ℕ, ◌≤◌, ◌<◌, ◌^◌, ℤ, List, [], ◌∷◌, ◌++◌, Bool, true, false, refl, sym, ap, ◌∙◌, arith}
+use Rattle.std.proofs.Common.{◌≡◌, ℕ, ◌≤◌, ◌<◌, ◌^◌, ℤ, List, [], ◌∷◌, ◌++◌, Bool, true, false, refl, sym, ap, ◌∙◌, arith, subst}
 use Rattle.std.specs.Prelude.{cond, length, map, nat_le, ◌==◌, ◌&&◌}
 use Rattle.std.proofs.lemmas.Bool.{and_parts, le-leb, eq-eqb}
 use Rattle.regent_tree.specs.Execution.{Going, goes_on, returned}
-use Rattle.regent_tree.specs.Meaning.{body_of, calls_at, inputs_of, meaning, opening, outcome}
+use Rattle.regent_tree.specs.Meaning.{body_of, calls_at, entered, inputs_of, meaning, opening, outcome}
 use Rattle.regent_tree.specs.Running.{Result, State, fails, gives}
-use Rattle.regent_tree.specs.Scopes.{scope_of}
+use Rattle.regent_tree.specs.Scopes.{Scope, scope_of}
+use Rattle.regent_tree.specs.Values.{Value, a_number}
 use Rattle.regent_tree.specs.StaticTypes.{entry_name, task_named}
 use Rattle.regent_tree.specs.Syntax.{TaskTree, Tree}
 use Rattle.regent_tree.specs.Typing.{param_types, scope_after_block, width_of_type}
@@ -44,11 +45,12 @@ use Rattle.code_laws.specs.Programs.{AreTypedTasks, PointerCallsRunAsMeant, Call
 use Rattle.code_laws.specs.Standing.{Answering, AreTaken, Does, IsFramed, IsInside, IsOf, Stands, machine_value}
 use Rattle.code_laws.specs.Steps.{Ends, Forms, Setting, placed}
 use Rattle.code_laws.proofs.Counts.{counts_down}
-use Rattle.code_laws.proofs.Openings.{before_all, begins, fits_slots, least_slots, opens, params_length, taken_length, types_length}
+use Rattle.code_laws.proofs.Openings.{before_all, begins, fits_slots, least_slots, names_typed, opens, params_from, params_length, taken_length, types_length}
 use Rattle.code_laws.proofs.Shapes.{all_shaped}
 use Rattle.run_report.specs.Dumps.{fits_spaces}
 use Rattle.code_laws.proofs.Places.{stands_alone}
-use Rattle.code_laws.proofs.Pointing.{IsPlain}
+use Rattle.code_laws.proofs.Pointing.{IsPlain, all_plain}
+use Rattle.code_laws.proofs.Entering.{plain_entered}
 use Rattle.code_laws.proofs.Runs.{ends_by, leads_end}
 use Rattle.code_laws.proofs.Segments.{segments_give}
 use Rattle.code_laws.proofs.Statements.{block_runs}
@@ -69,11 +71,13 @@ inputs_inside x store (t ∷ ts) [] a = absurd a
 inputs_inside x store (t ∷ ts) (z ∷ zs) a =
     (number_inside x store t (width_of_type t) z a.0, inputs_inside x store ts zs a.1)
 
-inputs_plain : (ts : List StaticType) (zs : List ℤ) → AreTaken IsOf ts (inputs_of ts zs) → AreTaken (λ u v. IsPlain v) ts (inputs_of ts zs)
-inputs_plain [] [] a = tt
-inputs_plain [] (z ∷ zs) a = tt
-inputs_plain (t ∷ ts) [] a = absurd a
-inputs_plain (t ∷ ts) (z ∷ zs) a = (tt, inputs_plain ts zs a.1)
+inputs_plain : (s : Scope) (all : List Value) (ts : List StaticType) (zs : List ℤ) → AreTaken IsOf ts (inputs_of ts zs) →
+    AreTaken (λ u v. IsPlain v) ts (entered s all ts (inputs_of ts zs))
+inputs_plain s all [] [] a = tt
+inputs_plain s all [] (z ∷ zs) a = tt
+inputs_plain s all (t ∷ ts) [] a = absurd a
+inputs_plain s all (t ∷ ts) (z ∷ zs) a =
+    (subst IsPlain (sym (plain_entered s all t (a_number (width_of_type t) z) tt)) tt, inputs_plain s all ts zs a.1)
 
 -- at the end of the first task what its roots hold is the store
 roots_are : (x : Setting) (s : State) (j : Instance) → x.before ≡ [] → Holds x.code s.store (memory_of j) →
@@ -150,6 +154,7 @@ typed_run_ends forms tree inputs turns answers p =
     let job = job_of tree inputs turns in
     let ts = param_types tree t in
     let vs = inputs_of ts inputs in
+    let sc = scope_of tree t in
     let x = entry_setting forms tree turns t in
     let h = body_of tree (calls_at tree turns 63) t in
     let i = begins tree turns 63 1 t place vs [] no_contents [] [] in
@@ -157,7 +162,8 @@ typed_run_ends forms tree inputs turns answers p =
     let same : map (machine_value no_contents) vs ≡ map machine.Number inputs = inputs_kept ts inputs (p.count ∙ sym params) in
     let room : length t.params ≤ code.slots = least_slots (length t.params) code.body in
     let few : length vs ≤ code.slots = omega (arith, taken_length IsOf ts vs p.taken, params, room) in
-    let g = opens tree turns 63 1 t place vs [] no_contents [] [] forms (calls_at tree turns 63) answers p.taken (inputs_inside x [] ts inputs p.taken) (inputs_plain ts inputs p.taken) few
+    let g = opens tree turns 63 1 t place vs [] no_contents [] [] forms (calls_at tree turns 63) answers p.taken (inputs_inside x [] ts inputs p.taken)
+    (all_plain sc.names (entered sc vs ts vs) (names_typed (λ u v. IsPlain v) sc.names (entered sc vs ts vs) (params_from tree t.params 0 t.params) (inputs_plain sc vs ts inputs p.taken))) few
     (first_holds (code_of tree) i.frame) (λ n h u asked. absurd (nothing_asked n u asked))
     (λ q h. (refl, λ root point is. absurd (not_true is.1))) (none_kept tree) in
     let low : length t.params ≤ length h.scope.names = omega (arith, params_length tree t.params 0 t.params) in

@@ -1,5 +1,5 @@
 -- What is asked where pointers aren't kept is asked where they are.
-use Rattle.std.proofs.Common.{◌≡◌, ◌⊎◌, Bool, List, true, false, inl, inr}
+use Rattle.std.proofs.Common.{◌≡◌, ◌⊎◌, Bool, List, true, false, inl, inr, subst}
 use Rattle.regent_tree.specs.Syntax.{Name}
 use Rattle.regent_tree.specs.Typing.{counting_as}
 use Rattle.regent_tree.specs.declared.expression.Comparison.{Comparison}
@@ -8,7 +8,7 @@ use Rattle.regent_tree.specs.declared.typing.Bound.{Bound}
 use Rattle.regent_tree.specs.declared.types.NumberTerm.{NumberTerm}
 use Rattle.regent_tree.specs.declared.typing.StaticType.{StaticType}
 use Rattle.code_rules.specs.Slots.{Where}
-use Rattle.code_laws.specs.Pointers.{AreCompared, Assigned, Begins, BeginsAs, BeginsItself, BeginsWith, ConvertsTo, CountsAs, Filled, FillsInto, FitsInto, GoesInto, HasSigns, HasZero, SignedAs, signs_plain, IsAssigned, IsCompared, IsCounting, IsNumberTerm, IsPointer, assigned_plain, begins_plain, compared_plain, counts_number, counts_pointer, filled_plain, fills_alike, fills_index, into_index, into_plain, into_space, itself_plain, keeps_plain, term_integer, zero_index, zero_scalar}
+use Rattle.code_laws.specs.Pointers.{AreCompared, Assigned, Begins, BeginsAs, BeginsItself, BeginsWith, ConvertsTo, CountsAs, Filled, FillsInto, GoesInto, Passes, PassesInto, passes_plain, HasSigns, HasZero, SignedAs, signs_plain, IsAssigned, IsCompared, IsCounting, IsNumberTerm, IsPointer, assigned_plain, begins_plain, compared_plain, counts_number, counts_pointer, filled_plain, fills_alike, fills_index, into_index, into_plain, into_space, itself_plain, keeps_plain, term_integer, zero_index, zero_scalar}
 use Rattle.code_laws.specs.Simple.{IsNumber, IsSimple, IsSpace, number_index, number_integer, scalar_integer, scalar_truth, simple_index, simple_integer, simple_space, simple_truth, two_integers, two_truths}
 use Rattle.regent_tree.specs.Syntax.{Expression}
 use Rattle.code_rules.specs.Slots.{typed}
@@ -23,9 +23,9 @@ pub filling : (b : Bool) (t u : StaticType) → FillsInto b t u → Filled t u
 filling false t u p = filled_plain t u (fills_alike t u p)
 filling true t u p = p
 
-pub going : (b : Bool) (t u : StaticType) → FitsInto b t u → GoesInto t u
-going false t u p = into_plain t u (fills_alike t u p)
-going true t u p = p
+pub passing : (b : Bool) (t u p : StaticType) → PassesInto b t u p → Passes t u p
+passing false t u p a = subst (Passes t u) a.1 (passes_plain t u (into_plain t u (fills_alike t u a.0)))
+passing true t u p a = a
 
 pub zeroed : (b : Bool) (bs : List Bound) (t : StaticType) → BeginsAs b bs t → BeginsItself bs t
 zeroed false bs t p = itself_plain t (zero_scalar t p)

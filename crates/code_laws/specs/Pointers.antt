@@ -92,6 +92,25 @@ AreThere bs sp (Some (term.Name i) ∷ rs) = ((bound_as bs i).number ≡ i) × I
 AreThere bs sp (Some (term.Child p c) ∷ rs) = ⊥
 AreThere bs sp (None ∷ rs) = AreThere bs sp rs
 
+-- regions whose names have numbers below another
+abbrev pub AreBefore : ℕ → List Reach → Type 0
+AreBefore own [] = Unit {0}
+AreBefore own (Some (term.Name i) ∷ rs) = (i < own) × AreBefore own rs
+AreBefore own (Some (term.Child p c) ∷ rs) = AreBefore own rs
+AreBefore own (None ∷ rs) = AreBefore own rs
+
+-- Parameters' pointers go into parameters that are regions of their field space, and stand before them.
+abbrev pub GoesBack : List Bound → ℕ → StaticType → Type 0
+GoesBack all own (pointer_type k sp args rs) = AreThere all sp rs × AreBefore own rs
+GoesBack all own t = Unit {0}
+
+abbrev pub GoBack : List Bound → List Bound → Type 0
+GoBack all [] = Unit {0}
+GoBack all (b ∷ bs) = GoesBack all b.number b.static_type × GoBack all bs
+
+abbrev pub AllGoBack : List Bound → Type 0
+AllGoBack all = GoBack all all
+
 -- a pointer's type that is written in a scope
 abbrev pub IsWritten : List Bound → StaticType → Type 0
 IsWritten bs t = IsPointer t × AreThere bs (space_in t) (reaches_of t)
@@ -109,6 +128,13 @@ pub data BeginsItself (bs : List Bound) : StaticType → Type 0 where
 pub data Assigned : StaticType → StaticType → Type 0 where
   assigned_plain : (t u : StaticType) → GoesInto t u → Assigned t u
   assigned_pointer : (t u : StaticType) → IsPointer t → IsPointer u → Assigned t u
+
+-- What is given to a parameter, by its type at the call and by itself: what goes into it, which is one type, or a
+-- pointer, whose regions are the arguments at the call.
+pub data Passes : StaticType → StaticType → StaticType → Type 0 where
+  passes_plain : (t u : StaticType) → GoesInto t u → Passes t u u
+  passes_pointer : (t : StaticType) (k : Kind) (sp : ℕ) (args brgs rs qs : List Reach) → IsPointer t → length qs ≡ length rs →
+      Passes t (pointer_type k sp brgs qs) (pointer_type k sp args rs)
 
 -- with what fields of a type are filled, also where they are of pointers
 pub data Filled : StaticType → StaticType → Type 0 where
@@ -135,9 +161,9 @@ abbrev pub SignedAs : Bool → StaticType → List Sign → Type 0
 SignedAs false t ss = SignsFit t ss
 SignedAs true t ss = HasSigns t ss
 
-abbrev pub FitsInto : Bool → StaticType → StaticType → Type 0
-FitsInto false t u = AreAlike t u
-FitsInto true t u = GoesInto t u
+abbrev pub PassesInto : Bool → StaticType → StaticType → StaticType → Type 0
+PassesInto false t u p = AreAlike t u × (u ≡ p)
+PassesInto true t u p = Passes t u p
 
 abbrev pub FillsInto : Bool → StaticType → StaticType → Type 0
 FillsInto false t u = AreAlike t u

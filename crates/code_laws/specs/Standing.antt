@@ -32,7 +32,7 @@ use Rattle.machine_terms.specs.Jumps.{fetch}
 use Rattle.machine_terms.specs.Makes.{region_with}
 use Rattle.machine_terms.specs.Orders.{begun, result_of}
 use Rattle.value_laws.specs.Shapes.{IsPosition, KeepsNumbers}
-use Rattle.code_laws.specs.Pointers.{ArePointed}
+use Rattle.code_laws.specs.Pointers.{AllGoBack, ArePointed}
 use Rattle.code_laws.specs.Simple.{IsScalar, IsSimple}
 use Rattle.code_rules.specs.Instructions.{place_of_task, tasks_of}
 use Rattle.machine_terms.specs.Opening.{opening, requirements_on}
@@ -184,20 +184,23 @@ pub record IsFramed (x : Setting) (store : Store) (own : List RootId) (m : Memor
 
 -- ---- calls
 
--- A value that is given to a parameter: a number, a truth, an index or an index space; or, where regions are handed over, one that lies in
--- the store.
+-- A value that is given to a parameter: a number, a truth, an index or an index space; a pointer with a position of its list; or,
+-- where regions are handed over, one that lies in the store.
 pub data IsTaken (takes : Option Taking) (code : Code) (store : Store) : StaticType → Value → Type 0 where
   takes_value : (t : StaticType) (v : Value) → IsSimple t → IsOf t v → IsTaken takes code store t v
+  takes_pointer : (k : Kind) (sp : ℕ) (args rs : List Reach) (t : Target) (qs : List Region) → IsPosition (length rs) t →
+      IsTaken takes code store (pointer_type k sp args rs) (a_pointer t qs)
   takes_region : (y : Taking) (k : Kind) (space : ℕ) (args : List Reach) (r : Term) (q : Region) → takes ≡ Some y →
       LiesIn code store space q → IsTaken takes code store (region_type k space args r) (a_region q)
 
--- a task of the program, what it takes, of which its constraints hold, a store that keeps numbers of its fields' types, and
+-- a task of the program, what it takes, of which its constraints hold, whose pointers go to parameters before them, a store that keeps numbers of its fields' types, and
 -- what the task requires of what it takes
 pub record Takes (takes : Option Taking) (code : Code) (tree : Tree) (task : Name) (vs : List Value) (store : Store)
     (c : Contents) : Type 0 where
   pub there : slice_get (tasks_of tree) (place_of_task tree task) ≡ Some (task_named tree task)
   pub taken : AreTaken (IsTaken takes code store) (param_types tree (task_named tree task)) vs
   pub parts : (y : Taking) → takes ≡ Some y → AreParts vs (pairs_in (scope_of tree (task_named tree task)).known)
+  pub back : AllGoBack (scope_of tree (task_named tree task)).names
   pub kept : KeepsNumbers tree store
   pub needs : List Requirement
   pub required : requirements_on code c (task_code tree (task_named tree task)).needs (map (machine_value c) vs) ≡ Some needs

@@ -345,10 +345,15 @@ is_local_field p = is_scalar_term p.term || (is_index_term p.term || is_pointer_
 abbrev pub are_local_fields : List Param → Bool
 are_local_fields ps = list_all is_local_field ps
 
--- parameters that are numbers, truths and regions, or indices and index spaces of whose names this is known
+-- A parameter is a number, a truth or a region; or an index, an index space or a pointer into regions that have names, and its
+-- name is known as such.
+abbrev pub is_taken_term : Marked → Name → TypeTerm → Bool
+is_taken_term m n (term.Region k u) = true
+is_taken_term m n (term.Ispace k) = m.keeps && is_among m.indices n
+is_taken_term m n t = is_kept_term m n t
+
 abbrev pub is_local_param : Marked → Param → Bool
-is_local_param m p =
-    is_scalar_term p.term || (is_region_term p.term || (is_index_or_space p.term && (m.keeps && is_among m.indices p.name)))
+is_local_param m p = is_taken_term m p.name p.term
 
 abbrev pub are_local_params : Marked → List Param → Bool
 are_local_params m ps = list_all (is_local_param m) ps
@@ -370,9 +375,10 @@ abbrev pub marked_by_items : Tree → Marked → Marked
 marked_by_items [] m = m
 marked_by_items (i ∷ is) m = marked_by_items is (marked_by_item i.form m)
 
--- the names of parameters that are regions, indices and index spaces, beside those that are marked before them
+-- the names of parameters that are regions, indices, index spaces and pointers, beside those that are marked before them
 abbrev pub marked_param : Param → Marked → Marked
-marked_param p m = cond (is_region_term p.term) (with_region p.name m) (cond (is_index_or_space p.term) (with_index p.name m) m)
+marked_param p m = cond (is_region_term p.term) (with_region p.name m) (cond (is_index_or_space p.term) (with_index p.name m)
+    (cond (is_pointer_term p.term) (with_pointer p.name m) m))
 
 abbrev pub marked_params : List Param → Marked → Marked
 marked_params [] m = m
@@ -386,8 +392,17 @@ marked_by_task tree t = marked_in t.body (marked_params t.params (marked_by_item
 abbrev pub is_local_with : Marked → TaskTree → Bool
 is_local_with m t = are_local_params m t.params && (is_scalar_if_said t.result && is_local_block m t.body)
 
+-- the regions of a parameter's pointers are named by parameters before it
+abbrev pub goes_back : Marked → TypeTerm → Bool
+goes_back m (term.Pointer p) = goes_to_names m p.regions
+goes_back m t = true
+
+abbrev pub all_go_back : Marked → List Param → Bool
+all_go_back m [] = true
+all_go_back m (p ∷ ps) = goes_back m p.term && all_go_back (marked_param p m) ps
+
 abbrev pub is_local_task : Tree → TaskTree → Bool
-is_local_task tree t = is_local_with (marked_by_task tree t) t
+is_local_task tree t = all_go_back unmarked t.params && is_local_with (marked_by_task tree t) t
 
 abbrev pub is_local_item : Tree → ItemForm → Bool
 is_local_item tree import_item = true

@@ -21,7 +21,7 @@ fn is_index_term(term: &TypeTerm) -> bool
 }
 
 /// Whether a type is a pointer's.
-fn is_pointer_term(term: &TypeTerm) -> bool
+pub fn is_pointer_term(term: &TypeTerm) -> bool
     ensures { result ≡ is_pointer_term term.now }
 {
     match term {

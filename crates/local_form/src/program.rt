@@ -2,16 +2,17 @@
 
 ghost use Rattle.std.specs.Prelude.{◌≡◌, IfOk, OnOk, map};
 ghost use Rattle.regent_tree.specs.PlainProgram.{item_of, item_tree_of, task_of, tree_of};
-ghost use Rattle.local_form.specs.LocalForm.{are_local_params, is_index_or_space, is_local_item, is_local_param};
+ghost use Rattle.local_form.specs.LocalForm.{all_go_back, are_local_params, is_index_or_space, is_local_item, is_local_param};
 ghost use Rattle.local_form.specs.LocalForm.{is_local_program, is_local_task, is_local_with};
-ghost use Rattle.local_form.specs.LocalForm.{is_region_term, marked_by_task, marked_param, marked_params};
+ghost use Rattle.local_form.specs.LocalForm.{is_region_term, marked_by_task, marked_param, marked_params, unmarked};
 
-use crate::fields::{are_local_fields, mark_items};
+use crate::fields::{are_local_fields, is_pointer_term, mark_items};
 use crate::marked::Marked;
 use crate::marking::mark_block;
 use crate::statements::is_local_block;
+use crate::terms::{goes_back, is_taken_term};
 use regent_tree::{Item, ItemKind, NumberTerm, Param, Program, Task, TypeTerm};
-use scalar_form::{is_scalar_if_said, is_scalar_term};
+use scalar_form::is_scalar_if_said;
 use std::alloc::{AllocError, Global};
 
 fn is_region_term(term: &TypeTerm) -> bool
@@ -33,13 +34,11 @@ fn is_index_or_space(term: &TypeTerm) -> bool
     }
 }
 
-/// Whether a parameter is a number, a truth or a region, or an index or an index space, and known as such.
+/// Whether a parameter is a number, a truth or a region, or an index, an index space or a pointer, and known as such.
 fn is_local_param(marked: &Marked<'_>, param: &Param) -> bool
     ensures { result ≡ is_local_param marked.now param.now }
 {
-    is_scalar_term(&param.term)
-        || is_region_term(&param.term)
-        || (is_index_or_space(&param.term) && marked.keeps_index(&param.name))
+    is_taken_term(marked, &param.name, &param.term)
 }
 
 /// Whether all parameters are such.
@@ -54,7 +53,7 @@ fn are_local_params(marked: &Marked<'_>, params: &[Param]) -> bool
     true
 }
 
-/// Marks a parameter that is a region, an index or an index space.
+/// Marks a parameter that is a region, an index, an index space or a pointer.
 fn mark_param<'t>(marked: &mut Marked<'t>, param: &'t Param) -> Result<(), AllocError>
     ensures { OnOk result (marked.new ≡ marked_param param.now marked.old) }
 {
@@ -62,12 +61,14 @@ fn mark_param<'t>(marked: &mut Marked<'t>, param: &'t Param) -> Result<(), Alloc
         marked.add_region(&param.name)
     } else if is_index_or_space(&param.term) {
         marked.add_index(&param.name)
+    } else if is_pointer_term(&param.term) {
+        marked.add_pointer(&param.name)
     } else {
         Ok(())
     }
 }
 
-/// Marks the parameters that are regions, indices and index spaces.
+/// Marks the parameters that are regions, indices, index spaces and pointers.
 fn mark_params<'t>(marked: &mut Marked<'t>, params: &'t [Param]) -> Result<(), AllocError>
     ensures { OnOk result (marked.new ≡ marked_params params.now marked.old) }
 {
@@ -75,6 +76,20 @@ fn mark_params<'t>(marked: &mut Marked<'t>, params: &'t [Param]) -> Result<(), A
         mark_param(marked, param)?;
     }
     Ok(())
+}
+
+/// Whether the regions of each pointer among parameters are named before it.
+fn all_go_back(alloc: Global, params: &[Param]) -> Result<bool, AllocError>
+    ensures { IfOk result (λ is. is ≡ all_go_back unmarked params.now) }
+{
+    let mut before = Marked::new(alloc);
+    for param in params {
+        if !goes_back(&before, &param.term) {
+            return Ok(false);
+        }
+        mark_param(&mut before, param)?;
+    }
+    Ok(true)
 }
 
 /// What a task of a program marks.
@@ -102,6 +117,9 @@ fn is_local_with(marked: &Marked<'_>, task: &Task) -> bool
 fn is_local_task(alloc: Global, items: &[Item], task: &Task) -> Result<bool, AllocError>
     ensures { IfOk result (λ is. is ≡ is_local_task (map item_tree_of items.now) (task_of task.now)) }
 {
+    if !all_go_back(alloc, task.params.as_slice())? {
+        return Ok(false);
+    }
     let marked = marks(alloc, items, task)?;
     Ok(is_local_with(&marked, task))
 }

@@ -1,7 +1,7 @@
-//! Written types of pointers and of variables.
+//! Written types of pointers, variables and parameters.
 
 ghost use Rattle.std.specs.Prelude.{◌≡◌};
-ghost use Rattle.local_form.specs.LocalForm.{goes_to_name, goes_to_names, is_kept_term};
+ghost use Rattle.local_form.specs.LocalForm.{goes_back, goes_to_name, goes_to_names, is_kept_term, is_taken_term};
 
 use crate::marked::Marked;
 use regent_tree::{Name, NumberTerm, PointerTerm, Ref, TypeTerm};
@@ -41,5 +41,26 @@ pub fn is_kept_term(marked: &Marked<'_>, name: &Name, term: &TypeTerm) -> bool
                 && marked.is_pointer(name)
         }
         _ => is_scalar_term(term),
+    }
+}
+
+/// Whether a parameter may have a type: a number, a truth, a region, an index, an index space, or a pointer into such regions.
+pub fn is_taken_term(marked: &Marked<'_>, name: &Name, term: &TypeTerm) -> bool
+    ensures { result ≡ is_taken_term marked.now name.now term.now }
+{
+    match term {
+        TypeTerm::Region { .. } => true,
+        TypeTerm::Ispace(_) => marked.keeps_index(name),
+        _ => is_kept_term(marked, name, term),
+    }
+}
+
+/// Whether the regions of a pointer's type have such names.
+pub fn goes_back(marked: &Marked<'_>, term: &TypeTerm) -> bool
+    ensures { result ≡ goes_back marked.now term.now }
+{
+    match term {
+        TypeTerm::Pointer(pointer) => goes_to_names(marked, pointer.regions.as_slice()),
+        _ => true,
     }
 }

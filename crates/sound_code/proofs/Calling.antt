@@ -180,7 +180,7 @@ pub passed_scalars : (forms : Forms) (plain : forms.takes ≡ None) (w : Where) 
     Each IsScalar ps
 passed_scalars forms plain w [] [] no_expr h = tt
 passed_scalars forms plain w (t ∷ ts) (p ∷ ps) (an_expr e es) h = (
-  ⊎_elim (λ a. subst IsScalar a.1 (alike_second _ t a.0)) (λ r. ⊎_elim (λ q. absurd (subst (λ o. IsHanded o w t p e) plain q)) (λ none. absurd none) r) h.0,
+  ⊎_elim (λ a. subst IsScalar a.0.1 (alike_second _ t a.0.0)) (λ r. ⊎_elim (λ q. absurd (subst (λ o. IsHanded o w t p e) plain q)) (λ none. absurd none) r) h.0,
   passed_scalars forms plain w ts ps es h.1,
 )
 passed_scalars forms plain w [] [] (an_expr e es) h = absurd h

@@ -147,6 +147,12 @@ module _ (tree : Tree) (none : breaches tree ≡ []) (within : WithinLimits tree
       let fine = standing_fine t (Has-from_Contains (forms tree) (task_item t) stands) in
       (names_fine tree t.params fine.params params_are fine.limits i).0
 
+  -- the regions of parameters' pointers are of their field spaces
+  pub body_regions : (t : TaskTree) → StandsIn tree t → (i : ℕ) → HasRegions (scope_of tree t).names (bound_as (scope_of tree t).names i).static_type
+  body_regions t stands i =
+      let fine = standing_fine t (Has-from_Contains (forms tree) (task_item t) stands) in
+      (names_fine tree t.params fine.params params_are fine.limits i).1
+
   body_fits : AreWrittenTasks tree → (n : Name) → IsBodyOfFit tree (task_named tree n)
   body_fits written n = elim (task_stands tree n) [
     | inl h ↦ let t = task_named tree n in
