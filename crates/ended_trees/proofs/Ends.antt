@@ -50,7 +50,7 @@ use Rattle.ended_trees.proofs.Ending.{EndsSo, IsEnded, ended_opens}
 -- ---- on the table
 
 -- a row that is changed twice, and a knot that stays
-changed_again : (s : State) (live : LogicalMap) (k : ℕ) (q : Operation) (e : Ending) → k < length s.operations →
+pub changed_again : (s : State) (live : LogicalMap) (k : ℕ) (q : Operation) (e : Ending) → k < length s.operations →
     ended_by (record (with_operation s k q) { map = live }) k e ≡ one_changed s s.tree s.roots live k (record q { parts = []; activity = activity.Closing e }) (knot_at s.waits.knots k)
 changed_again s live k q e l =
     (λ i. record s { operations = set (set s.operations k q) k (record (get_or-set_same s.operations k q no_operation l i) { parts = []; activity = activity.Closing e }); map = live })

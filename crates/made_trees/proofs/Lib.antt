@@ -1,3 +1,4 @@
 pub mod Roots
 pub mod Going
 pub mod Rooted
+pub mod Parted
