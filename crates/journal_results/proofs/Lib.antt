@@ -1,0 +1,3 @@
+pub mod Yields
+pub mod Gives
+pub mod Journals
