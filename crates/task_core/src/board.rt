@@ -1,9 +1,10 @@
 //! Boards.
 
-ghost use Rattle.std.specs.Prelude.{◌≡◌, ◌↔◌, ℕ, false, Some, IfOk};
+ghost use Rattle.std.specs.Prelude.{◌≡◌, ◌↔◌, ℕ, cond, false, None, Some, IfOk};
+ghost use Rattle.machine_terms.specs.Jobs.{order_run};
 ghost use Rattle.board_terms.specs.Outcomes.{result as result_of};
 ghost use Rattle.board_terms.specs.Replays.{replay};
-ghost use Rattle.board_terms.specs.Stages.{all_in_progress, may_be_claimed};
+ghost use Rattle.board_terms.specs.Stages.{all_in_progress, has_finished, may_be_claimed};
 ghost use Rattle.std.specs.Option.{option_copied};
 
 use board_state::BoardState;
@@ -59,9 +60,11 @@ impl Board {
         &self.job
     }
 
-    /// What the board comes to, exactly where no operation is left that isn't over.
+    /// What the board comes to, exactly where no operation is left that isn't over: the outcome of the job's run in order,
+    /// whatever steps were made and in whatever order.
     pub fn result(&self) -> Option<&Outcome>
-        ensures { option_copied result ≡ result_of self.now.state }
+        ensures told { option_copied result ≡ result_of self.now.state }
+        ensures ordered { option_copied result ≡ cond (has_finished self.now.state) (Some (order_run self.now.job)) None }
     {
         self.outcome.as_ref()
     }
