@@ -1,17 +1,15 @@
 -- A partition is made of a region: the operation has its parts, which are regions of the tree.
-use Rattle.std.proofs.Common.{◌≡◌, ◌<◌, ◌≤◌, ◌+◌, ◌-◌, ◌++◌, ◌∷◌, ◌∙◌, ◌&&◌, ◌||◌, ⊎_elim, ℕ, suc, Bool, List, Some, [], ap, append-nil, append_assoc, arith, cond, false, length, map, not, refl, set, subst, sym, true}
+use Rattle.std.proofs.Common.{◌≡◌, ◌<◌, ◌≤◌, ◌-◌, ◌++◌, ◌∷◌, ◌∙◌, ◌&&◌, ◌||◌, ⊎_elim, ℕ, suc, Bool, List, Some, [], ap, append-nil, append_assoc, arith, cond, false, length, map, not, refl, set, subst, sym, true}
 use Rattle.std.specs.Prelude.{All, get_or}
 use Rattle.std.specs.List.{list_all}
 use Rattle.std.proofs.lemmas.Bool.{and_from, and_parts, cases_Bool, cases_lt}
 use Rattle.std.proofs.lemmas.List.{get_or-append_right, get_or-set_same, get_or_append_left, length-append, length-set, set-set}
-use Rattle.std.proofs.lemmas.List.Elements.{All-append, All-contains, All-cons, All-get_or, All-nil}
-use Rattle.std.proofs.Math.Seq.{get_or-append_seam}
+use Rattle.std.proofs.lemmas.List.Elements.{All-append, All-cons, All-get_or, All-nil}
 use Rattle.plain_values.specs.Points.{has}
-use Rattle.point_sets.proofs.Rising.{Contains-from_has}
 use Rattle.region_tree.specs.Entries.{TreeNode}
 use Rattle.region_tree.specs.Paths.{child_number}
 use Rattle.region_tree.specs.Requirements.{Requirement}
-use Rattle.region_tree.specs.Trees.{RegionTree, child_of, children, no_node, node_at, partition_nodes, partition_of, points_of_content, set_at, with_partition}
+use Rattle.region_tree.specs.Trees.{RegionTree, children, no_node, node_at, partition_nodes, partition_of, points_of_content, set_at, with_partition}
 use Rattle.region_tree.specs.declared.tree.RootId.{RootId}
 use Rattle.logical_map.specs.Maps.{is_live}
 use Rattle.dependence_graph.specs.declared.stage.Waiting.TheVariants as graph
@@ -42,13 +40,12 @@ use Rattle.code_boards.specs.Views.{region_out, spaces_of, yield_out}
 use Rattle.order_boards.proofs.Frames.{partition_seen}
 use Rattle.order_boards.proofs.Resumed.{sound_same}
 use Rattle.board_terms.specs.declared.claim.Claim.{Claim}
-use Rattle.board_terms.specs.declared.extent.Extent.{Extent}
 use Rattle.board_terms.specs.declared.operation.Activity.TheVariants as activity
 use Rattle.board_terms.specs.declared.operation.Ending.TheVariants as ending
 use Rattle.board_terms.specs.declared.operation.Operation.{Operation}
 use Rattle.board_terms.specs.declared.operation.Wait.TheVariants as wait
 use Rattle.board_terms.specs.Gives.{behind_segment, ended_by, frame_left, parked_for, yielded}
-use Rattle.board_terms.specs.Makes.{children_from, is_here, partition_made, region_at}
+use Rattle.board_terms.specs.Makes.{children_from, is_here, partition_made}
 use Rattle.board_terms.specs.States.{State, no_extent, no_operation, operation_at, with_operation}
 use Rattle.board_trees.specs.Frames.{HasPlaces, IsPlaced}
 use Rattle.board_trees.specs.Names.{IsNaming, named}
@@ -66,48 +63,8 @@ use Rattle.yielded_trees.proofs.Trees.{with_text}
 use Rattle.ended_trees.proofs.Ending.{EndsSo, ended_opens}
 use Rattle.ended_trees.proofs.Ends.{changed_again}
 use Rattle.made_trees.specs.Laws.{PartitionsOpen}
+use Rattle.made_trees.proofs.Parts.{IsWithinExtents, children_placed, children_within}
 use Rattle.made_trees.proofs.Going.{Goes, begun, changes, goes_open, left_alike, places, seen_left, u, wide_roots}
-
--- ---- the parts
-
-points_below : (n : ℕ) (ys : List ℕ) → All (λ q. q < n) ys → (xs : List ℕ) → list_all (has ys) xs ≡ true → All (λ q. q < n) xs
-points_below n ys b [] e = All-nil (λ q. q < n)
-points_below n ys b (x ∷ xs) e =
-    let parts = and_parts (has ys x) (list_all (has ys) xs) e in
-    All-cons (λ q. q < n) x xs (All-contains (λ q. q < n) ys x b (Contains-from_has ys x parts.0)) (points_below n ys b xs parts.1)
-
-pub record IsWithinExtents (extents : List Extent) (x : TreeNode) : Type 0 where
-  pub made : x.root < length extents
-  pub below : All (λ p. p < (get_or extents x.root no_extent).count) (points_of_content x.content)
-
-module _ (root : RootId) (divided : TreeNode) (p : ℕ) (same : divided.root ≡ root.0) where
-  -- behind so many nodes the children stand where their numbers say
-  children_placed : (roots : ℕ) (behind : List TreeNode) (c : ℕ) (sets : List (List ℕ)) → length behind ≡ child_number p c →
-      All (IsPlaced (record { roots = roots; nodes = behind ++ children divided p c sets })) (children_from root p c sets)
-  children_placed roots behind c [] e = All-nil (IsPlaced (record { roots = roots; nodes = behind ++ children divided p c [] }))
-  children_placed roots behind c (xs ∷ sets) e =
-      let child = child_of divided p c xs in
-      let more : c + 1 ≡ suc c = omega arith in
-      let longer : length (behind ++ child ∷ []) ≡ child_number p (suc c) = omega (arith, length-append behind (child ∷ []), e) in
-      let found : get_or (behind ++ child ∷ children divided p (c + 1) sets) (child_number p c) no_node ≡ child = ap (λ n. get_or (behind ++ child ∷ children divided p (c + 1) sets) n no_node) (sym e)
-      ∙ get_or-append_seam behind child (children divided p (c + 1) sets) no_node in
-      All-cons (IsPlaced (record { roots = roots; nodes = behind ++ child ∷ children divided p (c + 1) sets })) (region_at root (child_number p c) xs) (children_from root p (suc c) sets)
-      (record {
-        there = omega (arith, e, length-append behind (child ∷ children divided p (c + 1) sets));
-        points = ap (λ (x : TreeNode). x.content) found;
-        root = ap (λ (x : TreeNode). x.root) found ∙ same;
-      })
-      (subst (λ ns. All (IsPlaced (record { roots = roots; nodes = ns })) (children_from root p (suc c) sets))
-      (append_assoc behind (child ∷ []) (children divided p (suc c) sets) ∙ ap (λ n. behind ++ child ∷ children divided p n sets) (sym more))
-      (children_placed roots (behind ++ child ∷ []) (suc c) sets longer))
-
-  children_within : (extents : List Extent) → divided.root < length extents → (ys : List ℕ) → All (λ q. q < (get_or extents divided.root no_extent).count) ys → (c : ℕ) (sets : List (List ℕ)) →
-      list_all (λ xs. list_all (has ys) xs) sets ≡ true → All (IsWithinExtents extents) (children divided p c sets)
-  children_within extents l ys b c [] e = All-nil (IsWithinExtents extents)
-  children_within extents l ys b c (xs ∷ sets) e =
-      let parts = and_parts (list_all (has ys) xs) (list_all (λ xs. list_all (has ys) xs) sets) e in
-      All-cons (IsWithinExtents extents) (child_of divided p c xs) (children divided p (c + 1) sets)
-      (record { made = l; below = points_below (get_or extents divided.root no_extent).count ys b xs parts.0 }) (children_within extents l ys b (c + 1) sets parts.1)
 
 -- ---- on the table and in the tree
 
