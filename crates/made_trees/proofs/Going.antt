@@ -43,6 +43,7 @@ use Rattle.board_trees.specs.Shows.{HoldsMap, IsWithinRoot, Shows, ShowsBoard, S
 use Rattle.board_trees.specs.Stages.{Stands, WaitsWell}
 use Rattle.board_trees.specs.Waits.{Sibling}
 use Rattle.board_trees.proofs.Along.{not_above}
+use Rattle.board_trees.proofs.Named.{is_naming, named_all}
 use Rattle.board_trees.proofs.Settled.{activity_open, stage_there}
 use Rattle.given_trees.specs.Segments.{AreLeft}
 use Rattle.given_trees.proofs.Left.{left_held, left_places, left_seen}
@@ -52,7 +53,7 @@ use Rattle.changed_trees.specs.Edits.{edited, told_at}
 use Rattle.changed_trees.specs.Given.{Opens, effects_of, given_board, left_of, makings_before, yielded_by}
 use Rattle.changed_trees.specs.Open.{Asked, IsOpen, OpenBoard, OpenRow}
 use Rattle.changed_trees.proofs.Below.{children_kept}
-use Rattle.changed_trees.proofs.Kept.{seen_kept, shown_match, wider_itself, wider_on}
+use Rattle.changed_trees.proofs.Kept.{back, seen_kept, shown_match, wider_itself, wider_on}
 use Rattle.changed_trees.proofs.One.{IsOngoing, by_number, knot_is, knot_within, one_changed, others, row_is}
 use Rattle.changed_trees.proofs.Walks.{OfAll, told_is, up_alike}
 use Rattle.yielded_trees.proofs.Builder.{change, opens}
@@ -159,6 +160,13 @@ module _ (job : Job) (s : State) (b : Board (regent_ground (spaces_of job.code))
 
   pub under : (above : List RootId) → All (λ (r : RootId). r.0 < length s.roots) above → All (λ (r : RootId). r.0 < length s.roots) (roots_of above)
   under above below = All-append (λ (r : RootId). r.0 < length s.roots) above o.frame.own below (h.own_made k)
+
+  pub named_before : (above more : List RootId) → All (λ (r : RootId). r.0 < length s.roots) above → IsWider u above more → (other : ℕ → ℕ) → IsNaming extents now (wide_of more) other →
+      IsNaming s.roots h.who (roots_of above) other
+  named_before above more below wider = back job s u h.who now b.ways b.ways (λ w. v ≡ w) changes (roots_of above) (wide_of more) (wide_roots above more wider) (under above below)
+
+  pub naming : (above : List RootId) → All (λ (r : RootId). r.0 < length s.roots) above → IsNaming s.roots h.who (roots_of above) (named_all s.roots h.who makings h.made 0)
+  naming above below = is_naming s.roots h.who makings h.made 0 (roots_of above) (under above below)
 
   -- ---- what the segment left
 

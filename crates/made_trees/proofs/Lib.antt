@@ -1,4 +1,6 @@
 pub mod Roots
+pub mod Own
 pub mod Going
 pub mod Rooted
+pub mod Parts
 pub mod Parted

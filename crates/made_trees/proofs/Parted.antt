@@ -1,17 +1,15 @@
 -- A partition is made of a region: the operation has its parts, which are regions of the tree.
-use Rattle.std.proofs.Common.{◌≡◌, ◌<◌, ◌≤◌, ◌+◌, ◌-◌, ◌++◌, ◌∷◌, ◌∙◌, ◌&&◌, ◌||◌, ⊎_elim, ℕ, suc, Bool, List, Some, [], ap, append-nil, append_assoc, arith, cond, false, length, map, not, refl, set, subst, sym, true}
+use Rattle.std.proofs.Common.{◌≡◌, ◌<◌, ◌≤◌, ◌-◌, ◌++◌, ◌∷◌, ◌∙◌, ◌&&◌, ◌||◌, ⊎_elim, ℕ, suc, Bool, List, Some, [], ap, append-nil, append_assoc, arith, cond, false, length, map, not, refl, set, subst, sym, true}
 use Rattle.std.specs.Prelude.{All, get_or}
 use Rattle.std.specs.List.{list_all}
 use Rattle.std.proofs.lemmas.Bool.{and_from, and_parts, cases_Bool, cases_lt}
 use Rattle.std.proofs.lemmas.List.{get_or-append_right, get_or-set_same, get_or_append_left, length-append, length-set, set-set}
-use Rattle.std.proofs.lemmas.List.Elements.{All-append, All-contains, All-cons, All-get_or, All-nil}
-use Rattle.std.proofs.Math.Seq.{get_or-append_seam}
+use Rattle.std.proofs.lemmas.List.Elements.{All-append, All-cons, All-get_or, All-nil}
 use Rattle.plain_values.specs.Points.{has}
-use Rattle.point_sets.proofs.Rising.{Contains-from_has}
 use Rattle.region_tree.specs.Entries.{TreeNode}
 use Rattle.region_tree.specs.Paths.{child_number}
 use Rattle.region_tree.specs.Requirements.{Requirement}
-use Rattle.region_tree.specs.Trees.{RegionTree, child_of, children, no_node, node_at, partition_nodes, partition_of, points_of_content, set_at, with_partition}
+use Rattle.region_tree.specs.Trees.{RegionTree, children, no_node, node_at, partition_nodes, partition_of, points_of_content, set_at, with_partition}
 use Rattle.region_tree.specs.declared.tree.RootId.{RootId}
 use Rattle.logical_map.specs.Maps.{is_live}
 use Rattle.dependence_graph.specs.declared.stage.Waiting.TheVariants as graph
@@ -42,13 +40,12 @@ use Rattle.code_boards.specs.Views.{region_out, spaces_of, yield_out}
 use Rattle.order_boards.proofs.Frames.{partition_seen}
 use Rattle.order_boards.proofs.Resumed.{sound_same}
 use Rattle.board_terms.specs.declared.claim.Claim.{Claim}
-use Rattle.board_terms.specs.declared.extent.Extent.{Extent}
 use Rattle.board_terms.specs.declared.operation.Activity.TheVariants as activity
 use Rattle.board_terms.specs.declared.operation.Ending.TheVariants as ending
 use Rattle.board_terms.specs.declared.operation.Operation.{Operation}
 use Rattle.board_terms.specs.declared.operation.Wait.TheVariants as wait
 use Rattle.board_terms.specs.Gives.{behind_segment, ended_by, frame_left, parked_for, yielded}
-use Rattle.board_terms.specs.Makes.{children_from, is_here, partition_made, region_at}
+use Rattle.board_terms.specs.Makes.{children_from, is_here, partition_made}
 use Rattle.board_terms.specs.States.{State, no_extent, no_operation, operation_at, with_operation}
 use Rattle.board_trees.specs.Frames.{HasPlaces, IsPlaced}
 use Rattle.board_trees.specs.Names.{IsNaming, named}
@@ -60,54 +57,14 @@ use Rattle.given_trees.specs.Segments.{AreLeft}
 use Rattle.given_trees.proofs.Segments.{segments_show}
 use Rattle.changed_trees.specs.Changes.{IsAt, IsWider}
 use Rattle.changed_trees.specs.Given.{Opens, makings_before, yielded_by}
-use Rattle.changed_trees.proofs.Kept.{back}
 use Rattle.yielded_trees.proofs.Found.{Here, by_out, found_at, here_at}
 use Rattle.yielded_trees.proofs.Trees.{with_text}
 use Rattle.ended_trees.proofs.Ending.{EndsSo, ended_opens}
 use Rattle.ended_trees.proofs.Ends.{changed_again}
 use Rattle.made_trees.specs.Laws.{PartitionsOpen}
-use Rattle.made_trees.proofs.Going.{Goes, begun, changes, goes_open, left_alike, places, seen_left, u, wide_roots}
-
--- ---- the parts
-
-points_below : (n : ℕ) (ys : List ℕ) → All (λ q. q < n) ys → (xs : List ℕ) → list_all (has ys) xs ≡ true → All (λ q. q < n) xs
-points_below n ys b [] e = All-nil (λ q. q < n)
-points_below n ys b (x ∷ xs) e =
-    let parts = and_parts (has ys x) (list_all (has ys) xs) e in
-    All-cons (λ q. q < n) x xs (All-contains (λ q. q < n) ys x b (Contains-from_has ys x parts.0)) (points_below n ys b xs parts.1)
-
-pub record IsWithinExtents (extents : List Extent) (x : TreeNode) : Type 0 where
-  pub made : x.root < length extents
-  pub below : All (λ p. p < (get_or extents x.root no_extent).count) (points_of_content x.content)
-
-module _ (root : RootId) (divided : TreeNode) (p : ℕ) (same : divided.root ≡ root.0) where
-  -- behind so many nodes the children stand where their numbers say
-  children_placed : (roots : ℕ) (behind : List TreeNode) (c : ℕ) (sets : List (List ℕ)) → length behind ≡ child_number p c →
-      All (IsPlaced (record { roots = roots; nodes = behind ++ children divided p c sets })) (children_from root p c sets)
-  children_placed roots behind c [] e = All-nil (IsPlaced (record { roots = roots; nodes = behind ++ children divided p c [] }))
-  children_placed roots behind c (xs ∷ sets) e =
-      let child = child_of divided p c xs in
-      let more : c + 1 ≡ suc c = omega arith in
-      let longer : length (behind ++ child ∷ []) ≡ child_number p (suc c) = omega (arith, length-append behind (child ∷ []), e) in
-      let found : get_or (behind ++ child ∷ children divided p (c + 1) sets) (child_number p c) no_node ≡ child = ap (λ n. get_or (behind ++ child ∷ children divided p (c + 1) sets) n no_node) (sym e)
-      ∙ get_or-append_seam behind child (children divided p (c + 1) sets) no_node in
-      All-cons (IsPlaced (record { roots = roots; nodes = behind ++ child ∷ children divided p (c + 1) sets })) (region_at root (child_number p c) xs) (children_from root p (suc c) sets)
-      (record {
-        there = omega (arith, e, length-append behind (child ∷ children divided p (c + 1) sets));
-        points = ap (λ (x : TreeNode). x.content) found;
-        root = ap (λ (x : TreeNode). x.root) found ∙ same;
-      })
-      (subst (λ ns. All (IsPlaced (record { roots = roots; nodes = ns })) (children_from root p (suc c) sets))
-      (append_assoc behind (child ∷ []) (children divided p (suc c) sets) ∙ ap (λ n. behind ++ child ∷ children divided p n sets) (sym more))
-      (children_placed roots (behind ++ child ∷ []) (suc c) sets longer))
-
-  children_within : (extents : List Extent) → divided.root < length extents → (ys : List ℕ) → All (λ q. q < (get_or extents divided.root no_extent).count) ys → (c : ℕ) (sets : List (List ℕ)) →
-      list_all (λ xs. list_all (has ys) xs) sets ≡ true → All (IsWithinExtents extents) (children divided p c sets)
-  children_within extents l ys b c [] e = All-nil (IsWithinExtents extents)
-  children_within extents l ys b c (xs ∷ sets) e =
-      let parts = and_parts (list_all (has ys) xs) (list_all (λ xs. list_all (has ys) xs) sets) e in
-      All-cons (IsWithinExtents extents) (child_of divided p c xs) (children divided p (c + 1) sets)
-      (record { made = l; below = points_below (get_or extents divided.root no_extent).count ys b xs parts.0 }) (children_within extents l ys b (c + 1) sets parts.1)
+use Rattle.made_trees.proofs.Parts.{IsWithinExtents, children_placed, children_within}
+use Rattle.made_trees.proofs.Own.{own_stays}
+use Rattle.made_trees.proofs.Going.{Goes, begun, goes_open, left_alike, named_before, naming, places, seen_left, u}
 
 -- ---- on the table and in the tree
 
@@ -150,15 +107,11 @@ module _ (job : Job) (s : State) (b : Board (regent_ground (spaces_of job.code))
   abbrev none : List RootId
   none = []
 
-  own_stays : g.own ≡ (operation_at s k).frame.own
-  own_stays =
-      let f = found_at job s h.who b.ways (Here job s b h k v at claim before act) v [] 0 [] [] b.state.tree (here_at job s b h k v at claim before act) in
-      by_out job s b h k v at claim before act (λ w j earlier above n. g.own ≡ (operation_at s k).frame.own)
-      (λ earlier above D N i f ps w d is below x. ((segments_show job s b h v k earlier above D N i f ps d w is x below claim before act makings).kept g goes).1)
-      f.way f.number f.earlier f.above f.node f.is
+  abbrev own_is_kept : g.own ≡ (operation_at s k).frame.own
+  own_is_kept = own_stays job s b h k v at claim before act g goes
 
   own_is : q.own ≡ (operation_at s k).frame.own ++ none
-  own_is = own_stays ∙ sym (append-nil (operation_at s k).frame.own)
+  own_is = own_is_kept ∙ sym (append-nil (operation_at s k).frame.own)
 
   nodes : (n : ℕ) → n < length s.tree.nodes → (n < length regions.nodes) × (node_at regions n ≡ node_at s.tree n)
   nodes n l = (omega (arith, l, length-append s.tree.nodes new_nodes), get_or_append_left s.tree.nodes new_nodes no_node n l)
@@ -186,7 +139,7 @@ module _ (job : Job) (s : State) (b : Board (regent_ground (spaces_of job.code))
       let f = found_at job s h.who b.ways (Here job s b h k v at claim before act) v [] 0 [] [] b.state.tree (here_at job s b h k v at claim before act) in
       by_out job s b h k v at claim before act (λ w j earlier above n. IsPlaced s.tree r)
       (λ earlier above D N i f ps w d is below x. subst (λ y. YieldHas (HasPlaces s.tree) y) makes
-      (places job s b h k v at claim before act g goes s.tree s.roots s.map h.who g none (own_stays ∙ sym (append-nil (operation_at s k).frame.own)) (λ n l. (l, refl)) (λ n l. refl) (λ n l. l) (λ n f l. l) there_none
+      (places job s b h k v at claim before act g goes s.tree s.roots s.map h.who g none (own_is_kept ∙ sym (append-nil (operation_at s k).frame.own)) (λ n l. (l, refl)) (λ n l. refl) (λ n l. l) (λ n f l. l) there_none
       earlier above D N i f ps w d is below x).yields)
       f.way f.number f.earlier f.above f.node f.is
 
@@ -226,22 +179,17 @@ module _ (job : Job) (s : State) (b : Board (regent_ground (spaces_of job.code))
       abbrev roots_here : List RootId
       roots_here = above ++ (operation_at s k).frame.own
 
-      under_here : All (λ (r : RootId). r.0 < length s.roots) roots_here
-      under_here = All-append (λ (r : RootId). r.0 < length s.roots) above (operation_at s k).frame.own below (h.own_made k)
-
-      naming : IsNaming s.roots h.who roots_here name
-      naming = is_naming s.roots h.who makings h.made 0 roots_here under_here
+      naming_here : IsNaming s.roots h.who roots_here name
+      naming_here = naming job s b h k v at claim before act g goes regions s.roots s.map h.who q none own_is nodes (λ n l. refl) (λ n l. l) (λ n f l. l) there_none above below
 
       left : AreLeft job s h.who roots_here (operation_at s k) N met (segment before) a
       left = left_alike job s b h k v at claim before act g goes regions s.roots s.map h.who q none own_is nodes (λ n l. refl) (λ n l. l) (λ n f l. l) there_none earlier above D N i f ps w d is below x
 
       old_name : (other : ℕ → ℕ) → IsNaming s.roots h.who (more ++ q.own) other → IsNaming s.roots h.who roots_here other
-      old_name = back job s then h.who h.who b.ways b.ways (λ w. v ≡ w)
-          (changes job s b h k v at claim before act g goes regions s.roots s.map h.who q none own_is nodes (λ n l. refl) (λ n l. l) (λ n f l. l) there_none) roots_here (more ++ q.own)
-          (wide_roots job s b h k v at claim before act g goes regions s.roots s.map h.who q none own_is nodes (λ n l. refl) (λ n l. l) (λ n f l. l) there_none above more wider) under_here
+      old_name = named_before job s b h k v at claim before act g goes regions s.roots s.map h.who q none own_is nodes (λ n l. refl) (λ n l. l) (λ n f l. l) there_none above more below wider
 
       same_region : (other : ℕ → ℕ) → IsNaming s.roots h.who (more ++ q.own) other → region_to (named name) r ≡ region_to (named other) r
-      same_region other n = ap (λ y. region_of (yield_to (named name) y)) (sym makes) ∙ ap region_of (left.alike name other naming (old_name other n))
+      same_region other n = ap (λ y. region_of (yield_to (named name) y)) (sym makes) ∙ ap region_of (left.alike name other naming_here (old_name other n))
           ∙ ap (λ y. region_of (yield_to (named other) y)) makes
 
       partition_goes : Goes job s b h k v at claim before act g goes regions s.roots s.map h.who q none own_is nodes (λ n l. refl) (λ n l. l) (λ n f l. l) there_none [] (λ N. N) pushed_there
@@ -249,10 +197,10 @@ module _ (job : Job) (s : State) (b : Board (regent_ground (spaces_of job.code))
       partition_goes =
           let seen = seen_left job s b h k v at claim before act g goes regions s.roots s.map h.who q none own_is nodes (λ n l. refl) (λ n l. l) (λ n f l. l) there_none earlier above D N i f ps w d is below x more wider in
           record {
-            given = ap (tree.given G M [] D N i is a.text a.frame a.parts) (left.yields name naming ∙ ap (λ y. yield_out job.code job.turns met (yield_to (named name) y)) makes)
+            given = ap (tree.given G M [] D N i is a.text a.frame a.parts) (left.yields name naming_here ∙ ap (λ y. yield_out job.code job.turns met (yield_to (named name) y)) makes)
                 ∙ ap (λ c. cond {A = tree.Stepped G (Node G)} c (record { left = op D N (suc i) (pushed_there i a.frame) a.parts (idle nothing) (with_text job is a.text); effects = [] })
                 (record { left = op D N i a.frame [] (closing (at_fault G.broken)) (with_text job is a.text); effects = [] })) sound_there;
-            own = λ other n. left.own other (old_name other n) ∙ ap (map (λ (r : RootId). other r.0)) (sym own_stays);
+            own = λ other n. left.own other (old_name other n) ∙ ap (map (λ (r : RootId). other r.0)) (sym own_is_kept);
             seen = record {
               frame = λ other n. partition_seen job.code makings i named_region sets disjoint a.frame
                   ∙ (λ j. segment_partition (same_region other n j) sets disjoint (seen.frame other n j))
@@ -387,7 +335,7 @@ module _ (job : Job) (s : State) (b : Board (regent_ground (spaces_of job.code))
     breaks_open = ended_opens job s b h k v at claim before act ending.Broken s.map broken_row
         (record {
           activity_is = refl;
-          own = ap (λ x. (frame_left (operation_at s k).frame x).own) goes ∙ own_stays;
+          own = ap (λ x. (frame_left (operation_at s k).frame x).own) goes ∙ own_is_kept;
           said_is = refl;
           children = refl;
           parent = refl;

@@ -54,13 +54,11 @@ use Rattle.board_trees.specs.Frames.{HasPlaces}
 use Rattle.board_trees.specs.Names.{IsNaming, name_of, named, pointed, requirement_named}
 use Rattle.board_trees.specs.Shows.{IsWithinRoot, Shows, ShowsBoard}
 use Rattle.board_trees.specs.Waits.{Sibling}
-use Rattle.board_trees.proofs.Named.{is_naming, named_all}
-use Rattle.given_trees.proofs.Segments.{segments_show}
+use Rattle.board_trees.proofs.Named.{named_all}
 use Rattle.changed_trees.specs.Changes.{IsAt, IsWider}
 use Rattle.changed_trees.specs.Given.{Opens, makings_before, yielded_by}
-use Rattle.changed_trees.proofs.Kept.{back}
-use Rattle.yielded_trees.proofs.Found.{Here, by_out, found_at, here_at}
-use Rattle.made_trees.proofs.Going.{Goes, begun, changes, goes_open, left_alike, seen_left, u, wide_roots}
+use Rattle.made_trees.proofs.Own.{own_stays}
+use Rattle.made_trees.proofs.Going.{Goes, begun, goes_open, left_alike, named_before, naming, seen_left, u}
 use Rattle.made_trees.proofs.Roots as roots
 use Rattle.made_trees.specs.Laws.{RootsOpen}
 
@@ -121,15 +119,11 @@ module _ (job : Job) (s : State) (b : Board (regent_ground (spaces_of job.code))
   abbrev q : Frame
   q = frame_with_root job.code Rid node size space g
 
-  own_stays : g.own ≡ (operation_at s k).frame.own
-  own_stays =
-      let f = found_at job s h.who b.ways (Here job s b h k v at claim before act) v [] 0 [] [] b.state.tree (here_at job s b h k v at claim before act) in
-      by_out job s b h k v at claim before act (λ w j earlier above n. g.own ≡ (operation_at s k).frame.own)
-      (λ earlier above D N i f ps w d is below x. ((segments_show job s b h v k earlier above D N i f ps d w is x below claim before act makings).kept g goes).1)
-      f.way f.number f.earlier f.above f.node f.is
+  abbrev own_is_kept : g.own ≡ (operation_at s k).frame.own
+  own_is_kept = own_stays job s b h k v at claim before act g goes
 
   own_is : q.own ≡ (operation_at s k).frame.own ++ Rid ∷ []
-  own_is = ap (λ own. own ++ Rid ∷ []) own_stays
+  own_is = ap (λ own. own ++ Rid ∷ []) own_is_kept
 
   nodes : (n : ℕ) → n < length s.tree.nodes → (n < length regions.nodes) × (node_at regions n ≡ node_at s.tree n)
   nodes n l = (omega (arith, l, length-append s.tree.nodes (record { root = s.tree.roots; path = []; content = content.Region (points size) } ∷ [])), get_or_append_left s.tree.nodes _ no_node n l)
@@ -243,17 +237,13 @@ module _ (job : Job) (s : State) (b : Board (regent_ground (spaces_of job.code))
         let seen = seen_left job s b h k v at claim before act g goes regions extents live now q (Rid ∷ []) own_is nodes names stay fields_stay there_extra earlier above D N i f ps w d is below x more wider in
         let met = tree.met_by G M w f (tree.awaited G M w is) in
         let a = M.segment met (ps ++ d) in
-        let roots_here = above ++ (operation_at s k).frame.own in
         record {
           given = ap (tree.given G M [] D N i is a.text a.frame a.parts)
-              (left.yields name (is_naming s.roots h.who makings h.made 0 roots_here (All-append (λ (r : RootId). r.0 < length s.roots) above (operation_at s k).frame.own below (h.own_made k)))
+              (left.yields name (naming job s b h k v at claim before act g goes regions extents live now q (Rid ∷ []) own_is nodes names stay fields_stay there_extra above below)
               ∙ ap (λ y. yield_out job.code job.turns met (yield_to (named name) y)) makes);
           own = λ other n.
-              let old = back job s (u job s b h k v at claim before act g goes regions extents live now q (Rid ∷ []) own_is nodes names stay fields_stay there_extra) h.who now b.ways b.ways (λ w. v ≡ w)
-              (changes job s b h k v at claim before act g goes regions extents live now q (Rid ∷ []) own_is nodes names stay fields_stay there_extra) roots_here wide
-              (wide_roots job s b h k v at claim before act g goes regions extents live now q (Rid ∷ []) own_is nodes names stay fields_stay there_extra above more wider)
-              (All-append (λ (r : RootId). r.0 < length s.roots) above (operation_at s k).frame.own below (h.own_made k)) other n in
-              (λ j. (left.own other old ∙ ap (map (λ (r : RootId). other r.0)) (sym own_stays)) j ++ sym (root_named other n) j ∷ [])
+              let old = named_before job s b h k v at claim before act g goes regions extents live now q (Rid ∷ []) own_is nodes names stay fields_stay there_extra above more below wider other n in
+              (λ j. (left.own other old ∙ ap (map (λ (r : RootId). other r.0)) (sym own_is_kept)) j ++ sym (root_named other n) j ∷ [])
               ∙ sym (map-append (λ (r : RootId). other r.0) g.own (Rid ∷ []));
           seen = record {
             frame = λ other n. root_seen job.code makings i space size a.frame

@@ -1,0 +1,8 @@
+//! Runs a job by workers in threads of their own, which share a board.
+#![tactic(auto)]
+
+mod run;
+#[cfg(test)]
+mod tests;
+
+pub use run::run_by_workers;
