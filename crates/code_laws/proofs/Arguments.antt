@@ -1,6 +1,6 @@
 -- What stands as an argument: a name that has a region, a part of a partition that has a name, or an expression of a
 -- number or truth.
-use Rattle.std.proofs.Common.{◌≡◌, ◌⊎◌, inl, inr, Bool, false, true, [], Option, Some, None, refl, ap, ◌∙◌, subst}
+use Rattle.std.proofs.Common.{⊎_elim, ◌≡◌, ◌⊎◌, inl, inr, Bool, false, true, [], Option, Some, None, refl, ap, ◌∙◌, subst}
 use Rattle.std.proofs.lemmas.Option.{none-some, same_Some}
 use Rattle.regent_tree.specs.Accesses.{converted, space_in}
 use Rattle.regent_tree.specs.Lookup.{is_bound}
@@ -52,13 +52,24 @@ pub record IsPartArgument (o : Option Taking) (w : Where) (t p : StaticType) (e 
   pub regions : AreRegions (typed w e) p
   pub part : Part
 
+-- so is a partition
+pub record IsCutArgument (o : Option Taking) (w : Where) (t p : StaticType) (e : Expression) : Type 0 where
+  pub taking : Taking
+  pub takes : o ≡ Some taking
+  pub name : Name
+  pub is : e ≡ access_expr name no_step
+  pub cut : IsCutName w name
+  pub same : t ≡ p
+  pub partition : IsPartition p
+
 pub handed_part : (keeps : Bool) (o : Option Taking) (w : Where) (t p : StaticType) (e : Expression) (Part : Type 0) →
-    IsHandedPart keeps o w t p e Part → IsPartArgument o w t p e Part
+    IsHandedPart keeps o w t p e Part → IsPartArgument o w t p e Part ⊎ IsCutArgument o w t p e
 handed_part false o w t p e Part h = absurd h
 handed_part true None w t p e Part h = absurd h
 handed_part true (Some y) w t p (access_expr n (at_step e no_step)) Part h =
-    record { taking = y; takes = refl; name = n; index = e; is = refl; cut = h.0; same = h.1; regions = h.2; part = h.3 }
-handed_part true (Some y) w t p (access_expr n no_step) Part h = absurd h
+    inl (record { taking = y; takes = refl; name = n; index = e; is = refl; cut = h.0; same = h.1; regions = h.2; part = h.3 })
+handed_part true (Some y) w t p (access_expr n no_step) Part h =
+    inr (record { taking = y; takes = refl; name = n; is = refl; cut = h.0; same = h.1; partition = h.2 })
 handed_part true (Some y) w t p (access_expr n (field_step _ _)) Part h = absurd h
 handed_part true (Some y) w t p (access_expr n (at_step _ (field_step _ _))) Part h = absurd h
 handed_part true (Some y) w t p (access_expr n (at_step _ (at_step _ _))) Part h = absurd h
@@ -208,18 +219,24 @@ pub record Unchanged (h : Here) (w : Where) (from t : StaticType) : Type 0 where
 pub unchanged : (h : Here) (w : Where) (from b p : StaticType) → AreRegions b p → Unchanged h w from p
 unchanged h w from _ _ (two_regions k l sp args brgs r u) = record { code = refl; value = λ v s. refl }
 
--- what is passed is a number, a truth or an index, a region that has a name, or a part
+pub cut_unchanged : (h : Here) (w : Where) (from p : StaticType) → IsPartition p → Unchanged h w from p
+cut_unchanged h w from _ (a_partition_type d r own) = record { code = refl; value = λ v s. refl }
+
+-- what is passed goes into the parameter, or is a region that has a name, a part, or a partition that has a name
 pub given_by : (keeps : Bool) (o : Option Taking) (w : Where) (t p : StaticType) (e : Expression) (Typed Part Goal : Type 0) →
     (PassesInto keeps (typed w e) t p → Typed → Goal) → ((y : Taking) → o ≡ Some y → IsHanded (Some y) w t p e → Goal) →
-    (IsPartArgument o w t p e Part → Goal) →
+    (IsPartArgument o w t p e Part → Goal) → (IsCutArgument o w t p e → Goal) →
     (PassesInto keeps (typed w e) t p × Typed) ⊎ (IsHanded o w t p e ⊎ IsHandedPart keeps o w t p e Part) → Goal
-given_by keeps o w t p e Typed Part Goal this that other (inl a) = this a.0 a.1
-given_by keeps None w t p e Typed Part Goal this that other (inr (inl h)) = absurd h
-given_by keeps (Some y) w t p e Typed Part Goal this that other (inr (inl h)) = that y refl h
-given_by keeps o w t p e Typed Part Goal this that other (inr (inr h)) = other (handed_part keeps o w t p e Part h)
+given_by keeps o w t p e Typed Part Goal this that other last (inl a) = this a.0 a.1
+given_by keeps None w t p e Typed Part Goal this that other last (inr (inl h)) = absurd h
+given_by keeps (Some y) w t p e Typed Part Goal this that other last (inr (inl h)) = that y refl h
+given_by keeps o w t p e Typed Part Goal this that other last (inr (inr h)) = ⊎_elim other last (handed_part keeps o w t p e Part h)
 
 -- where no partitions are kept, it is no part
 pub given_either : (o : Option Taking) (w : Where) (t p : StaticType) (e : Expression) (Typed Goal : Type 0) →
     (AreAlike (typed w e) t → t ≡ p → Typed → Goal) → ((y : Taking) → o ≡ Some y → IsHanded (Some y) w t p e → Goal) →
     ((AreAlike (typed w e) t × (t ≡ p)) × Typed) ⊎ (IsHanded o w t p e ⊎ ⊥) → Goal
-given_either o w t p e Typed Goal this that g = given_by false o w t p e Typed ⊥ Goal (λ a. this a.0 a.1) that (λ a. absurd a.part) g
+given_either o w t p e Typed Goal this that (inl a) = this a.0.0 a.0.1 a.1
+given_either None w t p e Typed Goal this that (inr (inl h)) = absurd h
+given_either (Some y) w t p e Typed Goal this that (inr (inl h)) = that y refl h
+given_either o w t p e Typed Goal this that (inr (inr h)) = absurd h

@@ -24,7 +24,7 @@ main_typed = (
   (
     (
       two_integers _ _,
-      (refl, scalar_integer _, (refl, tt, tt, (tt, tt)), (inl ((two_integers _ _, refl), (refl, simple_integer _)), tt)),
+      (refl, scalar_integer _, (refl, tt, tt, (tt, tt), (tt, tt)), (inl ((two_integers _ _, refl), (refl, simple_integer _)), tt)),
       omega (arith, ints),
       number_integer _,
       refl,
@@ -32,14 +32,14 @@ main_typed = (
       tt,
     ),
     (
-      (refl, (refl, tt, tt, (tt, tt)), (inl ((two_integers _ _, refl), omega (arith, ints)), tt)),
+      (refl, (refl, tt, tt, (tt, tt), (tt, tt)), (inl ((two_integers _ _, refl), omega (arith, ints)), tt)),
       (
         (
           two_integers _ _,
           (
             refl,
             scalar_integer _,
-            (refl, tt, tt, (tt, tt)),
+            (refl, tt, tt, (tt, tt), (tt, tt)),
             (
               inl (
                 (two_integers _ _, refl),

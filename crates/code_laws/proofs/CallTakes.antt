@@ -1,22 +1,21 @@
 -- What a call takes: what the called task requires of its arguments is there, and lies within what the caller has, and
 -- its constraints hold of them.
-use Rattle.std.proofs.Common.{◌≡◌, ℕ, zero, suc, ◌<◌, ℤ, List, [], ◌∷◌, inl, inr, Bool, true, false, Option, Some, None, refl, sym, ap, ◌∙◌, subst, arith, ⊎_elim}
+use Rattle.std.proofs.Common.{◌≡◌, ℕ, ◌<◌, ℤ, List, [], ◌∷◌, inl, inr, Bool, true, false, Option, Some, None, refl, sym, ap, ◌∙◌, subst, arith, ⊎_elim}
 use Rattle.std.specs.Prelude.{get_or, length, map, nat_abs, option_map, slice_get}
-use Rattle.std.proofs.lemmas.Option.{get_or_from_slice_get, none-some, same_Some, slice_get-map}
+use Rattle.std.proofs.lemmas.Option.{get_or_from_slice_get, same_Some, slice_get-map}
 use Rattle.plain_values.specs.Points.{has}
 use Rattle.partitions.specs.Laws.{ArePartsOf}
 use Rattle.region_tree.specs.Requirements.{is_within, mode_at}
 use Rattle.regent_tree.proofs.Members.{Has, Has-from_Contains}
 use Rattle.regent_tree.specs.Accesses.{space_in}
 use Rattle.regent_tree.specs.Laws.{Shape}
-use Rattle.regent_tree.specs.Lookup.{is_bound}
 use Rattle.regent_tree.specs.Running.{Here, State}
 use Rattle.regent_tree.specs.Scopes.{bound_to, scope_of}
 use Rattle.regent_tree.specs.StaticTypes.{space_at, task_named}
 use Rattle.regent_tree.specs.Store.{no_root}
 use Rattle.regent_tree.specs.Syntax.{Expression, Expressions, Name, an_expr, no_expr}
 use Rattle.regent_tree.specs.Typing.{param_types, parent_of}
-use Rattle.regent_tree.specs.Values.{Partition, Region, Value, a_region, a_truth, partition_of, region_of}
+use Rattle.regent_tree.specs.Values.{Partition, Region, Value, a_partition, a_region, a_truth, partition_of, region_of}
 use Rattle.regent_tree.specs.declared.facts.Term.{Term}
 use Rattle.regent_tree.specs.declared.facts.Term.TheVariants as term
 use Rattle.regent_tree.specs.declared.typing.StaticType.{StaticType}
@@ -36,15 +35,17 @@ use Rattle.code_rules.specs.Programs.{task_code}
 use Rattle.code_rules.specs.Slots.{Where, typed}
 use Rattle.code_laws.specs.Arguments.{AreMet, AreOneColour, AreParted, IsPartBelow, IsCutName, IsMet, IsMetAt, IsMetPart, IsPart, IsParted, IsPartedAt, name_at, one_name, one_number, parent_bound, part_at}
 use Rattle.code_laws.specs.Pointers.{Passes, passes_plain, passes_pointer}
-use Rattle.code_laws.specs.Simple.{AreRegions, IsRegion, term_in, two_regions}
-use Rattle.code_laws.specs.Standing.{Agrees, AreTaken, Aside, IsInside, IsOf, IsTaken, LiesIn, SlotsFit, Takes, machine_value, nothing, of_pointer, takes_pointer, takes_region, takes_value, where_of}
+use Rattle.code_laws.specs.Simple.{AreRegions, IsPartition, IsRegion, a_partition_type, term_in, two_regions}
+use Rattle.code_laws.specs.Standing.{Agrees, AreTaken, Aside, IsInside, IsOf, IsTaken, LiesIn, SlotsFit, Takes, machine_value, nothing, of_pointer, takes_partition, takes_pointer, takes_region, takes_value, where_of}
 use Rattle.code_laws.specs.Steps.{Setting, Taking}
 use Rattle.code_laws.specs.Taking.{AreParts, IsHad, IsHadBy, MayDo, given_region, pairs_in, pairs_taken, IsSubregion}
 use Rattle.code_laws.specs.Typed.{IsCallable}
-use Rattle.code_laws.proofs.Arguments.{first_region, passes_other, named_typed, no_both, part_other, part_space, region_other}
+use Rattle.code_laws.proofs.Arguments.{first_region, part_space}
+use Rattle.code_laws.proofs.CallCuts.{divided_at, partition_inside, partition_there}
+use Rattle.code_laws.proofs.CallValues.{by_name, by_part, value_at}
 use Rattle.code_laws.proofs.Calling.{given_number}
-use Rattle.code_laws.proofs.Handing.{AreGivenBy, IsGivenBy, IsHandedAs, IsPartAs}
-use Rattle.code_laws.proofs.Parts.{IsColoured, colour_seen, cut_of, parent_inside, part_at_colour, part_lies_in, part_within, point_of}
+use Rattle.code_laws.proofs.Handing.{AreGivenBy, IsGivenBy}
+use Rattle.code_laws.proofs.Parts.{colour_seen, cut_of, parent_inside, part_at_colour, part_lies_in, part_within, point_of}
 use Rattle.code_laws.proofs.Reaching.{a_region_there, field_there, kept_here, part_lies, region_covered, region_had, region_lies_in}
 use Rattle.code_laws.proofs.Requiring.{covered_within, requirements_there}
 use Rattle.code_laws.proofs.Values.{named}
@@ -53,50 +54,6 @@ use Rattle.code_laws.proofs.Wider.{into_simple}
 module _ (x : Setting) (params slots : ℕ) (fit : SlotsFit x slots) (aside : Aside) where
   abbrev AreGiven : Here → List StaticType → Expressions → List Value → List Value → Type 0
   AreGiven h ps es vs names = AreGivenBy x params slots fit aside h ps es vs names
-
-  -- ---- arguments by their places
-
-  -- the value of an argument that is a region's name
-  value_at : (h : Here) (ps : List StaticType) (es : Expressions) (vs names : List Value) (k : ℕ) (n : Name) → AreGiven h ps es vs names →
-      name_at es k ≡ Some n → IsRegion (bound_to h.scope.names n).static_type →
-      slice_get vs k ≡ Some (get_or names (bound_to h.scope.names n).place nothing)
-  value_at h ps no_expr vs names k n a e r = absurd (none-some n e)
-  value_at h (p ∷ ps) (an_expr e es) (v ∷ vs) names (suc k) n a at r = value_at h ps es vs names k n a.1 at r
-  value_at h (p ∷ ps) (an_expr e es) (v ∷ vs) names zero n a at r =
-      ⊎_elim
-      (λ scalar. absurd (region_other (typed (where_of params h) e)
-      (subst IsRegion (sym (named_typed (where_of params h) e n at)) r) (passes_other (typed (where_of params h) e) scalar.0 p scalar.1)))
-      (λ given. ⊎_elim
-      (λ (is : IsHandedAs x params slots fit aside h p e v names).
-      let same : is.name ≡ n = same_Some is.name n (sym is.stands ∙ at) in
-      ap (λ u. Some u) (is.is ∙ ap (λ m. get_or names (bound_to h.scope.names m).place nothing) same))
-      (λ (is : IsPartAs x params slots fit aside h p e v names). absurd (no_both e n (is.name, is.index) at is.stands)) given) a.0
-  value_at h [] (an_expr e es) vs names k n a at r = absurd a
-  value_at h (p ∷ ps) (an_expr e es) [] names k n a at r = absurd a
-
-  -- and of one that is a part
-  record ByPart (h : Here) (vs : List Value) (k : ℕ) (p : Name × Expression) (names : List Value) : Type 0 where
-    value : Value
-    at : slice_get vs k ≡ Some value
-    coloured : IsColoured h p.0 p.1 value names
-
-  by_part : (h : Here) (ps : List StaticType) (es : Expressions) (vs names : List Value) (k : ℕ) (q : Name × Expression) → AreGiven h ps es vs names →
-      part_at es k ≡ Some q → IsCutName (where_of params h) q.0 → ByPart h vs k q names
-  by_part h ps no_expr vs names k q a e cut = absurd (none-some q e)
-  by_part h (p ∷ ps) (an_expr e es) (v ∷ vs) names (suc k) q a at cut =
-      let r = by_part h ps es vs names k q a.1 at cut in record { value = r.value; at = r.at; coloured = r.coloured }
-  by_part h (p ∷ ps) (an_expr e es) (v ∷ vs) names zero q a at cut =
-      ⊎_elim
-      (λ scalar. absurd (part_other (where_of params h) e scalar.0 p q at cut scalar.1))
-      (λ given. ⊎_elim
-      (λ (is : IsHandedAs x params slots fit aside h p e v names). absurd (no_both e is.name q is.stands at))
-      (λ (is : IsPartAs x params slots fit aside h p e v names). record {
-        value = v;
-        at = refl;
-        coloured = subst (λ (q : Name × Expression). IsColoured h q.0 q.1 v names) (same_Some (is.name, is.index) q (sym is.stands ∙ at)) is.coloured;
-      }) given) a.0
-  by_part h [] (an_expr e es) vs names k q a at cut = absurd a
-  by_part h (p ∷ ps) (an_expr e es) [] names k q a at cut = absurd a
 
   -- ---- needs
 
@@ -135,7 +92,7 @@ module _ (x : Setting) (params slots : ℕ) (fit : SlotsFit x slots) (aside : As
         whole = q.0;
         inside = subst (IsInside x s.store b.static_type) q.2 (named (IsInside x s.store) h.scope.names s.names name g.inside_store m.0).holding;
         points = q.0;
-        is = value_at h ps es vs s.names n.param name a at m.1 ∙ ap (λ u. Some u) q.2;
+        is = value_at x params slots fit aside h ps es vs s.names n.param name a at m.1 ∙ ap (λ u. Some u) q.2;
         root = refl;
         within = λ k e. e;
       }
@@ -147,7 +104,7 @@ module _ (x : Setting) (params slots : ℕ) (fit : SlotsFit x slots) (aside : As
   on_part h s i ps es vs n (Some y) e None at m a g = absurd m
   on_part h s i ps es vs n (Some y) e (Some p) at m a g =
       let t = (parent_bound (where_of params h) p.0).static_type in
-      let b = by_part h ps es vs s.names n.param p a at m.0 in
+      let b = by_part x params slots fit aside h ps es vs s.names n.param p a at m.0 in
       let k = b.coloured in
       let c = cut_of x params slots fit aside h s i p.0 k.partition m.0 k.has_it g in record {
         type = t;
@@ -173,6 +130,10 @@ module _ (x : Setting) (params slots : ℕ) (fit : SlotsFit x slots) (aside : As
   taken_by h s i [] no_expr [] a g = tt
   taken_by h s i (p ∷ ps) (an_expr e es) (v ∷ vs) a g = (one a.0, taken_by h s i ps es vs a.1 g)
     where
+      divided : (p : StaticType) (q : Partition) (y : Taking) → x.forms.takes ≡ Some y → IsPartition p → q.root < length s.store →
+          IsTaken x.forms.takes x.code s.store p (a_partition q)
+      divided _ q y takes (a_partition_type d r own) low = takes_partition y d r own q takes low
+
       passed_is : (t u p : StaticType) (v : Value) → Passes t u p → IsOf p v → IsTaken x.forms.takes x.code s.store p v
       passed_is t _ _ v (passes_plain _ u goes) o = takes_value u v (into_simple t u goes) o
       passed_is _ _ _ _ (passes_pointer _ k sp args brgs rs qs n e) (of_pointer _ _ _ _ tg regions o) = takes_pointer k sp args rs tg regions o
@@ -183,7 +144,15 @@ module _ (x : Setting) (params slots : ℕ) (fit : SlotsFit x slots) (aside : As
 
       one : IsGivenBy x params slots fit aside h p e v s.names → IsTaken x.forms.takes x.code s.store p v
       one (inl c) = passed_is (typed (where_of params h) e) c.0 p v c.1 c.2
-      one (inr (inr is)) =
+      one (inr (inr (inr is))) =
+          let b = bound_to h.scope.names is.name in
+          let u = get_or s.names b.place nothing in
+          let q = partition_there b.static_type u is.cut.partition (named IsOf h.scope.names s.names is.name g.typed is.cut.named).holding in
+          subst (IsTaken x.forms.takes x.code s.store p) (sym (is.is ∙ q.1))
+          (divided p q.0 is.taking is.takes is.partition
+          (partition_inside x s.store b.static_type q.0 is.cut.partition
+          (subst (IsInside x s.store b.static_type) q.1 (named (IsInside x s.store) h.scope.names s.names is.name g.inside_store is.cut.named).holding)))
+      one (inr (inr (inl is))) =
           let w = where_of params h in
           let k = is.coloured in
           let r = parent_of (bound_to h.scope.names is.name).static_type in
@@ -228,35 +197,14 @@ module _ (x : Setting) (params slots : ℕ) (fit : SlotsFit x slots) (aside : As
   part_given y (term.Name i) (term.Child _ _) q p e is had there parts = absurd is
   part_given y (term.Child _ _) u q p e is had there parts = absurd is
 
-  -- the region of a name that stands as an argument
-  record ByName (h : Here) (s : State) (vs : List Value) (k : ℕ) (n : Name) : Type 0 where
-    region : Region
-    is : given_region vs k ≡ region
-    value : get_or s.names (bound_to h.scope.names n).place nothing ≡ a_region region
-    had : IsHad x (term_in (bound_to h.scope.names n).static_type) region
-
-  by_name : (h : Here) (s : State) (i : Instance) (ps : List StaticType) (es : Expressions) (vs : List Value) (k : ℕ) (n : Name) →
-      name_at es k ≡ Some n → is_bound h.scope.names n ≡ true → IsRegion (bound_to h.scope.names n).static_type →
-      AreGiven h ps es vs s.names → Agrees x params slots aside h s i → ByName h s vs k n
-  by_name h s i ps es vs k n at there region a g =
-      let b = bound_to h.scope.names n in
-      let v = get_or s.names b.place nothing in
-      let q = a_region_there b.static_type v region (named IsOf h.scope.names s.names n g.typed there).holding in record {
-        region = q.0;
-        is = ap region_of (get_or_from_slice_get vs k v (a_truth false) (value_at h ps es vs s.names k n a at region)) ∙ q.1;
-        value = q.2;
-        had = region_had x s.store b.static_type q.0 region
-            (subst (IsInside x s.store b.static_type) q.2 (named (IsInside x s.store) h.scope.names s.names n g.inside_store there).holding);
-      }
-
   parted_lies : (h : Here) (s : State) (i : Instance) (ps : List StaticType) (es : Expressions) (vs : List Value) (y : Taking) (j k : ℕ) (o u : Option Name) →
       x.forms.takes ≡ Some y → name_at es j ≡ o → name_at es k ≡ u → IsParted y (where_of params h) o u → AreGiven h ps es vs s.names →
       Agrees x params slots aside h s i → IsSubregion (given_region vs j) (given_region vs k)
   parted_lies h s i ps es vs y j k None u e at there is a g = absurd is
   parted_lies h s i ps es vs y j k (Some m) None e at there is a g = absurd is
   parted_lies h s i ps es vs y j k (Some m) (Some n) e at there is a g =
-      let b = by_name h s i ps es vs j m at is.0 is.2 a g in
-      let c = by_name h s i ps es vs k n there is.1 is.3 a g in
+      let b = by_name x params slots fit aside h s i ps es vs j m at is.0 is.2 a g in
+      let c = by_name x params slots fit aside h s i ps es vs k n there is.1 is.3 a g in
       subst (λ q. IsSubregion q (given_region vs k)) (sym b.is)
       (subst (IsSubregion b.region) (sym c.is)
       (⊎_elim
@@ -284,10 +232,10 @@ module _ (x : Setting) (params slots : ℕ) (fit : SlotsFit x slots) (aside : As
   below_lies h s i ps es vs y j k (Some p) (Some n) u e at there other is a g =
       let r = parent_of (bound_to h.scope.names p.0).static_type in
       let t = (parent_bound (where_of params h) p.0).static_type in
-      let b = by_part h ps es vs s.names j p a at is.0 in
+      let b = by_part x params slots fit aside h ps es vs s.names j p a at is.0 in
       let c = b.coloured in
       let d = cut_of x params slots fit aside h s i p.0 c.partition is.0 c.has_it g in
-      let outer = by_name h s i ps es vs k n there is.1.named is.1.region a g in
+      let outer = by_name x params slots fit aside h s i ps es vs k n there is.1.named is.1.region a g in
       let whole : IsSubregion d.parent outer.region =
       ⊎_elim
       (λ same. subst (IsSubregion d.parent)
@@ -299,8 +247,8 @@ module _ (x : Setting) (params slots : ℕ) (fit : SlotsFit x slots) (aside : As
       (subst (IsSubregion (part_at_colour c.partition c.colour)) (sym outer.is)
       (d.root ∙ whole.0, λ root point e. whole.1 root point (within_whole d.parent c.partition c.colour d.root d.sets c.low root point e)))
   below_lies h s i ps es vs y j k (Some p) None (Some q) e at there other is a g =
-      let b = by_part h ps es vs s.names j p a at is.0 in
-      let c = by_part h ps es vs s.names k q a other (subst (IsCutName (where_of params h)) is.1 is.0) in
+      let b = by_part x params slots fit aside h ps es vs s.names j p a at is.0 in
+      let c = by_part x params slots fit aside h ps es vs s.names k q a other (subst (IsCutName (where_of params h)) is.1 is.0) in
       let bc = b.coloured in
       let cc = c.coloured in
       let partitions : bc.partition ≡ cc.partition =
@@ -362,7 +310,7 @@ module _ (x : Setting) (params slots : ℕ) (fit : SlotsFit x slots) (aside : As
       (parted_at x.forms.keeps y w es (pairs_in (scope_of h.tree (task_named h.tree task)).known) p
       (subst (λ o. AreParted x.forms.keeps o w es (pairs_in (scope_of h.tree (task_named h.tree task)).known)) e fine.2)
       (Has-from_Contains (pairs_in (scope_of h.tree (task_named h.tree task)).known) p k)) a g in record {
-        takes = record { there = fine.0; taken = taken_by h s i ps es vs a g; parts = parts; back = fine.3; kept = kept_here x params slots aside h s i g; needs = there.0; required = there.1 };
+        takes = record { there = fine.0; taken = taken_by h s i ps es vs a g; parts = parts; back = fine.3; divided = divided_at x params slots fit aside h s i ps es vs a g 0 ps es vs (λ j. ap (name_at es) (omega arith)) a fine.4; kept = kept_here x params slots aside h s i g; needs = there.0; required = there.1 };
         within = covered_within x.code c args ns there.0 i.needs there.1 (λ root field point m k.
             let n = k.need in
             let o = on n k.among in

@@ -8,7 +8,7 @@ use Rattle.regent_tree.specs.Meaning.{entered, entered_as}
 use Rattle.regent_tree.specs.Scopes.{Scope, bound_as, bound_params}
 use Rattle.regent_tree.specs.StaticTypes.{Reach}
 use Rattle.regent_tree.specs.Syntax.{Tree}
-use Rattle.regent_tree.specs.Values.{Region, Target, Value, a_pointer, a_region, no_region, region_of}
+use Rattle.regent_tree.specs.Values.{Partition, Region, Target, Value, a_partition, a_pointer, a_region, no_region, region_of}
 use Rattle.regent_tree.specs.declared.facts.Term.TheVariants as term
 use Rattle.regent_tree.specs.declared.types.Kind.{Kind}
 use Rattle.regent_tree.specs.declared.types.Param.{Param}
@@ -17,9 +17,10 @@ use Rattle.regent_tree.specs.declared.typing.StaticType.{StaticType}
 use Rattle.regent_tree.specs.declared.typing.StaticType.TheVariants.{Index as index_type, Integer as integer_type, Ispace as ispace_type, Nothing as no_type, Partition as partition_type, Pointer as pointer_type, Region as region_type, Truth as truth_type, Unknown as unknown_type}
 use Rattle.task_code.specs.declared.code.Code.{Code}
 use Rattle.regent_tree.specs.Store.{Store}
-use Rattle.code_laws.specs.Pointers.{AreBefore, ArePointed, AreReached, AreThere, GoBack, GoesBack, IsPointed}
+use Rattle.code_laws.specs.Pointers.{AreBefore, IsCut, IsCutIn, ArePointed, AreReached, AreThere, GoBack, GoesBack, IsPointed, IsOfName}
 use Rattle.code_laws.specs.Simple.{IsRegion, a_region_type}
-use Rattle.code_laws.specs.Standing.{AreOf, AreTaken, IsOf, IsTaken, nothing, of_region, takes_pointer, takes_region, takes_value}
+use Rattle.code_laws.specs.Standing.{AreOf, AreTaken, IsOf, IsOfGiven, IsTaken, nothing, of_region, takes_partition, takes_pointer, takes_region, takes_value}
+use Rattle.code_laws.specs.Taking.{given_region}
 use Rattle.code_laws.proofs.Pointing.{IsPlain, plain_pointed, simple_plain}
 
 -- ---- the values of parameters
@@ -29,6 +30,7 @@ pub data Enters (s : Scope) (vs : List Value) : StaticType → Value → Type 0 
   enters_plain : (t : StaticType) (v : Value) → IsPlain v → Enters s vs t v
   enters_pointer : (k : Kind) (sp : ℕ) (args rs : List Reach) (tg : Target) →
       Enters s vs (pointer_type k sp args rs) (a_pointer tg (regions_reached s vs rs))
+  enters_cut : (d : Bool) (r p : ℕ) (q : Partition) → IsCutIn (given_region vs r) q → Enters s vs (partition_type d r p) (a_partition q)
 
 pub plain_entered : (s : Scope) (vs : List Value) (t : StaticType) (v : Value) → IsPlain v → entered_as s vs t v ≡ v
 plain_entered s vs (integer_type w) v p = refl
@@ -46,19 +48,20 @@ plain_entered s vs (pointer_type k sp args rs) v p = by v p
     by v p = refl
 
 pub taken_enters : (s : Scope) (all : List Value) (takes : _) (code : Code) (store : Store) (ts : List StaticType) (vs : List Value) →
-    AreTaken (IsTaken takes code store) ts vs → AreTaken (Enters s all) ts (entered s all ts vs)
-taken_enters s all takes code store [] [] a = tt
-taken_enters s all takes code store (t ∷ ts) (v ∷ vs) a = (one t v a.0, taken_enters s all takes code store ts vs a.1)
+    AreTaken (IsTaken takes code store) ts vs → AreTaken (IsOfGiven all) ts vs → AreTaken (Enters s all) ts (entered s all ts vs)
+taken_enters s all takes code store [] [] a c = tt
+taken_enters s all takes code store (t ∷ ts) (v ∷ vs) a c = (one t v a.0 c.0, taken_enters s all takes code store ts vs a.1 c.1)
   where
     plain : (t : StaticType) (v : Value) → IsPlain v → Enters s all t (entered_as s all t v)
     plain t v p = subst (Enters s all t) (sym (plain_entered s all t v p)) (enters_plain t v p)
 
-    one : (t : StaticType) (v : Value) → IsTaken takes code store t v → Enters s all t (entered_as s all t v)
-    one _ _ (takes_value t v i o) = plain t v (simple_plain t v i o)
-    one _ _ (takes_pointer k sp args rs tg qs o) = enters_pointer k sp args rs tg
-    one _ _ (takes_region y k sp args r q e l) = plain (region_type k sp args r) (a_region q) tt
-taken_enters s all takes code store [] (v ∷ vs) a = absurd a
-taken_enters s all takes code store (t ∷ ts) [] a = absurd a
+    one : (t : StaticType) (v : Value) → IsTaken takes code store t v → IsOfGiven all t v → Enters s all t (entered_as s all t v)
+    one _ _ (takes_value t v i o) c = plain t v (simple_plain t v i o)
+    one _ _ (takes_pointer k sp args rs tg qs o) c = enters_pointer k sp args rs tg
+    one _ _ (takes_partition y d r p q e l) c = enters_cut d r p q c
+    one _ _ (takes_region y k sp args r q e l) c = plain (region_type k sp args r) (a_region q) tt
+taken_enters s all takes code store [] (v ∷ vs) a c = absurd a
+taken_enters s all takes code store (t ∷ ts) [] a c = absurd a
 
 -- regions are entered as they are
 region_entered : (s : Scope) (all : List Value) (ts : List StaticType) (vs : List Value) (k : ℕ) (q : Region) → get_or vs k nothing ≡ a_region q →
@@ -138,28 +141,46 @@ module _ (s : Scope) (ts : List StaticType) (vs : List Value) (many : length vs 
   abbrev AreFound : List Bound → Type 0
   AreFound bs = (i : ℕ) → i < length bs → bound_as s.names i ≡ bound_as bs i
 
+  -- the region of a parameter by its number
+  record IsBack (bs : List Bound) (i : ℕ) : Type 0 where
+    named : IsOfName (bound_as bs i) (length bs) us (space_in (bound_as bs i).static_type) i (region_of (get_or vs i nothing))
+    bound : region_bound s vs (term.Name i) ≡ region_of (get_or vs i nothing)
+
+  region_back : (bs : List Bound) (i : ℕ) → ArePlacedBy bs → length bs ≤ length s.names → AreOf IsOf bs vs → AreFound bs → i < length bs →
+      (bound_as s.names i).number ≡ i → IsRegion (bound_as s.names i).static_type → IsBack bs i
+  region_back bs i own low typed found less number is_one =
+      let b = bound_as bs i in
+      let here : bound_as s.names i ≡ b = found i less in
+      let region : IsRegion b.static_type = subst (λ (b : Bound). IsRegion b.static_type) here is_one in
+      let at = placed_below bs i own less in
+      let v = get_or vs i nothing in
+      let is : v ≡ a_region (region_of v) =
+      is_region b.static_type v region (subst (λ k. IsOf b.static_type (get_or vs k nothing)) at (held_as IsOf bs vs i typed region)) in record {
+        named = record {
+          numbered = subst (λ (b : Bound). b.number ≡ i) here number;
+          region = region;
+          space = refl;
+          below = omega (arith, at, less);
+          value = ap (λ k. get_or us k nothing) at ∙ region_entered s vs ts vs i (region_of v) is;
+        };
+        bound = ap (λ k. region_of (get_or vs k (a_region no_region))) (ap (λ (b : Bound). b.place) here ∙ at)
+            ∙ ap region_of (get_or_default vs i (a_region no_region) nothing (omega (arith, less, low, many)));
+      }
+
+  cut_back : (bs : List Bound) (r : ℕ) (q : Partition) → ArePlacedBy bs → length bs ≤ length s.names → AreOf IsOf bs vs → AreFound bs → r < length bs →
+      (bound_as s.names r).number ≡ r → IsRegion (bound_as s.names r).static_type → IsCutIn (given_region vs r) q → IsCut bs us r q
+  cut_back bs r q own low typed found less number is_one c =
+      let back = region_back bs r own low typed found less number is_one in
+      record { parent = given_region vs r; is = back.named; root = c.root; sets = c.sets; apart = c.apart; few = c.few }
+
   reached_back : (bs : List Bound) (sp : ℕ) (rs : List Reach) → ArePlacedBy bs → length bs ≤ length s.names → AreOf IsOf bs vs → AreFound bs →
       AreThere s.names sp rs → AreBefore (length bs) rs → AreReached bs us sp rs (regions_reached s vs rs)
   reached_back bs sp [] own low typed found there before = tt
   reached_back bs sp (Some (term.Name i) ∷ rs) own low typed found there before =
-      let b = bound_as bs i in
-      let less = before.0 in
-      let here : bound_as s.names i ≡ b = found i less in
-      let region : IsRegion b.static_type = subst (λ (b : Bound). IsRegion b.static_type) here there.1 in
-      let at = placed_below bs i own less in
-      let v = get_or vs i nothing in
-      let is : v ≡ a_region (region_of v) =
-      is_region b.static_type v region (subst (λ k. IsOf b.static_type (get_or vs k nothing)) at (held_as IsOf bs vs i typed region)) in
-      let bound : region_bound s vs (term.Name i) ≡ region_of v =
-      ap (λ k. region_of (get_or vs k (a_region no_region))) (ap (λ (b : Bound). b.place) here ∙ at)
-      ∙ ap region_of (get_or_default vs i (a_region no_region) nothing (omega (arith, less, low, many))) in (
-        record {
-          numbered = subst (λ (b : Bound). b.number ≡ i) here there.0;
-          region = region;
-          space = subst (λ (b : Bound). space_in b.static_type ≡ sp) here there.2;
-          below = omega (arith, at, less);
-          value = ap (λ k. get_or us k nothing) at ∙ region_entered s vs ts vs i (region_of v) is ∙ ap (λ q. a_region q) (sym bound);
-        },
+      let back = region_back bs i own low typed found before.0 there.0 there.1 in
+      let space : space_in (bound_as bs i).static_type ≡ sp = subst (λ (b : Bound). space_in b.static_type ≡ sp) (found i before.0) there.2 in (
+        subst (λ q. IsOfName (bound_as bs i) (length bs) us sp i q) (sym back.bound)
+            (subst (λ sp. IsOfName (bound_as bs i) (length bs) us sp i (region_of (get_or vs i nothing))) space back.named),
         reached_back bs sp rs own low typed found there.3 before.1,
       )
   reached_back bs sp (Some (term.Child p c) ∷ rs) own low typed found there before = absurd there
@@ -175,5 +196,7 @@ module _ (s : Scope) (ts : List StaticType) (vs : List Value) (many : length vs 
     where
       one : AreFound bs → (t : StaticType) (v : Value) → Enters s vs t v → GoesBack s.names b.number t → IsPointed bs us t v
       one found _ _ (enters_plain t v p) g = plain_pointed bs us t v p
+      one found _ _ (enters_cut d r p q c) g =
+          cut_back bs r q own.2 (omega (arith, low)) typed.2 found (subst (λ n. r < n) own.0 g.0) g.1 g.2 c
       one found _ _ (enters_pointer k sp args rs tg) g =
           reached_back bs sp rs own.2 (omega (arith, low)) typed.2 found g.0 (subst (λ n. AreBefore n rs) own.0 g.1)

@@ -4,7 +4,7 @@ use Rattle.code_laws.proofs.States.{stored}
 use Rattle.code_laws.proofs.Prints.{pushed_all}
 use Rattle.code_laws.proofs.Results.{results_run}
 use Rattle.code_laws.proofs.Calling.{HasResult, calls_run, pending}
-use Rattle.code_laws.proofs.Handing.{AreGivenBy, IndexRuns, IsGivenBy, Stays, arguments_keep_names, handed_run, part_passed, value_stays}
+use Rattle.code_laws.proofs.Handing.{AreGivenBy, IndexRuns, IsGivenBy, Stays, arguments_keep_names, cut_passed, handed_run, part_passed, value_stays}
 use Rattle.code_laws.proofs.CallTakes.{call_takes}
 use Rattle.code_laws.proofs.Cuts.{colours_run}
 use Rattle.code_laws.proofs.Pointing.{named_pointed}
@@ -210,7 +210,9 @@ module _ (x : Setting) (params slots : ℕ) (fit : SlotsFit x slots) (aside : As
         (λ v j is stays g2. rest v s j (inr (inl is)) stays g2))
         (λ part. part_passed x params slots fit aside said h d t p e (IsIndexed x.forms w e) s pc st i _ part g
         (indexed_runs h d low e s st i part.part g) f.0
-        (λ v s2 j is stays g2. rest v s2 j (inr (inr is)) stays g2)) fine.0
+        (λ v s2 j is stays g2. rest v s2 j (inr (inr (inl is))) stays g2))
+        (λ cut. cut_passed x params slots fit aside said h d t p e s pc st i _ cut g f.0
+        (λ v j is stays g2. rest v s j (inr (inr (inr is))) stays g2)) fine.0
     args_run h d low _ _ _ s pc st i fine g f = absurd fine
 
     pub linked_runs : (h : Here) (d : ℕ) → params ≤ length h.scope.names →

@@ -30,10 +30,10 @@ use Rattle.memory_laws.specs.Places.{number_at, numbers}
 use Rattle.code_laws.specs.Arguments.{IsCutName, IsHanded, name_of, part_of}
 use Rattle.code_laws.specs.Pointers.{IsCounting}
 use Rattle.code_laws.specs.Pointers.{Passes}
-use Rattle.code_laws.specs.Simple.{AreRegions}
+use Rattle.code_laws.specs.Simple.{AreRegions, IsPartition}
 use Rattle.code_laws.specs.Standing.{Agrees, Aside, IsInside, IsOf, SlotsFit, Stands, machine_value, nothing, where_of}
 use Rattle.code_laws.specs.Steps.{HasMore, Setting, Taking, placed}
-use Rattle.code_laws.proofs.Arguments.{IsPartArgument, Unchanged, handed_name, unchanged}
+use Rattle.code_laws.proofs.Arguments.{IsCutArgument, IsPartArgument, Unchanged, cut_unchanged, handed_name, unchanged}
 use Rattle.code_laws.proofs.Good.{Gives, valued}
 use Rattle.code_laws.proofs.Making.{same_value}
 use Rattle.code_laws.proofs.Operations.{named_runs}
@@ -70,10 +70,21 @@ module _ (x : Setting) (params slots : ℕ) (fit : SlotsFit x slots) (aside : As
     pub regions : AreRegions (typed (where_of params h) e) p
     pub coloured : IsColoured h name index v names
 
-  -- the value of an argument: what is given to a parameter of its type, such a region, or such a part
+  -- and a partition that has a name
+  pub record IsCutGiven (h : Here) (p : StaticType) (e : Expression) (v : Value) (names : List Value) : Type 0 where
+    pub taking : Taking
+    pub takes : x.forms.takes ≡ Some taking
+    pub name : Name
+    pub stands : name_of e ≡ Some name
+    pub cut : IsCutName (where_of params h) name
+    pub partition : IsPartition p
+    pub is : v ≡ get_or names (bound_to h.scope.names name).place nothing
+
+  -- the value of an argument: what is given to a parameter of its type, such a region, such a part, or such a partition
   abbrev pub IsGivenBy : Here → StaticType → Expression → Value → List Value → Type 0
   IsGivenBy h p e v names =
-      ((t : StaticType) × Passes (typed (where_of params h) e) t p × IsOf p v) ⊎ (IsHandedAs h p e v names ⊎ IsPartAs h p e v names)
+      ((t : StaticType) × Passes (typed (where_of params h) e) t p × IsOf p v)
+      ⊎ (IsHandedAs h p e v names ⊎ (IsPartAs h p e v names ⊎ IsCutGiven h p e v names))
 
   abbrev pub AreGivenBy : Here → List StaticType → Expressions → List Value → List Value → Type 0
   AreGivenBy h [] no_expr [] names = Unit {0}
@@ -146,6 +157,41 @@ module _ (x : Setting) (params slots : ℕ) (fit : SlotsFit x slots) (aside : As
       T (valued (past (converted_code w (typed w e) t) (past (expr_code w d e) pc)) st v j) (K v s)) →
       T (placed pc st i) (and_then (value h e s) (λ v. λ s1. and_then (converted h (typed w e) t [] v s1) K))) (sym q.1)
       (named_handed said h d y t p q.0 s pc st i K takes q.2 q.3 q.4 g)
+
+  -- so does a partition that has a name
+  named_cut : {B : Type 0} {T : Instance → Result B → Type 0} → Said x T → (h : Here) (d : ℕ) (y : Taking) (t p : StaticType) (n : Name)
+      (s : State) (pc : ℕ) (st : List MachineValue) (i : Instance) (K : Value → Run B) → x.forms.takes ≡ Some y →
+      IsCutName (where_of params h) n → t ≡ p → IsPartition p → Agrees x params slots aside h s i →
+      Stands x.body pc (expr_code (where_of params h) d (access_expr n no_step)) →
+      ((v : Value) (j : Instance) → IsCutGiven h p (access_expr n no_step) v s.names → Stays h s j v → Agrees x params slots aside h s j →
+      T (valued (past (converted_code (where_of params h) (typed (where_of params h) (access_expr n no_step)) t)
+      (past (expr_code (where_of params h) d (access_expr n no_step)) pc)) st v j) (K v s)) →
+      T (placed pc st i) (and_then (value h (access_expr n no_step) s) (λ v. λ s1. and_then (converted h (typed (where_of params h) (access_expr n no_step)) t [] v s1) K))
+  named_cut {T = T} said h d y t p n s pc st i K takes cut same partition g stands more =
+      let w = where_of params h in
+      let b = (bound_to h.scope.names n).static_type in
+      let v = get_or s.names (bound_to h.scope.names n).place nothing in
+      let plain : Unchanged h w b t = subst (Unchanged h w b) (sym same) (cut_unchanged h w b p partition) in
+      let c = named_runs x params slots fit aside h n s pc st i cut.named g stands.0 in
+      let done = more v c.0 (record { taking = y; takes = takes; name = n; stands = refl; cut = cut; partition = partition; is = refl })
+      (value_stays h s c.0 c.2.1 b v c.2.0 (named (IsInside x s.store) h.scope.names s.names n g.inside_store cut.named).holding) c.2.1 in
+      said.before (placed pc st i) (valued (suc pc) st v c.0) _ c.1
+      (subst (λ r. T (valued (suc pc) st v c.0) (and_then r K)) (sym (plain.value v s))
+      (subst (λ q. T (valued (past q (suc pc)) st v c.0) (K v s)) plain.code done))
+
+  pub cut_passed : {B : Type 0} {T : Instance → Result B → Type 0} → Said x T → (h : Here) (d : ℕ) (t p : StaticType) (e : Expression)
+      (s : State) (pc : ℕ) (st : List MachineValue) (i : Instance) (K : Value → Run B) → IsCutArgument x.forms.takes (where_of params h) t p e →
+      Agrees x params slots aside h s i → Stands x.body pc (expr_code (where_of params h) d e) →
+      ((v : Value) (j : Instance) → IsCutGiven h p e v s.names → Stays h s j v → Agrees x params slots aside h s j →
+      T (valued (past (converted_code (where_of params h) (typed (where_of params h) e) t) (past (expr_code (where_of params h) d e) pc)) st v j) (K v s)) →
+      T (placed pc st i) (and_then (value h e s) (λ v. λ s1. and_then (converted h (typed (where_of params h) e) t [] v s1) K))
+  cut_passed {T = T} said h d t p e s pc st i K a g =
+      let w = where_of params h in
+      subst (λ e. Stands x.body pc (expr_code w d e) →
+      ((v : Value) (j : Instance) → IsCutGiven h p e v s.names → Stays h s j v → Agrees x params slots aside h s j →
+      T (valued (past (converted_code w (typed w e) t) (past (expr_code w d e) pc)) st v j) (K v s)) →
+      T (placed pc st i) (and_then (value h e s) (λ v. λ s1. and_then (converted h (typed w e) t [] v s1) K))) (sym a.is)
+      (named_cut said h d a.taking t p a.name s pc st i K a.takes a.cut a.same a.partition g)
 
   -- ---- parts
 

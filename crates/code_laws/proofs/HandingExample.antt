@@ -31,14 +31,14 @@ main_typed = (
     -- it is handed over
     (
       refl,
-      (refl, ((refl, a_region_type _ _ _ _, omega arith, λ low. absurd (omega (arith, low))), ((refl, a_region_type _ _ _ _, omega arith, λ low. absurd (omega (arith, low))), tt)), ((refl, refl, a_region_type _ _ _ _, a_region_type _ _ _ _, inl refl), tt), (tt, (tt, (tt, tt)))),
+      (refl, ((refl, a_region_type _ _ _ _, omega arith, λ low. absurd (omega (arith, low))), ((refl, a_region_type _ _ _ _, omega arith, λ low. absurd (omega (arith, low))), tt)), ((refl, refl, a_region_type _ _ _ _, a_region_type _ _ _ _, inl refl), tt), (tt, (tt, (tt, tt))), (tt, (tt, (tt, tt)))),
       (inr (inl (refl, refl, two_regions _ _ _ _ _ _ _)), (inr (inl (refl, refl, two_regions _ _ _ _ _ _ _)), (inl ((two_integers _ _, refl), omega (arith, ints)), tt))),
     ),
     (
       -- and again, behind a call that takes it
       (
         refl,
-        (refl, ((refl, a_region_type _ _ _ _, omega arith, λ low. absurd (omega (arith, low))), ((refl, a_region_type _ _ _ _, omega arith, λ low. absurd (omega (arith, low))), tt)), ((refl, refl, a_region_type _ _ _ _, a_region_type _ _ _ _, inl refl), tt), (tt, (tt, (tt, tt)))),
+        (refl, ((refl, a_region_type _ _ _ _, omega arith, λ low. absurd (omega (arith, low))), ((refl, a_region_type _ _ _ _, omega arith, λ low. absurd (omega (arith, low))), tt)), ((refl, refl, a_region_type _ _ _ _, a_region_type _ _ _ _, inl refl), tt), (tt, (tt, (tt, tt))), (tt, (tt, (tt, tt)))),
         (
           inr (inl (refl, refl, two_regions _ _ _ _ _ _ _)),
           (
@@ -49,7 +49,7 @@ main_typed = (
                 (
                   refl,
                   scalar_integer _,
-                  (refl, ((refl, a_region_type _ _ _ _, omega arith, λ low. absurd (omega (arith, low))), tt), ((refl, refl, a_region_type _ _ _ _, a_region_type _ _ _ _, inl refl), tt), (tt, (tt, tt))),
+                  (refl, ((refl, a_region_type _ _ _ _, omega arith, λ low. absurd (omega (arith, low))), tt), ((refl, refl, a_region_type _ _ _ _, a_region_type _ _ _ _, inl refl), tt), (tt, (tt, tt)), (tt, (tt, tt))),
                   (inr (inl (refl, refl, two_regions _ _ _ _ _ _ _)), (inr (inl (refl, refl, two_regions _ _ _ _ _ _ _)), tt)),
                 ),
               ),
@@ -112,6 +112,7 @@ tasks (suc zero) t e = subst (IsTypedBy true false handing_program) (same_Some _
             refl,
             ((refl, a_region_type _ _ _ _, omega arith, λ low. refl), tt),
             ((refl, refl, a_region_type _ _ _ _, a_region_type _ _ _ _, inr (omega arith, omega arith, refl)), tt),
+            (tt, (tt, tt)),
             (tt, (tt, tt)),
           ),
           (inr (inl (refl, refl, two_regions _ _ _ _ _ _ _)), (inr (inl (refl, refl, two_regions _ _ _ _ _ _ _)), tt)),

@@ -188,10 +188,11 @@ upper_term (Apart a b) = b
 upper_term (Made i) = place.Name i
 upper_term (PartOf p r d) = place.Name r
 
--- where a body begins, of a task that takes no partitions
-pub head_begins : (tree : Tree) (t : TaskTree) → IsSoundTask tree t → ((b : Bound) → Has (scope_of tree t).names b → known_of_type b.static_type ≡ []) →
+-- where a body begins, by what the types of its parameters tell
+pub head_begins : (tree : Tree) (t : TaskTree) → IsSoundTask tree t →
+    ((b : Bound) → Has (scope_of tree t).names b → (k : Known) → Has (known_of_type b.static_type) k → IsToldHere (scope_of tree t) k) →
     KnowsFacts tree t (scope_of tree t)
-head_begins tree t sound plain = record {
+head_begins tree t sound told = record {
   within = λ a b c. ⊎_elim
       (λ p. let d = known_param (scope_of tree t).names (Within a b) p in absurd (none_within d.0.static_type (Within a b) d.2 a b refl))
       (λ p. let d = known_clause t.params t.clauses (Within a b) p in
@@ -202,7 +203,7 @@ head_begins tree t sound plain = record {
       (λ p. let d = known_clause t.params t.clauses (Made i) p in absurd (none_told i d.0 d.2))
       (Has-append_cases (known_of_params (scope_of tree t).names) (known_of_clauses t.params t.clauses) (Made i) (Has-from_Contains (scope_of tree t).known (Made i) c));
   parts = λ k c. ⊎_elim
-      (λ p. let d = known_param (scope_of tree t).names k p in absurd (subst (λ ks. Has ks k) (plain d.0 d.1) d.2))
+      (λ p. let d = known_param (scope_of tree t).names k p in told d.0 d.1 k d.2)
       (λ p. let d = known_clause t.params t.clauses k p in by_kind k d.0 d.2)
       (Has-append_cases (known_of_params (scope_of tree t).names) (known_of_clauses t.params t.clauses) k c);
   next = omega (arith);

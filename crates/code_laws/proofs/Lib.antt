@@ -30,6 +30,8 @@ pub mod Cuts
 pub mod FieldCuts
 pub mod Parts
 pub mod Handing
+pub mod CallValues
+pub mod CallCuts
 pub mod CallTakes
 pub mod Counting
 pub mod Through
@@ -73,10 +75,12 @@ pub mod KnownHeads
 pub mod KnownParts
 pub mod LocalGiven
 pub mod LocalCalls
+pub mod LocalDivided
 pub mod LocalParts
 pub mod LocalPoints
 pub mod LocalElements
 pub mod LocalNulls
+pub mod LocalTaken
 pub mod LocalArguments
 pub mod LocalExpressions
 pub mod LocalVariables
@@ -88,6 +92,7 @@ pub mod LocalAssignments
 pub mod LocalBlocks
 pub mod LocalMarks
 pub mod LocalParams
+pub mod LocalTells
 pub mod LocalTrees
 pub mod LocalRuns
 pub mod ScalarLocal

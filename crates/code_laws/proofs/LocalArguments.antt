@@ -32,22 +32,23 @@ use Rattle.check_rules.proofs.Untold.{rule_none}
 use Rattle.code_rules.specs.Slots.{Where, bound, typed}
 use Rattle.local_form.specs.LocalForm.{Marked, is_local_expression, is_name, is_part}
 use Rattle.code_laws.specs.Handing.{forms_by, takes_by}
-use Rattle.code_laws.specs.Pointers.{CountsAs, GoesInto, IsCounting, IsPointer, Passes, PassesInto, a_pointer_type, passes_plain, passes_pointer, fills_index, into_index, into_plain, into_space}
-use Rattle.code_laws.specs.Simple.{AreAlike, AreRegions, IsPartition, IsRegion, IsScalar, a_partition_type, a_region_type, number_index, number_integer, scalar_integer, scalar_truth, simple_index, simple_integer, simple_space, simple_truth}
+use Rattle.code_laws.specs.Pointers.{CountsAs, IsCounting, PassesInto, passes_pointer}
+use Rattle.code_laws.specs.Simple.{AreAlike, AreRegions, IsPartition, IsRegion, IsScalar, a_partition_type, a_region_type}
 use Rattle.code_laws.specs.Steps.{Forms}
 use Rattle.code_laws.specs.Arguments.{IsCutName, IsHanded, IsHandedPart}
 use Rattle.code_laws.specs.Typed.{ArePassed, IsCallable, IsIndexed, IsPassed, IsTyped}
 use Rattle.expression_laws.proofs.Calls.{IsFlawless, call_parts}
 use Rattle.code_laws.proofs.KnownHeads.{KnowsHead}
-use Rattle.code_laws.proofs.LocalCalls.{may_call}
+use Rattle.code_laws.proofs.LocalDivided.{may_call}
 use Rattle.code_laws.proofs.LocalParts.{and_then, named_alone, put_region, put_scalar}
 use Rattle.code_laws.proofs.LocalNames.{AllKept, IsKept, IsLocalTree, kept_partition, kept_region, kept_scalar, named_kept, kept_value, region_of_number, value_kept, value_no_region, kept_plain}
 use Rattle.code_laws.proofs.LocalPlaces.{taking_told}
-use Rattle.code_laws.proofs.LocalTypes.{IsTakable, either, region_for_index, region_for_pointer, region_for_scalar, region_for_space, regions_alike, simple_other, takable_index, takable_pointer, takable_region, takable_scalar, takable_space}
+use Rattle.code_laws.proofs.LocalTaken.{IsOther, other_partition, other_pointer, none_scalar, none_region, index_param, space_param, pointer_param, passes_into, goes_passes, index_other, pointer_other, value_no_cut, partition_other, scalar_no_cut, none_space}
+use Rattle.code_laws.proofs.LocalTypes.{IsTakable, either, region_for_index, region_for_partition, region_for_pointer, region_for_scalar, region_for_space, regions_alike, simple_other, takable_index, takable_partition, takable_pointer, takable_region, takable_scalar, takable_space}
 use Rattle.code_laws.proofs.Openings.{params_length, types_length}
 use Rattle.code_laws.proofs.Typing.{no_way, no_way_back, stands_well}
 use Rattle.code_laws.proofs.Values.{scalar_simple}
-use Rattle.code_laws.proofs.LocalValues.{IsValue, alike_passes, names_among, value_counts, value_for_region, value_param, value_pointer, value_read, value_simple}
+use Rattle.code_laws.proofs.LocalValues.{IsValue, alike_passes, value_counts, value_for_region, value_param, value_read, value_simple}
 use Rattle.code_laws.proofs.LocalElements.{of_region}
 use Rattle.code_laws.proofs.LocalPoints.{IsWell, local_known}
 
@@ -124,93 +125,31 @@ module _ (handing keeping : Bool) (task : TaskTree) (w : Where) (sound : IsSound
     pub indexed : IsTyped forms w index
     pub counts : IsCounting (typed w index)
 
-  pub data IsOther : StaticType → Type 0 where
-    other_partition : (d : Bool) (r p : ℕ) → IsOther (partition_type d r p)
-    other_pointer : (k : Kind) (sp : ℕ) (args rs : List Reach) → IsOther (pointer_type k sp args rs)
+  -- a partition that has a name
+  pub record IsCutArg (e : Expression) : Type 0 where
+    pub name : Name
+    pub is : e ≡ access_expr name no_step
+    pub cut : IsCutName w name
 
   -- which is given where pointers are kept
   abbrev Goes : Expression → Type 0
   Goes e = keeping ≡ true → is_pointer (typed w e) ≡ true → Well e
 
+  -- which is a name's, where it is a partition
+  abbrev IsCutToo : Expression → Type 0
+  IsCutToo e = IsPartition (typed w e) → IsCutArg e
+
   abbrev pub IsArgument : Expression → Type 0
-  IsArgument e = Well e ⊎ (IsRegionName e ⊎ (IsPartName e ⊎ (IsOther (typed w e) × Goes e)))
-
-  -- no parameter that is a number, a truth or a region takes a partition or a pointer
-  none_scalar : (t p : StaticType) → IsOther t → IsScalar p → may_stand w.scope.known (stands t (param_spot p)) ≡ true → ⊥
-  none_scalar _ _ (other_partition d r q) (scalar_integer v) e = no_way_back e
-  none_scalar _ _ (other_partition d r q) scalar_truth e = no_way_back e
-  none_scalar _ _ (other_pointer k sp args rs) (scalar_integer v) e = no_way_back e
-  none_scalar _ _ (other_pointer k sp args rs) scalar_truth e = no_way_back e
-
-  none_region : (t p : StaticType) → IsOther t → IsRegion p → may_stand w.scope.known (stands t (param_spot p)) ≡ true → ⊥
-  none_region _ _ (other_partition d r q) (a_region_type k sp args u) e = no_way_back e
-  none_region _ _ (other_pointer k sp args rs) (a_region_type j sq brgs u) e = no_way_back e
-
-  -- what goes into a parameter where pointers are kept
-  abbrev FitsParam : Bool → StaticType → StaticType → Type 0
-  FitsParam false t p = ⊥
-  FitsParam true t p = GoesInto t p
-
-  -- what an index takes
-  index_param : (b : Bool) (t : StaticType) (k : Kind) → b ≡ true → IsValue b w.scope.names t →
-      may_stand w.scope.known (stands t (param_spot (index_type k))) ≡ true → FitsParam b t (index_type k)
-  index_param false t k q a e = absurd (no_way_back q)
-  index_param true _ k q (value_simple _ (simple_integer v)) e = into_plain _ _ (fills_index _ k (number_integer v))
-  index_param true _ k q (value_simple _ (simple_index j)) e = into_plain _ _ (fills_index _ k (number_index j))
-  index_param true _ k q (value_simple _ simple_truth) e = absurd (no_way_back e)
-  index_param true _ k q (value_simple _ (simple_space j)) e = absurd (no_way_back e)
-  index_param true _ k q (value_pointer j sp args rs h r) e = into_index j sp args rs k
-
-  -- and what an index space takes
-  space_param : (b : Bool) (t : StaticType) (k : Kind) → b ≡ true → IsValue b w.scope.names t →
-      may_stand w.scope.known (stands t (param_spot (ispace_type k))) ≡ true → FitsParam b t (ispace_type k)
-  space_param false t k q a e = absurd (no_way_back q)
-  space_param true _ k q (value_simple _ (simple_space j)) e = into_space j k
-  space_param true _ k q (value_simple _ (simple_integer v)) e = absurd (no_way_back e)
-  space_param true _ k q (value_simple _ (simple_index j)) e = absurd (no_way_back e)
-  space_param true _ k q (value_simple _ simple_truth) e = absurd (no_way_back e)
-  space_param true _ k q (value_pointer j sp args rs h r) e = absurd (no_way_back e)
-
-  -- and what a pointer takes
-  pointer_param : (b : Bool) (t : StaticType) (k : Kind) (sp : ℕ) (args rs : List Reach) → b ≡ true → IsValue b w.scope.names t →
-      may_stand w.scope.known (stands t (param_spot (pointer_type k sp args rs))) ≡ true → IsPointer t
-  pointer_param false t k sp args rs q a e = absurd (no_way_back q)
-  pointer_param true _ k sp args rs q (value_pointer j sq brgs us h r) e = a_pointer_type j sq brgs us (names_among w.scope.names sq us r)
-  pointer_param true _ k sp args rs q (value_simple _ (simple_integer v)) e = absurd (no_way_back e)
-  pointer_param true _ k sp args rs q (value_simple _ (simple_index j)) e = absurd (no_way_back e)
-  pointer_param true _ k sp args rs q (value_simple _ simple_truth) e = absurd (no_way_back e)
-  pointer_param true _ k sp args rs q (value_simple _ (simple_space j)) e = absurd (no_way_back e)
-
-  passes_into : (b : Bool) (t u p : StaticType) → b ≡ true → Passes t u p → PassesInto b t u p
-  passes_into false t u p q a = absurd (no_way_back q)
-  passes_into true t u p q a = a
-
-  goes_passes : (b : Bool) (t p : StaticType) → b ≡ true → FitsParam b t p → PassesInto b t p p
-  goes_passes false t p q a = absurd (no_way_back q)
-  goes_passes true t p q a = passes_plain t p a
+  IsArgument e = Well e ⊎ (IsRegionName e ⊎ (IsPartName e ⊎ (IsOther (typed w e) × Goes e × IsCutToo e)))
 
   -- a pointer where one is taken, by its type at the call
   pointer_given : (all types : List StaticType) (e : Expression) (k : Kind) (sp : ℕ) (args rs : List Reach) → keeping ≡ true → Well e →
       may_stand w.scope.known (stands (typed w e) (param_spot (put_in all (pointer_type k sp args rs)))) ≡ true →
       PassesInto keeping (typed w e) (put_in types (pointer_type k sp args rs)) (pointer_type k sp args rs)
   pointer_given all types e k sp args rs q a may =
-      passes_into keeping (typed w e) (put_in types (pointer_type k sp args rs)) (pointer_type k sp args rs) q
-      (passes_pointer (typed w e) k sp args (map (put types) args) rs (map (put types) rs) (pointer_param keeping (typed w e) k sp (map (put all) args) (map (put all) rs) q a.value may)
+      passes_into w keeping (typed w e) (put_in types (pointer_type k sp args rs)) (pointer_type k sp args rs) q
+      (passes_pointer (typed w e) k sp args (map (put types) args) rs (map (put types) rs) (pointer_param w keeping (typed w e) k sp (map (put all) args) (map (put all) rs) q a.value may)
       (length-map rs (put types)))
-
-  -- what isn't a value of its own may be a pointer there, and an index
-  index_other : (t : StaticType) (k : Kind) → IsOther t → may_stand w.scope.known (stands t (param_spot (index_type k))) ≡ true → is_pointer t ≡ true
-  index_other _ k (other_partition d r q) e = absurd (no_way_back e)
-  index_other _ k (other_pointer j sp args rs) e = refl
-
-  pointer_other : (t : StaticType) (k : Kind) (sp : ℕ) (args rs : List Reach) → IsOther t →
-      may_stand w.scope.known (stands t (param_spot (pointer_type k sp args rs))) ≡ true → is_pointer t ≡ true
-  pointer_other _ k sp args rs (other_partition d r q) e = absurd (no_way_back e)
-  pointer_other _ k sp args rs (other_pointer j sq brgs us) e = refl
-
-  none_space : (t : StaticType) (k : Kind) → IsOther t → may_stand w.scope.known (stands t (param_spot (ispace_type k))) ≡ true → ⊥
-  none_space _ k (other_partition d r q) e = no_way_back e
-  none_space _ k (other_pointer j sp args rs) e = no_way_back e
 
   name_argument : (n : Name) → is_bound w.scope.names n ≡ true → (t : StaticType) → (bound w n).static_type ≡ t → IsKept keeping m w.scope.names n (bound w n).number t →
       IsArgument (access_expr n no_step)
@@ -221,6 +160,7 @@ module _ (handing keeping : Bool) (task : TaskTree) (w : Where) (sound : IsSound
   name_argument n there _ same (kept_partition d r q among h) = inr (inr (inr (
     subst IsOther (sym same) (other_partition d r (bound w n).number),
     λ q points. absurd (no_way_back (subst (λ t. is_pointer t ≡ true) same points)),
+    λ p. record { name = n; is = refl; cut = record { named = there; numbers = scope.numbers; partition = p } },
   )))
 
   child_region : (t : StaticType) (r : Term) → IsRegion t → IsRegion (child_type t r)
@@ -248,6 +188,7 @@ module _ (handing keeping : Bool) (task : TaskTree) (w : Where) (sound : IsSound
       inr (inr (inr (
         subst IsOther (sym (ap (λ t. type_of_element w.scope t e) same)) (other_pointer k sp args (Some (term.Name (bound w n).number) ∷ [])),
         λ q points. of_region handing keeping task w sound sound_task m local scope names head n e there q k sp args same well.is (counts_kept keeping (typed w e) q number),
+        λ c. absurd (elim (subst IsPartition (ap (λ t. type_of_element w.scope t e) same) c) [ ]),
       )))
   part_argument n e there _ same (kept_partition d r keeps among h) taking told well =
       let at = known_type w.tree w.scope e in
@@ -284,26 +225,44 @@ module _ (handing keeping : Bool) (task : TaskTree) (w : Where) (sound : IsSound
       (subst (λ u. may_stand w.scope.known (stands u (param_spot p)) ≡ true) (known e told) stood))
   given_one all types e p (inl a) (takable_index k q) alone told may fits =
       inl (
-        goes_passes keeping (typed w e) (index_type k) q (index_param keeping (typed w e) k q a.value
+        goes_passes w keeping (typed w e) (index_type k) q (index_param w keeping (typed w e) k q a.value
             (subst (λ u. may_stand w.scope.known (stands u (param_spot (index_type k))) ≡ true) (known e told) may)),
         a.is,
       )
   given_one all types e p (inr (inr (inr other))) (takable_scalar _ s) alone told may fits =
       let stood = subst (λ q. may_stand w.scope.known (stands (known_type w.tree w.scope e) (param_spot q)) ≡ true) (put_scalar all p s) may in
-      absurd (none_scalar (typed w e) p other.0 s (subst (λ u. may_stand w.scope.known (stands u (param_spot p)) ≡ true) (known e told) stood))
+      absurd (none_scalar w (typed w e) p other.0 s (subst (λ u. may_stand w.scope.known (stands u (param_spot p)) ≡ true) (known e told) stood))
   given_one all types e p (inr (inr (inr other))) (takable_region _ r) alone told may fits =
       let stood = subst (λ q. may_stand w.scope.known (stands (known_type w.tree w.scope e) (param_spot q)) ≡ true) (put_region all p r) may in
-      absurd (none_region (typed w e) p other.0 r (subst (λ u. may_stand w.scope.known (stands u (param_spot p)) ≡ true) (known e told) stood))
+      absurd (none_region w (typed w e) p other.0 r (subst (λ u. may_stand w.scope.known (stands u (param_spot p)) ≡ true) (known e told) stood))
   given_one all types e p (inr (inr (inr other))) (takable_index k q) alone told may fits =
       let stood = subst (λ u. may_stand w.scope.known (stands u (param_spot (index_type k))) ≡ true) (known e told) may in
-      let a = other.1 q (index_other (typed w e) k other.0 stood) in
-      inl (goes_passes keeping (typed w e) (index_type k) q (index_param keeping (typed w e) k q a.value stood), a.is)
+      let a = other.1 q (index_other w (typed w e) k other.0 stood) in
+      inl (goes_passes w keeping (typed w e) (index_type k) q (index_param w keeping (typed w e) k q a.value stood), a.is)
   given_one all types e p (inr (inr (inl r))) (takable_index k q) alone told may fits =
       absurd (region_for_index w.scope.known (typed w (access_expr r.name (at_step r.index no_step))) k r.region
       (subst (λ u. may_stand w.scope.known (stands u (param_spot (index_type k))) ≡ true) (known e told ∙ ap (typed w) r.is) may))
   given_one all types e p (inr (inl r)) (takable_index k q) alone told may fits =
       absurd (region_for_index w.scope.known (bound w r.name).static_type k r.region
       (subst (λ y. may_stand w.scope.known (stands (known_type w.tree w.scope y) (param_spot (index_type k))) ≡ true) r.is may))
+  given_one all types e p (inl a) (takable_partition d r u q) alone told may fits =
+      absurd (value_no_cut w keeping (typed w e) d r u a.value (subst (λ t. may_stand w.scope.known (stands t (param_spot (partition_type d r u))) ≡ true) (known e told) may))
+  given_one all types e p (inr (inr (inr other))) (takable_partition d r u q) alone told may fits =
+      let stood = subst (λ t. may_stand w.scope.known (stands t (param_spot (partition_type d r u))) ≡ true) (known e told) may in
+      let n = other.2 (partition_other w (typed w e) d r u other.0 stood) in
+      subst (λ y. IsPassed forms w (put_in types p) p y (IsTyped forms w y) (IsIndexed forms w y)) (sym n.is) (inr (inr (cut n handing refl keeping q)))
+    where
+      cut : (n : IsCutArg e) (b : Bool) → handing ≡ b → (c : Bool) → c ≡ true →
+          IsHandedPart c (takes_by b w.tree task) w (partition_type d r u) (partition_type d r u) (access_expr n.name no_step) (IsIndexed forms w (access_expr n.name no_step))
+      cut n false o c k = absurd (scalar_no_cut w d r u (alone o))
+      cut n true o false k = absurd (no_way_back k)
+      cut n true o true k = (n.cut, refl, a_partition_type d r u)
+  given_one all types e p (inr (inr (inl r))) (takable_partition d s u q) alone told may fits =
+      absurd (region_for_partition w.scope.known (typed w (access_expr r.name (at_step r.index no_step))) d s u r.region
+      (subst (λ t. may_stand w.scope.known (stands t (param_spot (partition_type d s u))) ≡ true) (known e told ∙ ap (typed w) r.is) may))
+  given_one all types e p (inr (inl r)) (takable_partition d s u q) alone told may fits =
+      absurd (region_for_partition w.scope.known (bound w r.name).static_type d s u r.region
+      (subst (λ y. may_stand w.scope.known (stands (known_type w.tree w.scope y) (param_spot (partition_type d s u))) ≡ true) r.is may))
   given_one all types e p (inl a) (takable_pointer k sp args rs q) alone told may fits =
       inl (
         pointer_given all types e k sp args rs q a
@@ -312,7 +271,7 @@ module _ (handing keeping : Bool) (task : TaskTree) (w : Where) (sound : IsSound
       )
   given_one all types e p (inr (inr (inr other))) (takable_pointer k sp args rs q) alone told may fits =
       let stood = subst (λ u. may_stand w.scope.known (stands u (param_spot (put_in all (pointer_type k sp args rs)))) ≡ true) (known e told) may in
-      let a = other.1 q (pointer_other (typed w e) k sp (map (put all) args) (map (put all) rs) other.0 stood) in
+      let a = other.1 q (pointer_other w (typed w e) k sp (map (put all) args) (map (put all) rs) other.0 stood) in
       inl (pointer_given all types e k sp args rs q a stood, a.is)
   given_one all types e p (inr (inr (inl r))) (takable_pointer k sp args rs q) alone told may fits =
       absurd (region_for_pointer w.scope.known (typed w (access_expr r.name (at_step r.index no_step))) k sp (map (put all) args) (map (put all) rs) r.region
@@ -322,12 +281,12 @@ module _ (handing keeping : Bool) (task : TaskTree) (w : Where) (sound : IsSound
       (subst (λ y. may_stand w.scope.known (stands (known_type w.tree w.scope y) (param_spot (put_in all (pointer_type k sp args rs)))) ≡ true) r.is may))
   given_one all types e p (inl a) (takable_space k q) alone told may fits =
       inl (
-        goes_passes keeping (typed w e) (ispace_type k) q (space_param keeping (typed w e) k q a.value
+        goes_passes w keeping (typed w e) (ispace_type k) q (space_param w keeping (typed w e) k q a.value
             (subst (λ u. may_stand w.scope.known (stands u (param_spot (ispace_type k))) ≡ true) (known e told) may)),
         a.is,
       )
   given_one all types e p (inr (inr (inr other))) (takable_space k q) alone told may fits =
-      absurd (none_space (typed w e) k other.0 (subst (λ u. may_stand w.scope.known (stands u (param_spot (ispace_type k))) ≡ true) (known e told) may))
+      absurd (none_space w (typed w e) k other.0 (subst (λ u. may_stand w.scope.known (stands u (param_spot (ispace_type k))) ≡ true) (known e told) may))
   given_one all types e p (inr (inr (inl r))) (takable_space k q) alone told may fits =
       absurd (region_for_space w.scope.known (typed w (access_expr r.name (at_step r.index no_step))) k r.region
       (subst (λ u. may_stand w.scope.known (stands u (param_spot (ispace_type k))) ≡ true) (known e told ∙ ap (typed w) r.is) may))

@@ -49,14 +49,14 @@ use Rattle.code_laws.specs.Pointers.{AllGoBack}
 use Rattle.code_laws.specs.Simple.{AreRegions, IsRegion, a_region_type, term_in, two_regions}
 use Rattle.code_laws.specs.Steps.{Forms, Taking}
 use Rattle.code_laws.specs.Taking.{MayDo, known_of_pairs, pairs_in}
-use Rattle.code_laws.specs.Arguments.{AreMet, AreParted, IsCutName, IsMet, IsMetAt, IsMetPart, IsPart, IsPartBelow, IsParted, IsPartedAt, name_at, name_of, parent_bound, part_at}
+use Rattle.code_laws.specs.Arguments.{AreDivided, AreMet, AreParted, IsCutName, IsMet, IsMetAt, IsMetPart, IsPart, IsPartBelow, IsParted, IsPartedAt, name_at, name_of, parent_bound, part_at}
 use Rattle.code_laws.specs.Typed.{ArePassed, IsCallable}
 use Rattle.code_laws.proofs.Arguments.{first_region, named_typed, part_is, part_space}
 use Rattle.code_laws.proofs.DeclaredNeeds.{IsDeclared, need_declared, pair_constrained}
 use Rattle.code_laws.proofs.KnownHeads.{KnowsHead, kept_may, may_touch}
 use Rattle.code_laws.proofs.KnownParts.{name_within, names_below, part_below, part_over, whole_may, whole_within}
 use Rattle.code_laws.proofs.LocalGiven.{IsGivenAt, IsHandedAt, IsPartAt, handed_at, one_colour, same_name, IsCutBy, child_term}
-use Rattle.code_laws.proofs.LocalNames.{AllKept, IsKept, IsLocalTask, IsLocalTree, kept_partition, kept_region, kept_scalar, kept_value, named_kept, parent_among, region_of_number}
+use Rattle.code_laws.proofs.LocalNames.{AllKept, IsKept, kept_partition, kept_region, kept_scalar, kept_value, named_kept, parent_among, region_of_number}
 use Rattle.code_laws.proofs.LocalTypes.{simple_other}
 use Rattle.code_laws.proofs.LocalValues.{bound_among, value_other}
 use Rattle.code_laws.proofs.Typing.{no_way_back}
@@ -135,7 +135,7 @@ no_name (an_expr e es) (suc k) p at = no_name es k p at
 module _ (keeping : Bool) (task : TaskTree) (w : Where) (sound : IsSound w.tree) (sound_task : IsSoundTask w.tree task) (m : Marked)
     (scope : IsSoundScope w.scope) (names : AllKept keeping m w.scope.names) (head : KnowsHead w.tree task w.scope) where
   -- the checker's type of an argument that is a name
-  name_type : (es : Expressions) (k : ℕ) (n : Name) → first_in_args w.tree task w.scope es ≡ None → name_at es k ≡ Some n →
+  pub name_type : (es : Expressions) (k : ℕ) (n : Name) → first_in_args w.tree task w.scope es ≡ None → name_at es k ≡ Some n →
       type_at (known_types w.tree w.scope es) k ≡ (bound w n).static_type
   name_type no_expr k n told at = absurd (none-some n at)
   name_type (an_expr e es) zero n told at =
@@ -144,7 +144,7 @@ module _ (keeping : Bool) (task : TaskTree) (w : Where) (sound : IsSound w.tree)
       name_type es k n (option_or_parts (first_in_expression w.tree task w.scope e) _ told).1 at
 
   -- the checker's type of an argument that is a part
-  part_type : (es : Expressions) (k : ℕ) (p : Name × Expression) → first_in_args w.tree task w.scope es ≡ None → part_at es k ≡ Some p →
+  pub part_type : (es : Expressions) (k : ℕ) (p : Name × Expression) → first_in_args w.tree task w.scope es ≡ None → part_at es k ≡ Some p →
       type_at (known_types w.tree w.scope es) k ≡ typed w (access_expr p.0 (at_step p.1 no_step))
   part_type no_expr k p told at = absurd (none-some p at)
   part_type (an_expr e es) zero p told at =
@@ -152,7 +152,7 @@ module _ (keeping : Bool) (task : TaskTree) (w : Where) (sound : IsSound w.tree)
   part_type (an_expr e es) (suc k) p told at =
       part_type es k p (option_or_parts (first_in_expression w.tree task w.scope e) _ told).1 at
 
-  cut_by : (n : Name) → IsCutName w n → IsCutBy w n
+  pub cut_by : (n : Name) → IsCutName w n → IsCutBy w n
   cut_by n cut =
       let t = (bound w n).static_type in
       let i = (bound w n).number in
@@ -354,17 +354,6 @@ module _ (keeping : Bool) (task : TaskTree) (w : Where) (sound : IsSound w.tree)
         let c = pair_constrained w.tree t callee_sound p h in
         parted_as p c.lower c.upper c.told c.are.0 c.are.1 (region_at (place_in t.params c.lower) c.low.region) (region_at (place_in t.params c.upper) c.high.region)
 
-    pub calls_handed : slice_get (tasks_of w.tree) (place_of_task w.tree n) ≡ Some t → AllGoBack (scope_of w.tree t).names → IsCallable (forms_by true keeping w.tree task) w n args
-    calls_handed at back =
-        (at, all_met keeping (Some y) w args (task_code w.tree t).needs met, all_parted keeping y w args (pairs_in (scope_of w.tree t).known) parted, back)
-
--- with regions that are handed over, or without
-pub may_call : (handing keeping : Bool) (task : TaskTree) (w : Where) → IsSound w.tree → IsSoundTask w.tree task → (m : Marked) → IsLocalTree handing keeping m w.tree →
-    IsSoundScope w.scope → AllKept keeping m w.scope.names → KnowsHead w.tree task w.scope → (n : Name) (args : Expressions) → IsLocalTask handing keeping w.tree n →
-    first_in_args w.tree task w.scope args ≡ None → IsFlawless w.tree task w.scope (calling n (known_types w.tree w.scope args)) →
-    ArePassed (forms_by handing keeping w.tree task) w (params_at w.tree w.scope (task_named w.tree n) args) (param_types w.tree (task_named w.tree n)) args →
-    IsCallable (forms_by handing keeping w.tree task) w n args
-may_call false keeping task w sound sound_task m local scope names head n args l told parts passed =
-    (l.called, subst (AreMet keeping None w args) (sym (l.alone refl).needs) tt, tt, l.back)
-may_call true keeping task w sound sound_task m local scope names head n args l told parts passed =
-    calls_handed keeping task w sound sound_task m scope names head n args told parts (sound.tasks (task_named w.tree n) l.stands) local.named passed l.called l.back
+    pub calls_handed : slice_get (tasks_of w.tree) (place_of_task w.tree n) ≡ Some t → AllGoBack (scope_of w.tree t).names → AreDivided w args 0 ps → IsCallable (forms_by true keeping w.tree task) w n args
+    calls_handed at back divided =
+        (at, all_met keeping (Some y) w args (task_code w.tree t).needs met, all_parted keeping y w args (pairs_in (scope_of w.tree t).known) parted, back, divided)

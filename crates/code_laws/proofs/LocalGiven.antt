@@ -1,5 +1,5 @@
 -- Regions that are given to parameters: each is a name's, or a part of a name's partition; and colours that are written alike.
-use Rattle.std.proofs.Common.{◌≡◌, ℕ, zero, suc, ℤ, pos, Bool, List, [], ◌∷◌, true, false, ◌⊎◌, inl, inr, Option, Some, refl, ap, sym, subst, ◌∙◌}
+use Rattle.std.proofs.Common.{◌≡◌, ℕ, zero, suc, ℤ, pos, Bool, List, [], ◌∷◌, true, false, ◌⊎◌, ⊎_elim, inl, inr, Option, Some, refl, ap, sym, subst, ◌∙◌}
 use Rattle.std.specs.Prelude.{bytes_eq, cond, not, ◌||◌}
 use Rattle.std.proofs.lemmas.Slice.Eq.{bytes_eq-Decides}
 use Rattle.lane_kernels.specs.declared.numbers.Width.{Width}
@@ -21,10 +21,10 @@ use Rattle.check_rules.specs.types.Sorts.{is_region, type_at}
 use Rattle.code_rules.specs.Slots.{Where, bound, typed}
 use Rattle.code_laws.specs.Arguments.{AreOneColour, IsCutName, IsHanded, IsHandedPart, name_at, name_of, one_name, one_number, part_at, part_of, parent_bound}
 use Rattle.code_laws.specs.Pointers.{Passes, passes_plain, passes_pointer}
-use Rattle.code_laws.specs.Simple.{AreRegions, IsSimple, IsRegion, a_region_type, simple_index, simple_integer, simple_space, simple_truth, term_in}
+use Rattle.code_laws.specs.Simple.{IsPartition, a_partition_type, AreRegions, IsSimple, IsRegion, a_region_type, simple_index, simple_integer, simple_space, simple_truth, term_in}
 use Rattle.code_laws.specs.Steps.{Forms, Taking}
 use Rattle.code_laws.specs.Typed.{ArePassed, IsIndexed, IsPassed, IsTyped}
-use Rattle.code_laws.proofs.Arguments.{handed_name, handed_part}
+use Rattle.code_laws.proofs.Arguments.{IsCutArgument, IsPartArgument, handed_name, handed_part}
 use Rattle.code_laws.proofs.Typing.{no_way_back}
 use Rattle.code_laws.proofs.Wider.{into_simple, passing}
 
@@ -33,6 +33,9 @@ simple_sort _ (simple_integer w) e = no_way_back e
 simple_sort _ simple_truth e = no_way_back e
 simple_sort _ (simple_space k) e = no_way_back e
 simple_sort _ (simple_index k) e = no_way_back e
+
+cut_sort : (t : StaticType) → IsPartition t → is_region t ≡ true → ⊥
+cut_sort _ (a_partition_type d r own) e = no_way_back e
 
 -- what is given so is no region
 passed_sort : (t u p : StaticType) → Passes t u p → is_region p ≡ true → ⊥
@@ -82,9 +85,8 @@ module _ (forms : Forms) (y : Taking) (takes : forms.takes ≡ Some y) (w : Wher
   handed_first t p e es region (inr (inl h)) =
       let n = handed_name y w t p e (subst (λ o. IsHanded o w t p e) takes h) in
       inl (record { name = n.0; at = ap name_of n.1; there = n.2; regions = n.4 })
-  handed_first t p e es region (inr (inr h)) =
-      let a = handed_part forms.keeps forms.takes w t p e (IsIndexed forms w e) h in
-      inr (record {
+  handed_first t p e es region (inr (inr h)) = ⊎_elim
+      (λ (a : IsPartArgument forms.takes w t p e (IsIndexed forms w e)). inr (record {
         name = a.name;
         index = a.index;
         at = ap part_of a.is;
@@ -92,7 +94,8 @@ module _ (forms : Forms) (y : Taking) (takes : forms.takes ≡ Some y) (w : Wher
         cut = a.cut;
         regions = subst (λ e. AreRegions (typed w e) p) a.is a.regions;
         indexed = (subst (IsIndexed forms w) a.is a.part).0;
-      })
+      }))
+      (λ (a : IsCutArgument forms.takes w t p e). absurd (cut_sort p a.partition region)) (handed_part forms.keeps forms.takes w t p e (IsIndexed forms w e) h)
 
   handed_later : (e : Expression) (es : Expressions) (k : ℕ) (p : StaticType) → IsGivenAt es k p → IsGivenAt (an_expr e es) (suc k) p
   handed_later e es k p (inl h) = inl (record { name = h.name; at = h.at; there = h.there; regions = h.regions })

@@ -14,7 +14,7 @@ use Rattle.regent_tree.specs.declared.types.Param.{Param}
 use Rattle.regent_tree.specs.declared.types.TypeTerm.{TypeTerm}
 use Rattle.regent_tree.specs.declared.types.TypeTerm.TheVariants as term
 use Rattle.check_laws.proofs.Parameters.{place_step}
-use Rattle.local_form.specs.LocalForm.{Marked, are_local_fields, are_scalar_params, gives_pointer, gives_scalar, is_among, is_difference, is_index_or_space, is_index_term, is_local_field, is_pointer_term, is_region_name, is_region_term, marked_by, marked_by_arms, marked_by_else, marked_by_item, marked_by_items, marked_by_task, marked_by_term, marked_field, marked_fields, marked_in, marked_param, marked_params, unmarked, with_either, with_index, with_index_field, with_partition, with_pointer, with_pointer_field, with_region}
+use Rattle.local_form.specs.LocalForm.{Marked, are_local_fields, are_scalar_params, gives_pointer, gives_scalar, is_among, is_difference, is_index_or_space, is_index_term, is_local_field, is_partition_term, is_pointer_term, is_region_name, is_region_term, marked_by, marked_by_arms, marked_by_else, marked_by_item, marked_by_items, marked_by_task, marked_by_term, marked_field, marked_fields, marked_in, marked_param, marked_params, unmarked, with_either, with_index, with_index_field, with_partition, with_pointer, with_pointer_field, with_region}
 use Rattle.code_laws.proofs.LocalFields.{FieldMarks, field_pointer, fields_of, IsFieldTerm, field_index, field_scalar}
 use Rattle.code_laws.proofs.Typing.{no_way_back}
 use Rattle.scalar_form.specs.ScalarForm.{is_scalar_term}
@@ -91,13 +91,15 @@ mutual
 
 params_fields : (ps : List Param) (m : Marked) → Fields (marked_params ps m) ≡ Fields m
 params_fields [] m = refl
-params_fields (p ∷ ps) m = params_fields ps (marked_param p m) ∙ one (is_region_term p.term) (is_index_or_space p.term) (is_pointer_term p.term)
+params_fields (p ∷ ps) m = params_fields ps (marked_param p m) ∙ one (is_region_term p.term) (is_index_or_space p.term) (is_pointer_term p.term) (is_partition_term p.term)
   where
-    one : (b c d : Bool) → Fields (cond b (with_region p.name m) (cond c (with_index p.name m) (cond d (with_pointer p.name m) m))) ≡ Fields m
-    one true c d = refl
-    one false true d = refl
-    one false false true = refl
-    one false false false = refl
+    one : (b c d f : Bool) →
+        Fields (cond b (with_region p.name m) (cond c (with_index p.name m) (cond d (with_pointer p.name m) (cond f (with_partition p.name m) m)))) ≡ Fields m
+    one true c d f = refl
+    one false true d f = refl
+    one false false true f = refl
+    one false false false true = refl
+    one false false false false = refl
 
 -- so a task has what the program marks
 task_fields : (tree : Tree) (t : TaskTree) → Fields (marked_by_task tree t) ≡ Fields (marked_by_items tree unmarked)

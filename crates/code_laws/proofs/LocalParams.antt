@@ -29,17 +29,17 @@ use Rattle.check_rules.specs.Breaches.{breaches}
 use Rattle.check_rules.specs.scopes.Sound.{StandsIn}
 use Rattle.check_rules.specs.types.Sorts.{is_region}
 use Rattle.expression_laws.proofs.Params.{numbered, param_as}
-use Rattle.local_form.specs.LocalForm.{Marked, all_go_back, are_local_params, goes_back, goes_to_name, goes_to_names, is_among, is_index_or_space, is_local_param, is_pointer_term, is_region_term, is_taken_term, marked_param, marked_params, takes_element, unmarked, with_index, with_pointer, with_region}
+use Rattle.local_form.specs.LocalForm.{Marked, all_go_back, are_local_params, goes_back, goes_to_name, goes_to_names, is_among, is_index_or_space, is_local_param, is_partition_term, is_pointer_term, is_region_term, is_taken_term, marked_param, marked_params, takes_element, unmarked, with_index, with_partition, with_pointer, with_region}
 use Rattle.state_laws.proofs.Declared.{HasRegions}
-use Rattle.state_laws.proofs.Texts.{body_regions}
-use Rattle.value_laws.specs.Spaces.{IsRegionTypeOf, NamesRegionOf}
+use Rattle.state_laws.proofs.Texts.{body_begins, body_regions}
+use Rattle.value_laws.specs.Spaces.{HasParent, IsRegionTypeOf, NamesRegionOf}
 use Rattle.code_laws.specs.Pointers.{AllGoBack, AreBefore, AreThere, GoBack, GoesBack}
 use Rattle.code_laws.specs.Simple.{IsRegion, a_region_type, scalar_truth, simple_index, simple_space}
 use Rattle.code_laws.proofs.LocalMarks.{among_added, among_left}
-use Rattle.code_laws.proofs.LocalNames.{AllKept, IsKept, kept_region, kept_scalar, kept_value}
-use Rattle.code_laws.proofs.LocalPlaces.{named_among, region_numbered}
-use Rattle.code_laws.proofs.LocalTypes.{IsTakable, takable_index, takable_pointer, takable_region, takable_scalar, takable_space, term_scalar}
-use Rattle.code_laws.proofs.LocalValues.{AreAmong, value_pointer, value_simple}
+use Rattle.code_laws.proofs.LocalNames.{AllKept, IsKept, kept_partition, kept_region, kept_scalar, kept_value}
+use Rattle.code_laws.proofs.LocalPlaces.{named_among, own_among, region_numbered}
+use Rattle.code_laws.proofs.LocalTypes.{IsTakable, takable_index, takable_partition, takable_pointer, takable_region, takable_scalar, takable_space, term_scalar}
+use Rattle.code_laws.proofs.LocalValues.{AreAmong, IsRegionAmong, value_pointer, value_simple}
 use Rattle.code_laws.proofs.Typing.{no_way_back}
 
 -- ---- what is written
@@ -62,18 +62,20 @@ module _ (keeping : Bool) (tree : Tree) (all : List Param) where
   term_takable m n term.Truth e keeps own = takable_scalar _ scalar_truth
   term_takable m n (term.Pointer p) e keeps own = takable_pointer _ _ _ _ (keeps (names_keep m p.regions (and_parts (goes_to_names m p.regions) _ e).0).0)
   term_takable m n (term.Ispace k) e keeps own = takable_space k (keeps (and_parts m.keeps (is_among m.indices n) e).0)
-  term_takable m n (term.Partition d r c) e keeps own = absurd (no_way_back e)
+  term_takable m n (term.Partition d r c) e keeps own = takable_partition _ _ _ (keeps (and_parts m.keeps (is_among m.partitions n) e).0)
 
 -- ---- the marks of parameters
 
 param_regions : (p : Param) (m : Marked) (n : Name) → is_among m.regions n ≡ true → is_among (marked_param p m).regions n ≡ true
-param_regions p m n h = chosen (is_region_term p.term) (is_index_or_space p.term) (is_pointer_term p.term)
+param_regions p m n h = chosen (is_region_term p.term) (is_index_or_space p.term) (is_pointer_term p.term) (is_partition_term p.term)
   where
-    chosen : (b c d : Bool) → is_among (cond b (with_region p.name m) (cond c (with_index p.name m) (cond d (with_pointer p.name m) m))).regions n ≡ true
-    chosen true c d = among_left m.regions (p.name ∷ []) n h
-    chosen false true d = h
-    chosen false false true = h
-    chosen false false false = h
+    chosen : (b c d f : Bool) →
+        is_among (cond b (with_region p.name m) (cond c (with_index p.name m) (cond d (with_pointer p.name m) (cond f (with_partition p.name m) m)))).regions n ≡ true
+    chosen true c d f = among_left m.regions (p.name ∷ []) n h
+    chosen false true d f = h
+    chosen false false true f = h
+    chosen false false false true = h
+    chosen false false false false = h
 
 marked_later : (ps : List Param) (m : Marked) (n : Name) → is_among m.regions n ≡ true → is_among (marked_params ps m).regions n ≡ true
 marked_later [] m n h = h
@@ -86,7 +88,7 @@ marked_region (q ∷ ps) m p (inl same) e =
     let here : is_region_term q.term ≡ true = ap (λ (x : Param). is_region_term x.term) same ∙ e in
     marked_later ps (marked_param q m) p.name
     (subst (λ b. is_among (cond b (with_region q.name m) (cond (is_index_or_space q.term) (with_index q.name m)
-    (cond (is_pointer_term q.term) (with_pointer q.name m) m))).regions p.name ≡ true) (sym here)
+    (cond (is_pointer_term q.term) (with_pointer q.name m) (cond (is_partition_term q.term) (with_partition q.name m) m)))).regions p.name ≡ true) (sym here)
     (among_added m.regions q.name p.name (ap (λ (x : Param). x.name) same)))
 
 -- and back: what a parameter adds is its own name
@@ -104,14 +106,16 @@ among_back (k ∷ ns) p n e = chosen (among_back ns p n) (bytes_eq k n) e
     chosen more false e = more e
 
 param_back : (p : Param) (m : Marked) (n : Name) → is_among (marked_param p m).regions n ≡ true → (is_among m.regions n ≡ true) ⊎ (p.name ≡ n)
-param_back p m n h = chosen (is_region_term p.term) (is_index_or_space p.term) (is_pointer_term p.term) h
+param_back p m n h = chosen (is_region_term p.term) (is_index_or_space p.term) (is_pointer_term p.term) (is_partition_term p.term) h
   where
-    chosen : (b c d : Bool) → is_among (cond b (with_region p.name m) (cond c (with_index p.name m) (cond d (with_pointer p.name m) m))).regions n ≡ true →
+    chosen : (b c d f : Bool) →
+        is_among (cond b (with_region p.name m) (cond c (with_index p.name m) (cond d (with_pointer p.name m) (cond f (with_partition p.name m) m)))).regions n ≡ true →
         (is_among m.regions n ≡ true) ⊎ (p.name ≡ n)
-    chosen true c d h = among_back m.regions p.name n h
-    chosen false true d h = inl h
-    chosen false false true h = inl h
-    chosen false false false h = inl h
+    chosen true c d f h = among_back m.regions p.name n h
+    chosen false true d f h = inl h
+    chosen false false true f h = inl h
+    chosen false false false true h = inl h
+    chosen false false false false h = inl h
 
 -- a name is looked up at the first parameter that has it
 place_first : (ps : List Param) (k : ℕ) (q : Param) → slice_get ps k ≡ Some q → place_in ps q.name ≤ k
@@ -134,9 +138,15 @@ module _ (tree : Tree) (all : List Param) where
   said i t = type_said tree (among_params all) i t
 
   -- the regions of a parameter's pointers are of their field space, and named by parameters before it
+  -- and so is the parent of one that is a partition
+  abbrev pub IsParentBehind : ℕ → StaticType → Type 0
+  IsParentBehind i (partition_type d r p) = (is_region (bound_as names r).static_type ≡ true) × (r < i)
+  IsParentBehind i t = Unit {0}
+
   abbrev pub AllBehind : ℕ → List Param → Type 0
   AllBehind i [] = Unit {0}
-  AllBehind i (p ∷ ps) = HasRegions names (said i p.term) × AreBefore i (reaches_of (said i p.term)) × AllBehind (suc i) ps
+  AllBehind i (p ∷ ps) =
+      HasRegions names (said i p.term) × AreBefore i (reaches_of (said i p.term)) × IsParentBehind i (said i p.term) × AllBehind (suc i) ps
 
   -- names that were marked before a place
   abbrev MarkedBefore : ℕ → Marked → Type 0
@@ -160,6 +170,16 @@ module _ (tree : Tree) (all : List Param) where
   term_before i m low (term.Region k u) e = tt
   term_before i m low (term.Partition d r c) e = tt
 
+  parent_before : (i : ℕ) (m : Marked) → MarkedBefore i m → (t : TypeTerm) → goes_back m t ≡ true → HasParent names (said i t) → IsParentBehind i (said i t)
+  parent_before i m low (term.Partition d r c) e h = (h, low r e)
+  parent_before i m low (term.Pointer p) e h = tt
+  parent_before i m low (term.Number number.Int32) e h = tt
+  parent_before i m low (term.Number number.Int64) e h = tt
+  parent_before i m low (term.Number (number.Index k)) e h = tt
+  parent_before i m low term.Truth e h = tt
+  parent_before i m low (term.Ispace k) e h = tt
+  parent_before i m low (term.Region k u) e h = tt
+
   marked_step : (i : ℕ) (p : Param) (m : Marked) → slice_get all i ≡ Some p → MarkedBefore i m → MarkedBefore (suc i) (marked_param p m)
   marked_step i p m at low n h =
       let first = place_first all i p at in
@@ -171,16 +191,17 @@ module _ (tree : Tree) (all : List Param) where
 
   behind_from : (i : ℕ) (ps : List Param) (m : Marked) → ((k : ℕ) → slice_get all (i + k) ≡ slice_get ps k) →
       ((j : ℕ) → bound_as names (i + j) ≡ get_or (numbered tree all i ps) j unbound) → ((j : ℕ) → HasRegions names (bound_as names j).static_type) →
-      MarkedBefore i m → all_go_back m ps ≡ true → AllBehind i ps
-  behind_from i [] m at has regions low e = tt
-  behind_from i (p ∷ ps) m at has regions low e =
+      ((j : ℕ) → HasParent names (bound_as names j).static_type) → MarkedBefore i m → all_go_back m ps ≡ true → AllBehind i ps
+  behind_from i [] m at has regions parents low e = tt
+  behind_from i (p ∷ ps) m at has regions parents low e =
       let both = and_parts (goes_back m p.term) (all_go_back (marked_param p m) ps) e in
       let none_more : (i + 0) ≡ i = omega arith in
       let here : slice_get all i ≡ Some p = ap (slice_get all) (sym none_more) ∙ at 0 in (
         subst (λ (b : Bound). HasRegions names b.static_type) (has 0) (regions (i + 0)),
         term_before i m low p.term both.0,
+        parent_before i m low p.term both.0 (subst (λ (b : Bound). HasParent names b.static_type) (has 0) (parents (i + 0))),
         behind_from (suc i) ps (marked_param p m) (λ k. ap (slice_get all) (moved i k) ∙ at (suc k)) (λ j. ap (bound_as names) (moved i j) ∙ has (suc j))
-            regions (marked_step i p m here low) both.1,
+            regions parents (marked_step i p m here low) both.1,
       )
 
   -- ---- they are found
@@ -204,16 +225,16 @@ module _ (tree : Tree) (all : List Param) where
       let h = All-head (NamesRegionOf bs sp) (Some (place.Name i)) rs a in
       ((region_numbered bs i h.region).1, region_is (bound_as bs i).static_type h.region, h.of_space, there_named bs sp rs (All-tail (NamesRegionOf bs sp) (Some (place.Name i)) rs a))
 
-  goes_behind : (i : ℕ) (t : StaticType) → HasRegions names t → AreBefore i (reaches_of t) → GoesBack names i t
-  goes_behind i (pointer_type k sp args rs) h b = (there_named names sp rs h, b)
-  goes_behind i (integer_type w) h b = tt
-  goes_behind i truth_type h b = tt
-  goes_behind i (index_type k) h b = tt
-  goes_behind i (ispace_type k) h b = tt
-  goes_behind i (region_type k sp args r) h b = tt
-  goes_behind i (partition_type d r p) h b = tt
-  goes_behind i no_type h b = tt
-  goes_behind i unknown_type h b = tt
+  goes_behind : (i : ℕ) (t : StaticType) → HasRegions names t → AreBefore i (reaches_of t) → IsParentBehind i t → GoesBack names i t
+  goes_behind i (pointer_type k sp args rs) h b a = (there_named names sp rs h, b)
+  goes_behind i (integer_type w) h b a = tt
+  goes_behind i truth_type h b a = tt
+  goes_behind i (index_type k) h b a = tt
+  goes_behind i (ispace_type k) h b a = tt
+  goes_behind i (region_type k sp args r) h b a = tt
+  goes_behind i (partition_type d r p) h b a = (a.1, (region_numbered names r a.0).1, region_is (bound_as names r).static_type a.0)
+  goes_behind i no_type h b a = tt
+  goes_behind i unknown_type h b a = tt
 
   back_behind : (bs : List Bound) (b : Bound) → GoBack names bs → GoesBack names b.number b.static_type → GoBack names (bs ++ b ∷ [])
   back_behind [] b a g = (g, tt)
@@ -221,7 +242,7 @@ module _ (tree : Tree) (all : List Param) where
 
   back_from : (i : ℕ) (ps : List Param) → AllBehind i ps → GoBack names (bound_params tree all i ps)
   back_from i [] a = tt
-  back_from i (p ∷ ps) a = back_behind (bound_params tree all (suc i) ps) _ (back_from (suc i) ps a.2) (goes_behind i (said i p.term) a.0 a.1)
+  back_from i (p ∷ ps) a = back_behind (bound_params tree all (suc i) ps) _ (back_from (suc i) ps a.3) (goes_behind i (said i p.term) a.0 a.1 a.2)
 
   -- so the pointers of parameters go back
   pub all_back : AllBehind 0 all → AllGoBack names
@@ -233,7 +254,7 @@ pub behind_all : (tree : Tree) (t : TaskTree) → breaches tree ≡ [] → Withi
 behind_all tree t none within stands e =
     let all = t.params in
     behind_from tree all 0 all unmarked (λ k. ap (slice_get all) (zeroth k)) (λ j. ap (bound_as (bound_params tree all 0 all)) (zeroth j) ∙ param_as tree all j)
-    (body_regions tree none within t stands) (λ n h. absurd (no_way_back h)) e
+    (body_regions tree none within t stands) (λ j. (body_begins tree none within t stands j).parent) (λ n h. absurd (no_way_back h)) e
   where
     zeroth : (j : ℕ) → (0 + j) ≡ j
     zeroth j = omega arith
@@ -247,24 +268,30 @@ module _ (keeping : Bool) (tree : Tree) (all : List Param) (m : Marked) (keeps :
   abbrev type_at : ℕ → TypeTerm → StaticType
   type_at i t = type_said tree (among_params all) i t
 
+  abbrev HasParentAmong : List Bound → StaticType → Type 0
+  HasParentAmong bs (partition_type d r p) = IsRegionAmong bs r
+  HasParentAmong bs t = Unit {0}
+
   -- a parameter is kept as what its mark says, among those before it
   param_kept : (bs : List Bound) (p : Param) (i : ℕ) (t : TypeTerm) → p.term ≡ t → is_taken_term m p.name t ≡ true →
       (is_region_term p.term ≡ true → is_among m.regions p.name ≡ true) → AreAmong bs (space_in (type_at i t)) (reaches_of (type_at i t)) →
-      IsKept keeping m bs p.name i (type_at i t)
-  param_kept bs p i (term.Region k u) same e marked among =
+      HasParentAmong bs (type_at i t) → IsKept keeping m bs p.name i (type_at i t)
+  param_kept bs p i (term.Region k u) same e marked among parent =
       kept_region k (place_of_space tree u.name) (map (looked_up (among_params all)) u.args) (marked (ap is_region_term same))
-  param_kept bs p i (term.Number number.Int32) same e marked among = kept_scalar _ (term_scalar (term.Number number.Int32) refl tree (among_params all) i)
-  param_kept bs p i (term.Number number.Int64) same e marked among = kept_scalar _ (term_scalar (term.Number number.Int64) refl tree (among_params all) i)
-  param_kept bs p i (term.Number (number.Index k)) same e marked among =
+  param_kept bs p i (term.Number number.Int32) same e marked among parent = kept_scalar _ (term_scalar (term.Number number.Int32) refl tree (among_params all) i)
+  param_kept bs p i (term.Number number.Int64) same e marked among parent = kept_scalar _ (term_scalar (term.Number number.Int64) refl tree (among_params all) i)
+  param_kept bs p i (term.Number (number.Index k)) same e marked among parent =
       kept_value (index_type k) (value_simple (index_type k) (simple_index k)) (and_parts m.keeps (is_among m.indices p.name) e).1 (λ q. absurd (no_way_back q))
-  param_kept bs p i term.Truth same e marked among = kept_scalar _ scalar_truth
-  param_kept bs p i (term.Pointer q) same e marked among =
+  param_kept bs p i term.Truth same e marked among parent = kept_scalar _ scalar_truth
+  param_kept bs p i (term.Pointer q) same e marked among parent =
       let one = and_parts (goes_to_names m q.regions) (is_among m.indices p.name && is_among m.pointers p.name) e in
       let two = and_parts (is_among m.indices p.name) (is_among m.pointers p.name) one.1 in
       kept_value (type_at i (term.Pointer q)) (value_pointer _ _ _ _ (keeps (names_keep m q.regions one.0).0) among) two.0 (λ h. two.1)
-  param_kept bs p i (term.Ispace k) same e marked among =
+  param_kept bs p i (term.Ispace k) same e marked among parent =
       kept_value (ispace_type k) (value_simple (ispace_type k) (simple_space k)) (and_parts m.keeps (is_among m.indices p.name) e).1 (λ q. absurd (no_way_back q))
-  param_kept bs p i (term.Partition d r c) same e marked among = absurd (no_way_back e)
+  param_kept bs p i (term.Partition d r c) same e marked among parent =
+      let both = and_parts m.keeps (is_among m.partitions p.name) e in
+      kept_partition d (place_in all r) (keeps both.0) parent both.1
 
   -- what is bound before a parameter is found behind it
   found_past : (i : ℕ) (ps : List Param) (earlier : List Bound) (j : ℕ) → j < i → bound_as (bound_params tree all i ps ++ earlier) j ≡ bound_as earlier j
@@ -301,6 +328,22 @@ module _ (keeping : Bool) (tree : Tree) (all : List Param) (m : Marked) (keeps :
   among_earlier i earlier kept found no_type h b = tt
   among_earlier i earlier kept found unknown_type h b = tt
 
+  parent_earlier : (i : ℕ) (earlier : List Bound) → AllKept keeping m earlier → ((j : ℕ) → j < i → bound_as bounds j ≡ bound_as earlier j) → (t : StaticType) →
+      IsParentBehind tree all i t → HasParentAmong earlier t
+  parent_earlier i earlier kept found (partition_type d r p) h =
+      let is = subst (λ (b : Bound). is_region b.static_type ≡ true) (found r h.1) h.0 in
+      let f = region_numbered earlier r is in
+      let own = own_among keeping m earlier kept earlier (bound_as earlier r) kept f.0 is in
+      record { named = bound_as earlier r; among = f.0; number = f.1; region = own.0; term = own.1 ∙ ap (λ k. place.Name k) f.1 }
+  parent_earlier i earlier kept found (pointer_type k sp args rs) h = tt
+  parent_earlier i earlier kept found (integer_type w) h = tt
+  parent_earlier i earlier kept found truth_type h = tt
+  parent_earlier i earlier kept found (index_type k) h = tt
+  parent_earlier i earlier kept found (ispace_type k) h = tt
+  parent_earlier i earlier kept found (region_type k sp args r) h = tt
+  parent_earlier i earlier kept found no_type h = tt
+  parent_earlier i earlier kept found unknown_type h = tt
+
   params_kept : (i : ℕ) (ps : List Param) (earlier : List Bound) → bounds ≡ bound_params tree all i ps ++ earlier → are_local_params m ps ≡ true →
       ((p : Param) → Has ps p → is_region_term p.term ≡ true → is_among m.regions p.name ≡ true) → AllBehind tree all i ps → AllKept keeping m earlier →
       AllKept keeping m (bound_params tree all i ps ++ earlier)
@@ -311,8 +354,11 @@ module _ (keeping : Bool) (tree : Tree) (all : List Param) (m : Marked) (keeps :
       let same = append_assoc (bound_params tree all (suc i) ps) (b ∷ []) earlier in
       let found : (j : ℕ) → j < i → bound_as bounds j ≡ bound_as earlier j =
       λ j low. ap (λ bs. bound_as bs j) whole ∙ found_past i (p ∷ ps) earlier j low in
-      subst (AllKept keeping m) (sym same) (params_kept (suc i) ps (b ∷ earlier) (whole ∙ same) both.1 (λ q h. marked q (inr h)) behind.2
-      (param_kept earlier p i p.term refl both.0 (marked p (inl refl)) (among_earlier i earlier kept found (type_at i p.term) behind.0 behind.1), kept))
+      subst (AllKept keeping m) (sym same) (params_kept (suc i) ps (b ∷ earlier) (whole ∙ same) both.1 (λ q h. marked q (inr h)) behind.3 (
+        param_kept earlier p i p.term refl both.0 (marked p (inl refl)) (among_earlier i earlier kept found (type_at i p.term) behind.0 behind.1)
+            (parent_earlier i earlier kept found (type_at i p.term) behind.2),
+        kept,
+      ))
 
   pub all_kept : are_local_params m all ≡ true → ((p : Param) → Has all p → is_region_term p.term ≡ true → is_among m.regions p.name ≡ true) →
       AllBehind tree all 0 all → AllKept keeping m bounds

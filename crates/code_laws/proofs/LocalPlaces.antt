@@ -84,7 +84,7 @@ module _ (keeping : Bool) (m : Marked) (bs : List Bound) (names : AllKept keepin
   own_term c n i _ (kept_region k sp args h) e = (a_region_type k sp args (place.Name i), refl)
   own_term c n i _ (kept_partition d r q a h) e = absurd (no_way_back e)
 
-  own_among : (c : List Bound) (b : Bound) → AllKept keeping m c → Has c b → is_region b.static_type ≡ true →
+  pub own_among : (c : List Bound) (b : Bound) → AllKept keeping m c → Has c b → is_region b.static_type ≡ true →
       IsRegion b.static_type × (term_in b.static_type ≡ place.Name b.number)
   own_among [] b a h e = absurd h
   own_among (d ∷ c) b a (inl same) e =

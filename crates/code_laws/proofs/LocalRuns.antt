@@ -31,7 +31,8 @@ use Rattle.code_laws.proofs.LocalBlocks.{block_local}
 use Rattle.code_laws.proofs.DeclaredNeeds.{needs_none}
 use Rattle.code_laws.proofs.KnownHeads.{IsReady, head_begins}
 use Rattle.code_laws.proofs.LocalParams.{behind_all}
-use Rattle.code_laws.proofs.LocalTrees.{IsHead, IsOfForm, TakesScalars, begins_kept, local_tree, item_of_form, item_stands, params_tell, task_stands}
+use Rattle.code_laws.proofs.LocalTells.{params_tell}
+use Rattle.code_laws.proofs.LocalTrees.{IsHead, IsOfForm, TakesScalars, begins_kept, local_tree, item_of_form, item_stands, task_stands}
 use Rattle.code_laws.proofs.LocalTypes.{term_scalar}
 use Rattle.code_laws.proofs.Openings.{params_length, types_length}
 use Rattle.check_laws.proofs.Entries.{begins}
@@ -126,7 +127,7 @@ module _ (handing keeping : Bool) (tree : Tree) (inputs : List ℤ) (p : IsLocal
         names = begins_kept keeping tree t k.marks k.regions k.params k.assigns
             (behind_all tree t p.accepted p.within (item_stands tree item s.1 t s.2) is.back);
         head = record {
-          facts = head_begins tree t told.sound_task (params_tell keeping tree t (heads item s.1 t s.2));
+          facts = head_begins tree t told.sound_task (params_tell tree t told.scope.numbers);
           spaced = body_begins tree p.accepted p.within t (item_stands tree item s.1 t s.2);
           placed = params_placed tree t;
         };

@@ -8,7 +8,7 @@ use Rattle.std.proofs.lemmas.Slice.Eq.{bytes_eq-Decides}
 use Rattle.plain_values.proofs.Plain.{option_or_parts}
 use Rattle.regent_tree.proofs.Members.{Contains-from_Has, Has, Has-map}
 use Rattle.regent_tree.specs.Limits.{WithinLimits, counted, parts_of_item, parts_of_program}
-use Rattle.regent_tree.specs.Scopes.{bound_params, known_of_type, scope_of}
+use Rattle.regent_tree.specs.Scopes.{bound_params, scope_of}
 use Rattle.regent_tree.specs.StaticTypes.{place_in, space_at, spaces_of, task_named}
 use Rattle.regent_tree.specs.Syntax.{Arms, Block, Expression, Form, ItemForm, ItemTree, Name, Otherwise, TaskTree, Tree, a_statement, alias_item, an_arm, both_initializer, by_field_initializer, do_form, either_initializer, else_block, equal_initializer, for_in_form, for_to_form, if_form, image_initializer, import_item, no_arm, no_else, no_statement, plain_initializer, preimage_initializer, region_initializer, space_item, start_item, task_item, then_statement, var_form, while_form}
 use Rattle.regent_tree.specs.declared.limits.Counted.TheVariants.{Fields}
@@ -31,11 +31,11 @@ use Rattle.code_rules.specs.Instructions.{tasks_of}
 use Rattle.local_form.specs.LocalForm.{Marked, all_go_back, are_local_params, are_scalar_params, is_among, is_local_param, is_local_block, is_local_item, is_local_program, is_local_task, gives_pointer, gives_scalar, is_difference, is_region_name, marked_by, marked_by_arms, marked_by_else, marked_by_items, marked_by_task, marked_by_term, marked_in, marked_params, unmarked, with_either, with_partition}
 use Rattle.state_laws.proofs.Texts.{declarations_are}
 use Rattle.code_laws.proofs.LocalFields.{fields_of}
-use Rattle.code_laws.specs.Simple.{IsScalar, a_region_type, scalar_integer, scalar_truth}
+use Rattle.code_laws.specs.Simple.{IsScalar}
 use Rattle.code_laws.proofs.LocalMarks.{HasFieldTerms, among_left, space_terms}
 use Rattle.code_laws.proofs.LocalNames.{AllKept, AreScalars, AreTakable, IsAlone, IsLocalTree}
 use Rattle.code_laws.proofs.LocalParams.{AllBehind, all_back, all_kept, behind_all, marked_region, term_takable}
-use Rattle.code_laws.proofs.LocalTypes.{IsTakable, takable_index, takable_pointer, takable_region, takable_scalar, takable_space, term_scalar}
+use Rattle.code_laws.proofs.LocalTypes.{IsTakable, term_scalar}
 use Rattle.code_laws.proofs.Openings.{types_cons, types_in}
 use Rattle.code_laws.proofs.Entries.{all_of, found, kept_all, kept_item, no_clauses}
 use Rattle.code_laws.proofs.Typing.{AllScalar, AreKept, no_way_back}
@@ -195,23 +195,6 @@ module _ (keeping : Bool) where
       let both = and_parts (is_local_param m p) (are_local_params m ps) e in
       takable_behind (bound_params tree all (suc i) ps) _ (params_takable m keeps tree all (suc i) ps both.1)
       (term_takable keeping tree all m p.name p.term both.0 keeps i)
-
-  -- what such a parameter is tells nothing of regions
-  takable_tells : (t : StaticType) → IsTakable keeping t → known_of_type t ≡ []
-  takable_tells _ (takable_scalar _ (scalar_integer w)) = refl
-  takable_tells _ (takable_scalar _ scalar_truth) = refl
-  takable_tells _ (takable_region _ (a_region_type k sp args r)) = refl
-  takable_tells _ (takable_index k q) = refl
-  takable_tells _ (takable_space k q) = refl
-  takable_tells _ (takable_pointer k sp args rs q) = refl
-
-  all_tell : (bs : List Bound) → AllTakable bs → (b : Bound) → Has bs b → known_of_type b.static_type ≡ []
-  all_tell [] a b h = absurd h
-  all_tell (c ∷ bs) a b (inl same) = subst (λ (b : Bound). known_of_type b.static_type ≡ []) same (takable_tells c.static_type a.0)
-  all_tell (c ∷ bs) a b (inr h) = all_tell bs a.1 b h
-
-  pub params_tell : (tree : Tree) (t : TaskTree) → IsHead keeping t → (b : Bound) → Has (scope_of tree t).names b → known_of_type b.static_type ≡ []
-  params_tell tree t h = all_tell (scope_of tree t).names (params_takable h.marks h.keeps tree t.params 0 t.params h.params)
 
   takable_types_behind : (ts : List StaticType) (t : StaticType) → AreTakable keeping ts → IsTakable keeping t → AreTakable keeping (ts ++ t ∷ [])
   takable_types_behind [] t a i = (i, tt)

@@ -15,7 +15,7 @@ use Rattle.regent_tree.specs.declared.types.NumberTerm.TheVariants as number
 use Rattle.regent_tree.specs.declared.types.TypeTerm.{TypeTerm}
 use Rattle.regent_tree.specs.declared.types.TypeTerm.TheVariants as term
 use Rattle.regent_tree.specs.declared.typing.StaticType.{StaticType}
-use Rattle.regent_tree.specs.declared.typing.StaticType.TheVariants.{Index as index_type, Region as region_type, Truth as truth_type, Ispace as ispace_type, Pointer as pointer_type}
+use Rattle.regent_tree.specs.declared.typing.StaticType.TheVariants.{Index as index_type, Region as region_type, Truth as truth_type, Ispace as ispace_type, Pointer as pointer_type, Partition as partition_type}
 use Rattle.check_rules.specs.rules.Standing.{param_spot, stands}
 use Rattle.check_rules.specs.rules.Types.{compares_with, computes_with, has_equality_with, has_order_with, may_stand}
 use Rattle.check_rules.specs.rules.Spaces.{differs}
@@ -115,13 +115,14 @@ param_fitting known _ _ (simple_space k) scalar_truth e = absurd (no_way_back e)
 param_fitting known _ _ (simple_index k) (scalar_integer w) e = absurd (no_way_back e)
 param_fitting known _ _ (simple_index k) scalar_truth e = absurd (no_way_back e)
 
--- a number or truth, or a region, is taken by a parameter, and an index, an index space or a pointer where these are kept
+-- a number or truth, or a region, is taken by a parameter, and an index, an index space, a pointer or a partition where these are kept
 pub data IsTakable (keeping : Bool) : StaticType → Type 0 where
   takable_scalar : (t : StaticType) → IsScalar t → IsTakable keeping t
   takable_region : (t : StaticType) → IsRegion t → IsTakable keeping t
   takable_index : (k : Kind) → keeping ≡ true → IsTakable keeping (index_type k)
   takable_space : (k : Kind) → keeping ≡ true → IsTakable keeping (ispace_type k)
   takable_pointer : (k : Kind) (sp : ℕ) (args rs : List Reach) → keeping ≡ true → IsTakable keeping (pointer_type k sp args rs)
+  takable_partition : (d : Bool) (r p : ℕ) → keeping ≡ true → IsTakable keeping (partition_type d r p)
 
 -- neither fits where the other is wanted
 pub simple_for_region : (known : List Known) (t wanted : StaticType) → IsSimple t → IsRegion wanted →
@@ -136,6 +137,10 @@ region_for_index known _ k (a_region_type j sp args r) e = no_way_back e
 
 pub region_for_space : (known : List Known) (t : StaticType) (k : Kind) → IsRegion t → may_stand known (stands t (param_spot (ispace_type k))) ≡ true → ⊥
 region_for_space known _ k (a_region_type j sp args r) e = no_way_back e
+
+pub region_for_partition : (known : List Known) (t : StaticType) (d : Bool) (r p : ℕ) → IsRegion t →
+    may_stand known (stands t (param_spot (partition_type d r p))) ≡ true → ⊥
+region_for_partition known _ d r p (a_region_type j sq brgs u) e = no_way_back e
 
 pub region_for_pointer : (known : List Known) (t : StaticType) (k : Kind) (sp : ℕ) (args rs : List Reach) → IsRegion t →
     may_stand known (stands t (param_spot (pointer_type k sp args rs))) ≡ true → ⊥

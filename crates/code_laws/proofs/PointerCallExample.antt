@@ -22,7 +22,7 @@ main = task_named totals_program (entry_name totals_program)
 main_typed : IsTypedBlock all_forms (place_of totals_program main) main.body
 main_typed = (
   (
-    (an_integer _, (refl, scalar_integer _, (refl, tt, tt, (tt, tt)), (inl (passes_plain _ _ (into_plain _ _ (fills_alike _ _ (two_integers _ _))), (refl, tt)), tt)), tt),
+    (an_integer _, (refl, scalar_integer _, (refl, tt, tt, (tt, tt), (tt, tt)), (inl (passes_plain _ _ (into_plain _ _ (fills_alike _ _ (two_integers _ _))), (refl, tt)), tt)), tt),
     refl,
   ),
   tt,

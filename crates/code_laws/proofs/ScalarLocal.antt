@@ -13,7 +13,7 @@ use Rattle.regent_tree.specs.declared.types.TypeTerm.{TypeTerm}
 use Rattle.regent_tree.specs.declared.types.NumberTerm.{NumberTerm}
 use Rattle.regent_tree.specs.declared.types.NumberTerm.TheVariants as number
 use Rattle.regent_tree.specs.declared.types.TypeTerm.TheVariants as term
-use Rattle.local_form.specs.LocalForm.{Marked, all_go_back, goes_back, is_pointer_term, is_taken_term, marked_param, with_pointer, converts_to, gives_pointer, is_difference, is_partition_name, keeps_pointer, is_kept_term, is_pointing, marked_by_term, takes_partition_off, takes_value, with_either, with_partition, are_local_arms, are_local_expressions, are_local_links, are_local_params, are_scalar_params, gives_scalar, is_local_block, is_local_else, is_local_expression, is_local_form, is_local_item, is_local_program, is_local_task, is_index_or_space, is_local_param, is_local_with, is_region_term, links_give, marked_by, marked_by_arms, marked_by_else, marked_by_item, marked_by_items, marked_by_task, marked_in, marked_params, unmarked, with_index, with_region}
+use Rattle.local_form.specs.LocalForm.{Marked, all_go_back, goes_back, is_partition_term, is_pointer_term, is_taken_term, marked_param, with_pointer, converts_to, gives_pointer, is_difference, is_partition_name, keeps_pointer, is_kept_term, is_pointing, marked_by_term, takes_partition_off, takes_value, with_either, with_partition, are_local_arms, are_local_expressions, are_local_links, are_local_params, are_scalar_params, gives_scalar, is_local_block, is_local_else, is_local_expression, is_local_form, is_local_item, is_local_program, is_local_task, is_index_or_space, is_local_param, is_local_with, is_region_term, links_give, marked_by, marked_by_arms, marked_by_else, marked_by_item, marked_by_items, marked_by_task, marked_in, marked_params, unmarked, with_index, with_region}
 use Rattle.code_laws.specs.LocalPrograms.{has_no_pointer, keeps_nothing, takes_scalars}
 use Rattle.code_laws.proofs.Typing.{no_way_back}
 use Rattle.scalar_form.specs.ScalarForm.{are_scalar_arms, are_scalar_expressions, are_scalar_links, is_empty, is_scalar_block, is_scalar_else, is_scalar_expression, is_scalar_form, is_scalar_if_said, is_scalar_item, is_scalar_number, is_scalar_program, is_scalar_task, is_scalar_term}
@@ -254,11 +254,11 @@ scalar_task t e =
 
 -- scalar parameters are of the form, and mark nothing
 scalar_marks_none : (t : TypeTerm) → is_scalar_term t ≡ true →
-    (is_region_term t ≡ false) × (is_index_or_space t ≡ false) × (is_pointer_term t ≡ false)
-scalar_marks_none (term.Number number.Int32) e = (refl, refl, refl)
-scalar_marks_none (term.Number number.Int64) e = (refl, refl, refl)
+    (is_region_term t ≡ false) × (is_index_or_space t ≡ false) × (is_pointer_term t ≡ false) × (is_partition_term t ≡ false)
+scalar_marks_none (term.Number number.Int32) e = (refl, refl, refl, refl)
+scalar_marks_none (term.Number number.Int64) e = (refl, refl, refl, refl)
 scalar_marks_none (term.Number (number.Index k)) e = absurd (no_way_back e)
-scalar_marks_none term.Truth e = (refl, refl, refl)
+scalar_marks_none term.Truth e = (refl, refl, refl, refl)
 scalar_marks_none (term.Pointer p) e = absurd (no_way_back e)
 scalar_marks_none (term.Ispace k) e = absurd (no_way_back e)
 scalar_marks_none (term.Region k u) e = absurd (no_way_back e)
@@ -267,9 +267,11 @@ scalar_marks_none (term.Partition d r c) e = absurd (no_way_back e)
 none_marked_one : (p : Param) (m : Marked) → is_scalar_term p.term ≡ true → marked_param p m ≡ m
 none_marked_one p m e =
     let is = scalar_marks_none p.term e in
-    ap (λ b. cond b (with_region p.name m) (cond (is_index_or_space p.term) (with_index p.name m) (cond (is_pointer_term p.term) (with_pointer p.name m) m))) is.0
-    ∙ ap (λ b. cond b (with_index p.name m) (cond (is_pointer_term p.term) (with_pointer p.name m) m)) is.1
-    ∙ ap (λ b. cond b (with_pointer p.name m) m) is.2
+    ap (λ b. cond b (with_region p.name m) (cond (is_index_or_space p.term) (with_index p.name m) (cond (is_pointer_term p.term) (with_pointer p.name m)
+    (cond (is_partition_term p.term) (with_partition p.name m) m)))) is.0
+    ∙ ap (λ b. cond b (with_index p.name m) (cond (is_pointer_term p.term) (with_pointer p.name m) (cond (is_partition_term p.term) (with_partition p.name m) m))) is.1
+    ∙ ap (λ b. cond b (with_pointer p.name m) (cond (is_partition_term p.term) (with_partition p.name m) m)) is.2
+    ∙ ap (λ b. cond b (with_partition p.name m) m) is.3
 
 none_marked : (ps : List Param) (m : Marked) → are_scalar_params ps ≡ true → marked_params ps m ≡ m
 none_marked [] m e = refl
@@ -299,7 +301,7 @@ scalar_back m term.Truth e = refl
 scalar_back m (term.Pointer p) e = absurd (no_way_back e)
 scalar_back m (term.Ispace k) e = refl
 scalar_back m (term.Region k u) e = refl
-scalar_back m (term.Partition d r c) e = refl
+scalar_back m (term.Partition d r c) e = absurd (no_way_back e)
 
 params_back : (m : Marked) (ps : List Param) → are_scalar_params ps ≡ true → all_go_back m ps ≡ true
 params_back m [] e = refl

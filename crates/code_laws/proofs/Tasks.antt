@@ -49,7 +49,7 @@ use Rattle.memory_laws.proofs.Given.{given_keeps_numbers, given_stands}
 use Rattle.code_laws.specs.Handing.{AreTypedBy, forms_by, takes_by}
 use Rattle.code_laws.specs.Programs.{IsGiven, called_setting, gives_nothing, gives_scalar}
 use Rattle.code_laws.specs.Simple.{IsScalar, scalar_integer, scalar_truth}
-use Rattle.code_laws.specs.Standing.{Answering, AreTaken, Does, IsFramed, IsInside, IsOf, IsTaken, LiesIn, Matches, Returns, Stands, Takes, back, both_back, both_broke, called_with, of_integer, of_pointer, of_region, of_truth, takes_pointer, takes_region, takes_value}
+use Rattle.code_laws.specs.Standing.{Answering, AreTaken, Does, IsFramed, IsInside, IsOf, IsTaken, LiesIn, Matches, Returns, Stands, Takes, back, both_back, both_broke, called_with, of_integer, of_partition, of_pointer, of_region, of_truth, takes_partition, takes_pointer, takes_region, takes_value}
 use Rattle.code_laws.specs.Steps.{Ends, Setting, Taking, placed}
 use Rattle.code_laws.specs.Taking.{AreParts, IsGivenAs, IsHadBy, needs_taken, pairs_in, pairs_taken}
 use Rattle.code_laws.proofs.Calling.{code_there, room_for}
@@ -73,6 +73,7 @@ taken_typed takes code store (t ∷ ts) (v ∷ vs) a = (one t v a.0, taken_typed
     one : (t : StaticType) (v : Value) → IsTaken takes code store t v → IsOf t v
     one _ _ (takes_value t v s o) = o
     one _ _ (takes_pointer k sp args rs tg qs o) = of_pointer k sp args rs tg qs o
+    one _ _ (takes_partition y d r p q e l) = of_partition d r p q
     one _ _ (takes_region y k sp args r q e l) = of_region k sp args r q
 taken_typed takes code store [] (v ∷ vs) a = absurd a
 taken_typed takes code store (t ∷ ts) [] a = absurd a
@@ -124,6 +125,7 @@ taken_inside x all takes code store i n (t ∷ ts) (v ∷ vs) ec ea has long at 
     one : (t : StaticType) (v : Value) → IsOwnTerm i t → get_or all i (a_truth false) ≡ v → IsTaken takes code store t v → IsInside x store t v
     one _ _ own here (takes_value t v s o) = simple_inside x store t v s
     one _ _ own here (takes_pointer k sp args rs tg qs o) = tt
+    one _ _ own here (takes_partition y d r p q e l) = l
     one _ _ own here (takes_region y k sp args r q e l) =
         let z = has y e in (
           subst (λ c. LiesIn c store sp q) (sym ec) l,
@@ -247,7 +249,7 @@ module _ (handing keeping : Bool) (tree : Tree) (turns : ℕ) (few : turns < 2 ^
       (taken_inside x vs takes (code_of tree) store 0 (length t.params) ts vs refl refl
       (λ y e. all_take handing tree u t y (sym from ∙ e)) (omega (arith, room.0)) (λ k. ap (λ j. get_or vs j (a_truth false)) (omega arith)) (params_own tree t.params 0 t.params) takes_it.taken)
       (entered_pointed sc ts vs many sc.names placed (omega arith) (λ i low. refl) (names_typed IsOf sc.names vs from_first (taken_typed takes (code_of tree) store ts vs takes_it.taken))
-      (names_typed (Enters sc vs) sc.names (entered sc vs ts vs) from_first (taken_enters sc vs takes (code_of tree) store ts vs takes_it.taken)) takes_it.back) room.1 holds
+      (names_typed (Enters sc vs) sc.names (entered sc vs ts vs) from_first (taken_enters sc vs takes (code_of tree) store ts vs takes_it.taken takes_it.divided)) takes_it.back) room.1 holds
       (λ n h. asked_covered (code_of tree) c vs code.needs store (memory_of i) refl takes_it.required n (needs_are handing tree t n h))
       (parts_are handing tree u t vs (λ y e. takes_it.parts y (from ∙ e))) takes_it.kept in
       let low : length t.params ≤ length h.scope.names = omega (arith, params_length tree t.params 0 t.params) in

@@ -13,6 +13,7 @@ use Rattle.regent_tree.specs.declared.facts.Term.{Term}
 use Rattle.regent_tree.specs.declared.facts.Term.TheVariants as term
 use Rattle.regent_tree.specs.declared.typing.Bound.{Bound}
 use Rattle.regent_tree.specs.declared.typing.StaticType.{StaticType}
+use Rattle.regent_tree.specs.declared.typing.StaticType.TheVariants.{Partition as partition_type}
 use Rattle.task_code.specs.declared.code.NeedCode.{NeedCode}
 use Rattle.code_rules.specs.Slots.{Where, bound, typed}
 use Rattle.code_laws.specs.Simple.{AreRegions, IsPartition, IsRegion, term_in}
@@ -71,11 +72,26 @@ IsHanded (Some y) w t p (access_expr n no_step) =
     (is_bound w.scope.names n ≡ true) × (t ≡ p) × AreRegions (bound w n).static_type p
 IsHanded takes w t p e = ⊥
 
--- so is a part, of which something holds
+-- so is a part, of which something holds, and a partition that has a name
 abbrev pub IsHandedPart : Bool → Option Taking → Where → StaticType → StaticType → Expression → Type 0 → Type 0
 IsHandedPart true (Some y) w t p (access_expr n (at_step e no_step)) Part =
     IsCutName w n × (t ≡ p) × AreRegions (typed w (access_expr n (at_step e no_step))) p × Part
+IsHandedPart true (Some y) w t p (access_expr n no_step) Part = IsCutName w n × (t ≡ p) × IsPartition p
 IsHandedPart keeps takes w t p e Part = ⊥
+
+-- A partition that is handed over is of the region that is handed over for its parent.
+abbrev pub IsDividedBy : Where → Option Name → Option Name → Type 0
+IsDividedBy w (Some n) (Some m) = IsCutName w n × IsParent w m × ((parent_bound w n).place ≡ (bound w m).place)
+IsDividedBy w _ _ = ⊥
+
+abbrev pub IsDivided : Where → Expressions → ℕ → StaticType → Type 0
+IsDivided w args k (partition_type d r own) = IsDividedBy w (name_at args k) (name_at args r)
+IsDivided w args k t = Unit {0}
+
+-- so of parameters of these types, from a place on
+abbrev pub AreDivided : Where → Expressions → ℕ → List StaticType → Type 0
+AreDivided w args k [] = Unit {0}
+AreDivided w args k (t ∷ ts) = IsDivided w args k t × AreDivided w args (suc k) ts
 
 -- ---- needs
 

@@ -43,7 +43,7 @@ abbrev pub AcceptedProgramsEndWell : Type 0
 AcceptedProgramsEndWell = (tree : Tree) (inputs : List ℤ) (turns : ℕ) → turns < 2 ^ 64 → IsLocalProgramRun tree inputs →
     EndsWell tree inputs turns
 
--- the marks of a task that assigns no index, index space or pointer, takes no index, index space or pointer as a parameter and no element as a
+-- the marks of a task that assigns no index, index space or pointer, takes no index, index space, pointer or partition as a parameter and no element as a
 -- pointer, and makes no index of a number
 abbrev pub without_keeping : Marked → Marked
 without_keeping m = record m { keeps = false }

@@ -12,7 +12,7 @@ use Rattle.regent_tree.specs.declared.types.NumberTerm.{NumberTerm}
 use Rattle.regent_tree.specs.declared.types.NumberTerm.TheVariants as number
 use Rattle.regent_tree.specs.declared.typing.Bound.{Bound}
 use Rattle.regent_tree.specs.declared.typing.StaticType.{StaticType}
-use Rattle.regent_tree.specs.declared.typing.StaticType.TheVariants.{Index as index_type, Pointer as pointer_type, Ispace as ispace_type}
+use Rattle.regent_tree.specs.declared.typing.StaticType.TheVariants.{Index as index_type, Ispace as ispace_type, Partition as partition_type, Pointer as pointer_type}
 use Rattle.partitions.specs.Laws.{ArePartsOf, NoneShared}
 use Rattle.regent_tree.specs.Accesses.{space_in}
 use Rattle.regent_tree.specs.Scopes.{bound_as}
@@ -99,9 +99,11 @@ AreBefore own (Some (term.Name i) ∷ rs) = (i < own) × AreBefore own rs
 AreBefore own (Some (term.Child p c) ∷ rs) = AreBefore own rs
 AreBefore own (None ∷ rs) = AreBefore own rs
 
--- Parameters' pointers go into parameters that are regions of their field space, and stand before them.
+-- Parameters' pointers go into parameters that are regions of their field space, and stand before them; so does the parent of
+-- one that is a partition.
 abbrev pub GoesBack : List Bound → ℕ → StaticType → Type 0
 GoesBack all own (pointer_type k sp args rs) = AreThere all sp rs × AreBefore own rs
+GoesBack all own (partition_type d r p) = (r < own) × ((bound_as all r).number ≡ r) × IsRegion (bound_as all r).static_type
 GoesBack all own t = Unit {0}
 
 abbrev pub GoBack : List Bound → List Bound → Type 0
@@ -216,6 +218,13 @@ AreReached bs names sp _ _ = ⊥
 pub record IsCutAs (b : Bound) (upto : ℕ) (names : List Value) (r : ℕ) (q : Partition) : Type 0 where
   pub parent : Region
   pub is : IsOfName b upto names (space_in b.static_type) r parent
+  pub root : q.root ≡ parent.root
+  pub sets : ArePartsOf parent.points q.sets
+  pub apart : q.disjoint ≡ true → NoneShared q.sets
+  pub few : length q.sets ≤ 65536
+
+-- so of a region
+pub record IsCutIn (parent : Region) (q : Partition) : Type 0 where
   pub root : q.root ≡ parent.root
   pub sets : ArePartsOf parent.points q.sets
   pub apart : q.disjoint ≡ true → NoneShared q.sets

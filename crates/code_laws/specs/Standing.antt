@@ -32,7 +32,7 @@ use Rattle.machine_terms.specs.Jumps.{fetch}
 use Rattle.machine_terms.specs.Makes.{region_with}
 use Rattle.machine_terms.specs.Orders.{begun, result_of}
 use Rattle.value_laws.specs.Shapes.{IsPosition, KeepsNumbers}
-use Rattle.code_laws.specs.Pointers.{AllGoBack, ArePointed}
+use Rattle.code_laws.specs.Pointers.{AllGoBack, ArePointed, IsCutIn}
 use Rattle.code_laws.specs.Simple.{IsScalar, IsSimple}
 use Rattle.code_rules.specs.Instructions.{place_of_task, tasks_of}
 use Rattle.machine_terms.specs.Opening.{opening, requirements_on}
@@ -55,7 +55,7 @@ use Rattle.memory_laws.specs.Memory.{Holds, Memory, StandFor, memory_of}
 use Rattle.memory_laws.specs.Places.{number_at, numbers}
 use Rattle.run_report.specs.Dumps.{is_of_space}
 use Rattle.code_laws.specs.Steps.{Setting, Taking, placed, Leads, Ends}
-use Rattle.code_laws.specs.Taking.{AreParts, IsHad, is_asked, needs_taken, pairs_in, pairs_taken}
+use Rattle.code_laws.specs.Taking.{AreParts, IsHad, given_region, is_asked, needs_taken, pairs_in, pairs_taken}
 
 -- a piece stands in a body at a place
 abbrev pub Stands : List Line → ℕ → Piece → Type 0
@@ -185,13 +185,20 @@ pub record IsFramed (x : Setting) (store : Store) (own : List RootId) (m : Memor
 -- ---- calls
 
 -- A value that is given to a parameter: a number, a truth, an index or an index space; a pointer with a position of its list; or,
--- where regions are handed over, one that lies in the store.
+-- where regions are handed over, one that lies in the store, or a partition of one of its roots.
 pub data IsTaken (takes : Option Taking) (code : Code) (store : Store) : StaticType → Value → Type 0 where
   takes_value : (t : StaticType) (v : Value) → IsSimple t → IsOf t v → IsTaken takes code store t v
   takes_pointer : (k : Kind) (sp : ℕ) (args rs : List Reach) (t : Target) (qs : List Region) → IsPosition (length rs) t →
       IsTaken takes code store (pointer_type k sp args rs) (a_pointer t qs)
   takes_region : (y : Taking) (k : Kind) (space : ℕ) (args : List Reach) (r : Term) (q : Region) → takes ≡ Some y →
       LiesIn code store space q → IsTaken takes code store (region_type k space args r) (a_region q)
+  takes_partition : (y : Taking) (d : Bool) (r p : ℕ) (q : Partition) → takes ≡ Some y → q.root < length store →
+      IsTaken takes code store (partition_type d r p) (a_partition q)
+
+-- a partition is one of the region that is given for a parameter
+abbrev pub IsOfGiven : List Value → StaticType → Value → Type 0
+IsOfGiven vs (partition_type d r p) (a_partition q) = IsCutIn (given_region vs r) q
+IsOfGiven vs t v = Unit {0}
 
 -- a task of the program, what it takes, of which its constraints hold, whose pointers go to parameters before them, a store that keeps numbers of its fields' types, and
 -- what the task requires of what it takes
@@ -201,6 +208,7 @@ pub record Takes (takes : Option Taking) (code : Code) (tree : Tree) (task : Nam
   pub taken : AreTaken (IsTaken takes code store) (param_types tree (task_named tree task)) vs
   pub parts : (y : Taking) → takes ≡ Some y → AreParts vs (pairs_in (scope_of tree (task_named tree task)).known)
   pub back : AllGoBack (scope_of tree (task_named tree task)).names
+  pub divided : AreTaken (IsOfGiven vs) (param_types tree (task_named tree task)) vs
   pub kept : KeepsNumbers tree store
   pub needs : List Requirement
   pub required : requirements_on code c (task_code tree (task_named tree task)).needs (map (machine_value c) vs) ≡ Some needs

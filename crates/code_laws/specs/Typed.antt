@@ -20,7 +20,7 @@ use Rattle.regent_tree.specs.Numbers.{distance}
 use Rattle.regent_tree.specs.Syntax.{a_statement, Form, var_form, if_form, while_form, for_in_form, for_to_form, do_form, assert_form, print_form, assign_form, return_form, Block, no_statement, then_statement, Arms, no_arm, an_arm, Otherwise, no_else, else_block, both_initializer, by_field_initializer, either_initializer, equal_initializer, image_initializer, preimage_initializer, plain_initializer, region_initializer, Name, Tree, fill_form, call_form, call_expr, Expression, number_expr, truth_expr, chain_expr, prefix_expr, access_expr, convert_expr, Expressions, no_expr, an_expr, Links, no_link, a_link, no_step, field_step, at_step, space_expr, is_null_expr, null_expr, cast_expr}
 use Rattle.regent_tree.specs.Scopes.{bound_as}
 use Rattle.regent_tree.specs.Typing.{arithmetic_type, has_wild, operated, param_types, params_at, reaches_of, result_type, taken_from, type_of_element, type_of_field, var_type}
-use Rattle.code_laws.specs.Arguments.{AreMet, ArePaired, AreParted, IsCutName, IsHanded, IsHandedPart, IsParent, LiesBelow, parent_bound}
+use Rattle.code_laws.specs.Arguments.{AreDivided, AreMet, ArePaired, AreParted, IsCutName, IsHanded, IsHandedPart, IsParent, LiesBelow, parent_bound}
 use Rattle.code_laws.specs.Pointers.{AreThere, Assigned, BeginsAs, BeginsWith, ConvertsTo, CountsAs, FieldKeeps, FillsInto, IsAssigned, IsCompared, IsCounting, IsPointer, IsRead, IsWritten, PassesInto, SignedAs, AllGoBack}
 use Rattle.code_laws.specs.Simple.{IsInteger, IsTruth, IsScalar, IsSimple, IsSpace, IsRegion, AreAlike, FieldFits, term_in}
 use Rattle.code_rules.specs.Instructions.{place_of_task, tasks_of}
@@ -166,16 +166,17 @@ abbrev pub MayGo : Forms → Where → Name → Name → Mode → Type 0
 MayGo forms w n f a = MayReach forms w (reaches_of (bound w n).static_type)
     (field_place w.tree (space_in (bound w n).static_type) f) a
 
--- a task of the program, whose needs are met, of whose parameters the constraints hold, and whose pointers go to
--- parameters before them
+-- a task of the program, whose needs are met, of whose parameters the constraints hold, whose pointers go to parameters
+-- before them, and whose partitions are of the regions that it is given
 abbrev pub IsCallable : Forms → Where → Name → Expressions → Type 0
 IsCallable forms w task args =
     (slice_get (tasks_of w.tree) (place_of_task w.tree task) ≡ Some (task_named w.tree task))
     × AreMet forms.keeps forms.takes w args (task_code w.tree (task_named w.tree task)).needs
     × AreParted forms.keeps forms.takes w args (pairs_in (scope_of w.tree (task_named w.tree task)).known)
     × AllGoBack (scope_of w.tree (task_named w.tree task)).names
+    × AreDivided w args 0 (param_types w.tree (task_named w.tree task))
 
--- a number or truth, an index or a pointer where these are kept, a region that has a name, or a part of a partition that has one is given
+-- a number or truth, an index or a pointer where these are kept, a region or a partition that has a name, or a part of a partition that has one is given
 -- to a parameter
 abbrev pub IsPassed : Forms → Where → StaticType → StaticType → Expression → Type 0 → Type 0 → Type 0
 IsPassed forms w t p e Typed Part =

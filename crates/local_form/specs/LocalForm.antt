@@ -327,6 +327,10 @@ abbrev pub is_space_term : TypeTerm → Bool
 is_space_term (term.Ispace k) = true
 is_space_term t = false
 
+abbrev pub is_partition_term : TypeTerm → Bool
+is_partition_term (term.Partition d r c) = true
+is_partition_term t = false
+
 abbrev pub is_index_or_space : TypeTerm → Bool
 is_index_or_space t = is_index_term t || is_space_term t
 
@@ -345,11 +349,12 @@ is_local_field p = is_scalar_term p.term || (is_index_term p.term || is_pointer_
 abbrev pub are_local_fields : List Param → Bool
 are_local_fields ps = list_all is_local_field ps
 
--- A parameter is a number, a truth or a region; or an index, an index space or a pointer into regions that have names, and its
--- name is known as such.
+-- A parameter is a number, a truth or a region; or an index, an index space, a pointer into regions that have names, or a
+-- partition, and its name is known as such.
 abbrev pub is_taken_term : Marked → Name → TypeTerm → Bool
 is_taken_term m n (term.Region k u) = true
 is_taken_term m n (term.Ispace k) = m.keeps && is_among m.indices n
+is_taken_term m n (term.Partition d r c) = m.keeps && is_among m.partitions n
 is_taken_term m n t = is_kept_term m n t
 
 abbrev pub is_local_param : Marked → Param → Bool
@@ -375,10 +380,10 @@ abbrev pub marked_by_items : Tree → Marked → Marked
 marked_by_items [] m = m
 marked_by_items (i ∷ is) m = marked_by_items is (marked_by_item i.form m)
 
--- the names of parameters that are regions, indices, index spaces and pointers, beside those that are marked before them
+-- the names of parameters that are regions, indices, index spaces, pointers and partitions, beside those that are marked before them
 abbrev pub marked_param : Param → Marked → Marked
 marked_param p m = cond (is_region_term p.term) (with_region p.name m) (cond (is_index_or_space p.term) (with_index p.name m)
-    (cond (is_pointer_term p.term) (with_pointer p.name m) m))
+    (cond (is_pointer_term p.term) (with_pointer p.name m) (cond (is_partition_term p.term) (with_partition p.name m) m)))
 
 abbrev pub marked_params : List Param → Marked → Marked
 marked_params [] m = m
@@ -392,9 +397,10 @@ marked_by_task tree t = marked_in t.body (marked_params t.params (marked_by_item
 abbrev pub is_local_with : Marked → TaskTree → Bool
 is_local_with m t = are_local_params m t.params && (is_scalar_if_said t.result && is_local_block m t.body)
 
--- the regions of a parameter's pointers are named by parameters before it
+-- the regions of a parameter's pointers, and that of a partition, are named by parameters before it
 abbrev pub goes_back : Marked → TypeTerm → Bool
 goes_back m (term.Pointer p) = goes_to_names m p.regions
+goes_back m (term.Partition d r c) = is_among m.regions r
 goes_back m t = true
 
 abbrev pub all_go_back : Marked → List Param → Bool

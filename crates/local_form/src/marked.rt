@@ -119,6 +119,13 @@ impl<'t> Marked<'t> {
         self.keeps && self.is_index(name)
     }
 
+    /// Whether a name may stand for a partition, which is kept.
+    pub fn keeps_partition(&self, name: &Name) -> bool
+        ensures { result ≡ (self.now.keeps && is_among self.now.partitions name.now) }
+    {
+        self.keeps && self.is_partition(name)
+    }
+
     pub fn is_pointer(&self, name: &Name) -> bool
         ensures { result ≡ is_among self.now.pointers name.now }
     {

@@ -2,7 +2,7 @@
 
 ghost use Rattle.std.specs.Prelude.{◌≡◌, IfOk, OnOk, map};
 ghost use Rattle.regent_tree.specs.PlainProgram.{item_of, item_tree_of, task_of, tree_of};
-ghost use Rattle.local_form.specs.LocalForm.{all_go_back, are_local_params, is_index_or_space, is_local_item, is_local_param};
+ghost use Rattle.local_form.specs.LocalForm.{all_go_back, are_local_params, is_index_or_space, is_local_item, is_local_param, is_partition_term};
 ghost use Rattle.local_form.specs.LocalForm.{is_local_program, is_local_task, is_local_with};
 ghost use Rattle.local_form.specs.LocalForm.{is_region_term, marked_by_task, marked_param, marked_params, unmarked};
 
@@ -24,6 +24,16 @@ fn is_region_term(term: &TypeTerm) -> bool
     }
 }
 
+/// Whether a type is a partition's.
+fn is_partition_term(term: &TypeTerm) -> bool
+    ensures { result ≡ is_partition_term term.now }
+{
+    match term {
+        TypeTerm::Partition { .. } => true,
+        _ => false,
+    }
+}
+
 /// Whether a type is that of an index or an index space.
 fn is_index_or_space(term: &TypeTerm) -> bool
     ensures { result ≡ is_index_or_space term.now }
@@ -34,7 +44,7 @@ fn is_index_or_space(term: &TypeTerm) -> bool
     }
 }
 
-/// Whether a parameter is a number, a truth or a region, or an index, an index space or a pointer, and known as such.
+/// Whether a parameter is a number, a truth or a region, or an index, an index space, a pointer or a partition, and known as such.
 fn is_local_param(marked: &Marked<'_>, param: &Param) -> bool
     ensures { result ≡ is_local_param marked.now param.now }
 {
@@ -53,7 +63,7 @@ fn are_local_params(marked: &Marked<'_>, params: &[Param]) -> bool
     true
 }
 
-/// Marks a parameter that is a region, an index, an index space or a pointer.
+/// Marks a parameter that is a region, an index, an index space, a pointer or a partition.
 fn mark_param<'t>(marked: &mut Marked<'t>, param: &'t Param) -> Result<(), AllocError>
     ensures { OnOk result (marked.new ≡ marked_param param.now marked.old) }
 {
@@ -63,12 +73,14 @@ fn mark_param<'t>(marked: &mut Marked<'t>, param: &'t Param) -> Result<(), Alloc
         marked.add_index(&param.name)
     } else if is_pointer_term(&param.term) {
         marked.add_pointer(&param.name)
+    } else if is_partition_term(&param.term) {
+        marked.add_partition(&param.name)
     } else {
         Ok(())
     }
 }
 
-/// Marks the parameters that are regions, indices, index spaces and pointers.
+/// Marks the parameters that are regions, indices, index spaces, pointers and partitions.
 fn mark_params<'t>(marked: &mut Marked<'t>, params: &'t [Param]) -> Result<(), AllocError>
     ensures { OnOk result (marked.new ≡ marked_params params.now marked.old) }
 {
@@ -78,7 +90,7 @@ fn mark_params<'t>(marked: &mut Marked<'t>, params: &'t [Param]) -> Result<(), A
     Ok(())
 }
 
-/// Whether the regions of each pointer among parameters are named before it.
+/// Whether the regions of each pointer and each partition among parameters are named before it.
 fn all_go_back(alloc: Global, params: &[Param]) -> Result<bool, AllocError>
     ensures { IfOk result (λ is. is ≡ all_go_back unmarked params.now) }
 {

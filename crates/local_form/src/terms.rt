@@ -44,23 +44,26 @@ pub fn is_kept_term(marked: &Marked<'_>, name: &Name, term: &TypeTerm) -> bool
     }
 }
 
-/// Whether a parameter may have a type: a number, a truth, a region, an index, an index space, or a pointer into such regions.
+/// Whether a parameter may have a type: a number, a truth, a region, an index, an index space, a pointer into such regions, or
+/// a partition.
 pub fn is_taken_term(marked: &Marked<'_>, name: &Name, term: &TypeTerm) -> bool
     ensures { result ≡ is_taken_term marked.now name.now term.now }
 {
     match term {
         TypeTerm::Region { .. } => true,
         TypeTerm::Ispace(_) => marked.keeps_index(name),
+        TypeTerm::Partition { .. } => marked.keeps_partition(name),
         _ => is_kept_term(marked, name, term),
     }
 }
 
-/// Whether the regions of a pointer's type have such names.
+/// Whether the regions of a pointer's type have such names, and that of a partition's.
 pub fn goes_back(marked: &Marked<'_>, term: &TypeTerm) -> bool
     ensures { result ≡ goes_back marked.now term.now }
 {
     match term {
         TypeTerm::Pointer(pointer) => goes_to_names(marked, pointer.regions.as_slice()),
+        TypeTerm::Partition { region, .. } => marked.is_region(region),
         _ => true,
     }
 }

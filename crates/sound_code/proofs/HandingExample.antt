@@ -41,7 +41,7 @@ tasks (suc zero) t e = subst (IsTypedBy true false hands_program) (same_Some _ t
         (
           refl,
           scalar_integer _,
-          (refl, ((refl, a_region_type _ _ _ _, omega arith, λ low. refl), tt), tt, (tt, (tt, tt))),
+          (refl, ((refl, a_region_type _ _ _ _, omega arith, λ low. refl), tt), tt, (tt, (tt, tt)), (tt, (tt, tt))),
           (inr (inl (refl, refl, two_regions _ _ _ _ _ _ _)), (inr (inl (refl, refl, two_regions _ _ _ _ _ _ _)), tt)),
         ),
         (number_integer _, number_integer _, (refl, simple_integer _), tt),
@@ -73,6 +73,7 @@ tasks (suc (suc zero)) t e = subst (IsTypedBy true false hands_program) (same_So
               ((refl, a_region_type _ _ _ _, omega arith, λ low. absurd (omega (arith, low))), tt),
             ),
             tt,
+            (tt, (tt, (tt, tt))),
             (tt, (tt, (tt, tt))),
           ),
           (
