@@ -1,0 +1,10 @@
+//! Runs a job by workers or in order: either way its outcome is that of the run in order.
+#![tactic(auto)]
+
+mod ran;
+mod run;
+#[cfg(test)]
+mod tests;
+
+pub use ran::Ran;
+pub use run::run_job;
