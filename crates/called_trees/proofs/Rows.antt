@@ -144,9 +144,13 @@ module _ (job : Job) (s : State) (b : Board (regent_ground (spaces_of job.code))
     leads_still (c ∷ way) j z l = (l.0, child_stays j c (number l.0) l.1, leads_still way l.0 z l.2)
 
     leads_last : (way : List ℕ) (j : ℕ) → Leads job s j way k → Leads job u j (way ++ length (operation_at s k).children ∷ []) n
-    leads_last [] j l = (n, ap (λ i. slice_get (operation_at u i).children (length (operation_at s k).children)) l
-        ∙ ap (λ (o : Operation). slice_get o.children (length (operation_at s k).children)) here
-        ∙ ap (λ ks. slice_get ks (length (operation_at s k).children)) more ∙ found_last (operation_at s k).children (number n), refl)
+    leads_last [] j l = (
+      n,
+      ap (λ i. slice_get (operation_at u i).children (length (operation_at s k).children)) l
+          ∙ ap (λ (o : Operation). slice_get o.children (length (operation_at s k).children)) here
+          ∙ ap (λ ks. slice_get ks (length (operation_at s k).children)) more ∙ found_last (operation_at s k).children (number n),
+      refl,
+    )
     leads_last (c ∷ way) j l = (l.0, child_stays j c (number l.0) l.1, leads_last way l.0 l.2)
 
     pub leads : (j : ℕ) (w : List ℕ) → IsAt job (b.ways ++ (v ++ length (operation_at s k).children ∷ []) ∷ []) j w → Leads job u 0 w j

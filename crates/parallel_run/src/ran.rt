@@ -1,7 +1,8 @@
 //! How a job ran.
 
 ghost use Rattle.std.specs.Prelude.{◌≡◌, IfOk};
-ghost use Rattle.parallel_run.specs.Runs.{HasEnded, outcome_of, trace_of};
+ghost use Rattle.std.specs.Option.{option_copied};
+ghost use Rattle.parallel_run.specs.Runs.{outcome_of, trace_of};
 
 use regent_tree::Outcome;
 use run_journal::journal_text;
@@ -22,17 +23,15 @@ pub enum Ran {
 }
 
 impl Ran {
-    /// What the run came to.
-    pub fn outcome(&self) -> &Outcome
-        requires { HasEnded self.now }
-        ensures { result.now ≡ outcome_of self.now }
+    /// What the run came to. A run that `run_job` gives has an outcome.
+    pub fn outcome(&self) -> Option<&Outcome>
+        ensures { option_copied result ≡ outcome_of self.now }
     {
         match self {
-            Ran::InOrder(outcome) | Ran::OtherJob(outcome) | Ran::NoResult(outcome) => outcome,
-            Ran::ByWorkers(board) => match board.result() {
-                Some(outcome) => outcome,
-                None => unreachable!(),
-            },
+            Ran::InOrder(outcome) | Ran::OtherJob(outcome) | Ran::NoResult(outcome) => Some(
+                outcome,
+            ),
+            Ran::ByWorkers(board) => board.result(),
         }
     }
 

@@ -1,6 +1,6 @@
 //! Runs of a job.
 
-ghost use Rattle.std.specs.Prelude.{◌≡◌, ◌↔◌, IfOk};
+ghost use Rattle.std.specs.Prelude.{◌≡◌, ◌↔◌, IfOk, Some};
 ghost use Rattle.machine_terms.specs.Jobs.{order_run};
 ghost use Rattle.parallel_run.specs.Runs.{HasEnded, IsInOrder, IsOfJob, outcome_of};
 
@@ -25,7 +25,7 @@ pub fn run_job<G: Gate, R: Threads + Wait + Sync>(
     gate: &G,
 ) -> Result<Ran, AllocError>
     ensures ended { IfOk result (λ ran. HasEnded ran) }
-    ensures outcome { IfOk result (λ ran. outcome_of ran ≡ order_run job.now) }
+    ensures outcome { IfOk result (λ ran. outcome_of ran ≡ Some (order_run job.now)) }
     ensures job { IfOk result (λ ran. IsOfJob job.now ran) }
     ensures in_order { IfOk result (λ ran. IsInOrder ran ↔ (workers ≡ 0)) }
 {
@@ -39,7 +39,7 @@ pub fn run_job<G: Gate, R: Threads + Wait + Sync>(
 /// The run of a board that workers left, where it is of this job and has a result.
 fn use_board(alloc: Global, job: &Job, board: Board) -> Result<Ran, AllocError>
     ensures ended { IfOk result (λ ran. HasEnded ran) }
-    ensures outcome { IfOk result (λ ran. outcome_of ran ≡ order_run job.now) }
+    ensures outcome { IfOk result (λ ran. outcome_of ran ≡ Some (order_run job.now)) }
     ensures job { IfOk result (λ ran. IsOfJob job.now ran) }
     ensures by_workers { IfOk result (λ ran. ¬ (IsInOrder ran)) }
 {

@@ -56,7 +56,7 @@ fn workers_come_to_what_the_order_comes_to(rt: HostRuntime) -> Result<(), Fail> 
     let wanted = run_in_order(alloc, &job)?;
     for workers in [0, 1, 4, 64] {
         let ran = run_job(&rt, alloc, &job, workers, &OpenGate)?;
-        assert!(rt; *ran.outcome() == wanted, "{workers} workers");
+        assert!(rt; ran.outcome() == Some(&wanted), "{workers} workers");
         assert_eq!(rt;
             matches!(&ran, Ran::InOrder(_)),
             workers == 0,
