@@ -57,9 +57,15 @@ fn workers_come_to_what_the_order_comes_to(rt: HostRuntime) -> Result<(), Fail> 
     for workers in [0, 1, 4, 64] {
         let ran = run_job(&rt, alloc, &job, workers, &OpenGate)?;
         assert!(rt; ran.outcome() == Some(&wanted), "{workers} workers");
+        // Where workers are asked for, their board is used, and the job isn't run in order after all.
         assert_eq!(rt;
             matches!(&ran, Ran::InOrder(_)),
             workers == 0,
+            "{workers} workers"
+        );
+        assert_eq!(rt;
+            matches!(&ran, Ran::ByWorkers(_)),
+            workers != 0,
             "{workers} workers"
         );
     }
