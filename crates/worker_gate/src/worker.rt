@@ -22,11 +22,9 @@ pub fn work<D: Desk, G: Gate, R: Wait>(
     seat: &mut D::Seat,
     gate: &G,
 ) -> Result<(), AllocError>
-    requires untold { (D.seated seat.old).overs ≡ 0 }
-    requires countable { (D.seated seat.old).claims < 2 ^ 64 - 1 }
     ensures over { OnOk result ((D.seated seat.new).overs ≡ 1) }
-    ensures untold { OnErr result ((D.seated seat.new).overs ≡ 0) }
-    ensures claims { (D.seated seat.new).claims ≡ (D.seated seat.old).claims }
+    ensures untold { OnErr result ((D.seated seat.new).overs ≡ (D.seated seat.old).overs) }
+    ensures claims { (D.seated seat.old).claims < 2 ^ 64 - 1 → (D.seated seat.new).claims ≡ (D.seated seat.old).claims }
 {
     for _ in rt.forever() {
         match desk.claim(rt, seat)? {
