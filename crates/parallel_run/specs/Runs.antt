@@ -31,9 +31,19 @@ abbrev pub IsInOrder : Ran → Type 0
 IsInOrder (InOrder outcome) = Unit {0}
 IsInOrder ran = ⊥
 
+-- the line of a run in order, and the lines that tell why a run by workers was made in order after all
+abbrev pub in_order_line : List ℕ
+in_order_line = codes "in order" ++ 10 ∷ []
+
+abbrev pub other_job_line : List ℕ
+other_job_line = codes "in order: other job" ++ 10 ∷ []
+
+abbrev pub no_result_line : List ℕ
+no_result_line = codes "in order: no result" ++ 10 ∷ []
+
 -- the lines that tell how it ran
 abbrev pub trace_of : Ran → List ℕ
-trace_of (InOrder outcome) = codes "in order" ++ 10 ∷ []
+trace_of (InOrder outcome) = in_order_line
 trace_of (ByWorkers board) = text_of board.journal
-trace_of (OtherJob outcome) = codes "in order: other job" ++ 10 ∷ []
-trace_of (NoResult outcome) = codes "in order: no result" ++ 10 ∷ []
+trace_of (OtherJob outcome) = other_job_line
+trace_of (NoResult outcome) = no_result_line
