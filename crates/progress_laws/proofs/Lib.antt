@@ -1,0 +1,5 @@
+pub mod ByNumber
+mod Found
+mod Settled
+mod Steps
+mod Numbers
