@@ -1,8 +1,7 @@
 -- A new board shows the tree's beginning.
-use Rattle.std.proofs.Common.{◌≡◌, ℕ, zero, suc, ◌<◌, ℤ, pos, List, [], ◌∷◌, ◌++◌, true, false, cond, Some, refl, sym, ap, ◌∙◌, subst, map, arith, ◌==◌, eqb-true, inr}
-use Rattle.std.specs.Prelude.{All, length, nat_le, replicate, ◌-◌}
-use Rattle.std.proofs.lemmas.Bool.{and_parts, false≢true}
-use Rattle.std.proofs.lemmas.List.{length-map, map-append}
+use Rattle.std.proofs.Common.{◌≡◌, ℕ, zero, suc, ◌<◌, ℤ, pos, List, [], ◌∷◌, ◌++◌, true, false, cond, Some, refl, sym, ap, ◌∙◌, subst, map, arith, inr}
+use Rattle.std.specs.Prelude.{All, length, replicate, ◌-◌}
+use Rattle.std.proofs.lemmas.Bool.{false≢true}
 use Rattle.std.proofs.lemmas.List.Elements.{All-cons, All-nil}
 use Rattle.region_finder.specs.Listings.{AreRising}
 use Rattle.region_tree.specs.Needs.{AreNeeds, IsNeed, requirements_of}
@@ -10,57 +9,23 @@ use Rattle.region_tree.specs.Trees.{RegionTree, empty_tree}
 use Rattle.region_tree.specs.declared.needs.Need.{Need}
 use Rattle.region_tree.specs.declared.tree.RootId.{RootId}
 use Rattle.logical_map.specs.Maps.{columns_of, is_live}
-use Rattle.task_code.specs.declared.code.NeedCode.{NeedCode}
 use Rattle.task_code.specs.declared.code.TaskCode.{TaskCode}
 use Rattle.task_code.specs.declared.job.Job.{Job}
 use Rattle.machine_terms.specs.declared.value.Value.TheVariants.{Number}
 use Rattle.machine_terms.specs.Jobs.{first_frame, may_start}
 use Rattle.machine_terms.specs.Opening.{needs_on}
 use Rattle.board_rules.specs.NumberedBoards.{start, way_of}
-use Rattle.regent_boards.specs.Frames as board
 use Rattle.regent_boards.specs.RegentMachine.{regent_ground}
-use Rattle.segment_renaming.specs.Renaming.{frame_to, need_to, value_to}
-use Rattle.code_boards.specs.Laws.{machine_of, main_frame, main_of}
-use Rattle.code_boards.specs.Views.{frame_in, spaces_of, value_in}
+use Rattle.code_boards.specs.Laws.{machine_of, main_of}
+use Rattle.code_boards.specs.Views.{spaces_of}
+use Rattle.code_boards.proofs.Beginning.{first_seen, none_needed}
 use Rattle.board_terms.specs.States.{opened_with, operation_at, void_state, with_main}
 use Rattle.board_trees.specs.Laws.{NewBoardsShow}
 use Rattle.board_trees.specs.Names.{named, requirement_named}
 use Rattle.board_trees.specs.Shows.{Leads, ShowsBoard, is_claimed}
 use Rattle.board_trees.specs.Frames.{HasEachOnce, HasFitting, HasPlaces, IsHeld}
 
-no_needs : (ns : List NeedCode) → (length ns == 0) ≡ true → ns ≡ []
-no_needs [] e = refl
-no_needs (n ∷ ns) e = absurd (omega (arith, eqb-true (length (n ∷ ns)) 0 e))
-
-module _ (name : ℕ → ℕ) where
-  inputs_seen : (zs : List ℤ) → map value_in (map board.a_number zs) ≡ map (value_to (named name)) (map Number zs)
-  inputs_seen [] = refl
-  inputs_seen (z ∷ zs) = ap (λ vs. Number z ∷ vs) (inputs_seen zs)
-
-  zeros_seen : (k : ℕ) → map value_in (replicate k (board.a_number (pos 0))) ≡ map (value_to (named name)) (replicate k (Number (pos 0)))
-  zeros_seen zero = refl
-  zeros_seen (suc k) = ap (λ vs. Number (pos 0) ∷ vs) (zeros_seen k)
-
 module _ (job : Job) (t : TaskCode) (may : may_start job t ≡ true) where
-  none_needed : t.needs ≡ []
-  none_needed = no_needs t.needs (and_parts (length t.needs == 0) _ (and_parts _ (nat_le t.params t.slots) may).0).0
-
-  first_seen : (name : ℕ → ℕ) → frame_in (main_frame job t) ≡ frame_to (named name) (first_frame job t)
-  first_seen name =
-      let zs = job.inputs in
-      let slots : map value_in (map board.a_number zs ++ replicate (t.slots - length zs) (board.a_number (pos 0)))
-      ≡ map (value_to (named name)) (map Number zs ++ replicate (t.slots - length (map Number zs)) (Number (pos 0))) =
-      map-append value_in (map board.a_number zs) (replicate (t.slots - length zs) (board.a_number (pos 0)))
-      ∙ (λ i. inputs_seen name zs i ++ zeros_seen name (t.slots - length zs) i)
-      ∙ sym (map-append (value_to (named name)) (map Number zs) (replicate (t.slots - length zs) (Number (pos 0))))
-      ∙ ap (λ k. map (value_to (named name)) (map Number zs ++ replicate (t.slots - k) (Number (pos 0)))) (sym (length-map zs Number)) in
-      λ i. record (frame_to (named name) (first_frame job t)) {
-        slots = slots i;
-        needs = record {
-          items = ap (λ ns. map (need_to (named name)) (needs_on ns (map Number zs))) (sym none_needed) i;
-        };
-      }
-
   numbers_placed : (t : RegionTree) (zs : List ℤ) (k : ℕ) → All (HasPlaces t) (map Number zs ++ replicate k (Number (pos 0)))
   numbers_placed t [] zero = All-nil (HasPlaces t)
   numbers_placed t [] (suc k) = All-cons (HasPlaces t) (Number (pos 0)) (replicate k (Number (pos 0))) tt (numbers_placed t [] k)
@@ -85,20 +50,20 @@ module _ (job : Job) (t : TaskCode) (may : may_start job t ≡ true) where
         way_is = refl;
         own = λ name is. refl;
         seen = record {
-          frame = λ name is. first_seen name;
+          frame = λ name is. first_seen job t may (named name);
           needs = refl;
-          required = λ name is. ap (λ ns. map (requirement_named name) (requirements_of empty_tree (needs_on ns (map Number job.inputs)))) (sym none_needed);
+          required = λ name is. ap (λ ns. map (requirement_named name) (requirements_of empty_tree (needs_on ns (map Number job.inputs)))) (sym (none_needed job t may));
           parts = λ name is. refl;
           held = All-nil (IsHeld job.code);
           fitting = All-nil HasFitting;
           placed = record {
             slots = numbers_placed empty_tree job.inputs (t.slots - length (map Number job.inputs));
             stack = All-nil (HasPlaces empty_tree);
-            needs = subst (λ ns. AreNeeds empty_tree (needs_on ns (map Number job.inputs))) (sym none_needed) (All-nil (IsNeed empty_tree));
+            needs = subst (λ ns. AreNeeds empty_tree (needs_on ns (map Number job.inputs))) (sym (none_needed job t may)) (All-nil (IsNeed empty_tree));
           };
           once = All-nil HasEachOnce;
           there = All-nil (λ (r : RootId). is_live [] r.0 ≡ true);
-          fields = subst (λ ns. All (λ (n : Need). n.field < length (columns_of [] n.root.0)) (needs_on ns (map Number job.inputs))) (sym none_needed)
+          fields = subst (λ ns. All (λ (n : Need). n.field < length (columns_of [] n.root.0)) (needs_on ns (map Number job.inputs))) (sym (none_needed job t may))
               (All-nil (λ (n : Need). n.field < length (columns_of [] n.root.0)));
         };
         said_is = refl;

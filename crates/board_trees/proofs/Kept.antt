@@ -1,6 +1,7 @@
 -- What a tree shows goes on to be shown by rows that stay.
 use Rattle.std.proofs.Common.{◌≡◌, ◌<◌, ◌≤◌, ◌++◌, ◌∷◌, ◌∙◌, ◌&&◌, ◌||◌, ℕ, zero, suc, List, Option, Some, [], ap, inl, inr, length, map, not, refl, subst, sym, arith, append_assoc}
 use Rattle.std.specs.Prelude.{filter, slice_get}
+use Rattle.std.proofs.lemmas.Bool.{cases_eq}
 use Rattle.std.proofs.lemmas.List.{append-nil}
 use Rattle.region_tree.specs.Requirements.{Requirement, interfere, is_of}
 use Rattle.region_tree.specs.declared.tree.OpNumber.{OpNumber}
@@ -34,6 +35,26 @@ use Rattle.board_trees.specs.Frames.{IsSeen}
 use Rattle.board_trees.specs.Names.{IsNaming}
 use Rattle.board_trees.specs.Stages.{AwaitsOn, ChildrenAre, Stands, WaitsWell}
 use Rattle.board_trees.specs.Waits.{Sibling, WaitsFor, WaitsForChild}
+
+-- of another number, or of this one
+pub by_number : (k : ℕ) (P : ℕ → Type 0) → P k → ((j : ℕ) → ¬ (j ≡ k) → P j) → (j : ℕ) → P j
+by_number k P here others j = elim (cases_eq j k) [ inl e ↦ subst P (sym e) here | inr e ↦ others j e ]
+
+-- what is seen of one is seen of another with its frame and parts
+pub seen_as : (job : Job) (s : State) (who : ℕ → ℕ) (roots : List RootId) (o q : Operation) (N : List Requirement) (f : board.Frame) (ps : List (Element (regent_ground (spaces_of job.code)))) →
+    IsSeen job.code s.tree s.map s.roots who roots o N f ps → IsSeen job.code s.tree s.map s.roots who roots (record q { frame = o.frame; parts = o.parts }) N f ps
+seen_as job s who roots o q N f ps h = record {
+  frame = h.frame;
+  needs = h.needs;
+  required = h.required;
+  parts = h.parts;
+  held = h.held;
+  fitting = h.fitting;
+  once = h.once;
+  placed = h.placed;
+  there = h.there;
+  fields = h.fields;
+}
 
 -- the state with other rows
 abbrev pub with_rows : State → List Operation → List Knot → ℕ → State

@@ -51,6 +51,21 @@ activity_open (activity.Closing e) = refl
 pub stage_there : (ks : List Knot) (k : ℕ) → k < length ks → stage_at ks k ≡ Some (knot_at ks k).stage
 stage_there ks k l = ap (λ b. cond b (Some (knot_at ks k).stage) None) (lt-ltb k (length ks) l)
 
+-- ---- stopped once is enough
+
+module _ (G : Ground) (M : Machine G) where
+  pub stop_twice : (N : G.Needs) (st : BoardStage G) (is : Items G) → tree.stop G M N (tree.stop G M N st is) is ≡ tree.stop G M N st is
+  stop_twice N (idle w) is = chosen (tree.waits_for_failed G M N w is) refl
+    where
+      chosen : (b : Bool) → tree.waits_for_failed G M N w is ≡ b → tree.stop G M N (cond b (closing stopped) (idle w)) is ≡ cond b (closing stopped) (idle w)
+      chosen true e = refl
+      chosen false e = ap (λ b. cond b (closing stopped) (idle w)) e
+  stop_twice N (filling w d l) is = refl
+  stop_twice N (out w d) is = refl
+  stop_twice N (closing e) is = refl
+  stop_twice N (over e) is = refl
+  stop_twice N dropped is = refl
+
 module _ (job : Job) where
   abbrev G : Ground
   G = regent_ground (spaces_of job.code)

@@ -43,6 +43,7 @@ use Rattle.board_trees.specs.Shows.{IfRuns, IsChild, IsListed, Row, Shows, Shows
 use Rattle.board_trees.specs.Stages.{ChildrenAre, Stands, WaitsWell}
 use Rattle.board_trees.specs.Told.{some_bad}
 use Rattle.board_trees.specs.Waits.{Sibling, WaitsFor}
+use Rattle.board_trees.proofs.Kept.{seen_as}
 use Rattle.board_trees.proofs.Told.{waits_are_told}
 use Rattle.given_trees.proofs.Left.{left_seen, none_held}
 use Rattle.given_trees.proofs.Maps.{fields_same, parts_live, parts_shapes}
@@ -53,7 +54,6 @@ use Rattle.board_trees.proofs.Along.{not_above}
 use Rattle.changed_trees.proofs.Below.{children_kept}
 use Rattle.changed_trees.proofs.Kept.{back, seen_kept, shown_match, waits_for_kept, wider_on}
 use Rattle.changed_trees.proofs.Listed.{waits_are_listed}
-use Rattle.yielded_trees.proofs.Paused.{seen_as}
 use Rattle.yielded_trees.proofs.Trees.{text_said}
 use Rattle.called_trees.proofs.Changes.{called_to, change, entry_there, row_here, row_new, size_more, some_failed_same, there, way_last}
 use Rattle.called_trees.proofs.Child.{child_seen}

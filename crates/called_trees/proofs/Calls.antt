@@ -1,8 +1,6 @@
 -- What a yield of a call leaves, be the call issued or refused.
-use Rattle.std.proofs.Common.{◌≡◌, ◌<◌, ◌∷◌, ◌∙◌, ℕ, suc, List, None, Option, Some, [], ap, length, refl, subst}
+use Rattle.std.proofs.Common.{◌≡◌, ◌∷◌, ◌∙◌, ℕ, suc, List, None, Option, Some, [], ap, refl, subst}
 use Rattle.std.specs.Prelude.{slice_get}
-use Rattle.dependence_graph.specs.Knots.{knot_at}
-use Rattle.dependence_graph.specs.declared.stage.Stage.TheVariants as knot
 use Rattle.task_code.specs.declared.code.TaskCode.{TaskCode}
 use Rattle.task_code.specs.declared.job.Job.{Job}
 use Rattle.machine_terms.specs.declared.frame.Before.{Before}
@@ -19,10 +17,10 @@ use Rattle.board_terms.specs.declared.claim.Claim.{Claim}
 use Rattle.board_terms.specs.declared.operation.Activity.TheVariants as activity
 use Rattle.board_terms.specs.States.{State, operation_at}
 use Rattle.board_trees.specs.Shows.{ShowsBoard}
-use Rattle.given_trees.proofs.Segments.{segments_show}
 use Rattle.changed_trees.specs.Changes.{IsAt}
-use Rattle.changed_trees.specs.Given.{Opens, makings_before}
-use Rattle.yielded_trees.proofs.Found.{Here, by_out, found_at, here_at}
+use Rattle.changed_trees.specs.Given.{Opens}
+use Rattle.yielded_trees.proofs.Found.{known_out}
+use Rattle.yielded_trees.proofs.Out.{Begun, has_begun, own_stays}
 use Rattle.called_trees.specs.Laws.{CallsOpen}
 use Rattle.called_trees.proofs.Node as node
 use Rattle.called_trees.proofs.Opened.{issued_opens}
@@ -34,21 +32,8 @@ module _ (job : Job) (s : State) (b : Board (regent_ground (spaces_of job.code))
   abbrev g : Frame
   g = (stop_of before).machine.frame
 
-  -- what is known of the row by what it shows
-  record Known : Type 0 where
-    within : k < length s.operations
-    begun : (knot_at s.waits.knots k).stage ≡ knot.Begun
-    own : (segment before).frame ≡ Some g → g.own ≡ (operation_at s k).frame.own
-
-  known : Known
-  known =
-      let x = found_at job s h.who b.ways (Here job s b h k v at claim before act) v [] 0 [] [] b.state.tree (here_at job s b h k v at claim before act) in
-      by_out job s b h k v at claim before act (λ w j earlier above n. Known)
-      (λ earlier above D N i f ps w d is below shown. record {
-        within = shown.0.within;
-        begun = shown.0.stands.0;
-        own = λ goes. ((segments_show job s b h v k earlier above D N i f ps d w is shown below claim before act (makings_before job b k v)).kept g goes).1;
-      }) x.way x.number x.earlier x.above x.node x.is
+  abbrev begun : Begun s k
+  begun = has_begun job s b h k v at claim before act
 
   module _ (c : CallOut) (calls : (segment before).ends ≡ yield.Calls (c ∷ [])) where
     goes : (segment before).frame ≡ Some g
@@ -60,23 +45,19 @@ module _ (job : Job) (s : State) (b : Board (regent_ground (spaces_of job.code))
       found : slice_get job.code.tasks c.task ≡ Some task
       frame_is : x ≡ opening job.turns (suc g.depth) c.task task c.args
 
-    called : (x : Frame) → table.opened job s k known.within before c calls ≡ Some x → Called x
-    called x e =
-        let y = found_at job s h.who b.ways (Here job s b h k v at claim before act) v [] 0 [] [] b.state.tree (here_at job s b h k v at claim before act) in
-        by_out job s b h k v at claim before act (λ w j earlier above n. Called x)
-        (λ earlier above D N i f ps w d is below shown.
-        let z = node.issues job s b h k v at known.within claim before act c calls earlier above D N i f ps w d is below shown x e in
+    called : (x : Frame) → table.opened job s k begun.within before c calls ≡ Some x → Called x
+    called x e = known_out job s b h k v at claim before act (λ earlier above D N i f ps w d is below shown.
+        let z = node.issues job s b h k v at begun.within claim before act c calls earlier above D N i f ps w d is below shown x e in
         record { task = z.task; found = z.found; frame_is = z.frame_is })
-        y.way y.number y.earlier y.above y.node y.is
 
     pub call_opens : Opens job b k v s before
-    call_opens = by_opening (table.opened job s k known.within before c calls) refl
+    call_opens = by_opening (table.opened job s k begun.within before c calls) refl
       where
-        by_opening : (q : Option Frame) → table.opened job s k known.within before c calls ≡ q → Opens job b k v s before
-        by_opening None e = refused_opens job s b h k v at known.within claim before act c calls goes (known.own goes) e
+        by_opening : (q : Option Frame) → table.opened job s k begun.within before c calls ≡ q → Opens job b k v s before
+        by_opening None e = refused_opens job s b h k v at begun.within claim before act c calls goes (own_stays job s b h k v at claim before act g goes) e
         by_opening (Some x) e =
             let z = called x e in
-            issued_opens job s b h k v at known.within claim before act c calls known.begun z.task z.found goes (known.own goes) (e ∙ ap Some z.frame_is)
+            issued_opens job s b h k v at begun.within claim before act c calls begun.stage z.task z.found goes (own_stays job s b h k v at claim before act g goes) (e ∙ ap Some z.frame_is)
 
 -- a segment calls one task at a time
 one_call : (before : Before) (cs : List CallOut) → (segment before).ends ≡ yield.Calls cs → (c : CallOut) × (cs ≡ c ∷ [])

@@ -46,10 +46,9 @@ use Rattle.board_trees.specs.Names.{IsNaming, named, requirement_named}
 use Rattle.board_trees.specs.Places.{LeavesPlaces}
 use Rattle.board_trees.specs.Shows.{Shows, ShowsBoard}
 use Rattle.board_trees.specs.Waits.{Sibling}
-use Rattle.board_trees.proofs.Named.{is_naming, named_all}
+use Rattle.board_trees.proofs.Named.{named_all}
 use Rattle.given_trees.specs.Parts.{MapShows}
 use Rattle.given_trees.specs.Segments.{AreLeft}
-use Rattle.given_trees.proofs.Left.{left_places}
 use Rattle.given_trees.proofs.Maps.{parts_live}
 use Rattle.given_trees.proofs.Parts.{parts_show}
 use Rattle.given_trees.proofs.Segments.{segments_show}
@@ -57,6 +56,7 @@ use Rattle.changed_trees.specs.Changes.{IsAt}
 use Rattle.changed_trees.specs.Given.{given_of, makings_before}
 use Rattle.called_trees.proofs.Opens.{all_declared, all_required, requires, within_same}
 use Rattle.called_trees.proofs.Table as table
+use Rattle.yielded_trees.proofs.Out.{leaves_places, names_below}
 use Rattle.segment_regions.specs.Values.{YieldHas}
 use Rattle.board_terms.specs.declared.operation.Wait.TheVariants as waits
 
@@ -118,7 +118,7 @@ module _ (job : Job) (s : State) (b : Board (regent_ground (spaces_of job.code))
   before_is = ap (handed_out before) (sym act ∙ shown.0.stands.1.activity_is)
 
   pub places : LeavesPlaces s.tree a
-  places = subst (λ z. LeavesPlaces s.tree (segment z)) (sym before_is) (left_places job s o shown.0.stands.1.fill seen.placed)
+  places = leaves_places job s b h k v at claim before act earlier above D N i f ps wt d is below shown
 
   args_placed : (y : Yield) → y ≡ yield.Calls (c ∷ []) → YieldHas (HasPlaces s.tree) y → All (HasPlaces s.tree) c.args
   args_placed y e p = All-head (λ (x : CallOut). All (HasPlaces s.tree) x.args) c [] (subst (YieldHas (HasPlaces s.tree)) e p)
@@ -146,7 +146,7 @@ module _ (job : Job) (s : State) (b : Board (regent_ground (spaces_of job.code))
   name = named_all s.roots h.who makings h.made 0
 
   pub naming : IsNaming s.roots h.who roots name
-  naming = is_naming s.roots h.who makings h.made 0 roots under
+  naming = names_below job s b h k v at claim before act above below
 
   args_in : Yield → List Value
   args_in (yield.Calls (x ∷ xs)) = x.args

@@ -17,7 +17,7 @@ use Rattle.machine_terms.specs.declared.outcome.CallOut.{CallOut}
 use Rattle.machine_terms.specs.declared.outcome.Yield.TheVariants as yield
 use Rattle.machine_terms.specs.Opening.{opening}
 use Rattle.machine_terms.specs.Segments.{segment, stop_of}
-use Rattle.board_rules.specs.Boards.{◌+++◌, Items, Operation as Node, Wait, child_count, child_op, idle, no_item, nothing, op, out, said, settle}
+use Rattle.board_rules.specs.Boards.{◌+++◌, Items, Operation as Node, child_op, idle, no_item, nothing, op, said, settle}
 use Rattle.board_rules.specs.Boards as tree
 use Rattle.board_rules.specs.Ground.{Ground}
 use Rattle.board_rules.specs.NumberedBoards.{Board, children_at, more_ways}
@@ -42,7 +42,7 @@ use Rattle.changed_trees.specs.Open.{Asked, HasAt, IsOpen, OpenBoard}
 use Rattle.changed_trees.proofs.Below.{node_within}
 use Rattle.changed_trees.proofs.Edited.{has_edited}
 use Rattle.changed_trees.proofs.Kept.{wider_itself}
-use Rattle.changed_trees.proofs.Walks.{OfAll, children_edited, made_edited, up_alike}
+use Rattle.changed_trees.proofs.Walks.{OfAll, children_are, children_edited, made_edited, told_holds, up_alike}
 use Rattle.yielded_trees.proofs.Found.{Here, by_out, here_at}
 use Rattle.yielded_trees.proofs.Trees.{paused_needs, restop}
 use Rattle.called_trees.proofs.Called as called
@@ -50,7 +50,6 @@ use Rattle.called_trees.proofs.Changes.{size_more}
 use Rattle.called_trees.proofs.Grown.{count_more}
 use Rattle.called_trees.proofs.Issued.{length_more, listed_more}
 use Rattle.called_trees.proofs.Node as node
-use Rattle.ended_trees.proofs.Reached.{children_are, told_holds}
 use Rattle.called_trees.proofs.Rows.{claims, leads, own_apart, own_made, own_same, rising}
 use Rattle.called_trees.proofs.Swept.{swept}
 use Rattle.called_trees.proofs.Table as table

@@ -1,7 +1,7 @@
 -- One row changes, of an operation that hasn't ended, and maybe regions, roots and what they hold.
-use Rattle.std.proofs.Common.{◌≡◌, ◌<◌, ◌∷◌, ◌∙◌, ◌||◌, ◌&&◌, ℕ, List, None, Some, [], ap, cond, false, inl, inr, length, refl, set, subst, sym, true}
+use Rattle.std.proofs.Common.{◌≡◌, ◌<◌, ◌∷◌, ◌∙◌, ◌||◌, ◌&&◌, ℕ, List, None, Some, [], ap, cond, false, length, refl, set, subst, sym, true}
 use Rattle.std.specs.Prelude.{nat_lt}
-use Rattle.std.proofs.lemmas.Bool.{cases_eq, false≢true}
+use Rattle.std.proofs.lemmas.Bool.{false≢true}
 use Rattle.std.proofs.lemmas.List.{get_or-set_other, get_or-set_same, length-set}
 use Rattle.region_tree.specs.Trees.{RegionTree, node_at}
 use Rattle.region_tree.specs.declared.tree.OpNumber.{OpNumber}
@@ -20,6 +20,7 @@ use Rattle.board_terms.specs.Stages.{is_over, stage_of}
 use Rattle.board_terms.specs.Stages as table
 use Rattle.board_terms.specs.States.{State, no_operation, operation_at}
 use Rattle.board_trees.specs.Names.{name_of}
+use Rattle.board_trees.proofs.Kept.{by_number}
 use Rattle.board_trees.proofs.Settled.{stage_there}
 use Rattle.changed_trees.specs.Changes.{Change, IsAt}
 
@@ -34,10 +35,6 @@ module _ (s : State) (tree : RegionTree) (roots : List Extent) (live : LogicalMa
     waits = record { knots = set s.waits.knots k x; listing = s.waits.listing };
     turns = s.turns;
   }
-
-  -- of another number, or of this one
-  pub by_number : (P : ℕ → Type 0) → P k → ((j : ℕ) → ¬ (j ≡ k) → P j) → (j : ℕ) → P j
-  by_number P here others j = elim (cases_eq j k) [ inl e ↦ subst P (sym e) here | inr e ↦ others j e ]
 
   pub others : (j : ℕ) → ¬ (j ≡ k) → operation_at one_changed j ≡ operation_at s j
   others j n = get_or-set_other s.operations k j o no_operation n
@@ -72,15 +69,15 @@ module _ (s : State) (tree : RegionTree) (roots : List Extent) (live : LogicalMa
 
     module _ (ongoing : IsOngoing) where
       pub same_ended : (j : ℕ) → is_done (stage_at one_changed.waits.knots j) ≡ is_done (stage_at s.waits.knots j)
-      same_ended = by_number (λ j. is_done (stage_at one_changed.waits.knots j) ≡ is_done (stage_at s.waits.knots j))
+      same_ended = by_number k (λ j. is_done (stage_at one_changed.waits.knots j) ≡ is_done (stage_at s.waits.knots j))
           (ap is_done stage_here ∙ ongoing.now ∙ sym ongoing.before) (λ j n. ap is_done (stage_else j n))
 
       pub same_failed : (j : ℕ) → has_failed (stage_at one_changed.waits.knots j) ≡ has_failed (stage_at s.waits.knots j)
-      same_failed = by_number (λ j. has_failed (stage_at one_changed.waits.knots j) ≡ has_failed (stage_at s.waits.knots j))
+      same_failed = by_number k (λ j. has_failed (stage_at one_changed.waits.knots j) ≡ has_failed (stage_at s.waits.knots j))
           (ap has_failed stage_here ∙ ongoing.fails ∙ sym ongoing.unfailed) (λ j n. ap has_failed (stage_else j n))
 
       pub same_over : (j : ℕ) → is_over (table.stage_at one_changed j) ≡ is_over (table.stage_at s j)
-      same_over = by_number (λ j. is_over (table.stage_at one_changed j) ≡ is_over (table.stage_at s j))
+      same_over = by_number k (λ j. is_over (table.stage_at one_changed j) ≡ is_over (table.stage_at s j))
           ((λ i. is_over (stage_of (knot_is i).stage (row_is i).wait (row_is i).activity)) ∙ ongoing.open_now ∙ sym ongoing.runs)
           (λ j n i. is_over (stage_of (other_knots j n i).stage (others j n i).wait (others j n i).activity))
 
@@ -114,11 +111,11 @@ module _ (s : State) (tree : RegionTree) (roots : List Extent) (live : LogicalMa
           row = λ j w e n. others j (elsewhere j w e n);
           knot = λ j w e n. other_knots j (elsewhere j w e n);
           ended = λ j e. same_ended j ∙ e;
-          answers = by_number (λ j. is_done (stage_at s.waits.knots j) ≡ true → (operation_at one_changed j).activity ≡ (operation_at s j).activity)
+          answers = by_number k (λ j. is_done (stage_at s.waits.knots j) ≡ true → (operation_at one_changed j).activity ≡ (operation_at s j).activity)
               clash (λ j n e. ap (λ (y : Operation). y.activity) (others j n));
           failed = λ j w e n i q. some_failed_same (knot_at s.waits.knots j).on ∙ q;
           over = λ j w e n. all_over_same (operation_at s j).children;
-          parent = λ j l. by_number (λ j. (operation_at one_changed j).parent ≡ (operation_at s j).parent)
+          parent = λ j l. by_number k (λ j. (operation_at one_changed j).parent ≡ (operation_at s j).parent)
               (ap (λ (y : Operation). y.parent) row_is ∙ parent) (λ j n. ap (λ (y : Operation). y.parent) (others j n)) j;
           nodes = nodes;
           names = names;

@@ -68,20 +68,37 @@ module _ (job : Job) (s : State) (who : ℕ → ℕ) (ways : List (List ℕ)) (B
         children_beside (suc c) way w j e earlier roots (k ∷ ks) (child_op n is) h =
             children_beside c way w j (suc e) (earlier ++ record { op = k.0; needs = needs_issued job n } ∷ []) roots ks is h.2
 
+  -- ---- how many children it has
+
+  module _ (many : ℕ) (own : OfAll (λ n. children_at G K [] n ≡ many)) where
+    mutual
+      pub children_are : (way w : List ℕ) (k : ℕ) (earlier : List Sibling) (above : List RootId) (n : Node G) → HasAt job s who ways B way w k earlier above n → children_at G K way n ≡ many
+      children_are [] w k earlier above n h = own w k earlier above n h
+      children_are (c ∷ way) w k earlier above (op D N i f ps st is) h = children_among_are c way w k 0 [] (above ++ (operation_at s k).frame.own) (operation_at s k).children is h.1
+
+      children_among_are : (c : ℕ) (way w : List ℕ) (j e : ℕ) (earlier : List Sibling) (roots : List RootId) (ks : List OpNumber) (is : Items G) →
+          HasAmong job s who ways B c way w j e earlier roots ks is → children_among G K c way is ≡ many
+      children_among_are c way w j e earlier roots ks no_item h = absurd h
+      children_among_are c way w j e earlier roots ks (said t is) h = children_among_are c way w j e earlier roots ks is h
+      children_among_are c way w j e earlier roots [] (child_op n is) h = absurd h
+      children_among_are zero way w j e earlier roots (k ∷ ks) (child_op n is) h = children_are way (w ++ e ∷ []) k.0 earlier roots n h.1
+      children_among_are (suc c) way w j e earlier roots (k ∷ ks) (child_op n is) h =
+          children_among_are c way w j (suc e) (earlier ++ record { op = k.0; needs = needs_issued job n } ∷ []) roots ks is h.2
+
   -- ---- what is told of it
 
-  module _ (es : Node G → List (Effect G)) (same : List (Effect G)) (own : OfAll (λ n. es n ≡ same)) where
+  module _ (es : Node G → List (Effect G)) (P : List (Effect G) → Type 0) (own : OfAll (λ n. P (es n))) where
     mutual
-      pub told_is : (way w : List ℕ) (k : ℕ) (earlier : List Sibling) (above : List RootId) (n : Node G) → HasAt job s who ways B way w k earlier above n → told_at G way es n ≡ same
-      told_is [] w k earlier above n h = own w k earlier above n h
-      told_is (c ∷ way) w k earlier above (op D N i f ps st is) h = told_beside c way w k 0 [] (above ++ (operation_at s k).frame.own) (operation_at s k).children is h.1
+      pub told_holds : (way w : List ℕ) (k : ℕ) (earlier : List Sibling) (above : List RootId) (n : Node G) → HasAt job s who ways B way w k earlier above n → P (told_at G way es n)
+      told_holds [] w k earlier above n h = own w k earlier above n h
+      told_holds (c ∷ way) w k earlier above (op D N i f ps st is) h = told_beside c way w k 0 [] (above ++ (operation_at s k).frame.own) (operation_at s k).children is h.1
 
       told_beside : (c : ℕ) (way w : List ℕ) (j e : ℕ) (earlier : List Sibling) (roots : List RootId) (ks : List OpNumber) (is : Items G) →
-          HasAmong job s who ways B c way w j e earlier roots ks is → told_among G c way es is ≡ same
+          HasAmong job s who ways B c way w j e earlier roots ks is → P (told_among G c way es is)
       told_beside c way w j e earlier roots ks no_item h = absurd h
       told_beside c way w j e earlier roots ks (said t is) h = told_beside c way w j e earlier roots ks is h
       told_beside c way w j e earlier roots [] (child_op n is) h = absurd h
-      told_beside zero way w j e earlier roots (k ∷ ks) (child_op n is) h = told_is way (w ++ e ∷ []) k.0 earlier roots n h.1
+      told_beside zero way w j e earlier roots (k ∷ ks) (child_op n is) h = told_holds way (w ++ e ∷ []) k.0 earlier roots n h.1
       told_beside (suc c) way w j e earlier roots (k ∷ ks) (child_op n is) h =
           told_beside c way w j (suc e) (earlier ++ record { op = k.0; needs = needs_issued job n } ∷ []) roots ks is h.2
 

@@ -17,9 +17,10 @@ use Rattle.board_terms.specs.Claims.{back_in, taken_back}
 use Rattle.board_terms.specs.States.{State, operation_at}
 use Rattle.board_trees.specs.Laws.{BothShow}
 use Rattle.board_trees.specs.Shows.{ShowsBoard, is_claimed}
+use Rattle.board_trees.proofs.Kept.{by_number}
 use Rattle.claimed_trees.specs.Laws.{BacksShow}
 use Rattle.claimed_trees.proofs.Back.{IsClaimed, claimed_within, goes_on, has_begun, own_back, parked}
-use Rattle.claimed_trees.proofs.Changed.{GoesOn, by_number, changed, others, row_is}
+use Rattle.claimed_trees.proofs.Changed.{GoesOn, changed, others, row_is}
 use Rattle.board_trees.proofs.Claims.{claim_elsewhere, claim_gone, way_there}
 use Rattle.board_trees.proofs.Found.{Found, found}
 use Rattle.claimed_trees.proofs.Onward as onward
@@ -53,7 +54,7 @@ module _ (job : Job) where
         unfolding on
         goes = onward.goes_on job s b h k seat activity.Idle (parked job s k) s.turns on back v way_is
             (own_back job s k claim within there begun h.who b.ways v way_is (made_in G (machine_of job) b.state.tree) b.state.map)
-            (λ j x. by_number s k activity.Idle (parked job s k) s.turns on
+            (λ j x. by_number k
             (λ j. holds_claim G (machine_of job) j x (without G (machine_of job) k b.claims) ≡ is_claimed job x (operation_at (changed s k activity.Idle (parked job s k) s.turns) j).activity)
             (claim_gone job k b.claims x ∙ sym (ap (λ (o : Operation). is_claimed job x o.activity) (row_is s k activity.Idle (parked job s k) s.turns on)))
             (λ j n. claim_elsewhere job j k b.claims x n ∙ h.claims j x ∙ sym (ap (λ (o : Operation). is_claimed job x o.activity) (others s k activity.Idle (parked job s k) s.turns on j n))) j)

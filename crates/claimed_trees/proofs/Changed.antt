@@ -1,7 +1,6 @@
 -- One operation changes that goes on: what it does, and how it stands in the graph.
-use Rattle.std.proofs.Common.{◌≡◌, ◌<◌, ◌++◌, ◌∷◌, ◌∙◌, ℕ, List, None, Option, Some, [], ap, cond, false, inl, inr, length, refl, set, subst, sym, append_assoc}
+use Rattle.std.proofs.Common.{◌≡◌, ◌<◌, ◌++◌, ◌∷◌, ◌∙◌, ℕ, List, None, Option, Some, [], ap, cond, false, length, refl, set, subst, sym, append_assoc}
 use Rattle.std.specs.Prelude.{map, nat_lt}
-use Rattle.std.proofs.lemmas.Bool.{cases_eq}
 use Rattle.std.proofs.lemmas.List.{get_or-set_other, get_or-set_same, length-set}
 use Rattle.region_tree.specs.Requirements.{Requirement}
 use Rattle.region_tree.specs.declared.tree.OpNumber.{OpNumber}
@@ -30,7 +29,7 @@ use Rattle.board_trees.specs.Shows.{IfRuns, Row, Shows, ShowsChildren, siblings}
 use Rattle.board_trees.specs.Stages.{ChildrenAre, Stands, WaitsWell}
 use Rattle.board_trees.specs.Waits.{Sibling}
 use Rattle.board_trees.proofs.Along.{not_above}
-use Rattle.board_trees.proofs.Kept.{ChangesOne, children_kept, with_rows}
+use Rattle.board_trees.proofs.Kept.{ChangesOne, by_number, children_kept, seen_as, with_rows}
 use Rattle.board_trees.proofs.Settled.{stage_there}
 
 module _ (s : State) (k : ℕ) (act : Activity) (kn : Knot) (turns : ℕ) where
@@ -63,10 +62,6 @@ module _ (s : State) (k : ℕ) (act : Activity) (kn : Knot) (turns : ℕ) where
     pub knot_is : knot_at knots k ≡ kn
     knot_is = get_or-set_same s.waits.knots k kn no_knot on.there
 
-    -- of another number, or of this one
-    pub by_number : (P : ℕ → Type 0) → P k → ((j : ℕ) → ¬ (j ≡ k) → P j) → (j : ℕ) → P j
-    by_number P here others j = elim (cases_eq j k) [ inl e ↦ subst P (sym e) here | inr e ↦ others j e ]
-
     pub others : (j : ℕ) → ¬ (j ≡ k) → operation_at changed j ≡ operation_at s j
     others j n = get_or-set_other s.operations k j now no_operation n
 
@@ -91,18 +86,18 @@ module _ (s : State) (k : ℕ) (act : Activity) (kn : Knot) (turns : ℕ) where
       knots = length-set s.waits.knots k kn;
       others = others;
       other_knots = other_knots;
-      done = by_number (λ j. is_done (stage_at knots j) ≡ is_done (stage_at s.waits.knots j)) (ap is_done stage_here ∙ on.done ∙ sym (ap is_done stage_before)) (λ j n. ap is_done (stage_else j n));
-      failed = by_number (λ j. has_failed (stage_at knots j) ≡ has_failed (stage_at s.waits.knots j)) (ap has_failed stage_here ∙ on.failed ∙ sym (ap has_failed stage_before))
+      done = by_number k (λ j. is_done (stage_at knots j) ≡ is_done (stage_at s.waits.knots j)) (ap is_done stage_here ∙ on.done ∙ sym (ap is_done stage_before)) (λ j n. ap is_done (stage_else j n));
+      failed = by_number k (λ j. has_failed (stage_at knots j) ≡ has_failed (stage_at s.waits.knots j)) (ap has_failed stage_here ∙ on.failed ∙ sym (ap has_failed stage_before))
           (λ j n. ap has_failed (stage_else j n));
-      over = by_number (λ j. is_over (table.stage_at changed j) ≡ is_over (table.stage_at s j)) (over_behind ∙ sym on.runs)
+      over = by_number k (λ j. is_over (table.stage_at changed j) ≡ is_over (table.stage_at s j)) (over_behind ∙ sym on.runs)
           (λ j n i. is_over (stage_of (other_knots j n i).stage (others j n i).wait (others j n i).activity));
       value = value;
-      parent = by_number (λ j. (operation_at changed j).parent ≡ (operation_at s j).parent) (ap (λ (o : Operation). o.parent) row_is) (λ j n. ap (λ (o : Operation). o.parent) (others j n));
+      parent = by_number k (λ j. (operation_at changed j).parent ≡ (operation_at s j).parent) (ap (λ (o : Operation). o.parent) row_is) (λ j n. ap (λ (o : Operation). o.parent) (others j n));
     }
       where
         value : (o : Option OpNumber) → value_at changed o ≡ value_at s o
         value None = refl
-        value (Some c) = by_number (λ j. value_of (operation_at changed j).activity ≡ value_of (operation_at s j).activity)
+        value (Some c) = by_number k (λ j. value_of (operation_at changed j).activity ≡ value_of (operation_at s j).activity)
             (ap (λ (o : Operation). value_of o.activity) row_is ∙ on.value) (λ j n. ap (λ (o : Operation). value_of o.activity) (others j n)) c.0
 
     -- ---- the operation itself
@@ -113,18 +108,7 @@ module _ (s : State) (k : ℕ) (act : Activity) (kn : Knot) (turns : ℕ) where
 
       pub seen_now : (roots : List RootId) (N : List Requirement) (f : board.Frame) (ps : List (Element G)) →
           IsSeen job.code s.tree s.map s.roots who roots (operation_at s k) N f ps → IsSeen job.code s.tree s.map s.roots who roots now N f ps
-      seen_now roots N f ps h = record {
-        frame = h.frame;
-        needs = h.needs;
-        required = h.required;
-        parts = h.parts;
-        held = h.held;
-        fitting = h.fitting;
-        once = h.once;
-        placed = h.placed;
-        there = h.there;
-        fields = h.fields;
-      }
+      seen_now roots = seen_as job s who roots (operation_at s k) now
 
       module _ (w : List ℕ) (earlier : List Sibling) (above : List RootId) (D N : List Requirement) (i : ℕ) (f : board.Frame) (ps : List (Element G)) (st : BoardStage G) (is : Items G)
           (at : v ≡ w) (h : Shows job s who ways w k earlier above (op D N i f ps st is)) where

@@ -21,8 +21,9 @@ use Rattle.board_trees.specs.Laws.{BothShow}
 use Rattle.board_trees.specs.Shows.{ShowsBoard, is_claimed}
 use Rattle.board_trees.proofs.Claims.{way_there}
 use Rattle.board_trees.proofs.Found.{Found, found}
+use Rattle.board_trees.proofs.Kept.{by_number}
 use Rattle.claimed_trees.specs.Laws.{ClaimsShow}
-use Rattle.claimed_trees.proofs.Changed.{GoesOn, by_number, changed, others, row_is}
+use Rattle.claimed_trees.proofs.Changed.{GoesOn, changed, others, row_is}
 use Rattle.claimed_trees.proofs.Claim.{IsFree, begun_now, claim_refused, filling_now, goes_on, idle_told, own_claim}
 use Rattle.claimed_trees.proofs.Onward as onward
 use Rattle.claimed_trees.proofs.Onward.{neither, refuses}
@@ -64,7 +65,7 @@ module _ (job : Job) (s : State) (b : Board (regent_ground (spaces_of job.code))
       u = changed s k (filling_now job s k seat) (begun_now job s k seat) (suc s.turns)
 
       claims_then : (j x : ℕ) → holds_claim G (machine_of job) j x (claims_after G (machine_of job) step b.turns b.claims) ≡ is_claimed job x (operation_at u j).activity
-      claims_then j x = by_number s k (filling_now job s k seat) (begun_now job s k seat) (suc s.turns) on
+      claims_then j x = by_number k
           (λ j. holds_claim G (machine_of job) j x (claims_after G (machine_of job) step b.turns b.claims) ≡ is_claimed job x (operation_at u j).activity)
           (here (nat_eq seat x)
           ∙ sym (ap (λ (o : Operation). is_claimed job x o.activity) (row_is s k (filling_now job s k seat) (begun_now job s k seat) (suc s.turns) on)))

@@ -24,10 +24,10 @@ use Rattle.board_trees.specs.Laws.{BothShow}
 use Rattle.board_trees.specs.Shows.{ShowsBoard, is_claimed}
 use Rattle.board_trees.proofs.Claims.{way_there}
 use Rattle.board_trees.proofs.Found.{Found, OwnRefuses, found}
-use Rattle.board_trees.proofs.Kept.{with_rows}
+use Rattle.board_trees.proofs.Kept.{by_number, with_rows}
 use Rattle.claimed_trees.specs.Laws.{CopiesShow}
 use Rattle.claimed_trees.proofs.Back.{IsClaimed, claimed_within, has_begun}
-use Rattle.claimed_trees.proofs.Changed.{GoesOn, by_number, changed, others, row_is, rows}
+use Rattle.claimed_trees.proofs.Changed.{GoesOn, changed, others, row_is, rows}
 use Rattle.claimed_trees.proofs.Copying.{copied_now, goes_on, here, own_copy}
 use Rattle.claimed_trees.proofs.Onward as onward
 use Rattle.claimed_trees.proofs.Onward.{neither, refuses}
@@ -79,7 +79,7 @@ module _ (job : Job) (s : State) (b : Board (regent_ground (spaces_of job.code))
           chosen false = refl
 
       claims_then : (j x : ℕ) → holds_claim G (machine_of job) j x b.claims ≡ is_claimed job x (operation_at (changed s k act kn s.turns) j).activity
-      claims_then j x = by_number s k act kn s.turns on
+      claims_then j x = by_number k
           (λ j. holds_claim G (machine_of job) j x b.claims ≡ is_claimed job x (operation_at (changed s k act kn s.turns) j).activity)
           (h.claims k x ∙ ap (is_claimed job x) activity_is ∙ sym (seat_kept x (moved_on s fill))
           ∙ sym (ap (λ (o : Operation). is_claimed job x o.activity) (row_is s k act kn s.turns on)))

@@ -27,7 +27,8 @@ use Rattle.board_trees.specs.Shows.{Leads, Shows, ShowsBoard, is_claimed}
 use Rattle.board_trees.specs.Waits.{Sibling}
 use Rattle.board_trees.proofs.Along.{Leaves, along}
 use Rattle.board_trees.proofs.Found.{OwnRefuses, refused}
-use Rattle.claimed_trees.proofs.Changed.{GoesOn, by_number, changed, changes, knots, others, row_is, rows}
+use Rattle.board_trees.proofs.Kept.{by_number}
+use Rattle.claimed_trees.proofs.Changed.{GoesOn, changed, changes, knots, others, row_is, rows}
 use Rattle.board_trees.proofs.Open.{IsTold}
 
 module _ (job : Job) where
@@ -50,7 +51,7 @@ module _ (job : Job) where
     step = record { kind = kind; number = k; seat = seat }
 
     abbrev one : (P : ℕ → Type 0) → P k → ((j : ℕ) → ¬ (j ≡ k) → P j) → (j : ℕ) → P j
-    one = by_number s k act kn turns on
+    one = by_number k
 
     children_same : (j : ℕ) → (operation_at u j).children ≡ (operation_at s j).children
     children_same = one (λ j. (operation_at u j).children ≡ (operation_at s j).children)

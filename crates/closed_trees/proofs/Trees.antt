@@ -2,7 +2,7 @@
 use Rattle.std.proofs.Common.{◌≡◌, ◌+◌, ◌++◌, ◌∷◌, ◌∙◌, ◌&&◌, ℕ, zero, suc, Bool, List, [], ap, cond, false, refl, sym, true}
 use Rattle.region_tree.specs.declared.tree.OpNumber.{OpNumber}
 use Rattle.task_code.specs.declared.job.Job.{Job}
-use Rattle.board_rules.specs.Boards.{Items, Operation as Node, Stage, Wait, child, child_op, closing, dropped, filling, first, idle, no_item, nothing, op, out, over, part, said, stopped}
+use Rattle.board_rules.specs.Boards.{Items, Operation as Node, child, child_op, dropped, no_item, op, said}
 use Rattle.board_rules.specs.Boards as tree
 use Rattle.board_rules.specs.Ground.{Ground}
 use Rattle.board_rules.specs.RootNumbers.{made_among, made_in}
@@ -10,6 +10,7 @@ use Rattle.board_rules.specs.Running.{Machine}
 use Rattle.regent_boards.specs.RegentMachine.{regent_ground}
 use Rattle.code_boards.specs.Views.{spaces_of}
 use Rattle.board_trees.specs.Shows.{needs_issued, printed, said_in, siblings}
+use Rattle.board_trees.proofs.Settled.{stop_twice}
 use Rattle.changed_trees.specs.Edits.{edited, edited_among, up, up_among}
 
 module _ (G : Ground) (M : Machine G) where
@@ -35,18 +36,6 @@ module _ (G : Ground) (M : Machine G) where
           (child_op (op D N i f ps st js) (tree.sweep G M (worse (op D N i f ps st js) bad) (tree.sweep G M (worse (op D N i f ps st js) bad) is)))) e
           ∙ ap (λ y. child_op (op D N i f ps st js) y) q
 
-  stop_twice : (N : G.Needs) (st : Stage G) (is : Items G) → tree.stop G M N (tree.stop G M N st is) is ≡ tree.stop G M N st is
-  stop_twice N (idle w) is = chosen (tree.waits_for_failed G M N w is) refl
-    where
-      chosen : (b : Bool) → tree.waits_for_failed G M N w is ≡ b → tree.stop G M N (cond b (closing stopped) (idle w)) is ≡ cond b (closing stopped) (idle w)
-      chosen true e = refl
-      chosen false e = ap (λ b. cond b (closing stopped) (idle w)) e
-  stop_twice N (filling w d l) is = refl
-  stop_twice N (out w d) is = refl
-  stop_twice N (closing e) is = refl
-  stop_twice N (over e) is = refl
-  stop_twice N dropped is = refl
-
   -- ---- one operation on the way is left open
 
   -- a child is settled, and what waits for it gives up
@@ -58,7 +47,7 @@ module _ (G : Ground) (M : Machine G) where
   pub up_opened : (c : ℕ) (n : Node G) → tree.settle G M (opened_up c n) ≡ up G M (c ∷ []) n
   up_opened c (op D N i f ps st is) =
       ap (tree.settled G M D N i f ps (tree.stop G M N st (tree.sweep G M [] (up_among G M c [] is)))) (sweep_twice [] (up_among G M c [] is))
-      ∙ ap (λ x. op D N i f ps (tree.close G M x (tree.sweep G M [] (up_among G M c [] is))) (tree.sweep G M [] (up_among G M c [] is))) (stop_twice N st (tree.sweep G M [] (up_among G M c [] is)))
+      ∙ ap (λ x. op D N i f ps (tree.close G M x (tree.sweep G M [] (up_among G M c [] is))) (tree.sweep G M [] (up_among G M c [] is))) (stop_twice G M N st (tree.sweep G M [] (up_among G M c [] is)))
 
   mutual
     pub up_step : (c : ℕ) (w : List ℕ) (n : Node G) → up G M (w ++ c ∷ []) n ≡ up G M w (edited G w (opened_up c) n)

@@ -1,3 +1,4 @@
+pub mod Beginning
 pub mod Boards
 pub mod Elements
 pub mod Ends

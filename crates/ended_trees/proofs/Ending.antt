@@ -1,5 +1,4 @@
 -- An operation whose own work ends behind its segment: nothing else changes but the map.
-use Rattle.board_trees.proofs.Settled.{stage_there}
 use Rattle.std.proofs.Common.{◌≡◌, ◌<◌, ◌+◌, ◌++◌, ◌∷◌, ◌∙◌, inl, ℕ, List, Some, [], append_assoc, ap, arith, length, map, refl, subst, sym, true}
 use Rattle.std.specs.Prelude.{All}
 use Rattle.std.proofs.lemmas.List.Elements.{All-append, All-weaker}
@@ -7,7 +6,7 @@ use Rattle.region_tree.specs.Requirements.{Requirement}
 use Rattle.region_tree.specs.declared.tree.RootId.{RootId}
 use Rattle.logical_map.specs.Maps.{LogicalMap, columns_of, is_live}
 use Rattle.dependence_graph.specs.Entries.{Knot}
-use Rattle.dependence_graph.specs.Knots.{has_failed, is_done, knot_at, stage_at}
+use Rattle.dependence_graph.specs.Knots.{has_failed, is_done, knot_at}
 use Rattle.dependence_graph.specs.declared.stage.Stage.TheVariants as knot
 use Rattle.task_code.specs.declared.job.Job.{Job}
 use Rattle.machine_terms.specs.declared.frame.Before.{Before}
@@ -40,16 +39,16 @@ use Rattle.changed_trees.specs.Open.{Asked, HasAt, IsOpen, OpenBoard, OpenRow}
 use Rattle.changed_trees.proofs.Below.{children_kept}
 use Rattle.changed_trees.proofs.Kept.{back, shown_match, wider_on}
 use Rattle.changed_trees.proofs.One.{IsOngoing, knot_is, one_changed, row_is}
-use Rattle.changed_trees.proofs.Walks.{OfAll}
+use Rattle.changed_trees.proofs.Walks.{OfAll, told_holds}
 use Rattle.yielded_trees.proofs.Builder.{OpenHere, change, opens, own_apart_same, own_made_same, own_same}
-use Rattle.yielded_trees.proofs.Found.{Here, by_out, found_at, here_at}
+use Rattle.yielded_trees.proofs.Found.{Here, by_out, here_at}
+use Rattle.yielded_trees.proofs.Out.{Begun, has_begun}
 use Rattle.yielded_trees.proofs.Trees.{many_children, paused_needs, restop, text_count, text_made, text_said, text_shows, with_text}
 use Rattle.board_trees.proofs.Along.{not_above}
 use Rattle.board_terms.specs.declared.operation.Ending.{Ending}
 use Rattle.board_trees.specs.Stages.{IsEnding}
 use Rattle.given_trees.specs.Segments.{AreLeft}
 use Rattle.given_trees.proofs.Segments.{segments_show}
-use Rattle.ended_trees.proofs.Reached.{told_holds}
 
 restop_needs : (job : Job) (makings : ℕ) (n : Node (regent_ground (spaces_of job.code))) → needs_issued job n ≡ needs_issued job (restop job makings n)
 restop_needs job makings (op D N i f ps st is) = refl
@@ -106,24 +105,13 @@ module _ (job : Job) (s : State) (b : Board (regent_ground (spaces_of job.code))
 
     -- ---- the row that is there
 
-    record Begun : Type 0 where
-      within : k < length s.operations
-      there : k < length s.waits.knots
-      stage : (knot_at s.waits.knots k).stage ≡ knot.Begun
-
-    begun : Begun
-    begun =
-        let x = found_at job s h.who b.ways (Here job s b h k v at claim before act) v [] 0 [] [] b.state.tree (here_at job s b h k v at claim before act) in
-        by_out job s b h k v at claim before act (λ w j earlier above n. Begun)
-        (λ earlier above D N i f ps w d is below x. record { within = x.0.within; there = x.0.knot; stage = x.0.stands.0 }) x.way x.number x.earlier x.above x.node x.is
-
-    was : stage_at s.waits.knots k ≡ Some knot.Begun
-    was = stage_there s.waits.knots k begun.there ∙ ap Some begun.stage
+    abbrev begun : Begun s k
+    begun = has_begun job s b h k v at claim before act
 
     ongoing : IsOngoing s s.tree s.roots live k row knotted begun.within begun.there
     ongoing = record {
-      before = ap is_done was;
-      unfailed = ap has_failed was;
+      before = ap is_done begun.was;
+      unfailed = ap has_failed begun.was;
       runs = ap (λ x. is_over (stage_of x o.wait o.activity)) begun.stage ∙ ap (λ x. is_over (stage_of knot.Begun o.wait x)) act;
       now = ap (λ x. is_done (Some x)) begun.stage;
       fails = ap (λ x. has_failed (Some x)) begun.stage;

@@ -14,16 +14,15 @@ use Rattle.machine_terms.specs.declared.outcome.After.{After}
 use Rattle.machine_terms.specs.declared.outcome.Yield.{Yield}
 use Rattle.machine_terms.specs.declared.outcome.Yield.TheVariants as yield
 use Rattle.machine_terms.specs.Segments.{frame_after, segment, stop_of}
-use Rattle.board_rules.specs.Boards.{Items, Wait as BoardWait, at_fault, awaited, by, given, met_by, op, out}
+use Rattle.board_rules.specs.Boards.{Items, Wait as BoardWait, at_fault, awaited, by, met_by, op, out}
 use Rattle.board_rules.specs.Ground.{Ground}
 use Rattle.board_rules.specs.NumberedBoards.{Board}
 use Rattle.board_rules.specs.Running.{Element, Machine, puts}
 use Rattle.regent_boards.specs.Frames as board
 use Rattle.regent_boards.specs.RegentMachine.{answer_with}
 use Rattle.regent_boards.specs.RegentMachine.{regent_ground}
-use Rattle.segment_renaming.specs.Renaming.{yield_to}
 use Rattle.code_boards.specs.Laws.{machine_of}
-use Rattle.code_boards.specs.Views.{spaces_of, yield_out}
+use Rattle.code_boards.specs.Views.{spaces_of}
 use Rattle.board_terms.specs.declared.claim.Claim.{Claim}
 use Rattle.board_terms.specs.declared.operation.Activity.TheVariants as activity
 use Rattle.board_terms.specs.declared.operation.Ending.{Ending}
@@ -32,10 +31,8 @@ use Rattle.board_terms.specs.declared.operation.Operation.{Operation}
 use Rattle.board_terms.specs.Gives.{behind_segment, ended_by, frame_left, parts_given, with_parts, yielded}
 use Rattle.board_terms.specs.States.{State, no_operation, operation_at, with_operation}
 use Rattle.board_facts.proofs.Lists.{set_twice}
-use Rattle.board_trees.specs.Names.{named}
 use Rattle.board_trees.specs.Shows.{Shows, ShowsBoard}
 use Rattle.board_trees.specs.Waits.{Sibling}
-use Rattle.board_trees.proofs.Named.{is_naming, named_all}
 use Rattle.given_trees.specs.Segments.{AreLeft}
 use Rattle.given_trees.proofs.Maps.{fields_same, parts_live, parts_shapes}
 use Rattle.given_trees.proofs.Parts.{parts_show}
@@ -43,7 +40,7 @@ use Rattle.given_trees.proofs.Segments.{segments_show}
 use Rattle.changed_trees.specs.Changes.{IsAt}
 use Rattle.changed_trees.specs.Given.{Opens, makings_before}
 use Rattle.changed_trees.proofs.One.{one_changed}
-use Rattle.yielded_trees.proofs.Found.{Here, by_out, found_at, here_at}
+use Rattle.yielded_trees.proofs.Out.{given_is, has_begun}
 use Rattle.ended_trees.specs.Laws.{EndsOpen, FaultsOpen, MachineFaultsOpen}
 use Rattle.ended_trees.proofs.Ending.{EndsSo, IsEnded, ended_opens}
 
@@ -87,10 +84,7 @@ module _ (job : Job) (s : State) (b : Board (regent_ground (spaces_of job.code))
   a = segment before
 
   within : k < length s.operations
-  within =
-      let x = found_at job s h.who b.ways (Here job s b h k v at claim before act) v [] 0 [] [] b.state.tree (here_at job s b h k v at claim before act) in
-      by_out job s b h k v at claim before act (λ w j earlier above n. k < length s.operations)
-      (λ earlier above D N i f ps w d is below x. x.0.within) x.way x.number x.earlier x.above x.node x.is
+  within = (has_begun job s b h k v at claim before act).within
 
   abbrev row : Ending → Operation
   row e = record (behind_segment o a) { parts = []; activity = activity.Closing e }
@@ -120,21 +114,11 @@ module _ (job : Job) (s : State) (b : Board (regent_ground (spaces_of job.code))
     left : AreLeft job s h.who roots o N met a (M.segment met (ps ++ d))
     left = segments_show job s b h v k earlier above D N i f ps d w is shown below claim before act makings
 
-    abbrev name : ℕ → ℕ
-    name = named_all s.roots h.who makings h.made 0
-
-    yields_are : (M.segment met (ps ++ d)).yields ≡ yield_out job.code job.turns met (yield_to (named name) a.ends)
-    yields_are = left.yields name (is_naming s.roots h.who makings h.made 0 roots under)
-
-    given_is : (y : Yield) → a.ends ≡ y → given G M [] D N i is (M.segment met (ps ++ d)).text (M.segment met (ps ++ d)).frame (M.segment met (ps ++ d)).parts (M.segment met (ps ++ d)).yields
-        ≡ given G M [] D N i is (M.segment met (ps ++ d)).text (M.segment met (ps ++ d)).frame (M.segment met (ps ++ d)).parts (yield_out job.code job.turns met (yield_to (named name) y))
-    given_is y e = ap (given G M [] D N i is (M.segment met (ps ++ d)).text (M.segment met (ps ++ d)).frame (M.segment met (ps ++ d)).parts) (yields_are ∙ ap (λ y. yield_out job.code job.turns met (yield_to (named name) y)) e)
-
     by_end : (x : Option ℤ) → a.ends ≡ yield.End x → EndsSo job s b h k v at claim before act (ending.Value x) (with_parts a.parts s.map) (row (ending.Value x)) D N i f ps w d is
     by_end x e = record {
       ending = by (answer_with met x);
       effects = puts G M (M.segment met (ps ++ d)).parts;
-      behind_is = given_is (yield.End x) e;
+      behind_is = given_is job s b h k v at claim before act earlier above D N i f ps w d is below shown (yield.End x) e;
       ends = refl;
       held = parts_show job s.roots h.who makings s.map b.state.map roots (M.segment met (ps ++ d)).parts a.parts h.made under h.held left.parts left.held left.fitting left.once;
     }
@@ -143,7 +127,7 @@ module _ (job : Job) (s : State) (b : Board (regent_ground (spaces_of job.code))
     by_fault x e = record {
       ending = at_fault (board.faults_at x);
       effects = [];
-      behind_is = given_is (yield.Fault x) e;
+      behind_is = given_is job s b h k v at claim before act earlier above D N i f ps w d is below shown (yield.Fault x) e;
       ends = refl;
       held = h.held;
     }
@@ -152,7 +136,7 @@ module _ (job : Job) (s : State) (b : Board (regent_ground (spaces_of job.code))
     by_machine e = record {
       ending = at_fault board.broken;
       effects = [];
-      behind_is = given_is yield.MachineFault e;
+      behind_is = given_is job s b h k v at claim before act earlier above D N i f ps w d is below shown yield.MachineFault e;
       ends = tt;
       held = h.held;
     }

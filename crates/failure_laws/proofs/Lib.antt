@@ -1,1 +1,2 @@
 pub mod Failures
+mod Settled

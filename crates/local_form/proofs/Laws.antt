@@ -17,7 +17,9 @@ use Rattle.regent_tree.specs.Plain.{expression_of, links_in, steps_in}
 use Rattle.regent_tree.specs.PlainProgram.{arms_in, block_in}
 use Rattle.regent_tree.specs.Syntax.{Expression, Name, Steps, a_link, access_expr, assign_form, at_step, chain_expr, field_step, no_step}
 use Rattle.regent_tree.proofs.Rows.{arm_read}
-use Rattle.local_form.specs.LocalForm.{Marked, are_local_arms, gives_pointer, is_among, is_local_block, is_local_expression, is_local_form, is_name, is_part, is_pointing, marked_by_arms, marked_in, takes_partition_off}
+use Rattle.local_form.specs.LocalForm.{are_local_arms, is_local_block, is_local_form}
+use Rattle.local_form.specs.Expressions.{Marked, gives_pointer, is_among, is_local_expression, is_name, is_part, is_pointing, takes_partition_off}
+use Rattle.local_form.specs.Marks.{marked_by_arms, marked_in}
 use Rattle.local_form.specs.Seen.{assigns_beside, is_behind, is_behind_read, is_beside, is_local_arm}
 
 pub list_any-map : {A B : Type 0} (p : B → Bool) (f : A → B) (xs : List A) → list_any p (map f xs) ≡ list_any (λ x. p (f x)) xs

@@ -1,2 +1,4 @@
+pub mod Expressions
 pub mod LocalForm
+pub mod Marks
 pub mod Seen

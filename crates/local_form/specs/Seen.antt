@@ -6,7 +6,9 @@ use Rattle.regent_tree.specs.declared.statement.How.TheVariants as how
 use Rattle.regent_tree.specs.Plain.{expression_of}
 use Rattle.regent_tree.specs.PlainProgram.{block_in}
 use Rattle.regent_tree.specs.Syntax.{Expression, Name, Steps, at_step, field_step, no_step}
-use Rattle.local_form.specs.LocalForm.{Marked, fills_apart, is_among, is_kept_apart, is_local_block, is_local_expression, is_name, is_part, is_region_name, takes_element, takes_value, with_either}
+use Rattle.local_form.specs.LocalForm.{fills_apart, is_local_block}
+use Rattle.local_form.specs.Expressions.{Marked, is_among, is_kept_apart, is_local_expression, is_name, is_part, is_region_name, takes_element, takes_value}
+use Rattle.local_form.specs.Marks.{with_either}
 
 abbrev pub is_local_arm : Marked → Arm → Bool
 is_local_arm m a =

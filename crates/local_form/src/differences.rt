@@ -3,7 +3,7 @@
 ghost use Rattle.std.specs.Prelude.{◌≡◌};
 ghost use Rattle.regent_tree.specs.Plain.{expression_of, links_in, steps_in};
 ghost use Rattle.regent_tree.specs.Syntax.{access_expr};
-ghost use Rattle.local_form.specs.LocalForm.{is_difference, is_partition_name, takes_partition_off};
+ghost use Rattle.local_form.specs.Expressions.{is_difference, is_partition_name, takes_partition_off};
 
 use crate::marked::Marked;
 use regent_tree::{Arithmetic, Expr, Link, Name, Operator, Step};

@@ -3,8 +3,8 @@
 ghost use Rattle.std.specs.Prelude.{◌≡◌};
 ghost use Rattle.regent_tree.specs.Plain.{expression_of, expressions_in, links_in, steps_in};
 ghost use Rattle.regent_tree.specs.Syntax.{access_expr};
-ghost use Rattle.local_form.specs.LocalForm.{are_local_arguments, are_local_expressions};
-ghost use Rattle.local_form.specs.LocalForm.{are_local_links, is_local_expression, is_name, is_part, is_region_name};
+ghost use Rattle.local_form.specs.Expressions.{are_local_arguments, are_local_expressions};
+ghost use Rattle.local_form.specs.Expressions.{are_local_links, is_local_expression, is_name, is_part, is_region_name};
 ghost use Rattle.local_form.specs.Seen.{is_behind, is_behind_read, is_beside, is_local_argument};
 
 use crate::giving::gives_scalar;

@@ -2,8 +2,9 @@
 
 ghost use Rattle.std.specs.Prelude.{◌≡◌, OnOk, map};
 ghost use Rattle.regent_tree.specs.PlainProgram.{item_of, item_tree_of};
-ghost use Rattle.local_form.specs.LocalForm.{are_local_fields, is_index_term, is_local_field, is_pointer_term};
-ghost use Rattle.local_form.specs.LocalForm.{marked_by_item, marked_by_items, marked_field, marked_fields};
+ghost use Rattle.local_form.specs.LocalForm.{are_local_fields, is_local_field};
+ghost use Rattle.local_form.specs.Marks.{is_index_term, is_pointer_term};
+ghost use Rattle.local_form.specs.Marks.{marked_by_item, marked_by_items, marked_field, marked_fields};
 
 use crate::marked::Marked;
 use regent_tree::{Item, ItemKind, NumberTerm, Param, TypeTerm};

@@ -3,7 +3,7 @@
 ghost use Rattle.std.specs.Prelude.{◌≡◌};
 ghost use Rattle.regent_tree.specs.Plain.{expression_of, links_in, steps_in};
 ghost use Rattle.regent_tree.specs.Syntax.{access_expr, chain_expr};
-ghost use Rattle.local_form.specs.LocalForm.{gives_pointer, gives_scalar, is_pointing, links_give};
+ghost use Rattle.local_form.specs.Expressions.{gives_pointer, gives_scalar, is_pointing, links_give};
 
 use crate::marked::Marked;
 use regent_tree::{Expr, Link, Name, Operator, Step};

@@ -1,11 +1,11 @@
 //! The names that a task marks.
 
 ghost use Rattle.std.specs.Prelude.{◌≡◌, ◌&&◌, List, OnOk, bytes_eq, map, ℕ};
-ghost use Rattle.local_form.specs.LocalForm.{converts_to, is_among, is_kept_apart, is_kept_field};
-ghost use Rattle.local_form.specs.LocalForm.{takes_element, takes_value};
-ghost use Rattle.local_form.specs.LocalForm.{unmarked};
-ghost use Rattle.local_form.specs.LocalForm.{with_either, with_index, with_index_field, with_partition};
-ghost use Rattle.local_form.specs.LocalForm.{with_pointer, with_pointer_field, with_region};
+ghost use Rattle.local_form.specs.Expressions.{converts_to, is_among, is_kept_apart, is_kept_field};
+ghost use Rattle.local_form.specs.Expressions.{takes_element, takes_value};
+ghost use Rattle.local_form.specs.Marks.{unmarked};
+ghost use Rattle.local_form.specs.Marks.{with_either, with_index, with_index_field, with_partition};
+ghost use Rattle.local_form.specs.Marks.{with_pointer, with_pointer_field, with_region};
 
 use regent_tree::{Name, NumberTerm};
 use scalar_form::is_scalar_number;
@@ -28,7 +28,7 @@ pub struct Marked<'t> {
 
 impl<'t> Model for Marked<'t> {
     ghost use Rattle.std.specs.Prelude.{map};
-    ghost use Rattle.local_form.specs.LocalForm.{Marked as SeenMarked};
+    ghost use Rattle.local_form.specs.Expressions.{Marked as SeenMarked};
 
     ghost Value = { SeenMarked };
 

@@ -5,7 +5,7 @@ ghost use Rattle.std.specs.Option.{option_map};
 ghost use Rattle.regent_tree.specs.Plain.{expression_of, initializer_of};
 ghost use Rattle.regent_tree.specs.PlainProgram.{arms_in, block_in, form_of};
 ghost use Rattle.regent_tree.specs.Syntax.{var_form};
-ghost use Rattle.local_form.specs.LocalForm.{marked_by, marked_by_arms, marked_by_term, marked_by_value, marked_in};
+ghost use Rattle.local_form.specs.Marks.{marked_by, marked_by_arms, marked_by_term, marked_by_value, marked_in};
 ghost use Rattle.local_form.specs.Seen.{marked_by_loop};
 
 use crate::differences::is_difference;

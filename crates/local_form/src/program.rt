@@ -2,9 +2,10 @@
 
 ghost use Rattle.std.specs.Prelude.{◌≡◌, IfOk, OnOk, map};
 ghost use Rattle.regent_tree.specs.PlainProgram.{item_of, item_tree_of, task_of, tree_of};
-ghost use Rattle.local_form.specs.LocalForm.{all_go_back, are_local_params, is_index_or_space, is_local_item, is_local_param, is_partition_term};
+ghost use Rattle.local_form.specs.LocalForm.{all_go_back, are_local_params, is_local_item, is_local_param};
+ghost use Rattle.local_form.specs.Marks.{is_index_or_space, is_partition_term};
 ghost use Rattle.local_form.specs.LocalForm.{is_local_program, is_local_task, is_local_with};
-ghost use Rattle.local_form.specs.LocalForm.{is_region_term, marked_by_task, marked_param, marked_params, unmarked};
+ghost use Rattle.local_form.specs.Marks.{is_region_term, marked_by_task, marked_param, marked_params, unmarked};
 
 use crate::fields::{are_local_fields, is_pointer_term, mark_items};
 use crate::marked::Marked;

@@ -7,7 +7,8 @@ ghost use Rattle.regent_tree.specs.Plain.{expression_of, initializer_of, steps_i
 ghost use Rattle.regent_tree.specs.PlainProgram.{arms_in, block_in, form_of};
 ghost use Rattle.regent_tree.specs.Syntax.{assign_form, return_form, var_form};
 ghost use Rattle.local_form.specs.LocalForm.{are_local_arms, is_local_block, is_local_domain, is_local_form};
-ghost use Rattle.local_form.specs.LocalForm.{is_among, keeps_pointer};
+ghost use Rattle.local_form.specs.LocalForm.{keeps_pointer};
+ghost use Rattle.local_form.specs.Expressions.{is_among};
 ghost use Rattle.local_form.specs.Seen.{assigns_beside, is_local_arm, is_local_filling};
 
 use crate::differences::is_difference;

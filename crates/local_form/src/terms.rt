@@ -1,7 +1,8 @@
 //! Written types of pointers, variables and parameters.
 
 ghost use Rattle.std.specs.Prelude.{◌≡◌};
-ghost use Rattle.local_form.specs.LocalForm.{goes_back, goes_to_name, goes_to_names, is_kept_term, is_taken_term};
+ghost use Rattle.local_form.specs.LocalForm.{goes_back, is_kept_term, is_taken_term};
+ghost use Rattle.local_form.specs.Expressions.{goes_to_name, goes_to_names};
 
 use crate::marked::Marked;
 use regent_tree::{Name, NumberTerm, PointerTerm, Ref, TypeTerm};

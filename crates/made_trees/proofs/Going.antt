@@ -9,7 +9,7 @@ use Rattle.region_tree.specs.declared.tree.RootId.{RootId}
 use Rattle.logical_map.specs.Maps.{LogicalMap, columns_of, is_live}
 use Rattle.dependence_graph.specs.Entries.{Knot}
 use Rattle.dependence_graph.specs.Graphs.{knot_on}
-use Rattle.dependence_graph.specs.Knots.{has_failed, is_done, knot_at, stage_at}
+use Rattle.dependence_graph.specs.Knots.{has_failed, is_done, knot_at}
 use Rattle.dependence_graph.specs.declared.stage.Stage.TheVariants as knot
 use Rattle.task_code.specs.declared.job.Job.{Job}
 use Rattle.machine_terms.specs.declared.frame.Before.{Before}
@@ -29,7 +29,6 @@ use Rattle.code_boards.specs.Laws.{machine_of}
 use Rattle.code_boards.specs.Views.{spaces_of}
 use Rattle.board_terms.specs.declared.claim.Claim.{Claim}
 use Rattle.board_terms.specs.declared.extent.Extent.{Extent}
-use Rattle.board_terms.specs.declared.operation.Activity.{Activity}
 use Rattle.board_terms.specs.declared.operation.Activity.TheVariants as activity
 use Rattle.board_terms.specs.declared.operation.Operation.{Operation}
 use Rattle.board_terms.specs.declared.operation.Wait.TheVariants as wait
@@ -38,15 +37,14 @@ use Rattle.board_terms.specs.Stages.{is_over, stage_of}
 use Rattle.board_terms.specs.States.{State, operation_at}
 use Rattle.board_trees.specs.Frames.{IsSeen}
 use Rattle.board_trees.specs.Names.{AreMade, IsNaming, name_of}
-use Rattle.board_trees.specs.Places.{LeavesPlaces}
 use Rattle.board_trees.specs.Shows.{HoldsMap, IsWithinRoot, Shows, ShowsBoard, ShowsChildren, siblings}
 use Rattle.board_trees.specs.Stages.{Stands, WaitsWell}
 use Rattle.board_trees.specs.Waits.{Sibling}
 use Rattle.board_trees.proofs.Along.{not_above}
-use Rattle.board_trees.proofs.Named.{is_naming, named_all}
-use Rattle.board_trees.proofs.Settled.{activity_open, stage_there}
+use Rattle.board_trees.proofs.Kept.{by_number}
+use Rattle.board_trees.proofs.Settled.{activity_open}
 use Rattle.given_trees.specs.Segments.{AreLeft}
-use Rattle.given_trees.proofs.Left.{left_held, left_places, left_seen}
+use Rattle.given_trees.proofs.Left.{left_held, left_seen}
 use Rattle.given_trees.proofs.Segments.{segments_show}
 use Rattle.changed_trees.specs.Changes.{Change, IsAt, IsWider}
 use Rattle.changed_trees.specs.Edits.{edited, told_at}
@@ -54,16 +52,12 @@ use Rattle.changed_trees.specs.Given.{Opens, effects_of, given_board, left_of, m
 use Rattle.changed_trees.specs.Open.{Asked, IsOpen, OpenBoard, OpenRow}
 use Rattle.changed_trees.proofs.Below.{children_kept}
 use Rattle.changed_trees.proofs.Kept.{back, seen_kept, shown_match, wider_itself, wider_on}
-use Rattle.changed_trees.proofs.One.{IsOngoing, by_number, knot_is, knot_within, one_changed, others, row_is}
-use Rattle.changed_trees.proofs.Walks.{OfAll, told_is, up_alike}
+use Rattle.changed_trees.proofs.One.{IsOngoing, knot_is, knot_within, one_changed, others, row_is}
+use Rattle.changed_trees.proofs.Walks.{OfAll, told_holds, up_alike}
 use Rattle.yielded_trees.proofs.Builder.{change, opens}
-use Rattle.yielded_trees.proofs.Found.{Here, by_out, found_at, here_at}
+use Rattle.yielded_trees.proofs.Found.{Here, by_out, here_at}
+use Rattle.yielded_trees.proofs.Out.{Begun, has_begun, leaves_places}
 use Rattle.yielded_trees.proofs.Trees.{many_children, paused_needs, paused_of, restop, text_count, text_made, text_said, text_shows, with_text}
-
--- what was handed out of one that is out
-abbrev before_in : Before → Activity → Before
-before_in q (activity.Out c r) = r
-before_in q _ = q
 
 module _ (job : Job) (s : State) (b : Board (regent_ground (spaces_of job.code))) (h : ShowsBoard job s b) (k : ℕ) (v : List ℕ) (at : IsAt job b.ways k v)
     (claim : Claim) (before : Before) (act : (operation_at s k).activity ≡ activity.Out claim before) (g : Frame) (goes : (segment before).frame ≡ Some g)
@@ -108,29 +102,18 @@ module _ (job : Job) (s : State) (b : Board (regent_ground (spaces_of job.code))
 
   -- ---- the row that is there
 
-  pub record Begun : Type 0 where
-    pub within : k < length s.operations
-    pub there : k < length s.waits.knots
-    pub stage : (knot_at s.waits.knots k).stage ≡ knot.Begun
-
-  pub begun : Begun
-  begun =
-      let f = found_at job s h.who b.ways (Here job s b h k v at claim before act) v [] 0 [] [] b.state.tree (here_at job s b h k v at claim before act) in
-      by_out job s b h k v at claim before act (λ w j earlier above n. Begun)
-      (λ earlier above D N i f ps w d is below x. record { within = x.0.within; there = x.0.knot; stage = x.0.stands.0 }) f.way f.number f.earlier f.above f.node f.is
+  abbrev begun : Begun s k
+  begun = has_begun job s b h k v at claim before act
 
   ongoing : IsOngoing s regions extents live k going knotted begun.within begun.there
   ongoing = record {
-    before = ap is_done was;
-    unfailed = ap has_failed was;
+    before = ap is_done begun.was;
+    unfailed = ap has_failed begun.was;
     runs = ap (λ x. is_over (stage_of x o.wait o.activity)) begun.stage ∙ activity_open o.activity;
     now = refl;
     fails = refl;
     open_now = refl;
   }
-    where
-      was : stage_at s.waits.knots k ≡ Some knot.Begun
-      was = stage_there s.waits.knots k begun.there ∙ ap Some begun.stage
 
   abbrev pub u : State
   u = one_changed s regions extents live k going knotted
@@ -165,9 +148,6 @@ module _ (job : Job) (s : State) (b : Board (regent_ground (spaces_of job.code))
       IsNaming s.roots h.who (roots_of above) other
   named_before above more below wider = back job s u h.who now b.ways b.ways (λ w. v ≡ w) changes (roots_of above) (wide_of more) (wide_roots above more wider) (under above below)
 
-  pub naming : (above : List RootId) → All (λ (r : RootId). r.0 < length s.roots) above → IsNaming s.roots h.who (roots_of above) (named_all s.roots h.who makings h.made 0)
-  naming above below = is_naming s.roots h.who makings h.made 0 (roots_of above) (under above below)
-
   -- ---- what the segment left
 
   module _ (earlier : List Sibling) (above : List RootId) (D N : List Requirement) (i : ℕ) (f : board.Frame) (ps : List (Element G)) (w : BoardWait G) (d : List (Element G)) (is : Items G)
@@ -175,18 +155,12 @@ module _ (job : Job) (s : State) (b : Board (regent_ground (spaces_of job.code))
     pub left_alike : AreLeft job s h.who (roots_of above) o N (from f w is) z (run f ps w d is)
     left_alike = segments_show job s b h v k earlier above D N i f ps d w is x below claim before act makings
 
-    pub places : LeavesPlaces s.tree z
-    places = subst (λ (e : Before). LeavesPlaces s.tree (segment e)) (same_before x.0.stands.1.activity_is)
-        (left_places job s o x.0.stands.1.fill x.0.seen.placed)
-      where
-        same_before : {e : Before} {c : Claim} → o.activity ≡ activity.Out c e → e ≡ before
-        same_before e = ap (before_in before) (sym e ∙ act)
-
     -- it is seen so in the new state
     pub seen_left : (more : List RootId) → IsWider u above more →
         IsSeen job.code regions live extents now (wide_of more) (record (behind_segment o z) { frame = g; parts = z.parts }) N (run f ps w d is).frame (run f ps w d is).parts
     seen_left more wider =
         let a = run f ps w d is in
+        let places = leaves_places job s b h k v at claim before act earlier above D N i f ps w d is below x in
         seen_kept job s u h.who now b.ways b.ways (λ w. v ≡ w) changes (roots_of above) (wide_of more) (wide_roots above more wider) (under above below)
         (record (behind_segment o z) { frame = g; parts = z.parts }) N a.frame a.parts
         (left_seen job s h.who (roots_of above) o N f (from f w is) ps x.0.seen z a left_alike places g goes a.parts z.parts
@@ -270,7 +244,7 @@ module _ (job : Job) (s : State) (b : Board (regent_ground (spaces_of job.code))
           (extra_made : All (λ (r : RootId). r.0 < length extents) extra) (more_made : (r : ℕ) → r < length s.roots → r < length extents)
           (extra_new : All (λ (r : RootId). (c : ℕ) → c < length s.roots → ¬ (r.0 ≡ c)) extra) where
         own_made : (j : ℕ) → All (λ (r : RootId). r.0 < length extents) (operation_at u j).frame.own
-        own_made = by_number s regions extents live k going knotted (λ j. All (λ (r : RootId). r.0 < length extents) (operation_at u j).frame.own)
+        own_made = by_number k (λ j. All (λ (r : RootId). r.0 < length extents) (operation_at u j).frame.own)
             (subst (λ (r : Operation). All (λ (r : RootId). r.0 < length extents) r.frame.own) (sym row)
             (subst (All (λ (r : RootId). r.0 < length extents)) (sym own_is)
             (All-append (λ (r : RootId). r.0 < length extents) o.frame.own extra
@@ -295,16 +269,16 @@ module _ (job : Job) (s : State) (b : Board (regent_ground (spaces_of job.code))
             (All-append (λ (r : RootId). All (λ (q : RootId). ¬ (r ≡ q)) (operation_at s j).frame.own) o.frame.own extra (h.own_apart k j n) (extra_apart j extra extra_new))
 
         own_apart : (i j : ℕ) → ¬ (i ≡ j) → Apart (operation_at u i).frame.own (operation_at u j).frame.own
-        own_apart i j n = by_number s regions extents live k going knotted (λ i. ¬ (i ≡ j) → Apart (operation_at u i).frame.own (operation_at u j).frame.own)
+        own_apart i j n = by_number k (λ i. ¬ (i ≡ j) → Apart (operation_at u i).frame.own (operation_at u j).frame.own)
             (λ n. subst (λ (r : Operation). Apart r.frame.own (operation_at u j).frame.own) (sym row)
             (subst (λ (r : Operation). Apart q.own r.frame.own) (sym (others s regions extents live k going knotted j (λ e. n (sym e)))) (with_extra j n)))
             (λ i m n. subst (λ (r : Operation). Apart r.frame.own (operation_at u j).frame.own) (sym (others s regions extents live k going knotted i m))
-            (by_number s regions extents live k going knotted (λ j. ¬ (i ≡ j) → Apart (operation_at s i).frame.own (operation_at u j).frame.own)
+            (by_number k (λ j. ¬ (i ≡ j) → Apart (operation_at s i).frame.own (operation_at u j).frame.own)
             (λ n. subst (λ (r : Operation). Apart (operation_at s i).frame.own r.frame.own) (sym row) (turned q.own (operation_at s i).frame.own (with_extra i (λ e. n (sym e)))))
             (λ j c n. subst (λ (r : Operation). Apart (operation_at s i).frame.own r.frame.own) (sym (others s regions extents live k going knotted j c)) (h.own_apart i j n)) j n)) i n
 
         first_live : All (λ (r : RootId). is_live live r.0 ≡ true) (operation_at u 0).frame.own
-        first_live = by_number s regions extents live k going knotted (λ j. j ≡ 0 → All (λ (r : RootId). is_live live r.0 ≡ true) (operation_at u j).frame.own)
+        first_live = by_number k (λ j. j ≡ 0 → All (λ (r : RootId). is_live live r.0 ≡ true) (operation_at u j).frame.own)
             (λ e. subst (λ (r : Operation). All (λ (r : RootId). is_live live r.0 ≡ true) r.frame.own) (sym row)
             (subst (All (λ (r : RootId). is_live live r.0 ≡ true)) (sym own_is) (All-append (λ (r : RootId). is_live live r.0 ≡ true) o.frame.own extra
             (subst (λ j. All (λ (r : RootId). is_live live r.0 ≡ true) (operation_at s j).frame.own) (sym e) old) there_extra)))
@@ -345,7 +319,7 @@ module _ (job : Job) (s : State) (b : Board (regent_ground (spaces_of job.code))
                 (λ earlier above D N i f ps w d is below x more wider. (refl, open_here earlier above more D N i f ps w d is below wider x)) w j earlier above n y more wider
 
             effects : told_at G v (effects_of job makings) b.state.tree ≡ es
-            effects = told_is job s h.who b.ways There (effects_of job makings) es
+            effects = told_holds job s h.who b.ways There (effects_of job makings) (λ xs. xs ≡ es)
                 (by_out job s b h k v at claim before act (λ w j earlier above n. effects_of job makings n ≡ es)
                 (λ earlier above D N i f ps w d is below x. ap (λ (c : tree.Stepped G (Node G)). c.effects) (made earlier above above D N i f ps w d is below (wider_itself u above) x).given)) v [] 0 [] [] b.state.tree
                 (here_at job s b h k v at claim before act)

@@ -1,5 +1,4 @@
 pub mod Roots
-pub mod Own
 pub mod Going
 pub mod Rooted
 pub mod Parts

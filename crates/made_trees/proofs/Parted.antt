@@ -4,7 +4,7 @@ use Rattle.std.specs.Prelude.{All, get_or}
 use Rattle.std.specs.List.{list_all}
 use Rattle.std.proofs.lemmas.Bool.{and_from, and_parts, cases_Bool, cases_lt}
 use Rattle.std.proofs.lemmas.List.{get_or-append_right, get_or-set_same, get_or_append_left, length-append, length-set, set-set}
-use Rattle.std.proofs.lemmas.List.Elements.{All-append, All-cons, All-get_or, All-nil}
+use Rattle.std.proofs.lemmas.List.Elements.{All-cons, All-get_or, All-nil}
 use Rattle.plain_values.specs.Points.{has}
 use Rattle.region_tree.specs.Entries.{TreeNode}
 use Rattle.region_tree.specs.Paths.{child_number}
@@ -36,7 +36,7 @@ use Rattle.segment_renaming.specs.Resuming.{with_partition as segment_partition}
 use Rattle.segment_renaming.proofs.Openings.{partitions_renamed}
 use Rattle.segment_regions.specs.Values.{YieldHas}
 use Rattle.code_boards.specs.Laws.{machine_of}
-use Rattle.code_boards.specs.Views.{region_out, spaces_of, yield_out}
+use Rattle.code_boards.specs.Views.{region_out, spaces_of}
 use Rattle.order_boards.proofs.Frames.{partition_seen}
 use Rattle.order_boards.proofs.Resumed.{sound_same}
 use Rattle.board_terms.specs.declared.claim.Claim.{Claim}
@@ -51,20 +51,19 @@ use Rattle.board_trees.specs.Frames.{HasPlaces, IsPlaced}
 use Rattle.board_trees.specs.Names.{IsNaming, named}
 use Rattle.board_trees.specs.Shows.{IsWithinRoot, Shows, ShowsBoard}
 use Rattle.board_trees.specs.Waits.{Sibling}
-use Rattle.board_trees.proofs.Named.{is_naming, named_all}
+use Rattle.board_trees.proofs.Named.{named_all}
 use Rattle.board_trees.proofs.Places.{placed_is_here}
 use Rattle.given_trees.specs.Segments.{AreLeft}
-use Rattle.given_trees.proofs.Segments.{segments_show}
 use Rattle.changed_trees.specs.Changes.{IsAt, IsWider}
 use Rattle.changed_trees.specs.Given.{Opens, makings_before, yielded_by}
-use Rattle.yielded_trees.proofs.Found.{Here, by_out, found_at, here_at}
+use Rattle.yielded_trees.proofs.Found.{known_out}
+use Rattle.yielded_trees.proofs.Out.{given_is, has_begun, leaves_places, names_below, own_stays}
 use Rattle.yielded_trees.proofs.Trees.{with_text}
 use Rattle.ended_trees.proofs.Ending.{EndsSo, ended_opens}
 use Rattle.ended_trees.proofs.Ends.{changed_again}
 use Rattle.made_trees.specs.Laws.{PartitionsOpen}
 use Rattle.made_trees.proofs.Parts.{IsWithinExtents, children_placed, children_within}
-use Rattle.made_trees.proofs.Own.{own_stays}
-use Rattle.made_trees.proofs.Going.{Goes, begun, goes_open, left_alike, named_before, naming, places, seen_left, u}
+use Rattle.made_trees.proofs.Going.{Goes, goes_open, left_alike, named_before, seen_left, u}
 
 -- ---- on the table and in the tree
 
@@ -135,13 +134,8 @@ module _ (job : Job) (s : State) (b : Board (regent_ground (spaces_of job.code))
   -- ---- the region is one of the tree
 
   placed : IsPlaced s.tree r
-  placed =
-      let f = found_at job s h.who b.ways (Here job s b h k v at claim before act) v [] 0 [] [] b.state.tree (here_at job s b h k v at claim before act) in
-      by_out job s b h k v at claim before act (λ w j earlier above n. IsPlaced s.tree r)
-      (λ earlier above D N i f ps w d is below x. subst (λ y. YieldHas (HasPlaces s.tree) y) makes
-      (places job s b h k v at claim before act g goes s.tree s.roots s.map h.who g none (own_is_kept ∙ sym (append-nil (operation_at s k).frame.own)) (λ n l. (l, refl)) (λ n l. refl) (λ n l. l) (λ n f l. l) there_none
-      earlier above D N i f ps w d is below x).yields)
-      f.way f.number f.earlier f.above f.node f.is
+  placed = known_out job s b h k v at claim before act
+      (λ earlier above D N i f ps w d is below x. subst (λ y. YieldHas (HasPlaces s.tree) y) makes (leaves_places job s b h k v at claim before act earlier above D N i f ps w d is below x).yields)
 
   points_are : set_at s.tree r.node.0 ≡ r.points
   points_are = (placed_is_here s.tree r placed).1
@@ -180,7 +174,7 @@ module _ (job : Job) (s : State) (b : Board (regent_ground (spaces_of job.code))
       roots_here = above ++ (operation_at s k).frame.own
 
       naming_here : IsNaming s.roots h.who roots_here name
-      naming_here = naming job s b h k v at claim before act g goes regions s.roots s.map h.who q none own_is nodes (λ n l. refl) (λ n l. l) (λ n f l. l) there_none above below
+      naming_here = names_below job s b h k v at claim before act above below
 
       left : AreLeft job s h.who roots_here (operation_at s k) N met (segment before) a
       left = left_alike job s b h k v at claim before act g goes regions s.roots s.map h.who q none own_is nodes (λ n l. refl) (λ n l. l) (λ n f l. l) there_none earlier above D N i f ps w d is below x
@@ -197,7 +191,7 @@ module _ (job : Job) (s : State) (b : Board (regent_ground (spaces_of job.code))
       partition_goes =
           let seen = seen_left job s b h k v at claim before act g goes regions s.roots s.map h.who q none own_is nodes (λ n l. refl) (λ n l. l) (λ n f l. l) there_none earlier above D N i f ps w d is below x more wider in
           record {
-            given = ap (tree.given G M [] D N i is a.text a.frame a.parts) (left.yields name naming_here ∙ ap (λ y. yield_out job.code job.turns met (yield_to (named name) y)) makes)
+            given = given_is job s b h k v at claim before act earlier above D N i f ps w d is below x (yield.Make (made.Partition r sets disjoint)) makes
                 ∙ ap (λ c. cond {A = tree.Stepped G (Node G)} c (record { left = op D N (suc i) (pushed_there i a.frame) a.parts (idle nothing) (with_text job is a.text); effects = [] })
                 (record { left = op D N i a.frame [] (closing (at_fault G.broken)) (with_text job is a.text); effects = [] })) sound_there;
             own = λ other n. left.own other (old_name other n) ∙ ap (map (λ (r : RootId). other r.0)) (sym own_is_kept);
@@ -266,7 +260,7 @@ module _ (job : Job) (s : State) (b : Board (regent_ground (spaces_of job.code))
     yields =
         let o = behind_segment (operation_at s k) (segment before) in
         let with_it = λ (x : Operation). record x { frame = pushed (value.Partition new_value) x.frame } in
-        let there = (begun job s b h k v at claim before act g goes regions s.roots s.map h.who q none own_is nodes (λ n l. refl) (λ n l. l) (λ n f l. l) there_none).within in
+        let there = (has_begun job s b h k v at claim before act).within in
         let build = λ (os : List Operation). record s { tree = regions; operations = os } in
         let row : operation_at (with_operation s k o) k ≡ o = get_or-set_same s.operations k o no_operation there in
         let again : operation_at (build (set (set s.operations k o) k (with_it o))) k ≡ with_it o =
@@ -312,24 +306,15 @@ module _ (job : Job) (s : State) (b : Board (regent_ground (spaces_of job.code))
     breaks earlier above D N i f ps w d is below x =
         let met = tree.met_by G M w f (tree.awaited G M w is) in
         let a = M.segment met (ps ++ d) in
-        let roots_here = above ++ (operation_at s k).frame.own in
-        let left = segments_show job s b h v k earlier above D N i f ps d w is x below claim before act makings in
         record {
           ending = at_fault board.broken;
           effects = [];
-          behind_is = ap (tree.given G M [] D N i is a.text a.frame a.parts)
-              (left.yields name (is_naming s.roots h.who makings h.made 0 roots_here (All-append (λ (r : RootId). r.0 < length s.roots) above (operation_at s k).frame.own below (h.own_made k)))
-              ∙ ap (λ y. yield_out job.code job.turns met (yield_to (named name) y)) makes)
+          behind_is = given_is job s b h k v at claim before act earlier above D N i f ps w d is below x (yield.Make (made.Partition r sets disjoint)) makes
               ∙ ap (λ c. cond {A = tree.Stepped G (Node G)} c (record { left = op D N (suc i) (pushed_there i a.frame) a.parts (idle nothing) (with_text job is a.text); effects = [] })
               (record { left = op D N i a.frame [] (closing (at_fault G.broken)) (with_text job is a.text); effects = [] })) unsound_there;
           ends = tt;
           held = h.held;
         }
-
-    there : k < length s.operations
-    there =
-        let f = found_at job s h.who b.ways (Here job s b h k v at claim before act) v [] 0 [] [] b.state.tree (here_at job s b h k v at claim before act) in
-        by_out job s b h k v at claim before act (λ w j earlier above n. k < length s.operations) (λ earlier above D N i f ps w d is below x. x.0.within) f.way f.number f.earlier f.above f.node f.is
 
     breaks_open : Opens job b k v s before
     breaks_open = ended_opens job s b h k v at claim before act ending.Broken s.map broken_row
@@ -344,7 +329,7 @@ module _ (job : Job) (s : State) (b : Board (regent_ground (spaces_of job.code))
         (ap (yielded job.code job.turns (with_operation s k (behind_segment (operation_at s k) (segment before))) k) makes
         ∙ ap (λ c. cond c (parked_for (partition_made r sets disjoint (with_operation s k (behind_segment (operation_at s k) (segment before))) k) k wait.Nothing graph.Nothing)
         (ended_by (with_operation s k (behind_segment (operation_at s k) (segment before))) k ending.Broken)) table_unsound
-        ∙ changed_again s s.map k (behind_segment (operation_at s k) (segment before)) ending.Broken there)
+        ∙ changed_again s s.map k (behind_segment (operation_at s k) (segment before)) ending.Broken (has_begun job s b h k v at claim before act).within)
 
   partition_yields : Opens job b k v s before
   partition_yields = ⊎_elim partition_opens breaks_open (cases_Bool (is_sound (set_at s.tree r.node.0) sets disjoint))

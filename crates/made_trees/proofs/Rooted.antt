@@ -27,7 +27,7 @@ use Rattle.machine_terms.specs.declared.frame.Frame.{Frame}
 use Rattle.machine_terms.specs.declared.outcome.Made.TheVariants as made
 use Rattle.machine_terms.specs.declared.outcome.Yield.TheVariants as yield
 use Rattle.machine_terms.specs.declared.value.Value.TheVariants as value
-use Rattle.board_rules.specs.Boards.{Items, Operation as Node, Wait as BoardWait, op, out}
+use Rattle.board_rules.specs.Boards.{Items, Wait as BoardWait, op, out}
 use Rattle.board_rules.specs.Boards as tree
 use Rattle.board_rules.specs.Ground.{Ground}
 use Rattle.board_rules.specs.NumberedBoards.{Board}
@@ -35,11 +35,11 @@ use Rattle.board_rules.specs.Processes.{Effect}
 use Rattle.board_rules.specs.Running.{Element, Machine}
 use Rattle.regent_boards.specs.Frames as board
 use Rattle.regent_boards.specs.RegentMachine.{fields_of, needs_of_root as board_needs, pushed_on, regent_ground, root_of, zeros_of}
-use Rattle.segment_renaming.specs.Renaming.{frame_to, need_to, yield_to}
+use Rattle.segment_renaming.specs.Renaming.{frame_to, need_to}
 use Rattle.segment_renaming.specs.Resuming.{with_root}
 use Rattle.segment_renaming.proofs.Openings.{roots_renamed}
 use Rattle.code_boards.specs.Laws.{machine_of}
-use Rattle.code_boards.specs.Views.{spaces_of, yield_out}
+use Rattle.code_boards.specs.Views.{spaces_of}
 use Rattle.order_boards.proofs.Frames.{requirements_made, root_seen}
 use Rattle.order_boards.proofs.Needs as order
 use Rattle.board_terms.specs.declared.claim.Claim.{Claim}
@@ -57,8 +57,8 @@ use Rattle.board_trees.specs.Waits.{Sibling}
 use Rattle.board_trees.proofs.Named.{named_all}
 use Rattle.changed_trees.specs.Changes.{IsAt, IsWider}
 use Rattle.changed_trees.specs.Given.{Opens, makings_before, yielded_by}
-use Rattle.made_trees.proofs.Own.{own_stays}
-use Rattle.made_trees.proofs.Going.{Goes, begun, goes_open, left_alike, named_before, naming, seen_left, u}
+use Rattle.yielded_trees.proofs.Out.{given_is, has_begun, own_stays}
+use Rattle.made_trees.proofs.Going.{Goes, goes_open, left_alike, named_before, seen_left, u}
 use Rattle.made_trees.proofs.Roots as roots
 use Rattle.made_trees.specs.Laws.{RootsOpen}
 
@@ -235,12 +235,9 @@ module _ (job : Job) (s : State) (b : Board (regent_ground (spaces_of job.code))
     root_goes =
         let left = left_alike job s b h k v at claim before act g goes regions extents live now q (Rid ∷ []) own_is nodes names stay fields_stay there_extra earlier above D N i f ps w d is below x in
         let seen = seen_left job s b h k v at claim before act g goes regions extents live now q (Rid ∷ []) own_is nodes names stay fields_stay there_extra earlier above D N i f ps w d is below x more wider in
-        let met = tree.met_by G M w f (tree.awaited G M w is) in
-        let a = M.segment met (ps ++ d) in
+        let a = M.segment (tree.met_by G M w f (tree.awaited G M w is)) (ps ++ d) in
         record {
-          given = ap (tree.given G M [] D N i is a.text a.frame a.parts)
-              (left.yields name (naming job s b h k v at claim before act g goes regions extents live now q (Rid ∷ []) own_is nodes names stay fields_stay there_extra above below)
-              ∙ ap (λ y. yield_out job.code job.turns met (yield_to (named name) y)) makes);
+          given = given_is job s b h k v at claim before act earlier above D N i f ps w d is below x (yield.Make (made.Root size space)) makes;
           own = λ other n.
               let old = named_before job s b h k v at claim before act g goes regions extents live now q (Rid ∷ []) own_is nodes names stay fields_stay there_extra above more below wider other n in
               (λ j. (left.own other old ∙ ap (map (λ (r : RootId). other r.0)) (sym own_is_kept)) j ++ sym (root_named other n) j ∷ [])
@@ -308,7 +305,7 @@ module _ (job : Job) (s : State) (b : Board (regent_ground (spaces_of job.code))
       let o = behind_segment (operation_at s k) (segment before) in
       let with_it = λ (r : RootId) (x : Operation). record x { frame = frame_with_root job.code r node size space x.frame } in
       let next : RootId = record { 0 = s.tree.roots } in
-      let there = (begun job s b h k v at claim before act g goes regions extents live now q (Rid ∷ []) own_is nodes names stay fields_stay there_extra).within in
+      let there = (has_begun job s b h k v at claim before act).within in
       let build = λ (os : List Operation). record s { tree = regions; roots = extents; map = opened s.tree.roots (points size) (kinds_of job.code space) s.map; operations = os } in
       let row : operation_at (with_operation s k o) k ≡ o = get_or-set_same s.operations k o no_operation there in
       let again : operation_at (build (set (set s.operations k o) k (with_it next o))) k ≡ with_it next o =

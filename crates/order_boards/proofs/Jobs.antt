@@ -1,20 +1,17 @@
 -- The run in order of a job, as the machine's definition gives it, is the run by numbers.
-use Rattle.std.proofs.Common.{◌≡◌, ℕ, zero, suc, ◌+◌, ◌<◌, ℤ, pos, List, [], ◌∷◌, ◌++◌, true, cond, None, refl, sym, ap, ◌∙◌, ⊎_elim, subst, map, arith, ◌==◌, eqb-true}
-use Rattle.std.specs.Prelude.{length, nat_le, replicate, ◌-◌}
+use Rattle.std.proofs.Common.{◌≡◌, ℕ, suc, ◌+◌, ◌<◌, pos, List, [], ◌∷◌, true, cond, None, refl, sym, ap, ◌∙◌, ⊎_elim, subst, map, arith}
+use Rattle.std.specs.Prelude.{length, ◌-◌}
 use Rattle.std.specs.List.Sorted.{IsStrictlyIncreasing}
-use Rattle.std.proofs.lemmas.Bool.{and_parts, false≢true}
-use Rattle.std.proofs.lemmas.List.{length-map, map-append}
+use Rattle.std.proofs.lemmas.Bool.{false≢true}
 use Rattle.plain_values.specs.Points.{has}
 use Rattle.point_sets.proofs.Rising.{Each, has-cons_cases, has_head, has_tail, rising_cons, rising_head, rising_tail}
 use Rattle.region_tree.specs.declared.tree.RootId.{RootId}
 use Rattle.regent_tree.specs.declared.outcome.Ending.TheVariants.{Finished}
-use Rattle.task_code.specs.declared.code.NeedCode.{NeedCode}
 use Rattle.task_code.specs.declared.code.TaskCode.{TaskCode}
 use Rattle.task_code.specs.declared.job.Job.{Job}
 use Rattle.machine_terms.specs.declared.order.Contents.{Contents}
 use Rattle.machine_terms.specs.declared.order.Ended.{Ended}
 use Rattle.machine_terms.specs.declared.order.Ended.TheVariants.{CameBack, Broke}
-use Rattle.machine_terms.specs.declared.value.Value.TheVariants.{Number}
 use Rattle.machine_terms.specs.Contents.{image_of, no_contents}
 use Rattle.machine_terms.specs.Jobs.{first_frame, may_start, order_run, outcome, void_outcome, ending_of}
 use Rattle.machine_terms.specs.Orders.{begun, enough_segments}
@@ -26,11 +23,12 @@ use Rattle.board_rules.specs.NumberedRuns.{Making, numbered_run}
 use Rattle.board_rules.specs.Processes.{Result, done, fails, spent}
 use Rattle.regent_boards.specs.Frames as board
 use Rattle.regent_boards.specs.RegentMachine.{regent_ground, who_of}
-use Rattle.segment_renaming.specs.Renaming.{frame_to, need_to, root_to, value_to}
+use Rattle.segment_renaming.specs.Renaming.{root_to}
 use Rattle.order_laws.specs.Bounds.{AreLarge, Bounds, runs_within, run_first_within}
 use Rattle.order_laws.proofs.Whole.{jobs_run_whole}
 use Rattle.code_boards.specs.Laws.{machine_of, main_frame, ordered, room}
-use Rattle.code_boards.specs.Views.{frame_in, root_in, spaces_of, value_in}
+use Rattle.code_boards.specs.Views.{root_in, spaces_of}
+use Rattle.code_boards.proofs.Beginning.{first_seen}
 use Rattle.code_boards.proofs.Ends.{order_runs_end}
 use Rattle.order_boards.specs.Laws.{AreOfFirstTask, OrderRunsAgree}
 use Rattle.order_boards.specs.Outcomes.{AreMadeBy, IsMadeBy, IsOutcome}
@@ -40,44 +38,10 @@ use Rattle.order_boards.proofs.Images.{images_same, roots_of}
 use Rattle.order_boards.proofs.Renumbering.{names}
 use Rattle.order_boards.proofs.Runs.{claim}
 use Rattle.order_boards.proofs.Stands.{Stands, board_root, root_who, shown_live}
-use Rattle.machine_terms.specs.Opening.{needs_on}
 
 -- ---- at the beginning
 
-no_needs : (ns : List NeedCode) → (length ns == 0) ≡ true → ns ≡ []
-no_needs [] e = refl
-no_needs (n ∷ ns) e = absurd (omega (arith, eqb-true (length (n ∷ ns)) 0 e))
-
-module _ (s : ℕ → ℕ) where
-  inputs_seen : (zs : List ℤ) → map value_in (map board.a_number zs) ≡ map (value_to (names s)) (map Number zs)
-  inputs_seen [] = refl
-  inputs_seen (z ∷ zs) = ap (λ vs. Number z ∷ vs) (inputs_seen zs)
-
-  zeros_seen : (k : ℕ) → map value_in (replicate k (board.a_number (pos 0))) ≡ map (value_to (names s)) (replicate k (Number (pos 0)))
-  zeros_seen zero = refl
-  zeros_seen (suc k) = ap (λ vs. Number (pos 0) ∷ vs) (zeros_seen k)
-
 module _ (job : Job) (t : TaskCode) (may : may_start job t ≡ true) where
-  none_needed : t.needs ≡ []
-  none_needed = no_needs t.needs (and_parts (length t.needs == 0) _ (and_parts _ (nat_le t.params t.slots) may).0).0
-
-  first_seen : (s : ℕ → ℕ) → frame_in (main_frame job t) ≡ frame_to (names s) (first_frame job t)
-  first_seen s =
-      let zs = job.inputs in
-      let slots : map value_in (map board.a_number zs ++ replicate (t.slots - length zs) (board.a_number (pos 0)))
-      ≡ map (value_to (names s)) (map Number zs ++ replicate (t.slots - length (map Number zs)) (Number (pos 0))) =
-      map-append value_in (map board.a_number zs) (replicate (t.slots - length zs) (board.a_number (pos 0)))
-      ∙ (λ i. inputs_seen s zs i ++ zeros_seen s (t.slots - length zs) i)
-      ∙ sym (map-append (value_to (names s)) (map Number zs) (replicate (t.slots - length zs) (Number (pos 0))))
-      ∙ ap (λ k. map (value_to (names s)) (map Number zs ++ replicate (t.slots - k) (Number (pos 0)))) (sym (length-map zs Number)) in
-      λ i. record (frame_to (names s) (first_frame job t)) {
-        slots = slots i;
-        needs = record {
-          items = ap (λ ns. map (need_to (names s))
-              (needs_on ns (map Number zs))) (sym none_needed) i;
-        };
-      }
-
   nothing_stands : Stands job.code (λ r. 0) 0 no_contents (λ l. pos 0)
   nothing_stands = record {
     below = λ r l. absurd (omega (arith, l));
@@ -92,7 +56,7 @@ module _ (job : Job) (t : TaskCode) (may : may_start job t ≡ true) where
   first_alike = record {
     stands = nothing_stands;
     own = refl;
-    frame = λ s is. first_seen s;
+    frame = λ s is. first_seen job t may (names s);
     board_needs = refl;
     parts = λ s is. refl;
     needs = λ s is. refl;

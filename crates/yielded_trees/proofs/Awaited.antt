@@ -2,7 +2,6 @@
 use Rattle.std.proofs.Common.{◌≡◌, ◌<◌, ◌++◌, ◌∷◌, ◌∙◌, ℕ, suc, zero, List, Option, Some, [], ap, inl, length, refl, set, sym}
 use Rattle.std.specs.Prelude.{All, slice_get}
 use Rattle.std.proofs.lemmas.List.{get_or-set_same, set-set}
-use Rattle.std.proofs.lemmas.List.Elements.{All-append}
 use Rattle.region_tree.specs.Requirements.{Requirement}
 use Rattle.region_tree.specs.declared.tree.OpNumber.{OpNumber}
 use Rattle.region_tree.specs.declared.tree.RootId.{RootId}
@@ -13,34 +12,30 @@ use Rattle.machine_terms.specs.Segments.{frame_after, segment, stop_of}
 use Rattle.machine_terms.specs.declared.frame.Before.{Before}
 use Rattle.machine_terms.specs.declared.frame.Frame.{Frame}
 use Rattle.machine_terms.specs.declared.outcome.Yield.TheVariants as yield
-use Rattle.board_rules.specs.Boards.{Items, Operation as Node, Wait as BoardWait, child, child_op, first, no_item, op, out, said}
+use Rattle.board_rules.specs.Boards.{Items, Wait as BoardWait, child, child_op, first, no_item, op, out, said}
 use Rattle.board_rules.specs.Boards as tree
 use Rattle.board_rules.specs.Ground.{Ground}
 use Rattle.board_rules.specs.NumberedBoards.{Board}
 use Rattle.board_rules.specs.Running.{Element, Machine}
 use Rattle.regent_boards.specs.Frames as board
 use Rattle.regent_boards.specs.RegentMachine.{regent_ground}
-use Rattle.segment_renaming.specs.Renaming.{yield_to}
 use Rattle.code_boards.specs.Laws.{machine_of}
-use Rattle.code_boards.specs.Views.{spaces_of, yield_out}
+use Rattle.code_boards.specs.Views.{spaces_of}
 use Rattle.board_terms.specs.declared.claim.Claim.{Claim}
 use Rattle.board_terms.specs.declared.operation.Activity.TheVariants as activity
 use Rattle.board_terms.specs.declared.operation.Operation.{Operation}
 use Rattle.board_terms.specs.declared.operation.Wait.TheVariants as wait
 use Rattle.board_terms.specs.Gives.{behind_segment, parked_for, waits_for, yielded}
 use Rattle.board_terms.specs.States.{State, no_operation, operation_at, with_operation}
-use Rattle.board_trees.specs.Names.{IsNaming, named}
 use Rattle.board_trees.specs.Shows.{Shows, ShowsBoard, ShowsChildren, needs_issued, siblings}
 use Rattle.board_trees.specs.Waits.{Sibling, WaitsForChild}
-use Rattle.board_trees.proofs.Named.{is_naming, named_all}
 use Rattle.board_trees.proofs.Settled.{node_told}
 use Rattle.board_trees.proofs.Told.{or_off}
-use Rattle.given_trees.specs.Segments.{AreLeft}
-use Rattle.given_trees.proofs.Segments.{segments_show}
 use Rattle.changed_trees.specs.Changes.{IsAt}
 use Rattle.changed_trees.specs.Given.{Opens, makings_before, yielded_by}
 use Rattle.changed_trees.proofs.Kept.{Matches, shown_match}
-use Rattle.yielded_trees.proofs.Paused.{Pauses, begun, pauses_open, u}
+use Rattle.yielded_trees.proofs.Out.{given_is, has_begun}
+use Rattle.yielded_trees.proofs.Paused.{Pauses, pauses_open, u}
 use Rattle.yielded_trees.specs.Laws.{AwaitsOpen}
 
 module _ (job : Job) (s : State) (who : ℕ → ℕ) (ways : List (List ℕ)) (makings : ℕ) where
@@ -94,27 +89,17 @@ module _ (job : Job) (s : State) (b : Board (regent_ground (spaces_of job.code))
   abbrev on : List OpNumber
   on = waited_on job s h.who b.ways (makings_before job b k v) k (slice_get (operation_at s k).children n)
 
-  abbrev name : ℕ → ℕ
-  name = named_all s.roots h.who (makings_before job b k v) h.made 0
-
   module _ (before_it : List Sibling) (above : List RootId) (D N : List Requirement) (i : ℕ) (f : board.Frame) (ps : List (Element C)) (w : BoardWait C) (d : List (Element C)) (is : Items C)
       (below : All (λ (r : RootId). r.0 < length s.roots) above) (x : Shows job s h.who b.ways v k before_it above (op D N i f ps (out w d) is)) where
     abbrev roots : List RootId
     roots = above ++ (operation_at s k).frame.own
 
-    naming : IsNaming s.roots h.who roots name
-    naming = is_naming s.roots h.who (makings_before job b k v) h.made 0 roots (All-append (λ (r : RootId). r.0 < length s.roots) above (operation_at s k).frame.own below (h.own_made k))
-
     abbrev met : board.Frame
     met = tree.met_by C K w f (tree.awaited C K w is)
 
-    left_alike : AreLeft job s h.who roots (operation_at s k) N met (segment before) (K.segment met (ps ++ d))
-    left_alike = segments_show job s b h v k before_it above D N i f ps d w is x below claim before act (makings_before job b k v)
-
     pauses : Pauses job s b h k v at claim before act g goes (wait.Child n) awaited_child on no_beginning refl before_it above D N i f ps w d is
     pauses = record {
-      given = ap (tree.given C K [] D N i is (K.segment met (ps ++ d)).text (K.segment met (ps ++ d)).frame (K.segment met (ps ++ d)).parts)
-          (left_alike.yields name naming ∙ ap (λ y. yield_out job.code job.turns met (yield_to (named name) y)) awaits);
+      given = given_is job s b h k v at claim before act before_it above D N i f ps w d is below x (yield.Await n) awaits;
       waits = refl;
       awaits = waits_for_it job s h.who b.ways (makings_before job b k v) k n (operation_at s k).children is
           (shown_match job s h.who b.ways v k 0 [] roots (operation_at s k).children is x.1);
@@ -128,7 +113,7 @@ module _ (job : Job) (s : State) (b : Board (regent_ground (spaces_of job.code))
   yields =
       let o = behind_segment (operation_at s k) (segment before) in
       let row : operation_at (with_operation s k o) k ≡ o = get_or-set_same s.operations k o no_operation
-      (begun job s b h k v at claim before act g goes (wait.Child n) awaited_child on no_beginning refl pauses).within in
+      (has_begun job s b h k v at claim before act).within in
       ap (yielded job.code job.turns (with_operation s k o) k) awaits
       ∙ (λ j. parked_for (with_operation s k o) k (wait.Child n) (waits_for (slice_get (row j).children n)))
       ∙ (λ j. record then {

@@ -26,6 +26,7 @@ use Rattle.board_trees.specs.Names.{AreMade, name_of}
 use Rattle.board_trees.specs.Shows.{HoldsMap, IsWithinRoot, Leads, ShowsBoard, is_claimed, needs_issued}
 use Rattle.board_trees.specs.Waits.{Sibling}
 use Rattle.board_trees.proofs.Claims.{claim_elsewhere, claim_gone}
+use Rattle.board_trees.proofs.Kept.{by_number}
 use Rattle.changed_trees.specs.Changes.{Change, IsAt, IsWider}
 use Rattle.changed_trees.specs.Edits.{edited}
 use Rattle.changed_trees.specs.Given.{given_board, makings_before}
@@ -33,7 +34,7 @@ use Rattle.changed_trees.specs.Open.{Asked, HasAt, IsOpen, OpenBoard}
 use Rattle.changed_trees.proofs.Below.{node_within}
 use Rattle.changed_trees.proofs.Edited.{IsShown, has_edited, shown_at}
 use Rattle.changed_trees.proofs.Kept.{wider_itself}
-use Rattle.changed_trees.proofs.One.{IsOngoing, by_number, one_change, one_changed, others, row_is, same_ended}
+use Rattle.changed_trees.proofs.One.{IsOngoing, one_change, one_changed, others, row_is, same_ended}
 use Rattle.changed_trees.proofs.Walks.{OfAll, children_edited, made_edited}
 
 module _ (job : Job) (s : State) (b : Board (regent_ground (spaces_of job.code))) (h : ShowsBoard job s b) (k : ℕ) (v : List ℕ) (at : IsAt job b.ways k v)
@@ -64,12 +65,12 @@ module _ (job : Job) (s : State) (b : Board (regent_ground (spaces_of job.code))
   -- ---- what one row is to others
 
   pub at_row : (P : Operation → Type 0) → P o → ((j : ℕ) → P (operation_at s j)) → (j : ℕ) → P (operation_at u j)
-  at_row P here all = by_number s tree roots live k o x (λ j. P (operation_at u j)) (subst P (sym (row_is s tree roots live k o x within there)) here)
+  at_row P here all = by_number k (λ j. P (operation_at u j)) (subst P (sym (row_is s tree roots live k o x within there)) here)
       (λ j n. subst P (sym (others s tree roots live k o x j n)) (all j))
 
   module _ (children : o.children ≡ (operation_at s k).children) where
     children_same : (j : ℕ) → (operation_at u j).children ≡ (operation_at s j).children
-    children_same = by_number s tree roots live k o x (λ j. (operation_at u j).children ≡ (operation_at s j).children)
+    children_same = by_number k (λ j. (operation_at u j).children ≡ (operation_at s j).children)
         (ap (λ (y : Operation). y.children) (row_is s tree roots live k o x within there) ∙ children) (λ j n. ap (λ (y : Operation). y.children) (others s tree roots live k o x j n))
 
     leads_kept : (way : List ℕ) (j z : ℕ) → Leads job s j way z → Leads job u j way z
@@ -123,7 +124,7 @@ module _ (job : Job) (s : State) (b : Board (regent_ground (spaces_of job.code))
           ways = h.ways ∙ sym (length-set s.operations k o);
           knots = length-set s.waits.knots k x ∙ h.knots ∙ sym (length-set s.operations k o);
           listed = h.listed ∙ (λ i. map number (filter (λ j. not (sym (same_ended s tree roots live k o x within there ongoing j) i)) (counted_from 1 (sym (length-set s.operations k o) i - 1))));
-          claims = λ j seat. by_number s tree roots live k o x (λ j. holds_claim G K j seat (without G K k b.claims) ≡ is_claimed job seat (operation_at u j).activity)
+          claims = λ j seat. by_number k (λ j. holds_claim G K j seat (without G K k b.claims) ≡ is_claimed job seat (operation_at u j).activity)
               (claim_gone job k b.claims seat ∙ sym (unclaimed seat) ∙ sym (ap (λ (y : Operation). is_claimed job seat y.activity) (row_is s tree roots live k o x within there)))
               (λ j n. claim_elsewhere job j k b.claims seat n ∙ h.claims j seat ∙ sym (ap (λ (y : Operation). is_claimed job seat y.activity) (others s tree roots live k o x j n))) j;
           turns = h.turns;
@@ -133,7 +134,7 @@ module _ (job : Job) (s : State) (b : Board (regent_ground (spaces_of job.code))
 
   module _ (own : o.frame.own ≡ (operation_at s k).frame.own) where
     pub own_same : (j : ℕ) → (operation_at u j).frame.own ≡ (operation_at s j).frame.own
-    own_same = by_number s tree roots live k o x (λ j. (operation_at u j).frame.own ≡ (operation_at s j).frame.own)
+    own_same = by_number k (λ j. (operation_at u j).frame.own ≡ (operation_at s j).frame.own)
         (ap (λ (y : Operation). y.frame.own) (row_is s tree roots live k o x within there) ∙ own) (λ j n. ap (λ (y : Operation). y.frame.own) (others s tree roots live k o x j n))
 
     pub own_made_same : (j : ℕ) → All (λ (r : RootId). r.0 < length s.roots) (operation_at u j).frame.own

@@ -74,16 +74,16 @@ module _ (job : Job) (s : State) (who : ℕ → ℕ) (roots : List RootId) (kn :
 -- ---- one that has what is asked
 
 module _ (job : Job) (s : State) (who : ℕ → ℕ) (ways : List (List ℕ)) (B : Asked job) where
-  pub record FoundAt : Type 0 where
-    pub way : List ℕ
-    pub number : ℕ
-    pub earlier : List Sibling
-    pub above : List RootId
-    pub node : Node (regent_ground (spaces_of job.code))
-    pub is : B way number earlier above node
+  record FoundAt : Type 0 where
+    way : List ℕ
+    number : ℕ
+    earlier : List Sibling
+    above : List RootId
+    node : Node (regent_ground (spaces_of job.code))
+    is : B way number earlier above node
 
   mutual
-    pub found_at : (way w : List ℕ) (k : ℕ) (earlier : List Sibling) (above : List RootId) (n : Node (regent_ground (spaces_of job.code))) → HasAt job s who ways B way w k earlier above n → FoundAt
+    found_at : (way w : List ℕ) (k : ℕ) (earlier : List Sibling) (above : List RootId) (n : Node (regent_ground (spaces_of job.code))) → HasAt job s who ways B way w k earlier above n → FoundAt
     found_at [] w k earlier above n h = record { way = w; number = k; earlier = earlier; above = above; node = n; is = h }
     found_at (c ∷ way) w k earlier above (op D N i f ps st is) h = found_among c way w k 0 [] (above ++ (operation_at s k).frame.own) (operation_at s k).children is h.1
 
@@ -125,3 +125,10 @@ module _ (job : Job) (s : State) (b : Board (regent_ground (spaces_of job.code))
       by_stage st y = only_out job s h.who (above ++ (operation_at s k).frame.own) (knot_at s.waits.knots k).stage (operation_at s k) N out_here st y.0.stands
           (λ z d e. subst (λ st. P v k earlier above (op D N i f ps st is)) (sym e)
           (own earlier above D N i f ps z d is x.2 (subst (λ st. Shows job s h.who b.ways v k earlier above (op D N i f ps st is)) e y)))
+
+  -- what is known of it by what it shows
+  pub known_out : {P : Type 0} →
+      ((earlier : List Sibling) (above : List RootId) (D N : List Requirement) (i : ℕ) (f : board.Frame) (ps : List (Element (regent_ground (spaces_of job.code)))) (w : BoardWait (regent_ground (spaces_of job.code)))
+      (d : List (Element (regent_ground (spaces_of job.code)))) (is : Items (regent_ground (spaces_of job.code))) → All (λ (r : RootId). r.0 < length s.roots) above →
+      Shows job s h.who b.ways v k earlier above (op D N i f ps (out w d) is) → P) → P
+  known_out {P} own = let f = found_at job s h.who b.ways Here v [] 0 [] [] b.state.tree here_at in by_out (λ w j earlier above n. P) own f.way f.number f.earlier f.above f.node f.is

@@ -8,7 +8,7 @@ use Rattle.region_tree.specs.declared.tree.RootId.{RootId}
 use Rattle.logical_map.specs.Maps.{is_live}
 use Rattle.dependence_graph.specs.Entries.{Knot}
 use Rattle.dependence_graph.specs.Graphs.{knot_on}
-use Rattle.dependence_graph.specs.Knots.{has_failed, is_done, knot_at, some_failed, stage_at}
+use Rattle.dependence_graph.specs.Knots.{has_failed, is_done, knot_at, some_failed}
 use Rattle.dependence_graph.specs.declared.stage.Stage.TheVariants as knot
 use Rattle.task_code.specs.declared.job.Job.{Job}
 use Rattle.machine_terms.specs.declared.frame.Before.{Before}
@@ -27,7 +27,6 @@ use Rattle.regent_boards.specs.RegentMachine.{regent_ground}
 use Rattle.code_boards.specs.Laws.{machine_of}
 use Rattle.code_boards.specs.Views.{spaces_of}
 use Rattle.board_terms.specs.declared.claim.Claim.{Claim}
-use Rattle.board_terms.specs.declared.operation.Activity.{Activity}
 use Rattle.board_terms.specs.declared.operation.Activity.TheVariants as activity
 use Rattle.board_terms.specs.declared.operation.Operation.{Operation}
 use Rattle.board_terms.specs.declared.operation.Wait.{Wait}
@@ -41,9 +40,10 @@ use Rattle.board_trees.specs.Shows.{HoldsMap, IfRuns, Shows, ShowsBoard, ShowsCh
 use Rattle.board_trees.specs.Stages.{AwaitsOn, HasWait, IsWait, MayIdle, Stands, WaitsWell}
 use Rattle.board_trees.specs.Waits.{Sibling}
 use Rattle.board_trees.proofs.Along.{not_above}
-use Rattle.board_trees.proofs.Settled.{activity_open, stage_there, wait_open}
+use Rattle.board_trees.proofs.Kept.{seen_as}
+use Rattle.board_trees.proofs.Settled.{activity_open, wait_open}
 use Rattle.given_trees.specs.Segments.{AreLeft}
-use Rattle.given_trees.proofs.Left.{left_held, left_places, left_seen}
+use Rattle.given_trees.proofs.Left.{left_held, left_seen}
 use Rattle.given_trees.proofs.Segments.{segments_show}
 use Rattle.changed_trees.specs.Changes.{Change, IsAt, IsWider}
 use Rattle.changed_trees.specs.Edits.{edited, told_at}
@@ -52,32 +52,11 @@ use Rattle.changed_trees.specs.Open.{Asked, IsOpen, OpenBoard, OpenRow}
 use Rattle.changed_trees.proofs.Below.{children_kept}
 use Rattle.changed_trees.proofs.Kept.{awaits_kept, back, has_wait_kept, seen_kept, shown_match, wider_itself, wider_on}
 use Rattle.changed_trees.proofs.One.{IsOngoing, knot_is, knot_within, one_changed, row_is, some_failed_same}
-use Rattle.changed_trees.proofs.Walks.{OfAll, told_is, up_alike}
+use Rattle.changed_trees.proofs.Walks.{OfAll, told_holds, up_alike}
 use Rattle.yielded_trees.proofs.Builder.{change, opens, own_apart_same, own_made_same, own_same}
-use Rattle.yielded_trees.proofs.Found.{Here, by_out, found_at, here_at}
+use Rattle.yielded_trees.proofs.Found.{Here, by_out, here_at}
+use Rattle.yielded_trees.proofs.Out.{Begun, has_begun, leaves_places, own_stays}
 use Rattle.yielded_trees.proofs.Trees.{many_children, paused_needs, paused_of, restop, settle_restop, shown_swept, text_count, text_made, text_said, text_shows, text_siblings, text_swept, text_waits, with_text}
-
--- ---- what is seen of one is seen of another with its frame and parts
-
-pub seen_as : (job : Job) (s : State) (who : ℕ → ℕ) (roots : List RootId) (o q : Operation) (N : List Requirement) (f : board.Frame) (ps : List (Element (regent_ground (spaces_of job.code)))) →
-    IsSeen job.code s.tree s.map s.roots who roots o N f ps → IsSeen job.code s.tree s.map s.roots who roots (record q { frame = o.frame; parts = o.parts }) N f ps
-seen_as job s who roots o q N f ps h = record {
-  frame = h.frame;
-  needs = h.needs;
-  required = h.required;
-  parts = h.parts;
-  held = h.held;
-  fitting = h.fitting;
-  once = h.once;
-  placed = h.placed;
-  there = h.there;
-  fields = h.fields;
-}
-
--- what was handed out of one that is out
-abbrev before_in : Before → Activity → Before
-before_in q (activity.Out c r) = r
-before_in q _ = q
 
 module _ (job : Job) (s : State) (b : Board (regent_ground (spaces_of job.code))) (h : ShowsBoard job s b) (k : ℕ) (v : List ℕ) (at : IsAt job b.ways k v)
     (claim : Claim) (before : Before) (act : (operation_at s k).activity ≡ activity.Out claim before) (g : Frame) (goes : (segment before).frame ≡ Some g)
@@ -122,30 +101,19 @@ module _ (job : Job) (s : State) (b : Board (regent_ground (spaces_of job.code))
       All (λ (r : RootId). r.0 < length s.roots) above → Shows job s h.who b.ways v k earlier above (op D N i f ps (out w d) is) → Pauses earlier above D N i f ps w d is) where
     -- ---- the row that is there
 
-    pub record Begun : Type 0 where
-      pub within : k < length s.operations
-      pub there : k < length s.waits.knots
-      pub stage : (knot_at s.waits.knots k).stage ≡ knot.Begun
-
-    pub begun : Begun
-    begun =
-        let f = found_at job s h.who b.ways (Here job s b h k v at claim before act) v [] 0 [] [] b.state.tree (here_at job s b h k v at claim before act) in
-        by_out job s b h k v at claim before act (λ w j earlier above n. Begun)
-        (λ earlier above D N i f ps w d is below x. record { within = x.0.within; there = x.0.knot; stage = x.0.stands.0 }) f.way f.number f.earlier f.above f.node f.is
+    abbrev begun : Begun s k
+    begun = has_begun job s b h k v at claim before act
 
     ongoing : IsOngoing s s.tree s.roots s.map k pausing knotted begun.within begun.there
     ongoing = record {
-      before = ap is_done was;
-      unfailed = ap has_failed was;
+      before = ap is_done begun.was;
+      unfailed = ap has_failed begun.was;
       runs = ap (λ x. is_over (stage_of x o.wait o.activity)) begun.stage ∙ activity_open o.activity;
       now = neither (some_failed s.waits.knots on);
       fails = nor (some_failed s.waits.knots on);
       open_now = not_over (some_failed s.waits.knots on);
     }
       where
-        was : stage_at s.waits.knots k ≡ Some knot.Begun
-        was = stage_there s.waits.knots k begun.there ∙ ap Some begun.stage
-
         neither : (b : Bool) → is_done (Some (cond b knot.Stopped knot.Parked)) ≡ false
         neither true = refl
         neither false = refl
@@ -164,15 +132,8 @@ module _ (job : Job) (s : State) (b : Board (regent_ground (spaces_of job.code))
     changes : Change job s u h.who h.who b.ways b.ways (λ w. v ≡ w)
     changes = change job s b h k v at s.tree s.roots s.map pausing knotted begun.within begun.there ongoing refl h.who (λ n l. (l, refl)) (λ r l. refl) (λ r l. l) (λ r f l. l)
 
-    own_stays : pausing.frame.own ≡ o.frame.own
-    own_stays = ap (λ x. (frame_left o.frame x).own) goes ∙ kept_own
-      where
-        kept_own : g.own ≡ o.frame.own
-        kept_own =
-            let f = found_at job s h.who b.ways (Here job s b h k v at claim before act) v [] 0 [] [] b.state.tree (here_at job s b h k v at claim before act) in
-            by_out job s b h k v at claim before act (λ w j earlier above n. g.own ≡ o.frame.own)
-            (λ earlier above D N i f ps w d is below x. ((segments_show job s b h v k earlier above D N i f ps d w is x below claim before act makings).kept g goes).1)
-            f.way f.number f.earlier f.above f.node f.is
+    own_kept : pausing.frame.own ≡ o.frame.own
+    own_kept = ap (λ x. (frame_left o.frame x).own) goes ∙ own_stays job s b h k v at claim before act g goes
 
     -- ---- the operation
 
@@ -207,11 +168,7 @@ module _ (job : Job) (s : State) (b : Board (regent_ground (spaces_of job.code))
       frame_is = ap (frame_left o.frame) goes
 
       places : LeavesPlaces s.tree z
-      places = subst (λ (q : Before). LeavesPlaces s.tree (segment q)) (same_before x.0.stands.1.activity_is)
-          (left_places job s o x.0.stands.1.fill x.0.seen.placed)
-        where
-          same_before : {q : Before} {c : Claim} → o.activity ≡ activity.Out c q → q ≡ before
-          same_before e = ap (before_in before) (sym e ∙ act)
+      places = leaves_places job s b h k v at claim before act earlier above D N i f ps w d is below x
 
       seen_now : IsSeen job.code s.tree s.map s.roots h.who roots pausing N a.frame a.parts
       seen_now = subst (λ (e : Frame). IsSeen job.code s.tree s.map s.roots h.who roots (record pausing { frame = e }) N a.frame a.parts) (sym frame_is)
@@ -233,7 +190,7 @@ module _ (job : Job) (s : State) (b : Board (regent_ground (spaces_of job.code))
         way_is = at;
         going = not_over q;
         own = subst (λ (r : Operation). (name : ℕ → ℕ) → IsNaming s.roots h.who wide name → a.frame.own ≡ map (λ (r : RootId). name r.0) r.frame.own) (sym row)
-            (λ name n. left_alike.own name (back_name name n) ∙ ap (map (λ (r : RootId). name r.0)) (sym own_stays));
+            (λ name n. left_alike.own name (back_name name n) ∙ ap (map (λ (r : RootId). name r.0)) (sym own_kept));
         seen = subst (λ (r : Operation). IfRuns job (stage_by q) (IsSeen job.code s.tree s.map s.roots h.who wide r N a.frame a.parts)) (sym row)
             (if_running q (seen_kept job s u h.who h.who b.ways b.ways (λ w. v ≡ w) changes roots wide wide_roots under pausing N a.frame a.parts seen_now));
         said_is = text_said job 0 is a.text
@@ -300,7 +257,7 @@ module _ (job : Job) (s : State) (b : Board (regent_ground (spaces_of job.code))
       open_here = subst (IsOpen job u h.who b.ways v k earlier more) (sym paused_is)
           (subst (λ (own : List RootId). OpenRow job u h.who b.ways v k earlier (more ++ own) D N a.frame a.parts (stage_by (some_failed s.waits.knots on)) js
           × ShowsChildren job u h.who b.ways v k 0 [] (more ++ own) (operation_at u k).children js)
-          (sym (own_same job s b h k v at s.tree s.roots s.map pausing knotted begun.within begun.there ongoing refl h.who (λ n l. (l, refl)) (λ r l. refl) (λ r l. l) (λ r f l. l) own_stays k))
+          (sym (own_same job s b h k v at s.tree s.roots s.map pausing knotted begun.within begun.there ongoing refl h.who (λ n l. (l, refl)) (λ r l. refl) (λ r l. l) (λ r f l. l) own_kept k))
           (row_by (some_failed s.waits.knots on) refl, children_now))
         where
           children_now : ShowsChildren job u h.who b.ways v k 0 [] wide (operation_at u k).children js
@@ -326,8 +283,8 @@ module _ (job : Job) (s : State) (b : Board (regent_ground (spaces_of job.code))
       leaves = subst (λ t. OpenBoard job t (given_board job b k v (edited G v (paused_of job makings) b.state.tree)) k v) (sym yields)
           (opens job s b h k v at s.tree s.roots s.map pausing knotted begun.within begun.there ongoing refl h.who (λ n l. (l, refl)) (λ r l. refl) (λ r l. l) (λ r f l. l)
           refl (paused_of job makings) (paused_needs job makings) 0 counts makes own (λ seat. refl) h.extents (subst (λ n. AreMade (length s.roots) h.who n) none_more h.made) h.regions held first
-          (own_made_same job s b h k v at s.tree s.roots s.map pausing knotted begun.within begun.there ongoing refl h.who (λ n l. (l, refl)) (λ r l. refl) (λ r l. l) (λ r f l. l) own_stays)
-          (own_apart_same job s b h k v at s.tree s.roots s.map pausing knotted begun.within begun.there ongoing refl h.who (λ n l. (l, refl)) (λ r l. refl) (λ r l. l) (λ r f l. l) own_stays));
+          (own_made_same job s b h k v at s.tree s.roots s.map pausing knotted begun.within begun.there ongoing refl h.who (λ n l. (l, refl)) (λ r l. refl) (λ r l. l) (λ r f l. l) own_kept)
+          (own_apart_same job s b h k v at s.tree s.roots s.map pausing knotted begun.within begun.there ongoing refl h.who (λ n l. (l, refl)) (λ r l. refl) (λ r l. l) (λ r f l. l) own_kept));
       same = up_alike job s h.who b.ways There (paused_of job makings) (left_of job makings) makings
           (by_out job s b h k v at claim before act (λ w j earlier above n. tree.settle G M (paused_of job makings n) ≡ tree.settle G M (left_of job makings n))
           (λ earlier above D N i f ps w d is below x. same_settled earlier above above D N i f ps w d is below (wider_itself u above) x)) v [] 0 [] [] b.state.tree
@@ -356,7 +313,7 @@ module _ (job : Job) (s : State) (b : Board (regent_ground (spaces_of job.code))
             (λ earlier above D N i f ps w d is below x more wider. (refl, open_here earlier above more D N i f ps w d is below wider x)) w j earlier above n y more wider
 
         no_effects : told_at G v (effects_of job makings) b.state.tree ≡ []
-        no_effects = told_is job s h.who b.ways There (effects_of job makings) []
+        no_effects = told_holds job s h.who b.ways There (effects_of job makings) (λ es. es ≡ [])
             (by_out job s b h k v at claim before act (λ w j earlier above n. effects_of job makings n ≡ [])
             (λ earlier above D N i f ps w d is below x. ap (λ (c : tree.Stepped G (Node G)). c.effects) (pauses earlier above D N i f ps w d is below x).given)) v [] 0 [] [] b.state.tree
             (here_at job s b h k v at claim before act)
@@ -366,4 +323,4 @@ module _ (job : Job) (s : State) (b : Board (regent_ground (spaces_of job.code))
 
         first : All (λ (r : RootId). is_live s.map r.0 ≡ true) (operation_at u 0).frame.own
         first = subst (λ rs. All (λ (r : RootId). is_live s.map r.0 ≡ true) rs)
-            (sym (own_same job s b h k v at s.tree s.roots s.map pausing knotted begun.within begun.there ongoing refl h.who (λ n l. (l, refl)) (λ r l. refl) (λ r l. l) (λ r f l. l) own_stays 0)) h.first
+            (sym (own_same job s b h k v at s.tree s.roots s.map pausing knotted begun.within begun.there ongoing refl h.who (λ n l. (l, refl)) (λ r l. refl) (λ r l. l) (λ r f l. l) own_kept 0)) h.first

@@ -18,7 +18,7 @@ use Rattle.board_terms.specs.Gives.{also_said}
 use Rattle.board_terms.specs.States.{State}
 use Rattle.board_trees.specs.Shows.{Shows, ShowsChildren, needs_issued, printed, said_in, siblings}
 use Rattle.board_trees.specs.Waits.{Sibling}
-use Rattle.board_trees.proofs.Settled.{settled}
+use Rattle.board_trees.proofs.Settled.{settled, stop_twice}
 use Rattle.changed_trees.specs.Given.{left_of}
 use Rattle.changed_trees.proofs.Kept.{Matches}
 
@@ -146,22 +146,10 @@ module _ (job : Job) where
         chosen true false p q = ap (λ js. child_op n js) q
         chosen false b p q = ap (λ js. child_op n js) q
 
-    stop_twice : (N : List Requirement) (st : BoardStage G) (is : Items G) → tree.stop G M N (tree.stop G M N st is) is ≡ tree.stop G M N st is
-    stop_twice N (idle w) is = chosen (tree.waits_for_failed G M N w is) refl
-      where
-        chosen : (b : Bool) → tree.waits_for_failed G M N w is ≡ b → tree.stop G M N (cond b (closing stopped) (idle w)) is ≡ cond b (closing stopped) (idle w)
-        chosen true e = refl
-        chosen false e = ap (λ b. cond b (closing stopped) (idle w)) e
-    stop_twice N (filling w d l) is = refl
-    stop_twice N (out w d) is = refl
-    stop_twice N (closing e) is = refl
-    stop_twice N (over e) is = refl
-    stop_twice N dropped is = refl
-
     pub settle_restop : (D N : List Requirement) (i : ℕ) (f : board.Frame) (ps : List (Element G)) (st : BoardStage G) (is : Items G) → tree.sweep G M [] is ≡ is →
         tree.settle G M (restop (op D N i f ps st is)) ≡ tree.settle G M (op D N i f ps st is)
     settle_restop D N i f ps st is e = ap (tree.settled G M D N i f ps (tree.stop G M N st is)) e
-        ∙ ap (λ x. op D N i f ps (tree.close G M x is) is) (stop_twice N st is)
+        ∙ ap (λ x. op D N i f ps (tree.close G M x is) is) (stop_twice G M N st is)
         ∙ ap (tree.settled G M D N i f ps st) (sym e)
 
     -- ---- who waits for one that failed

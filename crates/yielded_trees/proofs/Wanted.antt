@@ -2,7 +2,6 @@
 use Rattle.std.proofs.Common.{◌≡◌, ◌<◌, ◌++◌, ◌∷◌, ◌∙◌, ℕ, Bool, List, Some, [], ap, cond, filter, length, map, refl, set, sym, true, false}
 use Rattle.std.specs.Prelude.{All}
 use Rattle.std.proofs.lemmas.List.{get_or-set_same, set-set}
-use Rattle.std.proofs.lemmas.List.Elements.{All-append}
 use Rattle.region_finder.specs.Listings.{earlier}
 use Rattle.region_tree.specs.Needs.{requirement_of, requirements_of}
 use Rattle.region_tree.specs.Requirements.{Requirement, is_of}
@@ -19,7 +18,7 @@ use Rattle.machine_terms.specs.declared.frame.Before.{Before}
 use Rattle.machine_terms.specs.declared.frame.Frame.{Frame}
 use Rattle.machine_terms.specs.declared.outcome.Yield.{Yield}
 use Rattle.machine_terms.specs.declared.outcome.Yield.TheVariants as yield
-use Rattle.board_rules.specs.Boards.{Items, Operation as Node, Wait as BoardWait, first, op, out, part}
+use Rattle.board_rules.specs.Boards.{Items, Wait as BoardWait, first, op, out, part}
 use Rattle.board_rules.specs.Boards as tree
 use Rattle.board_rules.specs.Ground.{Ground}
 use Rattle.board_rules.specs.NumberedBoards.{Board}
@@ -31,7 +30,7 @@ use Rattle.segment_renaming.specs.Renaming.{yield_to}
 use Rattle.segment_renaming.proofs.Alike.{same_root}
 use Rattle.segment_regions.proofs.Wants.{wants_are_needed}
 use Rattle.code_boards.specs.Laws.{machine_of}
-use Rattle.code_boards.specs.Views.{spaces_of, yield_out}
+use Rattle.code_boards.specs.Views.{spaces_of}
 use Rattle.board_terms.specs.declared.claim.Claim.{Claim}
 use Rattle.board_terms.specs.declared.operation.Activity.TheVariants as activity
 use Rattle.board_terms.specs.declared.operation.Operation.{Operation}
@@ -41,7 +40,7 @@ use Rattle.board_terms.specs.States.{State, no_operation, operation_at, with_ope
 use Rattle.board_trees.specs.Names.{IsNaming, named, pointed, requirement_named}
 use Rattle.board_trees.specs.Shows.{Shows, ShowsBoard, siblings}
 use Rattle.board_trees.specs.Waits.{Sibling, WaitsFor}
-use Rattle.board_trees.proofs.Named.{is_naming, named_all}
+use Rattle.board_trees.proofs.Named.{named_all}
 use Rattle.board_trees.proofs.Settled.{children_bad}
 use Rattle.board_trees.proofs.Told.{waits_are_told}
 use Rattle.given_trees.specs.Segments.{AreLeft}
@@ -49,7 +48,8 @@ use Rattle.given_trees.proofs.Segments.{segments_show}
 use Rattle.changed_trees.specs.Changes.{IsAt}
 use Rattle.changed_trees.specs.Given.{Opens, makings_before, yielded_by}
 use Rattle.changed_trees.proofs.Listed.{waits_are_listed}
-use Rattle.yielded_trees.proofs.Paused.{Pauses, begun, pauses_open, u}
+use Rattle.yielded_trees.proofs.Out.{given_is, has_begun, names_below}
+use Rattle.yielded_trees.proofs.Paused.{Pauses, pauses_open, u}
 use Rattle.yielded_trees.specs.Laws.{WantsOpen}
 
 -- ---- needs of a field
@@ -119,7 +119,7 @@ module _ (job : Job) (s : State) (b : Board (regent_ground (spaces_of job.code))
     roots = above ++ (operation_at s k).frame.own
 
     naming : IsNaming s.roots h.who roots name
-    naming = is_naming s.roots h.who (makings_before job b k v) h.made 0 roots (All-append (λ (r : RootId). r.0 < length s.roots) above (operation_at s k).frame.own below (h.own_made k))
+    naming = names_below job s b h k v at claim before act above below
 
     abbrev met : board.Frame
     met = tree.met_by G M w f (tree.awaited G M w is)
@@ -146,8 +146,7 @@ module _ (job : Job) (s : State) (b : Board (regent_ground (spaces_of job.code))
 
     pauses : Pauses job s b h k v at claim before act g goes (wait.Part root field) waited on no_beginning refl before_it above D N i f ps w d is
     pauses = record {
-      given = ap (tree.given G M [] D N i is (M.segment met (ps ++ d)).text (M.segment met (ps ++ d)).frame (M.segment met (ps ++ d)).parts)
-          (left_alike.yields name naming ∙ ap (λ y. yield_out job.code job.turns met (yield_to (named name) y)) wants);
+      given = given_is job s b h k v at claim before act before_it above D N i f ps w d is below x (yield.Want root field) wants;
       waits = ((wants_are_needed before root field wants).needed g goes, (wants_are_needed before root field wants).none, (refl, λ other n. same_name other n));
       awaits = waits_for;
       fails = sym (children_bad job s h.who b.ways (makings_before job b k v) (filter (is_of K.root K.field) N) v k 0 [] roots (operation_at s k).children is x.1)
@@ -161,7 +160,7 @@ module _ (job : Job) (s : State) (b : Board (regent_ground (spaces_of job.code))
   yields =
       let o = behind_segment (operation_at s k) (segment before) in
       let row : operation_at (with_operation s k o) k ≡ o = get_or-set_same s.operations k o no_operation
-      (begun job s b h k v at claim before act g goes (wait.Part root field) waited on no_beginning refl pauses).within in
+      (has_begun job s b h k v at claim before act).within in
       ap (yielded job.code job.turns (with_operation s k o) k) wants
       ∙ (λ j. parked_for (with_operation s k o) k (wait.Part root field) (graph.Part (needs_on (row j).frame root.0 field)))
       ∙ (λ j. parked_for (with_operation s k o) k (wait.Part root field) (graph.Part (needs_on (frame_left (operation_at s k).frame (goes j)) root.0 field)))

@@ -1,6 +1,6 @@
 use Rattle.std.proofs.Common.{◌≡◌, drop}
 use Rattle.regent_tree.specs.Plain.{expressions_in, links_in}
-use Rattle.local_form.specs.LocalForm.{are_local_arguments, are_local_links}
+use Rattle.local_form.specs.Expressions.{are_local_arguments, are_local_links}
 use Rattle.local_form.proofs.expressions.+expression.Given as goal
 
 abbrev pub invariant-are_local_arguments-loop-arg : goal.invariant-are_local_arguments-loop-arg

@@ -1,5 +1,5 @@
 use Rattle.std.proofs.Common.{◌≡◌, drop}
-use Rattle.local_form.specs.LocalForm.{marked_fields}
+use Rattle.local_form.specs.Marks.{marked_fields}
 use Rattle.local_form.proofs.fields.mark_fields.Given as goal
 
 abbrev pub invariant-loop-field : goal.invariant-loop-field

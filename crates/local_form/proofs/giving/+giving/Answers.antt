@@ -1,7 +1,7 @@
 use Rattle.std.proofs.Common.{◌∙◌, ap}
 use Rattle.regent_tree.proofs.Rows.{links_of_vec, steps_of_vec}
 use Rattle.regent_tree.specs.Plain.{links_in}
-use Rattle.local_form.specs.LocalForm.{links_give}
+use Rattle.local_form.specs.Expressions.{links_give}
 use Rattle.local_form.proofs.giving.+giving.Goals as goal
 
 pub gives_scalar-returns-in-Chain : goal.gives_scalar-returns-in-Chain

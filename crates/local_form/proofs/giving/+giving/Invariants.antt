@@ -1,6 +1,6 @@
 use Rattle.std.proofs.Common.{◌≡◌, drop}
 use Rattle.regent_tree.specs.Plain.{links_in}
-use Rattle.local_form.specs.LocalForm.{links_give}
+use Rattle.local_form.specs.Expressions.{links_give}
 use Rattle.local_form.proofs.giving.+giving.Given as goal
 
 abbrev pub invariant-links_give-loop-link : goal.invariant-links_give-loop-link

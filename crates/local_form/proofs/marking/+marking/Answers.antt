@@ -1,7 +1,8 @@
 use Rattle.std.proofs.Common.{◌≡◌, OnOk, subst}
 use Rattle.regent_tree.proofs.Rows.{arms_of_vec, block_of_vec, otherwise_of_option}
 use Rattle.regent_tree.specs.PlainProgram.{block_in}
-use Rattle.local_form.specs.LocalForm.{Marked, marked_in}
+use Rattle.local_form.specs.Expressions.{Marked}
+use Rattle.local_form.specs.Marks.{marked_in}
 use Rattle.local_form.proofs.Laws.{arm_marks}
 use Rattle.local_form.proofs.marking.+marking.Goals as goal
 

@@ -1,6 +1,6 @@
 use Rattle.std.proofs.Common.{◌≡◌, drop}
 use Rattle.regent_tree.specs.PlainProgram.{arms_in, block_in}
-use Rattle.local_form.specs.LocalForm.{marked_by_arms, marked_in}
+use Rattle.local_form.specs.Marks.{marked_by_arms, marked_in}
 use Rattle.local_form.proofs.marking.+marking.Given as goal
 
 abbrev pub invariant-mark_arms-loop-arm : goal.invariant-mark_arms-loop-arm

@@ -1,5 +1,6 @@
 use Rattle.std.proofs.Common.{◌≡◌, drop}
-use Rattle.local_form.specs.LocalForm.{all_go_back, unmarked}
+use Rattle.local_form.specs.LocalForm.{all_go_back}
+use Rattle.local_form.specs.Marks.{unmarked}
 use Rattle.local_form.proofs.program.all_go_back.Given as goal
 
 abbrev pub invariant-loop-param : goal.invariant-loop-param

@@ -1,5 +1,5 @@
 use Rattle.std.proofs.Common.{◌≡◌, drop}
-use Rattle.local_form.specs.LocalForm.{marked_params}
+use Rattle.local_form.specs.Marks.{marked_params}
 use Rattle.local_form.proofs.program.mark_params.Given as goal
 
 abbrev pub invariant-loop-param : goal.invariant-loop-param

@@ -1,6 +1,6 @@
 use Rattle.std.proofs.Common.{◌≡◌, drop}
 use Rattle.std.specs.List.{list_all}
-use Rattle.local_form.specs.LocalForm.{goes_to_name}
+use Rattle.local_form.specs.Expressions.{goes_to_name}
 use Rattle.local_form.proofs.terms.goes_to_names.Given as goal
 
 abbrev pub invariant-loop-region : goal.invariant-loop-region
