@@ -8,3 +8,5 @@ pub mod MemorySource
 pub mod MemorySink
 pub mod FileSource
 pub mod StdSink
+pub mod Rest
+pub mod StdSource

@@ -1,11 +1,12 @@
 //! Each public call with ample memory, and each place where a call can fail.
 
 use crate::{
-    Failed, FileSource, MemorySink, MemorySource, Sink, Source, StdSink, SureSource, put_all,
+    Failed, FileSource, MemorySink, MemorySource, NoRest, Sink, Source, StdSink, StdSource,
+    SureSource, put_all, read_rest,
 };
 use std::alloc::{AllocError, Global};
 use std::fs;
-use std::io::{self, ErrorKind, Write};
+use std::io::{self, ErrorKind, Read, Write};
 use std::test::Fail;
 
 fn bytes_of(alloc: Global, text: &str) -> Result<Vec<u8>, AllocError> {
@@ -201,5 +202,84 @@ fn a_std_sink_fails_where_its_writer_does(rt: HostRuntime) -> Result<(), Fail> {
     assert!(rt; put_all(&mut StdSink::new(rt.stdout()), b"out\n").is_ok());
     assert!(rt; put_all(&mut StdSink::new(rt.stderr()), b"err\n").is_ok());
     assert!(rt; put_all(&mut StdSink::new(io::writer(&rt)), b"printed\n").is_ok());
+    Ok(())
+}
+
+/// What is left of a source of 5,000 bytes whose call of this number fails, where so many bytes are read of it: how
+/// many were had, and how many are left then; a failed call is written as `!`.
+fn rest_of(alloc: Global, fails: u32, most: usize) -> Result<String, Fail> {
+    let mut bytes = Vec::new(alloc);
+    for _ in 0..5000 {
+        bytes.push(b'a')?;
+    }
+    let mut source = MemorySource::new(bytes, Vec::from_slice(alloc, &[fails])?);
+    if source.begin(String::new(alloc)).is_err() {
+        return Ok(String::from_str(alloc, "no begin")?);
+    }
+    let had = match read_rest(alloc, &mut source, most) {
+        Ok(text) => format!(in alloc; "{}", text.len())?,
+        Err(NoRest::Failed) => String::from_str(alloc, "!")?,
+        Err(NoRest::Memory) => String::from_str(alloc, "no memory")?,
+    };
+    let left = match read_rest(alloc, &mut source, 10_000) {
+        Ok(text) => text.len(),
+        Err(_) => 0,
+    };
+    Ok(format!(in alloc; "{had} {left}")?)
+}
+
+#[test]
+fn the_rest_of_a_source_is_read_up_to_a_bound(rt: HostRuntime) -> Result<(), Fail> {
+    for (fails, most, wanted) in [
+        (0, 10_000, "5000 0"),
+        (0, 5000, "5000 0"),
+        (0, 4999, "4999 1"),
+        (0, 0, "0 5000"),
+        (2, 10_000, "! 5000"),
+        (3, 10_000, "! 904"),
+        (4, 10_000, "! 0"),
+        (4, 5000, "5000 0"),
+    ] {
+        let seen = rest_of(rt.alloc(), fails, most)?;
+        assert_eq!(rt; seen.as_str(), wanted, "call {fails}, {most} bytes");
+    }
+    Ok(())
+}
+
+/// A reader of `abc` by 2 bytes at most, which fails once when it has given so many.
+#[derive(Drop)]
+struct Halting {
+    given: usize,
+    halt: usize,
+    failed: bool,
+}
+
+impl Read for Halting {
+    fn read(&mut self, buf: &mut [u8]) -> io::Result<usize> {
+        if self.given == self.halt && !self.failed {
+            self.failed = true;
+            return Err(io::Error::from(ErrorKind::BrokenPipe));
+        }
+        let text = b"abc";
+        let at = self.given.min(3);
+        let n = buf.len().min(2).min(3 - at);
+        buf[..n].copy_from_slice(&text[at..at + n]);
+        self.given = at + n;
+        Ok(n)
+    }
+}
+
+#[test]
+fn a_std_source_fails_where_its_reader_does(rt: HostRuntime) -> Result<(), Fail> {
+    for (halt, wanted) in [(9, "abc"), (0, "!abc"), (2, "ab!c"), (3, "abc!")] {
+        let reader = Halting {
+            given: 0,
+            halt,
+            failed: false,
+        };
+        let mut source = StdSource::new(reader);
+        let seen = read_through(rt.alloc(), &mut source)?;
+        assert_eq!(rt; seen.as_str(), wanted, "{halt}");
+    }
     Ok(())
 }
