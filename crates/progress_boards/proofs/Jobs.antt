@@ -8,9 +8,9 @@ use Rattle.code_boards.specs.Laws.{machine_of, main_of}
 use Rattle.code_boards.specs.Views.{board_segment, spaces_of}
 use Rattle.code_boards.proofs.Ends.{main_names_no_root}
 use Rattle.code_boards.proofs.Views.{board_keeps, board_runs_renamed}
-use Rattle.progress_boards.specs.Laws.{JobsHeldApart, JobsInProgressApart, JobsSomeReady}
+use Rattle.progress_boards.specs.Laws.{JobsHeldApart, JobsInProgressApart, JobsIssuedNeeded, JobsSomeReady}
 use Rattle.progress_laws.specs.Progress.{NeedsAreRenamed}
-use Rattle.progress_laws.proofs.ByNumber.{held_by_number, in_progress_by_number, ready_by_number}
+use Rattle.progress_laws.proofs.ByNumber.{held_by_number, in_progress_by_number, issued_by_number, ready_by_number}
 use Rattle.regent_boards.specs.Frames.{Spaces}
 use Rattle.regent_boards.specs.Laws.{IsMain, by_maker, to_makers}
 use Rattle.regent_boards.specs.RegentMachine.{base, name_of, regent_ground, regent_roots}
@@ -55,6 +55,9 @@ module _ (job : Job) where
 
 pub jobs_in_progress_apart : JobsInProgressApart
 jobs_in_progress_apart job t = in_progress_by_number base (R job) (R job) (machine_of job) (K job) (to job) (IsStart job) (laws job) (can job) (needs_are_renamed job) (main_of job t) (is_start job t)
+
+pub jobs_issued_needed : JobsIssuedNeeded
+jobs_issued_needed job t = issued_by_number base (R job) (R job) (machine_of job) (K job) (to job) (IsStart job) (laws job) (can job) (needs_are_renamed job) (main_of job t) (is_start job t)
 
 pub jobs_held_apart : JobsHeldApart
 jobs_held_apart job t = held_by_number base (R job) (R job) (machine_of job) (K job) (to job) (IsStart job) (laws job) (can job) (needs_are_renamed job) (main_of job t) (is_start job t)

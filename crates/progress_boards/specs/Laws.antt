@@ -3,7 +3,7 @@ use Rattle.std.specs.Prelude.{◌≡◌, List, Some}
 use Rattle.board_rules.specs.NumberedBoards.{Board, Step, board_of}
 use Rattle.code_boards.specs.Laws.{machine_of, main_of}
 use Rattle.code_boards.specs.Views.{spaces_of}
-use Rattle.progress_laws.specs.Progress.{HeldIsApart, ProgressIsApart, SomeIsReady}
+use Rattle.progress_laws.specs.Progress.{HeldIsApart, IssuedIsNeeded, ProgressIsApart, SomeIsReady}
 use Rattle.regent_boards.specs.RegentMachine.{regent_ground}
 use Rattle.task_code.specs.declared.code.TaskCode.{TaskCode}
 use Rattle.task_code.specs.declared.job.Job.{Job}
@@ -15,6 +15,10 @@ OfEachJob P = (job : Job) (t : TaskCode) (steps : List Step) (b : Board (regent_
 -- operations in progress that are no ancestors of each other never interfere
 abbrev pub JobsInProgressApart : Type 0
 JobsInProgressApart = OfEachJob (λ job b. ProgressIsApart (regent_ground (spaces_of job.code)) b)
+
+-- what an operation was issued with it still needs
+abbrev pub JobsIssuedNeeded : Type 0
+JobsIssuedNeeded = OfEachJob (λ job b. IssuedIsNeeded (regent_ground (spaces_of job.code)) b)
 
 -- what an operation holds conflicts with no need of its unfinished children
 abbrev pub JobsHeldApart : Type 0

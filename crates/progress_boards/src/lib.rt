@@ -4,11 +4,16 @@
 //! not, and whatever steps the seats make.
 #![tactic(auto)]
 
-ghost use Rattle.progress_boards.specs.Laws.{JobsHeldApart, JobsInProgressApart, JobsSomeReady};
+ghost use Rattle.progress_boards.specs.Laws.{JobsHeldApart, JobsInProgressApart, JobsIssuedNeeded, JobsSomeReady};
 
 /// Operations in progress, neither the other's ancestor, don't interfere.
 pub fn jobs_in_progress_apart()
     ensures { JobsInProgressApart }
+{}
+
+/// What an operation was issued with it still needs.
+pub fn jobs_issued_needed()
+    ensures { JobsIssuedNeeded }
 {}
 
 /// What an operation holds, and what it is being filled with, conflicts with no need of its unfinished children.

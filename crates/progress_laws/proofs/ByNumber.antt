@@ -1,12 +1,12 @@
 -- What holds of boards in progress by names holds of them by numbers.
 use Rattle.std.proofs.Common.{◌≡◌, ◌∷◌, ◌∙◌, List, None, Option, Some, [], ap, arith, is_some, option_map, refl, suc, subst, sym, true, zero, ℕ}
 use Rattle.board_rules.specs.Apart.{claimed_by, needs_now, parts_of}
-use Rattle.board_rules.specs.Boards.{Items, Operation, Stepped, child_op, claim, no_item, op, said, stage_of, step_in}
+use Rattle.board_rules.specs.Boards.{Items, Operation, Stepped, child_op, claim, needs_of, no_item, op, said, stage_of, step_in}
 use Rattle.board_rules.specs.ByNumber.{Differ, Renamable, board_maker, board_making}
 use Rattle.board_rules.specs.Ground.{Ground, Mode}
 use Rattle.board_rules.specs.Journals.{Entry, Job, State, opened, replay, stepped}
 use Rattle.board_rules.specs.NumberedBoards.{Board, Step, after_step, board_of, by_way, entries, moved, start}
-use Rattle.board_rules.specs.Processes.{Apart, Map}
+use Rattle.board_rules.specs.Processes.{Apart, Inside, Map}
 use Rattle.board_rules.specs.Renaming.{Base, Renamed, Renames, Roots, effects_to, ground_over, node_to}
 use Rattle.board_rules.specs.RootNames.{Name, names}
 use Rattle.board_rules.specs.RootNumbers.{made_in, replay_numbered, turned_onto}
@@ -18,8 +18,9 @@ use Rattle.number_laws.proofs.ByNumber.{steps_reach}
 use Rattle.number_laws.proofs.Counts.{IfLeft}
 use Rattle.number_laws.proofs.Naming.{board_renaming, names_differ, reached_by_name, turned_back}
 use Rattle.number_laws.proofs.Renamed.{NamedAmong, NamedIn, step_alike}
-use Rattle.progress_laws.specs.Progress.{HeldApartByNumber, HeldIsApart, InProgressApartByNumber, NeedsAreRenamed, ProgressIsApart, SomeIsReady, SomeReadyByNumber}
-use Rattle.progress_laws.proofs.Found.{claimed_spots_to, claims_to, found_to, held_back, needs_to, over_to, parts_to, progress_to}
+use Rattle.progress_laws.specs.Progress.{HeldApartByNumber, HeldIsApart, InProgressApartByNumber, IssuedByNumber, IssuedIsNeeded, NeedsAreRenamed, ProgressIsApart, SomeIsReady, SomeReadyByNumber}
+use Rattle.progress_laws.proofs.Found.{claimed_spots_to, claims_to, found_to, held_back, issued_to, needs_to, over_to, parts_to, progress_to}
+use Rattle.progress_laws.proofs.Issued.{still_needs}
 use Rattle.progress_laws.proofs.Numbers.{HasNumber, Listed, board_listed, unclaimed}
 use Rattle.progress_laws.proofs.Steps.{Leaves, step_leaves}
 
@@ -83,6 +84,13 @@ module _ (B : Base) (X Y : Roots B) (M : ℕ → Machine (ground_over B X)) (K :
           (in_progress_apart H K laws named journal state reached.2 v w (node_to B X Y R a) (node_to B X Y R c) (found_to B X Y R v b.state.tree a fa) (found_to B X Y R w b.state.tree c fc) vw wv
           (progress_to B X Y R a ∙ pa) (progress_to B X Y R c ∙ pc) (R.loc l)))
 
+      issued : IssuedIsNeeded G b
+      issued way a e l =
+          let stays = renamed maker making differ in
+          subst (λ (o : Option (Mode B.Op)). Inside G o (X.at (needs_now G a) l)) (issued_to B X Y R stays a l)
+          (subst (λ (o : Option (Mode B.Op)). Inside G (Y.at (needs_of H (node_to B X Y R a)) (R.loc l)) o) (needs_to B X Y R stays a l)
+          (still_needs H K laws named journal state reached.2 way (node_to B X Y R a) (found_to B X Y R way b.state.tree a e) (R.loc l)))
+
       held : HeldIsApart G b
       held way a e =
           let stays = renamed maker making differ in
@@ -142,6 +150,9 @@ module _ (B : Base) (X Y : Roots B) (M : ℕ → Machine (ground_over B X)) (K :
 
   pub in_progress_by_number : NeedsAreRenamed B X Y rename → InProgressApartByNumber G M IsJob
   in_progress_by_number renamed job is steps b made = apart job is steps b made renamed
+
+  pub issued_by_number : NeedsAreRenamed B X Y rename → IssuedByNumber G M IsJob
+  issued_by_number renamed job is steps b made = issued job is steps b made renamed
 
   pub held_by_number : NeedsAreRenamed B X Y rename → HeldApartByNumber G M IsJob
   held_by_number renamed job is steps b made = held job is steps b made renamed

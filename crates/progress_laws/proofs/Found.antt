@@ -3,7 +3,7 @@ use Rattle.std.proofs.Common.{◌≡◌, ◌++◌, ◌∷◌, ◌∙◌, ◌||�
 use Rattle.std.specs.Prelude.{All}
 use Rattle.std.proofs.lemmas.List.Elements.{All-cons, All-head, All-nil, All-tail}
 use Rattle.board_rules.specs.Apart.{ApartWhileOpen, children_in, children_of, claimed_by, find, find_among, in_progress, needs_now, parts_of}
-use Rattle.board_rules.specs.Boards.{Items, Operation, Stage, child, child_op, closing, dropped, filling, first, idle, is_over, no_item, nothing, op, out, over, part, said, stage_of}
+use Rattle.board_rules.specs.Boards.{Items, Operation, Stage, child, child_op, closing, dropped, filling, first, idle, is_over, needs_of, no_item, nothing, op, out, over, part, said, stage_of}
 use Rattle.board_rules.specs.Ground.{Ground, Mode}
 use Rattle.board_rules.specs.Processes.{Apart}
 use Rattle.board_rules.specs.Ready.{claims_among, claims_in, is_claimed}
@@ -75,6 +75,9 @@ module _ (B : Base) (X Y : Roots B) (R : Renames B X Y) where
 
   pub needs_to : Stays → (a : Operation G) (l : X.Location) → Y.at (needs_now H (node_to B X Y R a)) (R.loc l) ≡ X.at (needs_now G a) l
   needs_to stays (op D N i f ps st is) l = stays N l
+
+  pub issued_to : Stays → (a : Operation G) (l : X.Location) → Y.at (needs_of H (node_to B X Y R a)) (R.loc l) ≡ X.at (needs_of G a) l
+  issued_to stays (op D N i f ps st is) l = stays D l
 
   -- ---- what is held
 

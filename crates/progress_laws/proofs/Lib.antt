@@ -1,5 +1,6 @@
 pub mod ByNumber
 mod Found
+mod Issued
 mod Settled
 mod Steps
 mod Numbers

@@ -1,17 +1,17 @@
 -- What is so of every board with operations, seats and roots by numbers, whatever steps lead to it: operations
--- in progress that are no ancestors of each other never interfere, what an operation holds conflicts with no
--- need of its unfinished children, and where there is no claim and the first task isn't over, some operation
--- can be claimed.
+-- in progress that are no ancestors of each other never interfere, what an operation was issued with it still
+-- needs, what it holds conflicts with no need of its unfinished children, and where there is no claim and the
+-- first task isn't over, some operation can be claimed.
 --
 -- Needs are read at locations of the numbered roots.
 use Rattle.std.specs.Prelude.{◌≡◌, All, List, Some, [], false, is_some, true, ℕ}
 use Rattle.board_rules.specs.Apart.{ApartWhileOpen, begins, children_of, claimed_by, find, in_progress, needs_now, parts_of}
-use Rattle.board_rules.specs.Boards.{Operation, claim, is_over, stage_of}
+use Rattle.board_rules.specs.Boards.{Operation, claim, is_over, needs_of, stage_of}
 use Rattle.board_rules.specs.ByNumber.{Differ}
 use Rattle.board_rules.specs.Ground.{Ground}
 use Rattle.board_rules.specs.Journals.{Job}
 use Rattle.board_rules.specs.NumberedBoards.{Board, Step, after_step, board_of}
-use Rattle.board_rules.specs.Processes.{Apart}
+use Rattle.board_rules.specs.Processes.{Apart, Inside}
 use Rattle.board_rules.specs.Renaming.{Base, Renames, Roots}
 use Rattle.board_rules.specs.Running.{Machine, spots}
 
@@ -29,6 +29,10 @@ module _ (G : Ground) where
   abbrev pub ProgressIsApart : Board G → Type 0
   ProgressIsApart b = (v w : List ℕ) (a c : Operation G) → find G v b.state.tree ≡ Some a → find G w b.state.tree ≡ Some c → begins G v w ≡ false → begins G w v ≡ false →
       in_progress G a ≡ true → in_progress G c ≡ true → (l : G.Location) → Apart G (G.at (needs_now G a) l) (G.at (needs_now G c) l)
+
+  -- What an operation was issued with is at each location what it needs now, or within it.
+  abbrev pub IssuedIsNeeded : Board G → Type 0
+  IssuedIsNeeded b = (way : List ℕ) (a : Operation G) → find G way b.state.tree ≡ Some a → (l : G.Location) → Inside G (G.at (needs_of G a) l) (G.at (needs_now G a) l)
 
   -- What an operation holds, and what it is being filled with, is apart from what its unfinished children need.
   abbrev pub HeldIsApart : Board G → Type 0
@@ -49,6 +53,9 @@ module _ (G : Ground) (M : ℕ → Machine G) (IsJob : Job G → Type 0) where
 
   abbrev pub InProgressApartByNumber : Type 0
   InProgressApartByNumber = OfEachBoard (ProgressIsApart G)
+
+  abbrev pub IssuedByNumber : Type 0
+  IssuedByNumber = OfEachBoard (IssuedIsNeeded G)
 
   abbrev pub HeldApartByNumber : Type 0
   HeldApartByNumber = OfEachBoard (HeldIsApart G)

@@ -5,13 +5,18 @@
 #![tactic(auto)]
 
 ghost use Rattle.board_rules.specs.Renaming.{ground_over};
-ghost use Rattle.progress_laws.specs.Progress.{HeldApartByNumber, InProgressApartByNumber, NeedsAreRenamed, SomeReadyByNumber};
+ghost use Rattle.progress_laws.specs.Progress.{HeldApartByNumber, InProgressApartByNumber, IssuedByNumber, NeedsAreRenamed, SomeReadyByNumber};
 
 use board_rules::NumberedMachine;
 
 /// Operations in progress, neither the other's ancestor, don't interfere.
 pub fn in_progress_apart<T: NumberedMachine>()
     ensures { NeedsAreRenamed T.base T.numbered T.named T.rename → InProgressApartByNumber (ground_over T.base T.numbered) T.machines T.is_job }
+{}
+
+/// What an operation was issued with it still needs.
+pub fn issued_needed<T: NumberedMachine>()
+    ensures { NeedsAreRenamed T.base T.numbered T.named T.rename → IssuedByNumber (ground_over T.base T.numbered) T.machines T.is_job }
 {}
 
 /// What an operation holds, and what it is being filled with, conflicts with no need of its unfinished children.

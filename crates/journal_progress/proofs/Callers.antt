@@ -1,0 +1,107 @@
+-- Up from an operation by its callers, and down its way in the tree.
+use Rattle.std.proofs.Common.{◌≡◌, ◌<◌, ◌⊎◌, ◌++◌, ◌∷◌, ◌∙◌, ℕ, zero, suc, List, Option, Some, [], ap, eqb-true, inr, length, refl, subst, sym, true}
+use Rattle.std.specs.Prelude.{All, nat_eq, slice_get}
+use Rattle.std.proofs.lemmas.Bool.{and_parts}
+use Rattle.std.proofs.lemmas.List.Elements.{All-append}
+use Rattle.std.proofs.lemmas.Option.{none-some}
+use Rattle.region_tree.specs.declared.tree.OpNumber.{OpNumber}
+use Rattle.region_tree.specs.declared.tree.RootId.{RootId}
+use Rattle.dependence_graph.specs.Knots.{number}
+use Rattle.task_code.specs.declared.job.Job.{Job}
+use Rattle.board_rules.specs.Apart.{begins, find, find_among}
+use Rattle.board_rules.specs.Boards.{Items, Operation as Node, child_op, no_item, op, said}
+use Rattle.board_rules.specs.Ground.{Ground}
+use Rattle.regent_boards.specs.RegentMachine.{regent_ground}
+use Rattle.code_boards.specs.Views.{spaces_of}
+use Rattle.board_terms.specs.States.{State, operation_at}
+use Rattle.board_trees.specs.Shows.{IsChild, Leads, Shows, ShowsChildren, needs_issued}
+use Rattle.board_trees.specs.Waits.{Sibling}
+use Rattle.board_trees.proofs.Along.{some_same}
+use Rattle.journal_progress.specs.Laws.{IsAbove, caller_up}
+
+module _ (job : Job) (s : State) (who : ℕ → ℕ) (ways : List (List ℕ)) where
+  abbrev G : Ground
+  G = regent_ground (spaces_of job.code)
+
+  -- ---- callers
+
+  mutual
+    pub climbs : (way w : List ℕ) (j k : ℕ) (earlier : List Sibling) (above : List RootId) (n : Node G) → Shows job s who ways w j earlier above n → Leads job s j way k → caller_up s (length way) k ≡ j
+    climbs [] w j k earlier above n h l = sym l
+    climbs (c ∷ way) w j k earlier above (op D N i f ps st is) h l =
+        climbs_among c way w j k 0 [] (above ++ (operation_at s j).frame.own) (operation_at s j).children is l.0 h.1 l.1 l.2
+
+    climbs_among : (c : ℕ) (way w : List ℕ) (j k d : ℕ) (earlier : List Sibling) (roots : List RootId) (ks : List OpNumber) (is : Items G) (x : ℕ) → ShowsChildren job s who ways w j d earlier roots ks is →
+        slice_get ks c ≡ Some (number x) → Leads job s x way k → caller_up s (suc (length way)) k ≡ j
+    climbs_among c way w j k d earlier roots ks no_item x h e l = absurd (none-some (number x) (ap (λ ks. slice_get ks c) (sym h) ∙ e))
+    climbs_among c way w j k d earlier roots ks (said t is) x h e l = climbs_among c way w j k d earlier roots ks is x h e l
+    climbs_among c way w j k d earlier roots [] (child_op n is) x h e l = absurd h
+    climbs_among zero way w j k d earlier roots (y ∷ ys) (child_op n is) x h e l =
+        ap (λ z. (operation_at s z).parent.0)
+        (climbs way (w ++ d ∷ []) y.0 k earlier roots n h.1 (subst (λ (z : OpNumber). Leads job s z.0 way k) (sym (some_same y (number x) e)) l))
+        ∙ ap (λ (p : OpNumber). p.0) h.0.parent
+    climbs_among (suc c) way w j k d earlier roots (y ∷ ys) (child_op n is) x h e l =
+        climbs_among c way w j k (suc d) (earlier ++ record { op = y.0; needs = needs_issued job n } ∷ []) roots ys is x h.2 e l
+
+  -- where a way begins another, the operation there is above the other
+  mutual
+    pub begins_above : (v w z : List ℕ) (j a b : ℕ) (earlier : List Sibling) (above : List RootId) (n : Node G) → Shows job s who ways z j earlier above n → Leads job s j v a → Leads job s j w b →
+        begins G v w ≡ true → IsAbove s a b
+    begins_above [] w z j a b earlier above n h la lb e = (length w, climbs w z j b earlier above n h lb ∙ la)
+    begins_above (c ∷ v) [] z j a b earlier above n h la lb e = absurd cc
+    begins_above (c ∷ v) (d ∷ w) z j a b earlier above (op D N i f ps st is) h la lb e =
+        let parts = and_parts (nat_eq c d) (begins G v w) e in
+        begins_among c v w z j a b 0 [] (above ++ (operation_at s j).frame.own) (operation_at s j).children is la.0 lb.0 h.1 la.1 la.2
+        (ap (slice_get (operation_at s j).children) (eqb-true c d parts.0) ∙ lb.1) lb.2 parts.1
+
+    begins_among : (c : ℕ) (v w z : List ℕ) (j a b d : ℕ) (earlier : List Sibling) (roots : List RootId) (ks : List OpNumber) (is : Items G) (x y : ℕ) → ShowsChildren job s who ways z j d earlier roots ks is →
+        slice_get ks c ≡ Some (number x) → Leads job s x v a → slice_get ks c ≡ Some (number y) → Leads job s y w b → begins G v w ≡ true → IsAbove s a b
+    begins_among c v w z j a b d earlier roots ks no_item x y h p la q lb e = absurd (none-some (number x) (ap (λ ks. slice_get ks c) (sym h) ∙ p))
+    begins_among c v w z j a b d earlier roots ks (said t is) x y h p la q lb e = begins_among c v w z j a b d earlier roots ks is x y h p la q lb e
+    begins_among c v w z j a b d earlier roots [] (child_op n is) x y h p la q lb e = absurd h
+    begins_among zero v w z j a b d earlier roots (k ∷ ks) (child_op n is) x y h p la q lb e =
+        begins_above v w (z ++ d ∷ []) k.0 a b earlier roots n h.1
+        (subst (λ (o : OpNumber). Leads job s o.0 v a) (sym (some_same k (number x) p)) la)
+        (subst (λ (o : OpNumber). Leads job s o.0 w b) (sym (some_same k (number y) q)) lb) e
+    begins_among (suc c) v w z j a b d earlier roots (k ∷ ks) (child_op n is) x y h p la q lb e =
+        begins_among c v w z j a b (suc d) (earlier ++ record { op = k.0; needs = needs_issued job n } ∷ []) roots ks is x y h.2 p la q lb e
+
+  -- ---- the operation itself
+
+  abbrev pub WereMade : List RootId → Type 0
+  WereMade roots = All (λ (r : RootId). r.0 < length s.roots) roots
+
+  -- it is main, or another's child
+  abbrev pub IsCalled : ℕ → List RootId → Node G → Type 0
+  IsCalled k above n = (k ≡ 0) ⊎ ((j : ℕ) × IsChild job s who ways j k above (needs_issued job n))
+
+  -- a way leads to it
+  pub record Reached (k : ℕ) (o : Option (Node G)) : Type 0 where
+    pub at : List ℕ
+    pub earlier : List Sibling
+    pub above : List RootId
+    pub node : Node G
+    pub found : o ≡ Some node
+    pub shows : Shows job s who ways at k earlier above node
+    pub made : WereMade above
+    pub called : IsCalled k above node
+
+  module _ (own_made : (j : ℕ) → WereMade (operation_at s j).frame.own) where
+    mutual
+      pub reached : (way w : List ℕ) (j k : ℕ) (earlier : List Sibling) (above : List RootId) (n : Node G) → Shows job s who ways w j earlier above n → WereMade above → IsCalled j above n →
+          Leads job s j way k → Reached k (find G way n)
+      reached [] w j k earlier above (op D N i f ps st is) h m r l = subst (λ x. Reached x (Some (op D N i f ps st is))) l
+          (record { at = w; earlier = earlier; above = above; node = op D N i f ps st is; found = refl; shows = h; made = m; called = r })
+      reached (c ∷ way) w j k earlier above (op D N i f ps st is) h m r l =
+          reached_among c way w j k 0 [] (above ++ (operation_at s j).frame.own) (operation_at s j).children is l.0 h.1
+          (All-append (λ (r : RootId). r.0 < length s.roots) above (operation_at s j).frame.own m (own_made j)) l.1 l.2
+
+      reached_among : (c : ℕ) (way w : List ℕ) (j k d : ℕ) (earlier : List Sibling) (roots : List RootId) (ks : List OpNumber) (is : Items G) (x : ℕ) → ShowsChildren job s who ways w j d earlier roots ks is →
+          WereMade roots → slice_get ks c ≡ Some (number x) → Leads job s x way k → Reached k (find_among G c way is)
+      reached_among c way w j k d earlier roots ks no_item x h m e l = absurd (none-some (number x) (ap (λ ks. slice_get ks c) (sym h) ∙ e))
+      reached_among c way w j k d earlier roots ks (said t is) x h m e l = reached_among c way w j k d earlier roots ks is x h m e l
+      reached_among c way w j k d earlier roots [] (child_op n is) x h m e l = absurd h
+      reached_among zero way w j k d earlier roots (y ∷ ys) (child_op n is) x h m e l =
+          reached way (w ++ d ∷ []) y.0 k earlier roots n h.1 m (inr (j, h.0)) (subst (λ (z : OpNumber). Leads job s z.0 way k) (sym (some_same y (number x) e)) l)
+      reached_among (suc c) way w j k d earlier roots (y ∷ ys) (child_op n is) x h m e l =
+          reached_among c way w j k (suc d) (earlier ++ record { op = y.0; needs = needs_issued job n } ∷ []) roots ys is x h.2 m e l

@@ -1,0 +1,5 @@
+mod Needs
+mod Listings
+mod Callers
+mod Progress
+mod Journals
