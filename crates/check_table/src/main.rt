@@ -2,19 +2,25 @@
 //!
 //! The table comes on the standard input. A line `== NAME` begins a text of that name, which is given to
 //! `check t.rg`; where `: WORDS` follow, it is given to a call with these words. The lines up to the
-//! next such line are the text's. What stands before the first says what the table is.
+//! next such line are the text's. What stands before the first says what the table is. A run whose words name no workers is
+//! made by 0, 1, 2 and 64 of them, too, and must tell the same.
 #![tactic(auto)]
 
 mod named_text;
 
 use named_text::NamedText;
 use std::io;
+use std::sync::Wait;
+use std::thread::Threads;
 
 /// Prints a line for a text: its name, and what its call tells.
-fn print_told(rt: &HostRuntime, text: &Option<NamedText>) -> io::Result<()> {
+fn print_told<R: Print + AllocGlobal + Threads + Wait + Sync>(
+    rt: &R,
+    text: &Option<NamedText>,
+) -> io::Result<()> {
     match text {
         Some(text) => {
-            let told = text.told(rt.alloc())?;
+            let told = text.told(rt, rt.alloc())?;
             println!(rt; "{}: {}", text.name(), told.as_str().trim_end())
         }
         None => Ok(()),

@@ -5,6 +5,9 @@ ghost use Rattle.std.specs.Prelude.{◌≡◌, ◌++◌, [], ◌∷◌, IfOk, On
 use regent_run::regent_run;
 use run_io::{MemorySink, MemorySource};
 use std::alloc::{AllocError, Global};
+use std::sync::Wait;
+use std::thread::Threads;
+use worker_gate::OpenGate;
 
 /// The most bytes that a call writes to each sink.
 const ROOM: usize = 200;
@@ -68,13 +71,57 @@ impl NamedText {
         self.text.push('\n')
     }
 
-    /// What the call with the text writes: its status, its output, and then its error output.
-    pub fn told(&self, alloc: Global) -> Result<String, AllocError> {
+    /// What the call with the text writes: its status, its output, and then its error output. Where it is run by as many
+    /// workers as there are by default, and other numbers of them tell something else, that is told instead.
+    pub fn told<R: Threads + Wait + Sync>(
+        &self,
+        rt: &R,
+        alloc: Global,
+    ) -> Result<String, AllocError> {
+        let told = self.told_by(rt, alloc, &self.words)?;
+        if self.is_run_by_default() {
+            for workers in ["0", "1", "2", "64"] {
+                let words = self.words_with(alloc, workers)?;
+                if self.told_by(rt, alloc, &words)?.as_str() != told.as_str() {
+                    return format!(in alloc; "{workers} workers tell something else");
+                }
+            }
+        }
+        Ok(told)
+    }
+
+    /// What the call with these words writes.
+    fn told_by<R: Threads + Wait + Sync>(
+        &self,
+        rt: &R,
+        alloc: Global,
+        words: &Vec<String>,
+    ) -> Result<String, AllocError> {
         let bytes = Vec::from_slice(alloc, self.text.as_bytes())?;
         let mut source = MemorySource::new(bytes, Vec::new(alloc));
         let mut out = sink(alloc)?;
         let mut err = sink(alloc)?;
-        let status = regent_run(alloc, &self.words, &mut source, &mut out, &mut err);
+        let status = regent_run(rt, alloc, words, &mut source, &mut out, &mut err, &OpenGate);
         told(alloc, status, out.bytes(), err.bytes())
+    }
+
+    /// Whether the words run a program, and name neither workers nor a trace, which differs by workers.
+    fn is_run_by_default(&self) -> bool {
+        let mut words = self.words.iter().map(|word| word.as_str());
+        words.nth(1) == Some("run")
+            && !words.any(|word| word.starts_with("--workers") || word == "--trace")
+    }
+
+    /// The words, with so many workers named behind the command.
+    fn words_with(&self, alloc: Global, workers: &str) -> Result<Vec<String>, AllocError> {
+        let mut words = Vec::new(alloc);
+        for (place, word) in self.words.iter().enumerate() {
+            if place == 2 {
+                words.push(String::from_str(alloc, "--workers")?)?;
+                words.push(String::from_str(alloc, workers)?)?;
+            }
+            words.push(word.clone()?)?;
+        }
+        Ok(words)
     }
 }

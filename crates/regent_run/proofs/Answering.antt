@@ -1,5 +1,5 @@
 -- What a call answers, from what it comes to and what it wrote.
-use Rattle.std.proofs.Common.{◌≡◌, ◌≢◌, ℕ, ◌≤◌, ◌⊎◌, inl, inr, List, [], Option, Some, None, IfSome, length, refl, sym, subst, ◌∙◌}
+use Rattle.std.proofs.Common.{◌≡◌, ◌≢◌, ℕ, ◌≤◌, ◌⊎◌, inl, inr, List, [], Option, Some, None, Err, IfSome, length, refl, sym, subst, ◌∙◌}
 use Rattle.std.specs.Option.{option_map}
 use Rattle.run_io.specs.Source.{next_left}
 use Rattle.regent_run.specs.declared.verdict.Verdict.{Verdict}
@@ -9,7 +9,7 @@ use Rattle.regent_run.specs.Begins.{Begins, BeginsNamed}
 use Rattle.regent_run.specs.Calls.{Call}
 use Rattle.regent_run.specs.Programs.{OfNextText}
 use Rattle.regent_run.specs.Reading.{IsSteady, ReadsToEnd}
-use Rattle.regent_run.specs.Verdicts.{IsDelivered, Says, status_of}
+use Rattle.regent_run.specs.Verdicts.{IsDelivered, Tells, status_of}
 use Rattle.regent_run.specs.Words.{Request, request}
 use Rattle.regent_run.proofs.Coming.{comes_to, complete_at}
 use Rattle.regent_run.proofs.Writing.{ends_as, prints_or_tells, sure_as, written}
@@ -18,18 +18,18 @@ use Rattle.regent_run.proofs.Writing.{ends_as, prints_or_tells, sure_as, written
 none_named : {X : Type 0} (asked : Option Request) (named : Request) → asked ≡ Some named → asked ≡ None → X
 none_named asked named is none = let e : None ≡ Some named = sym none ∙ is in absurd cc
 
-refused : (asked : Option Request) (later : Option (List (List ℕ))) (before now : ℕ) (v : Verdict) → Says asked later before now v → asked ≡ None → (status_of v ≡ 2) ⊎ (status_of v ≡ 7)
-refused asked later before now verdict.Usage said none = inl refl
-refused asked later before now verdict.Unread said none = none_named asked said.0 said.1 none
-refused asked later before now verdict.NoMemory said none = inr refl
-refused asked later before now (verdict.NoProgram message) said none = none_named asked said.0 said.1 none
-refused asked later before now (verdict.PastLimit passed) said none = none_named asked said.0 said.1 none
-refused asked later before now (verdict.Refused message) said none = none_named asked said.0 said.1 none
-refused asked later before now verdict.NotBuilt said none = none_named asked said.0 said.1 none
-refused asked later before now verdict.OtherInputs said none = none_named asked said.0 said.1 none
-refused asked later before now (verdict.Finished text traces) said none = none_named asked said.0 said.1 none
-refused asked later before now (verdict.Faulted text message) said none = none_named asked said.0 said.1 none
-refused asked later before now verdict.Accepted said none = none_named asked said.0 said.1 none
+refused : (serves : ℕ → ℕ) (asked : Option Request) (later : Option (List (List ℕ))) (before now : ℕ) (v : Verdict) → Tells serves asked later before now v → asked ≡ None → (status_of v ≡ 2) ⊎ (status_of v ≡ 7)
+refused serves asked later before now verdict.Usage said none = inl refl
+refused serves asked later before now verdict.Unread said none = none_named asked said.0 said.1 none
+refused serves asked later before now verdict.NoMemory said none = inr refl
+refused serves asked later before now (verdict.NoProgram message) said none = none_named asked said.0 said.1 none
+refused serves asked later before now (verdict.PastLimit passed) said none = none_named asked said.0 said.1 none
+refused serves asked later before now (verdict.Refused message) said none = none_named asked said.0 said.1 none
+refused serves asked later before now verdict.NotBuilt said none = none_named asked said.0 said.1 none
+refused serves asked later before now verdict.OtherInputs said none = none_named asked said.0 said.1 none
+refused serves asked later before now (verdict.Finished text trace) said none = none_named asked said.0 said.1 none
+refused serves asked later before now (verdict.Faulted text message) said none = none_named asked said.0 said.1 none
+refused serves asked later before now verdict.Accepted said none = none_named asked said.0 said.1 none
 
 stopped_or_two : (call : Call) (v : Verdict) (answer : ℕ) → IsDelivered v answer call.out call.err → (status_of v ≡ 2) ⊎ (status_of v ≡ 7) → UnlessStopped 2 answer
 stopped_or_two call v answer (inl w) (inl two) = inl (w.status ∙ two)
@@ -38,7 +38,7 @@ stopped_or_two call v answer (inr (inl o)) two = inr (inr o.status)
 stopped_or_two call v answer (inr (inr e)) two = inr (inr e.status)
 
 -- the source had no fault, but where the text couldn't be read
-steady_source : (before now : ℕ) (v : Verdict) → IsSteady before now v → status_of v ≢ 3 → now ≡ before
+steady_source : (before now : ℕ) (v : Verdict) → IsSteady before now (Err v) → status_of v ≢ 3 → now ≡ before
 steady_source before now verdict.Usage h isnt = h
 steady_source before now verdict.Unread h isnt = absurd (isnt refl)
 steady_source before now verdict.NoMemory h isnt = h
@@ -47,17 +47,17 @@ steady_source before now (verdict.PastLimit passed) h isnt = h
 steady_source before now (verdict.Refused message) h isnt = h
 steady_source before now verdict.NotBuilt h isnt = h
 steady_source before now verdict.OtherInputs h isnt = h
-steady_source before now (verdict.Finished text traces) h isnt = h
+steady_source before now (verdict.Finished text trace) h isnt = h
 steady_source before now (verdict.Faulted text message) h isnt = h
 steady_source before now verdict.Accepted h isnt = h
 
 -- ---- what was read
 
 abbrev BeginsIn : Call → Verdict → Type 0
-BeginsIn call v = Begins (request call.words) call.source.begins call.source.begins_now call.source.names call.source.names_now v
+BeginsIn call v = Begins (request call.words) call.source.begins call.source.begins_now call.source.names call.source.names_now (Err v)
 
 abbrev EndsIn : Call → Verdict → Type 0
-EndsIn call v = ReadsToEnd (option_map next_left call.source.later) call.source.left_now v
+EndsIn call v = ReadsToEnd (option_map next_left call.source.later) call.source.left_now (Err v)
 
 abbrev BeginsAsked : Call → Type 0
 BeginsAsked call = BeginsNamed (request call.words) call.source.begins call.source.begins_now call.source.names call.source.names_now
@@ -79,7 +79,7 @@ begun_as call (verdict.PastLimit passed) h is = begun_once call h
 begun_as call (verdict.Refused message) h is = begun_once call h
 begun_as call verdict.NotBuilt h is = begun_once call h
 begun_as call verdict.OtherInputs h is = begun_once call h
-begun_as call (verdict.Finished text traces) h is = begun_once call h
+begun_as call (verdict.Finished text trace) h is = begun_once call h
 begun_as call (verdict.Faulted text message) h is = begun_once call h
 begun_as call verdict.Accepted h is = begun_once call h
 
@@ -92,7 +92,7 @@ begins_as call (verdict.PastLimit passed) h = inr (begun_once call h)
 begins_as call (verdict.Refused message) h = inr (begun_once call h)
 begins_as call verdict.NotBuilt h = inr (begun_once call h)
 begins_as call verdict.OtherInputs h = inr (begun_once call h)
-begins_as call (verdict.Finished text traces) h = inr (begun_once call h)
+begins_as call (verdict.Finished text trace) h = inr (begun_once call h)
 begins_as call (verdict.Faulted text message) h = inr (begun_once call h)
 begins_as call verdict.Accepted h = inr (begun_once call h)
 
@@ -111,7 +111,7 @@ whole_as call (verdict.PastLimit passed) h is = next_read call.source.later call
 whole_as call (verdict.Refused message) h is = next_read call.source.later call.source.left_now h
 whole_as call verdict.NotBuilt h is = next_read call.source.later call.source.left_now h
 whole_as call verdict.OtherInputs h is = next_read call.source.later call.source.left_now h
-whole_as call (verdict.Finished text traces) h is = next_read call.source.later call.source.left_now h
+whole_as call (verdict.Finished text trace) h is = next_read call.source.later call.source.left_now h
 whole_as call (verdict.Faulted text message) h is = next_read call.source.later call.source.left_now h
 whole_as call verdict.Accepted h is = next_read call.source.later call.source.left_now h
 
@@ -121,12 +121,12 @@ whole_as call verdict.Accepted h is = next_read call.source.later call.source.le
 of_text : (call : Call) (v : Verdict) (answer : ℕ) → IsDelivered v answer call.out call.err → IsOfText answer → IsOfText (status_of v)
 of_text call v answer d is = subst (λ (n : ℕ). IsOfText n) (written v answer call.out call.err d is.2).status is
 
-pub answered : (call : Call) (v : Verdict) (answer : ℕ) → Says (request call.words) call.source.later call.source.faults call.source.faults_now v → BeginsIn call v → Takes 1048577 call → EndsIn call v →
-    IsSteady call.source.faults call.source.faults_now v → IsDelivered v answer call.out call.err → IsAnswered call answer
+pub answered : (call : Call) (v : Verdict) (answer : ℕ) → Tells call.serves (request call.words) call.source.later call.source.faults call.source.faults_now v → BeginsIn call v → Takes 1048577 call → EndsIn call v →
+    IsSteady call.source.faults call.source.faults_now (Err v) → IsDelivered v answer call.out call.err → IsAnswered call answer
 answered call v answer said begins takes end steady d =
     record {
       ends = ends_as call v answer d (prints_or_tells call v said);
-      refuses = λ none. stopped_or_two call v answer d (refused (request call.words) call.source.later call.source.faults call.source.faults_now v said none);
+      refuses = λ none. stopped_or_two call v answer d (refused call.serves (request call.words) call.source.later call.source.faults call.source.faults_now v said none);
       comes = comes_to call call.source.later v answer said d;
       complete = complete_at call call.source.later v answer said d;
       sure = sure_as call v answer d (prints_or_tells call v said);

@@ -1,12 +1,14 @@
 -- What a text comes to.
-use Rattle.std.proofs.Common.{◌≡◌, ℕ, ◌+◌, ◌≤◌, ◌<◌, ◌⊎◌, inl, inr, List, [], ◌++◌, Option, Some, None, IfSome, Ok, Err, length, refl, sym, ap, subst, ◌∙◌, arith}
+use Rattle.std.proofs.Common.{◌≡◌, ℕ, ◌+◌, ◌≤◌, ◌<◌, ◌⊎◌, inl, inr, List, [], ◌++◌, Option, Some, None, IfSome, Result, Ok, Err, length, refl, sym, ap, subst, ◌∙◌, arith}
 use Rattle.std.specs.Option.{option_map}
 use Rattle.std.proofs.lemmas.Bool.{cases_lt}
 use Rattle.std.proofs.lemmas.List.{append-nil, length-append}
 use Rattle.run_io.specs.Source.{Moves, next_left}
 use Rattle.regent_tree.specs.Syntax.{Tree}
+use Rattle.regent_reader.specs.declared.fault.ReadFault.{ReadFault}
 use Rattle.regent_reader.specs.declared.fault.ReadFault.TheVariants.{TooLong, Lex}
 use Rattle.regent_reader.specs.Texts.{Outcome, Reads, is_long, has_tokens}
+use Rattle.regent_run.specs.declared.plan.Plan.{Plan}
 use Rattle.regent_run.specs.declared.verdict.Verdict.{Verdict}
 use Rattle.regent_run.specs.declared.verdict.Verdict.TheVariants as verdict
 use Rattle.regent_lex.specs.declared.fault.LexKind.{LexKind}
@@ -17,38 +19,50 @@ use Rattle.regent_run.specs.Words.{Deed, Request, checks, runs}
 use Rattle.check_rules.specs.Breaches.{breaches}
 
 -- a text that was read and has no breach comes to what its program comes to
-accepted_judges : (text : List ℕ) (tree : Tree) (deed : Deed) (v : Verdict) → Reads text (Ok tree) → breaches tree ≡ [] → JudgesAccepted tree deed v → Judges text deed v
-accepted_judges text tree checks v reads sound h =
-    subst (λ (w : Verdict). Judges text checks w) (sym h) (refl, record { tree = tree; reads = reads; sound = sound })
-accepted_judges text tree (runs r) verdict.Usage reads sound h = h
-accepted_judges text tree (runs r) verdict.Unread reads sound h = h
-accepted_judges text tree (runs r) verdict.NoMemory reads sound h = tt
-accepted_judges text tree (runs r) (verdict.NoProgram message) reads sound h = absurd h
-accepted_judges text tree (runs r) (verdict.PastLimit passed) reads sound h = absurd h
-accepted_judges text tree (runs r) (verdict.Refused message) reads sound h = absurd h
-accepted_judges text tree (runs r) verdict.NotBuilt reads sound h = (r, refl, record { tree = tree; reads = reads; sound = sound; form = h })
-accepted_judges text tree (runs r) verdict.OtherInputs reads sound h =
-    (r, refl, record { tree = tree; reads = reads; sound = sound; takes = h })
-accepted_judges text tree (runs r) (verdict.Finished printed traces) reads sound h =
-    (r, refl, h.0, record { tree = tree; reads = reads; sound = sound; finishes = h.1 })
-accepted_judges text tree (runs r) (verdict.Faulted printed message) reads sound h =
-    (r, refl, h.0, h.1, record { tree = tree; reads = reads; sound = sound; means = h.2 })
-accepted_judges text tree (runs r) verdict.Accepted reads sound h = absurd h
+accepted_judges : (text : List ℕ) (tree : Tree) (deed : Deed) (judged : Result Plan Verdict) → Reads text (Ok tree) → breaches tree ≡ [] → JudgesAccepted tree deed judged → Judges text deed judged
+accepted_judges text tree checks judged reads sound h =
+    subst (λ (w : Result Plan Verdict). Judges text checks w) (sym h) (refl, record { tree = tree; reads = reads; sound = sound })
+accepted_judges text tree (runs r) (Ok plan) reads sound h = (r, refl, tree, reads, h)
+accepted_judges text tree (runs r) (Err verdict.Usage) reads sound h = absurd h
+accepted_judges text tree (runs r) (Err verdict.Unread) reads sound h = absurd h
+accepted_judges text tree (runs r) (Err verdict.NoMemory) reads sound h = tt
+accepted_judges text tree (runs r) (Err (verdict.NoProgram message)) reads sound h = absurd h
+accepted_judges text tree (runs r) (Err (verdict.PastLimit passed)) reads sound h = absurd h
+accepted_judges text tree (runs r) (Err (verdict.Refused message)) reads sound h = absurd h
+accepted_judges text tree (runs r) (Err verdict.NotBuilt) reads sound h = (r, refl, record { tree = tree; reads = reads; sound = sound; form = h })
+accepted_judges text tree (runs r) (Err verdict.OtherInputs) reads sound h = (r, refl, record { tree = tree; reads = reads; sound = sound; takes = h })
+accepted_judges text tree (runs r) (Err (verdict.Finished printed trace)) reads sound h = absurd h
+accepted_judges text tree (runs r) (Err (verdict.Faulted printed message)) reads sound h = absurd h
+accepted_judges text tree (runs r) (Err verdict.Accepted) reads sound h = absurd h
 
 -- a text that was read comes to what its program comes to
-pub program_judges : (text : List ℕ) (deed : Deed) (tree : Tree) (v : Verdict) → Reads text (Ok tree) → JudgesProgram tree deed v → Judges text deed v
-program_judges text deed tree verdict.NoMemory reads h = tt
-program_judges text deed tree (verdict.Refused message) reads h =
-    (h.rule, h.line, h.told, record { tree = tree; reads = reads; breach = h.breach })
-program_judges text deed tree verdict.Usage reads h = accepted_judges text tree deed verdict.Usage reads h.0 h.1
-program_judges text deed tree verdict.Unread reads h = accepted_judges text tree deed verdict.Unread reads h.0 h.1
-program_judges text deed tree (verdict.NoProgram message) reads h = accepted_judges text tree deed (verdict.NoProgram message) reads h.0 h.1
-program_judges text deed tree (verdict.PastLimit passed) reads h = accepted_judges text tree deed (verdict.PastLimit passed) reads h.0 h.1
-program_judges text deed tree verdict.NotBuilt reads h = accepted_judges text tree deed verdict.NotBuilt reads h.0 h.1
-program_judges text deed tree verdict.OtherInputs reads h = accepted_judges text tree deed verdict.OtherInputs reads h.0 h.1
-program_judges text deed tree (verdict.Finished printed traces) reads h = accepted_judges text tree deed (verdict.Finished printed traces) reads h.0 h.1
-program_judges text deed tree (verdict.Faulted printed message) reads h = accepted_judges text tree deed (verdict.Faulted printed message) reads h.0 h.1
-program_judges text deed tree verdict.Accepted reads h = accepted_judges text tree deed verdict.Accepted reads h.0 h.1
+pub program_judges : (text : List ℕ) (deed : Deed) (tree : Tree) (judged : Result Plan Verdict) → Reads text (Ok tree) → JudgesProgram tree deed judged → Judges text deed judged
+program_judges text deed tree (Ok plan) reads h = accepted_judges text tree deed (Ok plan) reads h.0 h.1
+program_judges text deed tree (Err verdict.Usage) reads h = accepted_judges text tree deed (Err verdict.Usage) reads h.0 h.1
+program_judges text deed tree (Err verdict.Unread) reads h = accepted_judges text tree deed (Err verdict.Unread) reads h.0 h.1
+program_judges text deed tree (Err verdict.NoMemory) reads h = tt
+program_judges text deed tree (Err (verdict.NoProgram message)) reads h = accepted_judges text tree deed (Err (verdict.NoProgram message)) reads h.0 h.1
+program_judges text deed tree (Err (verdict.PastLimit passed)) reads h = accepted_judges text tree deed (Err (verdict.PastLimit passed)) reads h.0 h.1
+program_judges text deed tree (Err (verdict.Refused message)) reads h = (h.rule, h.line, h.told, record { tree = tree; reads = reads; breach = h.breach })
+program_judges text deed tree (Err verdict.NotBuilt) reads h = accepted_judges text tree deed (Err verdict.NotBuilt) reads h.0 h.1
+program_judges text deed tree (Err verdict.OtherInputs) reads h = accepted_judges text tree deed (Err verdict.OtherInputs) reads h.0 h.1
+program_judges text deed tree (Err (verdict.Finished printed trace)) reads h = accepted_judges text tree deed (Err (verdict.Finished printed trace)) reads h.0 h.1
+program_judges text deed tree (Err (verdict.Faulted printed message)) reads h = accepted_judges text tree deed (Err (verdict.Faulted printed message)) reads h.0 h.1
+program_judges text deed tree (Err verdict.Accepted) reads h = accepted_judges text tree deed (Err verdict.Accepted) reads h.0 h.1
+
+-- a text in which the reader finds a fault comes to what is told of that
+pub fault_judges : (text : List ℕ) (deed : Deed) (fault : ReadFault) (v : Verdict) → Reads text (Err fault) → TellsFault fault v → Judges text deed (Err v)
+fault_judges text deed fault verdict.Usage reads h = absurd h
+fault_judges text deed fault verdict.Unread reads h = absurd h
+fault_judges text deed fault verdict.NoMemory reads h = tt
+fault_judges text deed fault (verdict.NoProgram message) reads h = (h.0, h.1, record { fault = fault; reads = reads; told = h.2 })
+fault_judges text deed fault (verdict.PastLimit passed) reads h = record { fault = fault; reads = reads; told = h }
+fault_judges text deed fault (verdict.Refused message) reads h = absurd h
+fault_judges text deed fault verdict.NotBuilt reads h = absurd h
+fault_judges text deed fault verdict.OtherInputs reads h = absurd h
+fault_judges text deed fault (verdict.Finished printed trace) reads h = absurd h
+fault_judges text deed fault (verdict.Faulted printed message) reads h = absurd h
+fault_judges text deed fault verdict.Accepted reads h = absurd h
 
 -- ---- from the bytes that were read to the text that the begin left
 
@@ -59,18 +73,19 @@ left_on later read None texts is moves = let e : Some (next_left texts) ≡ None
 left_on later read (Some rest) texts is moves = let e : Some (next_left texts) ≡ Some (read ++ rest) = rw is at moves in (rest, refl, cc)
 
 -- of a text that is read to its end all is said
-says_of_read : (deed : Deed) (v : Verdict) (texts : List (List ℕ)) (before now : ℕ) → Judges (next_left texts) deed v → SaysOfText (Some texts) deed before now v
-says_of_read deed verdict.Usage texts before now h = h
-says_of_read deed verdict.Unread texts before now h = absurd h
-says_of_read deed verdict.NoMemory texts before now h = tt
-says_of_read deed (verdict.NoProgram message) texts before now h = h
-says_of_read deed (verdict.PastLimit passed) texts before now h = h
-says_of_read deed (verdict.Refused message) texts before now h = h
-says_of_read deed verdict.NotBuilt texts before now h = h
-says_of_read deed verdict.OtherInputs texts before now h = h
-says_of_read deed (verdict.Finished printed traces) texts before now h = h
-says_of_read deed (verdict.Faulted printed message) texts before now h = h
-says_of_read deed verdict.Accepted texts before now h = h
+says_of_read : (deed : Deed) (judged : Result Plan Verdict) (texts : List (List ℕ)) (before now : ℕ) → Judges (next_left texts) deed judged → SaysOfText (Some texts) deed before now judged
+says_of_read deed (Ok plan) texts before now h = h
+says_of_read deed (Err verdict.Usage) texts before now h = absurd h
+says_of_read deed (Err verdict.Unread) texts before now h = absurd h
+says_of_read deed (Err verdict.NoMemory) texts before now h = tt
+says_of_read deed (Err (verdict.NoProgram message)) texts before now h = h
+says_of_read deed (Err (verdict.PastLimit passed)) texts before now h = h
+says_of_read deed (Err (verdict.Refused message)) texts before now h = h
+says_of_read deed (Err verdict.NotBuilt) texts before now h = h
+says_of_read deed (Err verdict.OtherInputs) texts before now h = h
+says_of_read deed (Err (verdict.Finished printed trace)) texts before now h = absurd h
+says_of_read deed (Err (verdict.Faulted printed message)) texts before now h = absurd h
+says_of_read deed (Err verdict.Accepted) texts before now h = h
 
 -- a text that is too long comes to that alone, however it goes on
 long_reads : (read : List ℕ) (outcome : Outcome) → 1048576 < length read → Reads read outcome → outcome ≡ Err TooLong
@@ -82,79 +97,78 @@ still_long text read rest outcome is long reads =
     let size : length text ≡ length read + length rest = ap length is ∙ length-append read rest in
     subst (λ (o : Outcome). Reads text o) (sym (long_reads read outcome long reads)) (is_long (omega (arith, size, long)))
 
-long_judges : (text read rest : List ℕ) (deed : Deed) (v : Verdict) → text ≡ read ++ rest → 1048576 < length read → Judges read deed v → Judges text deed v
-long_judges text read rest deed verdict.Usage is long h = h
-long_judges text read rest deed verdict.Unread is long h = h
-long_judges text read rest deed verdict.NoMemory is long h = tt
-long_judges text read rest deed (verdict.NoProgram message) is long h =
+long_judges : (text read rest : List ℕ) (deed : Deed) (judged : Result Plan Verdict) → text ≡ read ++ rest → 1048576 < length read → Judges read deed judged → Judges text deed judged
+long_judges text read rest deed (Ok plan) is long h = (h.0, h.1, h.2, still_long text read rest _ is long h.3, h.4)
+long_judges text read rest deed (Err verdict.Usage) is long h = absurd h
+long_judges text read rest deed (Err verdict.Unread) is long h = absurd h
+long_judges text read rest deed (Err verdict.NoMemory) is long h = tt
+long_judges text read rest deed (Err (verdict.NoProgram message)) is long h =
     (h.0, h.1, record { fault = h.2.fault; reads = still_long text read rest _ is long h.2.reads; told = h.2.told })
-long_judges text read rest deed (verdict.PastLimit passed) is long h = record { fault = h.fault; reads = still_long text read rest _ is long h.reads; told = h.told }
-long_judges text read rest deed (verdict.Refused message) is long h =
+long_judges text read rest deed (Err (verdict.PastLimit passed)) is long h = record { fault = h.fault; reads = still_long text read rest _ is long h.reads; told = h.told }
+long_judges text read rest deed (Err (verdict.Refused message)) is long h =
     let b = h.3 in
     (h.0, h.1, h.2, record { tree = b.tree; reads = still_long text read rest _ is long b.reads; breach = b.breach })
-long_judges text read rest deed verdict.NotBuilt is long h =
+long_judges text read rest deed (Err verdict.NotBuilt) is long h =
     let b = h.2 in
     (h.0, h.1, record { tree = b.tree; reads = still_long text read rest _ is long b.reads; sound = b.sound; form = b.form })
-long_judges text read rest deed verdict.OtherInputs is long h =
+long_judges text read rest deed (Err verdict.OtherInputs) is long h =
     let b = h.2 in
     (h.0, h.1, record { tree = b.tree; reads = still_long text read rest _ is long b.reads; sound = b.sound; takes = b.takes })
-long_judges text read rest deed (verdict.Finished printed traces) is long h =
-    let b = h.3 in
-    (h.0, h.1, h.2, record { tree = b.tree; reads = still_long text read rest _ is long b.reads; sound = b.sound; finishes = b.finishes })
-long_judges text read rest deed (verdict.Faulted printed message) is long h =
-    let b = h.4 in
-    (h.0, h.1, h.2, h.3, record { tree = b.tree; reads = still_long text read rest _ is long b.reads; sound = b.sound; means = b.means })
-long_judges text read rest deed verdict.Accepted is long h =
+long_judges text read rest deed (Err (verdict.Finished printed trace)) is long h = absurd h
+long_judges text read rest deed (Err (verdict.Faulted printed message)) is long h = absurd h
+long_judges text read rest deed (Err verdict.Accepted) is long h =
     let b = h.1 in
     (h.0, record { tree = b.tree; reads = still_long text read rest _ is long b.reads; sound = b.sound })
 
-says_on : (text read rest : List ℕ) (deed : Deed) (v : Verdict) → text ≡ read ++ rest → (length read ≤ 1048576 → rest ≡ []) →
-    (1048576 < length read) ⊎ (length read ≤ 1048576) → Judges read deed v → Judges text deed v
-says_on text read rest deed v is whole (inl long) h = long_judges text read rest deed v is long h
-says_on text read rest deed v is whole (inr short) h =
-    subst (λ (t : List ℕ). Judges t deed v) (sym (is ∙ ap (λ r. read ++ r) (whole short) ∙ append-nil read)) h
+says_on : (text read rest : List ℕ) (deed : Deed) (judged : Result Plan Verdict) → text ≡ read ++ rest → (length read ≤ 1048576 → rest ≡ []) →
+    (1048576 < length read) ⊎ (length read ≤ 1048576) → Judges read deed judged → Judges text deed judged
+says_on text read rest deed judged is whole (inl long) h = long_judges text read rest deed judged is long h
+says_on text read rest deed judged is whole (inr short) h =
+    subst (λ (t : List ℕ). Judges t deed judged) (sym (is ∙ ap (λ r. read ++ r) (whole short) ∙ append-nil read)) h
 
-says_nothing : (read : List ℕ) (deed : Deed) (v : Verdict) (before now : ℕ) → Judges read deed v → SaysOfText None deed before now v
-says_nothing read deed verdict.Usage before now h = h
-says_nothing read deed verdict.Unread before now h = absurd h
-says_nothing read deed verdict.NoMemory before now h = tt
-says_nothing read deed (verdict.NoProgram message) before now h = (h.0, h.1, tt)
-says_nothing read deed (verdict.PastLimit passed) before now h = tt
-says_nothing read deed (verdict.Refused message) before now h = (h.0, h.1, h.2, tt)
-says_nothing read deed verdict.NotBuilt before now h = (h.0, h.1, tt)
-says_nothing read deed verdict.OtherInputs before now h = (h.0, h.1, tt)
-says_nothing read deed (verdict.Finished printed traces) before now h = (h.0, h.1, h.2, tt)
-says_nothing read deed (verdict.Faulted printed message) before now h = (h.0, h.1, h.2, h.3, tt)
-says_nothing read deed verdict.Accepted before now h = (h.0, tt)
+says_nothing : (read : List ℕ) (deed : Deed) (judged : Result Plan Verdict) (before now : ℕ) → Judges read deed judged → SaysOfText None deed before now judged
+says_nothing read deed (Ok plan) before now h = (h.0, h.1, h.2, tt, h.4)
+says_nothing read deed (Err verdict.Usage) before now h = absurd h
+says_nothing read deed (Err verdict.Unread) before now h = absurd h
+says_nothing read deed (Err verdict.NoMemory) before now h = tt
+says_nothing read deed (Err (verdict.NoProgram message)) before now h = (h.0, h.1, tt)
+says_nothing read deed (Err (verdict.PastLimit passed)) before now h = tt
+says_nothing read deed (Err (verdict.Refused message)) before now h = (h.0, h.1, h.2, tt)
+says_nothing read deed (Err verdict.NotBuilt) before now h = (h.0, h.1, tt)
+says_nothing read deed (Err verdict.OtherInputs) before now h = (h.0, h.1, tt)
+says_nothing read deed (Err (verdict.Finished printed trace)) before now h = absurd h
+says_nothing read deed (Err (verdict.Faulted printed message)) before now h = absurd h
+says_nothing read deed (Err verdict.Accepted) before now h = (h.0, tt)
 
 -- what is judged of the bytes that were read is said of the text
-says_of_text : (later : Option (List (List ℕ))) (read : List ℕ) (left : Option (List ℕ)) (deed : Deed) (v : Verdict) (before now : ℕ) →
-    Moves (option_map next_left later) read left → (length read ≤ 1048576 → IfSome left (λ rest. rest ≡ [])) → Judges read deed v → SaysOfText later deed before now v
-says_of_text None read left deed v before now moves whole h = says_nothing read deed v before now h
-says_of_text (Some texts) read left deed v before now moves whole h =
+says_of_text : (later : Option (List (List ℕ))) (read : List ℕ) (left : Option (List ℕ)) (deed : Deed) (judged : Result Plan Verdict) (before now : ℕ) →
+    Moves (option_map next_left later) read left → (length read ≤ 1048576 → IfSome left (λ rest. rest ≡ [])) → Judges read deed judged → SaysOfText later deed before now judged
+says_of_text None read left deed judged before now moves whole h = says_nothing read deed judged before now h
+says_of_text (Some texts) read left deed judged before now moves whole h =
     let p = left_on (Some texts) read left texts refl moves in
-    says_of_read deed v texts before now
-    (says_on (next_left texts) read p.0 deed v p.2
+    says_of_read deed judged texts before now
+    (says_on (next_left texts) read p.0 deed judged p.2
     (λ short. let w : IfSome (Some p.0) (λ rest. rest ≡ []) = subst (λ (o : Option (List ℕ)). IfSome o (λ rest. rest ≡ [])) p.1 (whole short) in w)
     (cases_lt 1048576 (length read)) h)
 
 -- of the file that is asked for
-says_of_file : (r : Request) (later : Option (List (List ℕ))) (before now : ℕ) (v : Verdict) → SaysOfText later r.deed before now v → Says (Some r) later before now v
-says_of_file r later before now verdict.Usage h = absurd h
-says_of_file r later before now verdict.Unread h = (r, refl, h)
-says_of_file r later before now verdict.NoMemory h = tt
-says_of_file r later before now (verdict.NoProgram message) h = (r, refl, h)
-says_of_file r later before now (verdict.PastLimit passed) h = (r, refl, h)
-says_of_file r later before now (verdict.Refused message) h = (r, refl, h)
-says_of_file r later before now verdict.NotBuilt h = (r, refl, h)
-says_of_file r later before now verdict.OtherInputs h = (r, refl, h)
-says_of_file r later before now (verdict.Finished printed traces) h = (r, refl, h)
-says_of_file r later before now (verdict.Faulted printed message) h = (r, refl, h)
-says_of_file r later before now verdict.Accepted h = (r, refl, h)
+says_of_file : (r : Request) (later : Option (List (List ℕ))) (before now : ℕ) (judged : Result Plan Verdict) → SaysOfText later r.deed before now judged → Says (Some r) later before now judged
+says_of_file r later before now (Ok plan) h = (r, refl, h)
+says_of_file r later before now (Err verdict.Usage) h = absurd h
+says_of_file r later before now (Err verdict.Unread) h = (r, refl, h)
+says_of_file r later before now (Err verdict.NoMemory) h = tt
+says_of_file r later before now (Err (verdict.NoProgram message)) h = (r, refl, h)
+says_of_file r later before now (Err (verdict.PastLimit passed)) h = (r, refl, h)
+says_of_file r later before now (Err (verdict.Refused message)) h = (r, refl, h)
+says_of_file r later before now (Err verdict.NotBuilt) h = (r, refl, h)
+says_of_file r later before now (Err verdict.OtherInputs) h = (r, refl, h)
+says_of_file r later before now (Err (verdict.Finished printed trace)) h = (r, refl, h)
+says_of_file r later before now (Err (verdict.Faulted printed message)) h = (r, refl, h)
+says_of_file r later before now (Err verdict.Accepted) h = (r, refl, h)
 
-pub says_asked : (r : Request) (later : Option (List (List ℕ))) (read : List ℕ) (left : Option (List ℕ)) (v : Verdict) (before now : ℕ) →
-    Moves (option_map next_left later) read left → (length read ≤ 1048576 → IfSome left (λ rest. rest ≡ [])) → Judges read r.deed v → Says (Some r) later before now v
-says_asked r later read left v before now moves whole h = says_of_file r later before now v (says_of_text later read left r.deed v before now moves whole h)
+pub says_asked : (r : Request) (later : Option (List (List ℕ))) (read : List ℕ) (left : Option (List ℕ)) (judged : Result Plan Verdict) (before now : ℕ) →
+    Moves (option_map next_left later) read left → (length read ≤ 1048576 → IfSome left (λ rest. rest ≡ [])) → Judges read r.deed judged → Says (Some r) later before now judged
+says_asked r later read left judged before now moves whole h = says_of_file r later before now judged (says_of_text later read left r.deed judged before now moves whole h)
 
 -- a token's fault that passes no limit is an error of syntax
 syntax_told : (kind : LexKind) (line : ℕ) → None ≡ limit_in_token kind → syntax_line (Lex kind line) ≡ Some line
@@ -172,6 +186,6 @@ tells_token kind line (verdict.PastLimit passed) none h = absurd h
 tells_token kind line (verdict.Refused message) none h = h
 tells_token kind line verdict.NotBuilt none h = h
 tells_token kind line verdict.OtherInputs none h = h
-tells_token kind line (verdict.Finished printed traces) none h = h
+tells_token kind line (verdict.Finished printed trace) none h = h
 tells_token kind line (verdict.Faulted printed message) none h = h
 tells_token kind line verdict.Accepted none h = h

@@ -1,14 +1,13 @@
 -- How a call ends: what was printed or told, and what a failed write leaves.
-use Rattle.std.proofs.Common.{◌≡◌, ◌≢◌, Bool, ℕ, ◌≤◌, ◌<◌, ◌⊎◌, inl, inr, List, [], Option, Some, None, length, refl, sym, ap, subst, ◌∙◌, arith}
+use Rattle.std.proofs.Common.{◌≡◌, ◌≢◌, ℕ, ◌≤◌, ◌<◌, ◌⊎◌, inl, inr, List, [], Option, Some, None, length, refl, sym, ap, subst, ◌∙◌, arith}
 use Rattle.std.proofs.lemmas.List.{append-nil}
 use Rattle.run_io.specs.Sink.{Adds}
 use Rattle.regent_run.specs.declared.verdict.Verdict.{Verdict}
 use Rattle.regent_run.specs.declared.verdict.Verdict.TheVariants as verdict
 use Rattle.regent_run.specs.Answers.{Ends, Fails, IsPrinted, IsSureOfErrors, IsSureOfOutput, accepted, faulted, finished, inputs, limit, line_failed, no_memory, not_built, print_failed, prints, syntax, tells, told_failed, types, unread, usage}
 use Rattle.regent_run.specs.Calls.{Call, SinkChange}
-use Rattle.regent_run.specs.Texts.{trace_text}
 use Rattle.regent_run.specs.Words.{request}
-use Rattle.regent_run.specs.Verdicts.{HasGained, HasFailed, IsDelivered, IsUntouched, IsWritten, Says, out_text, err_text, status_of}
+use Rattle.regent_run.specs.Verdicts.{HasGained, HasFailed, IsDelivered, IsUntouched, IsWritten, Tells, out_text, err_text, status_of}
 
 adds_nothing : (before now : Option (List ℕ)) → Adds before [] now → now ≡ before
 adds_nothing None now h = h
@@ -31,7 +30,7 @@ no_stop (verdict.PastLimit passed) h = absurd cc
 no_stop (verdict.Refused message) h = absurd cc
 no_stop verdict.NotBuilt h = absurd cc
 no_stop verdict.OtherInputs h = absurd cc
-no_stop (verdict.Finished text traces) h = absurd cc
+no_stop (verdict.Finished text trace) h = absurd cc
 no_stop (verdict.Faulted text message) h = absurd cc
 no_stop verdict.Accepted h = absurd cc
 
@@ -42,7 +41,7 @@ Printing call v = IsPrinted call (status_of v) (out_text v) (err_text v)
 abbrev Telling : Call → Verdict → Type 0
 Telling call v = (out_text v ≡ []) × Fails call (status_of v) (err_text v)
 
-pub prints_or_tells : (call : Call) (v : Verdict) → Says (request call.words) call.source.later call.source.faults call.source.faults_now v → Printing call v ⊎ Telling call v
+pub prints_or_tells : (call : Call) (v : Verdict) → Tells call.serves (request call.words) call.source.later call.source.faults call.source.faults_now v → Printing call v ⊎ Telling call v
 prints_or_tells call verdict.Usage said = inr (refl, usage said)
 prints_or_tells call verdict.Unread said = inr (refl, unread said.2)
 prints_or_tells call verdict.NoMemory said = inr (refl, no_memory)
@@ -59,14 +58,13 @@ prints_or_tells call verdict.NotBuilt said =
 prints_or_tells call verdict.OtherInputs said =
     let told = said.2 in
     inr (refl, inputs told.0 (record { named = said.0; words_name = said.1; same = told.1 }) told.2)
-prints_or_tells call (verdict.Finished text traces) said =
+prints_or_tells call (verdict.Finished text trace) said =
     let told = said.2 in
-    inl (subst (λ (b : Bool). IsPrinted call 0 text (trace_text b)) (sym told.2)
-    (finished told.0 (record { named = said.0; words_name = said.1; same = told.1 }) told.3))
+    inl (finished told.0 (record { named = said.0; words_name = said.1; same = told.1 }) told.3 told.2)
 prints_or_tells call (verdict.Faulted text message) said =
     let told = said.2 in
-    inl (subst (λ (m : List ℕ). IsPrinted call 1 text m) (sym told.3)
-    (faulted told.0 told.2 (record { named = said.0; words_name = said.1; same = told.1 }) told.4))
+    inl (subst (λ (m : List ℕ). IsPrinted call 1 text m) (sym told.4)
+    (faulted told.0 told.2 (record { named = said.0; words_name = said.1; same = told.1 }) told.6 told.5))
 prints_or_tells call verdict.Accepted said =
     let told = said.2 in
     inl (accepted (record { named = said.0; words_name = said.1; same = told.0 }) told.1)

@@ -1,17 +1,19 @@
 -- What a call answers, what it writes and what it reads.
-use Rattle.std.specs.Prelude.{◌≡◌, ◌≢◌, ◌≤◌, ◌⊎◌, ℕ, List, [], Some, None, IfSome, length}
+use Rattle.std.specs.Prelude.{◌≡◌, ◌≢◌, ◌≤◌, ◌⊎◌, ◌++◌, ℕ, List, [], Some, None, IfSome, length}
 use Rattle.std.specs.Option.{option_map}
 use Rattle.run_io.specs.Faults.{Rose}
 use Rattle.run_io.specs.Sink.{Adds}
 use Rattle.run_io.specs.Source.{next_left}
 use Rattle.regent_tree.specs.declared.outcome.Fault.{Fault}
 use Rattle.command_words.specs.Commands.{Run}
+use Rattle.run_report.specs.FaultLines.{fault_text}
 use Rattle.regent_run.specs.Begins.{IsBegunBy, IsUnbegun}
 use Rattle.regent_run.specs.Calls.{Call}
 use Rattle.regent_run.specs.declared.limit.Limit.{Limit}
 use Rattle.regent_run.specs.Programs.{Comes, HasBreach, HasOtherInputs, HasSyntaxError, IsAccepted, IsFinished, IsNotBuilt, IsRun, OfNextText, PassesLimit, faulted_with}
 use Rattle.regent_run.specs.Reading.{TakesAtMost}
-use Rattle.regent_run.specs.Texts.{accepted_text, fault_message, trace_text, usage_message, read_message, memory_message, syntax_message, breach_message, limit_message, not_built_message, inputs_message}
+use Rattle.regent_run.specs.Texts.{accepted_text, usage_message, read_message, memory_message, syntax_message, breach_message, limit_message, not_built_message, inputs_message}
+use Rattle.regent_run.specs.Traces.{IsJournalOf, IsTrace, serving}
 use Rattle.regent_run.specs.Verdicts.{HasFailed, HasGained, IsUntouched}
 use Rattle.regent_run.specs.Words.{Asks, Request, checks, request, runs}
 
@@ -21,16 +23,21 @@ OfText call P = OfNextText call.source.later P
 
 -- ---- what a call comes to, and how it ends
 
+-- the trace of a run in this call
+abbrev pub IsTraced : Call → Run → List ℕ → Type 0
+IsTraced call r trace = IsTrace (λ journal. OfText call (λ text. IsJournalOf text r journal))
+    r.traces (serving call.serves r) trace
+
 -- What a command prints, and what it tells besides, with its status. A run prints what the program prints,
 -- by the meaning of its text, to its end or up to the first fault, and behind an end the dump that is asked for. It
 -- tells its trace where that is asked for, and the fault. A check prints that the text is accepted.
 pub data IsPrinted (call : Call) : ℕ → List ℕ → List ℕ → Type 0 where
-  finished : (r : Run) {printed : List ℕ} → Asks call.words (runs r) →
-      OfText call (λ text. IsFinished text r printed) →
-      IsPrinted call 0 printed (trace_text r.traces)
-  faulted : (r : Run) {printed : List ℕ} (f : Fault) → Asks call.words (runs r) →
-      OfText call (λ text. IsRun text r (faulted_with printed f)) →
-      IsPrinted call 1 printed (fault_message r.traces f)
+  finished : (r : Run) {printed trace : List ℕ} → Asks call.words (runs r) →
+      OfText call (λ text. IsFinished text r printed) → IsTraced call r trace →
+      IsPrinted call 0 printed trace
+  faulted : (r : Run) {printed trace : List ℕ} (f : Fault) → Asks call.words (runs r) →
+      OfText call (λ text. IsRun text r (faulted_with printed f)) → IsTraced call r trace →
+      IsPrinted call 1 printed (trace ++ fault_text f)
   accepted : Asks call.words checks → OfText call IsAccepted → IsPrinted call 0 accepted_text []
 
 -- the status of an error, and the line that tells it

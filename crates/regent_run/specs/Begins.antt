@@ -1,8 +1,9 @@
 -- How a call begins its source.
-use Rattle.std.specs.Prelude.{◌≡◌, ◌⊎◌, ℕ, List, Option, Some}
+use Rattle.std.specs.Prelude.{◌≡◌, ◌⊎◌, ℕ, List, Option, Some, Result, Err}
 use Rattle.std.specs.Option.{option_map}
 use Rattle.run_io.specs.Faults.{one_more}
 use Rattle.run_io.specs.Source.{with_name}
+use Rattle.regent_run.specs.declared.plan.Plan.{Plan}
 use Rattle.regent_run.specs.declared.verdict.Verdict.{Verdict}
 use Rattle.regent_run.specs.declared.verdict.Verdict.TheVariants.{Usage, NoMemory}
 use Rattle.regent_run.specs.Words.{Request}
@@ -28,9 +29,9 @@ pub record BeginsNamed (asked : Option Request) (begins begins_now : Option ℕ)
 
 -- Where the words are refused, not begun; where memory ran out maybe not.
 abbrev pub Begins : Option Request → Option ℕ → Option ℕ →
-    Option (List (List ℕ)) → Option (List (List ℕ)) → Verdict → Type 0
-Begins asked begins begins_now names names_now Usage = IsUnbegun begins begins_now names names_now
-Begins asked begins begins_now names names_now NoMemory =
+    Option (List (List ℕ)) → Option (List (List ℕ)) → Result Plan Verdict → Type 0
+Begins asked begins begins_now names names_now (Err Usage) = IsUnbegun begins begins_now names names_now
+Begins asked begins begins_now names names_now (Err NoMemory) =
     IsUnbegun begins begins_now names names_now ⊎ BeginsNamed asked begins begins_now names names_now
 Begins asked begins begins_now names names_now _ =
     BeginsNamed asked begins begins_now names names_now

@@ -1,4 +1,4 @@
--- A call: its words, and what its source and its sinks tell before and after it.
+-- A call: its words, its workers, and what its source and its sinks tell before and after it.
 use Rattle.std.specs.Prelude.{ℕ, List, Option}
 use Rattle.run_io.specs.declared.source.Source.{Ghosts as SourceTells}
 use Rattle.run_io.specs.declared.sink.Sink.{Ghosts as SinkTells}
@@ -49,11 +49,14 @@ sink_change tells before now =
       held_now = tells.held now;
     }
 
+-- the words, and how many workers serve where so many are asked for
 pub record Call : Type 0 where
   pub words : List (List ℕ)
+  pub serves : ℕ → ℕ
   pub source : SourceChange
   pub out : SinkChange
   pub err : SinkChange
 
-abbrev pub call_of : List (List ℕ) → SourceChange → SinkChange → SinkChange → Call
-call_of words source out err = record { words = words; source = source; out = out; err = err }
+abbrev pub call_of : List (List ℕ) → (ℕ → ℕ) → SourceChange → SinkChange → SinkChange → Call
+call_of words serves source out err =
+    record { words = words; serves = serves; source = source; out = out; err = err }

@@ -5,5 +5,6 @@ pub mod Inputs
 pub mod Programs
 pub mod Reading
 pub mod Texts
+pub mod Traces
 pub mod Verdicts
 pub mod Words

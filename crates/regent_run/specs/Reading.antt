@@ -1,9 +1,10 @@
 -- What reading a text takes from its source.
-use Rattle.std.specs.Prelude.{◌≡◌, ◌≤◌, ◌⊎◌, ℕ, List, [], Option, IfSome, length}
+use Rattle.std.specs.Prelude.{◌≡◌, ◌≤◌, ◌⊎◌, ℕ, List, [], Option, Result, Err, IfSome, length}
 use Rattle.run_io.specs.Faults.{Rose}
 use Rattle.run_io.specs.Source.{Moves}
 use Rattle.regent_run.specs.declared.text.NoText.{NoText}
 use Rattle.regent_run.specs.declared.text.NoText.TheVariants as no_text
+use Rattle.regent_run.specs.declared.plan.Plan.{Plan}
 use Rattle.regent_run.specs.declared.verdict.Verdict.{Verdict}
 use Rattle.regent_run.specs.declared.verdict.Verdict.TheVariants.{Usage, Unread, NoMemory}
 
@@ -13,8 +14,8 @@ IsCause before now no_text.Failed = Rose before now
 IsCause before now no_text.Memory = now ≡ before
 
 -- no call of the source failed, but where the text can't be read
-abbrev pub IsSteady : ℕ → ℕ → Verdict → Type 0
-IsSteady before now Unread = Unit {0}
+abbrev pub IsSteady : ℕ → ℕ → Result Plan Verdict → Type 0
+IsSteady before now (Err Unread) = Unit {0}
 IsSteady before now _ = now ≡ before
 
 -- Of what the begin leaves at most so many bytes were taken; a begin that fails takes nothing of
@@ -24,9 +25,9 @@ TakesAtMost most begun before now =
     (now ≡ before) ⊎ ((moved : List ℕ) × (length moved ≤ most) × Moves begun moved now)
 
 -- Where a text was judged, all that the begin leaves was read, or the text is too long.
-abbrev pub ReadsToEnd : Option (List ℕ) → Option (List ℕ) → Verdict → Type 0
-ReadsToEnd begun now Usage = Unit {0}
-ReadsToEnd begun now Unread = Unit {0}
-ReadsToEnd begun now NoMemory = Unit {0}
+abbrev pub ReadsToEnd : Option (List ℕ) → Option (List ℕ) → Result Plan Verdict → Type 0
+ReadsToEnd begun now (Err Usage) = Unit {0}
+ReadsToEnd begun now (Err Unread) = Unit {0}
+ReadsToEnd begun now (Err NoMemory) = Unit {0}
 ReadsToEnd begun now _ =
     IfSome begun (λ text. length text ≤ 1048576 → IfSome now (λ left. left ≡ []))

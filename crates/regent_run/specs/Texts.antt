@@ -1,14 +1,12 @@
--- What a check and a dump write to the output, and the trace and the messages that go to the error output. Each
--- ends with a line feed (10).
+-- What a check and a dump write to the output, and the messages that go to the error output. Each ends with a line
+-- feed (10).
 use Rattle.std.specs.Prelude.{ℕ, Bool, true, false, List, [], ◌∷◌, ◌++◌, codes, map}
 use Rattle.std.specs.Fmt.{decimal}
 use Rattle.code_rules.specs.Programs.{space_code}
-use Rattle.regent_tree.specs.declared.outcome.Fault.{Fault}
 use Rattle.regent_tree.specs.declared.outcome.RootImage.{RootImage}
 use Rattle.regent_tree.specs.StaticTypes.{spaces_of}
 use Rattle.regent_tree.specs.Syntax.{Tree}
 use Rattle.run_report.specs.Dumps.{roots_from}
-use Rattle.run_report.specs.FaultLines.{fault_text}
 use Rattle.task_code.specs.declared.code.SpaceCode.{SpaceCode}
 use Rattle.regent_run.specs.declared.limit.Limit.{Limit}
 use Rattle.regent_run.specs.declared.limit.Limit.TheVariants.{Text, Name, Number, Nesting, Tasks, Spaces, Fields, Parameters, Regions}
@@ -24,15 +22,6 @@ dump_by false spaces roots = []
 -- by those of a program
 abbrev pub dump_text : Bool → Tree → List RootImage → List ℕ
 dump_text dumps tree roots = dump_by dumps (map space_code (spaces_of tree)) roots
-
--- the trace of a run in order, where it is asked for
-abbrev pub trace_text : Bool → List ℕ
-trace_text true = codes "in order" ++ 10 ∷ []
-trace_text false = []
-
--- the trace, and then the line of the fault
-abbrev pub fault_message : Bool → Fault → List ℕ
-fault_message traces f = trace_text traces ++ fault_text f
 
 abbrev pub usage_message : List ℕ
 usage_message = codes "error: usage" ++ 10 ∷ []

@@ -1,22 +1,31 @@
 -- What a call comes to before it writes, and what it then writes.
-use Rattle.std.specs.Prelude.{◌≡◌, ◌<◌, ◌⊎◌, ◌++◌, ℕ, Bool, false, Contains, List, [], Option, Some, None, length, string_bytes}
+use Rattle.std.specs.Prelude.{◌≡◌, ◌<◌, ◌^◌, ◌⊎◌, ◌++◌, ℕ, ℤ, false, Contains, List, [], Option, Some, None, Result, Ok, Err, length, string_bytes}
 use Rattle.run_io.specs.Faults.{Rose}
 use Rattle.run_io.specs.Sink.{Adds, AddsPrefix}
 use Rattle.regent_run.specs.Calls.{SinkChange}
 use Rattle.regent_run.specs.declared.verdict.Verdict.{Verdict}
 use Rattle.regent_run.specs.declared.verdict.Verdict.TheVariants.{Usage, Unread, NoMemory, NoProgram, PastLimit, Refused, NotBuilt, OtherInputs, Finished, Faulted, Accepted}
-use Rattle.command_words.specs.Commands.{Run}
+use Rattle.command_words.specs.Commands.{Run, turns_or_default, workers_or_default}
+use Rattle.regent_run.specs.Traces.{FinishesJob, IsJournalOf, IsTrace, serving}
 use Rattle.regent_run.specs.Words.{Deed, Request, checks, runs}
-use Rattle.regent_run.specs.Texts.{accepted_text, dump_text, fault_message, trace_text, usage_message, read_message, memory_message, syntax_message, breach_message, limit_message, not_built_message, inputs_message}
+use Rattle.regent_run.specs.Texts.{accepted_text, dump_by, usage_message, read_message, memory_message, syntax_message, breach_message, limit_message, not_built_message, inputs_message}
+use Rattle.check_rules.specs.Acceptance.{input_widths}
 use Rattle.check_rules.specs.Breaches.{breaches, breaks}
+use Rattle.code_laws.specs.LocalPrograms.{IsLocalProgramRun}
+use Rattle.code_laws.specs.Programs.{job_of}
+use Rattle.machine_terms.specs.Jobs.{order_run}
 use Rattle.regent_tree.specs.declared.outcome.Fault.{Fault}
 use Rattle.regent_tree.specs.declared.outcome.Outcome.{Outcome}
 use Rattle.regent_tree.specs.declared.outcome.RootImage.{RootImage}
 use Rattle.run_report.specs.Dumps.{roots_of}
+use Rattle.run_report.specs.FaultLines.{fault_text}
+use Rattle.regent_reader.specs.Texts.{Reads}
+use Rattle.regent_run.specs.Inputs.{AreInputs}
+use Rattle.regent_run.specs.declared.plan.Plan.{Plan}
 use Rattle.regent_tree.specs.Syntax.{Tree}
 use Rattle.regent_reader.specs.declared.fault.ReadFault.{ReadFault}
 use Rattle.local_form.specs.LocalForm.{is_local_program}
-use Rattle.regent_run.specs.Programs.{Finishes, HasBreach, HasOtherInputs, HasSyntaxError, IsAccepted, IsFinished, IsNotBuilt, IsRun, Means, OfNextText, PassesLimit, TakesOthers, faulted_with, finished_with, limit_passed, syntax_line}
+use Rattle.regent_run.specs.Programs.{HasBreach, HasOtherInputs, HasSyntaxError, IsAccepted, IsFinished, IsNotBuilt, IsRun, OfNextText, PassesLimit, TakesOthers, faulted_with, finished_with, limit_passed, syntax_line}
 
 abbrev pub status_of : Verdict → ℕ
 status_of Usage = 2
@@ -27,13 +36,13 @@ status_of (PastLimit passed) = 8
 status_of (Refused message) = 6
 status_of NotBuilt = 10
 status_of OtherInputs = 9
-status_of (Finished text traces) = 0
+status_of (Finished text trace) = 0
 status_of (Faulted text message) = 1
 status_of Accepted = 0
 
 -- what goes to the output, and what to the error output
 abbrev pub out_text : Verdict → List ℕ
-out_text (Finished text traces) = text
+out_text (Finished text trace) = text
 out_text (Faulted text message) = text
 out_text Accepted = accepted_text
 out_text _ = []
@@ -47,55 +56,56 @@ err_text (PastLimit passed) = limit_message passed
 err_text (Refused message) = string_bytes message
 err_text NotBuilt = not_built_message
 err_text OtherInputs = inputs_message
-err_text (Finished text traces) = trace_text traces
+err_text (Finished text trace) = trace.items
 err_text (Faulted text message) = message.items
 err_text Accepted = []
 
--- what a verdict says of a text, where this is to be done with it
-abbrev pub Judges : List ℕ → Deed → Verdict → Type 0
-Judges text deed Usage = ⊥
-Judges text deed Unread = ⊥
-Judges text deed NoMemory = Unit {0}
-Judges text deed (NoProgram message) =
+-- ---- before a run: a plan of it (Ok), or what the call comes to without one (Err)
+
+-- the plan of a run of an accepted program: its code, with the numbers that the words are, and what is asked for
+pub record IsPlan (tree : Tree) (r : Run) (plan : Plan) : Type 0 where
+  pub inputs : List ℤ
+  pub given : AreInputs (input_widths tree) r.numbers inputs
+  pub program : IsLocalProgramRun tree inputs
+  pub job : plan.job ≡ job_of tree inputs (turns_or_default r.turns_named)
+  pub few : turns_or_default r.turns_named < 2 ^ 64
+  pub workers : plan.workers ≡ workers_or_default r.workers_named
+  pub dumps : plan.dumps ≡ r.dumps
+  pub traces : plan.traces ≡ r.traces
+
+-- a plan of a run of some accepted program
+pub record IsSound (plan : Plan) : Type 0 where
+  pub tree : Tree
+  pub run : Run
+  pub is_plan : IsPlan tree run plan
+
+-- what is judged of a text, where this is to be done with it
+abbrev pub Judges : List ℕ → Deed → Result Plan Verdict → Type 0
+Judges text deed (Ok plan) =
+    (r : Run) × (deed ≡ runs r) × (tree : Tree) × Reads text (Ok tree) × IsPlan tree r plan
+Judges text deed (Err NoMemory) = Unit {0}
+Judges text deed (Err (NoProgram message)) =
     (line : ℕ) × (string_bytes message ≡ syntax_message line) × HasSyntaxError text line
-Judges text deed (PastLimit passed) = PassesLimit text passed
-Judges text deed (Refused message) = (rule : ℕ) × (line : ℕ)
+Judges text deed (Err (PastLimit passed)) = PassesLimit text passed
+Judges text deed (Err (Refused message)) = (rule : ℕ) × (line : ℕ)
     × (string_bytes message ≡ breach_message rule line) × HasBreach text rule line
-Judges text deed NotBuilt = (r : Run) × (deed ≡ runs r) × IsNotBuilt text
-Judges text deed OtherInputs = (r : Run) × (deed ≡ runs r) × HasOtherInputs text r.numbers
-Judges text deed (Finished printed traces) = (r : Run) × (deed ≡ runs r) × (traces ≡ r.traces)
-    × IsFinished text r printed
-Judges text deed (Faulted printed message) = (r : Run) × (deed ≡ runs r) × (f : Fault)
-    × (message.items ≡ fault_message r.traces f) × IsRun text r (faulted_with printed f)
-Judges text deed Accepted = (deed ≡ checks) × IsAccepted text
+Judges text deed (Err NotBuilt) = (r : Run) × (deed ≡ runs r) × IsNotBuilt text
+Judges text deed (Err OtherInputs) = (r : Run) × (deed ≡ runs r) × HasOtherInputs text r.numbers
+Judges text deed (Err Accepted) = (deed ≡ checks) × IsAccepted text
+Judges text deed (Err _) = ⊥
 
--- what it says of the outcome of a run, where this is the dump
-abbrev pub IsOfOutcome : Outcome → List ℕ → Bool → Verdict → Type 0
-IsOfOutcome o dump traces NoMemory = Unit {0}
-IsOfOutcome o dump traces (Finished output said) = (said ≡ traces)
-    × (printed : List ℕ) × (roots : List RootImage) × (o ≡ finished_with printed roots) × (output ≡ printed ++ dump)
-IsOfOutcome o dump traces (Faulted printed message) =
-    (f : Fault) × (message.items ≡ fault_message traces f) × (o ≡ faulted_with printed f)
-IsOfOutcome o dump traces _ = ⊥
-
--- what it says of the outcome of a program's run
-abbrev pub TellsRun : Tree → Run → Outcome → Verdict → Type 0
-TellsRun tree r o v = IsOfOutcome o (dump_text r.dumps tree (roots_of o.ending)) r.traces v
-
--- what it says of an accepted program that is run
-abbrev pub JudgesRun : Tree → Run → Verdict → Type 0
-JudgesRun tree r NoMemory = Unit {0}
-JudgesRun tree r NotBuilt = is_local_program tree ≡ false
-JudgesRun tree r OtherInputs = TakesOthers tree r.numbers
-JudgesRun tree r (Finished printed traces) = (traces ≡ r.traces) × Finishes tree r printed
-JudgesRun tree r (Faulted printed message) = (f : Fault)
-    × (message.items ≡ fault_message r.traces f) × Means tree r (faulted_with printed f)
-JudgesRun tree r _ = ⊥
+-- of an accepted program that is run
+abbrev pub JudgesRun : Tree → Run → Result Plan Verdict → Type 0
+JudgesRun tree r (Ok plan) = IsPlan tree r plan
+JudgesRun tree r (Err NoMemory) = Unit {0}
+JudgesRun tree r (Err NotBuilt) = is_local_program tree ≡ false
+JudgesRun tree r (Err OtherInputs) = TakesOthers tree r.numbers
+JudgesRun tree r (Err _) = ⊥
 
 -- and of one with which this is to be done
-abbrev pub JudgesAccepted : Tree → Deed → Verdict → Type 0
-JudgesAccepted tree (runs r) v = JudgesRun tree r v
-JudgesAccepted tree checks v = v ≡ Accepted
+abbrev pub JudgesAccepted : Tree → Deed → Result Plan Verdict → Type 0
+JudgesAccepted tree (runs r) judged = JudgesRun tree r judged
+JudgesAccepted tree checks judged = judged ≡ Err Accepted
 
 -- the message of a breach of the tree
 pub record IsOfBreach (tree : Tree) (message : List ℕ) : Type 0 where
@@ -104,11 +114,11 @@ pub record IsOfBreach (tree : Tree) (message : List ℕ) : Type 0 where
   pub breach : Contains (breaches tree) (breaks rule line)
   pub told : message ≡ breach_message rule line
 
--- what it says of a program that was read: it has a breach, or it is accepted
-abbrev pub JudgesProgram : Tree → Deed → Verdict → Type 0
-JudgesProgram tree deed NoMemory = Unit {0}
-JudgesProgram tree deed (Refused message) = IsOfBreach tree (string_bytes message)
-JudgesProgram tree deed v = (breaches tree ≡ []) × JudgesAccepted tree deed v
+-- of a program that was read: it has a breach, or it is accepted
+abbrev pub JudgesProgram : Tree → Deed → Result Plan Verdict → Type 0
+JudgesProgram tree deed (Err NoMemory) = Unit {0}
+JudgesProgram tree deed (Err (Refused message)) = IsOfBreach tree (string_bytes message)
+JudgesProgram tree deed judged = (breaches tree ≡ []) × JudgesAccepted tree deed judged
 
 -- what it says of a text in which the reader finds a fault
 abbrev pub TellsFault : ReadFault → Verdict → Type 0
@@ -118,38 +128,73 @@ TellsFault fault (NoProgram message) =
 TellsFault fault (PastLimit passed) = limit_passed fault ≡ Some passed
 TellsFault fault _ = ⊥
 
--- the same of the text that the next begin leaves, and what it says of the source's count of faults
--- before and after
-abbrev pub SaysOfText : Option (List (List ℕ)) → Deed → ℕ → ℕ → Verdict → Type 0
-SaysOfText later deed before now Usage = ⊥
-SaysOfText later deed before now Unread = Rose before now
-SaysOfText later deed before now NoMemory = Unit {0}
-SaysOfText later deed before now (NoProgram message) =
+-- the same of the text that the next begin leaves, and of the source's count of faults before and after
+abbrev pub SaysOfText : Option (List (List ℕ)) → Deed → ℕ → ℕ → Result Plan Verdict → Type 0
+SaysOfText later deed before now (Ok plan) = (r : Run) × (deed ≡ runs r) × (tree : Tree)
+    × OfNextText later (λ text. Reads text (Ok tree)) × IsPlan tree r plan
+SaysOfText later deed before now (Err Unread) = Rose before now
+SaysOfText later deed before now (Err NoMemory) = Unit {0}
+SaysOfText later deed before now (Err (NoProgram message)) =
     (line : ℕ) × (string_bytes message ≡ syntax_message line)
     × OfNextText later (λ text. HasSyntaxError text line)
-SaysOfText later deed before now (PastLimit passed) =
+SaysOfText later deed before now (Err (PastLimit passed)) =
     OfNextText later (λ text. PassesLimit text passed)
-SaysOfText later deed before now (Refused message) = (rule : ℕ) × (line : ℕ)
+SaysOfText later deed before now (Err (Refused message)) = (rule : ℕ) × (line : ℕ)
     × (string_bytes message ≡ breach_message rule line)
     × OfNextText later (λ text. HasBreach text rule line)
-SaysOfText later deed before now NotBuilt =
+SaysOfText later deed before now (Err NotBuilt) =
     (r : Run) × (deed ≡ runs r) × OfNextText later IsNotBuilt
-SaysOfText later deed before now OtherInputs = (r : Run) × (deed ≡ runs r)
+SaysOfText later deed before now (Err OtherInputs) = (r : Run) × (deed ≡ runs r)
     × OfNextText later (λ text. HasOtherInputs text r.numbers)
-SaysOfText later deed before now (Finished printed traces) = (r : Run) × (deed ≡ runs r)
-    × (traces ≡ r.traces) × OfNextText later (λ text. IsFinished text r printed)
-SaysOfText later deed before now (Faulted printed message) = (r : Run) × (deed ≡ runs r) × (f : Fault)
-    × (message.items ≡ fault_message r.traces f)
-    × OfNextText later (λ text. IsRun text r (faulted_with printed f))
-SaysOfText later deed before now Accepted = (deed ≡ checks) × OfNextText later IsAccepted
+SaysOfText later deed before now (Err Accepted) = (deed ≡ checks) × OfNextText later IsAccepted
+SaysOfText later deed before now (Err _) = ⊥
 
--- What a verdict says where this is asked for: nothing can be done, or the text of the file comes to it,
--- or memory ran out.
-abbrev pub Says : Option Request → Option (List (List ℕ)) → ℕ → ℕ → Verdict → Type 0
-Says asked later before now Usage = asked ≡ None
-Says asked later before now NoMemory = Unit {0}
-Says asked later before now v =
-    (named : Request) × (asked ≡ Some named) × SaysOfText later named.deed before now v
+-- Where this is asked for: nothing can be done, or the text of the file comes to it, or memory ran out.
+abbrev pub Says : Option Request → Option (List (List ℕ)) → ℕ → ℕ → Result Plan Verdict → Type 0
+Says asked later before now (Err Usage) = asked ≡ None
+Says asked later before now (Err NoMemory) = Unit {0}
+Says asked later before now judged =
+    (named : Request) × (asked ≡ Some named) × SaysOfText later named.deed before now judged
+
+-- ---- with the run
+
+-- what a verdict says of the outcome of a run, where these are the dump and the trace
+abbrev pub IsOfOutcome : Outcome → List ℕ → List ℕ → Verdict → Type 0
+IsOfOutcome o dump trace (Finished output told) = (told.items ≡ trace)
+    × (printed : List ℕ) × (roots : List RootImage) × (o ≡ finished_with printed roots) × (output ≡ printed ++ dump)
+IsOfOutcome o dump trace (Faulted printed message) =
+    (f : Fault) × (message.items ≡ trace ++ fault_text f) × (o ≡ faulted_with printed f)
+IsOfOutcome o dump trace _ = ⊥
+
+-- it tells the outcome of the job's run in order, with the dump and the trace that are asked for
+pub record IsOfRun (serves : ℕ → ℕ) (plan : Plan) (v : Verdict) : Type 0 where
+  pub trace : List ℕ
+  pub traced : IsTrace (FinishesJob plan.job) plan.traces (serves plan.workers) trace
+  pub told : IsOfOutcome (order_run plan.job)
+      (dump_by plan.dumps plan.job.code.spaces (roots_of (order_run plan.job).ending)) trace v
+
+-- unless memory ran out
+abbrev pub TellsPlan : (ℕ → ℕ) → Plan → Verdict → Type 0
+TellsPlan serves plan NoMemory = Unit {0}
+TellsPlan serves plan v = IsOfRun serves plan v
+
+-- What a verdict says of the text that the next begin leaves, where so many workers serve.
+abbrev pub TellsOfText : (ℕ → ℕ) → Option (List (List ℕ)) → Deed → ℕ → ℕ → Verdict → Type 0
+TellsOfText serves later deed before now (Finished printed trace) = (r : Run) × (deed ≡ runs r)
+    × IsTrace (λ journal. OfNextText later (λ text. IsJournalOf text r journal)) r.traces (serving serves r) trace.items
+    × OfNextText later (λ text. IsFinished text r printed)
+TellsOfText serves later deed before now (Faulted printed message) = (r : Run) × (deed ≡ runs r) × (f : Fault) × (trace : List ℕ)
+    × (message.items ≡ trace ++ fault_text f)
+    × IsTrace (λ journal. OfNextText later (λ text. IsJournalOf text r journal)) r.traces (serving serves r) trace
+    × OfNextText later (λ text. IsRun text r (faulted_with printed f))
+TellsOfText serves later deed before now v = SaysOfText later deed before now (Err v)
+
+-- and where this is asked for
+abbrev pub Tells : (ℕ → ℕ) → Option Request → Option (List (List ℕ)) → ℕ → ℕ → Verdict → Type 0
+Tells serves asked later before now Usage = asked ≡ None
+Tells serves asked later before now NoMemory = Unit {0}
+Tells serves asked later before now v =
+    (named : Request) × (asked ≡ Some named) × TellsOfText serves later named.deed before now v
 
 -- the message of a line, unless memory ran out
 abbrev pub IsNoProgram : ℕ → Verdict → Type 0

@@ -1,5 +1,5 @@
 -- What the words of the command line ask for.
-use Rattle.std.specs.Prelude.{ℕ, ◌≡◌, Bool, List, Option, Some, None, ◌==◌, option_and_then, unwrap_or, if◌then◌else◌}
+use Rattle.std.specs.Prelude.{ℕ, ◌≡◌, List, Option, Some, None, option_and_then}
 use Rattle.command_words.specs.Commands.{Command, Run, command}
 use Rattle.command_words.specs.Commands as said
 use Rattle.command_words.specs.Given.{run_given}
@@ -17,14 +17,9 @@ pub record Request : Type 0 where
   pub file : List ℕ
   pub deed : Deed
 
--- Where no worker is named, or none at all, a program runs in order.
-abbrev pub is_in_order : Run → Bool
-is_in_order r = unwrap_or r.workers_named 0 == 0
-
--- What a command asks for. None where it can't be done yet: a run with workers, and a sample.
+-- What a command asks for. None where it can't be done yet: a sample.
 abbrev pub asked_by : Command → Option Request
-asked_by (said.runs r) =
-    if is_in_order r then Some (record { file = r.file; deed = runs r }) else None
+asked_by (said.runs r) = Some (record { file = r.file; deed = runs r })
 asked_by (said.checks file) = Some (record { file = file; deed = checks })
 asked_by (said.samples workers cells) = None
 

@@ -1,4 +1,4 @@
-//! From words and a source to a verdict.
+//! From words and a source to the plan of a run, or to what the call comes to without one.
 
 ghost use Rattle.std.specs.Prelude.{◌≡◌, ◌≤◌, [], None, Some};
 ghost use Rattle.std.specs.Option.{option_map};
@@ -15,8 +15,8 @@ ghost use Rattle.regent_run.specs.Verdicts.{IsNoProgram, IsRefused, Judges, Judg
 ghost use Rattle.regent_run.specs.Words.{deed_given, request, request_given};
 
 use crate::limit::Limit;
+use crate::plan::{Plan, judge_run};
 use crate::requests::{Deed, Request, asked_by};
-use crate::running::judge_run;
 use crate::text::{NoText, read_text};
 use crate::verdict::Verdict;
 use check_rules::Accepted;
@@ -96,41 +96,45 @@ fn broken_rule(alloc: Global, rule: u8, line: u32) -> Verdict
 }
 
 /// What an accepted program comes to.
-fn judge_accepted(alloc: Global, program: &Accepted, deed: &Deed<'_, '_>) -> Verdict
+fn judge_accepted(alloc: Global, program: &Accepted, deed: &Deed<'_, '_>) -> Result<Plan, Verdict>
     requires within { WithinLimits (tree_of program.now) }
     requires sound { breaches (tree_of program.now) ≡ [] }
     ensures { JudgesAccepted (tree_of program.now) (deed_given deed.now) result }
 {
     match deed {
         Deed::Run(asked) => judge_run(alloc, program, asked),
-        Deed::Check => Verdict::Accepted,
+        Deed::Check => Err(Verdict::Accepted),
     }
 }
 
 /// What a program comes to.
-fn judge_program(alloc: Global, program: Program, deed: &Deed<'_, '_>) -> Verdict
+fn judge_program(alloc: Global, program: Program, deed: &Deed<'_, '_>) -> Result<Plan, Verdict>
     requires { WithinLimits (tree_of program) }
     ensures { JudgesProgram (tree_of program) (deed_given deed.now) result }
 {
     match check(alloc, program) {
         Ok(accepted) => judge_accepted(alloc, &accepted, deed),
-        Err(CheckFault::Refused { rule, line, .. }) => broken_rule(alloc, rule, line),
-        Err(CheckFault::Memory(_)) => Verdict::NoMemory,
+        Err(CheckFault::Refused { rule, line, .. }) => Err(broken_rule(alloc, rule, line)),
+        Err(CheckFault::Memory(_)) => Err(Verdict::NoMemory),
     }
 }
 
 /// What a text comes to.
-fn judge_text(alloc: Global, text: &[u8], deed: &Deed<'_, '_>) -> Verdict
+fn judge_text(alloc: Global, text: &[u8], deed: &Deed<'_, '_>) -> Result<Plan, Verdict>
     ensures { Judges text.now (deed_given deed.now) result }
 {
     match read(alloc, text) {
         Ok(program) => judge_program(alloc, program, deed),
-        Err(fault) => read_fault(alloc, fault),
+        Err(fault) => Err(read_fault(alloc, fault)),
     }
 }
 
 /// What the text of a file comes to.
-fn judge_file<S: Source>(alloc: Global, asked: &Request<'_, '_>, source: &mut S) -> Verdict
+fn judge_file<S: Source>(
+    alloc: Global,
+    asked: &Request<'_, '_>,
+    source: &mut S,
+) -> Result<Plan, Verdict>
     ensures said { Says (Some (request_given asked.now)) (S.later source.old)
         (S.faults source.old) (S.faults source.new) result }
     ensures begins { Begins (Some (request_given asked.now)) (S.begins source.old) (S.begins source.new)
@@ -142,17 +146,17 @@ fn judge_file<S: Source>(alloc: Global, asked: &Request<'_, '_>, source: &mut S)
     ensures steady { IsSteady (S.faults source.old) (S.faults source.new) result }
 {
     let Ok(name) = String::from_str(alloc, asked.file) else {
-        return Verdict::NoMemory;
+        return Err(Verdict::NoMemory);
     };
     match read_text(alloc, source, name) {
         Ok(text) => judge_text(alloc, text.as_slice(), &asked.deed),
-        Err(NoText::Failed) => Verdict::Unread,
-        Err(NoText::Memory) => Verdict::NoMemory,
+        Err(NoText::Failed) => Err(Verdict::Unread),
+        Err(NoText::Memory) => Err(Verdict::NoMemory),
     }
 }
 
 /// What the words and the source come to.
-pub fn judge<S: Source>(alloc: Global, words: &[String], source: &mut S) -> Verdict
+pub fn judge<S: Source>(alloc: Global, words: &[String], source: &mut S) -> Result<Plan, Verdict>
     ensures untouched { request (texts words.now) ≡ None → source.new ≡ source.old }
     ensures said { Says (request (texts words.now)) (S.later source.old) (S.faults source.old) (S.faults source.new) result }
     ensures begins { Begins (request (texts words.now)) (S.begins source.old) (S.begins source.new)
@@ -165,11 +169,11 @@ pub fn judge<S: Source>(alloc: Global, words: &[String], source: &mut S) -> Verd
 {
     let said = match command(alloc, words) {
         Ok(said) => said,
-        Err(WordsFault::Refused) => return Verdict::Usage,
-        Err(WordsFault::Memory(_)) => return Verdict::NoMemory,
+        Err(WordsFault::Refused) => return Err(Verdict::Usage),
+        Err(WordsFault::Memory(_)) => return Err(Verdict::NoMemory),
     };
     match asked_by(&said) {
         Some(asked) => judge_file(alloc, &asked, source),
-        None => Verdict::Usage,
+        None => Err(Verdict::Usage),
     }
 }

@@ -6,49 +6,74 @@ ghost use Rattle.std.specs.Prelude.{◌≡◌, None};
 ghost use Rattle.command_words.specs.Given.{texts};
 ghost use Rattle.regent_run.specs.Answers.{IsAnswered};
 ghost use Rattle.regent_run.specs.Calls.{call_of, sink_change, source_change};
+ghost use Rattle.regent_run.specs.Traces.{all_serve, none_serve};
 ghost use Rattle.regent_run.specs.Words.{request};
 
 mod inputs;
 mod judge;
 mod laws;
 mod limit;
+mod plan;
 mod program;
 mod requests;
 mod running;
+mod served;
 #[cfg(test)]
 mod tests;
 mod text;
 mod verdict;
 
-use judge::judge;
 pub use laws::{runs_come_to_an_end, texts_have_one_status};
 pub use program::{regent_here, regent_main};
 use run_io::{Sink, Source};
+use served::{alone, with_workers};
 use std::alloc::Global;
+use std::sync::Wait;
+use std::thread::Threads;
+use worker_gate::Gate;
 
-/// Does what the words say, and gives the status.
+/// Does what the words say, and gives the status. Programs are run by as many workers as the words name, 4 where they
+/// name none, in threads of the runtime and through the gate; with 0 workers they are run in order.
 ///
-/// The words are those that `command_words` takes; what can't be done yet, a run with workers or a sample,
-/// is refused as well. The file's text is that which the source leaves when it is begun by that name. The
-/// statuses: 0 the program finished or is accepted, 1 it faulted, 2 the words are refused, 3 the text can't
-/// be read, 4 a write failed, 5 the text is no program, 6 the program breaches a rule, 7 memory ran out, 8 the
-/// text passes a limit, 9 the numbers aren't those that the program takes, 10 the program can't be run
-/// yet. What is printed, or `accepted`, goes to `out`, and then the trace that is asked for and the line of
-/// a fault, or one line about an error, to `err`.
-pub fn regent_run<S: Source, K: Sink, E: Sink>(
+/// The words are those that `command_words` takes; what can't be done yet, a sample, is refused as well. The
+/// file's text is that which the source leaves when it is begun by that name. The statuses: 0 the program finished
+/// or is accepted, 1 it faulted, 2 the words are refused, 3 the text can't be read, 4 a write failed, 5 the text is
+/// no program, 6 the program breaches a rule, 7 memory ran out, 8 the text passes a limit, 9 the numbers aren't
+/// those that the program takes, 10 the program can't be run yet. What is printed, or `accepted`, goes to `out`,
+/// and then the trace that is asked for and the line of a fault, or one line about an error, to `err`.
+pub fn regent_run<S: Source, K: Sink, E: Sink, G: Gate, R: Threads + Wait + Sync>(
+    rt: &R,
+    alloc: Global,
+    words: &Vec<String>,
+    source: &mut S,
+    out: &mut K,
+    err: &mut E,
+    gate: &G,
+) -> u8
+    // How the call ends, what it writes and what it reads: clause by clause in `IsAnswered`.
+    ensures answers { IsAnswered (call_of (texts words.now.items) all_serve
+        (source_change S.Source source.old source.new)
+        (sink_change K.Sink out.old out.new) (sink_change E.Sink err.old err.new)) result }
+    // Where the words are refused, the source stays as it is.
+    ensures untouched { request (texts words.now.items) ≡ None → source.new ≡ source.old }
+{
+    let verdict = with_workers(rt, alloc, words.as_slice(), source, gate);
+    verdict.deliver(out, err)
+}
+
+/// The same without workers, whatever number the words name: it waits for nobody, and returns.
+pub fn regent_alone<S: Source, K: Sink, E: Sink>(
     alloc: Global,
     words: &Vec<String>,
     source: &mut S,
     out: &mut K,
     err: &mut E,
 ) -> u8
-    // How the call ends, what it writes and what it reads: clause by clause in `IsAnswered`.
-    ensures answers { IsAnswered (call_of (texts words.now.items)
+    ensures answers { IsAnswered (call_of (texts words.now.items) none_serve
         (source_change S.Source source.old source.new)
         (sink_change K.Sink out.old out.new) (sink_change E.Sink err.old err.new)) result }
-    // Where the words are refused, the source stays as it is.
     ensures untouched { request (texts words.now.items) ≡ None → source.new ≡ source.old }
 {
-    let verdict = judge(alloc, words.as_slice(), source);
+    let verdict = alone(alloc, words.as_slice(), source);
     verdict.deliver(out, err)
 }

@@ -5,6 +5,7 @@ ghost use Rattle.std.specs.IoError.{error_kind};
 ghost use Rattle.command_words.specs.Given.{texts};
 ghost use Rattle.regent_run.specs.Answers.{IsAnswered};
 ghost use Rattle.regent_run.specs.Calls.{call_of, sink_change, source_change};
+ghost use Rattle.regent_run.specs.Traces.{all_serve};
 ghost use Rattle.regent_run.specs.Words.{request};
 
 use crate::regent_run;
@@ -13,6 +14,9 @@ use std::alloc::Global;
 use std::env::{self, Env};
 use std::io::{self, ErrorKind, Write};
 use std::rt::Files;
+use std::sync::Wait;
+use std::thread::Threads;
+use worker_gate::{Gate, OpenGate};
 
 /// The status where the words can't be had: 2 where one isn't text, and else memory ran out.
 fn wordless_status(kind: ErrorKind) -> u8
@@ -26,12 +30,14 @@ fn wordless_status(kind: ErrorKind) -> u8
 }
 
 /// Does what the words say, where they could be had, and gives the status.
-pub fn regent_main<S: Source, K: Sink, E: Sink>(
+pub fn regent_main<S: Source, K: Sink, E: Sink, G: Gate, R: Threads + Wait + Sync>(
+    rt: &R,
     alloc: Global,
     words: io::Result<Vec<String>>,
     source: &mut S,
     out: &mut K,
     err: &mut E,
+    gate: &G,
 ) -> u8
     // Where they couldn't, 2 says that one isn't text, and 7 that memory ran out. Nothing is begun, read
     // or written.
@@ -41,13 +47,13 @@ pub fn regent_main<S: Source, K: Sink, E: Sink>(
     ensures unprinted { IsErr words → out.new ≡ out.old }
     ensures untold { IsErr words → err.new ≡ err.old }
     // Else the call with these words.
-    ensures answers { IfOk words (λ given. IsAnswered (call_of (texts given.items)
+    ensures answers { IfOk words (λ given. IsAnswered (call_of (texts given.items) all_serve
         (source_change S.Source source.old source.new)
         (sink_change K.Sink out.old out.new) (sink_change E.Sink err.old err.new)) result) }
     ensures untouched { IfOk words (λ given. request (texts given.items) ≡ None → source.new ≡ source.old) }
 {
     match words {
-        Ok(given) => regent_run(alloc, &given, source, out, err),
+        Ok(given) => regent_run(rt, alloc, &given, source, out, err, gate),
         Err(error) => wordless_status(error.kind()),
     }
 }
@@ -57,14 +63,22 @@ fn words_of<R: Env + AllocGlobal>(rt: &R) -> io::Result<Vec<String>> {
     Ok(env::args(rt)?.collect(rt.alloc())?)
 }
 
-/// The program over the words of the command line and the files of the system, with these writers.
-pub fn regent_here<R: Env + Files + AllocGlobal, O: Write + Drop, W: Write + Drop>(
-    rt: &R,
-    out: O,
-    err: W,
-) -> u8 {
+/// The program over the words of the command line and the files of the system, with these writers and an open gate.
+pub fn regent_here<
+    R: Env + Files + AllocGlobal + Threads + Wait + Sync,
+    O: Write + Drop,
+    W: Write + Drop,
+>(rt: &R, out: O, err: W) -> u8 {
     let mut source = FileSource::new(rt);
     let mut out = StdSink::new(out);
     let mut err = StdSink::new(err);
-    regent_main(rt.alloc(), words_of(rt), &mut source, &mut out, &mut err)
+    regent_main(
+        rt,
+        rt.alloc(),
+        words_of(rt),
+        &mut source,
+        &mut out,
+        &mut err,
+        &OpenGate,
+    )
 }

@@ -20,21 +20,15 @@ pub struct Request<'d, 'a> {
     pub deed: Deed<'d, 'a>,
 }
 
-/// What a command asks for, or None where it can't be done yet: a run with workers, and a sample.
+/// What a command asks for, or None where it can't be done yet: a sample.
 pub fn asked_by<'d, 'a>(said: &'d Command<'a>) -> Option<Request<'d, 'a>>
     ensures { option_map request_given result ≡ asked_by (command_given said.entry.now) }
 {
     match said {
-        Command::Run(run) => {
-            if run.workers.unwrap_or(0) == 0 {
-                Some(Request {
-                    file: run.file,
-                    deed: Deed::Run(run),
-                })
-            } else {
-                None
-            }
-        }
+        Command::Run(run) => Some(Request {
+            file: run.file,
+            deed: Deed::Run(run),
+        }),
         Command::Check { file } => Some(Request {
             file: *file,
             deed: Deed::Check,

@@ -1,50 +1,32 @@
-//! What an accepted program comes to that is run: it is compiled, and its code is run in order.
+//! Runs that are planned, by workers or in order, and what they come to.
 
-ghost use Rattle.std.specs.Prelude.{◌≡◌, ℕ, [], IfOk, List, true};
-ghost use Rattle.check_rules.specs.Breaches.{breaches};
-ghost use Rattle.code_laws.specs.LocalPrograms.{IsEnded, IsLocalProgramRun};
-ghost use Rattle.code_laws.specs.Programs.{job_of};
-ghost use Rattle.command_words.specs.Commands.{turns_or_default};
-ghost use Rattle.command_words.specs.Given.{run_given};
-ghost use Rattle.local_form.specs.LocalForm.{is_local_program};
+ghost use Rattle.std.specs.Prelude.{◌≡◌, ◌↔◌, ◌++◌, ℕ, IfOk, List, Some, true};
+ghost use Rattle.code_laws.specs.LocalPrograms.{IsEnded};
+ghost use Rattle.machine_terms.specs.Jobs.{order_run};
+ghost use Rattle.parallel_run.specs.Runs.{outcome_of};
 ghost use Rattle.regent_tree.specs.declared.outcome.RootImage.{RootImage};
-ghost use Rattle.regent_tree.specs.Limits.{WithinLimits};
-ghost use Rattle.regent_tree.specs.Meaning.{meaning};
-ghost use Rattle.regent_tree.specs.PlainProgram.{tree_of};
 ghost use Rattle.run_report.specs.Dumps.{fits_spaces, roots_of};
+ghost use Rattle.run_report.specs.FaultLines.{fault_text};
 ghost use Rattle.regent_run.specs.Programs.{faulted_with, finished_with};
-ghost use Rattle.regent_run.specs.Texts.{dump_by, fault_message};
-ghost use Rattle.regent_run.specs.Verdicts.{IsOfOutcome, JudgesRun, TellsRun};
+ghost use Rattle.regent_run.specs.Texts.{dump_by};
+ghost use Rattle.regent_run.specs.Traces.{all_serve, none_serve, trace_by};
+ghost use Rattle.regent_run.specs.Verdicts.{IsOfOutcome, IsSound, TellsPlan};
 
-use crate::inputs::numbers_of;
-use crate::verdict::{Verdict, trace_text};
-use check_rules::Accepted;
-use code_gen::compile;
-use command_words::{Run, turns_or_default};
-use local_form::is_local;
+use crate::plan::Plan;
+use crate::verdict::Verdict;
+use parallel_run::{Ran, run_job};
 use plain_run::run_in_order;
-use plain_values::{Sequence, Shared};
+use plain_values::Sequence;
 use regent_tree::{Ending, Fault, Outcome};
 use run_report::{dump_text, fault_text};
 use std::alloc::{AllocError, Global};
-use task_code::{Code, Job};
+use std::sync::Wait;
+use std::thread::Threads;
+use task_code::Code;
+use worker_gate::Gate;
 
-/// The program's code, with these numbers and turns.
-fn job_of(
-    alloc: Global,
-    program: &Accepted,
-    inputs: Sequence<i64>,
-    turns: u64,
-) -> Result<Job, AllocError>
-    ensures { IfOk result (λ job. job ≡ job_of (tree_of program.now) inputs turns) }
-{
-    let code = compile(alloc, program)?;
-    Ok(Job {
-        code: Shared::new(alloc, code)?,
-        inputs,
-        turns,
-    })
-}
+/// The most workers that serve.
+const MOST_WORKERS: u64 = 64;
 
 /// The dump of the roots at the end of a run, where it is asked for.
 fn dump_by(
@@ -64,110 +46,115 @@ fn dump_by(
     }
 }
 
-/// The trace, where it is asked for, and the line of the fault.
-fn fault_message(alloc: Global, fault: &Fault, traces: bool) -> Result<Vec<u8>, AllocError>
-    ensures { IfOk result (λ message. message.items ≡ fault_message traces fault.now) }
+/// The trace of a run, where it is asked for.
+fn trace_by(alloc: Global, traces: bool, ran: &Ran) -> Result<Vec<u8>, AllocError>
+    ensures { IfOk result (λ trace. trace.items ≡ trace_by traces ran.now) }
 {
-    let mut message = Vec::from_slice(alloc, trace_text(traces))?;
+    if traces {
+        ran.trace_text(alloc)
+    } else {
+        Ok(Vec::new(alloc))
+    }
+}
+
+/// The trace, and the line of the fault.
+fn fault_message(alloc: Global, fault: &Fault, trace: Vec<u8>) -> Result<Vec<u8>, AllocError>
+    ensures { IfOk result (λ message. message.items ≡ trace.items ++ fault_text fault.now) }
+{
+    let mut message = trace;
     message.extend_from_slice(fault_text(alloc, fault)?.as_slice())?;
     Ok(message)
 }
 
 /// What a program comes to that printed this and faulted.
-fn faulted(alloc: Global, text: Sequence<u8>, fault: &Fault, traces: bool) -> Verdict
-    ensures { (dump : List ℕ) → IsOfOutcome (faulted_with text fault.now) dump traces result }
+fn faulted(
+    alloc: Global,
+    text: &Sequence<u8>,
+    fault: &Fault,
+    trace: Vec<u8>,
+) -> Result<Verdict, AllocError>
+    ensures { IfOk result (λ v. (dump : List ℕ) →
+        IsOfOutcome (faulted_with text.now fault.now) dump trace.items v) }
 {
-    match fault_message(alloc, fault, traces) {
-        Ok(message) => Verdict::Faulted { text, message },
-        Err(_) => Verdict::NoMemory,
-    }
+    Ok(Verdict::Faulted {
+        text: text.copy()?,
+        message: fault_message(alloc, fault, trace)?,
+    })
 }
 
 /// What a program comes to that printed this and ended, with this dump.
-fn finished(text: Sequence<u8>, dump: &[u8], traces: bool) -> Verdict
-    ensures { (roots : List RootImage) →
-        IsOfOutcome (finished_with text roots) dump.now traces result }
+fn finished(text: &Sequence<u8>, dump: &[u8], trace: Vec<u8>) -> Result<Verdict, AllocError>
+    ensures { IfOk result (λ v. (roots : List RootImage) →
+        IsOfOutcome (finished_with text.now roots) dump.now trace.items v) }
 {
-    let mut output = text;
-    match output.extend(dump) {
-        Ok(()) => Verdict::Finished {
-            text: output,
-            trace: traces,
-        },
-        Err(_) => Verdict::NoMemory,
-    }
+    let mut text = text.copy()?;
+    text.extend(dump)?;
+    Ok(Verdict::Finished { text, trace })
 }
 
-/// What a program comes to whose run has this outcome and this dump.
-fn ended(alloc: Global, outcome: Outcome, dump: &[u8], traces: bool) -> Verdict
-    requires { IsEnded outcome.ending }
-    ensures { IsOfOutcome outcome dump.now traces result }
+/// What a program comes to whose run has this outcome, this dump and this trace.
+fn ended(
+    alloc: Global,
+    outcome: &Outcome,
+    dump: &[u8],
+    trace: Vec<u8>,
+) -> Result<Verdict, AllocError>
+    requires { IsEnded outcome.now.ending }
+    ensures { IfOk result (IsOfOutcome outcome.now dump.now trace.items) }
 {
-    let Outcome { text, ending } = outcome;
-    match ending {
-        Ending::Finished(_) => finished(text, dump, traces),
-        Ending::Faulted(fault) => faulted(alloc, text, &fault, traces),
+    match &outcome.ending {
+        Ending::Finished(_) => finished(&outcome.text, dump, trace),
+        Ending::Faulted(fault) => faulted(alloc, &outcome.text, fault, trace),
         Ending::Broken => unreachable!(),
     }
 }
 
-/// What the run of a program comes to whose tasks hand regions over by name.
-fn run(
+/// What a run comes to that was planned and is done.
+fn settled(alloc: Global, plan: &Plan, ran: &Ran) -> Result<Verdict, AllocError>
+    requires sound { IsSound plan.now }
+    requires outcome { outcome_of ran.now ≡ Some (order_run plan.now.job) }
+    ensures { IfOk result (IsOfOutcome (order_run plan.now.job)
+        (dump_by plan.now.dumps plan.now.job.code.spaces (roots_of (order_run plan.now.job).ending))
+        (trace_by plan.now.traces ran.now)) }
+{
+    let Some(outcome) = ran.outcome() else {
+        unreachable!()
+    };
+    let dump = dump_by(alloc, plan.dumps, plan.job.code.get(), outcome)?;
+    let trace = trace_by(alloc, plan.traces, ran)?;
+    ended(alloc, outcome, dump.as_slice(), trace)
+}
+
+/// As many seats as workers are asked for, but 64 at most.
+fn seats_for(workers: u64) -> u16
+    ensures { (result ≡ 0) ↔ (workers ≡ 0) }
+{
+    if workers < MOST_WORKERS {
+        workers as u16
+    } else {
+        64
+    }
+}
+
+/// Makes a planned run by as many workers as are asked for, but 64 at most.
+pub fn run_by_workers<G: Gate, R: Threads + Wait + Sync>(
+    rt: &R,
     alloc: Global,
-    program: &Accepted,
-    inputs: Sequence<i64>,
-    asked: &Run<'_>,
+    plan: &Plan,
+    gate: &G,
 ) -> Result<Verdict, AllocError>
-    requires { IsLocalProgramRun (tree_of program.now) inputs }
-    ensures { IfOk result (TellsRun (tree_of program.now) (run_given asked.now)
-        (meaning (tree_of program.now) inputs (turns_or_default asked.now.turns))) }
+    requires { IsSound plan.now }
+    ensures { IfOk result (TellsPlan all_serve plan.now) }
 {
-    let job = job_of(alloc, program, inputs, turns_or_default(asked.turns))?;
-    let outcome = run_in_order(alloc, &job)?;
-    let dump = dump_by(alloc, asked.dump, job.code.get(), &outcome)?;
-    Ok(ended(alloc, outcome, dump.as_slice(), asked.trace))
+    let ran = run_job(rt, alloc, &plan.job, seats_for(plan.workers), gate)?;
+    settled(alloc, plan, &ran)
 }
 
-/// What such a program comes to that takes these numbers.
-fn judge_numbers(
-    alloc: Global,
-    program: &Accepted,
-    inputs: Sequence<i64>,
-    asked: &Run<'_>,
-) -> Verdict
-    requires { IsLocalProgramRun (tree_of program.now) inputs }
-    ensures { TellsRun (tree_of program.now) (run_given asked.now)
-        (meaning (tree_of program.now) inputs (turns_or_default asked.now.turns)) result }
+/// Makes a planned run in order, whatever number of workers is asked for.
+pub fn run_alone(alloc: Global, plan: &Plan) -> Result<Verdict, AllocError>
+    requires { IsSound plan.now }
+    ensures { IfOk result (TellsPlan none_serve plan.now) }
 {
-    match run(alloc, program, inputs, asked) {
-        Ok(verdict) => verdict,
-        Err(_) => Verdict::NoMemory,
-    }
-}
-
-/// What an accepted program comes to that is run, where its tasks hand regions over by name.
-fn judge_local(alloc: Global, program: &Accepted, asked: &Run<'_>) -> Verdict
-    requires within { WithinLimits (tree_of program.now) }
-    requires sound { breaches (tree_of program.now) ≡ [] }
-    requires local { is_local_program (tree_of program.now) ≡ true }
-    ensures { JudgesRun (tree_of program.now) (run_given asked.now) result }
-{
-    match numbers_of(alloc, program.inputs(), asked.numbers.as_slice()) {
-        Ok(Some(inputs)) => judge_numbers(alloc, program, inputs, asked),
-        Ok(None) => Verdict::OtherInputs,
-        Err(_) => Verdict::NoMemory,
-    }
-}
-
-/// What an accepted program comes to that is run.
-pub fn judge_run(alloc: Global, program: &Accepted, asked: &Run<'_>) -> Verdict
-    requires within { WithinLimits (tree_of program.now) }
-    requires sound { breaches (tree_of program.now) ≡ [] }
-    ensures { JudgesRun (tree_of program.now) (run_given asked.now) result }
-{
-    match is_local(alloc, program.program()) {
-        Ok(true) => judge_local(alloc, program, asked),
-        Ok(false) => Verdict::NotBuilt,
-        Err(_) => Verdict::NoMemory,
-    }
+    let ran = Ran::InOrder(run_in_order(alloc, &plan.job)?);
+    settled(alloc, plan, &ran)
 }

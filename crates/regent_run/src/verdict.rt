@@ -2,12 +2,12 @@
 
 ghost use Rattle.std.specs.Prelude.{◌≡◌};
 ghost use Rattle.regent_run.specs.Calls.{sink_change};
-ghost use Rattle.regent_run.specs.Texts.{trace_text};
 ghost use Rattle.regent_run.specs.Verdicts.{IsDelivered, out_text, err_text, status_of};
 
 use crate::limit::Limit;
 use plain_values::Sequence;
 use run_io::{Sink, put_all};
+use std::alloc::AllocError;
 
 /// What a call comes to before it writes anything.
 #[derive(Drop)]
@@ -31,11 +31,11 @@ pub enum Verdict {
     NotBuilt,
     /// The words aren't the numbers that the program takes.
     OtherInputs,
-    /// The program has printed this text, and behind it stands the dump that was asked for. Its trace may have been
-    /// asked for.
+    /// The program has printed this text, and behind it stands the dump that was asked for. The trace is there where
+    /// it was asked for.
     Finished {
         text: Sequence<u8>,
-        trace: bool,
+        trace: Vec<u8>,
     },
     /// The program has printed this text and faulted; the message has the trace that was asked for, and says
     /// which fault it is, and on which line.
@@ -47,11 +47,15 @@ pub enum Verdict {
     Accepted,
 }
 
-/// The trace of a run in order, where it is asked for.
-pub fn trace_text(traces: bool) -> &'static [u8]
-    ensures { result.now ≡ trace_text traces }
-{
-    if traces { b"in order\n" } else { b"" }
+impl From<AllocError> for Verdict {
+    ghost use Rattle.std.specs.Prelude.{◌≡◌};
+    ghost use Rattle.regent_run.specs.declared.verdict.Verdict.TheVariants as verdict;
+
+    ghost from_gives = { λ _ v. v ≡ verdict.NoMemory };
+
+    fn from(_error: AllocError) -> Verdict {
+        Verdict::NoMemory
+    }
 }
 
 impl Verdict {
@@ -97,7 +101,7 @@ impl Verdict {
             Verdict::Refused { message } => message.as_bytes(),
             Verdict::NotBuilt => b"error: not built\n",
             Verdict::OtherInputs => b"error: inputs\n",
-            Verdict::Finished { trace, .. } => trace_text(*trace),
+            Verdict::Finished { trace, .. } => trace.as_slice(),
             Verdict::Faulted { message, .. } => message.as_slice(),
             Verdict::Accepted => b"",
         }

@@ -1,0 +1,80 @@
+//! The plan of a run: an accepted program is compiled, with the numbers that the words are.
+
+ghost use Rattle.std.specs.Prelude.{◌≡◌, ℤ, [], IfOk, List, true};
+ghost use Rattle.check_rules.specs.Breaches.{breaches};
+ghost use Rattle.code_laws.specs.Programs.{job_of};
+ghost use Rattle.command_words.specs.Given.{run_given};
+ghost use Rattle.local_form.specs.LocalForm.{is_local_program};
+ghost use Rattle.regent_tree.specs.Limits.{WithinLimits};
+ghost use Rattle.regent_tree.specs.PlainProgram.{tree_of};
+ghost use Rattle.regent_run.specs.Verdicts.{JudgesRun};
+
+use crate::inputs::numbers_of;
+use crate::verdict::Verdict;
+use check_rules::Accepted;
+use code_gen::compile;
+use command_words::{Run, turns_or_default, workers_or_default};
+use local_form::is_local;
+use plain_values::{Sequence, Shared};
+use std::alloc::{AllocError, Global};
+use task_code::Job;
+
+/// A run that is to be made.
+#[derive(Drop)]
+pub struct Plan {
+    pub job: Job,
+    /// How many workers are asked for.
+    pub workers: u64,
+    /// Whether the dump is to be written behind what the program prints.
+    pub dumps: bool,
+    /// Whether the trace is to be written.
+    pub traces: bool,
+}
+
+/// The program's code, with these numbers and turns.
+fn job_of(
+    alloc: Global,
+    program: &Accepted,
+    inputs: Sequence<i64>,
+    turns: u64,
+) -> Result<Job, AllocError>
+    ensures { IfOk result (λ job. job ≡ job_of (tree_of program.now) inputs turns) }
+{
+    let code = compile(alloc, program)?;
+    Ok(Job {
+        code: Shared::new(alloc, code)?,
+        inputs,
+        turns,
+    })
+}
+
+/// The plan for an accepted program whose tasks hand regions over by name, where the words are the numbers that it takes.
+fn plan_local(alloc: Global, program: &Accepted, asked: &Run<'_>) -> Result<Plan, Verdict>
+    requires within { WithinLimits (tree_of program.now) }
+    requires sound { breaches (tree_of program.now) ≡ [] }
+    requires local { is_local_program (tree_of program.now) ≡ true }
+    ensures { JudgesRun (tree_of program.now) (run_given asked.now) result }
+{
+    let Some(inputs) = numbers_of(alloc, program.inputs(), asked.numbers.as_slice())? else {
+        return Err(Verdict::OtherInputs);
+    };
+    Ok(Plan {
+        job: job_of(alloc, program, inputs, turns_or_default(asked.turns))?,
+        workers: workers_or_default(asked.workers),
+        dumps: asked.dump,
+        traces: asked.trace,
+    })
+}
+
+/// The plan for an accepted program that is to be run.
+pub fn judge_run(alloc: Global, program: &Accepted, asked: &Run<'_>) -> Result<Plan, Verdict>
+    requires within { WithinLimits (tree_of program.now) }
+    requires sound { breaches (tree_of program.now) ≡ [] }
+    ensures { JudgesRun (tree_of program.now) (run_given asked.now) result }
+{
+    if is_local(alloc, program.program())? {
+        plan_local(alloc, program, asked)
+    } else {
+        Err(Verdict::NotBuilt)
+    }
+}
